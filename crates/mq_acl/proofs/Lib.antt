@@ -1,0 +1,4 @@
+pub mod AccessLemmas
+pub mod FaultLemmas
+pub mod RowLemmas
+pub mod WordLemmas

@@ -1,0 +1,5 @@
+pub mod Words
+pub mod Lines
+pub mod Rows
+pub mod Views
+pub mod Access

@@ -1,0 +1,18 @@
+// What a row allows or denies.
+#[derive(Clone, Copy, Debug, PartialEq, Eq)]
+pub(crate) enum Access {
+    Read,
+    Write,
+    ReadWrite,
+    Deny,
+}
+
+/// What a check asks about: a message to the client, which it reads, or one from it, which it writes
+/// (mosquitto.conf(5), `acl_file`). The contracts of `Acl::may_read` and `Acl::may_write` name it.
+#[derive(Clone, Copy, Debug)]
+pub enum Direction {
+    /// The client reads.
+    Reading,
+    /// The client writes.
+    Writing,
+}

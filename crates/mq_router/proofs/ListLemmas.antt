@@ -1,0 +1,105 @@
+-- Facts on lists that the definitions and the code need.
+use Rattle.std.proofs.Common.{◌≡◌, Bool, true, false, cond, ◌||◌, not, List, [], ◌∷◌, ◌++◌, map, Option, Some, is_some, refl, sym, ◌∙◌, ap}
+use Rattle.std.specs.declared.cmp.Ordering.{Ordering}
+use Rattle.std.specs.declared.cmp.Ordering.TheVariants.{Less, Equal, Greater}
+use Rattle.std.specs.Ordering.{is_lt, match_ordering}
+use Rattle.std.specs.Cmp.{IsTotalOrder}
+use Rattle.std.specs.List.{filter, list_any, filter_map, cons_option, AllByRecursion}
+use Rattle.std.specs.List.Sorted.{IsStrictlySortedBy}
+use Rattle.std.specs.Map.{lookup, remove_entry, keys_of}
+use Rattle.std.specs.BTreeMap.{insert_entry}
+use Rattle.mq_router.specs.Lists.{with_row}
+
+pub map-filter : {X Y : Type 0} (f : X → Y) (p : Y → Bool) (xs : List X) → map f (filter (λ x. p (f x)) xs) ≡ filter p (map f xs)
+map-filter f p [] = refl
+map-filter f p (x ∷ xs) =
+    elim (p (f x)) as (λ b. map f (cond b (x ∷ filter (λ x. p (f x)) xs) (filter (λ x. p (f x)) xs)) ≡ cond b (f x ∷ filter p (map f xs)) (filter p (map f xs))) [
+      | true ↦ ap (λ l. f x ∷ l) (map-filter f p xs)
+      | false ↦ map-filter f p xs
+    ]
+
+pub is_some-lookup : {K X : Type 0} (test : K → Bool) (es : List (K × X)) → is_some (lookup test es) ≡ list_any (λ e. test e.0) es
+is_some-lookup test [] = refl
+is_some-lookup test (e ∷ es) =
+    elim (test e.0) as (λ b. is_some (cond b (Some e.1) (lookup test es)) ≡ (b || list_any (λ e. test e.0) es)) [
+      | true ↦ refl
+      | false ↦ is_some-lookup test es
+    ]
+
+pub list_any-map : {X Y : Type 0} (f : X → Y) (p : Y → Bool) (xs : List X) → list_any p (map f xs) ≡ list_any (λ x. p (f x)) xs
+list_any-map f p [] = refl
+list_any-map f p (x ∷ xs) = ap (λ b. p (f x) || b) (list_any-map f p xs)
+
+pub list_any-same : {X : Type 0} (p q : X → Bool) → ((x : X) → p x ≡ q x) → (xs : List X) → list_any p xs ≡ list_any q xs
+list_any-same p q h [] = refl
+list_any-same p q h (x ∷ xs) = rw (h x) (ap (λ b. q x || b) (list_any-same p q h xs))
+
+pub filter-same : {X : Type 0} (p q : X → Bool) → ((x : X) → p x ≡ q x) → (xs : List X) → filter p xs ≡ filter q xs
+filter-same p q h [] = refl
+filter-same p q h (x ∷ xs) = rw (h x, filter-same p q h xs) refl
+
+-- ## One row among rows in order
+
+module _ {K X C : Type 0} (cmp : K → K → Ordering) (o : IsTotalOrder cmp) (view : K × X → C) (view_cmp : C → C → Ordering) (agrees : (e d : K × X) → view_cmp (view e) (view d) ≡ cmp e.0 d.0) where
+  none_before : (k : K) (v : X) (es : List (K × X)) → AllByRecursion (λ y. cmp k y ≡ Less) (keys_of es) → filter (λ other. is_lt (view_cmp other (view (k, v)))) (map view es) ≡ []
+  none_before k v [] h = refl
+  none_before k v (e ∷ es) h =
+      let here : is_lt (view_cmp (view e) (view (k, v))) ≡ false = rw (agrees e (k, v), o.antisymm e.0 k, h.0) refl in
+      rw here (none_before k v es h.1)
+
+  all_after : (k : K) (v : X) (es : List (K × X)) → AllByRecursion (λ y. cmp k y ≡ Less) (keys_of es) → filter (λ other. is_lt (view_cmp (view (k, v)) other)) (map view es) ≡ map view es
+  all_after k v [] h = refl
+  all_after k v (e ∷ es) h =
+      let here : is_lt (view_cmp (view (k, v)) (view e)) ≡ true = rw (agrees (k, v) e, h.0) refl in
+      rw (here, all_after k v es h.1) refl
+
+  still_below : (k e : K) (es : List (K × X)) → cmp k e ≡ Less → AllByRecursion (λ y. cmp e y ≡ Less) (keys_of es) → AllByRecursion (λ y. cmp k y ≡ Less) (keys_of es)
+  still_below k e [] h hs = tt
+  still_below k e (d ∷ es) h hs = (o.trans k e d.0 h hs.0, still_below k e es h hs.1)
+
+  also_below : (k e : K) (es : List (K × X)) → cmp k e ≡ Equal → AllByRecursion (λ y. cmp e y ≡ Less) (keys_of es) → AllByRecursion (λ y. cmp k y ≡ Less) (keys_of es)
+  also_below k e [] h hs = tt
+  also_below k e (d ∷ es) h hs = (o.congr k e d.0 h ∙ hs.0, also_below k e es h hs.1)
+
+  pub map-insert_entry : (same : (k e : K) (v : X) → cmp k e ≡ Equal → view (e, v) ≡ view (k, v)) (k : K) (v : X) (es : List (K × X)) → IsStrictlySortedBy cmp (keys_of es) → map view (insert_entry cmp es k v) ≡ with_row view_cmp (view (k, v)) (map view es)
+  unfolding IsStrictlySortedBy with_row
+  map-insert_entry same k v [] s = refl
+  map-insert_entry same k v (e ∷ es) s =
+      let P : Ordering → Type 0 = λ r. cmp k e.0 ≡ r → map view (match_ordering r ((k, v) ∷ e ∷ es) ((e.0, v) ∷ es) (e ∷ insert_entry cmp es k v)) ≡ filter (λ other. is_lt (view_cmp other (view (k, v)))) (view e ∷ map view es) ++ view (k, v) ∷ filter (λ other. is_lt (view_cmp (view (k, v)) other)) (view e ∷ map view es) in
+      let less : P Less = λ h.
+      let below : AllByRecursion (λ y. cmp k y ≡ Less) (keys_of (e ∷ es)) = (h, still_below k e.0 es h s.0) in
+      rw (none_before k v (e ∷ es) below, all_after k v (e ∷ es) below) refl in
+      let equal : P Equal = λ h.
+      let below : AllByRecursion (λ y. cmp k y ≡ Less) (keys_of es) = also_below k e.0 es h s.0 in
+      let not_before : is_lt (view_cmp (view e) (view (k, v))) ≡ false = rw (agrees e (k, v), o.antisymm e.0 k, h) refl in
+      let not_after : is_lt (view_cmp (view (k, v)) (view e)) ≡ false = rw (agrees (k, v) e, h) refl in
+      rw (not_before, not_after, none_before k v es below, all_after k v es below, same k e.0 v h) refl in
+      let greater : P Greater = λ h.
+      let before : is_lt (view_cmp (view e) (view (k, v))) ≡ true = rw (agrees e (k, v), o.antisymm e.0 k, h) refl in
+      let not_after : is_lt (view_cmp (view (k, v)) (view e)) ≡ false = rw (agrees (k, v) e, h) refl in
+      rw (before, not_after) (ap (λ l. view e ∷ l) (map-insert_entry same k v es s.1)) in
+      (elim (cmp k e.0) as P [ Less ↦ less | Equal ↦ equal | Greater ↦ greater ]) refl
+
+-- ## Entries that are removed
+
+all_stay : {K X : Type 0} (test : K → Bool) (es : List (K × X)) → AllByRecursion (λ y. test y ≡ false) (keys_of es) → filter (λ e. not (test e.0)) es ≡ es
+all_stay test [] h = refl
+all_stay test (e ∷ es) h = rw (h.0, all_stay test es h.1) refl
+
+none_again : {K X : Type 0} (cmp : K → K → Ordering) (test : K → Bool) (apart : (x y : K) → test x ≡ true → cmp x y ≡ Less → test y ≡ false) (k : K) → test k ≡ true → (es : List (K × X)) → AllByRecursion (λ y. cmp k y ≡ Less) (keys_of es) → AllByRecursion (λ y. test y ≡ false) (keys_of es)
+none_again cmp test apart k t [] h = tt
+none_again cmp test apart k t (e ∷ es) h = (apart k e.0 t h.0, none_again cmp test apart k t es h.1)
+
+pub remove_entry-filter : {K X : Type 0} (cmp : K → K → Ordering) (test : K → Bool) (apart : (x y : K) → test x ≡ true → cmp x y ≡ Less → test y ≡ false) (es : List (K × X)) → IsStrictlySortedBy cmp (keys_of es) → remove_entry test es ≡ filter (λ e. not (test e.0)) es
+unfolding IsStrictlySortedBy
+remove_entry-filter cmp test apart [] s = refl
+remove_entry-filter cmp test apart (e ∷ es) s =
+    let P : Bool → Type 0 = λ b. test e.0 ≡ b → cond b es (e ∷ remove_entry test es) ≡ cond (not b) (e ∷ filter (λ d. not (test d.0)) es) (filter (λ d. not (test d.0)) es) in
+    (elim (test e.0) as P [
+      | true ↦ λ h. sym (all_stay test es (none_again cmp test apart e.0 h es s.0))
+      | false ↦ λ h. ap (λ l. e ∷ l) (remove_entry-filter cmp test apart es s.1)
+    ]) refl
+
+pub filter_map-map : {X Y Z : Type 0} (f : Y → Option Z) (g : X → Y) (xs : List X) → filter_map f (map g xs) ≡ filter_map (λ x. f (g x)) xs
+filter_map-map f g [] = refl
+filter_map-map f g (x ∷ xs) = ap (cons_option (f (g x))) (filter_map-map f g xs)

@@ -1,0 +1,24 @@
+use Rattle.std.proofs.Common.{◌≡◌, ◌∙◌, sym, ap, subst, Err, None}
+use Rattle.std.proofs.lemmas.Result.{err_from_is_err_and}
+use Rattle.mq_router.specs.World.{Disconnect}
+use Rattle.mq_router.specs.Refusals.{first_refusal, client_conditions}
+use Rattle.mq_router.specs.StandsFor.{State}
+use Rattle.mq_router.specs.Applied.{Does}
+use Rattle.mq_router.specs.Views.{reply_of}
+use Rattle.mq_router.proofs.RouterLemmas.{refused-applied, disconnect-client, disconnect-does}
+use Rattle.mq_router.proofs.router.Router.disconnect.Goals as goal
+
+pub returns-in_err-check_client-clause-applied : goal.returns-in_err-check_client-clause-applied
+returns-in_err-check_client-clause-applied c =
+    let p = err_from_is_err_and c.from_residual.result c.from_residual.ensures.1 in
+    refused-applied c.args.self.now _ c.from_residual.result c.in_err-check_client.field-0.0 c.args.self.now (p.1 ∙ ap (λ e. Err e) p.2)
+    (disconnect-client c.args.self.now c.args.client.now _ c.in_err-check_client.ensures)
+
+pub returns-clause-applied : goal.returns-clause-applied
+returns-clause-applied c =
+    let s : State = record { access = c.self.inside.access; sessions = c.self.inside.sessions; subscriptions = c.self.inside.subscriptions } in
+    let id = c.args.client.now in
+    let new : State = record { access = s.access; sessions = c.remove.new.self; subscriptions = c.remove_client.new.self } in
+    let tested : None ≡ first_refusal (client_conditions s.sessions id) = c.in_ok-check_client.ensures ∙ ap (λ (v : State). first_refusal (client_conditions v.sessions id)) (sym c.self.view_is) in
+    subst (λ (v : State). Does v (Disconnect id) (reply_of c.with_reason.result) new) c.self.view_is
+    (disconnect-does s id c.remove.new.self c.remove_client.new.self _ tested c.with_reason.ensures c.remove.ensures c.remove_client.ensures)

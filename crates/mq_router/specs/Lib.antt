@@ -1,0 +1,15 @@
+pub mod Lists
+pub mod World
+pub mod Refusals
+pub mod Copies
+pub mod Answers
+pub mod After
+pub mod Views
+pub mod StandsFor
+pub mod Applied
+pub mod Held
+pub use Rattle.mq_topic.specs.Levels
+pub use Rattle.mq_topic.specs.Texts
+pub use Rattle.mq_topic.specs.Matching
+pub use Rattle.mq_acl.specs.Rows
+pub use Rattle.mq_acl.specs.Access

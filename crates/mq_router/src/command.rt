@@ -1,0 +1,65 @@
+ghost use Rattle.std.specs.Prelude.{◌≡◌};
+ghost use Rattle.mq_router.specs.World.{is_identifier};
+ghost use Rattle.mq_router.specs.Refusals.{is_valid};
+ghost use Rattle.mq_router.specs.Views.{request_of};
+
+/// A command of a script. Its texts may be any texts: the router tests them.
+#[derive(Debug, Drop)]
+pub enum Command {
+    /// A client connects, with a user name or without one. A session that it has is ended (MQTT 5.0, section 3.1.4).
+    Connect {
+        client: String,
+        user: Option<String>,
+    },
+    /// A client's session and its subscriptions end (MQTT 5.0, section 3.14).
+    Disconnect {
+        client: String,
+    },
+    /// A client subscribes, or replaces its subscription to the same filter (MQTT 5.0, section 3.8).
+    Subscribe {
+        client: String,
+        filter: String,
+        /// 0 to 2.
+        qos: u8,
+        /// Whether the client gets no copies of its own messages.
+        no_local: bool,
+        /// 1 to 268,435,455.
+        id: Option<u32>,
+    },
+    /// A subscription ends (MQTT 5.0, section 3.10).
+    Unsubscribe {
+        client: String,
+        filter: String,
+    },
+    /// A client publishes a message (MQTT 5.0, section 3.3).
+    Publish {
+        client: String,
+        topic: String,
+        payload: String,
+        /// 0 to 2.
+        qos: u8,
+    },
+    /// An access list takes the place of the one that is set; without text there is none then, and all is allowed.
+    SetAcl {
+        text: Option<String>,
+    },
+}
+
+impl Command {
+    /// Whether each number is in its range. `Router::apply` wants it.
+    pub fn is_valid(&self) -> bool
+        ensures { result ≡ is_valid (request_of self.now) }
+    {
+        match self {
+            Command::Subscribe { qos, id, .. } => *qos <= 2 && id.is_none_or(is_identifier),
+            Command::Publish { qos, .. } => *qos <= 2,
+            _ => true,
+        }
+    }
+}
+
+fn is_identifier(id: u32) -> bool
+    ensures { result ≡ is_identifier id }
+{
+    (1..=268_435_455).contains(&id)
+}

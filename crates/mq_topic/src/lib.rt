@@ -1,0 +1,20 @@
+//! Topic names, topic filters and subscription texts of MQTT 5, and which filters match which names
+//! (MQTT 5.0, sections 4.7 and 4.8.2).
+#![tactic(auto)]
+
+mod fault;
+mod filter;
+mod level_text;
+mod levels;
+mod matching;
+mod name;
+mod subscription;
+mod validity;
+
+pub use fault::TopicFault;
+pub use filter::TopicFilter;
+pub use level_text::LevelText;
+pub use levels::split_first;
+pub use matching::{LevelTest, levels_match, matches};
+pub use name::TopicName;
+pub use subscription::SubFilter;

@@ -1,0 +1,59 @@
+#!/usr/bin/env bash
+# Runs the built program on each worked row of tests/rows and on each example, as a user would, and compares what it
+# writes, byte for byte, and its exit status.
+#
+# A row is NAME.jsonl (standard input), NAME.out (what must be written) and NAME.status; NAME.args, where it stands, has
+# the arguments, one a line. An example is a folder of examples/ with a file `run` of lines `OUT STATUS ARGUMENTS..`.
+set -uo pipefail
+cd "$(dirname "$0")/.."
+program=$PWD/crates/mqroute/out/mqroute
+passed=0
+failed=0
+
+check() { # NAME WANTED_OUTPUT WANTED_STATUS, with what was written in $written and the status in $status
+    if [ "$status" = "$3" ] && cmp -s "$written" "$2"; then
+        passed=$((passed + 1))
+    else
+        failed=$((failed + 1))
+        echo "rows: $1: wanted status $3, got $status; output:"
+        cmp "$written" "$2"
+    fi
+}
+
+if [ ! -x "$program" ]; then
+    echo "rows: there is no $program: run 'rt ci' first"
+    exit 1
+fi
+written=$(mktemp)
+trap 'rm -f "$written"' EXIT
+
+for script in tests/rows/*.jsonl; do
+    [ -e "$script" ] || continue
+    row=${script%.jsonl}
+    args=()
+    [ -e "$row.args" ] && mapfile -t args < "$row.args"
+    "$program" ${args[@]+"${args[@]}"} < "$script" > "$written" 2> /dev/null
+    status=$?
+    check "$row" "$row.out" "$(cat "$row.status")"
+done
+
+for list in examples/*/run; do
+    [ -e "$list" ] || continue
+    folder=${list%/run}
+    while read -r out wanted rest; do
+        read -ra args <<< "$rest"
+        (cd "$folder" && "$program" "${args[@]}" < /dev/null > "$written" 2> /dev/null)
+        status=$?
+        check "$folder $rest" "$folder/$out" "$wanted"
+    done < "$list"
+done
+
+for wanted in examples/*/lost.diff; do
+    [ -e "$wanted" ] || continue
+    diff "${wanted%lost.diff}current.out" "${wanted%lost.diff}proposed.out" > "$written"
+    status=$?
+    check "$wanted" "$wanted" 1
+done
+
+echo "$passed passed, $failed failed"
+[ "$failed" = 0 ] && [ "$passed" != 0 ]
