@@ -12,3 +12,4 @@ test:
 
 bench:
 	bench/run.sh
+	bench/tree.sh

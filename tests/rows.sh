@@ -20,6 +20,7 @@ check() { # NAME WANTED_OUTPUT WANTED_STATUS, with what was written in $written 
     fi
 }
 
+tools/rows_table.py --check || exit 1
 if [ ! -x "$program" ]; then
     echo "rows: there is no $program: run 'rt ci' first"
     exit 1
@@ -36,6 +37,15 @@ for script in tests/rows/*.jsonl; do
     status=$?
     check "$row" "$row.out" "$(cat "$row.status")"
 done
+
+# A script of one byte more than 4,294,967,296 is cut, whatever its lines are.
+told=$(mktemp)
+head -c 4294967297 /dev/zero | "$program" > "$written" 2> "$told"
+status=$?
+cat "$told" >> "$written"
+echo "mqroute: script too long" > "$told"
+check "a script that is too long" "$told" 3
+rm -f "$told"
 
 for list in examples/*/run; do
     [ -e "$list" ] || continue

@@ -24,7 +24,7 @@ use Rattle.mq_router.specs.Copies.{direct_copies}
 use Rattle.mq_router.specs.Answers.{answer}
 use Rattle.mq_router.specs.After.{after, next}
 use Rattle.mq_router.specs.declared.refusal.Refusal.{Refusal}
-use Rattle.mq_router.specs.declared.refusal.Refusal.TheVariants.{ClientId, UserName, NotConnected, TopicName, TopicFilter, NotAuthorized, AclLine}
+use Rattle.mq_router.specs.declared.refusal.Refusal.TheVariants.{ClientId, NotConnected, TopicName, TopicFilter, NotAuthorized, AclLine}
 use Rattle.mq_router.specs.declared.answer.Outcome.TheVariants.{Reason}
 
 -- what each command is answered
@@ -115,4 +115,6 @@ def row(path):
             + f"\n{name} = refl\n")
 
 
-OUT.write_text(HEADER + "".join(row(path) for path in sorted(ROWS.glob("*.jsonl"))))
+# A row that begins with an access list has a twin that sets it.
+scripts = [path for path in sorted(ROWS.glob("*.jsonl")) if not path.with_suffix(".acl").exists()]
+OUT.write_text(HEADER + "".join(row(path) for path in scripts))

@@ -1,0 +1,16 @@
+-- The answer to a whole file is how its reading ends.
+use Rattle.std.proofs.Common.{ℕ, List, Option, Result, Ok, Err}
+use Rattle.mq_acl.specs.Rows.{AclRow}
+use Rattle.mq_cli.specs.declared.acl_file.AclFileFault.{AclFileFault}
+use Rattle.mq_cli.specs.declared.acl_file.AclFileFault.TheVariants as fault
+use Rattle.mq_cli.specs.Ending.{Failures}
+use Rattle.mq_cli.specs.AclFile.{IsAnswerTo, IsWholeFile, AclFileEnding}
+
+pub AclFileEnding-whole : (limit : ℕ) (result : Result (List AclRow) AclFileFault) (given : List ℕ) (left : Option (List ℕ)) (calls : Failures)
+    → IsWholeFile limit given left calls → IsAnswerTo given result → AclFileEnding limit result given left calls
+AclFileEnding-whole limit (Ok rows) given left calls whole is = (whole, is)
+AclFileEnding-whole limit (Err fault.Read) given left calls whole is = absurd is
+AclFileEnding-whole limit (Err fault.TooLong) given left calls whole is = absurd is
+AclFileEnding-whole limit (Err fault.Utf8) given left calls whole is = (whole, is)
+AclFileEnding-whole limit (Err (fault.Line f)) given left calls whole is = (whole, is)
+AclFileEnding-whole limit (Err fault.Memory) given left calls whole is = whole.reader

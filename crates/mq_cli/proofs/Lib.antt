@@ -1,0 +1,10 @@
+pub mod NameLemmas
+pub mod FloatLemmas
+pub mod TextLemmas
+pub mod WrittenLemmas
+pub mod PieceLemmas
+pub mod OutputLemmas
+pub mod RunLemmas
+pub mod HeadlineLemmas
+pub mod AclFileLemmas
+pub mod ProgramLemmas

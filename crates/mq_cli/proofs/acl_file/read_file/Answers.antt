@@ -1,0 +1,27 @@
+use Rattle.std.proofs.Common.{◌≡◌, ◌≤◌, ◌+◌, ◌++◌, ℕ, List, length, take, arith, length-append, length-take-le}
+use Rattle.std.proofs.KnownBytes.{Consumes-trans}
+use Rattle.mq_cli.proofs.acl_file.read_file.Goals as goal
+
+pub returns-then-n-limit-clause-err : goal.returns-then-n-limit-clause-err
+returns-then-n-limit-clause-err g c =
+    let bytes : List ℕ = c.reads.bytes.items in
+    let n : ℕ = c.in-Ok.n in
+    let piece : List ℕ = c.read.new.buf in
+    let bound : n ≤ length piece = c.in-Ok.ensures.bound in
+    let count = c.reads.bytes.ok.0 in
+    let grown : length (bytes ++ take n piece) ≡ length bytes + n = rw (length-append, length-take-le n piece) in (
+      bytes ++ take n piece,
+      Consumes-trans _ (g.R.Source.to_come c.reads.reader) _ bytes (take n piece) c.reads.invariant.given c.in-Ok.ensures.bytes.0,
+      (
+        let over = c.if-n-limit.true in let is = c.len.ensures in omega arith,
+        let counted = c.in-Ok.ensures.counted in omega arith,
+      ),
+    )
+
+pub returns-in-Err-extend_from_slice-clause-err : goal.returns-in-Err-extend_from_slice-clause-err
+returns-in-Err-extend_from_slice-clause-err g c =
+    let bytes : List ℕ = c.reads.bytes.items in (
+      bytes ++ take c.in-Ok.n c.read.new.buf,
+      Consumes-trans _ (g.R.Source.to_come c.reads.reader) _ bytes (take c.in-Ok.n c.read.new.buf) c.reads.invariant.given c.in-Ok.ensures.bytes.0,
+      let counted = c.in-Ok.ensures.counted in omega arith,
+    )

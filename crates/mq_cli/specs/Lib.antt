@@ -1,0 +1,13 @@
+pub mod Trails
+pub mod Failures
+pub mod Wrapped
+pub mod Fields
+pub mod Reading
+pub mod Printed
+pub mod Output
+pub mod Ending
+pub mod Running
+pub mod Status
+pub mod AclFile
+pub mod CommandLine
+pub mod Program

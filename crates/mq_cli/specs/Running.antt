@@ -1,0 +1,83 @@
+-- A run on its way: what is answered so far, and what is kept of the line that has not ended.
+use Rattle.std.specs.Prelude.{◌≡◌, ◌≤◌, ℕ, ◌+◌, List, [], ◌++◌, length, take, if◌then◌else◌, Bool, Option, Some, None}
+use Rattle.std.specs.Io.KnownBytes.{Appends, IsAtEnd}
+use Rattle.mq_router.specs.World.{World, Request}
+use Rattle.mq_router.specs.After.{next}
+use Rattle.mq_router.specs.StandsFor.{State, StandsFor}
+use Rattle.mq_cli.specs.declared.script.outcome.RunFault.{RunFault}
+use Rattle.mq_cli.specs.declared.script.outcome.RunFault.TheVariants as fault
+use Rattle.mq_cli.specs.declared.script.progress.Progress.{Progress}
+use Rattle.mq_cli.specs.Reading.{reading}
+use Rattle.mq_cli.specs.Output.{whole_lines, last_piece, output, whole_output, command_in, world_after, text_of, is_refused, refused_from, Summarizes}
+use Rattle.mq_cli.specs.Ending.{AppendsSome, WritesLines}
+
+-- how much of a line is kept: one byte more than a line may have
+unfoldable pub kept : ℕ
+kept = 1048577
+
+abbrev pub next_or : World → Option Request → World
+next_or w None = w
+next_or w (Some request) = next w request
+
+-- the world after one more line
+unfoldable pub world_then : World → List ℕ → World
+world_then w line = next_or w (command_in (reading line))
+
+-- line k was answered in a text, as refused or not
+pub record IsTold (k : ℕ) (w : World) (line : List ℕ) (was_refused : Bool) (router : State) (old new : List ℕ) : Type 0 where
+  pub text : new ≡ old ++ text_of k w line
+  pub refused : was_refused ≡ is_refused w line
+  pub stands : StandsFor router (world_then w line)
+
+-- the line that was kept is answered
+pub record Answered (w : World) (old new : Progress) (before after : Option (List ℕ)) : Type 0 where
+  pub stands : StandsFor new.router (world_then w old.line.items)
+  pub refused : new.summary.refused ≡ old.summary.refused + (if is_refused w old.line.items then 1 else 0)
+  pub written : Appends before after (text_of (old.summary.lines + 1) w old.line.items)
+
+-- it isn't
+abbrev pub Unanswered : World → Progress → RunFault → (before after : Option (List ℕ)) → Type 0
+Unanswered w old fault.Read before after = ⊥
+Unanswered w old fault.TooMuch before after = ⊥
+Unanswered w old fault.Write before after = AppendsSome before after (text_of (old.summary.lines + 1) w old.line.items)
+Unanswered w old fault.Memory before after = Appends before after []
+
+-- the whole lines of what was given are answered, and what follows them is kept
+pub record Told (w : World) (given : List ℕ) (p : Progress) (before after : Option (List ℕ)) : Type 0 where
+  pub stands : StandsFor p.router (world_after w (whole_lines given))
+  pub lines : p.summary.lines ≡ length (whole_lines given)
+  pub refused : p.summary.refused ≡ refused_from w [] (whole_lines given)
+  pub line : p.line.items ≡ take kept (last_piece given)
+  pub written : Appends before after (whole_output w given)
+
+-- a run stopped among what was given
+abbrev pub Stopped : World → (given : List ℕ) → RunFault → (before after : Option (List ℕ)) → Type 0
+Stopped w given fault.Read before after = ⊥
+Stopped w given fault.TooMuch before after = ⊥
+Stopped w given fault.Write before after = AppendsSome before after (whole_output w given)
+Stopped w given fault.Memory before after = WritesLines w given before after
+
+-- how many calls of the writer fail by an error
+abbrev pub write_failures : RunFault → ℕ
+write_failures fault.Write = 1
+write_failures fault.Read = 0
+write_failures fault.TooMuch = 0
+write_failures fault.Memory = 0
+
+-- all was read, and its whole lines are answered
+pub record ReadAll (limit : ℕ) (w : World) (given : List ℕ) (p : Progress) (left before after : Option (List ℕ)) : Type 0 where
+  pub ended : IsAtEnd left
+  pub within : length given ≤ limit
+  pub told : Told w given p before after
+
+-- all lines are answered
+pub record Finished (w : World) (given : List ℕ) (p : Progress) (before after : Option (List ℕ)) : Type 0 where
+  pub summary : Summarizes w given p.summary
+  pub written : Appends before after (output w given)
+
+-- a run stopped at the last piece
+abbrev pub StoppedLast : World → (given : List ℕ) → RunFault → (before after : Option (List ℕ)) → Type 0
+StoppedLast w given fault.Read before after = ⊥
+StoppedLast w given fault.TooMuch before after = ⊥
+StoppedLast w given fault.Write before after = AppendsSome before after (output w given)
+StoppedLast w given fault.Memory before after = WritesLines w given before after

@@ -1,0 +1,112 @@
+//! Access list files.
+ghost use Rattle.std.specs.Prelude.{◌<◌, ℕ, List, Err, IfOk, IfErr, length};
+ghost use Rattle.std.specs.Io.KnownBytes.{Consumes};
+ghost use Rattle.mq_cli.specs.AclFile.{AclFileEnding, IsAnswerTo, IsWholeFile, acl_file_limit};
+
+use crate::devices::Source;
+use mq_acl::{Acl, AclFault, AclKind};
+use std::alloc::{AllocError, Global};
+use std::str;
+use thiserror::Error;
+
+/// How many bytes the file may have.
+const FILE_LIMIT: usize = 16_777_216;
+
+/// How many bytes are asked for at a time.
+const PIECE: usize = 65_536;
+
+/// Why an access list file gives no access list: the first of these whose condition holds. `Memory` may stand in place
+/// of any answer.
+#[derive(Clone, Copy, Debug, PartialEq, Eq, Error)]
+pub enum AclFileFault {
+    /// The reader failed.
+    #[error("read fault")]
+    Read,
+    /// The file has more than 16,777,216 bytes.
+    #[error("too long")]
+    TooLong,
+    /// The file isn't UTF-8.
+    #[error("not UTF-8")]
+    Utf8,
+    /// A line has a fault.
+    #[error("line {}: {:?}", .0.line, .0.kind)]
+    Line(AclFault),
+    /// There was no memory.
+    #[error("out of memory")]
+    Memory,
+}
+
+impl From<AllocError> for AclFileFault {
+    ghost use Rattle.std.specs.Prelude.{◌≡◌};
+    ghost use Rattle.mq_cli.specs.declared.acl_file.AclFileFault.TheVariants.{Memory};
+
+    ghost from_gives = { λ _ fault. fault ≡ Memory };
+
+    fn from(_: AllocError) -> AclFileFault {
+        AclFileFault::Memory
+    }
+}
+
+/// Reads the bytes of a file of at most `limit` bytes, in pieces.
+fn read_file<R: Source>(
+    alloc: Global,
+    reader: &mut R,
+    piece: &mut [u8],
+    limit: usize,
+) -> Result<Vec<u8>, AclFileFault>
+    requires { 0 < length piece.old }
+    ensures ok { IfOk result (λ bytes. Consumes (R.to_come reader.old) (R.to_come reader.new) bytes.items
+        × IsWholeFile limit bytes.items (R.to_come reader.new) (record { before = R.failures reader.old; after = R.failures reader.new })) }
+    ensures err { IfErr result (λ fault. (given : List ℕ) × Consumes (R.to_come reader.old) (R.to_come reader.new) given
+        × AclFileEnding limit (Err fault) given (R.to_come reader.new) (record { before = R.failures reader.old; after = R.failures reader.new })) }
+{
+    let mut bytes = Vec::new(alloc);
+    'reads: loop {
+        let n = match reader.read(piece) {
+            Ok(n) => n,
+            Err(_) => return Err(AclFileFault::Read),
+        };
+        if n == 0 {
+            return Ok(bytes);
+        }
+        if n > limit - bytes.len() {
+            return Err(AclFileFault::TooLong);
+        }
+        match bytes.extend_from_slice(&piece[..n]) {
+            Ok(()) => {}
+            Err(_) => return Err(AclFileFault::Memory),
+        }
+    }
+}
+
+/// The access list that the bytes of a file are.
+fn parse_acl(alloc: Global, bytes: &[u8]) -> Result<Acl, AclFileFault>
+    ensures { IsAnswerTo bytes.now result }
+{
+    let text = match str::from_utf8(bytes) {
+        Ok(text) => text,
+        Err(_) => return Err(AclFileFault::Utf8),
+    };
+    match Acl::read(alloc, text) {
+        Ok(acl) => Ok(acl),
+        Err(fault) => match fault.kind {
+            AclKind::Memory => Err(AclFileFault::Memory),
+            _ => Err(AclFileFault::Line(fault)),
+        },
+    }
+}
+
+/// Reads an access list from the bytes that a reader gives, in whatever pieces. Memory is that of the file and of its
+/// access list.
+pub fn read_acl<R: Source>(alloc: Global, reader: &mut R) -> Result<Acl, AclFileFault>
+    ensures { (given : List ℕ) × Consumes (R.to_come reader.old) (R.to_come reader.new) given
+        × AclFileEnding acl_file_limit result given (R.to_come reader.new) (record { before = R.failures reader.old; after = R.failures reader.new }) }
+{
+    let Ok(mut piece) = vec![in alloc; 0u8; PIECE] else {
+        return Err(AclFileFault::Memory);
+    };
+    match read_file(alloc, reader, piece.as_mut_slice(), FILE_LIMIT) {
+        Ok(bytes) => parse_acl(alloc, bytes.as_slice()),
+        Err(fault) => Err(fault),
+    }
+}

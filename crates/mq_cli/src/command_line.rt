@@ -1,0 +1,125 @@
+//! The command line.
+ghost use Rattle.std.specs.Prelude.{◌≡◌, [], map, option_map, string_bytes, IfOk, OnOk, IfErr};
+ghost use Rattle.clap.specs.Words.{app_of, rows_of, found_of, matches_of, fault_of, FailsBy};
+ghost use Rattle.mq_cli.specs.CommandLine.{mqroute, AreGiven, IsFaultOf};
+
+use clap::error::ErrorKind;
+use clap::{Arg, ArgMatches, Command, Error};
+use std::alloc::{AllocError, Global};
+
+const ABOUT: &str = "Answers a script of MQTT 5.0 routing commands, line by line";
+
+const ACL_FILE_HELP: &str =
+    "Begin with the access list in FILE, in the form of mosquitto.conf(5)'s acl_file";
+
+const SCRIPT_HELP: &str = "The script; absent or -, standard input";
+
+const AFTER_HELP: &str = "\
+Each line of a script is a JSON object, such as
+  {\"do\":\"connect\",\"client\":\"a\"}
+  {\"do\":\"subscribe\",\"client\":\"a\",\"filter\":\"t/#\",\"qos\":1}
+  {\"do\":\"publish\",\"client\":\"a\",\"topic\":\"t/1\",\"payload\":\"x\"}
+
+The commands and their fields, those in brackets optional:
+  connect      client [user]
+  disconnect   client
+  subscribe    client filter [qos] [no_local] [id]
+  unsubscribe  client filter
+  publish      client topic [payload] [qos]
+  acl          [text]
+
+An accepted line is answered by a line for each copy of its message and a
+closing line, a refused line by one line that says why.
+
+Exit status:
+  0  every line was accepted
+  1  some line was refused
+  2  the arguments, a file or the access list can't be read
+  3  a read or a write failed, the script is too long, or memory ran out
+
+Example:
+  mqroute --acl-file access.txt script.jsonl";
+
+/// What the command line asks for.
+#[derive(Debug, Drop)]
+pub struct Options {
+    /// The file of the access list.
+    pub acl_file: Option<String>,
+    /// The file of the script.
+    pub script: Option<String>,
+}
+
+/// Why the command line gives no options.
+#[derive(Debug, Drop)]
+pub enum UsageFault {
+    /// Help is asked for; the text is to be printed on standard output.
+    Help(String),
+    /// The words are not understood; the text says why.
+    Usage(String),
+    /// There was no memory.
+    Memory,
+}
+
+impl From<AllocError> for UsageFault {
+    ghost use Rattle.std.specs.Prelude.{◌≡◌};
+    ghost use Rattle.mq_cli.specs.declared.command_line.UsageFault.TheVariants.{Memory};
+
+    ghost from_gives = { λ _ fault. fault ≡ Memory };
+
+    fn from(_: AllocError) -> UsageFault {
+        UsageFault::Memory
+    }
+}
+
+/// `mqroute [--acl-file FILE] [SCRIPT]`.
+fn command<'a>(alloc: Global) -> Result<Command<'a>, AllocError>
+    ensures { IfOk result (λ c. app_of c ≡ mqroute) }
+{
+    let acl_file = Arg::new(alloc, "acl-file")
+        .long("acl-file")
+        .value_name("FILE")
+        .help(ACL_FILE_HELP);
+    let script = Arg::new(alloc, "script")
+        .value_name("SCRIPT")
+        .help(SCRIPT_HELP);
+    let empty = Command::new(alloc, "mqroute");
+    let whole = empty.arg(acl_file)?.arg(script)?;
+    Ok(whole.about(ABOUT).after_help(AFTER_HELP))
+}
+
+fn matches_in<'a>(alloc: Global, words: &'a [String]) -> Result<ArgMatches<'a>, Error>
+    ensures rows { IfOk result (λ m. rows_of (found_of m) ≡ matches_of mqroute (map string_bytes words.entry.now)) }
+    ensures kinds { FailsBy (fault_of mqroute (map string_bytes words.entry.now)) result }
+{
+    let command = command(alloc)?;
+    command.try_get_matches_from(words)
+}
+
+fn copied(alloc: Global, text: Option<&str>) -> Result<Option<String>, AllocError>
+    ensures { IfOk result (λ o. option_map string_bytes o ≡ option_map (λ t. t.now) text.entry) }
+{
+    match text {
+        Some(text) => Ok(Some(String::from_str(alloc, text)?)),
+        None => Ok(None),
+    }
+}
+
+/// The options in the words of a command line, of which the first is the program's name.
+pub fn arguments(alloc: Global, words: &[String]) -> Result<Options, UsageFault>
+    ensures ok { IfOk result (AreGiven (map string_bytes words.now)) }
+    ensures no_fault { OnOk result (fault_of mqroute (map string_bytes words.now) ≡ []) }
+    ensures err { IfErr result (IsFaultOf (fault_of mqroute (map string_bytes words.now))) }
+{
+    match matches_in(alloc, words) {
+        Ok(matches) => {
+            let acl_file = copied(alloc, matches.get_str("acl-file"))?;
+            let script = copied(alloc, matches.get_str("script"))?;
+            Ok(Options { acl_file, script })
+        }
+        Err(e) => match e.kind() {
+            ErrorKind::DisplayHelp => Err(UsageFault::Help(e.to_string(alloc)?)),
+            ErrorKind::OutOfMemory => Err(UsageFault::Memory),
+            _ => Err(UsageFault::Usage(e.to_string(alloc)?)),
+        },
+    }
+}

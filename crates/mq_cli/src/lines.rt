@@ -1,0 +1,12 @@
+//! The lines of a script, and the lines that answer them.
+
+mod fault;
+mod fields;
+mod object;
+mod print;
+mod read;
+mod report;
+
+pub use fault::LineFault;
+pub use print::{print_answer, print_line_fault, print_refusal};
+pub use read::read_line;

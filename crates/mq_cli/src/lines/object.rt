@@ -1,0 +1,105 @@
+//! An object that is printed as a line.
+ghost use Rattle.std.specs.Prelude.{◌≡◌, ◌++◌, ◌∷◌, [], false, OnOk, OnErr, IfOk};
+ghost use Rattle.serde_json.specs.Data.{string, boolean, array, no_members, put};
+ghost use Rattle.serde_json.specs.View.{view, members_view};
+ghost use Rattle.serde_json.specs.Written.{members_have_float, has_float};
+ghost use Rattle.mq_cli.specs.Printed.{put_if, whole_data, numbers_data, whole_if, numbers_if, line_text};
+
+use serde_json::{Map, Value};
+use std::alloc::{AllocError, Global};
+
+/// Members of which none is a float.
+#[derive(Drop)]
+pub struct Object {
+    members: Map<String, Value>,
+    ghost no_float: { members_have_float (members_view members.entries) ≡ false },
+}
+
+impl Object {
+    pub fn new(alloc: Global) -> Object
+        ensures { members_view result.members.entries ≡ no_members }
+    {
+        Object {
+            members: Map::new(alloc),
+        }
+    }
+
+    fn put(&mut self, alloc: Global, name: &str, value: Value) -> Result<(), AllocError>
+        requires { has_float (view value) ≡ false }
+        ensures { OnOk result (members_view self.new.members.entries
+            ≡ put name.now (view value) (members_view self.old.members.entries)) }
+    {
+        let name = String::from_str(alloc, name)?;
+        self.members.insert(name, value)?;
+        Ok(())
+    }
+
+    pub fn text(&mut self, alloc: Global, name: &str, text: &str) -> Result<(), AllocError>
+        ensures { OnOk result (members_view self.new.members.entries
+            ≡ put name.now (string text.now) (members_view self.old.members.entries)) }
+    {
+        let text = String::from_str(alloc, text)?;
+        self.put(alloc, name, Value::String(text))
+    }
+
+    pub fn number(&mut self, alloc: Global, name: &str, n: u64) -> Result<(), AllocError>
+        ensures { OnOk result (members_view self.new.members.entries
+            ≡ put name.now (whole_data n) (members_view self.old.members.entries)) }
+    {
+        self.put(alloc, name, Value::from(n))
+    }
+
+    pub fn flag(&mut self, alloc: Global, name: &str, flag: bool) -> Result<(), AllocError>
+        ensures { OnOk result (members_view self.new.members.entries
+            ≡ put name.now (boolean flag) (members_view self.old.members.entries)) }
+    {
+        self.put(alloc, name, Value::Bool(flag))
+    }
+
+    pub fn number_if(&mut self, alloc: Global, name: &str, n: Option<u64>) -> Result<(), AllocError>
+        ensures { OnOk result (members_view self.new.members.entries
+            ≡ put_if name.now (whole_if n) (members_view self.old.members.entries)) }
+    {
+        match n {
+            Some(n) => self.number(alloc, name, n),
+            None => Ok(()),
+        }
+    }
+
+    pub fn numbers_if(
+        &mut self,
+        alloc: Global,
+        name: &str,
+        numbers: &[u32],
+    ) -> Result<(), AllocError>
+        ensures { OnOk result (members_view self.new.members.entries
+            ≡ put_if name.now (numbers_if numbers.now) (members_view self.old.members.entries)) }
+    {
+        if numbers.is_empty() {
+            return Ok(());
+        }
+        let list = numbers_value(alloc, numbers)?;
+        self.put(alloc, name, list)
+    }
+
+    /// Adds the line. An error leaves the text as it is.
+    pub fn print(self, alloc: Global, out: &mut Vec<u8>) -> Result<(), AllocError>
+        ensures ok { OnOk result (out.new.items ≡ out.old.items ++ line_text (members_view self.members.entries)) }
+        ensures err { OnErr result (out.new.items ≡ out.old.items) }
+    {
+        let Object { members } = self;
+        let mut line = Value::Object(members).to_string(alloc)?;
+        line.push('\n')?;
+        out.extend_from_slice(line.as_bytes())
+    }
+}
+
+fn numbers_value(alloc: Global, numbers: &[u32]) -> Result<Value, AllocError>
+    ensures { IfOk result (λ v. view v ≡ array (numbers_data numbers.now)) }
+{
+    let mut list = Vec::new(alloc);
+    for n in numbers {
+        list.push(Value::from(u64::from(*n)))?;
+    }
+    Ok(Value::Array(list))
+}

@@ -1,0 +1,43 @@
+//! The answer to a line.
+ghost use Rattle.std.specs.Prelude.{◌≡◌, OnErr, IfOk};
+ghost use Rattle.mq_router.specs.World.{World};
+ghost use Rattle.mq_router.specs.StandsFor.{StandsFor};
+ghost use Rattle.mq_cli.specs.Running.{IsTold};
+
+use crate::lines::{LineFault, print_answer, print_line_fault, print_refusal, read_line};
+use mq_router::{Refusal, Router};
+use std::alloc::{AllocError, Global};
+
+/// Adds the answer to a line, and says whether the line is refused.
+#[tactic(auto, unfolding(crate::specs::Output::text_of, crate::specs::Output::is_refused, crate::specs::Running::world_then, mq_router::specs::After::next))]
+pub fn answer_line(
+    alloc: Global,
+    router: &mut Router,
+    number: u64,
+    line: &[u8],
+    out: &mut Vec<u8>,
+) -> Result<bool, AllocError>
+    ensures ok { (w : World) → StandsFor router.old w → IfOk result (λ refused.
+        IsTold number w line.now refused router.new out.old.items out.new.items) }
+    ensures err { OnErr result (out.new.items ≡ out.old.items) }
+{
+    match read_line(alloc, line) {
+        Ok(None) => Ok(false),
+        Ok(Some(command)) => match router.apply(&command) {
+            Ok(answer) => {
+                print_answer(alloc, number, &answer, out)?;
+                Ok(false)
+            }
+            Err(Refusal::Memory) => Err(AllocError),
+            Err(refusal) => {
+                print_refusal(alloc, number, &refusal, out)?;
+                Ok(true)
+            }
+        },
+        Err(LineFault::Memory) => Err(AllocError),
+        Err(fault) => {
+            print_line_fault(alloc, number, &fault, out)?;
+            Ok(true)
+        }
+    }
+}

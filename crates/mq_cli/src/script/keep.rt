@@ -1,0 +1,36 @@
+//! Lines among bytes, and what is kept of a line.
+ghost use Rattle.std.specs.Prelude.{◌≡◌, ◌-◌, ◌++◌, ◌∷◌, [], OnOk, MatchOption, length, take, position};
+ghost use Rattle.mq_cli.specs.Output.{is_feed, pieces};
+
+use std::alloc::AllocError;
+
+const LINE_FEED: u8 = b'\n';
+
+/// Adds the front of some bytes to a line, so that it has at most `most` bytes.
+pub fn keep_front(line: &mut Vec<u8>, bytes: &[u8], most: usize) -> Result<(), AllocError>
+    ensures { OnOk result (line.new.items ≡ line.old.items ++ take (most - length line.old.items) bytes.now) }
+{
+    let room = most.saturating_sub(line.len());
+    if room < bytes.len() {
+        line.extend_from_slice(&bytes[..room])
+    } else {
+        line.extend_from_slice(bytes)
+    }
+}
+
+fn first_feed(bytes: &[u8]) -> Option<usize>
+    ensures { result ≡ position is_feed bytes.now }
+{
+    bytes.iter().position(|byte| *byte == LINE_FEED)
+}
+
+/// What stands before the first line feed, and what follows it.
+pub fn split_line(bytes: &[u8]) -> Option<(&[u8], &[u8])>
+    ensures { MatchOption result (pieces bytes.now ≡ bytes.now ∷ []) (λ parts.
+        (bytes.now ≡ (parts.0.now ++ 10 ∷ []) ++ parts.1.now) × (pieces parts.0.now ≡ parts.0.now ∷ [])) }
+{
+    match first_feed(bytes) {
+        Some(feed) => Some((&bytes[..feed], &bytes[feed + 1..])),
+        None => None,
+    }
+}

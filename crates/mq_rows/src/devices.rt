@@ -1,0 +1,77 @@
+//! Readers and writers over memory that give or take little at a time, and fail where they are told to.
+use std::alloc::Global;
+use std::io::{self, ErrorKind, Read, Write};
+
+/// A reader that gives at most `most` bytes a call, and fails at the call after `calls` others.
+#[derive(Drop)]
+pub(crate) struct Pieces<'a> {
+    rest: &'a [u8],
+    most: usize,
+    calls: usize,
+}
+
+impl<'a> Pieces<'a> {
+    pub(crate) fn new(bytes: &'a [u8], most: usize) -> Self {
+        Pieces::failing(bytes, most, usize::MAX)
+    }
+
+    pub(crate) fn failing(rest: &'a [u8], most: usize, calls: usize) -> Self {
+        Pieces { rest, most, calls }
+    }
+}
+
+impl<'a> Read for Pieces<'a> {
+    fn read(&mut self, buf: &mut [u8]) -> io::Result<usize> {
+        if self.calls == 0 {
+            return Err(io::Error::from(ErrorKind::Other));
+        }
+        self.calls -= 1;
+        let n = buf.len().min(self.rest.len()).min(self.most);
+        let (front, back) = self.rest.split_at(n);
+        buf[..n].copy_from_slice(front);
+        self.rest = back;
+        Ok(n)
+    }
+}
+
+/// A writer into memory that takes at most `most` bytes a call. When it has taken `room` bytes it fails, or takes
+/// nothing from then on if `stalls` is set. Its flush fails if `stuck` is set.
+#[derive(Drop)]
+pub(crate) struct Shelf {
+    pub(crate) bytes: Vec<u8>,
+    pub(crate) most: usize,
+    pub(crate) room: usize,
+    pub(crate) stalls: bool,
+    pub(crate) stuck: bool,
+}
+
+impl Shelf {
+    pub(crate) fn new(alloc: Global) -> Self {
+        Shelf {
+            bytes: Vec::new(alloc),
+            most: usize::MAX,
+            room: usize::MAX,
+            stalls: false,
+            stuck: false,
+        }
+    }
+}
+
+impl Write for Shelf {
+    fn write(&mut self, buf: &[u8]) -> io::Result<usize> {
+        let n = buf.len().min(self.most).min(self.room);
+        if n == 0 && !buf.is_empty() && !self.stalls {
+            return Err(io::Error::from(ErrorKind::Other));
+        }
+        self.bytes.extend_from_slice(&buf[..n])?;
+        self.room -= n;
+        Ok(n)
+    }
+
+    fn flush(&mut self) -> io::Result<()> {
+        if self.stuck {
+            return Err(io::Error::from(ErrorKind::Other));
+        }
+        Ok(())
+    }
+}

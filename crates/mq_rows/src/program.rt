@@ -1,0 +1,199 @@
+//! The program but its `main`: its texts and exit statuses, over files of the test's folder.
+use crate::devices::{Pieces, Shelf};
+use mq_cli::{AclFileFault, StdSink, StdSource, read_acl, start};
+use mq_topic::TopicName;
+use std::alloc::Global;
+use std::fs;
+use std::test::Fail;
+
+const SCRIPT: &str =
+    "{\"do\":\"connect\",\"client\":\"a\"}\n{\"do\":\"publish\",\"client\":\"a\",\"topic\":\"b\"}\n";
+
+const DENIED: &str =
+    "{\"line\":1,\"reason\":0}\n{\"code\":11,\"line\":2,\"refused\":\"NotAuthorized\"}\n";
+
+const ALLOWED: &str = "{\"line\":1,\"reason\":0}\n{\"line\":2,\"reason\":16}\n";
+
+/// Arguments in one text, what is written and told, and the exit status.
+struct Case {
+    arguments: &'static str,
+    out: &'static str,
+    err: &'static str,
+    status: u8,
+}
+
+static CASES: [Case; 11] = [
+    Case {
+        arguments: "script",
+        out: ALLOWED,
+        err: "",
+        status: 0,
+    },
+    Case {
+        arguments: "-",
+        out: ALLOWED,
+        err: "",
+        status: 0,
+    },
+    Case {
+        arguments: "--acl-file list",
+        out: DENIED,
+        err: "",
+        status: 1,
+    },
+    Case {
+        arguments: "--acl-file list script",
+        out: DENIED,
+        err: "",
+        status: 1,
+    },
+    Case {
+        arguments: "nowhere",
+        out: "",
+        err: "mqroute: cannot open script nowhere\n",
+        status: 2,
+    },
+    Case {
+        arguments: ".",
+        out: "",
+        err: "mqroute: read fault\n",
+        status: 3,
+    },
+    Case {
+        arguments: "--acl-file nowhere neither",
+        out: "",
+        err: "mqroute: cannot read access list nowhere\n",
+        status: 2,
+    },
+    Case {
+        arguments: "--acl-file .",
+        out: "",
+        err: "mqroute: cannot read access list .\n",
+        status: 2,
+    },
+    Case {
+        arguments: "--acl-file long",
+        out: "",
+        err: "mqroute: access list long is too long\n",
+        status: 2,
+    },
+    Case {
+        arguments: "--acl-file bytes",
+        out: "",
+        err: "mqroute: access list bytes is not UTF-8\n",
+        status: 2,
+    },
+    Case {
+        arguments: "--acl-file faulty",
+        out: "",
+        err: "mqroute: access list faulty line 3: Access\n",
+        status: 2,
+    },
+];
+
+fn words(alloc: Global, arguments: &str) -> Result<Vec<String>, Fail> {
+    let mut words = Vec::new(alloc);
+    words.push(String::from_str(alloc, "mqroute")?)?;
+    for word in arguments.split_whitespace() {
+        words.push(String::from_str(alloc, word)?)?;
+    }
+    Ok(words)
+}
+
+/// What the program wrote, what it told, and its exit status.
+#[derive(Drop)]
+struct Outcome {
+    out: String,
+    err: String,
+    status: u8,
+}
+
+fn started(rt: &HostRuntime, arguments: &str, input: Pieces, out: Shelf) -> Result<Outcome, Fail> {
+    let alloc = rt.alloc();
+    let words = words(alloc, arguments)?;
+    let mut input = StdSource::new(input);
+    let mut out = StdSink::new(out);
+    let mut err = StdSink::new(Shelf::new(alloc));
+    let status = start(rt, alloc, words.as_slice(), &mut input, &mut out, &mut err);
+    Ok(Outcome {
+        out: String::from_utf8_lossy(alloc, out.into_inner().bytes.as_slice())?,
+        err: String::from_utf8_lossy(alloc, err.into_inner().bytes.as_slice())?,
+        status,
+    })
+}
+
+fn write_files(rt: &HostRuntime) -> Result<(), Fail> {
+    let long = " ".repeat(rt.alloc(), 16_777_217)?;
+    fs::write(rt, "script", SCRIPT)?;
+    fs::write(rt, "list", "topic a\n")?;
+    fs::write(rt, "faulty", "# c\n\ntopic a b")?;
+    fs::write(rt, "bytes", b"\xff")?;
+    fs::write(rt, "long", long.as_str())?;
+    Ok(())
+}
+
+#[test]
+fn arguments_and_files(rt: HostRuntime) -> Result<(), Fail> {
+    write_files(&rt)?;
+    for case in &CASES {
+        let input = Pieces::new(SCRIPT.as_bytes(), 9);
+        let got = started(&rt, case.arguments, input, Shelf::new(rt.alloc()))?;
+        assert_eq!(rt; got.out.as_str(), case.out, "{}", case.arguments);
+        assert_eq!(rt; got.err.as_str(), case.err, "{}", case.arguments);
+        assert_eq!(rt; got.status, case.status, "{}", case.arguments);
+    }
+    Ok(())
+}
+
+#[test]
+fn help(rt: HostRuntime) -> Result<(), Fail> {
+    let got = started(&rt, "--help", Pieces::new(b"", 9), Shelf::new(rt.alloc()))?;
+    assert!(rt; got.out.contains("Usage: mqroute [OPTIONS] [SCRIPT]"));
+    assert!(rt; got.out.contains("--acl-file <FILE>"));
+    assert!(rt; got.err.is_empty());
+    assert_eq!(rt; got.status, 0);
+    Ok(())
+}
+
+#[test]
+fn usage(rt: HostRuntime) -> Result<(), Fail> {
+    for arguments in ["--bad", "a b", "--acl-file"] {
+        let got = started(&rt, arguments, Pieces::new(b"", 9), Shelf::new(rt.alloc()))?;
+        assert!(rt; got.out.is_empty(), "{arguments}");
+        assert!(rt; got.err.starts_with("error: "), "{arguments}");
+        assert_eq!(rt; got.status, 2, "{arguments}");
+    }
+    Ok(())
+}
+
+#[test]
+fn failing_streams(rt: HostRuntime) -> Result<(), Fail> {
+    let read = started(&rt, "", Pieces::failing(b"", 9, 0), Shelf::new(rt.alloc()))?;
+    assert_eq!(rt; read.err.as_str(), "mqroute: read fault\n");
+    assert_eq!(rt; read.status, 3);
+    for arguments in ["-", "--help"] {
+        let mut full = Shelf::new(rt.alloc());
+        full.room = 10;
+        let written = started(&rt, arguments, Pieces::new(SCRIPT.as_bytes(), 9), full)?;
+        assert_eq!(rt; written.err.as_str(), "mqroute: write fault\n");
+        assert_eq!(rt; written.status, 3);
+    }
+    Ok(())
+}
+
+#[test]
+fn access_files(rt: HostRuntime) -> Result<(), Fail> {
+    let alloc = rt.alloc();
+    for most in [1, 3, 100] {
+        let acl = read_acl(alloc, &mut StdSource::new(Pieces::new(b"topic a\n", most)))?;
+        let name = TopicName::parse(alloc, "a")?;
+        assert!(rt; acl.may_read("c", None, &name) && acl.may_write("c", None, &name));
+        assert!(rt; !acl.may_read("c", Some("u"), &name) && !acl.may_write("c", Some("u"), &name));
+    }
+    let failed = read_acl(
+        alloc,
+        &mut StdSource::new(Pieces::failing(b"topic a\n", 4, 2)),
+    );
+    assert!(rt; matches!(&failed, Err(AclFileFault::Read)));
+    Ok(())
+}

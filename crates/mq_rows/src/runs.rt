@@ -1,0 +1,127 @@
+//! Runs whose reader or writer fails, and scripts whose lines are too long or blank.
+use crate::devices::{Pieces, Shelf};
+use mq_cli::{RunFault, StdSink, StdSource, Summary, exit_status, run};
+use mq_router::Router;
+use std::alloc::{AllocError, Global};
+use std::test::Fail;
+
+const CONNECT: &str = "{\"do\":\"connect\",\"client\":\"a\"}\n";
+
+const ANSWER: &str = "{\"line\":1,\"reason\":0}\n";
+
+// What a run over this script writes to this shelf, and how it ends.
+fn written(
+    alloc: Global,
+    script: &[u8],
+    calls: usize,
+    shelf: Shelf,
+) -> (Vec<u8>, Result<Summary, RunFault>) {
+    let mut reader = StdSource::new(Pieces::failing(script, 20, calls));
+    let mut writer = StdSink::new(shelf);
+    let result = run(alloc, Router::new(alloc), &mut reader, &mut writer);
+    (writer.into_inner().bytes, result)
+}
+
+#[test]
+fn empty_and_blank_lines(rt: HostRuntime) -> Result<(), Fail> {
+    let cases = [
+        ("", "", 0, 0),
+        ("\n \n\r\n", "", 3, 0),
+        (
+            "\n\n{\"do\":\"connect\",\"client\":\"a\"}",
+            "{\"line\":3,\"reason\":0}\n",
+            3,
+            0,
+        ),
+        (
+            "[]\r\n \t",
+            "{\"code\":3,\"line\":1,\"refused\":\"BadCommand\"}\n",
+            2,
+            1,
+        ),
+    ];
+    for (script, want, lines, refused) in cases {
+        let (bytes, result) = written(
+            rt.alloc(),
+            script.as_bytes(),
+            usize::MAX,
+            Shelf::new(rt.alloc()),
+        );
+        let summary = result?;
+        assert_eq!(rt; bytes.as_slice(), want.as_bytes(), "{script:?}");
+        assert_eq!(rt;
+            (summary.lines, summary.refused),
+            (lines, refused),
+            "{script:?}"
+        );
+    }
+    Ok(())
+}
+
+#[test]
+fn failing_readers(rt: HostRuntime) -> Result<(), Fail> {
+    let script = "{\"do\":\"connect\",\"client\":\"a\"}\n{\"do\":";
+    // Two calls of 20 bytes give the first line and what follows it.
+    for (calls, want) in [(0, ""), (1, ""), (2, ANSWER)] {
+        let (bytes, result) = written(rt.alloc(), script.as_bytes(), calls, Shelf::new(rt.alloc()));
+        assert_eq!(rt; bytes.as_slice(), want.as_bytes(), "{calls}");
+        assert!(rt; matches!(&result, Err(RunFault::Read)), "{calls}");
+        assert_eq!(rt; exit_status(&result), 3);
+    }
+    Ok(())
+}
+
+#[test]
+fn failing_writers(rt: HostRuntime) -> Result<(), Fail> {
+    for stalls in [false, true] {
+        let mut shelf = Shelf::new(rt.alloc());
+        shelf.room = 10;
+        shelf.stalls = stalls;
+        let (bytes, result) = written(rt.alloc(), CONNECT.as_bytes(), usize::MAX, shelf);
+        assert_eq!(rt; bytes.as_slice(), b"{\"line\":1,".as_slice());
+        assert!(rt; matches!(&result, Err(RunFault::Write)));
+    }
+    let mut shelf = Shelf::new(rt.alloc());
+    shelf.stuck = true;
+    let (bytes, result) = written(rt.alloc(), CONNECT.as_bytes(), usize::MAX, shelf);
+    assert_eq!(rt; bytes.as_slice(), ANSWER.as_bytes());
+    assert!(rt; matches!(&result, Err(RunFault::Write)));
+    Ok(())
+}
+
+// The line, with blanks behind it up to so many bytes, and a line feed.
+fn padded(alloc: Global, line: &str, bytes: usize) -> Result<Vec<u8>, AllocError> {
+    let mut script = Vec::new(alloc);
+    script.extend_from_slice(line.as_bytes())?;
+    for _ in script.len()..bytes {
+        script.push(b' ')?;
+    }
+    script.push(b'\n')?;
+    Ok(script)
+}
+
+#[test]
+fn long_lines(rt: HostRuntime) -> Result<(), Fail> {
+    let too_long = "{\"code\":1,\"line\":1,\"refused\":\"LineTooLong\"}\n";
+    let line = "{\"do\":\"connect\",\"client\":\"a\"}";
+    for (bytes, want) in [
+        (1_048_576, ANSWER),
+        (1_048_577, too_long),
+        (1_100_000, too_long),
+    ] {
+        let script = padded(rt.alloc(), line, bytes)?;
+        let (written, _) = {
+            let mut reader = StdSource::new(Pieces::new(script.as_slice(), 65_536));
+            let mut writer = StdSink::new(Shelf::new(rt.alloc()));
+            let result = run(
+                rt.alloc(),
+                Router::new(rt.alloc()),
+                &mut reader,
+                &mut writer,
+            );
+            (writer.into_inner().bytes, result)
+        };
+        assert_eq!(rt; written.as_slice(), want.as_bytes(), "{bytes}");
+    }
+    Ok(())
+}

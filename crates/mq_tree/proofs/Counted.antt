@@ -1,0 +1,55 @@
+-- What look-ups count on small trees, by the definitions alone: a check of the definitions.
+use Rattle.std.proofs.Common.{◌≡◌, ℕ, List, [], ◌∷◌, length, refl}
+use Rattle.std.specs.Prelude.{codes}
+use Rattle.mq_topic.specs.Levels.{levels}
+use Rattle.mq_tree.specs.Prefixes.{prefixes, met_by_name, met_by_filter}
+
+-- how many nodes a look-up enters, where these keys are stored
+abbrev by_name : List ℕ → List (List (List ℕ)) → ℕ
+by_name name keys = length (met_by_name (levels name) (prefixes keys))
+
+abbrev by_filter : List ℕ → List (List (List ℕ)) → ℕ
+by_filter wanted keys = length (met_by_filter (levels wanted) (prefixes keys))
+
+-- ---- filters: `#`, `+`, `a`, `a/#`
+abbrev filters : List (List (List ℕ))
+filters = levels (codes "#") ∷ levels (codes "+") ∷ levels (codes "a") ∷ levels (codes "a/#") ∷ []
+
+pub filters_have : length (prefixes filters) ≡ 4
+filters_have = refl
+
+pub name_a : by_name (codes "a") filters ≡ 4
+name_a = refl
+
+-- with `/x`, whose first level is empty
+pub more_have : length (prefixes (levels (codes "/x") ∷ filters)) ≡ 6
+more_have = refl
+
+pub name_slash_x : by_name (codes "/x") (levels (codes "/x") ∷ filters) ≡ 4
+name_slash_x = refl
+
+-- ---- names: `$x`, `a`, `a/b`, `c`
+abbrev names : List (List (List ℕ))
+names = levels (codes "$x") ∷ levels (codes "a") ∷ levels (codes "a/b") ∷ levels (codes "c") ∷ []
+
+pub filter_hash : by_filter (codes "#") names ≡ 3
+filter_hash = refl
+
+pub filter_a_hash : by_filter (codes "a/#") names ≡ 2
+filter_a_hash = refl
+
+pub filter_plus : by_filter (codes "+") names ≡ 2
+filter_plus = refl
+
+pub filter_dollar_x : by_filter (codes "$x") names ≡ 1
+filter_dollar_x = refl
+
+-- ---- wildcards beside `$`: `#`, `$SYS/+`, `+/x`, `a/+`
+abbrev wildcards : List (List (List ℕ))
+wildcards = levels (codes "#") ∷ levels (codes "$SYS/+") ∷ levels (codes "+/x") ∷ levels (codes "a/+") ∷ []
+
+pub name_dollar_sys_x : by_name (codes "$SYS/x") wildcards ≡ 2
+name_dollar_sys_x = refl
+
+pub name_a_dollar_x : by_name (codes "a/$x") wildcards ≡ 4
+name_a_dollar_x = refl

@@ -1,0 +1,19 @@
+use Rattle.std.proofs.Common.{◌≡◌, ◌+◌, ◌++◌, map, length}
+use Rattle.std.specs.Map.{keys_of}
+use Rattle.std.specs.List.{filter, flat_map}
+use Rattle.mq_topic.specs.Levels.{levels_left}
+use Rattle.mq_tree.specs.Below.{HashLast, matches_below, meets_filter, values_at, tallied}
+use Rattle.mq_tree.specs.Prefixes.{prefixes}
+use Rattle.mq_tree.proofs.lookup.+below_by_filter.Given as goal
+
+abbrev pub decreases-below_by_filter : goal.decreases-below_by_filter
+decreases-below_by_filter g l = length (levels_left l.wanted)
+
+abbrev pub invariant-loop-child : goal.invariant-loop-child
+invariant-loop-child g l =
+    let rest = levels_left l.rest in
+    record {
+      found : map (λ x. x.now) l.found.items ++ flat_map (λ child. values_at (matches_below rest) child.1) l.child-iterator ≡ map (λ x. x.now) l.initial.found.items ++ flat_map (λ child. values_at (matches_below rest) child.1) l.initial.child-iterator;
+      count : l.steps + tallied (λ child. length (filter (meets_filter rest) (prefixes (keys_of child.1)))) l.child-iterator ≡ l.initial.steps + tallied (λ child. length (filter (meets_filter rest) (prefixes (keys_of child.1)))) l.initial.child-iterator;
+      hash_last : HashLast rest;
+    }

@@ -1,0 +1,8 @@
+pub mod Below
+pub mod Entries
+pub mod Falls
+pub mod Lending
+pub mod LendingNode
+pub mod Nodes
+pub mod Prefixes
+pub mod Trails

@@ -1,0 +1,187 @@
+//! Look-ups by a topic name and by a topic filter. They reach a node only by a call that ticks, and enter only
+//! nodes that match so far.
+ghost use Rattle.std.specs.Prelude.{◌≡◌, ◌+◌, ◌++◌, not, length, map, OnOk};
+ghost use Rattle.std.specs.List.{filter, flat_map};
+ghost use Rattle.std.specs.Map.{keys_of, values_of};
+ghost use Rattle.mq_topic.specs.Levels.{levels, levels_left};
+ghost use Rattle.mq_topic.specs.Matching.{matches};
+ghost use Rattle.mq_tree.specs.Below.{matches_below, meets_name, meets_filter, values_at, tallied, begins_with_dollar, ArePlain, HashLast, in_order_of};
+ghost use Rattle.mq_tree.specs.Nodes.{entries_of, own, AreChildren};
+ghost use Rattle.mq_tree.specs.Prefixes.{prefixes, met_by_name, met_by_filter};
+
+use crate::node::Node;
+use crate::steps::Steps;
+use mq_topic::split_first;
+use std::alloc::AllocError;
+
+/// Adds the values of the keys that match the name, in level order. At the root a name that begins with `$`
+/// is matched by no wildcard (MQTT 5.0, section 4.7.2).
+pub(crate) fn by_name<'a, V>(
+    root: &'a Node<V>,
+    name: &str,
+    steps: &mut Steps,
+    found: &mut Vec<&'a V>,
+) -> Result<(), AllocError>
+    requires { ArePlain (levels name.now) }
+    ensures found { OnOk result (map (λ v. v.now) found.new.items ≡ map (λ v. v.now) found.old.items ++ values_of (filter (λ e. matches e.0 (levels name.now)) (entries_of root.now))) }
+    ensures count { OnOk result (steps.new ≡ steps.old + length (met_by_name (levels name.now) (prefixes (keys_of (entries_of root.now))))) }
+{
+    let (first, rest) = split_first(name);
+    if !begins_with_dollar(first) {
+        return below_by_name(root, Some(name), steps, found);
+    }
+    match root.child(first, steps) {
+        Some(child) => below_by_name(child, rest, steps, found),
+        None => Ok(()),
+    }
+}
+
+fn begins_with_dollar(level: &str) -> bool
+    ensures { result ≡ begins_with_dollar level.now }
+{
+    level.starts_with('$')
+}
+
+// The same at a node, with these levels left of the name. A `#` matches its parent too.
+fn below_by_name<'a, V>(
+    node: &'a Node<V>,
+    name: Option<&str>,
+    steps: &mut Steps,
+    found: &mut Vec<&'a V>,
+) -> Result<(), AllocError>
+    requires { ArePlain (levels_left name) }
+    ensures found { OnOk result (map (λ v. v.now) found.new.items ≡ map (λ v. v.now) found.old.items ++ values_at (λ k. matches_below k (levels_left name.entry)) (entries_of node.now)) }
+    ensures count { OnOk result (steps.new ≡ steps.old + length (filter (meets_name (levels_left name.entry)) (prefixes (keys_of (entries_of node.now))))) }
+{
+    let Some(name) = name else {
+        add_value(node, found)?;
+        return match node.child("#", steps) {
+            Some(child) => add_value(child, found),
+            None => Ok(()),
+        };
+    };
+    let (level, rest) = split_first(name);
+    for candidate in in_order(level) {
+        let Some(child) = node.child(candidate, steps) else {
+            continue;
+        };
+        if candidate == "#" {
+            add_value(child, found)?;
+            continue;
+        }
+        below_by_name(child, rest, steps, found)?;
+    }
+    Ok(())
+}
+
+// The levels of the children that may match a name's level, in their order.
+fn in_order<'a>(level: &'a str) -> [&'a str; 3]
+    ensures { map (λ x. x.now) result ≡ in_order_of level.now }
+{
+    if level < "#" {
+        [level, "#", "+"]
+    } else if level < "+" {
+        ["#", level, "+"]
+    } else {
+        ["#", "+", level]
+    }
+}
+
+fn add_value<'a, V>(node: &'a Node<V>, found: &mut Vec<&'a V>) -> Result<(), AllocError>
+    ensures { OnOk result (map (λ v. v.now) found.new.items ≡ map (λ v. v.now) found.old.items ++ values_of (own node.now.0)) }
+{
+    match node.value() {
+        Some(value) => Ok(found.push(value)?),
+        None => Ok(()),
+    }
+}
+
+/// Adds the values of the keys that the filter matches, in level order. At the root a wildcard matches no
+/// level that begins with `$` (MQTT 5.0, section 4.7.2).
+pub(crate) fn by_filter<'a, V>(
+    root: &'a Node<V>,
+    wanted: &str,
+    steps: &mut Steps,
+    found: &mut Vec<&'a V>,
+) -> Result<(), AllocError>
+    requires { HashLast (levels wanted.now) }
+    ensures found { OnOk result (map (λ v. v.now) found.new.items ≡ map (λ v. v.now) found.old.items ++ values_of (filter (λ e. matches (levels wanted.now) e.0) (entries_of root.now))) }
+    ensures count { OnOk result (steps.new ≡ steps.old + length (met_by_filter (levels wanted.now) (prefixes (keys_of (entries_of root.now))))) }
+{
+    let (first, rest) = split_first(wanted);
+    if first == "#" {
+        return shown_by_filter(root, Some(wanted), steps, found);
+    }
+    if first == "+" {
+        return shown_by_filter(root, rest, steps, found);
+    }
+    below_by_filter(root, Some(wanted), steps, found)
+}
+
+// The values below each child whose level does not begin with `$`, with these levels left of the filter.
+fn shown_by_filter<'a, V>(
+    root: &'a Node<V>,
+    wanted: Option<&str>,
+    steps: &mut Steps,
+    found: &mut Vec<&'a V>,
+) -> Result<(), AllocError>
+    requires { HashLast (levels_left wanted) }
+    ensures found { OnOk result (map (λ v. v.now) found.new.items ≡ map (λ v. v.now) found.old.items ++ flat_map (λ child. values_at (matches_below (levels_left wanted.entry)) child.1) (filter (λ child. not (begins_with_dollar child.0)) root.now.1)) }
+    ensures count { OnOk result (steps.new ≡ steps.old + tallied (λ child. length (filter (meets_filter (levels_left wanted.entry)) (prefixes (keys_of child.1)))) (filter (λ child. not (begins_with_dollar child.0)) root.now.1)) }
+    ensures children { AreChildren root.now.1 }
+{
+    for child in root.children() {
+        if begins_with_dollar(child.level()) {
+            continue;
+        }
+        below_by_filter(child.enter(steps), wanted, steps, found)?;
+    }
+    Ok(())
+}
+
+// The values of the keys that the filter matches at a node, with these levels left of it. A `#` stands last,
+// and matches its parent too.
+fn below_by_filter<'a, V>(
+    node: &'a Node<V>,
+    wanted: Option<&str>,
+    steps: &mut Steps,
+    found: &mut Vec<&'a V>,
+) -> Result<(), AllocError>
+    requires { HashLast (levels_left wanted) }
+    ensures found { OnOk result (map (λ v. v.now) found.new.items ≡ map (λ v. v.now) found.old.items ++ values_at (matches_below (levels_left wanted.entry)) (entries_of node.now)) }
+    ensures count { OnOk result (steps.new ≡ steps.old + length (filter (meets_filter (levels_left wanted.entry)) (prefixes (keys_of (entries_of node.now))))) }
+{
+    let Some(wanted) = wanted else {
+        return add_value(node, found);
+    };
+    let (level, rest) = split_first(wanted);
+    if level == "#" {
+        return all(node, steps, found);
+    }
+    if level != "+" {
+        return match node.child(level, steps) {
+            Some(child) => below_by_filter(child, rest, steps, found),
+            None => Ok(()),
+        };
+    }
+    for child in node.children() {
+        below_by_filter(child.enter(steps), rest, steps, found)?;
+    }
+    Ok(())
+}
+
+// The values of the node and of all nodes below it.
+fn all<'a, V>(
+    node: &'a Node<V>,
+    steps: &mut Steps,
+    found: &mut Vec<&'a V>,
+) -> Result<(), AllocError>
+    ensures found { OnOk result (map (λ v. v.now) found.new.items ≡ map (λ v. v.now) found.old.items ++ values_of (entries_of node.now)) }
+    ensures count { OnOk result (steps.new ≡ steps.old + length (prefixes (keys_of (entries_of node.now)))) }
+{
+    add_value(node, found)?;
+    for child in node.children() {
+        all(child.enter(steps), steps, found)?;
+    }
+    Ok(())
+}

@@ -1,0 +1,123 @@
+ghost use Rattle.std.specs.Prelude.{◌≡◌, ◌+◌, [], length, map, IfOk, OnOk, OnErr, None};
+ghost use Rattle.std.specs.BTreeMap.{insert_entry};
+ghost use Rattle.std.specs.List.{filter};
+ghost use Rattle.std.specs.Map.{lookup, keys_of, values_of, remove_entry};
+ghost use Rattle.std.specs.Borrow.{sem};
+ghost use Rattle.std.specs.Option.{option_copied, option_copied_mut};
+ghost use Rattle.mq_tree.specs.Lending.{LendsAt};
+ghost use Rattle.mq_topic.specs.Levels.{levels, level_order};
+ghost use Rattle.mq_topic.specs.Matching.{matches};
+ghost use Rattle.mq_tree.specs.Entries.{is_key, capped, AreInOrder};
+ghost use Rattle.mq_tree.specs.Prefixes.{prefixes, met_by_name, met_by_filter};
+
+use crate::lookup::{by_filter, by_name};
+use crate::node::Node;
+use crate::steps::Steps;
+use mq_topic::{LevelText, TopicFilter, TopicName};
+use std::alloc::{AllocError, Global};
+use std::marker::Model;
+
+/// A map from topic names or topic filters to values, as a tree with a node for each level. It is seen as the
+/// list of its entries in level order: level by level, each by its bytes.
+#[derive(Drop)]
+pub struct LevelTree<V> {
+    alloc: Global,
+    root: Node<V>,
+}
+
+impl<V> Model for LevelTree<V> {
+    ghost use Rattle.mq_tree.specs.Entries.{Entries, AreInOrder};
+    ghost use Rattle.mq_tree.specs.Nodes.{entries_of};
+
+    ghost Value = { Entries V };
+
+    ghost view = { λ a. entries_of a.root };
+
+    ghost invariant = { λ a. AreInOrder (entries_of a.root) };
+}
+
+impl<V> LevelTree<V> {
+    /// An empty tree. It takes no memory, and keeps the allocator for what is put.
+    pub fn new(alloc: Global) -> LevelTree<V>
+        ensures { result ≡ [] }
+    {
+        LevelTree {
+            alloc,
+            root: Node::new(alloc),
+        }
+    }
+
+    /// The value at the key. It takes no memory.
+    pub fn get<K: LevelText>(&self, key: &K) -> Option<&V>
+        ensures { option_copied result ≡ lookup (is_key (levels (K.text_of key.now))) self.now }
+    {
+        self.root.get(Some(key.text()))
+    }
+
+    /// The value at the key, lent so that it can be written. It takes no memory.
+    pub fn get_mut<K: LevelText>(&mut self, key: &K) -> Option<&mut V>
+        ensures* writes_back { sem 𝓛 (LendsAt V.row self.entry (levels (K.text_of key.now)) result) }
+        ensures value { option_copied_mut result ≡ lookup (is_key (levels (K.text_of key.now))) self.old }
+    {
+        self.root.get_mut(Some(key.text()))
+    }
+
+    /// Puts the value at the key, and gives the older one. What is missing of the key's branch is built aside,
+    /// so that want of memory changes nothing; a key that is there takes no memory.
+    pub fn put<K: LevelText>(&mut self, key: &K, value: V) -> Result<Option<V>, AllocError>
+    where
+        V: Drop,
+        ensures older { IfOk result (λ older. older ≡ lookup (is_key (levels (K.text_of key.now))) self.old) }
+        ensures ok { OnOk result (self.new ≡ insert_entry level_order self.old (levels (K.text_of key.now)) value) }
+        ensures err { OnErr result (self.new ≡ self.old) }
+        ensures absent { OnErr result (lookup (is_key (levels (K.text_of key.now))) self.old ≡ None) }
+    {
+        self.root.put(self.alloc, Some(key.text()), value)
+    }
+
+    /// Takes out the value at the key, and each node that no key leads to any more. It takes no memory.
+    pub fn take<K: LevelText>(&mut self, key: &K) -> Option<V>
+    where
+        V: Drop,
+        ensures value { result ≡ lookup (is_key (levels (K.text_of key.now))) self.old }
+        ensures rest { self.new ≡ remove_entry (is_key (levels (K.text_of key.now))) self.old }
+    {
+        self.root.take(Some(key.text()))
+    }
+
+    /// How many keys there are, at most `u64::MAX`. It takes no memory.
+    pub fn len(&self) -> u64
+        ensures count { result ≡ capped (length self.now) }
+        ensures ordered { AreInOrder self.now }
+    {
+        self.root.len()
+    }
+
+    /// How many nodes there are, one for each nonempty prefix of a key, at most `u64::MAX`. It takes no memory.
+    pub fn nodes(&self) -> u64
+        ensures { result ≡ capped (length (prefixes (keys_of self.now))) }
+    {
+        self.root.nodes()
+    }
+
+    /// The values of the keys that match the name, in level order of the keys, by a walk over matching nodes alone.
+    pub fn for_name(&self, name: &TopicName, steps: &mut Steps) -> Result<Vec<&V>, AllocError>
+        ensures found { IfOk result (λ found. map (λ v. v.now) found.items ≡ values_of (filter (λ e. matches e.0 (levels name.now)) self.now)) }
+        ensures count { OnOk result (steps.new ≡ steps.old + length (met_by_name (levels name.now) (prefixes (keys_of self.now)))) }
+    {
+        let mut found = Vec::new(self.alloc);
+        by_name(&self.root, name.text(), steps, &mut found)?;
+        Ok(found)
+    }
+
+    /// The values of the keys that the filter matches, in level order of the keys, by a walk over matching nodes
+    /// alone.
+    pub fn for_filter(&self, wanted: &TopicFilter, steps: &mut Steps) -> Result<Vec<&V>, AllocError>
+        ensures found { IfOk result (λ found. map (λ v. v.now) found.items ≡ values_of (filter (λ e. matches (levels wanted.now) e.0) self.now)) }
+        ensures count { OnOk result (steps.new ≡ steps.old + length (met_by_filter (levels wanted.now) (prefixes (keys_of self.now)))) }
+    {
+        let mut found = Vec::new(self.alloc);
+        by_filter(&self.root, wanted.text(), steps, &mut found)?;
+        Ok(found)
+    }
+}
