@@ -1,6 +1,6 @@
 //! The program but its `main`: its texts and exit statuses, over files of the test's folder.
 use crate::devices::{Pieces, Shelf};
-use mq_cli::{AclFileFault, StdSink, StdSource, read_acl, start};
+use mq_cli::{AclFileFault, StdSink, StdSource, arguments, read_acl, start};
 use mq_topic::TopicName;
 use std::alloc::Global;
 use std::fs;
@@ -142,6 +142,16 @@ fn arguments_and_files(rt: HostRuntime) -> Result<(), Fail> {
         assert_eq!(rt; got.err.as_str(), case.err, "{}", case.arguments);
         assert_eq!(rt; got.status, case.status, "{}", case.arguments);
     }
+    Ok(())
+}
+
+#[test]
+fn options(rt: HostRuntime) -> Result<(), Fail> {
+    let none = arguments(rt.alloc(), words(rt.alloc(), "")?.as_slice())?;
+    assert!(rt; none.acl_file.is_none() && none.script.is_none());
+    let both = arguments(rt.alloc(), words(rt.alloc(), "--acl-file f s")?.as_slice())?;
+    assert_eq!(rt; both.acl_file.as_deref(), Some("f"));
+    assert_eq!(rt; both.script.as_deref(), Some("s"));
     Ok(())
 }
 

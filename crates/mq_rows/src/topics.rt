@@ -39,6 +39,7 @@ fn names(rt: HostRuntime) -> Result<(), Fail> {
     let copy = TopicName::parse(alloc, "a//b")?.clone()?;
     assert_eq!(rt; copy.text(), "a//b");
     assert_eq!(rt; copy.level_count(), 3);
+    assert_eq!(rt; copy.level(2), "b");
     Ok(())
 }
 

@@ -1,5 +1,5 @@
 -- A lender that calls itself, proved by induction on how many levels are left.
--- `Lts`, `Lts/View`, `Given`, `Tie`, `Goals`, `Answers` and `Needs` are what Rattle makes of the same body with the call going to another function of the same contract, with that call's name put in, and with the bound t of `Own` on the levels that are left. They are made by tools/lend.py, as tools/README says. This file and `Own` are by hand.
+-- `Lts`, `Lts/View`, `Given`, `Tie`, `Goals`, `Answers` and `Needs` are what Rattle makes of the same body with the call going to another function of the same contract, with that call's name put in, and with the bound t of `Own` on the levels that are left. They are made by tools/lend.py, as tools/README.md says. This file and `Own` are by hand.
 mod Lts
 mod Given
 mod Own
