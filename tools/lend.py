@@ -9,7 +9,11 @@ os.makedirs(D+'Lts',exist_ok=True)
 OWN=r"(Pre|pre_read|Pre-named|pre-apart|requires)"
 
 def read(name): return open(G+name).read()
-def write(name,text): open(D+name,'w').write(text)
+# the generated names of the value's type, of its laws and of the contexts give way to plain ones
+def plain(text):
+    text=re.sub(r"\bL1'","ValueLaws",re.sub(r"\bT1'","Value",text))
+    return re.sub(r"\bT(\d+)\b",r"Context-\1",text)
+def write(name,text): open(D+name,'w').write(plain(text))
 
 # the twin's names give way to the lender's own
 def common(s):

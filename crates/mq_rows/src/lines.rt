@@ -62,6 +62,12 @@ fn faulty_lines(rt: HostRuntime) -> Result<(), Fail> {
     for (line, want) in cases {
         assert_eq!(rt; fault(alloc, line.as_bytes()), Some(want), "{line}");
     }
+    Ok(())
+}
+
+#[test]
+fn lines_that_are_no_json(rt: HostRuntime) -> Result<(), Fail> {
+    let alloc = rt.alloc();
     assert_eq!(rt;
         fault(alloc, b"{\"do\":\"connect\",\"client\":\"\xff\"}"),
         Some(LineFault::BadJson)

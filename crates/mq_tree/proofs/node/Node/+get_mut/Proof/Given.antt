@@ -3,8 +3,8 @@ use denote.RattleType
 
 pub record Over : Type 2 where
   pub row : record { V : RattleType.RattleType }
-  pub V : record { laws : let T1' = row.V in Laws.Laws T1' }
+  pub V : record { laws : let Value = row.V in Laws.Laws Value }
 
-module _ (T1' : RattleType.RattleType) (L1' : Laws.Laws T1') where
+module _ (Value : RattleType.RattleType) (ValueLaws : Laws.Laws Value) where
   abbrev pub the-over : Over
-  the-over = record { row = record { V = T1' }; V = record { laws = L1' } }
+  the-over = record { row = record { V = Value }; V = record { laws = ValueLaws } }

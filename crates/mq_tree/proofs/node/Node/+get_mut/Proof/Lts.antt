@@ -133,7 +133,7 @@ use seplogic.Ra.Ura
 use types.Logic as Logic''
 use types.Run
 
-module _ (T1' : RattleType.RattleType) (L1' : Laws'.Laws T1') where
+module _ (Value : RattleType.RattleType) (ValueLaws : Laws'.Laws Value) where
   abbrev pub name-0 : List.List Nat.ℕ
   name-0 = List.◌∷◌ 38 (List.◌∷◌ 91 (List.◌∷◌ 93 List.[]))
 
@@ -235,13 +235,13 @@ module _ (T1' : RattleType.RattleType) (L1' : Laws'.Laws T1') where
   ty-1 = Syntax.ty_struct name-3 (Syntax.tcons Syntax.ty_unit Syntax.tnil)
 
   abbrev pub ty-2 : Syntax.Ty
-  ty-2 = Syntax.ty_struct name-4 (Syntax.tcons (Syntax.ty_enum name-2 (Syntax.ttcons Syntax.tnil (Syntax.ttcons (Syntax.tcons (Param.layout T1') Syntax.tnil)
+  ty-2 = Syntax.ty_struct name-4 (Syntax.tcons (Syntax.ty_enum name-2 (Syntax.ttcons Syntax.tnil (Syntax.ttcons (Syntax.tcons (Param.layout Value) Syntax.tnil)
       Syntax.ttnil))) (Syntax.tcons (Syntax.ty_struct name-11 (Syntax.tcons (Syntax.ty_struct name-10 (Syntax.tcons (Syntax.ty_enum name-2 (Syntax.ttcons Syntax.tnil
       (Syntax.ttcons (Syntax.tcons (Syntax.ty_struct name-9 (Syntax.tcons (Syntax.ty_struct name-8 (Syntax.tcons Syntax.ty_ptr Syntax.tnil)) Syntax.tnil)) Syntax.tnil)
       Syntax.ttnil))) (Syntax.tcons (Syntax.ty_int Syntax.w64) (Syntax.tcons ty-0 Syntax.tnil)))) Syntax.tnil)) Syntax.tnil))
 
   abbrev pub ty-3 : Syntax.Ty
-  ty-3 = Syntax.ty_enum name-2 (Syntax.ttcons Syntax.tnil (Syntax.ttcons (Syntax.tcons (Param.layout T1') Syntax.tnil) Syntax.ttnil))
+  ty-3 = Syntax.ty_enum name-2 (Syntax.ttcons Syntax.tnil (Syntax.ttcons (Syntax.tcons (Param.layout Value) Syntax.tnil) Syntax.ttnil))
 
   abbrev pub ty-4 : Syntax.Ty
   ty-4 = Syntax.ty_struct name-4 (Syntax.tcons ty-3 (Syntax.tcons (Syntax.ty_struct name-11 (Syntax.tcons (Syntax.ty_struct name-10 (Syntax.tcons (Syntax.ty_enum name-2
@@ -279,10 +279,10 @@ module _ (T1' : RattleType.RattleType) (L1' : Laws'.Laws T1') where
   of-1 = λ ℓ. TheLaws.the_row_laws (Text.str-field ℓ).row (Str.str_laws ℓ)
 
   abbrev pub of-2 : RattleType.RattleType
-  of-2 = Node.the_row (Param.param 0 T1')
+  of-2 = Node.the_row (Param.param 0 Value)
 
   abbrev pub of-3 : Laws'.Laws of-2
-  of-3 = TheLaws''.the_row_laws (Param.param 0 T1') (Laws'.param_laws 0 T1' L1')
+  of-3 = TheLaws''.the_row_laws (Param.param 0 Value) (Laws'.param_laws 0 Value ValueLaws)
 
   abbrev pub of-4 : (ℓ : Ref.NamedLft) → (ℓ : Ref.NamedLft) → List.List RattleType.RattleType
   of-4 = λ ℓ ℓ'. List.◌∷◌ (Text.str-field ℓ).row (List.◌∷◌ (of-0 ℓ') List.[])
@@ -337,16 +337,16 @@ module _ (T1' : RattleType.RattleType) (L1' : Laws'.Laws T1') where
   ps =
       List.◌∷◌
       (Lender.p_lends
-      (Node.the_row (Param.param 0 T1'))
+      (Node.the_row (Param.param 0 Value))
       (Maybe.maybe
-      (Node.the_row (Param.param 0 T1'))
-      (Param.param 0 T1')
+      (Node.the_row (Param.param 0 Value))
+      (Param.param 0 Value)
       (Option.the_type
       (Field'.mut_ref_field
       record { mir = Syntax.named 0; lft = List.[] }
-      (Param.param 0 T1')
+      (Param.param 0 Value)
       tt).row).D)
-      (Lender.of_ref (Node.the_row (Param.param 0 T1')) 0 tt))
+      (Lender.of_ref (Node.the_row (Param.param 0 Value)) 0 tt))
       (List.◌∷◌ (ValueTo.p_val_to (let Y : ValueTo.ValuedTo 3 = record {
         ty = λ κs. Declared.row (Option.the_type (Text.str-field record {
           mir = Syntax.named 1;
@@ -433,13 +433,13 @@ module _ (T1' : RattleType.RattleType) (L1' : Laws'.Laws T1') where
     ν = (Option.enum
         (Field'.mut_ref_field
         record { mir = Syntax.named 0; lft = List.[] }
-        (Param.param 0 T1')
+        (Param.param 0 Value)
         tt).row).name;
     args = List.[];
     types = λ κs. (Option.the_type (Field'.mut_ref_field record {
       mir = Syntax.named 0;
       lft = κs.0;
-    } (Param.param 0 T1') tt).row).types;
+    } (Param.param 0 Value) tt).row).types;
     keeps = Exit.no;
     variants = List.◌∷◌
         List.[]
@@ -449,7 +449,7 @@ module _ (T1' : RattleType.RattleType) (L1' : Laws'.Laws T1') where
         3
         0
         tt
-        (Signature.plain λ κs. Param.param 0 T1')
+        (Signature.plain λ κs. Param.param 0 Value)
         (Syntax.wrote (Syntax.ty_param 0))
         λ κs. Path'.refl)
         List.[])
@@ -457,17 +457,17 @@ module _ (T1' : RattleType.RattleType) (L1' : Laws'.Laws T1') where
     D = (Option.the_type
         (Field'.mut_ref_field
         record { mir = Syntax.named 0; lft = List.[] }
-        (Param.param 0 T1')
+        (Param.param 0 Value)
         tt).row).D;
     to = λ κs. (Option.the_type
         (Field'.mut_ref_field
         record { mir = Syntax.named 0; lft = κs.0 }
-        (Param.param 0 T1')
+        (Param.param 0 Value)
         tt).row).to;
     one = λ κs. (Option.the_type
         (Field'.mut_ref_field
         record { mir = Syntax.named 0; lft = κs.0 }
-        (Param.param 0 T1')
+        (Param.param 0 Value)
         tt).row).to_one;
     mir = Syntax.ty_enum
         name-2
@@ -489,7 +489,7 @@ module _ (T1' : RattleType.RattleType) (L1' : Laws'.Laws T1') where
         3
         0
         tt
-        (Signature.plain λ κs. Param.param 0 T1')
+        (Signature.plain λ κs. Param.param 0 Value)
         (Syntax.wrote (Syntax.ty_param 0))
         λ κs. Path'.refl)
         List.[])
@@ -507,7 +507,7 @@ module _ (T1' : RattleType.RattleType) (L1' : Laws'.Laws T1') where
         3
         0
         tt
-        (Signature.plain λ κs. Param.param 0 T1')
+        (Signature.plain λ κs. Param.param 0 Value)
         (Syntax.wrote (Syntax.ty_param 0))
         λ κs. Path'.refl)
         List.[])
@@ -520,7 +520,7 @@ module _ (T1' : RattleType.RattleType) (L1' : Laws'.Laws T1') where
             3
             0
             tt
-            (Signature.plain λ κs. Param.param 0 T1')
+            (Signature.plain λ κs. Param.param 0 Value)
             (Syntax.wrote (Syntax.ty_param 0))
             (λ κs. Path'.refl)
             𝓛,
@@ -549,7 +549,7 @@ module _ (T1' : RattleType.RattleType) (L1' : Laws'.Laws T1') where
   m = 1
 
   abbrev pub kind-0-0 : Kinds.ParamKind 2
-  kind-0-0 = MutRef.p_mut_spent (Declared.row (Option.the_type (Param.param 0 T1'))) 0 tt
+  kind-0-0 = MutRef.p_mut_spent (Declared.row (Option.the_type (Param.param 0 Value))) 0 tt
 
   abbrev pub ps-0 : List.List (Kinds.ParamKind 2)
   ps-0 = List.◌∷◌ kind-0-0 List.[]
@@ -564,13 +564,13 @@ module _ (T1' : RattleType.RattleType) (L1' : Laws'.Laws T1') where
     ν = (Option.enum
         (Field'.mut_ref_field
         record { mir = Syntax.named 0; lft = List.[] }
-        (Param.param 0 T1')
+        (Param.param 0 Value)
         tt).row).name;
     args = List.[];
     types = λ κs. (Option.the_type (Field'.mut_ref_field record {
       mir = Syntax.named 0;
       lft = κs.0;
-    } (Param.param 0 T1') tt).row).types;
+    } (Param.param 0 Value) tt).row).types;
     keeps = Exit.no;
     variants = List.◌∷◌
         List.[]
@@ -580,7 +580,7 @@ module _ (T1' : RattleType.RattleType) (L1' : Laws'.Laws T1') where
         2
         0
         tt
-        (Signature.plain λ κs. Param.param 0 T1')
+        (Signature.plain λ κs. Param.param 0 Value)
         (Syntax.wrote (Syntax.ty_param 0))
         λ κs. Path'.refl)
         List.[])
@@ -588,17 +588,17 @@ module _ (T1' : RattleType.RattleType) (L1' : Laws'.Laws T1') where
     D = (Option.the_type
         (Field'.mut_ref_field
         record { mir = Syntax.named 0; lft = List.[] }
-        (Param.param 0 T1')
+        (Param.param 0 Value)
         tt).row).D;
     to = λ κs. (Option.the_type
         (Field'.mut_ref_field
         record { mir = Syntax.named 0; lft = κs.0 }
-        (Param.param 0 T1')
+        (Param.param 0 Value)
         tt).row).to;
     one = λ κs. (Option.the_type
         (Field'.mut_ref_field
         record { mir = Syntax.named 0; lft = κs.0 }
-        (Param.param 0 T1')
+        (Param.param 0 Value)
         tt).row).to_one;
     mir = Syntax.ty_enum
         name-2
@@ -620,7 +620,7 @@ module _ (T1' : RattleType.RattleType) (L1' : Laws'.Laws T1') where
         2
         0
         tt
-        (Signature.plain λ κs. Param.param 0 T1')
+        (Signature.plain λ κs. Param.param 0 Value)
         (Syntax.wrote (Syntax.ty_param 0))
         λ κs. Path'.refl)
         List.[])
@@ -638,7 +638,7 @@ module _ (T1' : RattleType.RattleType) (L1' : Laws'.Laws T1') where
         2
         0
         tt
-        (Signature.plain λ κs. Param.param 0 T1')
+        (Signature.plain λ κs. Param.param 0 Value)
         (Syntax.wrote (Syntax.ty_param 0))
         λ κs. Path'.refl)
         List.[])
@@ -651,7 +651,7 @@ module _ (T1' : RattleType.RattleType) (L1' : Laws'.Laws T1') where
             2
             0
             tt
-            (Signature.plain λ κs. Param.param 0 T1')
+            (Signature.plain λ κs. Param.param 0 Value)
             (Syntax.wrote (Syntax.ty_param 0))
             (λ κs. Path'.refl)
             𝓛,
@@ -662,33 +662,33 @@ module _ (T1' : RattleType.RattleType) (L1' : Laws'.Laws T1') where
   ))
 
   abbrev pub passed-0 : Syntax.Args
-  passed-0 = (Syntax.tcons (Param.layout T1') Syntax.tnil, Syntax.dnil)
+  passed-0 = (Syntax.tcons (Param.layout Value) Syntax.tnil, Syntax.dnil)
 
   abbrev pub arg-0-0 : Lifetimes.Lfts 2 → RattleType.RattleType
-  arg-0-0 = λ κs. Param.arg (Param.layout T1') Exit.yes (Param.param 0 T1')
+  arg-0-0 = λ κs. Param.arg (Param.layout Value) Exit.yes (Param.param 0 Value)
 
-  abbrev pub laws-0-0 : (κs : Lifetimes.Lfts 2) → Laws'.Laws (Param.arg (Param.layout T1') Exit.yes (Param.param 0 T1'))
-  laws-0-0 = λ κs. Laws'.arg_laws (Param.layout T1') Exit.yes (Param.param 0 T1') (Laws'.param_laws 0 T1' L1') Path'.refl
+  abbrev pub laws-0-0 : (κs : Lifetimes.Lfts 2) → Laws'.Laws (Param.arg (Param.layout Value) Exit.yes (Param.param 0 Value))
+  laws-0-0 = λ κs. Laws'.arg_laws (Param.layout Value) Exit.yes (Param.param 0 Value) (Laws'.param_laws 0 Value ValueLaws) Path'.refl
 
   abbrev pub whole-0 : RattleType.RattleType
-  whole-0 = Declared.row (Option.the_type (Param.param 0 T1'))
+  whole-0 = Declared.row (Option.the_type (Param.param 0 Value))
 
   abbrev pub part-0 : RattleType.RattleType
-  part-0 = Param.param 0 T1'
+  part-0 = Param.param 0 Value
 
   abbrev pub rest-0 : List.List (Kinds.ParamKind 2)
   rest-0 = List.[]
 
   abbrev pub named-0 : Type 0
-  named-0 = (Option.the_type (Field'.mut_ref_field record { mir = Syntax.named 0; lft = List.[] } (Param.param 0 T1') tt).row).D
+  named-0 = (Option.the_type (Field'.mut_ref_field record { mir = Syntax.named 0; lft = List.[] } (Param.param 0 Value) tt).row).D
 
   abbrev pub ps_on-0 : List.List (Kinds.ParamKind 2)
-  ps_on-0 = List.◌∷◌ (Lender.p_lends (Declared.row (Option.the_type (Param.param 0 T1'))) (Maybe.maybe (Declared.row (Option.the_type (Param.param 0 T1'))) (Param.param 0
-      T1') (Option.the_type (Field'.mut_ref_field record { mir = Syntax.named 0; lft = List.[] } (Param.param 0 T1') tt).row).D) (Lender.of_ref (Declared.row
-      (Option.the_type (Param.param 0 T1'))) 0 tt)) List.[]
+  ps_on-0 = List.◌∷◌ (Lender.p_lends (Declared.row (Option.the_type (Param.param 0 Value))) (Maybe.maybe (Declared.row (Option.the_type (Param.param 0 Value))) (Param.param 0
+      Value) (Option.the_type (Field'.mut_ref_field record { mir = Syntax.named 0; lft = List.[] } (Param.param 0 Value) tt).row).D) (Lender.of_ref (Declared.row
+      (Option.the_type (Param.param 0 Value))) 0 tt)) List.[]
 
-  abbrev pub lender-0 : Lender.Lender 2 (Declared.row (Option.the_type (Param.param 0 T1')))
-  lender-0 = Lender.of_ref (Declared.row (Option.the_type (Param.param 0 T1'))) 0 tt
+  abbrev pub lender-0 : Lender.Lender 2 (Declared.row (Option.the_type (Param.param 0 Value)))
+  lender-0 = Lender.of_ref (Declared.row (Option.the_type (Param.param 0 Value))) 0 tt
 
   abbrev pub ps-1 : List.List (Kinds.ParamKind 1)
   ps-1 = List.◌∷◌ (ShrSlice.p_shr_s (Referent.rt_f (Referent.f_int Syntax.w8)) 0 tt) List.[]
@@ -859,7 +859,7 @@ module _ (T1' : RattleType.RattleType) (L1' : Laws'.Laws T1') where
             5
             0
             tt
-            (Signature.plain λ κs. Node.the_row (Param.param 0 T1'))
+            (Signature.plain λ κs. Node.the_row (Param.param 0 Value))
             (Syntax.wrote behind-2)
             λ κs. Path'.refl)
             List.[])
@@ -894,7 +894,7 @@ module _ (T1' : RattleType.RattleType) (L1' : Laws'.Laws T1') where
             5
             0
             tt
-            (Signature.plain λ κs. Node.the_row (Param.param 0 T1'))
+            (Signature.plain λ κs. Node.the_row (Param.param 0 Value))
             (Syntax.wrote behind-2)
             λ κs. Path'.refl)
             List.[])
@@ -911,7 +911,7 @@ module _ (T1' : RattleType.RattleType) (L1' : Laws'.Laws T1') where
             5
             0
             tt
-            (Signature.plain λ κs. Node.the_row (Param.param 0 T1'))
+            (Signature.plain λ κs. Node.the_row (Param.param 0 Value))
             (Syntax.wrote behind-2)
             λ κs. Path'.refl)
             List.[])
@@ -924,7 +924,7 @@ module _ (T1' : RattleType.RattleType) (L1' : Laws'.Laws T1') where
                 5
                 0
                 tt
-                (Signature.plain λ κs. Node.the_row (Param.param 0 T1'))
+                (Signature.plain λ κs. Node.the_row (Param.param 0 Value))
                 (Syntax.wrote behind-2)
                 (λ κs. Path'.refl)
                 𝓛,
@@ -939,7 +939,7 @@ module _ (T1' : RattleType.RattleType) (L1' : Laws'.Laws T1') where
     Syntax.tcons (Syntax.ty_struct List.[] (Syntax.tcons (Syntax.ty_struct List.[] (Syntax.tcons Syntax.ty_ptr (Syntax.tcons (Syntax.ty_int Syntax.w64)
         (Syntax.tcons (Syntax.ty_int Syntax.w64) (Syntax.tcons (Syntax.ty_struct List.[] (Syntax.tcons (Syntax.ty_struct List.[] (Syntax.tcons Syntax.ty_unit Syntax.tnil))
         Syntax.tnil)) Syntax.tnil))))) Syntax.tnil)) (Syntax.tcons (Syntax.ty_struct List.[] (Syntax.tcons (Syntax.ty_enum List.[] (Syntax.ttcons Syntax.tnil (Syntax.ttcons
-        (Syntax.tcons (Param.layout T1') Syntax.tnil) Syntax.ttnil))) (Syntax.tcons (Syntax.ty_struct List.[] (Syntax.tcons (Syntax.ty_struct List.[] (Syntax.tcons
+        (Syntax.tcons (Param.layout Value) Syntax.tnil) Syntax.ttnil))) (Syntax.tcons (Syntax.ty_struct List.[] (Syntax.tcons (Syntax.ty_struct List.[] (Syntax.tcons
         (Syntax.ty_enum List.[] (Syntax.ttcons Syntax.tnil (Syntax.ttcons (Syntax.tcons (Syntax.ty_struct List.[] (Syntax.tcons (Syntax.ty_struct List.[] (Syntax.tcons
         Syntax.ty_ptr Syntax.tnil)) Syntax.tnil)) Syntax.tnil) Syntax.ttnil))) (Syntax.tcons (Syntax.ty_int Syntax.w64) (Syntax.tcons (Syntax.ty_struct List.[]
         (Syntax.tcons (Syntax.ty_struct List.[] (Syntax.tcons Syntax.ty_unit Syntax.tnil)) Syntax.tnil)) Syntax.tnil)))) Syntax.tnil)) Syntax.tnil))) (Syntax.tcons
@@ -982,7 +982,7 @@ module _ (T1' : RattleType.RattleType) (L1' : Laws'.Laws T1') where
       Syntax.tnil)) Syntax.tnil))))) Syntax.tnil)) Exit.no of-6
 
   abbrev pub arg-2-1 : Lifetimes.Lfts 5 → RattleType.RattleType
-  arg-2-1 = λ κs. Param.arg (Syntax.ty_struct List.[] (Syntax.tcons (Syntax.ty_enum List.[] (Syntax.ttcons Syntax.tnil (Syntax.ttcons (Syntax.tcons (Param.layout T1')
+  arg-2-1 = λ κs. Param.arg (Syntax.ty_struct List.[] (Syntax.tcons (Syntax.ty_enum List.[] (Syntax.ttcons Syntax.tnil (Syntax.ttcons (Syntax.tcons (Param.layout Value)
       Syntax.tnil) Syntax.ttnil))) (Syntax.tcons (Syntax.ty_struct List.[] (Syntax.tcons (Syntax.ty_struct List.[] (Syntax.tcons (Syntax.ty_enum List.[] (Syntax.ttcons
       Syntax.tnil (Syntax.ttcons (Syntax.tcons (Syntax.ty_struct List.[] (Syntax.tcons (Syntax.ty_struct List.[] (Syntax.tcons Syntax.ty_ptr Syntax.tnil)) Syntax.tnil))
       Syntax.tnil) Syntax.ttnil))) (Syntax.tcons (Syntax.ty_int Syntax.w64) (Syntax.tcons (Syntax.ty_struct List.[] (Syntax.tcons (Syntax.ty_struct List.[] (Syntax.tcons
@@ -1006,12 +1006,12 @@ module _ (T1' : RattleType.RattleType) (L1' : Laws'.Laws T1') where
       Syntax.tnil)) Syntax.tnil))))) Syntax.tnil)) Exit.no of-6 of-7 Path'.refl
 
   abbrev pub laws-2-1 : (κs : Lifetimes.Lfts 5) → Laws'.Laws (Param.arg (Syntax.ty_struct List.[] (Syntax.tcons (Syntax.ty_enum List.[] (Syntax.ttcons Syntax.tnil
-      (Syntax.ttcons (Syntax.tcons (Param.layout T1') Syntax.tnil) Syntax.ttnil))) (Syntax.tcons (Syntax.ty_struct List.[] (Syntax.tcons (Syntax.ty_struct List.[]
+      (Syntax.ttcons (Syntax.tcons (Param.layout Value) Syntax.tnil) Syntax.ttnil))) (Syntax.tcons (Syntax.ty_struct List.[] (Syntax.tcons (Syntax.ty_struct List.[]
       (Syntax.tcons (Syntax.ty_enum List.[] (Syntax.ttcons Syntax.tnil (Syntax.ttcons (Syntax.tcons (Syntax.ty_struct List.[] (Syntax.tcons (Syntax.ty_struct List.[]
       (Syntax.tcons Syntax.ty_ptr Syntax.tnil)) Syntax.tnil)) Syntax.tnil) Syntax.ttnil))) (Syntax.tcons (Syntax.ty_int Syntax.w64) (Syntax.tcons (Syntax.ty_struct
       List.[] (Syntax.tcons (Syntax.ty_struct List.[] (Syntax.tcons Syntax.ty_unit Syntax.tnil)) Syntax.tnil)) Syntax.tnil)))) Syntax.tnil)) Syntax.tnil))) Exit.no of-2)
   laws-2-1 = λ κs. Laws'.arg_laws (Syntax.ty_struct List.[] (Syntax.tcons (Syntax.ty_enum List.[] (Syntax.ttcons Syntax.tnil (Syntax.ttcons (Syntax.tcons (Param.layout
-      T1') Syntax.tnil) Syntax.ttnil))) (Syntax.tcons (Syntax.ty_struct List.[] (Syntax.tcons (Syntax.ty_struct List.[] (Syntax.tcons (Syntax.ty_enum List.[]
+      Value) Syntax.tnil) Syntax.ttnil))) (Syntax.tcons (Syntax.ty_struct List.[] (Syntax.tcons (Syntax.ty_struct List.[] (Syntax.tcons (Syntax.ty_enum List.[]
       (Syntax.ttcons Syntax.tnil (Syntax.ttcons (Syntax.tcons (Syntax.ty_struct List.[] (Syntax.tcons (Syntax.ty_struct List.[] (Syntax.tcons Syntax.ty_ptr Syntax.tnil))
       Syntax.tnil)) Syntax.tnil) Syntax.ttnil))) (Syntax.tcons (Syntax.ty_int Syntax.w64) (Syntax.tcons (Syntax.ty_struct List.[] (Syntax.tcons (Syntax.ty_struct List.[]
       (Syntax.tcons Syntax.ty_unit Syntax.tnil)) Syntax.tnil)) Syntax.tnil)))) Syntax.tnil)) Syntax.tnil))) Exit.no of-2 of-3 Path'.refl
@@ -1135,7 +1135,7 @@ module _ (T1' : RattleType.RattleType) (L1' : Laws'.Laws T1') where
       TheImpl'3.ghosts TheImpl'.no_dict TheImpl'.no_dict) (TheImpl''.ghosts Global.the_row TheImpl'3.ghosts TheImpl''.no_dict TheImpl''.no_dict) TheImpl'3.ghosts
 
   abbrev pub part-2 : RattleType.RattleType
-  part-2 = Node.the_row (Param.param 0 T1')
+  part-2 = Node.the_row (Param.param 0 Value)
 
   abbrev pub rest-2 : List.List (Kinds.ParamKind 5)
   rest-2 = List.◌∷◌ (ShrSlice.p_shr_s (Referent.rt_f (Referent.f_int Syntax.w8)) 4 tt) List.[]
@@ -1148,7 +1148,7 @@ module _ (T1' : RattleType.RattleType) (L1' : Laws'.Laws T1') where
       (TheImpl'.ghosts Global.the_row TheImpl'3.ghosts TheImpl'.no_dict TheImpl'.no_dict) (TheImpl''.ghosts Global.the_row TheImpl'3.ghosts TheImpl''.no_dict
       TheImpl''.no_dict) TheImpl'3.ghosts) (Maybe.maybe (BTreeMap.the_row of-6 of-2 Global.the_row (TheImpl.ghosts Global.the_row TheImpl'3.ghosts TheImpl.no_dict
       TheImpl.no_dict) (TheImpl'.ghosts Global.the_row TheImpl'3.ghosts TheImpl'.no_dict TheImpl'.no_dict) (TheImpl''.ghosts Global.the_row TheImpl'3.ghosts
-      TheImpl''.no_dict TheImpl''.no_dict) TheImpl'3.ghosts) (Node.the_row (Param.param 0 T1')) (Option.the_type (Field'.mut_ref_field record {
+      TheImpl''.no_dict TheImpl''.no_dict) TheImpl'3.ghosts) (Node.the_row (Param.param 0 Value)) (Option.the_type (Field'.mut_ref_field record {
         mir = Syntax.named 0;
         lft
             = List.[];
@@ -1164,7 +1164,7 @@ module _ (T1' : RattleType.RattleType) (L1' : Laws'.Laws T1') where
       TheImpl'3.ghosts) 0 tt
 
   abbrev pub kind-3-0 : Kinds.ParamKind 3
-  kind-3-0 = MutRef.p_mut_spent (Node.the_row (Param.param 0 T1')) 0 tt
+  kind-3-0 = MutRef.p_mut_spent (Node.the_row (Param.param 0 Value)) 0 tt
 
   abbrev pub kind-3-1 : Kinds.ParamKind 3
   kind-3-1 = ValueTo.p_val_to (let Y : ValueTo.ValuedTo 3 = record {
@@ -1255,13 +1255,13 @@ module _ (T1' : RattleType.RattleType) (L1' : Laws'.Laws T1') where
     ν = (Option.enum
         (Field'.mut_ref_field
         record { mir = Syntax.named 0; lft = List.[] }
-        (Param.param 0 T1')
+        (Param.param 0 Value)
         tt).row).name;
     args = List.[];
     types = λ κs. (Option.the_type (Field'.mut_ref_field record {
       mir = Syntax.named 0;
       lft = κs.0;
-    } (Param.param 0 T1') tt).row).types;
+    } (Param.param 0 Value) tt).row).types;
     keeps = Exit.no;
     variants = List.◌∷◌
         List.[]
@@ -1271,7 +1271,7 @@ module _ (T1' : RattleType.RattleType) (L1' : Laws'.Laws T1') where
         3
         0
         tt
-        (Signature.plain λ κs. Param.param 0 T1')
+        (Signature.plain λ κs. Param.param 0 Value)
         (Syntax.wrote (Syntax.ty_param 0))
         λ κs. Path'.refl)
         List.[])
@@ -1279,17 +1279,17 @@ module _ (T1' : RattleType.RattleType) (L1' : Laws'.Laws T1') where
     D = (Option.the_type
         (Field'.mut_ref_field
         record { mir = Syntax.named 0; lft = List.[] }
-        (Param.param 0 T1')
+        (Param.param 0 Value)
         tt).row).D;
     to = λ κs. (Option.the_type
         (Field'.mut_ref_field
         record { mir = Syntax.named 0; lft = κs.0 }
-        (Param.param 0 T1')
+        (Param.param 0 Value)
         tt).row).to;
     one = λ κs. (Option.the_type
         (Field'.mut_ref_field
         record { mir = Syntax.named 0; lft = κs.0 }
-        (Param.param 0 T1')
+        (Param.param 0 Value)
         tt).row).to_one;
     mir = Syntax.ty_enum
         name-2
@@ -1311,7 +1311,7 @@ module _ (T1' : RattleType.RattleType) (L1' : Laws'.Laws T1') where
         3
         0
         tt
-        (Signature.plain λ κs. Param.param 0 T1')
+        (Signature.plain λ κs. Param.param 0 Value)
         (Syntax.wrote (Syntax.ty_param 0))
         λ κs. Path'.refl)
         List.[])
@@ -1329,7 +1329,7 @@ module _ (T1' : RattleType.RattleType) (L1' : Laws'.Laws T1') where
         3
         0
         tt
-        (Signature.plain λ κs. Param.param 0 T1')
+        (Signature.plain λ κs. Param.param 0 Value)
         (Syntax.wrote (Syntax.ty_param 0))
         λ κs. Path'.refl)
         List.[])
@@ -1342,7 +1342,7 @@ module _ (T1' : RattleType.RattleType) (L1' : Laws'.Laws T1') where
             3
             0
             tt
-            (Signature.plain λ κs. Param.param 0 T1')
+            (Signature.plain λ κs. Param.param 0 Value)
             (Syntax.wrote (Syntax.ty_param 0))
             (λ κs. Path'.refl)
             𝓛,
@@ -1353,19 +1353,19 @@ module _ (T1' : RattleType.RattleType) (L1' : Laws'.Laws T1') where
   ))
 
   abbrev pub passed-3 : Syntax.Args
-  passed-3 = (Syntax.tcons (Param.layout T1') Syntax.tnil, Syntax.dnil)
+  passed-3 = (Syntax.tcons (Param.layout Value) Syntax.tnil, Syntax.dnil)
 
   abbrev pub arg-3-0 : Lifetimes.Lfts 3 → RattleType.RattleType
-  arg-3-0 = λ κs. Param.arg (Param.layout T1') Exit.yes (Param.param 0 T1')
+  arg-3-0 = λ κs. Param.arg (Param.layout Value) Exit.yes (Param.param 0 Value)
 
-  abbrev pub laws-3-0 : (κs : Lifetimes.Lfts 3) → Laws'.Laws (Param.arg (Param.layout T1') Exit.yes (Param.param 0 T1'))
-  laws-3-0 = λ κs. Laws'.arg_laws (Param.layout T1') Exit.yes (Param.param 0 T1') (Laws'.param_laws 0 T1' L1') Path'.refl
+  abbrev pub laws-3-0 : (κs : Lifetimes.Lfts 3) → Laws'.Laws (Param.arg (Param.layout Value) Exit.yes (Param.param 0 Value))
+  laws-3-0 = λ κs. Laws'.arg_laws (Param.layout Value) Exit.yes (Param.param 0 Value) (Laws'.param_laws 0 Value ValueLaws) Path'.refl
 
   abbrev pub whole-3 : RattleType.RattleType
-  whole-3 = Node.the_row (Param.param 0 T1')
+  whole-3 = Node.the_row (Param.param 0 Value)
 
   abbrev pub part-3 : RattleType.RattleType
-  part-3 = Param.param 0 T1'
+  part-3 = Param.param 0 Value
 
   abbrev pub rest-3 : List.List (Kinds.ParamKind 3)
   rest-3 = List.◌∷◌ (ValueTo.p_val_to (let Y : ValueTo.ValuedTo 3 = record {
@@ -1444,22 +1444,22 @@ module _ (T1' : RattleType.RattleType) (L1' : Laws'.Laws T1') where
   }) List.[]
 
   abbrev pub named-3 : Type 0
-  named-3 = (Option.the_type (Field'.mut_ref_field record { mir = Syntax.named 0; lft = List.[] } (Param.param 0 T1') tt).row).D
+  named-3 = (Option.the_type (Field'.mut_ref_field record { mir = Syntax.named 0; lft = List.[] } (Param.param 0 Value) tt).row).D
 
   abbrev pub ps_on-3 : List.List (Kinds.ParamKind 3)
   ps_on-3 =
       List.◌∷◌
       (Lender.p_lends
-      (Node.the_row (Param.param 0 T1'))
+      (Node.the_row (Param.param 0 Value))
       (Maybe.maybe
-      (Node.the_row (Param.param 0 T1'))
-      (Param.param 0 T1')
+      (Node.the_row (Param.param 0 Value))
+      (Param.param 0 Value)
       (Option.the_type
       (Field'.mut_ref_field
       record { mir = Syntax.named 0; lft = List.[] }
-      (Param.param 0 T1')
+      (Param.param 0 Value)
       tt).row).D)
-      (Lender.of_ref (Node.the_row (Param.param 0 T1')) 0 tt))
+      (Lender.of_ref (Node.the_row (Param.param 0 Value)) 0 tt))
       (List.◌∷◌ (ValueTo.p_val_to (let Y : ValueTo.ValuedTo 3 = record {
         ty = λ κs. Declared.row (Option.the_type (Text.str-field record {
           mir = Syntax.named 1;
@@ -1536,8 +1536,8 @@ module _ (T1' : RattleType.RattleType) (L1' : Laws'.Laws T1') where
             𝓛;
       }) List.[])
 
-  abbrev pub lender-3 : Lender.Lender 3 (Node.the_row (Param.param 0 T1'))
-  lender-3 = Lender.of_ref (Node.the_row (Param.param 0 T1')) 0 tt
+  abbrev pub lender-3 : Lender.Lender 3 (Node.the_row (Param.param 0 Value))
+  lender-3 = Lender.of_ref (Node.the_row (Param.param 0 Value)) 0 tt
 
   abbrev pub hs : List.List Syntax.Home
   hs = List.◌∷◌ Syntax.value_local (List.◌∷◌ Syntax.value_local (List.◌∷◌ Syntax.value_local (List.◌∷◌ Syntax.value_local (List.◌∷◌ Syntax.value_local (List.◌∷◌
@@ -1551,7 +1551,7 @@ module _ (T1' : RattleType.RattleType) (L1' : Laws'.Laws T1') where
   b1 = Syntax.assign (Syntax.place 7 List.[]) (Syntax.addr_of (Syntax.place 1 (List.◌∷◌ (Syntax.deref ty-4) (List.◌∷◌ (Syntax.field 0) List.[]))))
 
   abbrev b2 : Syntax.Body
-  b2 = Syntax.call (Syntax.fn "core::option::Option::as_mut" (Syntax.tcons (Param.layout T1') Syntax.tnil, Syntax.dnil)) (List.◌∷◌ (Syntax.copy (Syntax.place 7 List.[]))
+  b2 = Syntax.call (Syntax.fn "core::option::Option::as_mut" (Syntax.tcons (Param.layout Value) Syntax.tnil, Syntax.dnil)) (List.◌∷◌ (Syntax.copy (Syntax.place 7 List.[]))
       List.[]) (Syntax.place 0 List.[])
 
   abbrev b3 : Syntax.Body
@@ -1584,7 +1584,7 @@ module _ (T1' : RattleType.RattleType) (L1' : Laws'.Laws T1') where
     Syntax.tcons (Syntax.ty_struct List.[] (Syntax.tcons (Syntax.ty_struct List.[]
         (Syntax.tcons Syntax.ty_ptr (Syntax.tcons (Syntax.ty_int Syntax.w64) (Syntax.tcons (Syntax.ty_int Syntax.w64) (Syntax.tcons (Syntax.ty_struct List.[] (Syntax.tcons
         (Syntax.ty_struct List.[] (Syntax.tcons Syntax.ty_unit Syntax.tnil)) Syntax.tnil)) Syntax.tnil))))) Syntax.tnil)) (Syntax.tcons (Syntax.ty_struct List.[]
-        (Syntax.tcons (Syntax.ty_enum List.[] (Syntax.ttcons Syntax.tnil (Syntax.ttcons (Syntax.tcons (Param.layout T1') Syntax.tnil) Syntax.ttnil))) (Syntax.tcons
+        (Syntax.tcons (Syntax.ty_enum List.[] (Syntax.ttcons Syntax.tnil (Syntax.ttcons (Syntax.tcons (Param.layout Value) Syntax.tnil) Syntax.ttnil))) (Syntax.tcons
         (Syntax.ty_struct List.[] (Syntax.tcons (Syntax.ty_struct List.[] (Syntax.tcons (Syntax.ty_enum List.[] (Syntax.ttcons Syntax.tnil (Syntax.ttcons (Syntax.tcons
         (Syntax.ty_struct List.[] (Syntax.tcons (Syntax.ty_struct List.[] (Syntax.tcons Syntax.ty_ptr Syntax.tnil)) Syntax.tnil)) Syntax.tnil) Syntax.ttnil))) (Syntax.tcons
         (Syntax.ty_int Syntax.w64) (Syntax.tcons (Syntax.ty_struct List.[] (Syntax.tcons (Syntax.ty_struct List.[] (Syntax.tcons Syntax.ty_unit Syntax.tnil)) Syntax.tnil))
@@ -1632,7 +1632,7 @@ module _ (T1' : RattleType.RattleType) (L1' : Laws'.Laws T1') where
   b14 = Syntax.assign (Syntax.place 13 List.[]) (Syntax.rv_opd (Syntax.copy (Syntax.place 5 List.[])))
 
   abbrev b15 : Syntax.Body
-  b15 = Syntax.call (Syntax.fn "mq_tree::node::Node::get_mut" (Syntax.tcons (Param.layout T1') Syntax.tnil, Syntax.dnil)) (List.◌∷◌ (Syntax.copy (Syntax.place 12
+  b15 = Syntax.call (Syntax.fn "mq_tree::node::Node::get_mut" (Syntax.tcons (Param.layout Value) Syntax.tnil, Syntax.dnil)) (List.◌∷◌ (Syntax.copy (Syntax.place 12
       List.[])) (List.◌∷◌ (Syntax.copy (Syntax.place 13 List.[])) List.[])) (Syntax.place 11 List.[])
 
   abbrev b16 : Syntax.Body
@@ -1699,7 +1699,7 @@ module _ (T1' : RattleType.RattleType) (L1' : Laws'.Laws T1') where
         (Syntax.ty_param 0)) Syntax.tnil) Syntax.ttnil))),
   ) (List.◌∷◌ (
     1,
-    Rows.mref (Node.the_row (Param.param 0 T1')) (Syntax.ty_ref (Syntax.named 0) Syntax.mut behind-2)
+    Rows.mref (Node.the_row (Param.param 0 Value)) (Syntax.ty_ref (Syntax.named 0) Syntax.mut behind-2)
         0,
   ) (List.◌∷◌ (2, Rows.whole (Declared.row (Option.the_type (Text.str-field record { mir = Syntax.named 1; lft = List.[] }).row))) (List.◌∷◌ (
     3,
@@ -1745,11 +1745,11 @@ module _ (T1' : RattleType.RattleType) (L1' : Laws'.Laws T1') where
       ) List.[])))))))))))))
 
   abbrev pub t1 : List.List Row.Entry
-  t1 = List.◌∷◌ (0, Rows.whole (Declared.row (Option.the_type (Field'.mut_ref_field record { mir = Syntax.named 0; lft = List.[] } (Param.param 0 T1') tt).row)))
+  t1 = List.◌∷◌ (0, Rows.whole (Declared.row (Option.the_type (Field'.mut_ref_field record { mir = Syntax.named 0; lft = List.[] } (Param.param 0 Value) tt).row)))
       (List.◌∷◌ (
         1,
-        Kind.owing_by (Node.the_row (Param.param 0 T1')) (Maybe.maybe (Node.the_row (Param.param 0 T1')) (Param.param 0 T1') (Option.the_type
-            (Field'.mut_ref_field record { mir = Syntax.named 0; lft = List.[] } (Param.param 0 T1') tt).row).D) (Syntax.ty_ref (Syntax.named 0) Syntax.mut behind-2),
+        Kind.owing_by (Node.the_row (Param.param 0 Value)) (Maybe.maybe (Node.the_row (Param.param 0 Value)) (Param.param 0 Value) (Option.the_type
+            (Field'.mut_ref_field record { mir = Syntax.named 0; lft = List.[] } (Param.param 0 Value) tt).row).D) (Syntax.ty_ref (Syntax.named 0) Syntax.mut behind-2),
       )
       (List.◌∷◌ (2, Rows.whole (Declared.row (Option.the_type (Text.str-field record { mir = Syntax.named 1; lft = List.[] }).row))) (List.◌∷◌ (
         3,
@@ -1801,7 +1801,7 @@ module _ (T1' : RattleType.RattleType) (L1' : Laws'.Laws T1') where
         (Syntax.ty_param 0)) Syntax.tnil) Syntax.ttnil))),
   ) (List.◌∷◌ (
     1,
-    Rows.mref (Node.the_row (Param.param 0 T1')) (Syntax.ty_ref (Syntax.named 0) Syntax.mut behind-2)
+    Rows.mref (Node.the_row (Param.param 0 Value)) (Syntax.ty_ref (Syntax.named 0) Syntax.mut behind-2)
         0,
   ) (List.◌∷◌ (2, Rows.whole (Declared.row (Option.the_type (Text.str-field record { mir = Syntax.named 1; lft = List.[] }).row))) (List.◌∷◌ (
     3,
@@ -1853,8 +1853,8 @@ module _ (T1' : RattleType.RattleType) (L1' : Laws'.Laws T1') where
         (Syntax.ty_param 0)) Syntax.tnil) Syntax.ttnil))),
   ) (List.◌∷◌ (
     1,
-    Late.late_aside (Node.the_row (Param.param 0 T1')) (Declared'.row (TheInside.the_type (Param.param
-        0 T1'))) 0 Row.off,
+    Late.late_aside (Node.the_row (Param.param 0 Value)) (Declared'.row (TheInside.the_type (Param.param
+        0 Value))) 0 Row.off,
   ) (List.◌∷◌ (2, Rows.whole (Declared.row (Option.the_type (Text.str-field record { mir = Syntax.named 1; lft = List.[] }).row))) (List.◌∷◌ (
     3,
     Rows.any_gone (Syntax.ty_struct name-0 (Syntax.tcons (Syntax.ty_ref Syntax.erased Syntax.imm (Syntax.ty_int Syntax.w8)) (Syntax.tcons (Syntax.ty_int Syntax.w64)
@@ -1899,7 +1899,7 @@ module _ (T1' : RattleType.RattleType) (L1' : Laws'.Laws T1') where
     Rows.any_gone (Syntax.ty_enum name-2 (Syntax.ttcons Syntax.tnil (Syntax.ttcons (Syntax.tcons (Syntax.ty_struct name-0 (Syntax.tcons
         (Syntax.ty_ref Syntax.erased Syntax.imm (Syntax.ty_int Syntax.w8)) (Syntax.tcons (Syntax.ty_int Syntax.w64) Syntax.tnil))) Syntax.tnil) Syntax.ttnil))),
   ) (List.◌∷◌
-      (1, Rows.mref (Declared'.row (TheInside.the_type (Param.param 0 T1'))) (Syntax.ty_ref (Syntax.named 0) Syntax.mut behind-2) 0) List.[]))))))))))))))
+      (1, Rows.mref (Declared'.row (TheInside.the_type (Param.param 0 Value))) (Syntax.ty_ref (Syntax.named 0) Syntax.mut behind-2) 0) List.[]))))))))))))))
 
   abbrev pub t4 : List.List Row.Entry
   t4 = List.◌∷◌ (
@@ -1908,8 +1908,8 @@ module _ (T1' : RattleType.RattleType) (L1' : Laws'.Laws T1') where
         (Syntax.ty_param 0)) Syntax.tnil) Syntax.ttnil))),
   ) (List.◌∷◌ (
     1,
-    Late.late_aside (Node.the_row (Param.param 0 T1')) (Declared'.row (TheInside.the_type (Param.param
-        0 T1'))) 0 Row.off,
+    Late.late_aside (Node.the_row (Param.param 0 Value)) (Declared'.row (TheInside.the_type (Param.param
+        0 Value))) 0 Row.off,
   ) (List.◌∷◌ (2, Rows.whole (Declared.row (Option.the_type (Text.str-field record { mir = Syntax.named 1; lft = List.[] }).row))) (List.◌∷◌ (
     3,
     Rows.sslice (Referent.rt_f (Referent.f_int Syntax.w8)) (Syntax.ty_ref Syntax.erased Syntax.imm (Syntax.ty_int Syntax.w8)) 1,
@@ -1948,7 +1948,7 @@ module _ (T1' : RattleType.RattleType) (L1' : Laws'.Laws T1') where
       ) (List.◌∷◌ (
         1,
         Rows.mref (Declared'.row (TheInside.the_type
-            (Param.param 0 T1'))) (Syntax.ty_ref (Syntax.named 0) Syntax.mut behind-2) 0,
+            (Param.param 0 Value))) (Syntax.ty_ref (Syntax.named 0) Syntax.mut behind-2) 0,
       ) List.[]))))))))))))))
 
   abbrev pub t5 : List.List Row.Entry
@@ -1958,8 +1958,8 @@ module _ (T1' : RattleType.RattleType) (L1' : Laws'.Laws T1') where
         (Syntax.ty_param 0)) Syntax.tnil) Syntax.ttnil))),
   ) (List.◌∷◌ (
     1,
-    Late.late_aside (Node.the_row (Param.param 0 T1')) (Declared'.row (TheInside.the_type (Param.param
-        0 T1'))) 0 Row.off,
+    Late.late_aside (Node.the_row (Param.param 0 Value)) (Declared'.row (TheInside.the_type (Param.param
+        0 Value))) 0 Row.off,
   ) (List.◌∷◌ (2, Rows.whole (Declared.row (Option.the_type (Text.str-field record { mir = Syntax.named 1; lft = List.[] }).row))) (List.◌∷◌ (
     3,
     Rows.any_gone (Syntax.ty_struct name-0 (Syntax.tcons (Syntax.ty_ref Syntax.erased Syntax.imm (Syntax.ty_int Syntax.w8)) (Syntax.tcons (Syntax.ty_int Syntax.w64)
@@ -1976,7 +1976,7 @@ module _ (T1' : RattleType.RattleType) (L1' : Laws'.Laws T1') where
   ) (List.◌∷◌ (6, Rows.any_gone (Syntax.ty_ref Syntax.erased Syntax.mut behind-2)) (List.◌∷◌ (
     7,
     Rows.mref (Declared.row (Option.the_type
-        (Param.param 0 T1'))) (Syntax.ty_ref Syntax.erased Syntax.mut behind-3) 0,
+        (Param.param 0 Value))) (Syntax.ty_ref Syntax.erased Syntax.mut behind-3) 0,
   ) (List.◌∷◌ (
     8,
     Rows.any_gone (Syntax.ty_struct name-1 (Syntax.tcons (Syntax.ty_struct
@@ -2003,18 +2003,18 @@ module _ (T1' : RattleType.RattleType) (L1' : Laws'.Laws T1') where
             Syntax.ttnil))),
       ) (List.◌∷◌ (
         1,
-        Kind.waits (Declared'.row (TheInside.the_type (Param.param 0 T1'))) (Declared.row (Option.the_type (Param.param 0 T1')))
+        Kind.waits (Declared'.row (TheInside.the_type (Param.param 0 Value))) (Declared.row (Option.the_type (Param.param 0 Value)))
             (Syntax.ty_ref (Syntax.named 0) Syntax.mut behind-2),
       ) List.[]))))))))))))))
 
   abbrev pub t6 : List.List Row.Entry
   t6 = List.◌∷◌ (
     0,
-    ValueAt.val_at 2 (λ κc. Declared.row (Option.the_type (Field'.mut_ref_field record { mir = Syntax.named 0; lft = κc.0 } (Param.param 0 T1') tt).row))
-        (Option.the_type (Field'.mut_ref_field record { mir = Syntax.named 0; lft = List.[] } (Param.param 0 T1') tt).row).D (λ κc v. v) (List.◌∷◌ 0 (List.◌∷◌ 2 List.[]))
+    ValueAt.val_at 2 (λ κc. Declared.row (Option.the_type (Field'.mut_ref_field record { mir = Syntax.named 0; lft = κc.0 } (Param.param 0 Value) tt).row))
+        (Option.the_type (Field'.mut_ref_field record { mir = Syntax.named 0; lft = List.[] } (Param.param 0 Value) tt).row).D (λ κc v. v) (List.◌∷◌ 0 (List.◌∷◌ 2 List.[]))
         (Syntax.ty_enum name-2 (Syntax.ttcons Syntax.tnil (Syntax.ttcons (Syntax.tcons (Syntax.ty_ref (Syntax.named 0) Syntax.mut (Syntax.ty_param 0)) Syntax.tnil)
         Syntax.ttnil))),
-  ) (List.◌∷◌ (1, Late.late_aside (Node.the_row (Param.param 0 T1')) (Declared'.row (TheInside.the_type (Param.param 0 T1'))) 0 Row.off) (List.◌∷◌
+  ) (List.◌∷◌ (1, Late.late_aside (Node.the_row (Param.param 0 Value)) (Declared'.row (TheInside.the_type (Param.param 0 Value))) 0 Row.off) (List.◌∷◌
       (2, Rows.whole (Declared.row (Option.the_type (Text.str-field record { mir = Syntax.named 1; lft = List.[] }).row))) (List.◌∷◌ (
         3,
         Rows.any_gone (Syntax.ty_struct
@@ -2030,8 +2030,8 @@ module _ (T1' : RattleType.RattleType) (L1' : Laws'.Laws T1') where
       ) (List.◌∷◌
       (6, Rows.any_gone (Syntax.ty_ref Syntax.erased Syntax.mut behind-2)) (List.◌∷◌ (
         7,
-        Maybe.waits_if (Declared.row (Option.the_type (Param.param 0 T1'))) (Param.param
-            0 T1') (Option.the_type (Field'.mut_ref_field record { mir = Syntax.named 0; lft = List.[] } (Param.param 0 T1') tt).row).D (Syntax.ty_ref Syntax.erased Syntax.mut
+        Maybe.waits_if (Declared.row (Option.the_type (Param.param 0 Value))) (Param.param
+            0 Value) (Option.the_type (Field'.mut_ref_field record { mir = Syntax.named 0; lft = List.[] } (Param.param 0 Value) tt).row).D (Syntax.ty_ref Syntax.erased Syntax.mut
             behind-3),
       ) (List.◌∷◌ (
         8,
@@ -2059,13 +2059,13 @@ module _ (T1' : RattleType.RattleType) (L1' : Laws'.Laws T1') where
       ) (List.◌∷◌ (
         1,
         Kind.waits (Declared'.row
-            (TheInside.the_type (Param.param 0 T1'))) (Declared.row (Option.the_type (Param.param 0 T1'))) (Syntax.ty_ref (Syntax.named 0) Syntax.mut behind-2),
+            (TheInside.the_type (Param.param 0 Value))) (Declared.row (Option.the_type (Param.param 0 Value))) (Syntax.ty_ref (Syntax.named 0) Syntax.mut behind-2),
       )
       List.[]))))))))))))))
 
   abbrev pub t7 : List.List Row.Entry
-  t7 = List.◌∷◌ (0, Rows.whole (Declared.row (Option.the_type (Field'.mut_ref_field record { mir = Syntax.named 0; lft = List.[] } (Param.param 0 T1') tt).row)))
-      (List.◌∷◌ (1, Late.late_aside (Node.the_row (Param.param 0 T1')) (Declared'.row (TheInside.the_type (Param.param 0 T1'))) 0 Row.off) (List.◌∷◌ (
+  t7 = List.◌∷◌ (0, Rows.whole (Declared.row (Option.the_type (Field'.mut_ref_field record { mir = Syntax.named 0; lft = List.[] } (Param.param 0 Value) tt).row)))
+      (List.◌∷◌ (1, Late.late_aside (Node.the_row (Param.param 0 Value)) (Declared'.row (TheInside.the_type (Param.param 0 Value))) 0 Row.off) (List.◌∷◌ (
         2,
         Rows.whole
             (Declared.row (Option.the_type (Text.str-field record { mir = Syntax.named 1; lft = List.[] }).row)),
@@ -2084,8 +2084,8 @@ module _ (T1' : RattleType.RattleType) (L1' : Laws'.Laws T1') where
       ) (List.◌∷◌
       (6, Rows.any_gone (Syntax.ty_ref Syntax.erased Syntax.mut behind-2)) (List.◌∷◌ (
         7,
-        Maybe.waits_if (Declared.row (Option.the_type (Param.param 0 T1'))) (Param.param
-            0 T1') (Option.the_type (Field'.mut_ref_field record { mir = Syntax.named 0; lft = List.[] } (Param.param 0 T1') tt).row).D (Syntax.ty_ref Syntax.erased Syntax.mut
+        Maybe.waits_if (Declared.row (Option.the_type (Param.param 0 Value))) (Param.param
+            0 Value) (Option.the_type (Field'.mut_ref_field record { mir = Syntax.named 0; lft = List.[] } (Param.param 0 Value) tt).row).D (Syntax.ty_ref Syntax.erased Syntax.mut
             behind-3),
       ) (List.◌∷◌ (
         8,
@@ -2113,13 +2113,13 @@ module _ (T1' : RattleType.RattleType) (L1' : Laws'.Laws T1') where
       ) (List.◌∷◌ (
         1,
         Kind.waits (Declared'.row
-            (TheInside.the_type (Param.param 0 T1'))) (Declared.row (Option.the_type (Param.param 0 T1'))) (Syntax.ty_ref (Syntax.named 0) Syntax.mut behind-2),
+            (TheInside.the_type (Param.param 0 Value))) (Declared.row (Option.the_type (Param.param 0 Value))) (Syntax.ty_ref (Syntax.named 0) Syntax.mut behind-2),
       )
       List.[]))))))))))))))
 
   abbrev pub t8 : List.List Row.Entry
-  t8 = List.◌∷◌ (0, Rows.whole (Declared.row (Option.the_type (Field'.mut_ref_field record { mir = Syntax.named 0; lft = List.[] } (Param.param 0 T1') tt).row)))
-      (List.◌∷◌ (1, Late.late_aside (Node.the_row (Param.param 0 T1')) (Declared'.row (TheInside.the_type (Param.param 0 T1'))) 0 Row.off) (List.◌∷◌ (
+  t8 = List.◌∷◌ (0, Rows.whole (Declared.row (Option.the_type (Field'.mut_ref_field record { mir = Syntax.named 0; lft = List.[] } (Param.param 0 Value) tt).row)))
+      (List.◌∷◌ (1, Late.late_aside (Node.the_row (Param.param 0 Value)) (Declared'.row (TheInside.the_type (Param.param 0 Value))) 0 Row.off) (List.◌∷◌ (
         2,
         Rows.whole
             (Declared.row (Option.the_type (Text.str-field record { mir = Syntax.named 1; lft = List.[] }).row)),
@@ -2159,19 +2159,19 @@ module _ (T1' : RattleType.RattleType) (L1' : Laws'.Laws T1') where
       ) (List.◌∷◌ (
         1,
         Maybe.waits_if (Declared'.row (TheInside.the_type
-            (Param.param 0 T1'))) (Param.param 0 T1') (Option.the_type (Field'.mut_ref_field record { mir = Syntax.named 0; lft = List.[] } (Param.param 0 T1') tt).row).D
+            (Param.param 0 Value))) (Param.param 0 Value) (Option.the_type (Field'.mut_ref_field record { mir = Syntax.named 0; lft = List.[] } (Param.param 0 Value) tt).row).D
             (Syntax.ty_ref (Syntax.named 0) Syntax.mut behind-2),
       ) List.[]))))))))))))))
 
   abbrev pub t9 : List.List Row.Entry
-  t9 = List.◌∷◌ (0, Rows.whole (Declared.row (Option.the_type (Field'.mut_ref_field record { mir = Syntax.named 0; lft = List.[] } (Param.param 0 T1') tt).row)))
+  t9 = List.◌∷◌ (0, Rows.whole (Declared.row (Option.the_type (Field'.mut_ref_field record { mir = Syntax.named 0; lft = List.[] } (Param.param 0 Value) tt).row)))
       (List.◌∷◌ (
         1,
-        Maybe.waits_if (Node.the_row (Param.param 0 T1')) (Param.param 0 T1') (Option.the_type (Field'.mut_ref_field record {
+        Maybe.waits_if (Node.the_row (Param.param 0 Value)) (Param.param 0 Value) (Option.the_type (Field'.mut_ref_field record {
           mir = Syntax.named 0;
           lft =
               List.[];
-        } (Param.param 0 T1') tt).row).D (Syntax.ty_ref (Syntax.named 0) Syntax.mut behind-2),
+        } (Param.param 0 Value) tt).row).D (Syntax.ty_ref (Syntax.named 0) Syntax.mut behind-2),
       ) (List.◌∷◌ (
         2,
         Rows.whole (Declared.row (Option.the_type
@@ -2215,11 +2215,11 @@ module _ (T1' : RattleType.RattleType) (L1' : Laws'.Laws T1') where
       ) (List.◌∷◌ (1, Row.absent) List.[]))))))))))))))
 
   abbrev pub t10 : List.List Row.Entry
-  t10 = List.◌∷◌ (0, Rows.whole (Declared.row (Option.the_type (Field'.mut_ref_field record { mir = Syntax.named 0; lft = List.[] } (Param.param 0 T1') tt).row)))
+  t10 = List.◌∷◌ (0, Rows.whole (Declared.row (Option.the_type (Field'.mut_ref_field record { mir = Syntax.named 0; lft = List.[] } (Param.param 0 Value) tt).row)))
       (List.◌∷◌ (
         1,
-        Kind.owing_by (Node.the_row (Param.param 0 T1')) (Maybe.maybe (Node.the_row (Param.param 0 T1')) (Param.param 0 T1') (Option.the_type
-            (Field'.mut_ref_field record { mir = Syntax.named 0; lft = List.[] } (Param.param 0 T1') tt).row).D) (Syntax.ty_ref (Syntax.named 0) Syntax.mut behind-2),
+        Kind.owing_by (Node.the_row (Param.param 0 Value)) (Maybe.maybe (Node.the_row (Param.param 0 Value)) (Param.param 0 Value) (Option.the_type
+            (Field'.mut_ref_field record { mir = Syntax.named 0; lft = List.[] } (Param.param 0 Value) tt).row).D) (Syntax.ty_ref (Syntax.named 0) Syntax.mut behind-2),
       )
       (List.◌∷◌ (2, Rows.whole (Declared.row (Option.the_type (Text.str-field record { mir = Syntax.named 1; lft = List.[] }).row))) (List.◌∷◌ (
         3,
@@ -2271,8 +2271,8 @@ module _ (T1' : RattleType.RattleType) (L1' : Laws'.Laws T1') where
         (Syntax.ty_param 0)) Syntax.tnil) Syntax.ttnil))),
   ) (List.◌∷◌ (
     1,
-    Late.late_aside (Node.the_row (Param.param 0 T1')) (Declared'.row (TheInside.the_type (Param.param
-        0 T1'))) 0 Row.off,
+    Late.late_aside (Node.the_row (Param.param 0 Value)) (Declared'.row (TheInside.the_type (Param.param
+        0 Value))) 0 Row.off,
   ) (List.◌∷◌ (2, Rows.whole (Declared.row (Option.the_type (Text.str-field record { mir = Syntax.named 1; lft = List.[] }).row))) (List.◌∷◌ (
     3,
     Rows.sslice (Referent.rt_f (Referent.f_int Syntax.w8)) (Syntax.ty_ref Syntax.erased Syntax.imm (Syntax.ty_int Syntax.w8)) 1,
@@ -2312,7 +2312,7 @@ module _ (T1' : RattleType.RattleType) (L1' : Laws'.Laws T1') where
       ) (List.◌∷◌ (
         1,
         Rows.mref (Declared'.row (TheInside.the_type (Param.param 0
-            T1'))) (Syntax.ty_ref (Syntax.named 0) Syntax.mut behind-2) 0,
+            Value))) (Syntax.ty_ref (Syntax.named 0) Syntax.mut behind-2) 0,
       ) List.[]))))))))))))))
 
   abbrev pub t12 : List.List Row.Entry
@@ -2322,8 +2322,8 @@ module _ (T1' : RattleType.RattleType) (L1' : Laws'.Laws T1') where
         (Syntax.ty_param 0)) Syntax.tnil) Syntax.ttnil))),
   ) (List.◌∷◌ (
     1,
-    Late.late_aside (Node.the_row (Param.param 0 T1')) (Declared'.row (TheInside.the_type (Param.param
-        0 T1'))) 0 Row.off,
+    Late.late_aside (Node.the_row (Param.param 0 Value)) (Declared'.row (TheInside.the_type (Param.param
+        0 Value))) 0 Row.off,
   ) (List.◌∷◌ (2, Rows.whole (Declared.row (Option.the_type (Text.str-field record { mir = Syntax.named 1; lft = List.[] }).row))) (List.◌∷◌ (
     3,
     Rows.sslice (Referent.rt_f (Referent.f_int Syntax.w8)) (Syntax.ty_ref Syntax.erased Syntax.imm (Syntax.ty_int Syntax.w8)) 1,
@@ -2361,7 +2361,7 @@ module _ (T1' : RattleType.RattleType) (L1' : Laws'.Laws T1') where
             Syntax.tnil) Syntax.ttnil))),
       ) (List.◌∷◌ (
         1,
-        Rows.mref (Declared'.row (TheInside.the_type (Param.param 0 T1'))) (Syntax.ty_ref (Syntax.named 0) Syntax.mut behind-2)
+        Rows.mref (Declared'.row (TheInside.the_type (Param.param 0 Value))) (Syntax.ty_ref (Syntax.named 0) Syntax.mut behind-2)
             0,
       ) List.[]))))))))))))))
 
@@ -2372,8 +2372,8 @@ module _ (T1' : RattleType.RattleType) (L1' : Laws'.Laws T1') where
         (Syntax.ty_param 0)) Syntax.tnil) Syntax.ttnil))),
   ) (List.◌∷◌ (
     1,
-    Late.late_aside (Node.the_row (Param.param 0 T1')) (Declared'.row (TheInside.the_type (Param.param
-        0 T1'))) 0 Row.off,
+    Late.late_aside (Node.the_row (Param.param 0 Value)) (Declared'.row (TheInside.the_type (Param.param
+        0 Value))) 0 Row.off,
   ) (List.◌∷◌ (2, Rows.whole (Declared.row (Option.the_type (Text.str-field record { mir = Syntax.named 1; lft = List.[] }).row))) (List.◌∷◌ (
     3,
     Rows.any_gone (Syntax.ty_struct name-0 (Syntax.tcons (Syntax.ty_ref Syntax.erased Syntax.imm (Syntax.ty_int Syntax.w8)) (Syntax.tcons (Syntax.ty_int Syntax.w64)
@@ -2414,7 +2414,7 @@ module _ (T1' : RattleType.RattleType) (L1' : Laws'.Laws T1') where
   ) (List.◌∷◌ (
     1,
     Rows.mref (Declared'.row (TheInside.the_type (Param.param 0
-        T1'))) (Syntax.ty_ref (Syntax.named 0) Syntax.mut behind-2) 0,
+        Value))) (Syntax.ty_ref (Syntax.named 0) Syntax.mut behind-2) 0,
   ) List.[]))))))))))))))
 
   abbrev pub t14 : List.List Row.Entry
@@ -2424,8 +2424,8 @@ module _ (T1' : RattleType.RattleType) (L1' : Laws'.Laws T1') where
         (Syntax.ty_param 0)) Syntax.tnil) Syntax.ttnil))),
   ) (List.◌∷◌ (
     1,
-    Late.late_aside (Node.the_row (Param.param 0 T1')) (Declared'.row (TheInside.the_type (Param.param
-        0 T1'))) 0 Row.off,
+    Late.late_aside (Node.the_row (Param.param 0 Value)) (Declared'.row (TheInside.the_type (Param.param
+        0 Value))) 0 Row.off,
   ) (List.◌∷◌ (2, Rows.whole (Declared.row (Option.the_type (Text.str-field record { mir = Syntax.named 1; lft = List.[] }).row))) (List.◌∷◌ (
     3,
     Rows.any_gone (Syntax.ty_struct name-0 (Syntax.tcons (Syntax.ty_ref Syntax.erased Syntax.imm (Syntax.ty_int Syntax.w8)) (Syntax.tcons (Syntax.ty_int Syntax.w64)
@@ -2460,7 +2460,7 @@ module _ (T1' : RattleType.RattleType) (L1' : Laws'.Laws T1') where
             Syntax.tnil) Syntax.ttnil))),
       ) (List.◌∷◌ (
         1,
-        Rows.mref (Declared'.row (TheInside.the_type (Param.param 0 T1'))) (Syntax.ty_ref (Syntax.named 0) Syntax.mut behind-2)
+        Rows.mref (Declared'.row (TheInside.the_type (Param.param 0 Value))) (Syntax.ty_ref (Syntax.named 0) Syntax.mut behind-2)
             0,
       ) List.[]))))))))))))))
 
@@ -2471,8 +2471,8 @@ module _ (T1' : RattleType.RattleType) (L1' : Laws'.Laws T1') where
         (Syntax.ty_param 0)) Syntax.tnil) Syntax.ttnil))),
   ) (List.◌∷◌ (
     1,
-    Late.late_aside (Node.the_row (Param.param 0 T1')) (Declared'.row (TheInside.the_type (Param.param
-        0 T1'))) 0 Row.off,
+    Late.late_aside (Node.the_row (Param.param 0 Value)) (Declared'.row (TheInside.the_type (Param.param
+        0 Value))) 0 Row.off,
   ) (List.◌∷◌ (2, Rows.whole (Declared.row (Option.the_type (Text.str-field record { mir = Syntax.named 1; lft = List.[] }).row))) (List.◌∷◌ (
     3,
     Rows.any_gone (Syntax.ty_struct name-0 (Syntax.tcons (Syntax.ty_ref Syntax.erased Syntax.imm (Syntax.ty_int Syntax.w8)) (Syntax.tcons (Syntax.ty_int Syntax.w64)
@@ -2505,7 +2505,7 @@ module _ (T1' : RattleType.RattleType) (L1' : Laws'.Laws T1') where
             Syntax.tnil) Syntax.ttnil))),
       ) (List.◌∷◌ (
         1,
-        Rows.mref (Declared'.row (TheInside.the_type (Param.param 0 T1'))) (Syntax.ty_ref (Syntax.named 0) Syntax.mut behind-2)
+        Rows.mref (Declared'.row (TheInside.the_type (Param.param 0 Value))) (Syntax.ty_ref (Syntax.named 0) Syntax.mut behind-2)
             0,
       ) List.[]))))))))))))))
 
@@ -2516,8 +2516,8 @@ module _ (T1' : RattleType.RattleType) (L1' : Laws'.Laws T1') where
         (Syntax.ty_param 0)) Syntax.tnil) Syntax.ttnil))),
   ) (List.◌∷◌ (
     1,
-    Late.late_aside (Node.the_row (Param.param 0 T1')) (Declared'.row (TheInside.the_type (Param.param
-        0 T1'))) 0 Row.off,
+    Late.late_aside (Node.the_row (Param.param 0 Value)) (Declared'.row (TheInside.the_type (Param.param
+        0 Value))) 0 Row.off,
   ) (List.◌∷◌ (2, Rows.whole (Declared.row (Option.the_type (Text.str-field record { mir = Syntax.named 1; lft = List.[] }).row))) (List.◌∷◌ (
     3,
     Rows.any_gone (Syntax.ty_struct name-0 (Syntax.tcons (Syntax.ty_ref Syntax.erased Syntax.imm (Syntax.ty_int Syntax.w8)) (Syntax.tcons (Syntax.ty_int Syntax.w64)
@@ -2550,7 +2550,7 @@ module _ (T1' : RattleType.RattleType) (L1' : Laws'.Laws T1') where
       ) (List.◌∷◌ (
         1,
         Rows.mref (Declared'.row (TheInside.the_type (Param.param 0
-            T1'))) (Syntax.ty_ref (Syntax.named 0) Syntax.mut behind-2) 0,
+            Value))) (Syntax.ty_ref (Syntax.named 0) Syntax.mut behind-2) 0,
       ) List.[]))))))))))))))
 
   abbrev pub t17 : List.List Row.Entry
@@ -2560,8 +2560,8 @@ module _ (T1' : RattleType.RattleType) (L1' : Laws'.Laws T1') where
         (Syntax.ty_param 0)) Syntax.tnil) Syntax.ttnil))),
   ) (List.◌∷◌ (
     1,
-    Late.late_aside (Node.the_row (Param.param 0 T1')) (Declared'.row (TheInside.the_type (Param.param
-        0 T1'))) 0 Row.off,
+    Late.late_aside (Node.the_row (Param.param 0 Value)) (Declared'.row (TheInside.the_type (Param.param
+        0 Value))) 0 Row.off,
   ) (List.◌∷◌ (2, Rows.whole (Declared.row (Option.the_type (Text.str-field record { mir = Syntax.named 1; lft = List.[] }).row))) (List.◌∷◌ (
     3,
     Rows.any_gone (Syntax.ty_struct name-0 (Syntax.tcons (Syntax.ty_ref Syntax.erased Syntax.imm (Syntax.ty_int Syntax.w8)) (Syntax.tcons (Syntax.ty_int Syntax.w64)
@@ -2599,7 +2599,7 @@ module _ (T1' : RattleType.RattleType) (L1' : Laws'.Laws T1') where
       ) (List.◌∷◌ (
         1,
         Kind.waits (Declared'.row (TheInside.the_type (Param.param 0
-            T1'))) (BTreeMap.the_row of-6 of-2 Global.the_row (TheImpl.ghosts Global.the_row TheImpl'3.ghosts TheImpl.no_dict TheImpl.no_dict) (TheImpl'.ghosts Global.the_row
+            Value))) (BTreeMap.the_row of-6 of-2 Global.the_row (TheImpl.ghosts Global.the_row TheImpl'3.ghosts TheImpl.no_dict TheImpl.no_dict) (TheImpl'.ghosts Global.the_row
             TheImpl'3.ghosts TheImpl'.no_dict TheImpl'.no_dict) (TheImpl''.ghosts Global.the_row TheImpl'3.ghosts TheImpl''.no_dict TheImpl''.no_dict) TheImpl'3.ghosts)
             (Syntax.ty_ref (Syntax.named 0) Syntax.mut behind-2),
       ) List.[]))))))))))))))
@@ -2611,8 +2611,8 @@ module _ (T1' : RattleType.RattleType) (L1' : Laws'.Laws T1') where
         (Syntax.ty_param 0)) Syntax.tnil) Syntax.ttnil))),
   ) (List.◌∷◌ (
     1,
-    Late.late_aside (Node.the_row (Param.param 0 T1')) (Declared'.row (TheInside.the_type (Param.param
-        0 T1'))) 0 Row.off,
+    Late.late_aside (Node.the_row (Param.param 0 Value)) (Declared'.row (TheInside.the_type (Param.param
+        0 Value))) 0 Row.off,
   ) (List.◌∷◌ (2, Rows.whole (Declared.row (Option.the_type (Text.str-field record { mir = Syntax.named 1; lft = List.[] }).row))) (List.◌∷◌ (
     3,
     Rows.any_gone (Syntax.ty_struct name-0 (Syntax.tcons (Syntax.ty_ref Syntax.erased Syntax.imm (Syntax.ty_int Syntax.w8)) (Syntax.tcons (Syntax.ty_int Syntax.w64)
@@ -2642,7 +2642,7 @@ module _ (T1' : RattleType.RattleType) (L1' : Laws'.Laws T1') where
         10,
         Maybe.waits_if (BTreeMap.the_row of-6 of-2 Global.the_row (TheImpl.ghosts Global.the_row
             TheImpl'3.ghosts TheImpl.no_dict TheImpl.no_dict) (TheImpl'.ghosts Global.the_row TheImpl'3.ghosts TheImpl'.no_dict TheImpl'.no_dict) (TheImpl''.ghosts
-            Global.the_row TheImpl'3.ghosts TheImpl''.no_dict TheImpl''.no_dict) TheImpl'3.ghosts) (Node.the_row (Param.param 0 T1')) (Option.the_type (Field'.mut_ref_field
+            Global.the_row TheImpl'3.ghosts TheImpl''.no_dict TheImpl''.no_dict) TheImpl'3.ghosts) (Node.the_row (Param.param 0 Value)) (Option.the_type (Field'.mut_ref_field
             record { mir = Syntax.named 0; lft = List.[] } of-2 tt).row).D (Syntax.ty_ref Syntax.erased Syntax.mut behind-8),
       ) (List.◌∷◌ (
         11,
@@ -2656,7 +2656,7 @@ module _ (T1' : RattleType.RattleType) (L1' : Laws'.Laws T1') where
             Syntax.tnil))) Syntax.tnil) Syntax.ttnil))),
       ) (List.◌∷◌ (
         1,
-        Kind.waits (Declared'.row (TheInside.the_type (Param.param 0 T1'))) (BTreeMap.the_row of-6 of-2
+        Kind.waits (Declared'.row (TheInside.the_type (Param.param 0 Value))) (BTreeMap.the_row of-6 of-2
             Global.the_row (TheImpl.ghosts Global.the_row TheImpl'3.ghosts TheImpl.no_dict TheImpl.no_dict) (TheImpl'.ghosts Global.the_row TheImpl'3.ghosts TheImpl'.no_dict
             TheImpl'.no_dict) (TheImpl''.ghosts Global.the_row TheImpl'3.ghosts TheImpl''.no_dict TheImpl''.no_dict) TheImpl'3.ghosts) (Syntax.ty_ref (Syntax.named 0)
             Syntax.mut behind-2),
@@ -2669,8 +2669,8 @@ module _ (T1' : RattleType.RattleType) (L1' : Laws'.Laws T1') where
         (Syntax.ty_param 0)) Syntax.tnil) Syntax.ttnil))),
   ) (List.◌∷◌ (
     1,
-    Kind.owing_by (Node.the_row (Param.param 0 T1')) (Maybe.maybe (Node.the_row (Param.param 0 T1'))
-        (Param.param 0 T1') (Option.the_type (Field'.mut_ref_field record { mir = Syntax.named 0; lft = List.[] } (Param.param 0 T1') tt).row).D) (Syntax.ty_ref
+    Kind.owing_by (Node.the_row (Param.param 0 Value)) (Maybe.maybe (Node.the_row (Param.param 0 Value))
+        (Param.param 0 Value) (Option.the_type (Field'.mut_ref_field record { mir = Syntax.named 0; lft = List.[] } (Param.param 0 Value) tt).row).D) (Syntax.ty_ref
         (Syntax.named 0) Syntax.mut behind-2),
   ) (List.◌∷◌ (
     2,
@@ -2714,7 +2714,7 @@ module _ (T1' : RattleType.RattleType) (L1' : Laws'.Laws T1') where
       mir =
           Syntax.erased;
       lft = List.[];
-    } (Param.param 0 T1') tt).row)),
+    } (Param.param 0 Value) tt).row)),
   ) (List.◌∷◌ (12, Rows.any_gone (Syntax.ty_ref Syntax.erased Syntax.mut behind-2)) (List.◌∷◌ (
     13,
     Rows.any_gone (Syntax.ty_enum name-2 (Syntax.ttcons Syntax.tnil (Syntax.ttcons (Syntax.tcons (Syntax.ty_struct name-0 (Syntax.tcons (Syntax.ty_ref Syntax.erased
@@ -2729,8 +2729,8 @@ module _ (T1' : RattleType.RattleType) (L1' : Laws'.Laws T1') where
         (Syntax.ty_param 0)) Syntax.tnil) Syntax.ttnil))),
   ) (List.◌∷◌ (
     1,
-    Late.late_aside (Node.the_row (Param.param 0 T1')) (Declared'.row (TheInside.the_type (Param.param
-        0 T1'))) 0 Row.off,
+    Late.late_aside (Node.the_row (Param.param 0 Value)) (Declared'.row (TheInside.the_type (Param.param
+        0 Value))) 0 Row.off,
   ) (List.◌∷◌ (2, Rows.whole (Declared.row (Option.the_type (Text.str-field record { mir = Syntax.named 1; lft = List.[] }).row))) (List.◌∷◌ (
     3,
     Rows.any_gone (Syntax.ty_struct name-0 (Syntax.tcons (Syntax.ty_ref Syntax.erased Syntax.imm (Syntax.ty_int Syntax.w8)) (Syntax.tcons (Syntax.ty_int Syntax.w64)
@@ -2755,7 +2755,7 @@ module _ (T1' : RattleType.RattleType) (L1' : Laws'.Laws T1') where
         10,
         Maybe.waits_if (BTreeMap.the_row of-6 of-2 Global.the_row (TheImpl.ghosts Global.the_row TheImpl'3.ghosts TheImpl.no_dict
             TheImpl.no_dict) (TheImpl'.ghosts Global.the_row TheImpl'3.ghosts TheImpl'.no_dict TheImpl'.no_dict) (TheImpl''.ghosts Global.the_row TheImpl'3.ghosts
-            TheImpl''.no_dict TheImpl''.no_dict) TheImpl'3.ghosts) (Node.the_row (Param.param 0 T1')) (Option.the_type (Field'.mut_ref_field record {
+            TheImpl''.no_dict TheImpl''.no_dict) TheImpl'3.ghosts) (Node.the_row (Param.param 0 Value)) (Option.the_type (Field'.mut_ref_field record {
               mir = Syntax.named 0;
               lft
                   = List.[];
@@ -2775,7 +2775,7 @@ module _ (T1' : RattleType.RattleType) (L1' : Laws'.Laws T1') where
             Syntax.ttnil))),
       ) (List.◌∷◌ (
         1,
-        Kind.waits (Declared'.row (TheInside.the_type (Param.param 0 T1'))) (BTreeMap.the_row of-6 of-2 Global.the_row (TheImpl.ghosts
+        Kind.waits (Declared'.row (TheInside.the_type (Param.param 0 Value))) (BTreeMap.the_row of-6 of-2 Global.the_row (TheImpl.ghosts
             Global.the_row TheImpl'3.ghosts TheImpl.no_dict TheImpl.no_dict) (TheImpl'.ghosts Global.the_row TheImpl'3.ghosts TheImpl'.no_dict TheImpl'.no_dict)
             (TheImpl''.ghosts Global.the_row TheImpl'3.ghosts TheImpl''.no_dict TheImpl''.no_dict) TheImpl'3.ghosts) (Syntax.ty_ref (Syntax.named 0) Syntax.mut behind-2),
       )
@@ -2788,8 +2788,8 @@ module _ (T1' : RattleType.RattleType) (L1' : Laws'.Laws T1') where
         (Syntax.ty_param 0)) Syntax.tnil) Syntax.ttnil))),
   ) (List.◌∷◌ (
     1,
-    Late.late_aside (Node.the_row (Param.param 0 T1')) (Declared'.row (TheInside.the_type (Param.param
-        0 T1'))) 0 Row.off,
+    Late.late_aside (Node.the_row (Param.param 0 Value)) (Declared'.row (TheInside.the_type (Param.param
+        0 Value))) 0 Row.off,
   ) (List.◌∷◌ (2, Rows.whole (Declared.row (Option.the_type (Text.str-field record { mir = Syntax.named 1; lft = List.[] }).row))) (List.◌∷◌ (
     3,
     Rows.any_gone (Syntax.ty_struct name-0 (Syntax.tcons (Syntax.ty_ref Syntax.erased Syntax.imm (Syntax.ty_int Syntax.w8)) (Syntax.tcons (Syntax.ty_int Syntax.w64)
@@ -2825,7 +2825,7 @@ module _ (T1' : RattleType.RattleType) (L1' : Laws'.Laws T1') where
     10,
     Maybe.waits_if (BTreeMap.the_row of-6 of-2 Global.the_row (TheImpl.ghosts Global.the_row
         TheImpl'3.ghosts TheImpl.no_dict TheImpl.no_dict) (TheImpl'.ghosts Global.the_row TheImpl'3.ghosts TheImpl'.no_dict TheImpl'.no_dict) (TheImpl''.ghosts
-        Global.the_row TheImpl'3.ghosts TheImpl''.no_dict TheImpl''.no_dict) TheImpl'3.ghosts) (Node.the_row (Param.param 0 T1')) (Option.the_type (Field'.mut_ref_field
+        Global.the_row TheImpl'3.ghosts TheImpl''.no_dict TheImpl''.no_dict) TheImpl'3.ghosts) (Node.the_row (Param.param 0 Value)) (Option.the_type (Field'.mut_ref_field
         record { mir = Syntax.named 0; lft = List.[] } of-2 tt).row).D (Syntax.ty_ref Syntax.erased Syntax.mut behind-8),
   ) (List.◌∷◌ (
     11,
@@ -2839,7 +2839,7 @@ module _ (T1' : RattleType.RattleType) (L1' : Laws'.Laws T1') where
             Syntax.tnil))) Syntax.tnil) Syntax.ttnil))),
       ) (List.◌∷◌ (
         1,
-        Kind.waits (Declared'.row (TheInside.the_type (Param.param 0 T1'))) (BTreeMap.the_row of-6 of-2
+        Kind.waits (Declared'.row (TheInside.the_type (Param.param 0 Value))) (BTreeMap.the_row of-6 of-2
             Global.the_row (TheImpl.ghosts Global.the_row TheImpl'3.ghosts TheImpl.no_dict TheImpl.no_dict) (TheImpl'.ghosts Global.the_row TheImpl'3.ghosts TheImpl'.no_dict
             TheImpl'.no_dict) (TheImpl''.ghosts Global.the_row TheImpl'3.ghosts TheImpl''.no_dict TheImpl''.no_dict) TheImpl'3.ghosts) (Syntax.ty_ref (Syntax.named 0)
             Syntax.mut behind-2),
@@ -2852,8 +2852,8 @@ module _ (T1' : RattleType.RattleType) (L1' : Laws'.Laws T1') where
         (Syntax.ty_param 0)) Syntax.tnil) Syntax.ttnil))),
   ) (List.◌∷◌ (
     1,
-    Late.late_aside (Node.the_row (Param.param 0 T1')) (Declared'.row (TheInside.the_type (Param.param
-        0 T1'))) 0 Row.off,
+    Late.late_aside (Node.the_row (Param.param 0 Value)) (Declared'.row (TheInside.the_type (Param.param
+        0 Value))) 0 Row.off,
   ) (List.◌∷◌ (2, Rows.whole (Declared.row (Option.the_type (Text.str-field record { mir = Syntax.named 1; lft = List.[] }).row))) (List.◌∷◌ (
     3,
     Rows.any_gone (Syntax.ty_struct name-0 (Syntax.tcons (Syntax.ty_ref Syntax.erased Syntax.imm (Syntax.ty_int Syntax.w8)) (Syntax.tcons (Syntax.ty_int Syntax.w64)
@@ -2888,7 +2888,7 @@ module _ (T1' : RattleType.RattleType) (L1' : Laws'.Laws T1') where
     10,
     Maybe.waits_if (BTreeMap.the_row of-6 of-2 Global.the_row (TheImpl.ghosts Global.the_row TheImpl'3.ghosts
         TheImpl.no_dict TheImpl.no_dict) (TheImpl'.ghosts Global.the_row TheImpl'3.ghosts TheImpl'.no_dict TheImpl'.no_dict) (TheImpl''.ghosts Global.the_row
-        TheImpl'3.ghosts TheImpl''.no_dict TheImpl''.no_dict) TheImpl'3.ghosts) (Node.the_row (Param.param 0 T1')) (Option.the_type (Field'.mut_ref_field record {
+        TheImpl'3.ghosts TheImpl''.no_dict TheImpl''.no_dict) TheImpl'3.ghosts) (Node.the_row (Param.param 0 Value)) (Option.the_type (Field'.mut_ref_field record {
           mir =
               Syntax.named 0;
           lft = List.[];
@@ -2907,7 +2907,7 @@ module _ (T1' : RattleType.RattleType) (L1' : Laws'.Laws T1') where
         Syntax.tnil))) Syntax.tnil) Syntax.ttnil))),
   ) (List.◌∷◌ (
     1,
-    Kind.waits (Declared'.row (TheInside.the_type (Param.param 0 T1'))) (BTreeMap.the_row of-6 of-2
+    Kind.waits (Declared'.row (TheInside.the_type (Param.param 0 Value))) (BTreeMap.the_row of-6 of-2
         Global.the_row (TheImpl.ghosts Global.the_row TheImpl'3.ghosts TheImpl.no_dict TheImpl.no_dict) (TheImpl'.ghosts Global.the_row TheImpl'3.ghosts TheImpl'.no_dict
         TheImpl'.no_dict) (TheImpl''.ghosts Global.the_row TheImpl'3.ghosts TheImpl''.no_dict TheImpl''.no_dict) TheImpl'3.ghosts) (Syntax.ty_ref (Syntax.named 0)
         Syntax.mut behind-2),
@@ -2920,8 +2920,8 @@ module _ (T1' : RattleType.RattleType) (L1' : Laws'.Laws T1') where
         (Syntax.ty_param 0)) Syntax.tnil) Syntax.ttnil))),
   ) (List.◌∷◌ (
     1,
-    Late.late_aside (Node.the_row (Param.param 0 T1')) (Declared'.row (TheInside.the_type (Param.param
-        0 T1'))) 0 Row.off,
+    Late.late_aside (Node.the_row (Param.param 0 Value)) (Declared'.row (TheInside.the_type (Param.param
+        0 Value))) 0 Row.off,
   ) (List.◌∷◌ (2, Rows.whole (Declared.row (Option.the_type (Text.str-field record { mir = Syntax.named 1; lft = List.[] }).row))) (List.◌∷◌ (
     3,
     Rows.any_gone (Syntax.ty_struct name-0 (Syntax.tcons (Syntax.ty_ref Syntax.erased Syntax.imm (Syntax.ty_int Syntax.w8)) (Syntax.tcons (Syntax.ty_int Syntax.w64)
@@ -2956,7 +2956,7 @@ module _ (T1' : RattleType.RattleType) (L1' : Laws'.Laws T1') where
     10,
     Kind.waits (BTreeMap.the_row of-6 of-2 Global.the_row (TheImpl.ghosts Global.the_row TheImpl'3.ghosts
         TheImpl.no_dict TheImpl.no_dict) (TheImpl'.ghosts Global.the_row TheImpl'3.ghosts TheImpl'.no_dict TheImpl'.no_dict) (TheImpl''.ghosts Global.the_row
-        TheImpl'3.ghosts TheImpl''.no_dict TheImpl''.no_dict) TheImpl'3.ghosts) (Node.the_row (Param.param 0 T1')) (Syntax.ty_ref Syntax.erased Syntax.mut behind-8),
+        TheImpl'3.ghosts TheImpl''.no_dict TheImpl''.no_dict) TheImpl'3.ghosts) (Node.the_row (Param.param 0 Value)) (Syntax.ty_ref Syntax.erased Syntax.mut behind-8),
   )
       (List.◌∷◌ (
         11,
@@ -2970,7 +2970,7 @@ module _ (T1' : RattleType.RattleType) (L1' : Laws'.Laws T1') where
       ) (List.◌∷◌ (
         1,
         Kind.waits (Declared'.row (TheInside.the_type
-            (Param.param 0 T1'))) (BTreeMap.the_row of-6 of-2 Global.the_row (TheImpl.ghosts Global.the_row TheImpl'3.ghosts TheImpl.no_dict TheImpl.no_dict) (TheImpl'.ghosts
+            (Param.param 0 Value))) (BTreeMap.the_row of-6 of-2 Global.the_row (TheImpl.ghosts Global.the_row TheImpl'3.ghosts TheImpl.no_dict TheImpl.no_dict) (TheImpl'.ghosts
             Global.the_row TheImpl'3.ghosts TheImpl'.no_dict TheImpl'.no_dict) (TheImpl''.ghosts Global.the_row TheImpl'3.ghosts TheImpl''.no_dict TheImpl''.no_dict)
             TheImpl'3.ghosts) (Syntax.ty_ref (Syntax.named 0) Syntax.mut behind-2),
       ) List.[]))))))))))))))
@@ -2982,8 +2982,8 @@ module _ (T1' : RattleType.RattleType) (L1' : Laws'.Laws T1') where
         (Syntax.ty_param 0)) Syntax.tnil) Syntax.ttnil))),
   ) (List.◌∷◌ (
     1,
-    Late.late_aside (Node.the_row (Param.param 0 T1')) (Declared'.row (TheInside.the_type (Param.param
-        0 T1'))) 0 Row.off,
+    Late.late_aside (Node.the_row (Param.param 0 Value)) (Declared'.row (TheInside.the_type (Param.param
+        0 Value))) 0 Row.off,
   ) (List.◌∷◌ (2, Rows.whole (Declared.row (Option.the_type (Text.str-field record { mir = Syntax.named 1; lft = List.[] }).row))) (List.◌∷◌ (
     3,
     Rows.any_gone (Syntax.ty_struct name-0 (Syntax.tcons (Syntax.ty_ref Syntax.erased Syntax.imm (Syntax.ty_int Syntax.w8)) (Syntax.tcons (Syntax.ty_int Syntax.w64)
@@ -2998,7 +2998,7 @@ module _ (T1' : RattleType.RattleType) (L1' : Laws'.Laws T1') where
       mir = Syntax.erased;
       lft = List.[];
     }).row)),
-  ) (List.◌∷◌ (6, Rows.mref (Node.the_row (Param.param 0 T1')) (Syntax.ty_ref Syntax.erased Syntax.mut behind-2) 0) (List.◌∷◌ (
+  ) (List.◌∷◌ (6, Rows.mref (Node.the_row (Param.param 0 Value)) (Syntax.ty_ref Syntax.erased Syntax.mut behind-2) 0) (List.◌∷◌ (
     7,
     Rows.any_gone
         (Syntax.ty_ref Syntax.erased Syntax.mut behind-3),
@@ -3016,7 +3016,7 @@ module _ (T1' : RattleType.RattleType) (L1' : Laws'.Laws T1') where
     10,
     Kind.waits (BTreeMap.the_row of-6 of-2
         Global.the_row (TheImpl.ghosts Global.the_row TheImpl'3.ghosts TheImpl.no_dict TheImpl.no_dict) (TheImpl'.ghosts Global.the_row TheImpl'3.ghosts TheImpl'.no_dict
-        TheImpl'.no_dict) (TheImpl''.ghosts Global.the_row TheImpl'3.ghosts TheImpl''.no_dict TheImpl''.no_dict) TheImpl'3.ghosts) (Node.the_row (Param.param 0 T1'))
+        TheImpl'.no_dict) (TheImpl''.ghosts Global.the_row TheImpl'3.ghosts TheImpl''.no_dict TheImpl''.no_dict) TheImpl'3.ghosts) (Node.the_row (Param.param 0 Value))
         (Syntax.ty_ref Syntax.erased Syntax.mut behind-8),
   ) (List.◌∷◌ (
     11,
@@ -3032,7 +3032,7 @@ module _ (T1' : RattleType.RattleType) (L1' : Laws'.Laws T1') where
         (Syntax.ty_ref Syntax.erased Syntax.imm (Syntax.ty_int Syntax.w8)) (Syntax.tcons (Syntax.ty_int Syntax.w64) Syntax.tnil))) Syntax.tnil) Syntax.ttnil))),
   ) (List.◌∷◌ (
     1,
-    Kind.waits (Declared'.row (TheInside.the_type (Param.param 0 T1'))) (BTreeMap.the_row of-6 of-2 Global.the_row (TheImpl.ghosts Global.the_row TheImpl'3.ghosts
+    Kind.waits (Declared'.row (TheInside.the_type (Param.param 0 Value))) (BTreeMap.the_row of-6 of-2 Global.the_row (TheImpl.ghosts Global.the_row TheImpl'3.ghosts
         TheImpl.no_dict TheImpl.no_dict) (TheImpl'.ghosts Global.the_row TheImpl'3.ghosts TheImpl'.no_dict TheImpl'.no_dict) (TheImpl''.ghosts Global.the_row
         TheImpl'3.ghosts TheImpl''.no_dict TheImpl''.no_dict) TheImpl'3.ghosts) (Syntax.ty_ref (Syntax.named 0) Syntax.mut behind-2),
   ) List.[]))))))))))))))
@@ -3044,8 +3044,8 @@ module _ (T1' : RattleType.RattleType) (L1' : Laws'.Laws T1') where
         (Syntax.ty_param 0)) Syntax.tnil) Syntax.ttnil))),
   ) (List.◌∷◌ (
     1,
-    Late.late_aside (Node.the_row (Param.param 0 T1')) (Declared'.row (TheInside.the_type (Param.param
-        0 T1'))) 0 Row.off,
+    Late.late_aside (Node.the_row (Param.param 0 Value)) (Declared'.row (TheInside.the_type (Param.param
+        0 Value))) 0 Row.off,
   ) (List.◌∷◌ (2, Rows.whole (Declared.row (Option.the_type (Text.str-field record { mir = Syntax.named 1; lft = List.[] }).row))) (List.◌∷◌ (
     3,
     Rows.any_gone (Syntax.ty_struct name-0 (Syntax.tcons (Syntax.ty_ref Syntax.erased Syntax.imm (Syntax.ty_int Syntax.w8)) (Syntax.tcons (Syntax.ty_int Syntax.w64)
@@ -3060,7 +3060,7 @@ module _ (T1' : RattleType.RattleType) (L1' : Laws'.Laws T1') where
       mir = Syntax.erased;
       lft = List.[];
     }).row)),
-  ) (List.◌∷◌ (6, Rows.mref (Node.the_row (Param.param 0 T1')) (Syntax.ty_ref Syntax.erased Syntax.mut behind-2) 0) (List.◌∷◌ (
+  ) (List.◌∷◌ (6, Rows.mref (Node.the_row (Param.param 0 Value)) (Syntax.ty_ref Syntax.erased Syntax.mut behind-2) 0) (List.◌∷◌ (
     7,
     Rows.any_gone
         (Syntax.ty_ref Syntax.erased Syntax.mut behind-3),
@@ -3079,7 +3079,7 @@ module _ (T1' : RattleType.RattleType) (L1' : Laws'.Laws T1') where
     Kind.waits
         (BTreeMap.the_row of-6 of-2 Global.the_row (TheImpl.ghosts Global.the_row TheImpl'3.ghosts TheImpl.no_dict TheImpl.no_dict) (TheImpl'.ghosts Global.the_row
         TheImpl'3.ghosts TheImpl'.no_dict TheImpl'.no_dict) (TheImpl''.ghosts Global.the_row TheImpl'3.ghosts TheImpl''.no_dict TheImpl''.no_dict) TheImpl'3.ghosts)
-        (Node.the_row (Param.param 0 T1')) (Syntax.ty_ref Syntax.erased Syntax.mut behind-8),
+        (Node.the_row (Param.param 0 Value)) (Syntax.ty_ref Syntax.erased Syntax.mut behind-8),
   ) (List.◌∷◌ (
     11,
     Rows.any_gone (Syntax.ty_enum name-2 (Syntax.ttcons
@@ -3095,7 +3095,7 @@ module _ (T1' : RattleType.RattleType) (L1' : Laws'.Laws T1') where
         Syntax.tnil) Syntax.ttnil))),
   ) (List.◌∷◌ (
     1,
-    Kind.waits (Declared'.row (TheInside.the_type (Param.param 0 T1'))) (BTreeMap.the_row of-6 of-2 Global.the_row
+    Kind.waits (Declared'.row (TheInside.the_type (Param.param 0 Value))) (BTreeMap.the_row of-6 of-2 Global.the_row
         (TheImpl.ghosts Global.the_row TheImpl'3.ghosts TheImpl.no_dict TheImpl.no_dict) (TheImpl'.ghosts Global.the_row TheImpl'3.ghosts TheImpl'.no_dict TheImpl'.no_dict)
         (TheImpl''.ghosts Global.the_row TheImpl'3.ghosts TheImpl''.no_dict TheImpl''.no_dict) TheImpl'3.ghosts) (Syntax.ty_ref (Syntax.named 0) Syntax.mut behind-2),
   )
@@ -3108,8 +3108,8 @@ module _ (T1' : RattleType.RattleType) (L1' : Laws'.Laws T1') where
         (Syntax.ty_param 0)) Syntax.tnil) Syntax.ttnil))),
   ) (List.◌∷◌ (
     1,
-    Late.late_aside (Node.the_row (Param.param 0 T1')) (Declared'.row (TheInside.the_type (Param.param
-        0 T1'))) 0 Row.off,
+    Late.late_aside (Node.the_row (Param.param 0 Value)) (Declared'.row (TheInside.the_type (Param.param
+        0 Value))) 0 Row.off,
   ) (List.◌∷◌ (2, Rows.whole (Declared.row (Option.the_type (Text.str-field record { mir = Syntax.named 1; lft = List.[] }).row))) (List.◌∷◌ (
     3,
     Rows.any_gone (Syntax.ty_struct name-0 (Syntax.tcons (Syntax.ty_ref Syntax.erased Syntax.imm (Syntax.ty_int Syntax.w8)) (Syntax.tcons (Syntax.ty_int Syntax.w64)
@@ -3142,7 +3142,7 @@ module _ (T1' : RattleType.RattleType) (L1' : Laws'.Laws T1') where
     10,
     Kind.waits (BTreeMap.the_row of-6 of-2 Global.the_row
         (TheImpl.ghosts Global.the_row TheImpl'3.ghosts TheImpl.no_dict TheImpl.no_dict) (TheImpl'.ghosts Global.the_row TheImpl'3.ghosts TheImpl'.no_dict TheImpl'.no_dict)
-        (TheImpl''.ghosts Global.the_row TheImpl'3.ghosts TheImpl''.no_dict TheImpl''.no_dict) TheImpl'3.ghosts) (Node.the_row (Param.param 0 T1')) (Syntax.ty_ref
+        (TheImpl''.ghosts Global.the_row TheImpl'3.ghosts TheImpl''.no_dict TheImpl''.no_dict) TheImpl'3.ghosts) (Node.the_row (Param.param 0 Value)) (Syntax.ty_ref
         Syntax.erased Syntax.mut behind-8),
   ) (List.◌∷◌ (
     11,
@@ -3150,7 +3150,7 @@ module _ (T1' : RattleType.RattleType) (L1' : Laws'.Laws T1') where
         Syntax.erased Syntax.mut (Syntax.ty_param 0)) Syntax.tnil) Syntax.ttnil))),
   ) (List.◌∷◌ (
     12,
-    Rows.mref (Node.the_row (Param.param 0 T1')) (Syntax.ty_ref
+    Rows.mref (Node.the_row (Param.param 0 Value)) (Syntax.ty_ref
         Syntax.erased Syntax.mut behind-2) 0,
   ) (List.◌∷◌ (
     13,
@@ -3159,7 +3159,7 @@ module _ (T1' : RattleType.RattleType) (L1' : Laws'.Laws T1') where
         Syntax.ttnil))),
   ) (List.◌∷◌ (
     1,
-    Kind.waits (Declared'.row (TheInside.the_type (Param.param 0 T1'))) (BTreeMap.the_row of-6 of-2 Global.the_row (TheImpl.ghosts
+    Kind.waits (Declared'.row (TheInside.the_type (Param.param 0 Value))) (BTreeMap.the_row of-6 of-2 Global.the_row (TheImpl.ghosts
         Global.the_row TheImpl'3.ghosts TheImpl.no_dict TheImpl.no_dict) (TheImpl'.ghosts Global.the_row TheImpl'3.ghosts TheImpl'.no_dict TheImpl'.no_dict)
         (TheImpl''.ghosts Global.the_row TheImpl'3.ghosts TheImpl''.no_dict TheImpl''.no_dict) TheImpl'3.ghosts) (Syntax.ty_ref (Syntax.named 0) Syntax.mut behind-2),
   )
@@ -3172,8 +3172,8 @@ module _ (T1' : RattleType.RattleType) (L1' : Laws'.Laws T1') where
         (Syntax.ty_param 0)) Syntax.tnil) Syntax.ttnil))),
   ) (List.◌∷◌ (
     1,
-    Late.late_aside (Node.the_row (Param.param 0 T1')) (Declared'.row (TheInside.the_type (Param.param
-        0 T1'))) 0 Row.off,
+    Late.late_aside (Node.the_row (Param.param 0 Value)) (Declared'.row (TheInside.the_type (Param.param
+        0 Value))) 0 Row.off,
   ) (List.◌∷◌ (2, Rows.whole (Declared.row (Option.the_type (Text.str-field record { mir = Syntax.named 1; lft = List.[] }).row))) (List.◌∷◌ (
     3,
     Rows.any_gone (Syntax.ty_struct name-0 (Syntax.tcons (Syntax.ty_ref Syntax.erased Syntax.imm (Syntax.ty_int Syntax.w8)) (Syntax.tcons (Syntax.ty_int Syntax.w64)
@@ -3206,7 +3206,7 @@ module _ (T1' : RattleType.RattleType) (L1' : Laws'.Laws T1') where
     10,
     Kind.waits (BTreeMap.the_row of-6 of-2 Global.the_row
         (TheImpl.ghosts Global.the_row TheImpl'3.ghosts TheImpl.no_dict TheImpl.no_dict) (TheImpl'.ghosts Global.the_row TheImpl'3.ghosts TheImpl'.no_dict TheImpl'.no_dict)
-        (TheImpl''.ghosts Global.the_row TheImpl'3.ghosts TheImpl''.no_dict TheImpl''.no_dict) TheImpl'3.ghosts) (Node.the_row (Param.param 0 T1')) (Syntax.ty_ref
+        (TheImpl''.ghosts Global.the_row TheImpl'3.ghosts TheImpl''.no_dict TheImpl''.no_dict) TheImpl'3.ghosts) (Node.the_row (Param.param 0 Value)) (Syntax.ty_ref
         Syntax.erased Syntax.mut behind-8),
   ) (List.◌∷◌ (
     11,
@@ -3214,7 +3214,7 @@ module _ (T1' : RattleType.RattleType) (L1' : Laws'.Laws T1') where
         Syntax.erased Syntax.mut (Syntax.ty_param 0)) Syntax.tnil) Syntax.ttnil))),
   ) (List.◌∷◌ (
     12,
-    Rows.mref (Node.the_row (Param.param 0 T1')) (Syntax.ty_ref
+    Rows.mref (Node.the_row (Param.param 0 Value)) (Syntax.ty_ref
         Syntax.erased Syntax.mut behind-2) 0,
   ) (List.◌∷◌ (
     13,
@@ -3224,7 +3224,7 @@ module _ (T1' : RattleType.RattleType) (L1' : Laws'.Laws T1') where
     }).row)),
   ) (List.◌∷◌ (
     1,
-    Kind.waits (Declared'.row (TheInside.the_type (Param.param 0 T1'))) (BTreeMap.the_row of-6 of-2 Global.the_row (TheImpl.ghosts
+    Kind.waits (Declared'.row (TheInside.the_type (Param.param 0 Value))) (BTreeMap.the_row of-6 of-2 Global.the_row (TheImpl.ghosts
         Global.the_row TheImpl'3.ghosts TheImpl.no_dict TheImpl.no_dict) (TheImpl'.ghosts Global.the_row TheImpl'3.ghosts TheImpl'.no_dict TheImpl'.no_dict)
         (TheImpl''.ghosts Global.the_row TheImpl'3.ghosts TheImpl''.no_dict TheImpl''.no_dict) TheImpl'3.ghosts) (Syntax.ty_ref (Syntax.named 0) Syntax.mut behind-2),
   )
@@ -3237,8 +3237,8 @@ module _ (T1' : RattleType.RattleType) (L1' : Laws'.Laws T1') where
         (Syntax.ty_param 0)) Syntax.tnil) Syntax.ttnil))),
   ) (List.◌∷◌ (
     1,
-    Late.late_aside (Node.the_row (Param.param 0 T1')) (Declared'.row (TheInside.the_type (Param.param
-        0 T1'))) 0 Row.off,
+    Late.late_aside (Node.the_row (Param.param 0 Value)) (Declared'.row (TheInside.the_type (Param.param
+        0 Value))) 0 Row.off,
   ) (List.◌∷◌ (2, Rows.whole (Declared.row (Option.the_type (Text.str-field record { mir = Syntax.named 1; lft = List.[] }).row))) (List.◌∷◌ (
     3,
     Rows.any_gone (Syntax.ty_struct name-0 (Syntax.tcons (Syntax.ty_ref Syntax.erased Syntax.imm (Syntax.ty_int Syntax.w8)) (Syntax.tcons (Syntax.ty_int Syntax.w64)
@@ -3271,7 +3271,7 @@ module _ (T1' : RattleType.RattleType) (L1' : Laws'.Laws T1') where
     Kind.waits
         (BTreeMap.the_row of-6 of-2 Global.the_row (TheImpl.ghosts Global.the_row TheImpl'3.ghosts TheImpl.no_dict TheImpl.no_dict) (TheImpl'.ghosts Global.the_row
         TheImpl'3.ghosts TheImpl'.no_dict TheImpl'.no_dict) (TheImpl''.ghosts Global.the_row TheImpl'3.ghosts TheImpl''.no_dict TheImpl''.no_dict) TheImpl'3.ghosts)
-        (Node.the_row (Param.param 0 T1')) (Syntax.ty_ref Syntax.erased Syntax.mut behind-8),
+        (Node.the_row (Param.param 0 Value)) (Syntax.ty_ref Syntax.erased Syntax.mut behind-8),
   ) (List.◌∷◌ (
     11,
     Rows.any_gone (Syntax.ty_enum name-2 (Syntax.ttcons
@@ -3279,14 +3279,14 @@ module _ (T1' : RattleType.RattleType) (L1' : Laws'.Laws T1') where
   ) (List.◌∷◌ (
     12,
     Rows.mref
-        (Node.the_row (Param.param 0 T1')) (Syntax.ty_ref Syntax.erased Syntax.mut behind-2) 0,
+        (Node.the_row (Param.param 0 Value)) (Syntax.ty_ref Syntax.erased Syntax.mut behind-2) 0,
   ) (List.◌∷◌ (
     13,
     Rows.whole (Declared.row (Option.the_type (Text.str-field
         record { mir = Syntax.erased; lft = List.[] }).row)),
   ) (List.◌∷◌ (
     1,
-    Kind.waits (Declared'.row (TheInside.the_type (Param.param 0 T1'))) (BTreeMap.the_row of-6
+    Kind.waits (Declared'.row (TheInside.the_type (Param.param 0 Value))) (BTreeMap.the_row of-6
         of-2 Global.the_row (TheImpl.ghosts Global.the_row TheImpl'3.ghosts TheImpl.no_dict TheImpl.no_dict) (TheImpl'.ghosts Global.the_row TheImpl'3.ghosts
         TheImpl'.no_dict TheImpl'.no_dict) (TheImpl''.ghosts Global.the_row TheImpl'3.ghosts TheImpl''.no_dict TheImpl''.no_dict) TheImpl'3.ghosts) (Syntax.ty_ref
         (Syntax.named 0) Syntax.mut behind-2),
@@ -3299,8 +3299,8 @@ module _ (T1' : RattleType.RattleType) (L1' : Laws'.Laws T1') where
         (Syntax.ty_param 0)) Syntax.tnil) Syntax.ttnil))),
   ) (List.◌∷◌ (
     1,
-    Late.late_aside (Node.the_row (Param.param 0 T1')) (Declared'.row (TheInside.the_type (Param.param
-        0 T1'))) 0 Row.off,
+    Late.late_aside (Node.the_row (Param.param 0 Value)) (Declared'.row (TheInside.the_type (Param.param
+        0 Value))) 0 Row.off,
   ) (List.◌∷◌ (2, Rows.whole (Declared.row (Option.the_type (Text.str-field record { mir = Syntax.named 1; lft = List.[] }).row))) (List.◌∷◌ (
     3,
     Rows.any_gone (Syntax.ty_struct name-0 (Syntax.tcons (Syntax.ty_ref Syntax.erased Syntax.imm (Syntax.ty_int Syntax.w8)) (Syntax.tcons (Syntax.ty_int Syntax.w64)
@@ -3333,7 +3333,7 @@ module _ (T1' : RattleType.RattleType) (L1' : Laws'.Laws T1') where
     Kind.waits
         (BTreeMap.the_row of-6 of-2 Global.the_row (TheImpl.ghosts Global.the_row TheImpl'3.ghosts TheImpl.no_dict TheImpl.no_dict) (TheImpl'.ghosts Global.the_row
         TheImpl'3.ghosts TheImpl'.no_dict TheImpl'.no_dict) (TheImpl''.ghosts Global.the_row TheImpl'3.ghosts TheImpl''.no_dict TheImpl''.no_dict) TheImpl'3.ghosts)
-        (Node.the_row (Param.param 0 T1')) (Syntax.ty_ref Syntax.erased Syntax.mut behind-8),
+        (Node.the_row (Param.param 0 Value)) (Syntax.ty_ref Syntax.erased Syntax.mut behind-8),
   ) (List.◌∷◌ (
     11,
     Rows.any_gone (Syntax.ty_enum name-2 (Syntax.ttcons
@@ -3341,7 +3341,7 @@ module _ (T1' : RattleType.RattleType) (L1' : Laws'.Laws T1') where
   ) (List.◌∷◌ (
     12,
     Rows.mref
-        (Node.the_row (Param.param 0 T1')) (Syntax.ty_ref Syntax.erased Syntax.mut behind-2) 0,
+        (Node.the_row (Param.param 0 Value)) (Syntax.ty_ref Syntax.erased Syntax.mut behind-2) 0,
   ) (List.◌∷◌ (
     13,
     ValueAt.val_at 3 (λ κc. Declared.row (Option.the_type
@@ -3351,7 +3351,7 @@ module _ (T1' : RattleType.RattleType) (L1' : Laws'.Laws T1') where
         Syntax.ttnil))),
   ) (List.◌∷◌ (
     1,
-    Kind.waits (Declared'.row (TheInside.the_type (Param.param 0 T1'))) (BTreeMap.the_row of-6 of-2 Global.the_row (TheImpl.ghosts
+    Kind.waits (Declared'.row (TheInside.the_type (Param.param 0 Value))) (BTreeMap.the_row of-6 of-2 Global.the_row (TheImpl.ghosts
         Global.the_row TheImpl'3.ghosts TheImpl.no_dict TheImpl.no_dict) (TheImpl'.ghosts Global.the_row TheImpl'3.ghosts TheImpl'.no_dict TheImpl'.no_dict)
         (TheImpl''.ghosts Global.the_row TheImpl'3.ghosts TheImpl''.no_dict TheImpl''.no_dict) TheImpl'3.ghosts) (Syntax.ty_ref (Syntax.named 0) Syntax.mut behind-2),
   )
@@ -3364,8 +3364,8 @@ module _ (T1' : RattleType.RattleType) (L1' : Laws'.Laws T1') where
         (Syntax.ty_param 0)) Syntax.tnil) Syntax.ttnil))),
   ) (List.◌∷◌ (
     1,
-    Late.late_aside (Node.the_row (Param.param 0 T1')) (Declared'.row (TheInside.the_type (Param.param
-        0 T1'))) 0 Row.off,
+    Late.late_aside (Node.the_row (Param.param 0 Value)) (Declared'.row (TheInside.the_type (Param.param
+        0 Value))) 0 Row.off,
   ) (List.◌∷◌ (2, Rows.whole (Declared.row (Option.the_type (Text.str-field record { mir = Syntax.named 1; lft = List.[] }).row))) (List.◌∷◌ (
     3,
     Rows.any_gone (Syntax.ty_struct name-0 (Syntax.tcons (Syntax.ty_ref Syntax.erased Syntax.imm (Syntax.ty_int Syntax.w8)) (Syntax.tcons (Syntax.ty_int Syntax.w64)
@@ -3398,20 +3398,20 @@ module _ (T1' : RattleType.RattleType) (L1' : Laws'.Laws T1') where
     Kind.waits
         (BTreeMap.the_row of-6 of-2 Global.the_row (TheImpl.ghosts Global.the_row TheImpl'3.ghosts TheImpl.no_dict TheImpl.no_dict) (TheImpl'.ghosts Global.the_row
         TheImpl'3.ghosts TheImpl'.no_dict TheImpl'.no_dict) (TheImpl''.ghosts Global.the_row TheImpl'3.ghosts TheImpl''.no_dict TheImpl''.no_dict) TheImpl'3.ghosts)
-        (Node.the_row (Param.param 0 T1')) (Syntax.ty_ref Syntax.erased Syntax.mut behind-8),
+        (Node.the_row (Param.param 0 Value)) (Syntax.ty_ref Syntax.erased Syntax.mut behind-8),
   ) (List.◌∷◌ (
     11,
     ValueAt.val_at 3 (λ κc. Declared.row (Option.the_type
-        (Field'.mut_ref_field record { mir = Syntax.named 0; lft = κc.0 } (Param.param 0 T1') tt).row)) (Option.the_type (Field'.mut_ref_field record {
+        (Field'.mut_ref_field record { mir = Syntax.named 0; lft = κc.0 } (Param.param 0 Value) tt).row)) (Option.the_type (Field'.mut_ref_field record {
           mir = Syntax.named
               0;
           lft = List.[];
-        } (Param.param 0 T1') tt).row).D (λ κc v. v) (List.◌∷◌ 0 (List.◌∷◌ 1 (List.◌∷◌ 2 List.[]))) (Syntax.ty_enum name-2 (Syntax.ttcons Syntax.tnil
+        } (Param.param 0 Value) tt).row).D (λ κc v. v) (List.◌∷◌ 0 (List.◌∷◌ 1 (List.◌∷◌ 2 List.[]))) (Syntax.ty_enum name-2 (Syntax.ttcons Syntax.tnil
         (Syntax.ttcons (Syntax.tcons (Syntax.ty_ref Syntax.erased Syntax.mut (Syntax.ty_param 0)) Syntax.tnil) Syntax.ttnil))),
   ) (List.◌∷◌ (
     12,
     Maybe.waits_if (Node.the_row
-        (Param.param 0 T1')) (Param.param 0 T1') (Option.the_type (Field'.mut_ref_field record { mir = Syntax.named 0; lft = List.[] } (Param.param 0 T1') tt).row).D
+        (Param.param 0 Value)) (Param.param 0 Value) (Option.the_type (Field'.mut_ref_field record { mir = Syntax.named 0; lft = List.[] } (Param.param 0 Value) tt).row).D
         (Syntax.ty_ref Syntax.erased Syntax.mut behind-2),
   ) (List.◌∷◌ (
     13,
@@ -3425,7 +3425,7 @@ module _ (T1' : RattleType.RattleType) (L1' : Laws'.Laws T1') where
   ) (List.◌∷◌ (
     1,
     Kind.waits (Declared'.row
-        (TheInside.the_type (Param.param 0 T1'))) (BTreeMap.the_row of-6 of-2 Global.the_row (TheImpl.ghosts Global.the_row TheImpl'3.ghosts TheImpl.no_dict
+        (TheInside.the_type (Param.param 0 Value))) (BTreeMap.the_row of-6 of-2 Global.the_row (TheImpl.ghosts Global.the_row TheImpl'3.ghosts TheImpl.no_dict
         TheImpl.no_dict) (TheImpl'.ghosts Global.the_row TheImpl'3.ghosts TheImpl'.no_dict TheImpl'.no_dict) (TheImpl''.ghosts Global.the_row TheImpl'3.ghosts
         TheImpl''.no_dict TheImpl''.no_dict) TheImpl'3.ghosts) (Syntax.ty_ref (Syntax.named 0) Syntax.mut behind-2),
   ) List.[]))))))))))))))
@@ -3437,8 +3437,8 @@ module _ (T1' : RattleType.RattleType) (L1' : Laws'.Laws T1') where
         (Syntax.ty_param 0)) Syntax.tnil) Syntax.ttnil))),
   ) (List.◌∷◌ (
     1,
-    Late.late_aside (Node.the_row (Param.param 0 T1')) (Declared'.row (TheInside.the_type (Param.param
-        0 T1'))) 0 Row.off,
+    Late.late_aside (Node.the_row (Param.param 0 Value)) (Declared'.row (TheInside.the_type (Param.param
+        0 Value))) 0 Row.off,
   ) (List.◌∷◌ (2, Rows.whole (Declared.row (Option.the_type (Text.str-field record { mir = Syntax.named 1; lft = List.[] }).row))) (List.◌∷◌ (
     3,
     Rows.any_gone (Syntax.ty_struct name-0 (Syntax.tcons (Syntax.ty_ref Syntax.erased Syntax.imm (Syntax.ty_int Syntax.w8)) (Syntax.tcons (Syntax.ty_int Syntax.w64)
@@ -3471,20 +3471,20 @@ module _ (T1' : RattleType.RattleType) (L1' : Laws'.Laws T1') where
     Kind.waits
         (BTreeMap.the_row of-6 of-2 Global.the_row (TheImpl.ghosts Global.the_row TheImpl'3.ghosts TheImpl.no_dict TheImpl.no_dict) (TheImpl'.ghosts Global.the_row
         TheImpl'3.ghosts TheImpl'.no_dict TheImpl'.no_dict) (TheImpl''.ghosts Global.the_row TheImpl'3.ghosts TheImpl''.no_dict TheImpl''.no_dict) TheImpl'3.ghosts)
-        (Node.the_row (Param.param 0 T1')) (Syntax.ty_ref Syntax.erased Syntax.mut behind-8),
+        (Node.the_row (Param.param 0 Value)) (Syntax.ty_ref Syntax.erased Syntax.mut behind-8),
   ) (List.◌∷◌ (
     11,
     ValueAt.val_at 3 (λ κc. Declared.row (Option.the_type
-        (Field'.mut_ref_field record { mir = Syntax.named 0; lft = κc.0 } (Param.param 0 T1') tt).row)) (Option.the_type (Field'.mut_ref_field record {
+        (Field'.mut_ref_field record { mir = Syntax.named 0; lft = κc.0 } (Param.param 0 Value) tt).row)) (Option.the_type (Field'.mut_ref_field record {
           mir = Syntax.named
               0;
           lft = List.[];
-        } (Param.param 0 T1') tt).row).D (λ κc v. v) (List.◌∷◌ 0 (List.◌∷◌ 1 (List.◌∷◌ 2 List.[]))) (Syntax.ty_enum name-2 (Syntax.ttcons Syntax.tnil
+        } (Param.param 0 Value) tt).row).D (λ κc v. v) (List.◌∷◌ 0 (List.◌∷◌ 1 (List.◌∷◌ 2 List.[]))) (Syntax.ty_enum name-2 (Syntax.ttcons Syntax.tnil
         (Syntax.ttcons (Syntax.tcons (Syntax.ty_ref Syntax.erased Syntax.mut (Syntax.ty_param 0)) Syntax.tnil) Syntax.ttnil))),
   ) (List.◌∷◌ (
     12,
     Maybe.waits_if (Node.the_row
-        (Param.param 0 T1')) (Param.param 0 T1') (Option.the_type (Field'.mut_ref_field record { mir = Syntax.named 0; lft = List.[] } (Param.param 0 T1') tt).row).D
+        (Param.param 0 Value)) (Param.param 0 Value) (Option.the_type (Field'.mut_ref_field record { mir = Syntax.named 0; lft = List.[] } (Param.param 0 Value) tt).row).D
         (Syntax.ty_ref Syntax.erased Syntax.mut behind-2),
   ) (List.◌∷◌ (
     13,
@@ -3495,7 +3495,7 @@ module _ (T1' : RattleType.RattleType) (L1' : Laws'.Laws T1') where
     }).row)),
   ) (List.◌∷◌ (
     1,
-    Kind.waits (Declared'.row (TheInside.the_type (Param.param 0 T1'))) (BTreeMap.the_row of-6 of-2 Global.the_row (TheImpl.ghosts
+    Kind.waits (Declared'.row (TheInside.the_type (Param.param 0 Value))) (BTreeMap.the_row of-6 of-2 Global.the_row (TheImpl.ghosts
         Global.the_row TheImpl'3.ghosts TheImpl.no_dict TheImpl.no_dict) (TheImpl'.ghosts Global.the_row TheImpl'3.ghosts TheImpl'.no_dict TheImpl'.no_dict)
         (TheImpl''.ghosts Global.the_row TheImpl'3.ghosts TheImpl''.no_dict TheImpl''.no_dict) TheImpl'3.ghosts) (Syntax.ty_ref (Syntax.named 0) Syntax.mut behind-2),
   )
@@ -3508,8 +3508,8 @@ module _ (T1' : RattleType.RattleType) (L1' : Laws'.Laws T1') where
         (Syntax.ty_param 0)) Syntax.tnil) Syntax.ttnil))),
   ) (List.◌∷◌ (
     1,
-    Late.late_aside (Node.the_row (Param.param 0 T1')) (Declared'.row (TheInside.the_type (Param.param
-        0 T1'))) 0 Row.off,
+    Late.late_aside (Node.the_row (Param.param 0 Value)) (Declared'.row (TheInside.the_type (Param.param
+        0 Value))) 0 Row.off,
   ) (List.◌∷◌ (2, Rows.whole (Declared.row (Option.the_type (Text.str-field record { mir = Syntax.named 1; lft = List.[] }).row))) (List.◌∷◌ (
     3,
     Rows.any_gone (Syntax.ty_struct name-0 (Syntax.tcons (Syntax.ty_ref Syntax.erased Syntax.imm (Syntax.ty_int Syntax.w8)) (Syntax.tcons (Syntax.ty_int Syntax.w64)
@@ -3542,15 +3542,15 @@ module _ (T1' : RattleType.RattleType) (L1' : Laws'.Laws T1') where
     Kind.waits
         (BTreeMap.the_row of-6 of-2 Global.the_row (TheImpl.ghosts Global.the_row TheImpl'3.ghosts TheImpl.no_dict TheImpl.no_dict) (TheImpl'.ghosts Global.the_row
         TheImpl'3.ghosts TheImpl'.no_dict TheImpl'.no_dict) (TheImpl''.ghosts Global.the_row TheImpl'3.ghosts TheImpl''.no_dict TheImpl''.no_dict) TheImpl'3.ghosts)
-        (Node.the_row (Param.param 0 T1')) (Syntax.ty_ref Syntax.erased Syntax.mut behind-8),
+        (Node.the_row (Param.param 0 Value)) (Syntax.ty_ref Syntax.erased Syntax.mut behind-8),
   ) (List.◌∷◌ (
     11,
     Rows.whole (Declared.row (Option.the_type
-        (Field'.mut_ref_field record { mir = Syntax.erased; lft = List.[] } (Param.param 0 T1') tt).row)),
+        (Field'.mut_ref_field record { mir = Syntax.erased; lft = List.[] } (Param.param 0 Value) tt).row)),
   ) (List.◌∷◌ (
     12,
     Maybe.waits_if (Node.the_row (Param.param 0
-        T1')) (Param.param 0 T1') (Option.the_type (Field'.mut_ref_field record { mir = Syntax.named 0; lft = List.[] } (Param.param 0 T1') tt).row).D (Syntax.ty_ref
+        Value)) (Param.param 0 Value) (Option.the_type (Field'.mut_ref_field record { mir = Syntax.named 0; lft = List.[] } (Param.param 0 Value) tt).row).D (Syntax.ty_ref
         Syntax.erased Syntax.mut behind-2),
   ) (List.◌∷◌ (
     13,
@@ -3560,7 +3560,7 @@ module _ (T1' : RattleType.RattleType) (L1' : Laws'.Laws T1') where
     }).row)),
   ) (List.◌∷◌ (
     1,
-    Kind.waits (Declared'.row (TheInside.the_type (Param.param 0 T1'))) (BTreeMap.the_row of-6 of-2 Global.the_row (TheImpl.ghosts
+    Kind.waits (Declared'.row (TheInside.the_type (Param.param 0 Value))) (BTreeMap.the_row of-6 of-2 Global.the_row (TheImpl.ghosts
         Global.the_row TheImpl'3.ghosts TheImpl.no_dict TheImpl.no_dict) (TheImpl'.ghosts Global.the_row TheImpl'3.ghosts TheImpl'.no_dict TheImpl'.no_dict)
         (TheImpl''.ghosts Global.the_row TheImpl'3.ghosts TheImpl''.no_dict TheImpl''.no_dict) TheImpl'3.ghosts) (Syntax.ty_ref (Syntax.named 0) Syntax.mut behind-2),
   )
@@ -3573,8 +3573,8 @@ module _ (T1' : RattleType.RattleType) (L1' : Laws'.Laws T1') where
         (Syntax.ty_param 0)) Syntax.tnil) Syntax.ttnil))),
   ) (List.◌∷◌ (
     1,
-    Late.late_aside (Node.the_row (Param.param 0 T1')) (Declared'.row (TheInside.the_type (Param.param
-        0 T1'))) 0 Row.off,
+    Late.late_aside (Node.the_row (Param.param 0 Value)) (Declared'.row (TheInside.the_type (Param.param
+        0 Value))) 0 Row.off,
   ) (List.◌∷◌ (2, Rows.whole (Declared.row (Option.the_type (Text.str-field record { mir = Syntax.named 1; lft = List.[] }).row))) (List.◌∷◌ (
     3,
     Rows.any_gone (Syntax.ty_struct name-0 (Syntax.tcons (Syntax.ty_ref Syntax.erased Syntax.imm (Syntax.ty_int Syntax.w8)) (Syntax.tcons (Syntax.ty_int Syntax.w64)
@@ -3607,15 +3607,15 @@ module _ (T1' : RattleType.RattleType) (L1' : Laws'.Laws T1') where
     Kind.waits
         (BTreeMap.the_row of-6 of-2 Global.the_row (TheImpl.ghosts Global.the_row TheImpl'3.ghosts TheImpl.no_dict TheImpl.no_dict) (TheImpl'.ghosts Global.the_row
         TheImpl'3.ghosts TheImpl'.no_dict TheImpl'.no_dict) (TheImpl''.ghosts Global.the_row TheImpl'3.ghosts TheImpl''.no_dict TheImpl''.no_dict) TheImpl'3.ghosts)
-        (Node.the_row (Param.param 0 T1')) (Syntax.ty_ref Syntax.erased Syntax.mut behind-8),
+        (Node.the_row (Param.param 0 Value)) (Syntax.ty_ref Syntax.erased Syntax.mut behind-8),
   ) (List.◌∷◌ (
     11,
     Rows.whole (Declared.row (Option.the_type
-        (Field'.mut_ref_field record { mir = Syntax.erased; lft = List.[] } (Param.param 0 T1') tt).row)),
+        (Field'.mut_ref_field record { mir = Syntax.erased; lft = List.[] } (Param.param 0 Value) tt).row)),
   ) (List.◌∷◌ (
     12,
     Maybe.waits_if (Node.the_row (Param.param 0
-        T1')) (Param.param 0 T1') (Option.the_type (Field'.mut_ref_field record { mir = Syntax.named 0; lft = List.[] } (Param.param 0 T1') tt).row).D (Syntax.ty_ref
+        Value)) (Param.param 0 Value) (Option.the_type (Field'.mut_ref_field record { mir = Syntax.named 0; lft = List.[] } (Param.param 0 Value) tt).row).D (Syntax.ty_ref
         Syntax.erased Syntax.mut behind-2),
   ) (List.◌∷◌ (
     13,
@@ -3624,7 +3624,7 @@ module _ (T1' : RattleType.RattleType) (L1' : Laws'.Laws T1') where
         Syntax.ttnil))),
   ) (List.◌∷◌ (
     1,
-    Kind.waits (Declared'.row (TheInside.the_type (Param.param 0 T1'))) (BTreeMap.the_row of-6 of-2 Global.the_row (TheImpl.ghosts
+    Kind.waits (Declared'.row (TheInside.the_type (Param.param 0 Value))) (BTreeMap.the_row of-6 of-2 Global.the_row (TheImpl.ghosts
         Global.the_row TheImpl'3.ghosts TheImpl.no_dict TheImpl.no_dict) (TheImpl'.ghosts Global.the_row TheImpl'3.ghosts TheImpl'.no_dict TheImpl'.no_dict)
         (TheImpl''.ghosts Global.the_row TheImpl'3.ghosts TheImpl''.no_dict TheImpl''.no_dict) TheImpl'3.ghosts) (Syntax.ty_ref (Syntax.named 0) Syntax.mut behind-2),
   )
@@ -3637,8 +3637,8 @@ module _ (T1' : RattleType.RattleType) (L1' : Laws'.Laws T1') where
         (Syntax.ty_param 0)) Syntax.tnil) Syntax.ttnil))),
   ) (List.◌∷◌ (
     1,
-    Late.late_aside (Node.the_row (Param.param 0 T1')) (Declared'.row (TheInside.the_type (Param.param
-        0 T1'))) 0 Row.off,
+    Late.late_aside (Node.the_row (Param.param 0 Value)) (Declared'.row (TheInside.the_type (Param.param
+        0 Value))) 0 Row.off,
   ) (List.◌∷◌ (2, Rows.whole (Declared.row (Option.the_type (Text.str-field record { mir = Syntax.named 1; lft = List.[] }).row))) (List.◌∷◌ (
     3,
     Rows.any_gone (Syntax.ty_struct name-0 (Syntax.tcons (Syntax.ty_ref Syntax.erased Syntax.imm (Syntax.ty_int Syntax.w8)) (Syntax.tcons (Syntax.ty_int Syntax.w64)
@@ -3676,11 +3676,11 @@ module _ (T1' : RattleType.RattleType) (L1' : Laws'.Laws T1') where
       mir = Syntax.erased;
       lft
           = List.[];
-    } (Param.param 0 T1') tt).row)),
+    } (Param.param 0 Value) tt).row)),
   ) (List.◌∷◌ (
     12,
-    Maybe.waits_if (Node.the_row (Param.param 0 T1')) (Param.param 0 T1') (Option.the_type
-        (Field'.mut_ref_field record { mir = Syntax.named 0; lft = List.[] } (Param.param 0 T1') tt).row).D (Syntax.ty_ref Syntax.erased Syntax.mut behind-2),
+    Maybe.waits_if (Node.the_row (Param.param 0 Value)) (Param.param 0 Value) (Option.the_type
+        (Field'.mut_ref_field record { mir = Syntax.named 0; lft = List.[] } (Param.param 0 Value) tt).row).D (Syntax.ty_ref Syntax.erased Syntax.mut behind-2),
   ) (List.◌∷◌ (
     13,
     Rows.any_gone (Syntax.ty_enum name-2 (Syntax.ttcons Syntax.tnil (Syntax.ttcons (Syntax.tcons (Syntax.ty_struct name-0 (Syntax.tcons (Syntax.ty_ref
@@ -3688,7 +3688,7 @@ module _ (T1' : RattleType.RattleType) (L1' : Laws'.Laws T1') where
   ) (List.◌∷◌ (
     1,
     Kind.waits
-        (Declared'.row (TheInside.the_type (Param.param 0 T1'))) (Node.the_row (Param.param 0 T1')) (Syntax.ty_ref (Syntax.named 0) Syntax.mut behind-2),
+        (Declared'.row (TheInside.the_type (Param.param 0 Value))) (Node.the_row (Param.param 0 Value)) (Syntax.ty_ref (Syntax.named 0) Syntax.mut behind-2),
   )
       List.[]))))))))))))))
 
@@ -3699,8 +3699,8 @@ module _ (T1' : RattleType.RattleType) (L1' : Laws'.Laws T1') where
         (Syntax.ty_param 0)) Syntax.tnil) Syntax.ttnil))),
   ) (List.◌∷◌ (
     1,
-    Late.late_aside (Node.the_row (Param.param 0 T1')) (Declared'.row (TheInside.the_type (Param.param
-        0 T1'))) 0 Row.off,
+    Late.late_aside (Node.the_row (Param.param 0 Value)) (Declared'.row (TheInside.the_type (Param.param
+        0 Value))) 0 Row.off,
   ) (List.◌∷◌ (2, Rows.whole (Declared.row (Option.the_type (Text.str-field record { mir = Syntax.named 1; lft = List.[] }).row))) (List.◌∷◌ (
     3,
     Rows.any_gone (Syntax.ty_struct name-0 (Syntax.tcons (Syntax.ty_ref Syntax.erased Syntax.imm (Syntax.ty_int Syntax.w8)) (Syntax.tcons (Syntax.ty_int Syntax.w64)
@@ -3738,7 +3738,7 @@ module _ (T1' : RattleType.RattleType) (L1' : Laws'.Laws T1') where
       mir = Syntax.erased;
       lft
           = List.[];
-    } (Param.param 0 T1') tt).row)),
+    } (Param.param 0 Value) tt).row)),
   ) (List.◌∷◌ (12, Rows.any_gone (Syntax.ty_ref Syntax.erased Syntax.mut behind-2)) (List.◌∷◌ (
     13,
     Rows.any_gone
@@ -3747,8 +3747,8 @@ module _ (T1' : RattleType.RattleType) (L1' : Laws'.Laws T1') where
   ) (List.◌∷◌ (
     1,
     Maybe.waits_if (Declared'.row
-        (TheInside.the_type (Param.param 0 T1'))) (Param.param 0 T1') (Option.the_type (Field'.mut_ref_field record { mir = Syntax.named 0; lft = List.[] } (Param.param 0
-        T1') tt).row).D (Syntax.ty_ref (Syntax.named 0) Syntax.mut behind-2),
+        (TheInside.the_type (Param.param 0 Value))) (Param.param 0 Value) (Option.the_type (Field'.mut_ref_field record { mir = Syntax.named 0; lft = List.[] } (Param.param 0
+        Value) tt).row).D (Syntax.ty_ref (Syntax.named 0) Syntax.mut behind-2),
   ) List.[]))))))))))))))
 
   abbrev pub t36 : List.List Row.Entry
@@ -3758,8 +3758,8 @@ module _ (T1' : RattleType.RattleType) (L1' : Laws'.Laws T1') where
         (Syntax.ty_param 0)) Syntax.tnil) Syntax.ttnil))),
   ) (List.◌∷◌ (
     1,
-    Maybe.waits_if (Node.the_row (Param.param 0 T1')) (Param.param 0 T1') (Option.the_type
-        (Field'.mut_ref_field record { mir = Syntax.named 0; lft = List.[] } (Param.param 0 T1') tt).row).D (Syntax.ty_ref (Syntax.named 0) Syntax.mut behind-2),
+    Maybe.waits_if (Node.the_row (Param.param 0 Value)) (Param.param 0 Value) (Option.the_type
+        (Field'.mut_ref_field record { mir = Syntax.named 0; lft = List.[] } (Param.param 0 Value) tt).row).D (Syntax.ty_ref (Syntax.named 0) Syntax.mut behind-2),
   ) (List.◌∷◌
       (2, Rows.whole (Declared.row (Option.the_type (Text.str-field record { mir = Syntax.named 1; lft = List.[] }).row))) (List.◌∷◌ (
         3,
@@ -3785,7 +3785,7 @@ module _ (T1' : RattleType.RattleType) (L1' : Laws'.Laws T1') where
         Rows.any_gone (Syntax.ty_enum name-2 (Syntax.ttcons Syntax.tnil (Syntax.ttcons (Syntax.tcons
             (Syntax.ty_ref Syntax.erased Syntax.mut behind-2) Syntax.tnil) Syntax.ttnil))),
       ) (List.◌∷◌ (10, Rows.any_gone (Syntax.ty_ref Syntax.erased Syntax.mut behind-8))
-      (List.◌∷◌ (11, Rows.whole (Declared.row (Option.the_type (Field'.mut_ref_field record { mir = Syntax.erased; lft = List.[] } (Param.param 0 T1') tt).row)))
+      (List.◌∷◌ (11, Rows.whole (Declared.row (Option.the_type (Field'.mut_ref_field record { mir = Syntax.erased; lft = List.[] } (Param.param 0 Value) tt).row)))
       (List.◌∷◌ (12, Rows.any_gone (Syntax.ty_ref Syntax.erased Syntax.mut behind-2)) (List.◌∷◌ (
         13,
         Rows.any_gone (Syntax.ty_enum name-2 (Syntax.ttcons Syntax.tnil
@@ -3800,8 +3800,8 @@ module _ (T1' : RattleType.RattleType) (L1' : Laws'.Laws T1') where
         (Syntax.ty_param 0)) Syntax.tnil) Syntax.ttnil))),
   ) (List.◌∷◌ (
     1,
-    Late.late_aside (Node.the_row (Param.param 0 T1')) (Declared'.row (TheInside.the_type (Param.param
-        0 T1'))) 0 Row.off,
+    Late.late_aside (Node.the_row (Param.param 0 Value)) (Declared'.row (TheInside.the_type (Param.param
+        0 Value))) 0 Row.off,
   ) (List.◌∷◌ (2, Rows.whole (Declared.row (Option.the_type (Text.str-field record { mir = Syntax.named 1; lft = List.[] }).row))) (List.◌∷◌ (
     3,
     Rows.any_gone (Syntax.ty_struct name-0 (Syntax.tcons (Syntax.ty_ref Syntax.erased Syntax.imm (Syntax.ty_int Syntax.w8)) (Syntax.tcons (Syntax.ty_int Syntax.w64)
@@ -3850,7 +3850,7 @@ module _ (T1' : RattleType.RattleType) (L1' : Laws'.Laws T1') where
   ) (List.◌∷◌ (
     1,
     Kind.waits (Declared'.row (TheInside.the_type (Param.param 0
-        T1'))) (BTreeMap.the_row of-6 of-2 Global.the_row (TheImpl.ghosts Global.the_row TheImpl'3.ghosts TheImpl.no_dict TheImpl.no_dict) (TheImpl'.ghosts Global.the_row
+        Value))) (BTreeMap.the_row of-6 of-2 Global.the_row (TheImpl.ghosts Global.the_row TheImpl'3.ghosts TheImpl.no_dict TheImpl.no_dict) (TheImpl'.ghosts Global.the_row
         TheImpl'3.ghosts TheImpl'.no_dict TheImpl'.no_dict) (TheImpl''.ghosts Global.the_row TheImpl'3.ghosts TheImpl''.no_dict TheImpl''.no_dict) TheImpl'3.ghosts)
         (Syntax.ty_ref (Syntax.named 0) Syntax.mut behind-2),
   ) List.[]))))))))))))))
@@ -3862,8 +3862,8 @@ module _ (T1' : RattleType.RattleType) (L1' : Laws'.Laws T1') where
         (Syntax.ty_param 0)) Syntax.tnil) Syntax.ttnil))),
   ) (List.◌∷◌ (
     1,
-    Late.late_aside (Node.the_row (Param.param 0 T1')) (Declared'.row (TheInside.the_type (Param.param
-        0 T1'))) 0 Row.off,
+    Late.late_aside (Node.the_row (Param.param 0 Value)) (Declared'.row (TheInside.the_type (Param.param
+        0 Value))) 0 Row.off,
   ) (List.◌∷◌ (2, Rows.whole (Declared.row (Option.the_type (Text.str-field record { mir = Syntax.named 1; lft = List.[] }).row))) (List.◌∷◌ (
     3,
     Rows.any_gone (Syntax.ty_struct name-0 (Syntax.tcons (Syntax.ty_ref Syntax.erased Syntax.imm (Syntax.ty_int Syntax.w8)) (Syntax.tcons (Syntax.ty_int Syntax.w64)
@@ -3909,7 +3909,7 @@ module _ (T1' : RattleType.RattleType) (L1' : Laws'.Laws T1') where
       ) (List.◌∷◌ (
         1,
         Kind.waits (Declared'.row (TheInside.the_type
-            (Param.param 0 T1'))) (BTreeMap.the_row of-6 of-2 Global.the_row (TheImpl.ghosts Global.the_row TheImpl'3.ghosts TheImpl.no_dict TheImpl.no_dict) (TheImpl'.ghosts
+            (Param.param 0 Value))) (BTreeMap.the_row of-6 of-2 Global.the_row (TheImpl.ghosts Global.the_row TheImpl'3.ghosts TheImpl.no_dict TheImpl.no_dict) (TheImpl'.ghosts
             Global.the_row TheImpl'3.ghosts TheImpl'.no_dict TheImpl'.no_dict) (TheImpl''.ghosts Global.the_row TheImpl'3.ghosts TheImpl''.no_dict TheImpl''.no_dict)
             TheImpl'3.ghosts) (Syntax.ty_ref (Syntax.named 0) Syntax.mut behind-2),
       ) List.[]))))))))))))))
@@ -3921,8 +3921,8 @@ module _ (T1' : RattleType.RattleType) (L1' : Laws'.Laws T1') where
         (Syntax.ty_param 0)) Syntax.tnil) Syntax.ttnil))),
   ) (List.◌∷◌ (
     1,
-    Late.late_aside (Node.the_row (Param.param 0 T1')) (Declared'.row (TheInside.the_type (Param.param
-        0 T1'))) 0 Row.off,
+    Late.late_aside (Node.the_row (Param.param 0 Value)) (Declared'.row (TheInside.the_type (Param.param
+        0 Value))) 0 Row.off,
   ) (List.◌∷◌ (2, Rows.whole (Declared.row (Option.the_type (Text.str-field record { mir = Syntax.named 1; lft = List.[] }).row))) (List.◌∷◌ (
     3,
     Rows.any_gone (Syntax.ty_struct name-0 (Syntax.tcons (Syntax.ty_ref Syntax.erased Syntax.imm (Syntax.ty_int Syntax.w8)) (Syntax.tcons (Syntax.ty_int Syntax.w64)
@@ -3970,7 +3970,7 @@ module _ (T1' : RattleType.RattleType) (L1' : Laws'.Laws T1') where
         (Syntax.ty_ref Syntax.erased Syntax.imm (Syntax.ty_int Syntax.w8)) (Syntax.tcons (Syntax.ty_int Syntax.w64) Syntax.tnil))) Syntax.tnil) Syntax.ttnil))),
   ) (List.◌∷◌ (
     1,
-    Kind.waits (Declared'.row (TheInside.the_type (Param.param 0 T1'))) (BTreeMap.the_row of-6 of-2 Global.the_row (TheImpl.ghosts Global.the_row TheImpl'3.ghosts
+    Kind.waits (Declared'.row (TheInside.the_type (Param.param 0 Value))) (BTreeMap.the_row of-6 of-2 Global.the_row (TheImpl.ghosts Global.the_row TheImpl'3.ghosts
         TheImpl.no_dict TheImpl.no_dict) (TheImpl'.ghosts Global.the_row TheImpl'3.ghosts TheImpl'.no_dict TheImpl'.no_dict) (TheImpl''.ghosts Global.the_row
         TheImpl'3.ghosts TheImpl''.no_dict TheImpl''.no_dict) TheImpl'3.ghosts) (Syntax.ty_ref (Syntax.named 0) Syntax.mut behind-2),
   ) List.[]))))))))))))))
@@ -3982,8 +3982,8 @@ module _ (T1' : RattleType.RattleType) (L1' : Laws'.Laws T1') where
         (Syntax.ty_param 0)) Syntax.tnil) Syntax.ttnil))),
   ) (List.◌∷◌ (
     1,
-    Late.late_aside (Node.the_row (Param.param 0 T1')) (Declared'.row (TheInside.the_type (Param.param
-        0 T1'))) 0 Row.off,
+    Late.late_aside (Node.the_row (Param.param 0 Value)) (Declared'.row (TheInside.the_type (Param.param
+        0 Value))) 0 Row.off,
   ) (List.◌∷◌ (2, Rows.whole (Declared.row (Option.the_type (Text.str-field record { mir = Syntax.named 1; lft = List.[] }).row))) (List.◌∷◌ (
     3,
     Rows.any_gone (Syntax.ty_struct name-0 (Syntax.tcons (Syntax.ty_ref Syntax.erased Syntax.imm (Syntax.ty_int Syntax.w8)) (Syntax.tcons (Syntax.ty_int Syntax.w64)
@@ -4023,7 +4023,7 @@ module _ (T1' : RattleType.RattleType) (L1' : Laws'.Laws T1') where
       mir = Syntax.erased;
       lft
           = List.[];
-    } (Param.param 0 T1') tt).row)),
+    } (Param.param 0 Value) tt).row)),
   ) (List.◌∷◌ (12, Rows.any_gone (Syntax.ty_ref Syntax.erased Syntax.mut behind-2)) (List.◌∷◌ (
     13,
     Rows.any_gone
@@ -4032,7 +4032,7 @@ module _ (T1' : RattleType.RattleType) (L1' : Laws'.Laws T1') where
   ) (List.◌∷◌ (
     1,
     Kind.waits (Declared'.row
-        (TheInside.the_type (Param.param 0 T1'))) (BTreeMap.the_row of-6 of-2 Global.the_row (TheImpl.ghosts Global.the_row TheImpl'3.ghosts TheImpl.no_dict
+        (TheInside.the_type (Param.param 0 Value))) (BTreeMap.the_row of-6 of-2 Global.the_row (TheImpl.ghosts Global.the_row TheImpl'3.ghosts TheImpl.no_dict
         TheImpl.no_dict) (TheImpl'.ghosts Global.the_row TheImpl'3.ghosts TheImpl'.no_dict TheImpl'.no_dict) (TheImpl''.ghosts Global.the_row TheImpl'3.ghosts
         TheImpl''.no_dict TheImpl''.no_dict) TheImpl'3.ghosts) (Syntax.ty_ref (Syntax.named 0) Syntax.mut behind-2),
   ) List.[]))))))))))))))
@@ -4044,8 +4044,8 @@ module _ (T1' : RattleType.RattleType) (L1' : Laws'.Laws T1') where
         (Syntax.ty_param 0)) Syntax.tnil) Syntax.ttnil))),
   ) (List.◌∷◌ (
     1,
-    Late.late_aside (Node.the_row (Param.param 0 T1')) (Declared'.row (TheInside.the_type (Param.param
-        0 T1'))) 0 Row.off,
+    Late.late_aside (Node.the_row (Param.param 0 Value)) (Declared'.row (TheInside.the_type (Param.param
+        0 Value))) 0 Row.off,
   ) (List.◌∷◌ (2, Rows.whole (Declared.row (Option.the_type (Text.str-field record { mir = Syntax.named 1; lft = List.[] }).row))) (List.◌∷◌ (
     3,
     Rows.any_gone (Syntax.ty_struct name-0 (Syntax.tcons (Syntax.ty_ref Syntax.erased Syntax.imm (Syntax.ty_int Syntax.w8)) (Syntax.tcons (Syntax.ty_int Syntax.w64)
@@ -4085,7 +4085,7 @@ module _ (T1' : RattleType.RattleType) (L1' : Laws'.Laws T1') where
       mir = Syntax.erased;
       lft
           = List.[];
-    } (Param.param 0 T1') tt).row)),
+    } (Param.param 0 Value) tt).row)),
   ) (List.◌∷◌ (12, Rows.any_gone (Syntax.ty_ref Syntax.erased Syntax.mut behind-2)) (List.◌∷◌ (
     13,
     Rows.any_gone
@@ -4094,7 +4094,7 @@ module _ (T1' : RattleType.RattleType) (L1' : Laws'.Laws T1') where
   ) (List.◌∷◌ (
     1,
     Kind.waits (Declared'.row
-        (TheInside.the_type (Param.param 0 T1'))) (BTreeMap.the_row of-6 of-2 Global.the_row (TheImpl.ghosts Global.the_row TheImpl'3.ghosts TheImpl.no_dict
+        (TheInside.the_type (Param.param 0 Value))) (BTreeMap.the_row of-6 of-2 Global.the_row (TheImpl.ghosts Global.the_row TheImpl'3.ghosts TheImpl.no_dict
         TheImpl.no_dict) (TheImpl'.ghosts Global.the_row TheImpl'3.ghosts TheImpl'.no_dict TheImpl'.no_dict) (TheImpl''.ghosts Global.the_row TheImpl'3.ghosts
         TheImpl''.no_dict TheImpl''.no_dict) TheImpl'3.ghosts) (Syntax.ty_ref (Syntax.named 0) Syntax.mut behind-2),
   ) List.[]))))))))))))))
@@ -4106,8 +4106,8 @@ module _ (T1' : RattleType.RattleType) (L1' : Laws'.Laws T1') where
         (Syntax.ty_param 0)) Syntax.tnil) Syntax.ttnil))),
   ) (List.◌∷◌ (
     1,
-    Late.late_aside (Node.the_row (Param.param 0 T1')) (Declared'.row (TheInside.the_type (Param.param
-        0 T1'))) 0 Row.off,
+    Late.late_aside (Node.the_row (Param.param 0 Value)) (Declared'.row (TheInside.the_type (Param.param
+        0 Value))) 0 Row.off,
   ) (List.◌∷◌ (2, Rows.whole (Declared.row (Option.the_type (Text.str-field record { mir = Syntax.named 1; lft = List.[] }).row))) (List.◌∷◌ (
     3,
     Rows.any_gone (Syntax.ty_struct name-0 (Syntax.tcons (Syntax.ty_ref Syntax.erased Syntax.imm (Syntax.ty_int Syntax.w8)) (Syntax.tcons (Syntax.ty_int Syntax.w64)
@@ -4147,7 +4147,7 @@ module _ (T1' : RattleType.RattleType) (L1' : Laws'.Laws T1') where
       mir = Syntax.erased;
       lft
           = List.[];
-    } (Param.param 0 T1') tt).row)),
+    } (Param.param 0 Value) tt).row)),
   ) (List.◌∷◌ (12, Rows.any_gone (Syntax.ty_ref Syntax.erased Syntax.mut behind-2)) (List.◌∷◌ (
     13,
     Rows.any_gone
@@ -4156,7 +4156,7 @@ module _ (T1' : RattleType.RattleType) (L1' : Laws'.Laws T1') where
   ) (List.◌∷◌ (
     1,
     Rows.mleft (Declared'.row
-        (TheInside.the_type (Param.param 0 T1'))) (Syntax.ty_ref (Syntax.named 0) Syntax.mut behind-2),
+        (TheInside.the_type (Param.param 0 Value))) (Syntax.ty_ref (Syntax.named 0) Syntax.mut behind-2),
   ) List.[]))))))))))))))
 
   abbrev pub t43 : List.List Row.Entry
@@ -4166,7 +4166,7 @@ module _ (T1' : RattleType.RattleType) (L1' : Laws'.Laws T1') where
         (Syntax.ty_param 0)) Syntax.tnil) Syntax.ttnil))),
   ) (List.◌∷◌ (
     1,
-    Rows.mleft (Node.the_row (Param.param 0 T1')) (Syntax.ty_ref (Syntax.named 0) Syntax.mut
+    Rows.mleft (Node.the_row (Param.param 0 Value)) (Syntax.ty_ref (Syntax.named 0) Syntax.mut
         behind-2),
   ) (List.◌∷◌ (2, Rows.whole (Declared.row (Option.the_type (Text.str-field record { mir = Syntax.named 1; lft = List.[] }).row))) (List.◌∷◌ (
     3,
@@ -4207,7 +4207,7 @@ module _ (T1' : RattleType.RattleType) (L1' : Laws'.Laws T1') where
       mir = Syntax.erased;
       lft
           = List.[];
-    } (Param.param 0 T1') tt).row)),
+    } (Param.param 0 Value) tt).row)),
   ) (List.◌∷◌ (12, Rows.any_gone (Syntax.ty_ref Syntax.erased Syntax.mut behind-2)) (List.◌∷◌ (
     13,
     Rows.any_gone
@@ -4222,7 +4222,7 @@ module _ (T1' : RattleType.RattleType) (L1' : Laws'.Laws T1') where
         (Syntax.ty_param 0)) Syntax.tnil) Syntax.ttnil))),
   ) (List.◌∷◌ (
     1,
-    Maybe.settled (Node.the_row (Param.param 0 T1')) (Syntax.ty_ref (Syntax.named 0) Syntax.mut
+    Maybe.settled (Node.the_row (Param.param 0 Value)) (Syntax.ty_ref (Syntax.named 0) Syntax.mut
         behind-2),
   ) (List.◌∷◌ (2, Rows.whole (Declared.row (Option.the_type (Text.str-field record { mir = Syntax.named 1; lft = List.[] }).row))) (List.◌∷◌ (
     3,
@@ -4263,7 +4263,7 @@ module _ (T1' : RattleType.RattleType) (L1' : Laws'.Laws T1') where
       mir = Syntax.erased;
       lft
           = List.[];
-    } (Param.param 0 T1') tt).row)),
+    } (Param.param 0 Value) tt).row)),
   ) (List.◌∷◌ (12, Rows.any_gone (Syntax.ty_ref Syntax.erased Syntax.mut behind-2)) (List.◌∷◌ (
     13,
     Rows.any_gone
@@ -4278,7 +4278,7 @@ module _ (T1' : RattleType.RattleType) (L1' : Laws'.Laws T1') where
         (Syntax.ty_param 0)) Syntax.tnil) Syntax.ttnil))),
   ) (List.◌∷◌ (
     1,
-    Maybe.settled (Node.the_row (Param.param 0 T1')) (Syntax.ty_ref (Syntax.named 0) Syntax.mut
+    Maybe.settled (Node.the_row (Param.param 0 Value)) (Syntax.ty_ref (Syntax.named 0) Syntax.mut
         behind-2),
   ) (List.◌∷◌ (2, Rows.whole (Declared.row (Option.the_type (Text.str-field record { mir = Syntax.named 1; lft = List.[] }).row))) (List.◌∷◌ (
     3,
@@ -4317,7 +4317,7 @@ module _ (T1' : RattleType.RattleType) (L1' : Laws'.Laws T1') where
       mir = Syntax.erased;
       lft
           = List.[];
-    } (Param.param 0 T1') tt).row)),
+    } (Param.param 0 Value) tt).row)),
   ) (List.◌∷◌ (12, Rows.any_gone (Syntax.ty_ref Syntax.erased Syntax.mut behind-2)) (List.◌∷◌ (
     13,
     Rows.any_gone
@@ -4325,199 +4325,199 @@ module _ (T1' : RattleType.RattleType) (L1' : Laws'.Laws T1') where
         (Syntax.ty_int Syntax.w8)) (Syntax.tcons (Syntax.ty_int Syntax.w64) Syntax.tnil))) Syntax.tnil) Syntax.ttnil))),
   ) (List.◌∷◌ (1, Row.absent) List.[]))))))))))))))
 
-  abbrev pub T0 : Row.Cx
-  T0 = record { locals = t0; slots = List.[] }
+  abbrev pub Context-0 : Row.Cx
+  Context-0 = record { locals = t0; slots = List.[] }
 
-  abbrev pub T1 : Row.Cx
-  T1 = record { locals = t1; slots = List.[] }
+  abbrev pub Context-1 : Row.Cx
+  Context-1 = record { locals = t1; slots = List.[] }
 
-  abbrev pub T2 : Row.Cx
-  T2 = record { locals = t2; slots = List.[] }
+  abbrev pub Context-2 : Row.Cx
+  Context-2 = record { locals = t2; slots = List.[] }
 
-  abbrev pub T5 : Row.Cx
-  T5 = record { locals = t3; slots = List.[] }
+  abbrev pub Context-5 : Row.Cx
+  Context-5 = record { locals = t3; slots = List.[] }
 
-  abbrev pub T6 : Row.Cx
-  T6 = record { locals = t4; slots = List.[] }
+  abbrev pub Context-6 : Row.Cx
+  Context-6 = record { locals = t4; slots = List.[] }
 
-  abbrev pub T7 : Row.Cx
-  T7 = record { locals = t3; slots = List.[] }
+  abbrev pub Context-7 : Row.Cx
+  Context-7 = record { locals = t3; slots = List.[] }
 
-  abbrev pub T8 : Row.Cx
-  T8 = record { locals = t3; slots = List.[] }
+  abbrev pub Context-8 : Row.Cx
+  Context-8 = record { locals = t3; slots = List.[] }
 
-  abbrev pub T9 : Row.Cx
-  T9 = record { locals = t3; slots = List.[] }
+  abbrev pub Context-9 : Row.Cx
+  Context-9 = record { locals = t3; slots = List.[] }
 
-  abbrev pub T10 : Row.Cx
-  T10 = record { locals = t4; slots = List.[] }
+  abbrev pub Context-10 : Row.Cx
+  Context-10 = record { locals = t4; slots = List.[] }
 
-  abbrev pub T11 : Row.Cx
-  T11 = record { locals = t3; slots = List.[] }
+  abbrev pub Context-11 : Row.Cx
+  Context-11 = record { locals = t3; slots = List.[] }
 
-  abbrev pub T12 : Row.Cx
-  T12 = record { locals = t5; slots = List.[] }
+  abbrev pub Context-12 : Row.Cx
+  Context-12 = record { locals = t5; slots = List.[] }
 
-  abbrev pub T13 : Row.Cx
-  T13 = record { locals = t6; slots = List.[] }
+  abbrev pub Context-13 : Row.Cx
+  Context-13 = record { locals = t6; slots = List.[] }
 
-  abbrev pub T14 : Row.Cx
-  T14 = record { locals = t7; slots = List.[] }
+  abbrev pub Context-14 : Row.Cx
+  Context-14 = record { locals = t7; slots = List.[] }
 
-  abbrev pub T15 : Row.Cx
-  T15 = record { locals = t8; slots = List.[] }
+  abbrev pub Context-15 : Row.Cx
+  Context-15 = record { locals = t8; slots = List.[] }
 
-  abbrev pub T16 : Row.Cx
-  T16 = record { locals = t9; slots = List.[] }
+  abbrev pub Context-16 : Row.Cx
+  Context-16 = record { locals = t9; slots = List.[] }
 
-  abbrev pub T19 : Row.Cx
-  T19 = record { locals = t10; slots = List.[] }
+  abbrev pub Context-19 : Row.Cx
+  Context-19 = record { locals = t10; slots = List.[] }
 
-  abbrev pub T21 : Row.Cx
-  T21 = record { locals = t1; slots = List.[] }
+  abbrev pub Context-21 : Row.Cx
+  Context-21 = record { locals = t1; slots = List.[] }
 
-  abbrev pub T22 : Row.Cx
-  T22 = record { locals = t11; slots = List.[] }
+  abbrev pub Context-22 : Row.Cx
+  Context-22 = record { locals = t11; slots = List.[] }
 
-  abbrev pub T23 : Row.Cx
-  T23 = record { locals = t12; slots = List.[] }
+  abbrev pub Context-23 : Row.Cx
+  Context-23 = record { locals = t12; slots = List.[] }
 
-  abbrev pub T24 : Row.Cx
-  T24 = record { locals = t13; slots = List.[] }
+  abbrev pub Context-24 : Row.Cx
+  Context-24 = record { locals = t13; slots = List.[] }
 
-  abbrev pub T25 : Row.Cx
-  T25 = record { locals = t14; slots = List.[] }
+  abbrev pub Context-25 : Row.Cx
+  Context-25 = record { locals = t14; slots = List.[] }
 
-  abbrev pub T26 : Row.Cx
-  T26 = record { locals = t15; slots = List.[] }
+  abbrev pub Context-26 : Row.Cx
+  Context-26 = record { locals = t15; slots = List.[] }
 
-  abbrev pub T27 : Row.Cx
-  T27 = record { locals = t16; slots = List.[] }
+  abbrev pub Context-27 : Row.Cx
+  Context-27 = record { locals = t16; slots = List.[] }
 
-  abbrev pub T28 : Row.Cx
-  T28 = record { locals = t17; slots = List.[] }
+  abbrev pub Context-28 : Row.Cx
+  Context-28 = record { locals = t17; slots = List.[] }
 
-  abbrev pub T29 : Row.Cx
-  T29 = record { locals = t18; slots = List.[] }
+  abbrev pub Context-29 : Row.Cx
+  Context-29 = record { locals = t18; slots = List.[] }
 
-  abbrev pub T30 : Row.Cx
-  T30 = record { locals = t19; slots = List.[] }
+  abbrev pub Context-30 : Row.Cx
+  Context-30 = record { locals = t19; slots = List.[] }
 
-  abbrev pub T31 : Row.Cx
-  T31 = record { locals = t20; slots = List.[] }
+  abbrev pub Context-31 : Row.Cx
+  Context-31 = record { locals = t20; slots = List.[] }
 
-  abbrev pub T32 : Row.Cx
-  T32 = record { locals = t21; slots = List.[] }
+  abbrev pub Context-32 : Row.Cx
+  Context-32 = record { locals = t21; slots = List.[] }
 
-  abbrev pub T33 : Row.Cx
-  T33 = record { locals = t22; slots = List.[] }
+  abbrev pub Context-33 : Row.Cx
+  Context-33 = record { locals = t22; slots = List.[] }
 
-  abbrev pub T34 : Row.Cx
-  T34 = record { locals = t22; slots = List.[] }
+  abbrev pub Context-34 : Row.Cx
+  Context-34 = record { locals = t22; slots = List.[] }
 
-  abbrev pub T35 : Row.Cx
-  T35 = record { locals = t23; slots = List.[] }
+  abbrev pub Context-35 : Row.Cx
+  Context-35 = record { locals = t23; slots = List.[] }
 
-  abbrev pub T36 : Row.Cx
-  T36 = record { locals = t24; slots = List.[] }
+  abbrev pub Context-36 : Row.Cx
+  Context-36 = record { locals = t24; slots = List.[] }
 
-  abbrev pub T37 : Row.Cx
-  T37 = record { locals = t25; slots = List.[] }
+  abbrev pub Context-37 : Row.Cx
+  Context-37 = record { locals = t25; slots = List.[] }
 
-  abbrev pub T38 : Row.Cx
-  T38 = record { locals = t26; slots = List.[] }
+  abbrev pub Context-38 : Row.Cx
+  Context-38 = record { locals = t26; slots = List.[] }
 
-  abbrev pub T39 : Row.Cx
-  T39 = record { locals = t27; slots = List.[] }
+  abbrev pub Context-39 : Row.Cx
+  Context-39 = record { locals = t27; slots = List.[] }
 
-  abbrev pub T40 : Row.Cx
-  T40 = record { locals = t28; slots = List.[] }
+  abbrev pub Context-40 : Row.Cx
+  Context-40 = record { locals = t28; slots = List.[] }
 
-  abbrev pub T41 : Row.Cx
-  T41 = record { locals = t29; slots = List.[] }
+  abbrev pub Context-41 : Row.Cx
+  Context-41 = record { locals = t29; slots = List.[] }
 
-  abbrev pub T42 : Row.Cx
-  T42 = record { locals = t30; slots = List.[] }
+  abbrev pub Context-42 : Row.Cx
+  Context-42 = record { locals = t30; slots = List.[] }
 
-  abbrev pub T43 : Row.Cx
-  T43 = record { locals = t31; slots = List.[] }
+  abbrev pub Context-43 : Row.Cx
+  Context-43 = record { locals = t31; slots = List.[] }
 
-  abbrev pub T44 : Row.Cx
-  T44 = record { locals = t32; slots = List.[] }
+  abbrev pub Context-44 : Row.Cx
+  Context-44 = record { locals = t32; slots = List.[] }
 
-  abbrev pub T45 : Row.Cx
-  T45 = record { locals = t33; slots = List.[] }
+  abbrev pub Context-45 : Row.Cx
+  Context-45 = record { locals = t33; slots = List.[] }
 
-  abbrev pub T46 : Row.Cx
-  T46 = record { locals = t34; slots = List.[] }
+  abbrev pub Context-46 : Row.Cx
+  Context-46 = record { locals = t34; slots = List.[] }
 
-  abbrev pub T47 : Row.Cx
-  T47 = record { locals = t35; slots = List.[] }
+  abbrev pub Context-47 : Row.Cx
+  Context-47 = record { locals = t35; slots = List.[] }
 
-  abbrev pub T48 : Row.Cx
-  T48 = record { locals = t36; slots = List.[] }
+  abbrev pub Context-48 : Row.Cx
+  Context-48 = record { locals = t36; slots = List.[] }
 
-  abbrev pub T51 : Row.Cx
-  T51 = record { locals = t19; slots = List.[] }
+  abbrev pub Context-51 : Row.Cx
+  Context-51 = record { locals = t19; slots = List.[] }
 
-  abbrev pub T52 : Row.Cx
-  T52 = record { locals = t21; slots = List.[] }
+  abbrev pub Context-52 : Row.Cx
+  Context-52 = record { locals = t21; slots = List.[] }
 
-  abbrev pub T53 : Row.Cx
-  T53 = record { locals = t37; slots = List.[] }
+  abbrev pub Context-53 : Row.Cx
+  Context-53 = record { locals = t37; slots = List.[] }
 
-  abbrev pub T54 : Row.Cx
-  T54 = record { locals = t38; slots = List.[] }
+  abbrev pub Context-54 : Row.Cx
+  Context-54 = record { locals = t38; slots = List.[] }
 
-  abbrev pub T55 : Row.Cx
-  T55 = record { locals = t39; slots = List.[] }
+  abbrev pub Context-55 : Row.Cx
+  Context-55 = record { locals = t39; slots = List.[] }
 
-  abbrev pub T56 : Row.Cx
-  T56 = record { locals = t40; slots = List.[] }
+  abbrev pub Context-56 : Row.Cx
+  Context-56 = record { locals = t40; slots = List.[] }
 
-  abbrev pub T57 : Row.Cx
-  T57 = record { locals = t41; slots = List.[] }
+  abbrev pub Context-57 : Row.Cx
+  Context-57 = record { locals = t41; slots = List.[] }
 
-  abbrev pub T58 : Row.Cx
-  T58 = record { locals = t42; slots = List.[] }
+  abbrev pub Context-58 : Row.Cx
+  Context-58 = record { locals = t42; slots = List.[] }
 
-  abbrev pub T59 : Row.Cx
-  T59 = record { locals = t43; slots = List.[] }
+  abbrev pub Context-59 : Row.Cx
+  Context-59 = record { locals = t43; slots = List.[] }
 
-  abbrev pub T62 : Row.Cx
-  T62 = record { locals = t44; slots = List.[] }
+  abbrev pub Context-62 : Row.Cx
+  Context-62 = record { locals = t44; slots = List.[] }
 
-  abbrev pub T63 : Row.Cx
-  T63 = record { locals = t45; slots = List.[] }
+  abbrev pub Context-63 : Row.Cx
+  Context-63 = record { locals = t45; slots = List.[] }
 
-  abbrev pub T64 : Row.Cx
-  T64 = record { locals = t36; slots = List.[] }
+  abbrev pub Context-64 : Row.Cx
+  Context-64 = record { locals = t36; slots = List.[] }
 
-  abbrev pub T65 : Row.Cx
-  T65 = record { locals = t19; slots = List.[] }
+  abbrev pub Context-65 : Row.Cx
+  Context-65 = record { locals = t19; slots = List.[] }
 
-  abbrev pub T66 : Row.Cx
-  T66 = record { locals = t10; slots = List.[] }
+  abbrev pub Context-66 : Row.Cx
+  Context-66 = record { locals = t10; slots = List.[] }
 
-  abbrev pub T68 : Row.Cx
-  T68 = record { locals = t1; slots = List.[] }
+  abbrev pub Context-68 : Row.Cx
+  Context-68 = record { locals = t1; slots = List.[] }
 
   abbrev pub O0 : Typed.Outs
-  O0 = record { next = Option'.none; exits = List.[]; returns = Option'.some T1 }
+  O0 = record { next = Option'.none; exits = List.[]; returns = Option'.some Context-1 }
 
   abbrev pub O1 : Typed.Outs
-  O1 = Typed.with_next (Option'.some T6) O0
+  O1 = Typed.with_next (Option'.some Context-6) O0
 
   abbrev pub O2 : Typed.Outs
-  O2 = Typed.with_next (Option'.some T30) O0
+  O2 = Typed.with_next (Option'.some Context-30) O0
 
-  abbrev pub passed10 : Args'.ArgsT ps-0 T12.locals
+  abbrev pub passed10 : Args'.ArgsT ps-0 Context-12.locals
   passed10 = (record { pos = 7; ty = Syntax.ty_ref Syntax.erased Syntax.mut behind-3; ref = λ x. x }, tt)
 
-  abbrev pub passed19 : Args'.ArgsT ps-1 T6.locals
+  abbrev pub passed19 : Args'.ArgsT ps-1 Context-6.locals
   passed19 = (record { pos = 3; ty = Syntax.ty_ref Syntax.erased Syntax.imm (Syntax.ty_int Syntax.w8); ref = λ x. x }, tt)
 
-  abbrev pub passed26 : Args'.ArgsT ps-2 T28.locals
+  abbrev pub passed26 : Args'.ArgsT ps-2 Context-28.locals
   passed26 = (
     record { pos = 10; ty = Syntax.ty_ref Syntax.erased Syntax.mut behind-8; ref = λ x. x },
     (
@@ -4531,7 +4531,7 @@ module _ (T1' : RattleType.RattleType) (L1' : Laws'.Laws T1') where
     ),
   )
 
-  abbrev pub passed38 : Args'.ArgsT ps-3 T41.locals
+  abbrev pub passed38 : Args'.ArgsT ps-3 Context-41.locals
   passed38 = (
     record { pos = 12; ty = Syntax.ty_ref Syntax.erased Syntax.mut behind-2; ref = λ x. x },
     (
@@ -4553,31 +4553,31 @@ module _ (T1' : RattleType.RattleType) (L1' : Laws'.Laws T1') where
   Post-type = (κs : Lifetimes.Lfts 3) → (a : Kinds.Dens κs ps) → Kinds.Plain 3 ps r κs
 
   module _ (the-claims : Claims) where
-    abbrev pub s0 : (bs : List.List Nat.ℕ) → Typed.Mo T0 → Typed.Mo T2
-    s0 = λ bs. Two.n_grow T0 1
+    abbrev pub s0 : (bs : List.List Nat.ℕ) → Typed.Mo Context-0 → Typed.Mo Context-2
+    s0 = λ bs. Two.n_grow Context-0 1
 
-    abbrev pub s3 : (bs : List.List Nat.ℕ) → Typed.Gives T2 T5
-    s3 = λ bs. Late.k_open_late (Node.the_row (Param.param 0 T1')) (Declared'.row (TheInside.the_type (Param.param 0 T1'))) (Node.the_view (Param.param 0 T1'))
-        (Node.the_invariant (Param.param 0 T1')) T2 1 14 0 (Syntax.ty_ref (Syntax.named 0) Syntax.mut behind-2) Row.off List.[] λ x. x
+    abbrev pub s3 : (bs : List.List Nat.ℕ) → Typed.Gives Context-2 Context-5
+    s3 = λ bs. Late.k_open_late (Node.the_row (Param.param 0 Value)) (Declared'.row (TheInside.the_type (Param.param 0 Value))) (Node.the_view (Param.param 0 Value))
+        (Node.the_invariant (Param.param 0 Value)) Context-2 1 14 0 (Syntax.ty_ref (Syntax.named 0) Syntax.mut behind-2) Row.off List.[] λ x. x
 
-    abbrev pub s4 : (bs : List.List Nat.ℕ) → Typed.Both T5 T7
-    s4 = λ bs. WayStmt.k_way_told T5 (Row.out 14 T5.locals) (λ u. Row.drop 14 T5.locals u) (λ T'. record {
+    abbrev pub s4 : (bs : List.List Nat.ℕ) → Typed.Both Context-5 Context-7
+    s4 = λ bs. WayStmt.k_way_told Context-5 (Row.out 14 Context-5.locals) (λ u. Row.drop 14 Context-5.locals u) (λ T'. record {
       locals = Row.set_row 14 (
         1,
         Rows.mref (Declared'.row
-            (TheInside.the_type (Param.param 0 T1'))) (Syntax.ty_ref (Syntax.named 0) Syntax.mut behind-2) 0,
+            (TheInside.the_type (Param.param 0 Value))) (Syntax.ty_ref (Syntax.named 0) Syntax.mut behind-2) 0,
       ) T';
       slots = List.[];
     }) (λ u T' m'. Row.set 14 (
       1,
       Rows.mref
-          (Declared'.row (TheInside.the_type (Param.param 0 T1'))) (Syntax.ty_ref (Syntax.named 0) Syntax.mut behind-2) 0,
+          (Declared'.row (TheInside.the_type (Param.param 0 Value))) (Syntax.ty_ref (Syntax.named 0) Syntax.mut behind-2) 0,
     ) u.1.1.1.1.1.1.1.1.1.1.1.1.1.1.0 T' m') (λ u.
-        Unit) λ u. Parts.StructFacts (TheInside.the_type (Param.param 0 T1')) (TheLaws'.the_maybe (Param.param 0 T1') (Laws'.param_laws 0 T1' L1') Option'.none)
+        Unit) λ u. Parts.StructFacts (TheInside.the_type (Param.param 0 Value)) (TheLaws'.the_maybe (Param.param 0 Value) (Laws'.param_laws 0 Value ValueLaws) Option'.none)
         u.1.1.1.1.1.1.1.1.1.1.1.1.1.1.0.now
 
-    abbrev pub s5 : (bs : List.List Nat.ℕ) → Typed.Asks T7 T8
-    s5 = λ bs. WayStmt.k_way_write T7 (Row.out 2 T7.locals) (λ u. Row.drop 2 T7.locals u) (λ T'. record {
+    abbrev pub s5 : (bs : List.List Nat.ℕ) → Typed.Asks Context-7 Context-8
+    s5 = λ bs. WayStmt.k_way_write Context-7 (Row.out 2 Context-7.locals) (λ u. Row.drop 2 Context-7.locals u) (λ T'. record {
       locals = Row.set_row 2 (
         2,
         Rows.whole (Declared.row
@@ -4590,12 +4590,12 @@ module _ (T1' : RattleType.RattleType) (L1' : Laws'.Laws T1') where
           (Declared.row (Option.the_type (Text.str-field record { mir = Syntax.named 1; lft = List.[] }).row)),
     ) u.1.1.0 T' m') λ u. Unit
 
-    abbrev pub s6 : (bs : List.List Nat.ℕ) → Typed.Both T8 T9
-    s6 = λ bs. Known.k_enum_told (Option.enum (Text.str-field record { mir = Syntax.named 1; lft = List.[] }).row) 1 T8 2 λ x. x
+    abbrev pub s6 : (bs : List.List Nat.ℕ) → Typed.Both Context-8 Context-9
+    s6 = λ bs. Known.k_enum_told (Option.enum (Text.str-field record { mir = Syntax.named 1; lft = List.[] }).row) 1 Context-8 2 λ x. x
 
-    abbrev pub s7 : (bs : List.List Nat.ℕ) → Typed.Both T9 T10
-    s7 = λ bs. Into.k_way_copy_told (Option.enum (Text.str-field record { mir = Syntax.named 1; lft = List.[] }).row) 1 T9 (Row.out 2 T9.locals) (λ u. Row.drop 2
-        T9.locals u) 3 (Rows.sslice (Referent.rt_f (Referent.f_int Syntax.w8)) (Syntax.ty_ref Syntax.erased Syntax.imm (Syntax.ty_int Syntax.w8)) 1) (λ u. u.1.1.0) (λ v.
+    abbrev pub s7 : (bs : List.List Nat.ℕ) → Typed.Both Context-9 Context-10
+    s7 = λ bs. Into.k_way_copy_told (Option.enum (Text.str-field record { mir = Syntax.named 1; lft = List.[] }).row) 1 Context-9 (Row.out 2 Context-9.locals) (λ u. Row.drop 2
+        Context-9.locals u) 3 (Rows.sslice (Referent.rt_f (Referent.f_int Syntax.w8)) (Syntax.ty_ref Syntax.erased Syntax.imm (Syntax.ty_int Syntax.w8)) 1) (λ u. u.1.1.0) (λ v.
         λ u. v.0) (λ x. x) (λ T'. record {
           locals = Row.set_row 2 (
             2,
@@ -4616,65 +4616,65 @@ module _ (T1' : RattleType.RattleType) (L1' : Laws'.Laws T1') where
         ) u.1.1.0 T' m') (λ u. Path'.◌≡◌ (Declared.tag_of (Option.the_type (Text.str-field record { mir = Syntax.named 1; lft = List.[] }).row)
         u.1.1.0) 1) λ x. Shadow.shadow (Str.utf8 x)
 
-    abbrev pub s8 : (bs : List.List Nat.ℕ) → Typed.Both T8 T11
-    s8 = λ bs. Known.k_enum_told (Option.enum (Text.str-field record { mir = Syntax.named 1; lft = List.[] }).row) 0 T8 2 λ x. x
+    abbrev pub s8 : (bs : List.List Nat.ℕ) → Typed.Both Context-8 Context-11
+    s8 = λ bs. Known.k_enum_told (Option.enum (Text.str-field record { mir = Syntax.named 1; lft = List.[] }).row) 0 Context-8 2 λ x. x
 
-    abbrev pub s9 : (bs : List.List Nat.ℕ) → Typed.Gives T11 T12
-    s9 = λ bs. Field.k_field_follow (Declared'.row (TheInside.the_type (Param.param 0 T1'))) (Declared.row (Option.the_type (Param.param 0 T1'))) (λ o. Nat.◌+◌ o
-        (Memory.up (Memory.align ty-3) 0)) (λ x. At.get_at (TheInside.the_type (Param.param 0 T1')).parts 0 ((TheInside.struct (Param.param 0 T1')).as_values x))
-        (Lend.put_record_as (TheInside.the_type (Param.param 0 T1')) (TheLaws'.the_loose (Param.param 0 T1') (Laws'.param_laws 0 T1' L1')) 0 (Memory.up (Memory.align
-        ty-3) 0) (Declared.row (Option.the_type (Param.param 0 T1'))) (λ x. x) (λ x. x) (λ y b o. SameAs.Enum-same (Option.the_type (Param.param 0 T1'))
-        Fraction.full_share y b o) (λ y b o. Path'.sym (SameAs.Enum-same (Option.the_type (Param.param 0 T1')) Fraction.full_share y b o)) (TheInside.struct (Param.param
-        0 T1')).as_values (TheInside.struct (Param.param 0 T1')).Ghost (TheInside.struct (Param.param 0 T1')).make (λ v. tt) (λ x. Path'.refl) λ v g. Path'.refl) T11 14 7
+    abbrev pub s9 : (bs : List.List Nat.ℕ) → Typed.Gives Context-11 Context-12
+    s9 = λ bs. Field.k_field_follow (Declared'.row (TheInside.the_type (Param.param 0 Value))) (Declared.row (Option.the_type (Param.param 0 Value))) (λ o. Nat.◌+◌ o
+        (Memory.up (Memory.align ty-3) 0)) (λ x. At.get_at (TheInside.the_type (Param.param 0 Value)).parts 0 ((TheInside.struct (Param.param 0 Value)).as_values x))
+        (Lend.put_record_as (TheInside.the_type (Param.param 0 Value)) (TheLaws'.the_loose (Param.param 0 Value) (Laws'.param_laws 0 Value ValueLaws)) 0 (Memory.up (Memory.align
+        ty-3) 0) (Declared.row (Option.the_type (Param.param 0 Value))) (λ x. x) (λ x. x) (λ y b o. SameAs.Enum-same (Option.the_type (Param.param 0 Value))
+        Fraction.full_share y b o) (λ y b o. Path'.sym (SameAs.Enum-same (Option.the_type (Param.param 0 Value)) Fraction.full_share y b o)) (TheInside.struct (Param.param
+        0 Value)).as_values (TheInside.struct (Param.param 0 Value)).Ghost (TheInside.struct (Param.param 0 Value)).make (λ v. tt) (λ x. Path'.refl) λ v g. Path'.refl) Context-11 14 7
         0 (Syntax.ty_ref (Syntax.named 0) Syntax.mut behind-2) (Syntax.ty_ref Syntax.erased Syntax.mut behind-3) Row.off λ x. x
 
-    abbrev pub s10 : (bs : List.List Nat.ℕ) → Typed.Both T12 T13
-    s10 = λ bs. So.call_so 2 whole-0 part-0 named-0 lender-0 rest-0 r-0 (AtSlots.one_type 2 named-0) the-claims.2 (λ κs a. BorrowLft.◌⊑◌ κs.1.0 T1'.lives → the-claims.0
-        κs a) the-claims.1 T12 (record { pos = 7; ty = Syntax.ty_ref Syntax.erased Syntax.mut behind-3; ref = λ x. x }, tt) 0 (List.◌∷◌ 0 (List.◌∷◌ 2 List.[]))
+    abbrev pub s10 : (bs : List.List Nat.ℕ) → Typed.Both Context-12 Context-13
+    s10 = λ bs. So.call_so 2 whole-0 part-0 named-0 lender-0 rest-0 r-0 (AtSlots.one_type 2 named-0) the-claims.2 (λ κs a. BorrowLft.◌⊑◌ κs.1.0 Value.lives → the-claims.0
+        κs a) the-claims.1 Context-12 (record { pos = 7; ty = Syntax.ty_ref Syntax.erased Syntax.mut behind-3; ref = λ x. x }, tt) 0 (List.◌∷◌ 0 (List.◌∷◌ 2 List.[]))
         (Syntax.ty_enum name-2 (Syntax.ttcons Syntax.tnil (Syntax.ttcons (Syntax.tcons (Syntax.ty_ref (Syntax.named 0) Syntax.mut (Syntax.ty_param 0)) Syntax.tnil)
         Syntax.ttnil)))
 
-    abbrev pub s11 : (bs : List.List Nat.ℕ) → Typed.Mo T13 → Typed.Mo T14
-    s11 = λ bs. AtSlots.n_as_by T13 0 (Rows.whole (Declared.row (Option.the_type (Field'.mut_ref_field record { mir = Syntax.named 0; lft = List.[] } (Param.param 0 T1')
+    abbrev pub s11 : (bs : List.List Nat.ℕ) → Typed.Mo Context-13 → Typed.Mo Context-14
+    s11 = λ bs. AtSlots.n_as_by Context-13 0 (Rows.whole (Declared.row (Option.the_type (Field'.mut_ref_field record { mir = Syntax.named 0; lft = List.[] } (Param.param 0 Value)
         tt).row))) λ x. x
 
-    abbrev pub s12 : (bs : List.List Nat.ℕ) → Typed.Asks T14 T15
-    s12 = λ bs. Through.k_through_if T14 14 7 (Syntax.ty_ref (Syntax.named 0) Syntax.mut behind-2) (Syntax.ty_ref Syntax.erased Syntax.mut behind-3) (Declared'.row
-        (TheInside.the_type (Param.param 0 T1'))) (Declared.row (Option.the_type (Param.param 0 T1'))) (Param.param 0 T1') (Option.the_type (Field'.mut_ref_field record {
+    abbrev pub s12 : (bs : List.List Nat.ℕ) → Typed.Asks Context-14 Context-15
+    s12 = λ bs. Through.k_through_if Context-14 14 7 (Syntax.ty_ref (Syntax.named 0) Syntax.mut behind-2) (Syntax.ty_ref Syntax.erased Syntax.mut behind-3) (Declared'.row
+        (TheInside.the_type (Param.param 0 Value))) (Declared.row (Option.the_type (Param.param 0 Value))) (Param.param 0 Value) (Option.the_type (Field'.mut_ref_field record {
           mir = Syntax.named 0;
           lft = List.[];
-        } (Param.param 0 T1') tt).row).D (λ x. x) λ x. x
+        } (Param.param 0 Value) tt).row).D (λ x. x) λ x. x
 
-    abbrev pub s13 : (bs : List.List Nat.ℕ) → Typed.Both T15 T16
-    s13 = λ bs. Late.k_close_late_if (Node.the_row (Param.param 0 T1')) (Declared'.row (TheInside.the_type (Param.param 0 T1'))) (Node.the_view (Param.param 0 T1'))
-        (Node.the_invariant (Param.param 0 T1')) (Param.param 0 T1') (Option.the_type (Field'.mut_ref_field record { mir = Syntax.named 0; lft = List.[] } (Param.param 0
-        T1') tt).row).D T15 14 1 (Syntax.ty_ref (Syntax.named 0) Syntax.mut behind-2) List.[] (λ x. x) λ x. x
+    abbrev pub s13 : (bs : List.List Nat.ℕ) → Typed.Both Context-15 Context-16
+    s13 = λ bs. Late.k_close_late_if (Node.the_row (Param.param 0 Value)) (Declared'.row (TheInside.the_type (Param.param 0 Value))) (Node.the_view (Param.param 0 Value))
+        (Node.the_invariant (Param.param 0 Value)) (Param.param 0 Value) (Option.the_type (Field'.mut_ref_field record { mir = Syntax.named 0; lft = List.[] } (Param.param 0
+        Value) tt).row).D Context-15 14 1 (Syntax.ty_ref (Syntax.named 0) Syntax.mut behind-2) List.[] (λ x. x) λ x. x
 
-    abbrev pub s16 : (bs : List.List Nat.ℕ) → Typed.Mo T16 → Typed.Mo T19
-    s16 = λ bs. Home.k_owing_here T16 1 (Syntax.ty_ref (Syntax.named 0) Syntax.mut behind-2) (Node.the_row (Param.param 0 T1')) (Maybe.maybe (Node.the_row (Param.param 0
-        T1')) (Param.param 0 T1') (Option.the_type (Field'.mut_ref_field record { mir = Syntax.named 0; lft = List.[] } (Param.param 0 T1') tt).row).D) λ x. x
+    abbrev pub s16 : (bs : List.List Nat.ℕ) → Typed.Mo Context-16 → Typed.Mo Context-19
+    s16 = λ bs. Home.k_owing_here Context-16 1 (Syntax.ty_ref (Syntax.named 0) Syntax.mut behind-2) (Node.the_row (Param.param 0 Value)) (Maybe.maybe (Node.the_row (Param.param 0
+        Value)) (Param.param 0 Value) (Option.the_type (Field'.mut_ref_field record { mir = Syntax.named 0; lft = List.[] } (Param.param 0 Value) tt).row).D) λ x. x
 
-    abbrev pub s18 : (bs : List.List Nat.ℕ) → Typed.Mo T19 → Typed.Mo T21
-    s18 = λ bs. Two.n_shrink T19 14
+    abbrev pub s18 : (bs : List.List Nat.ℕ) → Typed.Mo Context-19 → Typed.Mo Context-21
+    s18 = λ bs. Two.n_shrink Context-19 14
 
-    abbrev pub s19 : (bs : List.List Nat.ℕ) → Typed.Both T6 T22
-    s19 = λ bs. Call.call_b ps-1 r-1 the-claims.3 the-claims.4 T6 passed19 8 (List.◌∷◌ 1 List.[]) (Syntax.ty_struct name-1 (Syntax.tcons (Syntax.ty_struct name-0
+    abbrev pub s19 : (bs : List.List Nat.ℕ) → Typed.Both Context-6 Context-22
+    s19 = λ bs. Call.call_b ps-1 r-1 the-claims.3 the-claims.4 Context-6 passed19 8 (List.◌∷◌ 1 List.[]) (Syntax.ty_struct name-1 (Syntax.tcons (Syntax.ty_struct name-0
         (Syntax.tcons (Syntax.ty_ref Syntax.erased Syntax.imm (Syntax.ty_int Syntax.w8)) (Syntax.tcons (Syntax.ty_int Syntax.w64) Syntax.tnil))) (Syntax.tcons
         (Syntax.ty_enum name-2 (Syntax.ttcons Syntax.tnil (Syntax.ttcons (Syntax.tcons (Syntax.ty_struct name-0 (Syntax.tcons (Syntax.ty_ref Syntax.erased Syntax.imm
         (Syntax.ty_int Syntax.w8)) (Syntax.tcons (Syntax.ty_int Syntax.w64) Syntax.tnil))) Syntax.tnil) Syntax.ttnil))) Syntax.tnil)))
 
-    abbrev pub s20 : (bs : List.List Nat.ℕ) → Typed.Mo T22 → Typed.Mo T23
-    s20 = λ bs. AtSlots.n_as_by T22 8 (Rows.whole (Declared'.row (Tuple.type_at name-1 (of-4 record { mir = Syntax.erased; lft = List.[] } record {
+    abbrev pub s20 : (bs : List.List Nat.ℕ) → Typed.Mo Context-22 → Typed.Mo Context-23
+    s20 = λ bs. AtSlots.n_as_by Context-22 8 (Rows.whole (Declared'.row (Tuple.type_at name-1 (of-4 record { mir = Syntax.erased; lft = List.[] } record {
       mir = Syntax.erased;
       lft = List.[];
     })))) λ x. x
 
-    abbrev pub s21 : (bs : List.List Nat.ℕ) → Typed.Mo T23 → Typed.Mo T24
-    s21 = λ bs. Scalar.n_room T23 3 (Syntax.ty_struct name-0 (Syntax.tcons (Syntax.ty_ref Syntax.erased Syntax.imm (Syntax.ty_int Syntax.w8)) (Syntax.tcons (Syntax.ty_int
+    abbrev pub s21 : (bs : List.List Nat.ℕ) → Typed.Mo Context-23 → Typed.Mo Context-24
+    s21 = λ bs. Scalar.n_room Context-23 3 (Syntax.ty_struct name-0 (Syntax.tcons (Syntax.ty_ref Syntax.erased Syntax.imm (Syntax.ty_int Syntax.w8)) (Syntax.tcons (Syntax.ty_int
         Syntax.w64) Syntax.tnil)))
 
-    abbrev pub s22 : (bs : List.List Nat.ℕ) → Typed.Both T24 T25
-    s22 = λ bs. WayStmt.k_way_copy_out T24 (Row.out 8 T24.locals) (λ u. Row.drop 8 T24.locals u) 4 (Rows.sslice (Referent.rt_f (Referent.f_int Syntax.w8)) (Syntax.ty_ref
+    abbrev pub s22 : (bs : List.List Nat.ℕ) → Typed.Both Context-24 Context-25
+    s22 = λ bs. WayStmt.k_way_copy_out Context-24 (Row.out 8 Context-24.locals) (λ u. Row.drop 8 Context-24.locals u) 4 (Rows.sslice (Referent.rt_f (Referent.f_int Syntax.w8)) (Syntax.ty_ref
         Syntax.erased Syntax.imm (Syntax.ty_int Syntax.w8)) 1) (λ u. At.get_at (Tuple.type_at name-1 (of-4 record { mir = Syntax.erased; lft = List.[] } record {
           mir =
               Syntax.erased;
@@ -4702,8 +4702,8 @@ module _ (T1' : RattleType.RattleType) (L1' : Laws'.Laws T1') where
         })).parts 0 ((Tuple.tuple_at name-1 (of-4 record { mir = Syntax.erased; lft = List.[] } record { mir = Syntax.erased; lft = List.[] })).as_values
         u.1.1.1.1.1.1.1.1.0)))
 
-    abbrev pub s23 : (bs : List.List Nat.ℕ) → Typed.Both T25 T26
-    s23 = λ bs. WayStmt.k_way_copy_out T25 (Row.out 8 T25.locals) (λ u. Row.drop 8 T25.locals u) 5 (Rows.whole (Declared.row (Option.the_type (Text.str-field record {
+    abbrev pub s23 : (bs : List.List Nat.ℕ) → Typed.Both Context-25 Context-26
+    s23 = λ bs. WayStmt.k_way_copy_out Context-25 (Row.out 8 Context-25.locals) (λ u. Row.drop 8 Context-25.locals u) 5 (Rows.whole (Declared.row (Option.the_type (Text.str-field record {
       mir
           = Syntax.erased;
       lft = List.[];
@@ -4727,25 +4727,25 @@ module _ (T1' : RattleType.RattleType) (L1' : Laws'.Laws T1') where
               (of-4 record { mir = Syntax.erased; lft = List.[] } record { mir = Syntax.erased; lft = List.[] }))),
         ) u.1.1.1.1.1.1.1.1.0 T' m') (λ u. Unit) λ u. Unit
 
-    abbrev pub s24 : (bs : List.List Nat.ℕ) → Typed.Mo T26 → Typed.Mo T27
-    s24 = λ bs. Scalar.n_room T26 8 (Syntax.ty_struct name-1 (Syntax.tcons (Syntax.ty_struct name-0 (Syntax.tcons (Syntax.ty_ref Syntax.erased Syntax.imm (Syntax.ty_int
+    abbrev pub s24 : (bs : List.List Nat.ℕ) → Typed.Mo Context-26 → Typed.Mo Context-27
+    s24 = λ bs. Scalar.n_room Context-26 8 (Syntax.ty_struct name-1 (Syntax.tcons (Syntax.ty_struct name-0 (Syntax.tcons (Syntax.ty_ref Syntax.erased Syntax.imm (Syntax.ty_int
         Syntax.w8)) (Syntax.tcons (Syntax.ty_int Syntax.w64) Syntax.tnil))) (Syntax.tcons (Syntax.ty_enum name-2 (Syntax.ttcons Syntax.tnil (Syntax.ttcons (Syntax.tcons
         (Syntax.ty_struct name-0 (Syntax.tcons (Syntax.ty_ref Syntax.erased Syntax.imm (Syntax.ty_int Syntax.w8)) (Syntax.tcons (Syntax.ty_int Syntax.w64) Syntax.tnil)))
         Syntax.tnil) Syntax.ttnil))) Syntax.tnil)))
 
-    abbrev pub s25 : (bs : List.List Nat.ℕ) → Typed.Gives T27 T28
-    s25 = λ bs. Field.k_field_follow (Declared'.row (TheInside.the_type (Param.param 0 T1'))) (BTreeMap.the_row of-6 of-2 Global.the_row (TheImpl.ghosts Global.the_row
+    abbrev pub s25 : (bs : List.List Nat.ℕ) → Typed.Gives Context-27 Context-28
+    s25 = λ bs. Field.k_field_follow (Declared'.row (TheInside.the_type (Param.param 0 Value))) (BTreeMap.the_row of-6 of-2 Global.the_row (TheImpl.ghosts Global.the_row
         TheImpl'3.ghosts TheImpl.no_dict TheImpl.no_dict) (TheImpl'.ghosts Global.the_row TheImpl'3.ghosts TheImpl'.no_dict TheImpl'.no_dict) (TheImpl''.ghosts
         Global.the_row TheImpl'3.ghosts TheImpl''.no_dict TheImpl''.no_dict) TheImpl'3.ghosts) (λ o. Nat.◌+◌ o (Memory.up (Memory.align ty-9) (Nat.◌+◌ (Memory.up
-        (Memory.align ty-3) 0) (Memory.size ty-3)))) (λ x. At.get_at (TheInside.the_type (Param.param 0 T1')).parts 1 ((TheInside.struct (Param.param 0 T1')).as_values
-        x)) (Lend.put_record (TheInside.the_type (Param.param 0 T1')) (TheLaws'.the_loose (Param.param 0 T1') (Laws'.param_laws 0 T1' L1')) 1 (Memory.up (Memory.align
-        ty-9) (Nat.◌+◌ (Memory.up (Memory.align ty-3) 0) (Memory.size ty-3))) (TheInside.struct (Param.param 0 T1')).as_values (TheInside.struct (Param.param 0
-        T1')).Ghost (TheInside.struct (Param.param 0 T1')).make (λ v. tt) (λ x. Path'.refl) (λ v g. Path'.refl) λ x. x) T27 14 10 0 (Syntax.ty_ref (Syntax.named 0)
+        (Memory.align ty-3) 0) (Memory.size ty-3)))) (λ x. At.get_at (TheInside.the_type (Param.param 0 Value)).parts 1 ((TheInside.struct (Param.param 0 Value)).as_values
+        x)) (Lend.put_record (TheInside.the_type (Param.param 0 Value)) (TheLaws'.the_loose (Param.param 0 Value) (Laws'.param_laws 0 Value ValueLaws)) 1 (Memory.up (Memory.align
+        ty-9) (Nat.◌+◌ (Memory.up (Memory.align ty-3) 0) (Memory.size ty-3))) (TheInside.struct (Param.param 0 Value)).as_values (TheInside.struct (Param.param 0
+        Value)).Ghost (TheInside.struct (Param.param 0 Value)).make (λ v. tt) (λ x. Path'.refl) (λ v g. Path'.refl) λ x. x) Context-27 14 10 0 (Syntax.ty_ref (Syntax.named 0)
         Syntax.mut behind-2) (Syntax.ty_ref Syntax.erased Syntax.mut behind-8) Row.off λ x. x
 
-    abbrev pub s26 : (bs : List.List Nat.ℕ) → Typed.Both T28 T29
-    s26 = λ bs. So.call_so 5 whole-2 part-2 named-2 lender-2 rest-2 r-2 (AtSlots.one_type 5 named-2) the-claims.7 (λ κs a. BorrowLft.◌⊑◌ κs.1.1.0 T1'.lives → the-claims.5
-        κs a) the-claims.6 T28 (
+    abbrev pub s26 : (bs : List.List Nat.ℕ) → Typed.Both Context-28 Context-29
+    s26 = λ bs. So.call_so 5 whole-2 part-2 named-2 lender-2 rest-2 r-2 (AtSlots.one_type 5 named-2) the-claims.7 (λ κs a. BorrowLft.◌⊑◌ κs.1.1.0 Value.lives → the-claims.5
+        κs a) the-claims.6 Context-28 (
           record { pos = 10; ty = Syntax.ty_ref Syntax.erased Syntax.mut behind-8; ref = λ x. x },
           (
             record {
@@ -4759,18 +4759,18 @@ module _ (T1' : RattleType.RattleType) (L1' : Laws'.Laws T1') where
         ) 9 (List.◌∷◌ 0 (List.◌∷◌ 0 (List.◌∷◌ 2 (List.◌∷◌ 0 (List.◌∷◌ 1 List.[])))))
         (Syntax.ty_enum name-2 (Syntax.ttcons Syntax.tnil (Syntax.ttcons (Syntax.tcons (Syntax.ty_ref Syntax.erased Syntax.mut behind-2) Syntax.tnil) Syntax.ttnil)))
 
-    abbrev pub s27 : (bs : List.List Nat.ℕ) → Typed.Mo T29 → Typed.Mo T31
-    s27 = λ bs. AtSlots.n_as_by T29 9 (Rows.whole (Declared.row (Option.the_type (Field'.mut_ref_field record { mir = Syntax.erased; lft = List.[] } of-2 tt).row))) λ x.
+    abbrev pub s27 : (bs : List.List Nat.ℕ) → Typed.Mo Context-29 → Typed.Mo Context-31
+    s27 = λ bs. AtSlots.n_as_by Context-29 9 (Rows.whole (Declared.row (Option.the_type (Field'.mut_ref_field record { mir = Syntax.erased; lft = List.[] } of-2 tt).row))) λ x.
         x
 
-    abbrev pub s28 : (bs : List.List Nat.ℕ) → Typed.Mo T31 → Typed.Mo T32
-    s28 = λ bs. Scalar.n_room T31 4 (Syntax.ty_struct name-0 (Syntax.tcons (Syntax.ty_ref Syntax.erased Syntax.imm (Syntax.ty_int Syntax.w8)) (Syntax.tcons (Syntax.ty_int
+    abbrev pub s28 : (bs : List.List Nat.ℕ) → Typed.Mo Context-31 → Typed.Mo Context-32
+    s28 = λ bs. Scalar.n_room Context-31 4 (Syntax.ty_struct name-0 (Syntax.tcons (Syntax.ty_ref Syntax.erased Syntax.imm (Syntax.ty_int Syntax.w8)) (Syntax.tcons (Syntax.ty_int
         Syntax.w64) Syntax.tnil)))
 
-    abbrev pub s29 : (bs : List.List Nat.ℕ) → Typed.Both T32 T33
-    s29 = λ bs. Known.k_enum_known (Option.enum (Field'.mut_ref_field record { mir = Syntax.erased; lft = List.[] } of-2 tt).row) 1 T32 9 λ x. x
+    abbrev pub s29 : (bs : List.List Nat.ℕ) → Typed.Both Context-32 Context-33
+    s29 = λ bs. Known.k_enum_known (Option.enum (Field'.mut_ref_field record { mir = Syntax.erased; lft = List.[] } of-2 tt).row) 1 Context-32 9 λ x. x
 
-    abbrev pub s30 : (bs : List.List Nat.ℕ) → Typed.Gives T33 T34
+    abbrev pub s30 : (bs : List.List Nat.ℕ) → Typed.Gives Context-33 Context-34
     s30 = λ bs. Parts.k_known_facts (Option.enum (Field'.mut_ref_field record { mir = Syntax.erased; lft = List.[] } of-2 tt).row) (TheLaws.the_maybe
         (Field'.mut_ref_field record { mir = Syntax.erased; lft = List.[] } of-2 tt).row (Laws'.of_field (Field'.mut_ref_field record {
           mir = Syntax.erased;
@@ -4780,49 +4780,49 @@ module _ (T1' : RattleType.RattleType) (L1' : Laws'.Laws T1') where
           mir = Syntax.erased;
           lft = List.[];
         } of-2 tt (Laws'.row_shared of-2 of-3))) (Option'.some (Laws'.field_told (Field'.mut_ref_field record { mir = Syntax.erased; lft = List.[] } of-2
-        tt) (Laws''.mut_ref_laws record { mir = Syntax.erased; lft = List.[] } of-2 tt)))) 1 T33 9 λ x. x
+        tt) (Laws''.mut_ref_laws record { mir = Syntax.erased; lft = List.[] } of-2 tt)))) 1 Context-33 9 λ x. x
 
-    abbrev pub s31 : (bs : List.List Nat.ℕ) → Typed.Asks T34 T35
-    s31 = λ bs. Maybe.k_part_some T34 10 (Syntax.ty_ref Syntax.erased Syntax.mut behind-8) (BTreeMap.the_row of-6 of-2 Global.the_row (TheImpl.ghosts Global.the_row
+    abbrev pub s31 : (bs : List.List Nat.ℕ) → Typed.Asks Context-34 Context-35
+    s31 = λ bs. Maybe.k_part_some Context-34 10 (Syntax.ty_ref Syntax.erased Syntax.mut behind-8) (BTreeMap.the_row of-6 of-2 Global.the_row (TheImpl.ghosts Global.the_row
         TheImpl'3.ghosts TheImpl.no_dict TheImpl.no_dict) (TheImpl'.ghosts Global.the_row TheImpl'3.ghosts TheImpl'.no_dict TheImpl'.no_dict) (TheImpl''.ghosts
-        Global.the_row TheImpl'3.ghosts TheImpl''.no_dict TheImpl''.no_dict) TheImpl'3.ghosts) (Node.the_row (Param.param 0 T1')) (Option.the_type (Field'.mut_ref_field
+        Global.the_row TheImpl'3.ghosts TheImpl''.no_dict TheImpl''.no_dict) TheImpl'3.ghosts) (Node.the_row (Param.param 0 Value)) (Option.the_type (Field'.mut_ref_field
         record { mir = Syntax.erased; lft = List.[] } of-2 tt).row).D (λ x. x) (λ u. Known.at (Option.enum (Field'.mut_ref_field record {
           mir = Syntax.erased;
           lft =
               List.[];
         } of-2 tt).row) 1 u.1.1.1.1.1.1.1.1.1.0) λ u. u.1.1.1.1.1.1.1.1.1.0.0.ghost_name
 
-    abbrev pub s32 : (bs : List.List Nat.ℕ) → Typed.Mo T35 → Typed.Mo T36
-    s32 = λ bs. LocalCopy.n_val_copy T35 9 6 (Ref.MutRef Syntax.erased List.[] (Node.the_row (Param.param 0 T1'))) (Rows.whole (Known.Known (MovedOut.moved_n (Option.enum
-        (Field'.mut_ref_field record { mir = Syntax.erased; lft = List.[] } of-2 tt).row) 1 0) 1)) (Rows.mref (Node.the_row (Param.param 0 T1')) (Syntax.ty_ref
+    abbrev pub s32 : (bs : List.List Nat.ℕ) → Typed.Mo Context-35 → Typed.Mo Context-36
+    s32 = λ bs. LocalCopy.n_val_copy Context-35 9 6 (Ref.MutRef Syntax.erased List.[] (Node.the_row (Param.param 0 Value))) (Rows.whole (Known.Known (MovedOut.moved_n (Option.enum
+        (Field'.mut_ref_field record { mir = Syntax.erased; lft = List.[] } of-2 tt).row) 1 0) 1)) (Rows.mref (Node.the_row (Param.param 0 Value)) (Syntax.ty_ref
         Syntax.erased Syntax.mut behind-2) 0) (λ v. v.0) (λ x. x) λ x. x
 
-    abbrev pub s33 : (bs : List.List Nat.ℕ) → Typed.Mo T36 → Typed.Mo T37
-    s33 = λ bs. Scalar.n_room T36 9 (Syntax.ty_enum name-2 (Syntax.ttcons Syntax.tnil (Syntax.ttcons (Syntax.tcons (Syntax.ty_ref Syntax.erased Syntax.mut behind-2)
+    abbrev pub s33 : (bs : List.List Nat.ℕ) → Typed.Mo Context-36 → Typed.Mo Context-37
+    s33 = λ bs. Scalar.n_room Context-36 9 (Syntax.ty_enum name-2 (Syntax.ttcons Syntax.tnil (Syntax.ttcons (Syntax.tcons (Syntax.ty_ref Syntax.erased Syntax.mut behind-2)
         Syntax.tnil) Syntax.ttnil)))
 
-    abbrev pub s34 : (bs : List.List Nat.ℕ) → Typed.Mo T37 → Typed.Mo T38
-    s34 = λ bs. Pass.n_ref_pass T37 6 12 0 (Node.the_row (Param.param 0 T1')) (Syntax.ty_ref Syntax.erased Syntax.mut behind-2) (Syntax.ty_ref Syntax.erased Syntax.mut
+    abbrev pub s34 : (bs : List.List Nat.ℕ) → Typed.Mo Context-37 → Typed.Mo Context-38
+    s34 = λ bs. Pass.n_ref_pass Context-37 6 12 0 (Node.the_row (Param.param 0 Value)) (Syntax.ty_ref Syntax.erased Syntax.mut behind-2) (Syntax.ty_ref Syntax.erased Syntax.mut
         behind-2) λ x. x
 
-    abbrev pub s35 : (bs : List.List Nat.ℕ) → Typed.Mo T38 → Typed.Mo T39
-    s35 = λ bs. LocalCopy.n_val_copy T38 5 13 (Declared.row (Option.the_type (Text.str-field record { mir = Syntax.erased; lft = List.[] }).row)) (Rows.whole
+    abbrev pub s35 : (bs : List.List Nat.ℕ) → Typed.Mo Context-38 → Typed.Mo Context-39
+    s35 = λ bs. LocalCopy.n_val_copy Context-38 5 13 (Declared.row (Option.the_type (Text.str-field record { mir = Syntax.erased; lft = List.[] }).row)) (Rows.whole
         (Declared.row (Option.the_type (Text.str-field record { mir = Syntax.erased; lft = List.[] }).row))) (Rows.whole (Declared.row (Option.the_type (Text.str-field
         record { mir = Syntax.erased; lft = List.[] }).row))) (λ x. x) (λ x. x) λ x. x
 
-    abbrev pub s36 : (bs : List.List Nat.ℕ) → Typed.Mo T39 → Typed.Mo T40
-    s36 = λ bs. Scalar.n_room T39 5 (Syntax.ty_enum name-2 (Syntax.ttcons Syntax.tnil (Syntax.ttcons (Syntax.tcons (Syntax.ty_struct name-0 (Syntax.tcons (Syntax.ty_ref
+    abbrev pub s36 : (bs : List.List Nat.ℕ) → Typed.Mo Context-39 → Typed.Mo Context-40
+    s36 = λ bs. Scalar.n_room Context-39 5 (Syntax.ty_enum name-2 (Syntax.ttcons Syntax.tnil (Syntax.ttcons (Syntax.tcons (Syntax.ty_struct name-0 (Syntax.tcons (Syntax.ty_ref
         Syntax.erased Syntax.imm (Syntax.ty_int Syntax.w8)) (Syntax.tcons (Syntax.ty_int Syntax.w64) Syntax.tnil))) Syntax.tnil) Syntax.ttnil)))
 
-    abbrev pub s37 : (bs : List.List Nat.ℕ) → Typed.Mo T40 → Typed.Mo T41
-    s37 = λ bs. AtSlots.n_as_by T40 13 (ValueAt.val_at 3 (λ κc. Declared.row (Option.the_type (Text.str-field record { mir = Syntax.named 1; lft = κc.1.0 }).row))
+    abbrev pub s37 : (bs : List.List Nat.ℕ) → Typed.Mo Context-40 → Typed.Mo Context-41
+    s37 = λ bs. AtSlots.n_as_by Context-40 13 (ValueAt.val_at 3 (λ κc. Declared.row (Option.the_type (Text.str-field record { mir = Syntax.named 1; lft = κc.1.0 }).row))
         (Option.the_type (Text.str-field record { mir = Syntax.named 1; lft = List.[] }).row).D (λ κc v. v) (List.◌∷◌ 0 (List.◌∷◌ 1 (List.◌∷◌ 2 List.[]))) (Syntax.ty_enum
         name-2 (Syntax.ttcons Syntax.tnil (Syntax.ttcons (Syntax.tcons (Syntax.ty_struct name-0 (Syntax.tcons (Syntax.ty_ref Syntax.erased Syntax.imm (Syntax.ty_int
         Syntax.w8)) (Syntax.tcons (Syntax.ty_int Syntax.w64) Syntax.tnil))) Syntax.tnil) Syntax.ttnil)))) λ x. x
 
-    abbrev pub s38 : (bs : List.List Nat.ℕ) → Typed.Both T41 T42
-    s38 = λ bs. So.call_so 3 whole-3 part-3 named-3 lender-3 rest-3 r-3 (AtSlots.one_type 3 named-3) the-claims.10 (λ κs a. BorrowLft.◌⊑◌ κs.1.1.0 T1'.lives →
-        the-claims.8 κs a) the-claims.9 T41 (
+    abbrev pub s38 : (bs : List.List Nat.ℕ) → Typed.Both Context-41 Context-42
+    s38 = λ bs. So.call_so 3 whole-3 part-3 named-3 lender-3 rest-3 r-3 (AtSlots.one_type 3 named-3) the-claims.10 (λ κs a. BorrowLft.◌⊑◌ κs.1.1.0 Value.lives →
+        the-claims.8 κs a) the-claims.9 Context-41 (
           record { pos = 12; ty = Syntax.ty_ref Syntax.erased Syntax.mut behind-2; ref = λ x. x },
           (
             record {
@@ -4838,123 +4838,123 @@ module _ (T1' : RattleType.RattleType) (L1' : Laws'.Laws T1') where
         (List.◌∷◌ 2 List.[]))) (Syntax.ty_enum name-2 (Syntax.ttcons Syntax.tnil (Syntax.ttcons (Syntax.tcons (Syntax.ty_ref Syntax.erased Syntax.mut (Syntax.ty_param 0))
         Syntax.tnil) Syntax.ttnil)))
 
-    abbrev pub s39 : (bs : List.List Nat.ℕ) → Typed.Mo T42 → Typed.Mo T43
-    s39 = λ bs. AtSlots.n_as_by T42 13 (Rows.whole (Declared.row (Option.the_type (Text.str-field record { mir = Syntax.erased; lft = List.[] }).row))) λ x. x
+    abbrev pub s39 : (bs : List.List Nat.ℕ) → Typed.Mo Context-42 → Typed.Mo Context-43
+    s39 = λ bs. AtSlots.n_as_by Context-42 13 (Rows.whole (Declared.row (Option.the_type (Text.str-field record { mir = Syntax.erased; lft = List.[] }).row))) λ x. x
 
-    abbrev pub s40 : (bs : List.List Nat.ℕ) → Typed.Mo T43 → Typed.Mo T44
-    s40 = λ bs. AtSlots.n_as_by T43 11 (Rows.whole (Declared.row (Option.the_type (Field'.mut_ref_field record { mir = Syntax.erased; lft = List.[] } (Param.param 0 T1')
+    abbrev pub s40 : (bs : List.List Nat.ℕ) → Typed.Mo Context-43 → Typed.Mo Context-44
+    s40 = λ bs. AtSlots.n_as_by Context-43 11 (Rows.whole (Declared.row (Option.the_type (Field'.mut_ref_field record { mir = Syntax.erased; lft = List.[] } (Param.param 0 Value)
         tt).row))) λ x. x
 
-    abbrev pub s41 : (bs : List.List Nat.ℕ) → Typed.Mo T44 → Typed.Mo T45
-    s41 = λ bs. Scalar.n_room T44 13 (Syntax.ty_enum name-2 (Syntax.ttcons Syntax.tnil (Syntax.ttcons (Syntax.tcons (Syntax.ty_struct name-0 (Syntax.tcons (Syntax.ty_ref
+    abbrev pub s41 : (bs : List.List Nat.ℕ) → Typed.Mo Context-44 → Typed.Mo Context-45
+    s41 = λ bs. Scalar.n_room Context-44 13 (Syntax.ty_enum name-2 (Syntax.ttcons Syntax.tnil (Syntax.ttcons (Syntax.tcons (Syntax.ty_struct name-0 (Syntax.tcons (Syntax.ty_ref
         Syntax.erased Syntax.imm (Syntax.ty_int Syntax.w8)) (Syntax.tcons (Syntax.ty_int Syntax.w64) Syntax.tnil))) Syntax.tnil) Syntax.ttnil)))
 
-    abbrev pub s42 : (bs : List.List Nat.ℕ) → Typed.Asks T45 T46
-    s42 = λ bs. Through.k_through T45 14 10 (Syntax.ty_ref (Syntax.named 0) Syntax.mut behind-2) (Syntax.ty_ref Syntax.erased Syntax.mut behind-8) (Declared'.row
-        (TheInside.the_type (Param.param 0 T1'))) (BTreeMap.the_row of-6 of-2 Global.the_row (TheImpl.ghosts Global.the_row TheImpl'3.ghosts TheImpl.no_dict
+    abbrev pub s42 : (bs : List.List Nat.ℕ) → Typed.Asks Context-45 Context-46
+    s42 = λ bs. Through.k_through Context-45 14 10 (Syntax.ty_ref (Syntax.named 0) Syntax.mut behind-2) (Syntax.ty_ref Syntax.erased Syntax.mut behind-8) (Declared'.row
+        (TheInside.the_type (Param.param 0 Value))) (BTreeMap.the_row of-6 of-2 Global.the_row (TheImpl.ghosts Global.the_row TheImpl'3.ghosts TheImpl.no_dict
         TheImpl.no_dict) (TheImpl'.ghosts Global.the_row TheImpl'3.ghosts TheImpl'.no_dict TheImpl'.no_dict) (TheImpl''.ghosts Global.the_row TheImpl'3.ghosts
-        TheImpl''.no_dict TheImpl''.no_dict) TheImpl'3.ghosts) (Node.the_row (Param.param 0 T1')) (λ x. x) λ x. x
+        TheImpl''.no_dict TheImpl''.no_dict) TheImpl'3.ghosts) (Node.the_row (Param.param 0 Value)) (λ x. x) λ x. x
 
-    abbrev pub s43 : (bs : List.List Nat.ℕ) → Typed.Asks T46 T47
-    s43 = λ bs. Through.k_through_if T46 14 12 (Syntax.ty_ref (Syntax.named 0) Syntax.mut behind-2) (Syntax.ty_ref Syntax.erased Syntax.mut behind-2) (Declared'.row
-        (TheInside.the_type (Param.param 0 T1'))) (Node.the_row (Param.param 0 T1')) (Param.param 0 T1') (Option.the_type (Field'.mut_ref_field record {
+    abbrev pub s43 : (bs : List.List Nat.ℕ) → Typed.Asks Context-46 Context-47
+    s43 = λ bs. Through.k_through_if Context-46 14 12 (Syntax.ty_ref (Syntax.named 0) Syntax.mut behind-2) (Syntax.ty_ref Syntax.erased Syntax.mut behind-2) (Declared'.row
+        (TheInside.the_type (Param.param 0 Value))) (Node.the_row (Param.param 0 Value)) (Param.param 0 Value) (Option.the_type (Field'.mut_ref_field record {
           mir =
               Syntax.named 0;
           lft = List.[];
-        } (Param.param 0 T1') tt).row).D (λ x. x) λ x. x
+        } (Param.param 0 Value) tt).row).D (λ x. x) λ x. x
 
-    abbrev pub s44 : (bs : List.List Nat.ℕ) → Typed.Both T47 T48
-    s44 = λ bs. Late.k_close_late_if (Node.the_row (Param.param 0 T1')) (Declared'.row (TheInside.the_type (Param.param 0 T1'))) (Node.the_view (Param.param 0 T1'))
-        (Node.the_invariant (Param.param 0 T1')) (Param.param 0 T1') (Option.the_type (Field'.mut_ref_field record { mir = Syntax.named 0; lft = List.[] } (Param.param 0
-        T1') tt).row).D T47 14 1 (Syntax.ty_ref (Syntax.named 0) Syntax.mut behind-2) List.[] (λ x. x) λ x. x
+    abbrev pub s44 : (bs : List.List Nat.ℕ) → Typed.Both Context-47 Context-48
+    s44 = λ bs. Late.k_close_late_if (Node.the_row (Param.param 0 Value)) (Declared'.row (TheInside.the_type (Param.param 0 Value))) (Node.the_view (Param.param 0 Value))
+        (Node.the_invariant (Param.param 0 Value)) (Param.param 0 Value) (Option.the_type (Field'.mut_ref_field record { mir = Syntax.named 0; lft = List.[] } (Param.param 0
+        Value) tt).row).D Context-47 14 1 (Syntax.ty_ref (Syntax.named 0) Syntax.mut behind-2) List.[] (λ x. x) λ x. x
 
-    abbrev pub s47 : (bs : List.List Nat.ℕ) → Typed.Mo T48 → Typed.Mo T51
-    s47 = λ bs. Home.k_owing_here T48 1 (Syntax.ty_ref (Syntax.named 0) Syntax.mut behind-2) (Node.the_row (Param.param 0 T1')) (Maybe.maybe (Node.the_row (Param.param 0
-        T1')) (Param.param 0 T1') (Option.the_type (Field'.mut_ref_field record { mir = Syntax.named 0; lft = List.[] } (Param.param 0 T1') tt).row).D) λ x. x
+    abbrev pub s47 : (bs : List.List Nat.ℕ) → Typed.Mo Context-48 → Typed.Mo Context-51
+    s47 = λ bs. Home.k_owing_here Context-48 1 (Syntax.ty_ref (Syntax.named 0) Syntax.mut behind-2) (Node.the_row (Param.param 0 Value)) (Maybe.maybe (Node.the_row (Param.param 0
+        Value)) (Param.param 0 Value) (Option.the_type (Field'.mut_ref_field record { mir = Syntax.named 0; lft = List.[] } (Param.param 0 Value) tt).row).D) λ x. x
 
-    abbrev pub s48 : (bs : List.List Nat.ℕ) → Typed.Both T32 T52
-    s48 = λ bs. Known.k_enum_told (Option.enum (Field'.mut_ref_field record { mir = Syntax.erased; lft = List.[] } of-2 tt).row) 0 T32 9 λ x. x
+    abbrev pub s48 : (bs : List.List Nat.ℕ) → Typed.Both Context-32 Context-52
+    s48 = λ bs. Known.k_enum_told (Option.enum (Field'.mut_ref_field record { mir = Syntax.erased; lft = List.[] } of-2 tt).row) 0 Context-32 9 λ x. x
 
-    abbrev pub s49 : (bs : List.List Nat.ℕ) → Typed.Both T52 T53
-    s49 = λ bs. Maybe.k_part_none T52 10 (Syntax.ty_ref Syntax.erased Syntax.mut behind-8) (BTreeMap.the_row of-6 of-2 Global.the_row (TheImpl.ghosts Global.the_row
+    abbrev pub s49 : (bs : List.List Nat.ℕ) → Typed.Both Context-52 Context-53
+    s49 = λ bs. Maybe.k_part_none Context-52 10 (Syntax.ty_ref Syntax.erased Syntax.mut behind-8) (BTreeMap.the_row of-6 of-2 Global.the_row (TheImpl.ghosts Global.the_row
         TheImpl'3.ghosts TheImpl.no_dict TheImpl.no_dict) (TheImpl'.ghosts Global.the_row TheImpl'3.ghosts TheImpl'.no_dict TheImpl'.no_dict) (TheImpl''.ghosts
-        Global.the_row TheImpl'3.ghosts TheImpl''.no_dict TheImpl''.no_dict) TheImpl'3.ghosts) (Node.the_row (Param.param 0 T1')) (Option.the_type (Field'.mut_ref_field
+        Global.the_row TheImpl'3.ghosts TheImpl''.no_dict TheImpl''.no_dict) TheImpl'3.ghosts) (Node.the_row (Param.param 0 Value)) (Option.the_type (Field'.mut_ref_field
         record { mir = Syntax.erased; lft = List.[] } of-2 tt).row).D (λ x. x) λ u. Known.at (Option.enum (Field'.mut_ref_field record {
           mir = Syntax.erased;
           lft =
               List.[];
         } of-2 tt).row) 0 tt
 
-    abbrev pub s50 : (bs : List.List Nat.ℕ) → Typed.Mo T53 → Typed.Mo T54
-    s50 = λ bs. Scalar.n_room T53 5 (Syntax.ty_enum name-2 (Syntax.ttcons Syntax.tnil (Syntax.ttcons (Syntax.tcons (Syntax.ty_struct name-0 (Syntax.tcons (Syntax.ty_ref
+    abbrev pub s50 : (bs : List.List Nat.ℕ) → Typed.Mo Context-53 → Typed.Mo Context-54
+    s50 = λ bs. Scalar.n_room Context-53 5 (Syntax.ty_enum name-2 (Syntax.ttcons Syntax.tnil (Syntax.ttcons (Syntax.tcons (Syntax.ty_struct name-0 (Syntax.tcons (Syntax.ty_ref
         Syntax.erased Syntax.imm (Syntax.ty_int Syntax.w8)) (Syntax.tcons (Syntax.ty_int Syntax.w64) Syntax.tnil))) Syntax.tnil) Syntax.ttnil)))
 
-    abbrev pub s51 : (bs : List.List Nat.ℕ) → Typed.Mo T54 → Typed.Mo T55
-    s51 = λ bs. Scalar.n_room T54 9 (Syntax.ty_enum name-2 (Syntax.ttcons Syntax.tnil (Syntax.ttcons (Syntax.tcons (Syntax.ty_ref Syntax.erased Syntax.mut behind-2)
+    abbrev pub s51 : (bs : List.List Nat.ℕ) → Typed.Mo Context-54 → Typed.Mo Context-55
+    s51 = λ bs. Scalar.n_room Context-54 9 (Syntax.ty_enum name-2 (Syntax.ttcons Syntax.tnil (Syntax.ttcons (Syntax.tcons (Syntax.ty_ref Syntax.erased Syntax.mut behind-2)
         Syntax.tnil) Syntax.ttnil)))
 
-    abbrev pub s52 : (bs : List.List Nat.ℕ) → Typed.Asks T55 T56
+    abbrev pub s52 : (bs : List.List Nat.ℕ) → Typed.Asks Context-55 Context-56
     s52 = λ bs. Make.k_make_to (Declared.row (Option.the_type (Field'.mut_ref_field record {
       mir = Syntax.erased;
       lft = List.[];
-    } (Param.param 0 T1') tt).row))
-        T55
+    } (Param.param 0 Value) tt).row))
+        Context-55
         11
-        (Row.out 11 T55.locals)
+        (Row.out 11 Context-55.locals)
         (λ m. (Option.enum
         (Field'.mut_ref_field
         record { mir = Syntax.erased; lft = List.[] }
-        (Param.param 0 T1')
+        (Param.param 0 Value)
         tt).row).make
         (Logic'.inl tt))
-        (λ m. let T = Row.out 11 T55.locals in let m = m in m)
+        (λ m. let T = Row.out 11 Context-55.locals in let m = m in m)
         λ m. Unit
 
-    abbrev pub s53 : (bs : List.List Nat.ℕ) → Typed.Both T56 T57
-    s53 = λ bs. Step.k_followed T56 10 (Syntax.ty_ref Syntax.erased Syntax.mut behind-8) (BTreeMap.the_row of-6 of-2 Global.the_row (TheImpl.ghosts Global.the_row
+    abbrev pub s53 : (bs : List.List Nat.ℕ) → Typed.Both Context-56 Context-57
+    s53 = λ bs. Step.k_followed Context-56 10 (Syntax.ty_ref Syntax.erased Syntax.mut behind-8) (BTreeMap.the_row of-6 of-2 Global.the_row (TheImpl.ghosts Global.the_row
         TheImpl'3.ghosts TheImpl.no_dict TheImpl.no_dict) (TheImpl'.ghosts Global.the_row TheImpl'3.ghosts TheImpl'.no_dict TheImpl'.no_dict) (TheImpl''.ghosts
         Global.the_row TheImpl'3.ghosts TheImpl''.no_dict TheImpl''.no_dict) TheImpl'3.ghosts) (BTreeMap.the_row of-6 of-2 Global.the_row (TheImpl.ghosts Global.the_row
         TheImpl'3.ghosts TheImpl.no_dict TheImpl.no_dict) (TheImpl'.ghosts Global.the_row TheImpl'3.ghosts TheImpl'.no_dict TheImpl'.no_dict) (TheImpl''.ghosts
         Global.the_row TheImpl'3.ghosts TheImpl''.no_dict TheImpl''.no_dict) TheImpl'3.ghosts) (λ x. x) (λ u. u.1.1.1.1.1.1.1.1.1.1.0.1.0) λ u.
         u.1.1.1.1.1.1.1.1.1.1.0.0.now
 
-    abbrev pub s54 : (bs : List.List Nat.ℕ) → Typed.Both T57 T58
-    s54 = λ bs. Step.k_followed T57 14 (Syntax.ty_ref (Syntax.named 0) Syntax.mut behind-2) (Declared'.row (TheInside.the_type (Param.param 0 T1'))) (BTreeMap.the_row
+    abbrev pub s54 : (bs : List.List Nat.ℕ) → Typed.Both Context-57 Context-58
+    s54 = λ bs. Step.k_followed Context-57 14 (Syntax.ty_ref (Syntax.named 0) Syntax.mut behind-2) (Declared'.row (TheInside.the_type (Param.param 0 Value))) (BTreeMap.the_row
         of-6 of-2 Global.the_row (TheImpl.ghosts Global.the_row TheImpl'3.ghosts TheImpl.no_dict TheImpl.no_dict) (TheImpl'.ghosts Global.the_row TheImpl'3.ghosts
         TheImpl'.no_dict TheImpl'.no_dict) (TheImpl''.ghosts Global.the_row TheImpl'3.ghosts TheImpl''.no_dict TheImpl''.no_dict) TheImpl'3.ghosts) (λ x. x) (λ u.
         u.1.1.1.1.1.1.1.1.1.1.0.ghost_name) λ u. u.1.1.1.1.1.1.1.1.1.1.0.now
 
-    abbrev pub s55 : (bs : List.List Nat.ℕ) → Typed.Asks T58 T59
-    s55 = λ bs. Late.k_close_late_said (Node.the_row (Param.param 0 T1')) (Declared'.row (TheInside.the_type (Param.param 0 T1'))) (Node.the_view (Param.param 0 T1'))
-        (Node.the_invariant (Param.param 0 T1')) T58 14 1 (Syntax.ty_ref (Syntax.named 0) Syntax.mut behind-2) List.[] (λ x. x) λ x. x
+    abbrev pub s55 : (bs : List.List Nat.ℕ) → Typed.Asks Context-58 Context-59
+    s55 = λ bs. Late.k_close_late_said (Node.the_row (Param.param 0 Value)) (Declared'.row (TheInside.the_type (Param.param 0 Value))) (Node.the_view (Param.param 0 Value))
+        (Node.the_invariant (Param.param 0 Value)) Context-58 14 1 (Syntax.ty_ref (Syntax.named 0) Syntax.mut behind-2) List.[] (λ x. x) λ x. x
 
-    abbrev pub s58 : (bs : List.List Nat.ℕ) → Typed.Gives T59 T62
-    s58 = λ bs. Maybe.k_settles T59 1 (Syntax.ty_ref (Syntax.named 0) Syntax.mut behind-2) (Node.the_row (Param.param 0 T1')) λ x. x
+    abbrev pub s58 : (bs : List.List Nat.ℕ) → Typed.Gives Context-59 Context-62
+    s58 = λ bs. Maybe.k_settles Context-59 1 (Syntax.ty_ref (Syntax.named 0) Syntax.mut behind-2) (Node.the_row (Param.param 0 Value)) λ x. x
 
-    abbrev pub s59 : (bs : List.List Nat.ℕ) → Typed.Mo T62 → Typed.Mo T63
-    s59 = λ bs. Scalar.n_room T62 10 (Syntax.ty_ref Syntax.erased Syntax.mut behind-8)
+    abbrev pub s59 : (bs : List.List Nat.ℕ) → Typed.Mo Context-62 → Typed.Mo Context-63
+    s59 = λ bs. Scalar.n_room Context-62 10 (Syntax.ty_ref Syntax.erased Syntax.mut behind-8)
 
-    abbrev pub s60 : (bs : List.List Nat.ℕ) → Typed.Mo T63 → Typed.Mo T64
-    s60 = λ bs. Maybe.n_rested T63 1 (Syntax.ty_ref (Syntax.named 0) Syntax.mut behind-2) (Node.the_row (Param.param 0 T1')) (Param.param 0 T1') (Option.the_type
-        (Field'.mut_ref_field record { mir = Syntax.named 0; lft = List.[] } (Param.param 0 T1') tt).row).D (λ x. x) λ u. u.1.1.1.1.1.1.1.1.1.1.1.0
+    abbrev pub s60 : (bs : List.List Nat.ℕ) → Typed.Mo Context-63 → Typed.Mo Context-64
+    s60 = λ bs. Maybe.n_rested Context-63 1 (Syntax.ty_ref (Syntax.named 0) Syntax.mut behind-2) (Node.the_row (Param.param 0 Value)) (Param.param 0 Value) (Option.the_type
+        (Field'.mut_ref_field record { mir = Syntax.named 0; lft = List.[] } (Param.param 0 Value) tt).row).D (λ x. x) λ u. u.1.1.1.1.1.1.1.1.1.1.1.0
 
-    abbrev pub s61 : (bs : List.List Nat.ℕ) → Typed.Mo T64 → Typed.Mo T65
-    s61 = λ bs. Home.k_owing_here T64 1 (Syntax.ty_ref (Syntax.named 0) Syntax.mut behind-2) (Node.the_row (Param.param 0 T1')) (Maybe.maybe (Node.the_row (Param.param 0
-        T1')) (Param.param 0 T1') (Option.the_type (Field'.mut_ref_field record { mir = Syntax.named 0; lft = List.[] } (Param.param 0 T1') tt).row).D) λ x. x
+    abbrev pub s61 : (bs : List.List Nat.ℕ) → Typed.Mo Context-64 → Typed.Mo Context-65
+    s61 = λ bs. Home.k_owing_here Context-64 1 (Syntax.ty_ref (Syntax.named 0) Syntax.mut behind-2) (Node.the_row (Param.param 0 Value)) (Maybe.maybe (Node.the_row (Param.param 0
+        Value)) (Param.param 0 Value) (Option.the_type (Field'.mut_ref_field record { mir = Syntax.named 0; lft = List.[] } (Param.param 0 Value) tt).row).D) λ x. x
 
-    abbrev pub s62 : (bs : List.List Nat.ℕ) → Typed.Mo T30 → Typed.Mo T66
-    s62 = λ bs. LocalCopy.n_val_copy T30 11 0 (Declared.row (Option.the_type (Field'.mut_ref_field record { mir = Syntax.erased; lft = List.[] } (Param.param 0 T1')
+    abbrev pub s62 : (bs : List.List Nat.ℕ) → Typed.Mo Context-30 → Typed.Mo Context-66
+    s62 = λ bs. LocalCopy.n_val_copy Context-30 11 0 (Declared.row (Option.the_type (Field'.mut_ref_field record { mir = Syntax.erased; lft = List.[] } (Param.param 0 Value)
         tt).row)) (Rows.any_gone (Syntax.ty_enum name-2 (Syntax.ttcons Syntax.tnil (Syntax.ttcons (Syntax.tcons (Syntax.ty_ref Syntax.erased Syntax.mut (Syntax.ty_param
         0)) Syntax.tnil) Syntax.ttnil)))) (Rows.whole (Declared.row (Option.the_type (Field'.mut_ref_field record { mir = Syntax.named 0; lft = List.[] } (Param.param 0
-        T1') tt).row))) (λ x. x) (λ x. tt) λ x. x
+        Value) tt).row))) (λ x. x) (λ x. tt) λ x. x
 
-    abbrev pub s64 : (bs : List.List Nat.ℕ) → Typed.Mo T66 → Typed.Mo T68
-    s64 = λ bs. Two.n_shrink T66 14
+    abbrev pub s64 : (bs : List.List Nat.ℕ) → Typed.Mo Context-66 → Typed.Mo Context-68
+    s64 = λ bs. Two.n_shrink Context-66 14
 
     module _ {M : Type 1} {𝓤 : Ura.Ura M} (𝓛 : Logic''.Logic 𝓤) (𝓣 : Wp.Tables 𝓤 𝓛.H) where
       abbrev pub Known-0 : Type 1
       Known-0 = Plain.Known 𝓛 𝓣 2 ps_on-0 r-0 the-claims.0 (So.WithSo 2 whole-0 part-0 named-0 lender-0 rest-0 r-0 (AtSlots.one_type 2 named-0) the-claims.2 the-claims.0
-          the-claims.1) (Syntax.fn "core::option::Option::as_mut" (Syntax.tcons (Param.layout T1') Syntax.tnil, Syntax.dnil))
+          the-claims.1) (Syntax.fn "core::option::Option::as_mut" (Syntax.tcons (Param.layout Value) Syntax.tnil, Syntax.dnil))
 
       abbrev pub Known-1 : Type 1
       Known-1 = Plain.Known 𝓛 𝓣 1 ps-1 r-1 the-claims.3 the-claims.4 (Syntax.fn₀ "mq_topic::levels::split_first")
@@ -4965,7 +4965,7 @@ module _ (T1' : RattleType.RattleType) (L1' : Laws'.Laws T1') where
             Syntax.tcons (Syntax.ty_struct List.[] (Syntax.tcons (Syntax.ty_struct List.[]
                 (Syntax.tcons Syntax.ty_ptr (Syntax.tcons (Syntax.ty_int Syntax.w64) (Syntax.tcons (Syntax.ty_int Syntax.w64) (Syntax.tcons (Syntax.ty_struct List.[]
                 (Syntax.tcons (Syntax.ty_struct List.[] (Syntax.tcons Syntax.ty_unit Syntax.tnil)) Syntax.tnil)) Syntax.tnil))))) Syntax.tnil)) (Syntax.tcons (Syntax.ty_struct
-                List.[] (Syntax.tcons (Syntax.ty_enum List.[] (Syntax.ttcons Syntax.tnil (Syntax.ttcons (Syntax.tcons (Param.layout T1') Syntax.tnil) Syntax.ttnil)))
+                List.[] (Syntax.tcons (Syntax.ty_enum List.[] (Syntax.ttcons Syntax.tnil (Syntax.ttcons (Syntax.tcons (Param.layout Value) Syntax.tnil) Syntax.ttnil)))
                 (Syntax.tcons (Syntax.ty_struct List.[] (Syntax.tcons (Syntax.ty_struct List.[] (Syntax.tcons (Syntax.ty_enum List.[] (Syntax.ttcons Syntax.tnil (Syntax.ttcons
                 (Syntax.tcons (Syntax.ty_struct List.[] (Syntax.tcons (Syntax.ty_struct List.[] (Syntax.tcons Syntax.ty_ptr Syntax.tnil)) Syntax.tnil)) Syntax.tnil)
                 Syntax.ttnil))) (Syntax.tcons (Syntax.ty_int Syntax.w64) (Syntax.tcons (Syntax.ty_struct List.[] (Syntax.tcons (Syntax.ty_struct List.[] (Syntax.tcons
@@ -5005,7 +5005,7 @@ module _ (T1' : RattleType.RattleType) (L1' : Laws'.Laws T1') where
 
       abbrev pub Known-3 : Type 1
       Known-3 = Plain.Known 𝓛 𝓣 3 ps_on-3 r-3 the-claims.8 (So.WithSo 3 whole-3 part-3 named-3 lender-3 rest-3 r-3 (AtSlots.one_type 3 named-3) the-claims.10 the-claims.8
-          the-claims.9) (Syntax.fn "mq_tree::node::Node::get_mut" (Syntax.tcons (Param.layout T1') Syntax.tnil, Syntax.dnil))
+          the-claims.9) (Syntax.fn "mq_tree::node::Node::get_mut" (Syntax.tcons (Param.layout Value) Syntax.tnil, Syntax.dnil))
 
     module _ (the-Pre : Pre-type) (the-Post : Post-type) where
       module _ (M : Type 1) where
@@ -5013,7 +5013,7 @@ module _ (T1' : RattleType.RattleType) (L1' : Laws'.Laws T1') where
         Closed = (𝓤 : Ura.Ura M) (𝓛 : Logic''.Logic 𝓤) (𝓣 : Wp.Tables 𝓤 𝓛.H) (known0 : Plain.Known 𝓛 𝓣 2 ps_on-0 r-0 the-claims.0 (So.WithSo 2 whole-0 part-0 named-0
             lender-0 rest-0 r-0 (AtSlots.one_type 2 named-0) the-claims.2 the-claims.0 the-claims.1) (Syntax.fn "core::option::Option::as_mut" (
               Syntax.tcons (Param.layout
-                  T1') Syntax.tnil,
+                  Value) Syntax.tnil,
               Syntax.dnil,
             ))) (known1 : Plain.Known 𝓛 𝓣 1 ps-1 r-1 the-claims.3 the-claims.4 (Syntax.fn₀ "mq_topic::levels::split_first")) (known2 :
             Plain.Known 𝓛 𝓣 5 ps_on-2 r-2 the-claims.5 (So.WithSo 5 whole-2 part-2 named-2 lender-2 rest-2 r-2 (AtSlots.one_type 5 named-2) the-claims.7 the-claims.5
@@ -5021,7 +5021,7 @@ module _ (T1' : RattleType.RattleType) (L1' : Laws'.Laws T1') where
               Syntax.tcons (Syntax.ty_struct List.[] (Syntax.tcons (Syntax.ty_struct List.[]
                   (Syntax.tcons Syntax.ty_ptr (Syntax.tcons (Syntax.ty_int Syntax.w64) (Syntax.tcons (Syntax.ty_int Syntax.w64) (Syntax.tcons (Syntax.ty_struct List.[]
                   (Syntax.tcons (Syntax.ty_struct List.[] (Syntax.tcons Syntax.ty_unit Syntax.tnil)) Syntax.tnil)) Syntax.tnil))))) Syntax.tnil)) (Syntax.tcons
-                  (Syntax.ty_struct List.[] (Syntax.tcons (Syntax.ty_enum List.[] (Syntax.ttcons Syntax.tnil (Syntax.ttcons (Syntax.tcons (Param.layout T1') Syntax.tnil)
+                  (Syntax.ty_struct List.[] (Syntax.tcons (Syntax.ty_enum List.[] (Syntax.ttcons Syntax.tnil (Syntax.ttcons (Syntax.tcons (Param.layout Value) Syntax.tnil)
                   Syntax.ttnil))) (Syntax.tcons (Syntax.ty_struct List.[] (Syntax.tcons (Syntax.ty_struct List.[] (Syntax.tcons (Syntax.ty_enum List.[] (Syntax.ttcons
                   Syntax.tnil (Syntax.ttcons (Syntax.tcons (Syntax.ty_struct List.[] (Syntax.tcons (Syntax.ty_struct List.[] (Syntax.tcons Syntax.ty_ptr Syntax.tnil))
                   Syntax.tnil)) Syntax.tnil) Syntax.ttnil))) (Syntax.tcons (Syntax.ty_int Syntax.w64) (Syntax.tcons (Syntax.ty_struct List.[] (Syntax.tcons (Syntax.ty_struct
@@ -5060,7 +5060,7 @@ module _ (T1' : RattleType.RattleType) (L1' : Laws'.Laws T1') where
                   (List.◌∷◌ "core::clone::RefStrClone::clone" List.[]) Syntax.tnil Syntax.dnil) Syntax.dnil))))))),
             ))) (known3 : Plain.Known 𝓛 𝓣 3 ps_on-3 r-3 the-claims.8
             (So.WithSo 3 whole-3 part-3 named-3 lender-3 rest-3 r-3 (AtSlots.one_type 3 named-3) the-claims.10 the-claims.8 the-claims.9) (Syntax.fn
-            "mq_tree::node::Node::get_mut" (Syntax.tcons (Param.layout T1') Syntax.tnil, Syntax.dnil))) → Statement.Triple 𝓤 (Wp.WpFn 𝓤 𝓛.H 𝓣.C 𝓣.Λ (Function.fn_of 3 ps r
+            "mq_tree::node::Node::get_mut" (Syntax.tcons (Param.layout Value) Syntax.tnil, Syntax.dnil))) → Statement.Triple 𝓤 (Wp.WpFn 𝓤 𝓛.H 𝓣.C 𝓣.Λ (Function.fn_of 3 ps r
             xs m hs body)) (Function.plain_of 𝓛 3 ps r the-Pre the-Post)
 
       pub record the-Clauses : Type 1 where
@@ -5087,51 +5087,51 @@ module _ (T1' : RattleType.RattleType) (L1' : Laws'.Laws T1') where
             claim-own-asked κs a x e) → raw-own-asked κs a x e
 
       module _ where
-        abbrev at0 : (bs : List.List Nat.ℕ) → Typed.TF T9 O1
+        abbrev at0 : (bs : List.List Nat.ℕ) → Typed.TF Context-9 O1
         at0 = λ bs. λ Ψ. Typed.both (s7 bs) (Typed.at_next O1 Ψ)
 
-        abbrev at1 : (bs : List.List Nat.ℕ) → Typed.TF T8 O1
+        abbrev at1 : (bs : List.List Nat.ℕ) → Typed.TF Context-8 O1
         at1 = λ bs. λ Ψ. Typed.both (s6 bs) (at0 bs Ψ)
 
-        abbrev at2 : (bs : List.List Nat.ℕ) → Typed.TF T21 O1
+        abbrev at2 : (bs : List.List Nat.ℕ) → Typed.TF Context-21 O1
         at2 = λ bs. Typed.at_ret O1
 
-        abbrev at3 : (bs : List.List Nat.ℕ) → Typed.TF T19 O1
-        at3 = λ bs. λ Ψ. Typed.pass T19 T21 (s18 bs) (at2 bs Ψ)
+        abbrev at3 : (bs : List.List Nat.ℕ) → Typed.TF Context-19 O1
+        at3 = λ bs. λ Ψ. Typed.pass Context-19 Context-21 (s18 bs) (at2 bs Ψ)
 
-        abbrev at4 : (bs : List.List Nat.ℕ) → Typed.TF T19 O1
+        abbrev at4 : (bs : List.List Nat.ℕ) → Typed.TF Context-19 O1
         at4 = λ bs. λ Ψ. at3 bs Ψ
 
-        abbrev at5 : (bs : List.List Nat.ℕ) → Typed.TF T16 O1
-        at5 = λ bs. λ Ψ. Typed.pass T16 T19 (s16 bs) (at4 bs Ψ)
+        abbrev at5 : (bs : List.List Nat.ℕ) → Typed.TF Context-16 O1
+        at5 = λ bs. λ Ψ. Typed.pass Context-16 Context-19 (s16 bs) (at4 bs Ψ)
 
-        abbrev at6 : (bs : List.List Nat.ℕ) → Typed.TF T16 O1
+        abbrev at6 : (bs : List.List Nat.ℕ) → Typed.TF Context-16 O1
         at6 = λ bs. λ Ψ. at5 bs Ψ
 
-        abbrev at7 : (bs : List.List Nat.ℕ) → Typed.TF T16 O1
+        abbrev at7 : (bs : List.List Nat.ℕ) → Typed.TF Context-16 O1
         at7 = λ bs. λ Ψ. at6 bs Ψ
 
-        abbrev at8 : (bs : List.List Nat.ℕ) → Typed.TF T15 O1
+        abbrev at8 : (bs : List.List Nat.ℕ) → Typed.TF Context-15 O1
         at8 = λ bs. λ Ψ. Typed.both (s13 bs) (at7 bs Ψ)
 
-        abbrev at9 : (bs : List.List Nat.ℕ) → Typed.TF T14 O1
+        abbrev at9 : (bs : List.List Nat.ℕ) → Typed.TF Context-14 O1
         at9 = λ bs. λ Ψ. Typed.ask (s12 bs) (at8 bs Ψ)
 
-        abbrev at10 : (bs : List.List Nat.ℕ) → Typed.TF T13 O1
-        at10 = λ bs. λ Ψ. Typed.pass T13 T14 (s11 bs) (at9 bs Ψ)
+        abbrev at10 : (bs : List.List Nat.ℕ) → Typed.TF Context-13 O1
+        at10 = λ bs. λ Ψ. Typed.pass Context-13 Context-14 (s11 bs) (at9 bs Ψ)
 
-        abbrev at11 : (bs : List.List Nat.ℕ) → Typed.TF T12 O1
+        abbrev at11 : (bs : List.List Nat.ℕ) → Typed.TF Context-12 O1
         at11 = λ bs. λ Ψ. Typed.both (s10 bs) (at10 bs Ψ)
 
-        abbrev at12 : (bs : List.List Nat.ℕ) → Typed.TF T11 O1
+        abbrev at12 : (bs : List.List Nat.ℕ) → Typed.TF Context-11 O1
         at12 = λ bs. λ Ψ. Typed.give (s9 bs) (at11 bs Ψ)
 
-        abbrev at13 : (bs : List.List Nat.ℕ) → Typed.TF T8 O1
+        abbrev at13 : (bs : List.List Nat.ℕ) → Typed.TF Context-8 O1
         at13 = λ bs. λ Ψ. Typed.both (s8 bs) (at12 bs Ψ)
 
-        abbrev at14 : (bs : List.List Nat.ℕ) → Typed.TF T7 O1
-        at14 = λ bs. Behind.Φswitch_way (Option.the_type (Text.str-field record { mir = Syntax.named 1; lft = List.[] }).row) T7 (Row.out 2 T7.locals) (λ u. Row.drop 2
-            T7.locals u) (λ u. u.1.1.0) (λ T'. record {
+        abbrev at14 : (bs : List.List Nat.ℕ) → Typed.TF Context-7 O1
+        at14 = λ bs. Behind.Φswitch_way (Option.the_type (Text.str-field record { mir = Syntax.named 1; lft = List.[] }).row) Context-7 (Row.out 2 Context-7.locals) (λ u. Row.drop 2
+            Context-7.locals u) (λ u. u.1.1.0) (λ T'. record {
               locals = Row.set_row 2 (
                 2,
                 Rows.whole (Declared.row (Option.the_type (Text.str-field record {
@@ -5151,133 +5151,133 @@ module _ (T1' : RattleType.RattleType) (L1' : Laws'.Laws T1') where
             ) u.1.1.0 T' m') (λ u. Unit) O1 (Syntax.arm (List.◌∷◌ 1 List.[]) b0 (Syntax.arm (List.◌∷◌ 0 List.[]) b5
             Syntax.no_default)) (at1 bs, (at13 bs, tt))
 
-        abbrev at15 : (bs : List.List Nat.ℕ) → Typed.TF T5 O1
+        abbrev at15 : (bs : List.List Nat.ℕ) → Typed.TF Context-5 O1
         at15 = λ bs. λ Ψ. Typed.both (s4 bs) (at14 bs Ψ)
 
-        abbrev at16 : (bs : List.List Nat.ℕ) → Typed.TF T41 O2
-        at16 = λ bs. λ Ψ. Typed.both (s38 bs) (Typed.pass T42 T43 (s39 bs) (Typed.pass T43 T44 (s40 bs) (Typed.pass T44 T45 (s41 bs) (Typed.ask (s42 bs) (Typed.ask (s43
-            bs) (Typed.both (s44 bs) (Typed.pass T48 T51 (s47 bs) (Typed.at_next O2 Ψ))))))))
+        abbrev at16 : (bs : List.List Nat.ℕ) → Typed.TF Context-41 O2
+        at16 = λ bs. λ Ψ. Typed.both (s38 bs) (Typed.pass Context-42 Context-43 (s39 bs) (Typed.pass Context-43 Context-44 (s40 bs) (Typed.pass Context-44 Context-45 (s41 bs) (Typed.ask (s42 bs) (Typed.ask (s43
+            bs) (Typed.both (s44 bs) (Typed.pass Context-48 Context-51 (s47 bs) (Typed.at_next O2 Ψ))))))))
 
-        abbrev at17 : (bs : List.List Nat.ℕ) → Typed.TF T40 O2
-        at17 = λ bs. λ Ψ. Typed.pass T40 T41 (s37 bs) (at16 bs Ψ)
+        abbrev at17 : (bs : List.List Nat.ℕ) → Typed.TF Context-40 O2
+        at17 = λ bs. λ Ψ. Typed.pass Context-40 Context-41 (s37 bs) (at16 bs Ψ)
 
-        abbrev at18 : (bs : List.List Nat.ℕ) → Typed.TF T39 O2
-        at18 = λ bs. λ Ψ. Typed.pass T39 T40 (s36 bs) (at17 bs Ψ)
+        abbrev at18 : (bs : List.List Nat.ℕ) → Typed.TF Context-39 O2
+        at18 = λ bs. λ Ψ. Typed.pass Context-39 Context-40 (s36 bs) (at17 bs Ψ)
 
-        abbrev at19 : (bs : List.List Nat.ℕ) → Typed.TF T38 O2
-        at19 = λ bs. λ Ψ. Typed.pass T38 T39 (s35 bs) (at18 bs Ψ)
+        abbrev at19 : (bs : List.List Nat.ℕ) → Typed.TF Context-38 O2
+        at19 = λ bs. λ Ψ. Typed.pass Context-38 Context-39 (s35 bs) (at18 bs Ψ)
 
-        abbrev at20 : (bs : List.List Nat.ℕ) → Typed.TF T37 O2
-        at20 = λ bs. λ Ψ. Typed.pass T37 T38 (s34 bs) (at19 bs Ψ)
+        abbrev at20 : (bs : List.List Nat.ℕ) → Typed.TF Context-37 O2
+        at20 = λ bs. λ Ψ. Typed.pass Context-37 Context-38 (s34 bs) (at19 bs Ψ)
 
-        abbrev at21 : (bs : List.List Nat.ℕ) → Typed.TF T36 O2
-        at21 = λ bs. λ Ψ. Typed.pass T36 T37 (s33 bs) (at20 bs Ψ)
+        abbrev at21 : (bs : List.List Nat.ℕ) → Typed.TF Context-36 O2
+        at21 = λ bs. λ Ψ. Typed.pass Context-36 Context-37 (s33 bs) (at20 bs Ψ)
 
-        abbrev at22 : (bs : List.List Nat.ℕ) → Typed.TF T35 O2
-        at22 = λ bs. λ Ψ. Typed.pass T35 T36 (s32 bs) (at21 bs Ψ)
+        abbrev at22 : (bs : List.List Nat.ℕ) → Typed.TF Context-35 O2
+        at22 = λ bs. λ Ψ. Typed.pass Context-35 Context-36 (s32 bs) (at21 bs Ψ)
 
-        abbrev at23 : (bs : List.List Nat.ℕ) → Typed.TF T34 O2
+        abbrev at23 : (bs : List.List Nat.ℕ) → Typed.TF Context-34 O2
         at23 = λ bs. λ Ψ. Typed.ask (s31 bs) (at22 bs Ψ)
 
-        abbrev at24 : (bs : List.List Nat.ℕ) → Typed.TF T33 O2
+        abbrev at24 : (bs : List.List Nat.ℕ) → Typed.TF Context-33 O2
         at24 = λ bs. λ Ψ. Typed.give (s30 bs) (at23 bs Ψ)
 
-        abbrev at25 : (bs : List.List Nat.ℕ) → Typed.TF T32 O2
+        abbrev at25 : (bs : List.List Nat.ℕ) → Typed.TF Context-32 O2
         at25 = λ bs. λ Ψ. Typed.both (s29 bs) (at24 bs Ψ)
 
-        abbrev at26 : (bs : List.List Nat.ℕ) → Typed.TF T55 O2
-        at26 = λ bs. λ Ψ. Typed.ask (s52 bs) (Typed.both (s53 bs) (Typed.both (s54 bs) (Typed.ask (s55 bs) (Typed.give (s58 bs) (Typed.pass T62 T63 (s59 bs) (Typed.pass
-            T63 T64 (s60 bs) (Typed.pass T64 T65 (s61 bs) (Typed.at_next O2 Ψ))))))))
+        abbrev at26 : (bs : List.List Nat.ℕ) → Typed.TF Context-55 O2
+        at26 = λ bs. λ Ψ. Typed.ask (s52 bs) (Typed.both (s53 bs) (Typed.both (s54 bs) (Typed.ask (s55 bs) (Typed.give (s58 bs) (Typed.pass Context-62 Context-63 (s59 bs) (Typed.pass
+            Context-63 Context-64 (s60 bs) (Typed.pass Context-64 Context-65 (s61 bs) (Typed.at_next O2 Ψ))))))))
 
-        abbrev at27 : (bs : List.List Nat.ℕ) → Typed.TF T54 O2
-        at27 = λ bs. λ Ψ. Typed.pass T54 T55 (s51 bs) (at26 bs Ψ)
+        abbrev at27 : (bs : List.List Nat.ℕ) → Typed.TF Context-54 O2
+        at27 = λ bs. λ Ψ. Typed.pass Context-54 Context-55 (s51 bs) (at26 bs Ψ)
 
-        abbrev at28 : (bs : List.List Nat.ℕ) → Typed.TF T53 O2
-        at28 = λ bs. λ Ψ. Typed.pass T53 T54 (s50 bs) (at27 bs Ψ)
+        abbrev at28 : (bs : List.List Nat.ℕ) → Typed.TF Context-53 O2
+        at28 = λ bs. λ Ψ. Typed.pass Context-53 Context-54 (s50 bs) (at27 bs Ψ)
 
-        abbrev at29 : (bs : List.List Nat.ℕ) → Typed.TF T52 O2
+        abbrev at29 : (bs : List.List Nat.ℕ) → Typed.TF Context-52 O2
         at29 = λ bs. λ Ψ. Typed.both (s49 bs) (at28 bs Ψ)
 
-        abbrev at30 : (bs : List.List Nat.ℕ) → Typed.TF T32 O2
+        abbrev at30 : (bs : List.List Nat.ℕ) → Typed.TF Context-32 O2
         at30 = λ bs. λ Ψ. Typed.both (s48 bs) (at29 bs Ψ)
 
-        abbrev at31 : (bs : List.List Nat.ℕ) → Typed.TF T32 O2
-        at31 = λ bs. Switch.Φswitch T32 O2 9 (λ x. Declared.tag_of (Option.the_type (Field'.mut_ref_field record { mir = Syntax.erased; lft = List.[] } of-2 tt).row) x)
+        abbrev at31 : (bs : List.List Nat.ℕ) → Typed.TF Context-32 O2
+        at31 = λ bs. Switch.Φswitch Context-32 O2 9 (λ x. Declared.tag_of (Option.the_type (Field'.mut_ref_field record { mir = Syntax.erased; lft = List.[] } of-2 tt).row) x)
             (Syntax.arm (List.◌∷◌ 1 List.[]) b18 (Syntax.arm (List.◌∷◌ 0 List.[]) b19 Syntax.no_default)) (at25 bs, (at30 bs, tt))
 
-        abbrev at32 : (bs : List.List Nat.ℕ) → Typed.TF T31 O2
-        at32 = λ bs. λ Ψ. Typed.pass T31 T32 (s28 bs) (at31 bs Ψ)
+        abbrev at32 : (bs : List.List Nat.ℕ) → Typed.TF Context-31 O2
+        at32 = λ bs. λ Ψ. Typed.pass Context-31 Context-32 (s28 bs) (at31 bs Ψ)
 
-        abbrev at33 : (bs : List.List Nat.ℕ) → Typed.TF T29 O2
-        at33 = λ bs. λ Ψ. Typed.pass T29 T31 (s27 bs) (at32 bs Ψ)
+        abbrev at33 : (bs : List.List Nat.ℕ) → Typed.TF Context-29 O2
+        at33 = λ bs. λ Ψ. Typed.pass Context-29 Context-31 (s27 bs) (at32 bs Ψ)
 
-        abbrev at34 : (bs : List.List Nat.ℕ) → Typed.TF T68 O0
+        abbrev at34 : (bs : List.List Nat.ℕ) → Typed.TF Context-68 O0
         at34 = λ bs. Typed.at_ret O0
 
-        abbrev at35 : (bs : List.List Nat.ℕ) → Typed.TF T66 O0
-        at35 = λ bs. λ Ψ. Typed.pass T66 T68 (s64 bs) (at34 bs Ψ)
+        abbrev at35 : (bs : List.List Nat.ℕ) → Typed.TF Context-66 O0
+        at35 = λ bs. λ Ψ. Typed.pass Context-66 Context-68 (s64 bs) (at34 bs Ψ)
 
-        abbrev at36 : (bs : List.List Nat.ℕ) → Typed.TF T66 O0
+        abbrev at36 : (bs : List.List Nat.ℕ) → Typed.TF Context-66 O0
         at36 = λ bs. λ Ψ. at35 bs Ψ
 
-        abbrev at37 : (bs : List.List Nat.ℕ) → Typed.TF T30 O0
-        at37 = λ bs. λ Ψ. Typed.pass T30 T66 (s62 bs) (at36 bs Ψ)
+        abbrev at37 : (bs : List.List Nat.ℕ) → Typed.TF Context-30 O0
+        at37 = λ bs. λ Ψ. Typed.pass Context-30 Context-66 (s62 bs) (at36 bs Ψ)
 
-        abbrev at38 : (bs : List.List Nat.ℕ) → Typed.TF T29 O0
+        abbrev at38 : (bs : List.List Nat.ℕ) → Typed.TF Context-29 O0
         at38 = λ bs. λ Ψ. at33 bs (at37 bs Ψ, Ψ.1, Ψ.2)
 
-        abbrev at39 : (bs : List.List Nat.ℕ) → Typed.TF T28 O0
+        abbrev at39 : (bs : List.List Nat.ℕ) → Typed.TF Context-28 O0
         at39 = λ bs. λ Ψ. Typed.both (s26 bs) (at38 bs Ψ)
 
-        abbrev at40 : (bs : List.List Nat.ℕ) → Typed.TF T27 O0
+        abbrev at40 : (bs : List.List Nat.ℕ) → Typed.TF Context-27 O0
         at40 = λ bs. λ Ψ. Typed.give (s25 bs) (at39 bs Ψ)
 
-        abbrev at41 : (bs : List.List Nat.ℕ) → Typed.TF T26 O0
-        at41 = λ bs. λ Ψ. Typed.pass T26 T27 (s24 bs) (at40 bs Ψ)
+        abbrev at41 : (bs : List.List Nat.ℕ) → Typed.TF Context-26 O0
+        at41 = λ bs. λ Ψ. Typed.pass Context-26 Context-27 (s24 bs) (at40 bs Ψ)
 
-        abbrev at42 : (bs : List.List Nat.ℕ) → Typed.TF T25 O0
+        abbrev at42 : (bs : List.List Nat.ℕ) → Typed.TF Context-25 O0
         at42 = λ bs. λ Ψ. Typed.both (s23 bs) (at41 bs Ψ)
 
-        abbrev at43 : (bs : List.List Nat.ℕ) → Typed.TF T24 O0
+        abbrev at43 : (bs : List.List Nat.ℕ) → Typed.TF Context-24 O0
         at43 = λ bs. λ Ψ. Typed.both (s22 bs) (at42 bs Ψ)
 
-        abbrev at44 : (bs : List.List Nat.ℕ) → Typed.TF T23 O0
-        at44 = λ bs. λ Ψ. Typed.pass T23 T24 (s21 bs) (at43 bs Ψ)
+        abbrev at44 : (bs : List.List Nat.ℕ) → Typed.TF Context-23 O0
+        at44 = λ bs. λ Ψ. Typed.pass Context-23 Context-24 (s21 bs) (at43 bs Ψ)
 
-        abbrev at45 : (bs : List.List Nat.ℕ) → Typed.TF T22 O0
-        at45 = λ bs. λ Ψ. Typed.pass T22 T23 (s20 bs) (at44 bs Ψ)
+        abbrev at45 : (bs : List.List Nat.ℕ) → Typed.TF Context-22 O0
+        at45 = λ bs. λ Ψ. Typed.pass Context-22 Context-23 (s20 bs) (at44 bs Ψ)
 
-        abbrev at46 : (bs : List.List Nat.ℕ) → Typed.TF T6 O0
+        abbrev at46 : (bs : List.List Nat.ℕ) → Typed.TF Context-6 O0
         at46 = λ bs. λ Ψ. Typed.both (s19 bs) (at45 bs Ψ)
 
-        abbrev at47 : (bs : List.List Nat.ℕ) → Typed.TF T5 O0
+        abbrev at47 : (bs : List.List Nat.ℕ) → Typed.TF Context-5 O0
         at47 = λ bs. λ Ψ. at15 bs (at46 bs Ψ, Ψ.1, Ψ.2)
 
-        abbrev at48 : (bs : List.List Nat.ℕ) → Typed.TF T2 O0
+        abbrev at48 : (bs : List.List Nat.ℕ) → Typed.TF Context-2 O0
         at48 = λ bs. λ Ψ. Typed.give (s3 bs) (at47 bs Ψ)
 
-        abbrev at49 : (bs : List.List Nat.ℕ) → Typed.TF T2 O0
+        abbrev at49 : (bs : List.List Nat.ℕ) → Typed.TF Context-2 O0
         at49 = λ bs. λ Ψ. at48 bs Ψ
 
-        abbrev at50 : (bs : List.List Nat.ℕ) → Typed.TF T2 O0
+        abbrev at50 : (bs : List.List Nat.ℕ) → Typed.TF Context-2 O0
         at50 = λ bs. λ Ψ. at49 bs Ψ
 
-        abbrev at51 : (bs : List.List Nat.ℕ) → Typed.TF T0 O0
-        at51 = λ bs. λ Ψ. Typed.pass T0 T2 (s0 bs) (at50 bs Ψ)
+        abbrev at51 : (bs : List.List Nat.ℕ) → Typed.TF Context-0 O0
+        at51 = λ bs. λ Ψ. Typed.pass Context-0 Context-2 (s0 bs) (at50 bs Ψ)
 
-        abbrev pub Φ : (bs : List.List Nat.ℕ) → Typed.TF T0 O0
+        abbrev pub Φ : (bs : List.List Nat.ℕ) → Typed.TF Context-0 O0
         Φ = λ bs. at51 bs
 
         module _ {M : Type 1} {𝓤 : Ura.Ura M} (𝓛 : Logic''.Logic 𝓤) (𝓣 : Wp.Tables 𝓤 𝓛.H) where
           abbrev Knowns : Type 1
           Knowns = Plain.Known 𝓛 𝓣 2 ps_on-0 r-0 the-claims.0 (So.WithSo 2 whole-0 part-0 named-0 lender-0 rest-0 r-0 (AtSlots.one_type 2 named-0) the-claims.2
-              the-claims.0 the-claims.1) (Syntax.fn "core::option::Option::as_mut" (Syntax.tcons (Param.layout T1') Syntax.tnil, Syntax.dnil)) × Plain.Known 𝓛 𝓣 1 ps-1
+              the-claims.0 the-claims.1) (Syntax.fn "core::option::Option::as_mut" (Syntax.tcons (Param.layout Value) Syntax.tnil, Syntax.dnil)) × Plain.Known 𝓛 𝓣 1 ps-1
               r-1 the-claims.3 the-claims.4 (Syntax.fn₀ "mq_topic::levels::split_first") × Plain.Known 𝓛 𝓣 5 ps_on-2 r-2 the-claims.5 (So.WithSo 5 whole-2 part-2 named-2
               lender-2 rest-2 r-2 (AtSlots.one_type 5 named-2) the-claims.7 the-claims.5 the-claims.6) (Syntax.fn "std_collections::btree_map::BTreeMap::get_mut" (
                 Syntax.tcons (Syntax.ty_struct List.[] (Syntax.tcons (Syntax.ty_struct List.[] (Syntax.tcons Syntax.ty_ptr (Syntax.tcons (Syntax.ty_int Syntax.w64)
                     (Syntax.tcons (Syntax.ty_int Syntax.w64) (Syntax.tcons (Syntax.ty_struct List.[] (Syntax.tcons (Syntax.ty_struct List.[] (Syntax.tcons Syntax.ty_unit
                     Syntax.tnil)) Syntax.tnil)) Syntax.tnil))))) Syntax.tnil)) (Syntax.tcons (Syntax.ty_struct List.[] (Syntax.tcons (Syntax.ty_enum List.[] (Syntax.ttcons
-                    Syntax.tnil (Syntax.ttcons (Syntax.tcons (Param.layout T1') Syntax.tnil) Syntax.ttnil))) (Syntax.tcons (Syntax.ty_struct List.[] (Syntax.tcons
+                    Syntax.tnil (Syntax.ttcons (Syntax.tcons (Param.layout Value) Syntax.tnil) Syntax.ttnil))) (Syntax.tcons (Syntax.ty_struct List.[] (Syntax.tcons
                     (Syntax.ty_struct List.[] (Syntax.tcons (Syntax.ty_enum List.[] (Syntax.ttcons Syntax.tnil (Syntax.ttcons (Syntax.tcons (Syntax.ty_struct List.[]
                     (Syntax.tcons (Syntax.ty_struct List.[] (Syntax.tcons Syntax.ty_ptr Syntax.tnil)) Syntax.tnil)) Syntax.tnil) Syntax.ttnil))) (Syntax.tcons (Syntax.ty_int
                     Syntax.w64) (Syntax.tcons (Syntax.ty_struct List.[] (Syntax.tcons (Syntax.ty_struct List.[] (Syntax.tcons Syntax.ty_unit Syntax.tnil)) Syntax.tnil))
@@ -5315,7 +5315,7 @@ module _ (T1' : RattleType.RattleType) (L1' : Laws'.Laws T1') where
                     Syntax.tnil) Syntax.dnil) Syntax.dnil))) (Syntax.dcons (Syntax.impl (List.◌∷◌ "core::clone::RefStrClone::clone" List.[]) Syntax.tnil Syntax.dnil)
                     Syntax.dnil))))))),
               )) × Plain.Known 𝓛 𝓣 3 ps_on-3 r-3 the-claims.8 (So.WithSo 3 whole-3 part-3 named-3 lender-3 rest-3 r-3 (AtSlots.one_type 3 named-3)
-              the-claims.10 the-claims.8 the-claims.9) (Syntax.fn "mq_tree::node::Node::get_mut" (Syntax.tcons (Param.layout T1') Syntax.tnil, Syntax.dnil))
+              the-claims.10 the-claims.8 the-claims.9) (Syntax.fn "mq_tree::node::Node::get_mut" (Syntax.tcons (Param.layout Value) Syntax.tnil, Syntax.dnil))
 
         module _ (κs : Lifetimes.Lfts 3) (qs : Lifetimes.Shares 3) where
           abbrev g0 : List.List Row.Entry
@@ -5325,7 +5325,7 @@ module _ (T1' : RattleType.RattleType) (L1' : Laws'.Laws T1') where
                 (Syntax.ty_param 0)) Syntax.tnil) Syntax.ttnil))),
           ) (List.◌∷◌ (
             1,
-            Rows.mref (Node.the_row (Param.param 0 T1')) (Syntax.ty_ref (Syntax.named 0) Syntax.mut
+            Rows.mref (Node.the_row (Param.param 0 Value)) (Syntax.ty_ref (Syntax.named 0) Syntax.mut
                 behind-2) 0,
           ) (List.◌∷◌ (2, Rows.whole (Declared.row (Option.the_type (Text.str-field record { mir = Syntax.named 1; lft = κs.1.0 }).row))) (List.◌∷◌ (
             3,
@@ -5364,11 +5364,11 @@ module _ (T1' : RattleType.RattleType) (L1' : Laws'.Laws T1') where
               ) List.[])))))))))))))
 
           abbrev g1 : List.List Row.Entry
-          g1 = List.◌∷◌ (0, Rows.whole (Declared.row (Option.the_type (Field'.mut_ref_field record { mir = Syntax.named 0; lft = κs.0 } (Param.param 0 T1') tt).row)))
+          g1 = List.◌∷◌ (0, Rows.whole (Declared.row (Option.the_type (Field'.mut_ref_field record { mir = Syntax.named 0; lft = κs.0 } (Param.param 0 Value) tt).row)))
               (List.◌∷◌ (
                 1,
-                Kind.owing_by (Node.the_row (Param.param 0 T1')) (Maybe.maybe (Node.the_row (Param.param 0 T1')) (Param.param 0 T1') (Option.the_type
-                    (Field'.mut_ref_field record { mir = Syntax.named 0; lft = List.[] } (Param.param 0 T1') tt).row).D) (Syntax.ty_ref (Syntax.named 0) Syntax.mut behind-2),
+                Kind.owing_by (Node.the_row (Param.param 0 Value)) (Maybe.maybe (Node.the_row (Param.param 0 Value)) (Param.param 0 Value) (Option.the_type
+                    (Field'.mut_ref_field record { mir = Syntax.named 0; lft = List.[] } (Param.param 0 Value) tt).row).D) (Syntax.ty_ref (Syntax.named 0) Syntax.mut behind-2),
               )
               (List.◌∷◌ (2, Rows.whole (Declared.row (Option.the_type (Text.str-field record { mir = Syntax.named 1; lft = κs.1.0 }).row))) (List.◌∷◌ (
                 3,
@@ -5416,7 +5416,7 @@ module _ (T1' : RattleType.RattleType) (L1' : Laws'.Laws T1') where
                 (Syntax.ty_param 0)) Syntax.tnil) Syntax.ttnil))),
           ) (List.◌∷◌ (
             1,
-            Rows.mref (Node.the_row (Param.param 0 T1')) (Syntax.ty_ref (Syntax.named 0) Syntax.mut
+            Rows.mref (Node.the_row (Param.param 0 Value)) (Syntax.ty_ref (Syntax.named 0) Syntax.mut
                 behind-2) 0,
           ) (List.◌∷◌ (2, Rows.whole (Declared.row (Option.the_type (Text.str-field record { mir = Syntax.named 1; lft = κs.1.0 }).row))) (List.◌∷◌ (
             3,
@@ -5461,8 +5461,8 @@ module _ (T1' : RattleType.RattleType) (L1' : Laws'.Laws T1') where
                 (Syntax.ty_param 0)) Syntax.tnil) Syntax.ttnil))),
           ) (List.◌∷◌ (
             1,
-            Late.late_aside (Node.the_row (Param.param 0 T1')) (Declared'.row (TheInside.the_type
-                (Param.param 0 T1'))) 0 (Row.bare (Fraction.right qs.0)),
+            Late.late_aside (Node.the_row (Param.param 0 Value)) (Declared'.row (TheInside.the_type
+                (Param.param 0 Value))) 0 (Row.bare (Fraction.right qs.0)),
           ) (List.◌∷◌ (
             2,
             Rows.whole (Declared.row (Option.the_type (Text.str-field record {
@@ -5514,7 +5514,7 @@ module _ (T1' : RattleType.RattleType) (L1' : Laws'.Laws T1') where
             Rows.any_gone (Syntax.ty_enum name-2 (Syntax.ttcons Syntax.tnil (Syntax.ttcons (Syntax.tcons (Syntax.ty_struct name-0
                 (Syntax.tcons (Syntax.ty_ref Syntax.erased Syntax.imm (Syntax.ty_int Syntax.w8)) (Syntax.tcons (Syntax.ty_int Syntax.w64) Syntax.tnil))) Syntax.tnil)
                 Syntax.ttnil))),
-          ) (List.◌∷◌ (1, Rows.mref (Declared'.row (TheInside.the_type (Param.param 0 T1'))) (Syntax.ty_ref (Syntax.named 0) Syntax.mut behind-2) 0)
+          ) (List.◌∷◌ (1, Rows.mref (Declared'.row (TheInside.the_type (Param.param 0 Value))) (Syntax.ty_ref (Syntax.named 0) Syntax.mut behind-2) 0)
               List.[]))))))))))))))
 
           abbrev g4 : List.List Row.Entry
@@ -5524,8 +5524,8 @@ module _ (T1' : RattleType.RattleType) (L1' : Laws'.Laws T1') where
                 (Syntax.ty_param 0)) Syntax.tnil) Syntax.ttnil))),
           ) (List.◌∷◌ (
             1,
-            Late.late_aside (Node.the_row (Param.param 0 T1')) (Declared'.row (TheInside.the_type
-                (Param.param 0 T1'))) 0 (Row.bare (Fraction.right qs.0)),
+            Late.late_aside (Node.the_row (Param.param 0 Value)) (Declared'.row (TheInside.the_type
+                (Param.param 0 Value))) 0 (Row.bare (Fraction.right qs.0)),
           ) (List.◌∷◌ (
             2,
             Rows.whole (Declared.row (Option.the_type (Text.str-field record {
@@ -5570,7 +5570,7 @@ module _ (T1' : RattleType.RattleType) (L1' : Laws'.Laws T1') where
               ) (List.◌∷◌ (
                 1,
                 Rows.mref (Declared'.row
-                    (TheInside.the_type (Param.param 0 T1'))) (Syntax.ty_ref (Syntax.named 0) Syntax.mut behind-2) 0,
+                    (TheInside.the_type (Param.param 0 Value))) (Syntax.ty_ref (Syntax.named 0) Syntax.mut behind-2) 0,
               ) List.[]))))))))))))))
 
           abbrev g5 : List.List Row.Entry
@@ -5580,8 +5580,8 @@ module _ (T1' : RattleType.RattleType) (L1' : Laws'.Laws T1') where
                 (Syntax.ty_param 0)) Syntax.tnil) Syntax.ttnil))),
           ) (List.◌∷◌ (
             1,
-            Late.late_aside (Node.the_row (Param.param 0 T1')) (Declared'.row (TheInside.the_type
-                (Param.param 0 T1'))) 0 (Row.bare (Fraction.right qs.0)),
+            Late.late_aside (Node.the_row (Param.param 0 Value)) (Declared'.row (TheInside.the_type
+                (Param.param 0 Value))) 0 (Row.bare (Fraction.right qs.0)),
           ) (List.◌∷◌ (
             2,
             Rows.whole (Declared.row (Option.the_type (Text.str-field record {
@@ -5608,7 +5608,7 @@ module _ (T1' : RattleType.RattleType) (L1' : Laws'.Laws T1') where
                 (Syntax.ty_ref Syntax.erased Syntax.mut behind-2),
           ) (List.◌∷◌ (
             7,
-            Rows.mref (Declared.row (Option.the_type (Param.param 0 T1'))) (Syntax.ty_ref Syntax.erased
+            Rows.mref (Declared.row (Option.the_type (Param.param 0 Value))) (Syntax.ty_ref Syntax.erased
                 Syntax.mut behind-3) 0,
           ) (List.◌∷◌ (
             8,
@@ -5634,20 +5634,20 @@ module _ (T1' : RattleType.RattleType) (L1' : Laws'.Laws T1') where
               ) (List.◌∷◌ (
                 1,
                 Kind.waits (Declared'.row (TheInside.the_type
-                    (Param.param 0 T1'))) (Declared.row (Option.the_type (Param.param 0 T1'))) (Syntax.ty_ref (Syntax.named 0) Syntax.mut behind-2),
+                    (Param.param 0 Value))) (Declared.row (Option.the_type (Param.param 0 Value))) (Syntax.ty_ref (Syntax.named 0) Syntax.mut behind-2),
               ) List.[]))))))))))))))
 
           abbrev g6 : List.List Row.Entry
           g6 = List.◌∷◌ (
             0,
-            ValueAt.val_at 2 (λ κc. Declared.row (Option.the_type (Field'.mut_ref_field record { mir = Syntax.named 0; lft = κc.0 } (Param.param 0 T1')
-                tt).row)) (Option.the_type (Field'.mut_ref_field record { mir = Syntax.named 0; lft = List.[] } (Param.param 0 T1') tt).row).D (λ κc v. v) (List.◌∷◌ 0
+            ValueAt.val_at 2 (λ κc. Declared.row (Option.the_type (Field'.mut_ref_field record { mir = Syntax.named 0; lft = κc.0 } (Param.param 0 Value)
+                tt).row)) (Option.the_type (Field'.mut_ref_field record { mir = Syntax.named 0; lft = List.[] } (Param.param 0 Value) tt).row).D (λ κc v. v) (List.◌∷◌ 0
                 (List.◌∷◌ 2 List.[])) (Syntax.ty_enum name-2 (Syntax.ttcons Syntax.tnil (Syntax.ttcons (Syntax.tcons (Syntax.ty_ref (Syntax.named 0) Syntax.mut
                 (Syntax.ty_param 0)) Syntax.tnil) Syntax.ttnil))),
           ) (List.◌∷◌ (
             1,
-            Late.late_aside (Node.the_row (Param.param 0 T1')) (Declared'.row (TheInside.the_type
-                (Param.param 0 T1'))) 0 (Row.bare (Fraction.right qs.0)),
+            Late.late_aside (Node.the_row (Param.param 0 Value)) (Declared'.row (TheInside.the_type
+                (Param.param 0 Value))) 0 (Row.bare (Fraction.right qs.0)),
           ) (List.◌∷◌ (
             2,
             Rows.whole (Declared.row (Option.the_type (Text.str-field record {
@@ -5674,8 +5674,8 @@ module _ (T1' : RattleType.RattleType) (L1' : Laws'.Laws T1') where
                 (Syntax.ty_ref Syntax.erased Syntax.mut behind-2),
           ) (List.◌∷◌ (
             7,
-            Maybe.waits_if (Declared.row (Option.the_type (Param.param 0 T1'))) (Param.param 0 T1')
-                (Option.the_type (Field'.mut_ref_field record { mir = Syntax.named 0; lft = List.[] } (Param.param 0 T1') tt).row).D (Syntax.ty_ref Syntax.erased
+            Maybe.waits_if (Declared.row (Option.the_type (Param.param 0 Value))) (Param.param 0 Value)
+                (Option.the_type (Field'.mut_ref_field record { mir = Syntax.named 0; lft = List.[] } (Param.param 0 Value) tt).row).D (Syntax.ty_ref Syntax.erased
                 Syntax.mut behind-3),
           ) (List.◌∷◌ (
             8,
@@ -5701,14 +5701,14 @@ module _ (T1' : RattleType.RattleType) (L1' : Laws'.Laws T1') where
               ) (List.◌∷◌ (
                 1,
                 Kind.waits (Declared'.row (TheInside.the_type
-                    (Param.param 0 T1'))) (Declared.row (Option.the_type (Param.param 0 T1'))) (Syntax.ty_ref (Syntax.named 0) Syntax.mut behind-2),
+                    (Param.param 0 Value))) (Declared.row (Option.the_type (Param.param 0 Value))) (Syntax.ty_ref (Syntax.named 0) Syntax.mut behind-2),
               ) List.[]))))))))))))))
 
           abbrev g7 : List.List Row.Entry
-          g7 = List.◌∷◌ (0, Rows.whole (Declared.row (Option.the_type (Field'.mut_ref_field record { mir = Syntax.named 0; lft = κs.0 } (Param.param 0 T1') tt).row)))
+          g7 = List.◌∷◌ (0, Rows.whole (Declared.row (Option.the_type (Field'.mut_ref_field record { mir = Syntax.named 0; lft = κs.0 } (Param.param 0 Value) tt).row)))
               (List.◌∷◌ (
                 1,
-                Late.late_aside (Node.the_row (Param.param 0 T1')) (Declared'.row (TheInside.the_type (Param.param 0 T1'))) 0 (Row.bare (Fraction.right
+                Late.late_aside (Node.the_row (Param.param 0 Value)) (Declared'.row (TheInside.the_type (Param.param 0 Value))) 0 (Row.bare (Fraction.right
                     qs.0)),
               ) (List.◌∷◌ (2, Rows.whole (Declared.row (Option.the_type (Text.str-field record { mir = Syntax.named 1; lft = κs.1.0 }).row))) (List.◌∷◌ (
                 3,
@@ -5726,11 +5726,11 @@ module _ (T1' : RattleType.RattleType) (L1' : Laws'.Laws T1') where
               ) (List.◌∷◌ (6, Rows.any_gone (Syntax.ty_ref Syntax.erased Syntax.mut behind-2))
               (List.◌∷◌ (
                 7,
-                Maybe.waits_if (Declared.row (Option.the_type (Param.param 0 T1'))) (Param.param 0 T1') (Option.the_type (Field'.mut_ref_field record {
+                Maybe.waits_if (Declared.row (Option.the_type (Param.param 0 Value))) (Param.param 0 Value) (Option.the_type (Field'.mut_ref_field record {
                   mir =
                       Syntax.named 0;
                   lft = List.[];
-                } (Param.param 0 T1') tt).row).D (Syntax.ty_ref Syntax.erased Syntax.mut behind-3),
+                } (Param.param 0 Value) tt).row).D (Syntax.ty_ref Syntax.erased Syntax.mut behind-3),
               ) (List.◌∷◌ (
                 8,
                 Rows.any_gone
@@ -5758,15 +5758,15 @@ module _ (T1' : RattleType.RattleType) (L1' : Laws'.Laws T1') where
               )
               (List.◌∷◌ (
                 1,
-                Kind.waits (Declared'.row (TheInside.the_type (Param.param 0 T1'))) (Declared.row (Option.the_type (Param.param 0 T1'))) (Syntax.ty_ref
+                Kind.waits (Declared'.row (TheInside.the_type (Param.param 0 Value))) (Declared.row (Option.the_type (Param.param 0 Value))) (Syntax.ty_ref
                     (Syntax.named 0) Syntax.mut behind-2),
               ) List.[]))))))))))))))
 
           abbrev g8 : List.List Row.Entry
-          g8 = List.◌∷◌ (0, Rows.whole (Declared.row (Option.the_type (Field'.mut_ref_field record { mir = Syntax.named 0; lft = κs.0 } (Param.param 0 T1') tt).row)))
+          g8 = List.◌∷◌ (0, Rows.whole (Declared.row (Option.the_type (Field'.mut_ref_field record { mir = Syntax.named 0; lft = κs.0 } (Param.param 0 Value) tt).row)))
               (List.◌∷◌ (
                 1,
-                Late.late_aside (Node.the_row (Param.param 0 T1')) (Declared'.row (TheInside.the_type (Param.param 0 T1'))) 0 (Row.bare (Fraction.right
+                Late.late_aside (Node.the_row (Param.param 0 Value)) (Declared'.row (TheInside.the_type (Param.param 0 Value))) 0 (Row.bare (Fraction.right
                     qs.0)),
               ) (List.◌∷◌ (2, Rows.whole (Declared.row (Option.the_type (Text.str-field record { mir = Syntax.named 1; lft = κs.1.0 }).row))) (List.◌∷◌ (
                 3,
@@ -5805,18 +5805,18 @@ module _ (T1' : RattleType.RattleType) (L1' : Laws'.Laws T1') where
               ) (List.◌∷◌ (
                 1,
                 Maybe.waits_if (Declared'.row
-                    (TheInside.the_type (Param.param 0 T1'))) (Param.param 0 T1') (Option.the_type (Field'.mut_ref_field record { mir = Syntax.named 0; lft = List.[] }
-                    (Param.param 0 T1') tt).row).D (Syntax.ty_ref (Syntax.named 0) Syntax.mut behind-2),
+                    (TheInside.the_type (Param.param 0 Value))) (Param.param 0 Value) (Option.the_type (Field'.mut_ref_field record { mir = Syntax.named 0; lft = List.[] }
+                    (Param.param 0 Value) tt).row).D (Syntax.ty_ref (Syntax.named 0) Syntax.mut behind-2),
               ) List.[]))))))))))))))
 
           abbrev g9 : List.List Row.Entry
-          g9 = List.◌∷◌ (0, Rows.whole (Declared.row (Option.the_type (Field'.mut_ref_field record { mir = Syntax.named 0; lft = κs.0 } (Param.param 0 T1') tt).row)))
+          g9 = List.◌∷◌ (0, Rows.whole (Declared.row (Option.the_type (Field'.mut_ref_field record { mir = Syntax.named 0; lft = κs.0 } (Param.param 0 Value) tt).row)))
               (List.◌∷◌ (
                 1,
-                Maybe.waits_if (Node.the_row (Param.param 0 T1')) (Param.param 0 T1') (Option.the_type (Field'.mut_ref_field record {
+                Maybe.waits_if (Node.the_row (Param.param 0 Value)) (Param.param 0 Value) (Option.the_type (Field'.mut_ref_field record {
                   mir = Syntax.named 0;
                   lft = List.[];
-                } (Param.param 0 T1') tt).row).D (Syntax.ty_ref (Syntax.named 0) Syntax.mut behind-2),
+                } (Param.param 0 Value) tt).row).D (Syntax.ty_ref (Syntax.named 0) Syntax.mut behind-2),
               ) (List.◌∷◌ (
                 2,
                 Rows.whole (Declared.row
@@ -5868,11 +5868,11 @@ module _ (T1' : RattleType.RattleType) (L1' : Laws'.Laws T1') where
               ) (List.◌∷◌ (1, Row.absent) List.[]))))))))))))))
 
           abbrev g10 : List.List Row.Entry
-          g10 = List.◌∷◌ (0, Rows.whole (Declared.row (Option.the_type (Field'.mut_ref_field record { mir = Syntax.named 0; lft = κs.0 } (Param.param 0 T1') tt).row)))
+          g10 = List.◌∷◌ (0, Rows.whole (Declared.row (Option.the_type (Field'.mut_ref_field record { mir = Syntax.named 0; lft = κs.0 } (Param.param 0 Value) tt).row)))
               (List.◌∷◌ (
                 1,
-                Kind.owing_by (Node.the_row (Param.param 0 T1')) (Maybe.maybe (Node.the_row (Param.param 0 T1')) (Param.param 0 T1') (Option.the_type
-                    (Field'.mut_ref_field record { mir = Syntax.named 0; lft = List.[] } (Param.param 0 T1') tt).row).D) (Syntax.ty_ref (Syntax.named 0) Syntax.mut behind-2),
+                Kind.owing_by (Node.the_row (Param.param 0 Value)) (Maybe.maybe (Node.the_row (Param.param 0 Value)) (Param.param 0 Value) (Option.the_type
+                    (Field'.mut_ref_field record { mir = Syntax.named 0; lft = List.[] } (Param.param 0 Value) tt).row).D) (Syntax.ty_ref (Syntax.named 0) Syntax.mut behind-2),
               )
               (List.◌∷◌ (2, Rows.whole (Declared.row (Option.the_type (Text.str-field record { mir = Syntax.named 1; lft = κs.1.0 }).row))) (List.◌∷◌ (
                 3,
@@ -5920,8 +5920,8 @@ module _ (T1' : RattleType.RattleType) (L1' : Laws'.Laws T1') where
                 (Syntax.ty_param 0)) Syntax.tnil) Syntax.ttnil))),
           ) (List.◌∷◌ (
             1,
-            Late.late_aside (Node.the_row (Param.param 0 T1')) (Declared'.row (TheInside.the_type
-                (Param.param 0 T1'))) 0 (Row.bare (Fraction.right qs.0)),
+            Late.late_aside (Node.the_row (Param.param 0 Value)) (Declared'.row (TheInside.the_type
+                (Param.param 0 Value))) 0 (Row.bare (Fraction.right qs.0)),
           ) (List.◌∷◌ (
             2,
             Rows.whole (Declared.row (Option.the_type (Text.str-field record {
@@ -5970,7 +5970,7 @@ module _ (T1' : RattleType.RattleType) (L1' : Laws'.Laws T1') where
               ) (List.◌∷◌ (
                 1,
                 Rows.mref (Declared'.row
-                    (TheInside.the_type (Param.param 0 T1'))) (Syntax.ty_ref (Syntax.named 0) Syntax.mut behind-2) 0,
+                    (TheInside.the_type (Param.param 0 Value))) (Syntax.ty_ref (Syntax.named 0) Syntax.mut behind-2) 0,
               ) List.[]))))))))))))))
 
           abbrev g12 : List.List Row.Entry
@@ -5980,8 +5980,8 @@ module _ (T1' : RattleType.RattleType) (L1' : Laws'.Laws T1') where
                 (Syntax.ty_param 0)) Syntax.tnil) Syntax.ttnil))),
           ) (List.◌∷◌ (
             1,
-            Late.late_aside (Node.the_row (Param.param 0 T1')) (Declared'.row (TheInside.the_type
-                (Param.param 0 T1'))) 0 (Row.bare (Fraction.right qs.0)),
+            Late.late_aside (Node.the_row (Param.param 0 Value)) (Declared'.row (TheInside.the_type
+                (Param.param 0 Value))) 0 (Row.bare (Fraction.right qs.0)),
           ) (List.◌∷◌ (
             2,
             Rows.whole (Declared.row (Option.the_type (Text.str-field record {
@@ -6032,7 +6032,7 @@ module _ (T1' : RattleType.RattleType) (L1' : Laws'.Laws T1') where
                     Syntax.tnil))) Syntax.tnil) Syntax.ttnil))),
               ) (List.◌∷◌ (
                 1,
-                Rows.mref (Declared'.row (TheInside.the_type (Param.param 0 T1'))) (Syntax.ty_ref (Syntax.named
+                Rows.mref (Declared'.row (TheInside.the_type (Param.param 0 Value))) (Syntax.ty_ref (Syntax.named
                     0) Syntax.mut behind-2) 0,
               ) List.[]))))))))))))))
 
@@ -6043,8 +6043,8 @@ module _ (T1' : RattleType.RattleType) (L1' : Laws'.Laws T1') where
                 (Syntax.ty_param 0)) Syntax.tnil) Syntax.ttnil))),
           ) (List.◌∷◌ (
             1,
-            Late.late_aside (Node.the_row (Param.param 0 T1')) (Declared'.row (TheInside.the_type
-                (Param.param 0 T1'))) 0 (Row.bare (Fraction.right qs.0)),
+            Late.late_aside (Node.the_row (Param.param 0 Value)) (Declared'.row (TheInside.the_type
+                (Param.param 0 Value))) 0 (Row.bare (Fraction.right qs.0)),
           ) (List.◌∷◌ (
             2,
             Rows.whole (Declared.row (Option.the_type (Text.str-field record {
@@ -6090,7 +6090,7 @@ module _ (T1' : RattleType.RattleType) (L1' : Laws'.Laws T1') where
               ) (List.◌∷◌ (
                 1,
                 Rows.mref (Declared'.row (TheInside.the_type
-                    (Param.param 0 T1'))) (Syntax.ty_ref (Syntax.named 0) Syntax.mut behind-2) 0,
+                    (Param.param 0 Value))) (Syntax.ty_ref (Syntax.named 0) Syntax.mut behind-2) 0,
               ) List.[]))))))))))))))
 
           abbrev g14 : List.List Row.Entry
@@ -6100,8 +6100,8 @@ module _ (T1' : RattleType.RattleType) (L1' : Laws'.Laws T1') where
                 (Syntax.ty_param 0)) Syntax.tnil) Syntax.ttnil))),
           ) (List.◌∷◌ (
             1,
-            Late.late_aside (Node.the_row (Param.param 0 T1')) (Declared'.row (TheInside.the_type
-                (Param.param 0 T1'))) 0 (Row.bare (Fraction.right qs.0)),
+            Late.late_aside (Node.the_row (Param.param 0 Value)) (Declared'.row (TheInside.the_type
+                (Param.param 0 Value))) 0 (Row.bare (Fraction.right qs.0)),
           ) (List.◌∷◌ (
             2,
             Rows.whole (Declared.row (Option.the_type (Text.str-field record {
@@ -6152,7 +6152,7 @@ module _ (T1' : RattleType.RattleType) (L1' : Laws'.Laws T1') where
                     Syntax.tnil))) Syntax.tnil) Syntax.ttnil))),
               ) (List.◌∷◌ (
                 1,
-                Rows.mref (Declared'.row (TheInside.the_type (Param.param 0 T1'))) (Syntax.ty_ref (Syntax.named
+                Rows.mref (Declared'.row (TheInside.the_type (Param.param 0 Value))) (Syntax.ty_ref (Syntax.named
                     0) Syntax.mut behind-2) 0,
               ) List.[]))))))))))))))
 
@@ -6163,8 +6163,8 @@ module _ (T1' : RattleType.RattleType) (L1' : Laws'.Laws T1') where
                 (Syntax.ty_param 0)) Syntax.tnil) Syntax.ttnil))),
           ) (List.◌∷◌ (
             1,
-            Late.late_aside (Node.the_row (Param.param 0 T1')) (Declared'.row (TheInside.the_type
-                (Param.param 0 T1'))) 0 (Row.bare (Fraction.right qs.0)),
+            Late.late_aside (Node.the_row (Param.param 0 Value)) (Declared'.row (TheInside.the_type
+                (Param.param 0 Value))) 0 (Row.bare (Fraction.right qs.0)),
           ) (List.◌∷◌ (
             2,
             Rows.whole (Declared.row (Option.the_type (Text.str-field record {
@@ -6216,7 +6216,7 @@ module _ (T1' : RattleType.RattleType) (L1' : Laws'.Laws T1') where
                 Rows.any_gone (Syntax.ty_enum name-2 (Syntax.ttcons Syntax.tnil (Syntax.ttcons (Syntax.tcons (Syntax.ty_struct name-0 (Syntax.tcons
                     (Syntax.ty_ref Syntax.erased Syntax.imm (Syntax.ty_int Syntax.w8)) (Syntax.tcons (Syntax.ty_int Syntax.w64) Syntax.tnil))) Syntax.tnil) Syntax.ttnil))),
               )
-              (List.◌∷◌ (1, Rows.mref (Declared'.row (TheInside.the_type (Param.param 0 T1'))) (Syntax.ty_ref (Syntax.named 0) Syntax.mut behind-2) 0)
+              (List.◌∷◌ (1, Rows.mref (Declared'.row (TheInside.the_type (Param.param 0 Value))) (Syntax.ty_ref (Syntax.named 0) Syntax.mut behind-2) 0)
               List.[]))))))))))))))
 
           abbrev g16 : List.List Row.Entry
@@ -6226,8 +6226,8 @@ module _ (T1' : RattleType.RattleType) (L1' : Laws'.Laws T1') where
                 (Syntax.ty_param 0)) Syntax.tnil) Syntax.ttnil))),
           ) (List.◌∷◌ (
             1,
-            Late.late_aside (Node.the_row (Param.param 0 T1')) (Declared'.row (TheInside.the_type
-                (Param.param 0 T1'))) 0 (Row.bare (Fraction.right qs.0)),
+            Late.late_aside (Node.the_row (Param.param 0 Value)) (Declared'.row (TheInside.the_type
+                (Param.param 0 Value))) 0 (Row.bare (Fraction.right qs.0)),
           ) (List.◌∷◌ (
             2,
             Rows.whole (Declared.row (Option.the_type (Text.str-field record {
@@ -6278,7 +6278,7 @@ module _ (T1' : RattleType.RattleType) (L1' : Laws'.Laws T1') where
               ) (List.◌∷◌ (
                 1,
                 Rows.mref (Declared'.row (TheInside.the_type
-                    (Param.param 0 T1'))) (Syntax.ty_ref (Syntax.named 0) Syntax.mut behind-2) 0,
+                    (Param.param 0 Value))) (Syntax.ty_ref (Syntax.named 0) Syntax.mut behind-2) 0,
               ) List.[]))))))))))))))
 
           abbrev g17 : List.List Row.Entry
@@ -6288,8 +6288,8 @@ module _ (T1' : RattleType.RattleType) (L1' : Laws'.Laws T1') where
                 (Syntax.ty_param 0)) Syntax.tnil) Syntax.ttnil))),
           ) (List.◌∷◌ (
             1,
-            Late.late_aside (Node.the_row (Param.param 0 T1')) (Declared'.row (TheInside.the_type
-                (Param.param 0 T1'))) 0 (Row.bare (Fraction.right qs.0)),
+            Late.late_aside (Node.the_row (Param.param 0 Value)) (Declared'.row (TheInside.the_type
+                (Param.param 0 Value))) 0 (Row.bare (Fraction.right qs.0)),
           ) (List.◌∷◌ (
             2,
             Rows.whole (Declared.row (Option.the_type (Text.str-field record {
@@ -6345,7 +6345,7 @@ module _ (T1' : RattleType.RattleType) (L1' : Laws'.Laws T1') where
               ) (List.◌∷◌ (
                 1,
                 Kind.waits (Declared'.row (TheInside.the_type
-                    (Param.param 0 T1'))) (BTreeMap.the_row of-6 of-2 Global.the_row (TheImpl.ghosts Global.the_row TheImpl'3.ghosts TheImpl.no_dict TheImpl.no_dict)
+                    (Param.param 0 Value))) (BTreeMap.the_row of-6 of-2 Global.the_row (TheImpl.ghosts Global.the_row TheImpl'3.ghosts TheImpl.no_dict TheImpl.no_dict)
                     (TheImpl'.ghosts Global.the_row TheImpl'3.ghosts TheImpl'.no_dict TheImpl'.no_dict) (TheImpl''.ghosts Global.the_row TheImpl'3.ghosts TheImpl''.no_dict
                     TheImpl''.no_dict) TheImpl'3.ghosts) (Syntax.ty_ref (Syntax.named 0) Syntax.mut behind-2),
               ) List.[]))))))))))))))
@@ -6357,8 +6357,8 @@ module _ (T1' : RattleType.RattleType) (L1' : Laws'.Laws T1') where
                 (Syntax.ty_param 0)) Syntax.tnil) Syntax.ttnil))),
           ) (List.◌∷◌ (
             1,
-            Late.late_aside (Node.the_row (Param.param 0 T1')) (Declared'.row (TheInside.the_type
-                (Param.param 0 T1'))) 0 (Row.bare (Fraction.right qs.0)),
+            Late.late_aside (Node.the_row (Param.param 0 Value)) (Declared'.row (TheInside.the_type
+                (Param.param 0 Value))) 0 (Row.bare (Fraction.right qs.0)),
           ) (List.◌∷◌ (
             2,
             Rows.whole (Declared.row (Option.the_type (Text.str-field record {
@@ -6402,7 +6402,7 @@ module _ (T1' : RattleType.RattleType) (L1' : Laws'.Laws T1') where
             10,
             Maybe.waits_if (BTreeMap.the_row of-6 of-2 Global.the_row (TheImpl.ghosts Global.the_row TheImpl'3.ghosts TheImpl.no_dict
                 TheImpl.no_dict) (TheImpl'.ghosts Global.the_row TheImpl'3.ghosts TheImpl'.no_dict TheImpl'.no_dict) (TheImpl''.ghosts Global.the_row TheImpl'3.ghosts
-                TheImpl''.no_dict TheImpl''.no_dict) TheImpl'3.ghosts) (Node.the_row (Param.param 0 T1')) (Option.the_type (Field'.mut_ref_field record {
+                TheImpl''.no_dict TheImpl''.no_dict) TheImpl'3.ghosts) (Node.the_row (Param.param 0 Value)) (Option.the_type (Field'.mut_ref_field record {
                   mir = Syntax.named
                       0;
                   lft = List.[];
@@ -6421,7 +6421,7 @@ module _ (T1' : RattleType.RattleType) (L1' : Laws'.Laws T1') where
                 (Syntax.ty_int Syntax.w64) Syntax.tnil))) Syntax.tnil) Syntax.ttnil))),
           ) (List.◌∷◌ (
             1,
-            Kind.waits (Declared'.row (TheInside.the_type (Param.param 0 T1')))
+            Kind.waits (Declared'.row (TheInside.the_type (Param.param 0 Value)))
                 (BTreeMap.the_row of-6 of-2 Global.the_row (TheImpl.ghosts Global.the_row TheImpl'3.ghosts TheImpl.no_dict TheImpl.no_dict) (TheImpl'.ghosts Global.the_row
                 TheImpl'3.ghosts TheImpl'.no_dict TheImpl'.no_dict) (TheImpl''.ghosts Global.the_row TheImpl'3.ghosts TheImpl''.no_dict TheImpl''.no_dict) TheImpl'3.ghosts)
                 (Syntax.ty_ref (Syntax.named 0) Syntax.mut behind-2),
@@ -6434,8 +6434,8 @@ module _ (T1' : RattleType.RattleType) (L1' : Laws'.Laws T1') where
                 (Syntax.ty_param 0)) Syntax.tnil) Syntax.ttnil))),
           ) (List.◌∷◌ (
             1,
-            Kind.owing_by (Node.the_row (Param.param 0 T1')) (Maybe.maybe (Node.the_row (Param.param 0
-                T1')) (Param.param 0 T1') (Option.the_type (Field'.mut_ref_field record { mir = Syntax.named 0; lft = List.[] } (Param.param 0 T1') tt).row).D)
+            Kind.owing_by (Node.the_row (Param.param 0 Value)) (Maybe.maybe (Node.the_row (Param.param 0
+                Value)) (Param.param 0 Value) (Option.the_type (Field'.mut_ref_field record { mir = Syntax.named 0; lft = List.[] } (Param.param 0 Value) tt).row).D)
                 (Syntax.ty_ref (Syntax.named 0) Syntax.mut behind-2),
           ) (List.◌∷◌ (
             2,
@@ -6473,7 +6473,7 @@ module _ (T1' : RattleType.RattleType) (L1' : Laws'.Laws T1') where
             Rows.any_gone (Syntax.ty_enum name-2 (Syntax.ttcons Syntax.tnil (Syntax.ttcons (Syntax.tcons (Syntax.ty_ref
                 Syntax.erased Syntax.mut behind-2) Syntax.tnil) Syntax.ttnil))),
           ) (List.◌∷◌ (10, Rows.any_gone (Syntax.ty_ref Syntax.erased Syntax.mut behind-8)) (List.◌∷◌
-              (11, Rows.whole (Declared.row (Option.the_type (Field'.mut_ref_field record { mir = Syntax.erased; lft = κs.0 } (Param.param 0 T1') tt).row))) (List.◌∷◌
+              (11, Rows.whole (Declared.row (Option.the_type (Field'.mut_ref_field record { mir = Syntax.erased; lft = κs.0 } (Param.param 0 Value) tt).row))) (List.◌∷◌
               (12, Rows.any_gone (Syntax.ty_ref Syntax.erased Syntax.mut behind-2)) (List.◌∷◌ (
                 13,
                 Rows.any_gone (Syntax.ty_enum name-2 (Syntax.ttcons Syntax.tnil
@@ -6488,8 +6488,8 @@ module _ (T1' : RattleType.RattleType) (L1' : Laws'.Laws T1') where
                 (Syntax.ty_param 0)) Syntax.tnil) Syntax.ttnil))),
           ) (List.◌∷◌ (
             1,
-            Late.late_aside (Node.the_row (Param.param 0 T1')) (Declared'.row (TheInside.the_type
-                (Param.param 0 T1'))) 0 (Row.bare (Fraction.right qs.0)),
+            Late.late_aside (Node.the_row (Param.param 0 Value)) (Declared'.row (TheInside.the_type
+                (Param.param 0 Value))) 0 (Row.bare (Fraction.right qs.0)),
           ) (List.◌∷◌ (
             2,
             Rows.whole (Declared.row (Option.the_type (Text.str-field record {
@@ -6531,7 +6531,7 @@ module _ (T1' : RattleType.RattleType) (L1' : Laws'.Laws T1') where
             Maybe.waits_if (BTreeMap.the_row of-6
                 of-2 Global.the_row (TheImpl.ghosts Global.the_row TheImpl'3.ghosts TheImpl.no_dict TheImpl.no_dict) (TheImpl'.ghosts Global.the_row TheImpl'3.ghosts
                 TheImpl'.no_dict TheImpl'.no_dict) (TheImpl''.ghosts Global.the_row TheImpl'3.ghosts TheImpl''.no_dict TheImpl''.no_dict) TheImpl'3.ghosts) (Node.the_row
-                (Param.param 0 T1')) (Option.the_type (Field'.mut_ref_field record { mir = Syntax.named 0; lft = List.[] } of-2 tt).row).D (Syntax.ty_ref Syntax.erased
+                (Param.param 0 Value)) (Option.the_type (Field'.mut_ref_field record { mir = Syntax.named 0; lft = List.[] } of-2 tt).row).D (Syntax.ty_ref Syntax.erased
                 Syntax.mut behind-8),
           ) (List.◌∷◌ (
             11,
@@ -6545,7 +6545,7 @@ module _ (T1' : RattleType.RattleType) (L1' : Laws'.Laws T1') where
               )
               (List.◌∷◌ (
                 1,
-                Kind.waits (Declared'.row (TheInside.the_type (Param.param 0 T1'))) (BTreeMap.the_row of-6 of-2 Global.the_row (TheImpl.ghosts Global.the_row
+                Kind.waits (Declared'.row (TheInside.the_type (Param.param 0 Value))) (BTreeMap.the_row of-6 of-2 Global.the_row (TheImpl.ghosts Global.the_row
                     TheImpl'3.ghosts TheImpl.no_dict TheImpl.no_dict) (TheImpl'.ghosts Global.the_row TheImpl'3.ghosts TheImpl'.no_dict TheImpl'.no_dict) (TheImpl''.ghosts
                     Global.the_row TheImpl'3.ghosts TheImpl''.no_dict TheImpl''.no_dict) TheImpl'3.ghosts) (Syntax.ty_ref (Syntax.named 0) Syntax.mut behind-2),
               )
@@ -6558,8 +6558,8 @@ module _ (T1' : RattleType.RattleType) (L1' : Laws'.Laws T1') where
                 (Syntax.ty_param 0)) Syntax.tnil) Syntax.ttnil))),
           ) (List.◌∷◌ (
             1,
-            Late.late_aside (Node.the_row (Param.param 0 T1')) (Declared'.row (TheInside.the_type
-                (Param.param 0 T1'))) 0 (Row.bare (Fraction.right qs.0)),
+            Late.late_aside (Node.the_row (Param.param 0 Value)) (Declared'.row (TheInside.the_type
+                (Param.param 0 Value))) 0 (Row.bare (Fraction.right qs.0)),
           ) (List.◌∷◌ (
             2,
             Rows.whole (Declared.row (Option.the_type (Text.str-field record {
@@ -6601,7 +6601,7 @@ module _ (T1' : RattleType.RattleType) (L1' : Laws'.Laws T1') where
             10,
             Maybe.waits_if (BTreeMap.the_row of-6 of-2 Global.the_row (TheImpl.ghosts Global.the_row
                 TheImpl'3.ghosts TheImpl.no_dict TheImpl.no_dict) (TheImpl'.ghosts Global.the_row TheImpl'3.ghosts TheImpl'.no_dict TheImpl'.no_dict) (TheImpl''.ghosts
-                Global.the_row TheImpl'3.ghosts TheImpl''.no_dict TheImpl''.no_dict) TheImpl'3.ghosts) (Node.the_row (Param.param 0 T1')) (Option.the_type
+                Global.the_row TheImpl'3.ghosts TheImpl''.no_dict TheImpl''.no_dict) TheImpl'3.ghosts) (Node.the_row (Param.param 0 Value)) (Option.the_type
                 (Field'.mut_ref_field record { mir = Syntax.named 0; lft = List.[] } of-2 tt).row).D (Syntax.ty_ref Syntax.erased Syntax.mut behind-8),
           ) (List.◌∷◌ (
             11,
@@ -6615,7 +6615,7 @@ module _ (T1' : RattleType.RattleType) (L1' : Laws'.Laws T1') where
           ) (List.◌∷◌ (
             1,
             Kind.waits (Declared'.row
-                (TheInside.the_type (Param.param 0 T1'))) (BTreeMap.the_row of-6 of-2 Global.the_row (TheImpl.ghosts Global.the_row TheImpl'3.ghosts TheImpl.no_dict
+                (TheInside.the_type (Param.param 0 Value))) (BTreeMap.the_row of-6 of-2 Global.the_row (TheImpl.ghosts Global.the_row TheImpl'3.ghosts TheImpl.no_dict
                 TheImpl.no_dict) (TheImpl'.ghosts Global.the_row TheImpl'3.ghosts TheImpl'.no_dict TheImpl'.no_dict) (TheImpl''.ghosts Global.the_row TheImpl'3.ghosts
                 TheImpl''.no_dict TheImpl''.no_dict) TheImpl'3.ghosts) (Syntax.ty_ref (Syntax.named 0) Syntax.mut behind-2),
           ) List.[]))))))))))))))
@@ -6627,8 +6627,8 @@ module _ (T1' : RattleType.RattleType) (L1' : Laws'.Laws T1') where
                 (Syntax.ty_param 0)) Syntax.tnil) Syntax.ttnil))),
           ) (List.◌∷◌ (
             1,
-            Late.late_aside (Node.the_row (Param.param 0 T1')) (Declared'.row (TheInside.the_type
-                (Param.param 0 T1'))) 0 (Row.bare (Fraction.right qs.0)),
+            Late.late_aside (Node.the_row (Param.param 0 Value)) (Declared'.row (TheInside.the_type
+                (Param.param 0 Value))) 0 (Row.bare (Fraction.right qs.0)),
           ) (List.◌∷◌ (
             2,
             Rows.whole (Declared.row (Option.the_type (Text.str-field record {
@@ -6670,7 +6670,7 @@ module _ (T1' : RattleType.RattleType) (L1' : Laws'.Laws T1') where
             10,
             Maybe.waits_if (BTreeMap.the_row of-6 of-2 Global.the_row (TheImpl.ghosts Global.the_row
                 TheImpl'3.ghosts TheImpl.no_dict TheImpl.no_dict) (TheImpl'.ghosts Global.the_row TheImpl'3.ghosts TheImpl'.no_dict TheImpl'.no_dict) (TheImpl''.ghosts
-                Global.the_row TheImpl'3.ghosts TheImpl''.no_dict TheImpl''.no_dict) TheImpl'3.ghosts) (Node.the_row (Param.param 0 T1')) (Option.the_type
+                Global.the_row TheImpl'3.ghosts TheImpl''.no_dict TheImpl''.no_dict) TheImpl'3.ghosts) (Node.the_row (Param.param 0 Value)) (Option.the_type
                 (Field'.mut_ref_field record { mir = Syntax.named 0; lft = List.[] } of-2 tt).row).D (Syntax.ty_ref Syntax.erased Syntax.mut behind-8),
           ) (List.◌∷◌ (
             11,
@@ -6684,7 +6684,7 @@ module _ (T1' : RattleType.RattleType) (L1' : Laws'.Laws T1') where
           ) (List.◌∷◌ (
             1,
             Kind.waits (Declared'.row
-                (TheInside.the_type (Param.param 0 T1'))) (BTreeMap.the_row of-6 of-2 Global.the_row (TheImpl.ghosts Global.the_row TheImpl'3.ghosts TheImpl.no_dict
+                (TheInside.the_type (Param.param 0 Value))) (BTreeMap.the_row of-6 of-2 Global.the_row (TheImpl.ghosts Global.the_row TheImpl'3.ghosts TheImpl.no_dict
                 TheImpl.no_dict) (TheImpl'.ghosts Global.the_row TheImpl'3.ghosts TheImpl'.no_dict TheImpl'.no_dict) (TheImpl''.ghosts Global.the_row TheImpl'3.ghosts
                 TheImpl''.no_dict TheImpl''.no_dict) TheImpl'3.ghosts) (Syntax.ty_ref (Syntax.named 0) Syntax.mut behind-2),
           ) List.[]))))))))))))))
@@ -6696,8 +6696,8 @@ module _ (T1' : RattleType.RattleType) (L1' : Laws'.Laws T1') where
                 (Syntax.ty_param 0)) Syntax.tnil) Syntax.ttnil))),
           ) (List.◌∷◌ (
             1,
-            Late.late_aside (Node.the_row (Param.param 0 T1')) (Declared'.row (TheInside.the_type
-                (Param.param 0 T1'))) 0 (Row.bare (Fraction.right qs.0)),
+            Late.late_aside (Node.the_row (Param.param 0 Value)) (Declared'.row (TheInside.the_type
+                (Param.param 0 Value))) 0 (Row.bare (Fraction.right qs.0)),
           ) (List.◌∷◌ (
             2,
             Rows.whole (Declared.row (Option.the_type (Text.str-field record {
@@ -6739,7 +6739,7 @@ module _ (T1' : RattleType.RattleType) (L1' : Laws'.Laws T1') where
             10,
             Kind.waits (BTreeMap.the_row of-6 of-2 Global.the_row (TheImpl.ghosts Global.the_row
                 TheImpl'3.ghosts TheImpl.no_dict TheImpl.no_dict) (TheImpl'.ghosts Global.the_row TheImpl'3.ghosts TheImpl'.no_dict TheImpl'.no_dict) (TheImpl''.ghosts
-                Global.the_row TheImpl'3.ghosts TheImpl''.no_dict TheImpl''.no_dict) TheImpl'3.ghosts) (Node.the_row (Param.param 0 T1')) (Syntax.ty_ref Syntax.erased
+                Global.the_row TheImpl'3.ghosts TheImpl''.no_dict TheImpl''.no_dict) TheImpl'3.ghosts) (Node.the_row (Param.param 0 Value)) (Syntax.ty_ref Syntax.erased
                 Syntax.mut behind-8),
           ) (List.◌∷◌ (
             11,
@@ -6753,7 +6753,7 @@ module _ (T1' : RattleType.RattleType) (L1' : Laws'.Laws T1') where
               )
               (List.◌∷◌ (
                 1,
-                Kind.waits (Declared'.row (TheInside.the_type (Param.param 0 T1'))) (BTreeMap.the_row of-6 of-2 Global.the_row (TheImpl.ghosts Global.the_row
+                Kind.waits (Declared'.row (TheInside.the_type (Param.param 0 Value))) (BTreeMap.the_row of-6 of-2 Global.the_row (TheImpl.ghosts Global.the_row
                     TheImpl'3.ghosts TheImpl.no_dict TheImpl.no_dict) (TheImpl'.ghosts Global.the_row TheImpl'3.ghosts TheImpl'.no_dict TheImpl'.no_dict) (TheImpl''.ghosts
                     Global.the_row TheImpl'3.ghosts TheImpl''.no_dict TheImpl''.no_dict) TheImpl'3.ghosts) (Syntax.ty_ref (Syntax.named 0) Syntax.mut behind-2),
               )
@@ -6766,8 +6766,8 @@ module _ (T1' : RattleType.RattleType) (L1' : Laws'.Laws T1') where
                 (Syntax.ty_param 0)) Syntax.tnil) Syntax.ttnil))),
           ) (List.◌∷◌ (
             1,
-            Late.late_aside (Node.the_row (Param.param 0 T1')) (Declared'.row (TheInside.the_type
-                (Param.param 0 T1'))) 0 (Row.bare (Fraction.right qs.0)),
+            Late.late_aside (Node.the_row (Param.param 0 Value)) (Declared'.row (TheInside.the_type
+                (Param.param 0 Value))) 0 (Row.bare (Fraction.right qs.0)),
           ) (List.◌∷◌ (
             2,
             Rows.whole (Declared.row (Option.the_type (Text.str-field record {
@@ -6790,7 +6790,7 @@ module _ (T1' : RattleType.RattleType) (L1' : Laws'.Laws T1') where
           ) (List.◌∷◌ (
             6,
             Rows.mref (Node.the_row (Param.param 0
-                T1')) (Syntax.ty_ref Syntax.erased Syntax.mut behind-2) 0,
+                Value)) (Syntax.ty_ref Syntax.erased Syntax.mut behind-2) 0,
           ) (List.◌∷◌ (7, Rows.any_gone (Syntax.ty_ref Syntax.erased Syntax.mut behind-3)) (List.◌∷◌ (
             8,
             Rows.any_gone (Syntax.ty_struct name-1 (Syntax.tcons (Syntax.ty_struct name-0 (Syntax.tcons (Syntax.ty_ref Syntax.erased Syntax.imm (Syntax.ty_int
@@ -6806,7 +6806,7 @@ module _ (T1' : RattleType.RattleType) (L1' : Laws'.Laws T1') where
             Kind.waits (BTreeMap.the_row of-6 of-2
                 Global.the_row (TheImpl.ghosts Global.the_row TheImpl'3.ghosts TheImpl.no_dict TheImpl.no_dict) (TheImpl'.ghosts Global.the_row TheImpl'3.ghosts
                 TheImpl'.no_dict TheImpl'.no_dict) (TheImpl''.ghosts Global.the_row TheImpl'3.ghosts TheImpl''.no_dict TheImpl''.no_dict) TheImpl'3.ghosts) (Node.the_row
-                (Param.param 0 T1')) (Syntax.ty_ref Syntax.erased Syntax.mut behind-8),
+                (Param.param 0 Value)) (Syntax.ty_ref Syntax.erased Syntax.mut behind-8),
           ) (List.◌∷◌ (
             11,
             Rows.any_gone (Syntax.ty_enum name-2 (Syntax.ttcons Syntax.tnil
@@ -6822,7 +6822,7 @@ module _ (T1' : RattleType.RattleType) (L1' : Laws'.Laws T1') where
                 Syntax.w64) Syntax.tnil))) Syntax.tnil) Syntax.ttnil))),
           ) (List.◌∷◌ (
             1,
-            Kind.waits (Declared'.row (TheInside.the_type (Param.param 0 T1')))
+            Kind.waits (Declared'.row (TheInside.the_type (Param.param 0 Value)))
                 (BTreeMap.the_row of-6 of-2 Global.the_row (TheImpl.ghosts Global.the_row TheImpl'3.ghosts TheImpl.no_dict TheImpl.no_dict) (TheImpl'.ghosts Global.the_row
                 TheImpl'3.ghosts TheImpl'.no_dict TheImpl'.no_dict) (TheImpl''.ghosts Global.the_row TheImpl'3.ghosts TheImpl''.no_dict TheImpl''.no_dict) TheImpl'3.ghosts)
                 (Syntax.ty_ref (Syntax.named 0) Syntax.mut behind-2),
@@ -6835,8 +6835,8 @@ module _ (T1' : RattleType.RattleType) (L1' : Laws'.Laws T1') where
                 (Syntax.ty_param 0)) Syntax.tnil) Syntax.ttnil))),
           ) (List.◌∷◌ (
             1,
-            Late.late_aside (Node.the_row (Param.param 0 T1')) (Declared'.row (TheInside.the_type
-                (Param.param 0 T1'))) 0 (Row.bare (Fraction.right qs.0)),
+            Late.late_aside (Node.the_row (Param.param 0 Value)) (Declared'.row (TheInside.the_type
+                (Param.param 0 Value))) 0 (Row.bare (Fraction.right qs.0)),
           ) (List.◌∷◌ (
             2,
             Rows.whole (Declared.row (Option.the_type (Text.str-field record {
@@ -6859,7 +6859,7 @@ module _ (T1' : RattleType.RattleType) (L1' : Laws'.Laws T1') where
           ) (List.◌∷◌ (
             6,
             Rows.mref (Node.the_row (Param.param 0
-                T1')) (Syntax.ty_ref Syntax.erased Syntax.mut behind-2) 0,
+                Value)) (Syntax.ty_ref Syntax.erased Syntax.mut behind-2) 0,
           ) (List.◌∷◌ (7, Rows.any_gone (Syntax.ty_ref Syntax.erased Syntax.mut behind-3)) (List.◌∷◌ (
             8,
             Rows.any_gone (Syntax.ty_struct name-1 (Syntax.tcons (Syntax.ty_struct name-0 (Syntax.tcons (Syntax.ty_ref Syntax.erased Syntax.imm (Syntax.ty_int
@@ -6875,7 +6875,7 @@ module _ (T1' : RattleType.RattleType) (L1' : Laws'.Laws T1') where
             Kind.waits (BTreeMap.the_row
                 of-6 of-2 Global.the_row (TheImpl.ghosts Global.the_row TheImpl'3.ghosts TheImpl.no_dict TheImpl.no_dict) (TheImpl'.ghosts Global.the_row TheImpl'3.ghosts
                 TheImpl'.no_dict TheImpl'.no_dict) (TheImpl''.ghosts Global.the_row TheImpl'3.ghosts TheImpl''.no_dict TheImpl''.no_dict) TheImpl'3.ghosts) (Node.the_row
-                (Param.param 0 T1')) (Syntax.ty_ref Syntax.erased Syntax.mut behind-8),
+                (Param.param 0 Value)) (Syntax.ty_ref Syntax.erased Syntax.mut behind-8),
           ) (List.◌∷◌ (
             11,
             Rows.any_gone (Syntax.ty_enum name-2 (Syntax.ttcons Syntax.tnil
@@ -6891,7 +6891,7 @@ module _ (T1' : RattleType.RattleType) (L1' : Laws'.Laws T1') where
                 Syntax.w64) Syntax.tnil))) Syntax.tnil) Syntax.ttnil))),
           ) (List.◌∷◌ (
             1,
-            Kind.waits (Declared'.row (TheInside.the_type (Param.param 0 T1')))
+            Kind.waits (Declared'.row (TheInside.the_type (Param.param 0 Value)))
                 (BTreeMap.the_row of-6 of-2 Global.the_row (TheImpl.ghosts Global.the_row TheImpl'3.ghosts TheImpl.no_dict TheImpl.no_dict) (TheImpl'.ghosts Global.the_row
                 TheImpl'3.ghosts TheImpl'.no_dict TheImpl'.no_dict) (TheImpl''.ghosts Global.the_row TheImpl'3.ghosts TheImpl''.no_dict TheImpl''.no_dict) TheImpl'3.ghosts)
                 (Syntax.ty_ref (Syntax.named 0) Syntax.mut behind-2),
@@ -6904,8 +6904,8 @@ module _ (T1' : RattleType.RattleType) (L1' : Laws'.Laws T1') where
                 (Syntax.ty_param 0)) Syntax.tnil) Syntax.ttnil))),
           ) (List.◌∷◌ (
             1,
-            Late.late_aside (Node.the_row (Param.param 0 T1')) (Declared'.row (TheInside.the_type
-                (Param.param 0 T1'))) 0 (Row.bare (Fraction.right qs.0)),
+            Late.late_aside (Node.the_row (Param.param 0 Value)) (Declared'.row (TheInside.the_type
+                (Param.param 0 Value))) 0 (Row.bare (Fraction.right qs.0)),
           ) (List.◌∷◌ (
             2,
             Rows.whole (Declared.row (Option.the_type (Text.str-field record {
@@ -6945,7 +6945,7 @@ module _ (T1' : RattleType.RattleType) (L1' : Laws'.Laws T1') where
             Kind.waits (BTreeMap.the_row of-6 of-2
                 Global.the_row (TheImpl.ghosts Global.the_row TheImpl'3.ghosts TheImpl.no_dict TheImpl.no_dict) (TheImpl'.ghosts Global.the_row TheImpl'3.ghosts
                 TheImpl'.no_dict TheImpl'.no_dict) (TheImpl''.ghosts Global.the_row TheImpl'3.ghosts TheImpl''.no_dict TheImpl''.no_dict) TheImpl'3.ghosts) (Node.the_row
-                (Param.param 0 T1')) (Syntax.ty_ref Syntax.erased Syntax.mut behind-8),
+                (Param.param 0 Value)) (Syntax.ty_ref Syntax.erased Syntax.mut behind-8),
           ) (List.◌∷◌ (
             11,
             Rows.any_gone (Syntax.ty_enum name-2 (Syntax.ttcons Syntax.tnil
@@ -6953,7 +6953,7 @@ module _ (T1' : RattleType.RattleType) (L1' : Laws'.Laws T1') where
           ) (List.◌∷◌ (
             12,
             Rows.mref
-                (Node.the_row (Param.param 0 T1')) (Syntax.ty_ref Syntax.erased Syntax.mut behind-2) 0,
+                (Node.the_row (Param.param 0 Value)) (Syntax.ty_ref Syntax.erased Syntax.mut behind-2) 0,
           ) (List.◌∷◌ (
             13,
             Rows.any_gone (Syntax.ty_enum name-2 (Syntax.ttcons
@@ -6962,7 +6962,7 @@ module _ (T1' : RattleType.RattleType) (L1' : Laws'.Laws T1') where
           ) (List.◌∷◌ (
             1,
             Kind.waits (Declared'.row (TheInside.the_type
-                (Param.param 0 T1'))) (BTreeMap.the_row of-6 of-2 Global.the_row (TheImpl.ghosts Global.the_row TheImpl'3.ghosts TheImpl.no_dict TheImpl.no_dict)
+                (Param.param 0 Value))) (BTreeMap.the_row of-6 of-2 Global.the_row (TheImpl.ghosts Global.the_row TheImpl'3.ghosts TheImpl.no_dict TheImpl.no_dict)
                 (TheImpl'.ghosts Global.the_row TheImpl'3.ghosts TheImpl'.no_dict TheImpl'.no_dict) (TheImpl''.ghosts Global.the_row TheImpl'3.ghosts TheImpl''.no_dict
                 TheImpl''.no_dict) TheImpl'3.ghosts) (Syntax.ty_ref (Syntax.named 0) Syntax.mut behind-2),
           ) List.[]))))))))))))))
@@ -6974,8 +6974,8 @@ module _ (T1' : RattleType.RattleType) (L1' : Laws'.Laws T1') where
                 (Syntax.ty_param 0)) Syntax.tnil) Syntax.ttnil))),
           ) (List.◌∷◌ (
             1,
-            Late.late_aside (Node.the_row (Param.param 0 T1')) (Declared'.row (TheInside.the_type
-                (Param.param 0 T1'))) 0 (Row.bare (Fraction.right qs.0)),
+            Late.late_aside (Node.the_row (Param.param 0 Value)) (Declared'.row (TheInside.the_type
+                (Param.param 0 Value))) 0 (Row.bare (Fraction.right qs.0)),
           ) (List.◌∷◌ (
             2,
             Rows.whole (Declared.row (Option.the_type (Text.str-field record {
@@ -7015,7 +7015,7 @@ module _ (T1' : RattleType.RattleType) (L1' : Laws'.Laws T1') where
             Kind.waits (BTreeMap.the_row of-6 of-2
                 Global.the_row (TheImpl.ghosts Global.the_row TheImpl'3.ghosts TheImpl.no_dict TheImpl.no_dict) (TheImpl'.ghosts Global.the_row TheImpl'3.ghosts
                 TheImpl'.no_dict TheImpl'.no_dict) (TheImpl''.ghosts Global.the_row TheImpl'3.ghosts TheImpl''.no_dict TheImpl''.no_dict) TheImpl'3.ghosts) (Node.the_row
-                (Param.param 0 T1')) (Syntax.ty_ref Syntax.erased Syntax.mut behind-8),
+                (Param.param 0 Value)) (Syntax.ty_ref Syntax.erased Syntax.mut behind-8),
           ) (List.◌∷◌ (
             11,
             Rows.any_gone (Syntax.ty_enum name-2 (Syntax.ttcons Syntax.tnil
@@ -7023,14 +7023,14 @@ module _ (T1' : RattleType.RattleType) (L1' : Laws'.Laws T1') where
           ) (List.◌∷◌ (
             12,
             Rows.mref
-                (Node.the_row (Param.param 0 T1')) (Syntax.ty_ref Syntax.erased Syntax.mut behind-2) 0,
+                (Node.the_row (Param.param 0 Value)) (Syntax.ty_ref Syntax.erased Syntax.mut behind-2) 0,
           ) (List.◌∷◌ (
             13,
             Rows.whole (Declared.row (Option.the_type
                 (Text.str-field record { mir = Syntax.erased; lft = κs.1.0 }).row)),
           ) (List.◌∷◌ (
             1,
-            Kind.waits (Declared'.row (TheInside.the_type (Param.param 0 T1')))
+            Kind.waits (Declared'.row (TheInside.the_type (Param.param 0 Value)))
                 (BTreeMap.the_row of-6 of-2 Global.the_row (TheImpl.ghosts Global.the_row TheImpl'3.ghosts TheImpl.no_dict TheImpl.no_dict) (TheImpl'.ghosts Global.the_row
                 TheImpl'3.ghosts TheImpl'.no_dict TheImpl'.no_dict) (TheImpl''.ghosts Global.the_row TheImpl'3.ghosts TheImpl''.no_dict TheImpl''.no_dict) TheImpl'3.ghosts)
                 (Syntax.ty_ref (Syntax.named 0) Syntax.mut behind-2),
@@ -7043,8 +7043,8 @@ module _ (T1' : RattleType.RattleType) (L1' : Laws'.Laws T1') where
                 (Syntax.ty_param 0)) Syntax.tnil) Syntax.ttnil))),
           ) (List.◌∷◌ (
             1,
-            Late.late_aside (Node.the_row (Param.param 0 T1')) (Declared'.row (TheInside.the_type
-                (Param.param 0 T1'))) 0 (Row.bare (Fraction.right qs.0)),
+            Late.late_aside (Node.the_row (Param.param 0 Value)) (Declared'.row (TheInside.the_type
+                (Param.param 0 Value))) 0 (Row.bare (Fraction.right qs.0)),
           ) (List.◌∷◌ (
             2,
             Rows.whole (Declared.row (Option.the_type (Text.str-field record {
@@ -7084,7 +7084,7 @@ module _ (T1' : RattleType.RattleType) (L1' : Laws'.Laws T1') where
             Kind.waits (BTreeMap.the_row
                 of-6 of-2 Global.the_row (TheImpl.ghosts Global.the_row TheImpl'3.ghosts TheImpl.no_dict TheImpl.no_dict) (TheImpl'.ghosts Global.the_row TheImpl'3.ghosts
                 TheImpl'.no_dict TheImpl'.no_dict) (TheImpl''.ghosts Global.the_row TheImpl'3.ghosts TheImpl''.no_dict TheImpl''.no_dict) TheImpl'3.ghosts) (Node.the_row
-                (Param.param 0 T1')) (Syntax.ty_ref Syntax.erased Syntax.mut behind-8),
+                (Param.param 0 Value)) (Syntax.ty_ref Syntax.erased Syntax.mut behind-8),
           ) (List.◌∷◌ (
             11,
             Rows.any_gone (Syntax.ty_enum name-2 (Syntax.ttcons Syntax.tnil
@@ -7092,14 +7092,14 @@ module _ (T1' : RattleType.RattleType) (L1' : Laws'.Laws T1') where
           ) (List.◌∷◌ (
             12,
             Rows.mref
-                (Node.the_row (Param.param 0 T1')) (Syntax.ty_ref Syntax.erased Syntax.mut behind-2) 0,
+                (Node.the_row (Param.param 0 Value)) (Syntax.ty_ref Syntax.erased Syntax.mut behind-2) 0,
           ) (List.◌∷◌ (
             13,
             Rows.whole (Declared.row (Option.the_type
                 (Text.str-field record { mir = Syntax.erased; lft = κs.1.0 }).row)),
           ) (List.◌∷◌ (
             1,
-            Kind.waits (Declared'.row (TheInside.the_type (Param.param 0 T1')))
+            Kind.waits (Declared'.row (TheInside.the_type (Param.param 0 Value)))
                 (BTreeMap.the_row of-6 of-2 Global.the_row (TheImpl.ghosts Global.the_row TheImpl'3.ghosts TheImpl.no_dict TheImpl.no_dict) (TheImpl'.ghosts Global.the_row
                 TheImpl'3.ghosts TheImpl'.no_dict TheImpl'.no_dict) (TheImpl''.ghosts Global.the_row TheImpl'3.ghosts TheImpl''.no_dict TheImpl''.no_dict) TheImpl'3.ghosts)
                 (Syntax.ty_ref (Syntax.named 0) Syntax.mut behind-2),
@@ -7112,8 +7112,8 @@ module _ (T1' : RattleType.RattleType) (L1' : Laws'.Laws T1') where
                 (Syntax.ty_param 0)) Syntax.tnil) Syntax.ttnil))),
           ) (List.◌∷◌ (
             1,
-            Late.late_aside (Node.the_row (Param.param 0 T1')) (Declared'.row (TheInside.the_type
-                (Param.param 0 T1'))) 0 (Row.bare (Fraction.right qs.0)),
+            Late.late_aside (Node.the_row (Param.param 0 Value)) (Declared'.row (TheInside.the_type
+                (Param.param 0 Value))) 0 (Row.bare (Fraction.right qs.0)),
           ) (List.◌∷◌ (
             2,
             Rows.whole (Declared.row (Option.the_type (Text.str-field record {
@@ -7153,7 +7153,7 @@ module _ (T1' : RattleType.RattleType) (L1' : Laws'.Laws T1') where
             Kind.waits (BTreeMap.the_row
                 of-6 of-2 Global.the_row (TheImpl.ghosts Global.the_row TheImpl'3.ghosts TheImpl.no_dict TheImpl.no_dict) (TheImpl'.ghosts Global.the_row TheImpl'3.ghosts
                 TheImpl'.no_dict TheImpl'.no_dict) (TheImpl''.ghosts Global.the_row TheImpl'3.ghosts TheImpl''.no_dict TheImpl''.no_dict) TheImpl'3.ghosts) (Node.the_row
-                (Param.param 0 T1')) (Syntax.ty_ref Syntax.erased Syntax.mut behind-8),
+                (Param.param 0 Value)) (Syntax.ty_ref Syntax.erased Syntax.mut behind-8),
           ) (List.◌∷◌ (
             11,
             Rows.any_gone (Syntax.ty_enum name-2 (Syntax.ttcons Syntax.tnil
@@ -7161,7 +7161,7 @@ module _ (T1' : RattleType.RattleType) (L1' : Laws'.Laws T1') where
           ) (List.◌∷◌ (
             12,
             Rows.mref
-                (Node.the_row (Param.param 0 T1')) (Syntax.ty_ref Syntax.erased Syntax.mut behind-2) 0,
+                (Node.the_row (Param.param 0 Value)) (Syntax.ty_ref Syntax.erased Syntax.mut behind-2) 0,
           ) (List.◌∷◌ (
             13,
             ValueAt.val_at 3 (λ κc. Declared.row
@@ -7174,7 +7174,7 @@ module _ (T1' : RattleType.RattleType) (L1' : Laws'.Laws T1') where
                 Syntax.tnil))) Syntax.tnil) Syntax.ttnil))),
           ) (List.◌∷◌ (
             1,
-            Kind.waits (Declared'.row (TheInside.the_type (Param.param 0 T1'))) (BTreeMap.the_row of-6 of-2
+            Kind.waits (Declared'.row (TheInside.the_type (Param.param 0 Value))) (BTreeMap.the_row of-6 of-2
                 Global.the_row (TheImpl.ghosts Global.the_row TheImpl'3.ghosts TheImpl.no_dict TheImpl.no_dict) (TheImpl'.ghosts Global.the_row TheImpl'3.ghosts
                 TheImpl'.no_dict TheImpl'.no_dict) (TheImpl''.ghosts Global.the_row TheImpl'3.ghosts TheImpl''.no_dict TheImpl''.no_dict) TheImpl'3.ghosts) (Syntax.ty_ref
                 (Syntax.named 0) Syntax.mut behind-2),
@@ -7187,8 +7187,8 @@ module _ (T1' : RattleType.RattleType) (L1' : Laws'.Laws T1') where
                 (Syntax.ty_param 0)) Syntax.tnil) Syntax.ttnil))),
           ) (List.◌∷◌ (
             1,
-            Late.late_aside (Node.the_row (Param.param 0 T1')) (Declared'.row (TheInside.the_type
-                (Param.param 0 T1'))) 0 (Row.bare (Fraction.right qs.0)),
+            Late.late_aside (Node.the_row (Param.param 0 Value)) (Declared'.row (TheInside.the_type
+                (Param.param 0 Value))) 0 (Row.bare (Fraction.right qs.0)),
           ) (List.◌∷◌ (
             2,
             Rows.whole (Declared.row (Option.the_type (Text.str-field record {
@@ -7228,23 +7228,23 @@ module _ (T1' : RattleType.RattleType) (L1' : Laws'.Laws T1') where
             Kind.waits (BTreeMap.the_row
                 of-6 of-2 Global.the_row (TheImpl.ghosts Global.the_row TheImpl'3.ghosts TheImpl.no_dict TheImpl.no_dict) (TheImpl'.ghosts Global.the_row TheImpl'3.ghosts
                 TheImpl'.no_dict TheImpl'.no_dict) (TheImpl''.ghosts Global.the_row TheImpl'3.ghosts TheImpl''.no_dict TheImpl''.no_dict) TheImpl'3.ghosts) (Node.the_row
-                (Param.param 0 T1')) (Syntax.ty_ref Syntax.erased Syntax.mut behind-8),
+                (Param.param 0 Value)) (Syntax.ty_ref Syntax.erased Syntax.mut behind-8),
           ) (List.◌∷◌ (
             11,
             ValueAt.val_at 3 (λ κc. Declared.row (Option.the_type
-                (Field'.mut_ref_field record { mir = Syntax.named 0; lft = κc.0 } (Param.param 0 T1') tt).row)) (Option.the_type (Field'.mut_ref_field record {
+                (Field'.mut_ref_field record { mir = Syntax.named 0; lft = κc.0 } (Param.param 0 Value) tt).row)) (Option.the_type (Field'.mut_ref_field record {
                   mir =
                       Syntax.named 0;
                   lft = List.[];
-                } (Param.param 0 T1') tt).row).D (λ κc v. v) (List.◌∷◌ 0 (List.◌∷◌ 1 (List.◌∷◌ 2 List.[]))) (Syntax.ty_enum name-2
+                } (Param.param 0 Value) tt).row).D (λ κc v. v) (List.◌∷◌ 0 (List.◌∷◌ 1 (List.◌∷◌ 2 List.[]))) (Syntax.ty_enum name-2
                 (Syntax.ttcons Syntax.tnil (Syntax.ttcons (Syntax.tcons (Syntax.ty_ref Syntax.erased Syntax.mut (Syntax.ty_param 0)) Syntax.tnil) Syntax.ttnil))),
           )
               (List.◌∷◌ (
                 12,
-                Maybe.waits_if (Node.the_row (Param.param 0 T1')) (Param.param 0 T1') (Option.the_type (Field'.mut_ref_field record {
+                Maybe.waits_if (Node.the_row (Param.param 0 Value)) (Param.param 0 Value) (Option.the_type (Field'.mut_ref_field record {
                   mir = Syntax.named 0;
                   lft = List.[];
-                } (Param.param 0 T1') tt).row).D (Syntax.ty_ref Syntax.erased Syntax.mut behind-2),
+                } (Param.param 0 Value) tt).row).D (Syntax.ty_ref Syntax.erased Syntax.mut behind-2),
               ) (List.◌∷◌ (
                 13,
                 ValueAt.val_at 3 (λ κc. Declared.row
@@ -7257,7 +7257,7 @@ module _ (T1' : RattleType.RattleType) (L1' : Laws'.Laws T1') where
                     Syntax.tnil))) Syntax.tnil) Syntax.ttnil))),
               ) (List.◌∷◌ (
                 1,
-                Kind.waits (Declared'.row (TheInside.the_type (Param.param 0 T1'))) (BTreeMap.the_row of-6 of-2
+                Kind.waits (Declared'.row (TheInside.the_type (Param.param 0 Value))) (BTreeMap.the_row of-6 of-2
                     Global.the_row (TheImpl.ghosts Global.the_row TheImpl'3.ghosts TheImpl.no_dict TheImpl.no_dict) (TheImpl'.ghosts Global.the_row TheImpl'3.ghosts
                     TheImpl'.no_dict TheImpl'.no_dict) (TheImpl''.ghosts Global.the_row TheImpl'3.ghosts TheImpl''.no_dict TheImpl''.no_dict) TheImpl'3.ghosts) (Syntax.ty_ref
                     (Syntax.named 0) Syntax.mut behind-2),
@@ -7270,8 +7270,8 @@ module _ (T1' : RattleType.RattleType) (L1' : Laws'.Laws T1') where
                 (Syntax.ty_param 0)) Syntax.tnil) Syntax.ttnil))),
           ) (List.◌∷◌ (
             1,
-            Late.late_aside (Node.the_row (Param.param 0 T1')) (Declared'.row (TheInside.the_type
-                (Param.param 0 T1'))) 0 (Row.bare (Fraction.right qs.0)),
+            Late.late_aside (Node.the_row (Param.param 0 Value)) (Declared'.row (TheInside.the_type
+                (Param.param 0 Value))) 0 (Row.bare (Fraction.right qs.0)),
           ) (List.◌∷◌ (
             2,
             Rows.whole (Declared.row (Option.the_type (Text.str-field record {
@@ -7311,30 +7311,30 @@ module _ (T1' : RattleType.RattleType) (L1' : Laws'.Laws T1') where
             Kind.waits (BTreeMap.the_row
                 of-6 of-2 Global.the_row (TheImpl.ghosts Global.the_row TheImpl'3.ghosts TheImpl.no_dict TheImpl.no_dict) (TheImpl'.ghosts Global.the_row TheImpl'3.ghosts
                 TheImpl'.no_dict TheImpl'.no_dict) (TheImpl''.ghosts Global.the_row TheImpl'3.ghosts TheImpl''.no_dict TheImpl''.no_dict) TheImpl'3.ghosts) (Node.the_row
-                (Param.param 0 T1')) (Syntax.ty_ref Syntax.erased Syntax.mut behind-8),
+                (Param.param 0 Value)) (Syntax.ty_ref Syntax.erased Syntax.mut behind-8),
           ) (List.◌∷◌ (
             11,
             ValueAt.val_at 3 (λ κc. Declared.row (Option.the_type
-                (Field'.mut_ref_field record { mir = Syntax.named 0; lft = κc.0 } (Param.param 0 T1') tt).row)) (Option.the_type (Field'.mut_ref_field record {
+                (Field'.mut_ref_field record { mir = Syntax.named 0; lft = κc.0 } (Param.param 0 Value) tt).row)) (Option.the_type (Field'.mut_ref_field record {
                   mir =
                       Syntax.named 0;
                   lft = List.[];
-                } (Param.param 0 T1') tt).row).D (λ κc v. v) (List.◌∷◌ 0 (List.◌∷◌ 1 (List.◌∷◌ 2 List.[]))) (Syntax.ty_enum name-2
+                } (Param.param 0 Value) tt).row).D (λ κc v. v) (List.◌∷◌ 0 (List.◌∷◌ 1 (List.◌∷◌ 2 List.[]))) (Syntax.ty_enum name-2
                 (Syntax.ttcons Syntax.tnil (Syntax.ttcons (Syntax.tcons (Syntax.ty_ref Syntax.erased Syntax.mut (Syntax.ty_param 0)) Syntax.tnil) Syntax.ttnil))),
           )
               (List.◌∷◌ (
                 12,
-                Maybe.waits_if (Node.the_row (Param.param 0 T1')) (Param.param 0 T1') (Option.the_type (Field'.mut_ref_field record {
+                Maybe.waits_if (Node.the_row (Param.param 0 Value)) (Param.param 0 Value) (Option.the_type (Field'.mut_ref_field record {
                   mir = Syntax.named 0;
                   lft = List.[];
-                } (Param.param 0 T1') tt).row).D (Syntax.ty_ref Syntax.erased Syntax.mut behind-2),
+                } (Param.param 0 Value) tt).row).D (Syntax.ty_ref Syntax.erased Syntax.mut behind-2),
               ) (List.◌∷◌ (
                 13,
                 Rows.whole (Declared.row (Option.the_type
                     (Text.str-field record { mir = Syntax.erased; lft = κs.1.0 }).row)),
               ) (List.◌∷◌ (
                 1,
-                Kind.waits (Declared'.row (TheInside.the_type (Param.param 0 T1')))
+                Kind.waits (Declared'.row (TheInside.the_type (Param.param 0 Value)))
                     (BTreeMap.the_row of-6 of-2 Global.the_row (TheImpl.ghosts Global.the_row TheImpl'3.ghosts TheImpl.no_dict TheImpl.no_dict) (TheImpl'.ghosts Global.the_row
                     TheImpl'3.ghosts TheImpl'.no_dict TheImpl'.no_dict) (TheImpl''.ghosts Global.the_row TheImpl'3.ghosts TheImpl''.no_dict TheImpl''.no_dict) TheImpl'3.ghosts)
                     (Syntax.ty_ref (Syntax.named 0) Syntax.mut behind-2),
@@ -7347,8 +7347,8 @@ module _ (T1' : RattleType.RattleType) (L1' : Laws'.Laws T1') where
                 (Syntax.ty_param 0)) Syntax.tnil) Syntax.ttnil))),
           ) (List.◌∷◌ (
             1,
-            Late.late_aside (Node.the_row (Param.param 0 T1')) (Declared'.row (TheInside.the_type
-                (Param.param 0 T1'))) 0 (Row.bare (Fraction.right qs.0)),
+            Late.late_aside (Node.the_row (Param.param 0 Value)) (Declared'.row (TheInside.the_type
+                (Param.param 0 Value))) 0 (Row.bare (Fraction.right qs.0)),
           ) (List.◌∷◌ (
             2,
             Rows.whole (Declared.row (Option.the_type (Text.str-field record {
@@ -7388,20 +7388,20 @@ module _ (T1' : RattleType.RattleType) (L1' : Laws'.Laws T1') where
             Kind.waits (BTreeMap.the_row
                 of-6 of-2 Global.the_row (TheImpl.ghosts Global.the_row TheImpl'3.ghosts TheImpl.no_dict TheImpl.no_dict) (TheImpl'.ghosts Global.the_row TheImpl'3.ghosts
                 TheImpl'.no_dict TheImpl'.no_dict) (TheImpl''.ghosts Global.the_row TheImpl'3.ghosts TheImpl''.no_dict TheImpl''.no_dict) TheImpl'3.ghosts) (Node.the_row
-                (Param.param 0 T1')) (Syntax.ty_ref Syntax.erased Syntax.mut behind-8),
+                (Param.param 0 Value)) (Syntax.ty_ref Syntax.erased Syntax.mut behind-8),
           ) (List.◌∷◌ (
             11,
             Rows.whole (Declared.row (Option.the_type (Field'.mut_ref_field
-                record { mir = Syntax.erased; lft = κs.0 } (Param.param 0 T1') tt).row)),
+                record { mir = Syntax.erased; lft = κs.0 } (Param.param 0 Value) tt).row)),
           ) (List.◌∷◌ (
             12,
-            Maybe.waits_if (Node.the_row (Param.param 0 T1')) (Param.param 0
-                T1') (Option.the_type (Field'.mut_ref_field record { mir = Syntax.named 0; lft = List.[] } (Param.param 0 T1') tt).row).D (Syntax.ty_ref Syntax.erased
+            Maybe.waits_if (Node.the_row (Param.param 0 Value)) (Param.param 0
+                Value) (Option.the_type (Field'.mut_ref_field record { mir = Syntax.named 0; lft = List.[] } (Param.param 0 Value) tt).row).D (Syntax.ty_ref Syntax.erased
                 Syntax.mut behind-2),
           ) (List.◌∷◌ (13, Rows.whole (Declared.row (Option.the_type (Text.str-field record { mir = Syntax.erased; lft = κs.1.0 }).row)))
               (List.◌∷◌ (
                 1,
-                Kind.waits (Declared'.row (TheInside.the_type (Param.param 0 T1'))) (BTreeMap.the_row of-6 of-2 Global.the_row (TheImpl.ghosts Global.the_row
+                Kind.waits (Declared'.row (TheInside.the_type (Param.param 0 Value))) (BTreeMap.the_row of-6 of-2 Global.the_row (TheImpl.ghosts Global.the_row
                     TheImpl'3.ghosts TheImpl.no_dict TheImpl.no_dict) (TheImpl'.ghosts Global.the_row TheImpl'3.ghosts TheImpl'.no_dict TheImpl'.no_dict) (TheImpl''.ghosts
                     Global.the_row TheImpl'3.ghosts TheImpl''.no_dict TheImpl''.no_dict) TheImpl'3.ghosts) (Syntax.ty_ref (Syntax.named 0) Syntax.mut behind-2),
               )
@@ -7414,8 +7414,8 @@ module _ (T1' : RattleType.RattleType) (L1' : Laws'.Laws T1') where
                 (Syntax.ty_param 0)) Syntax.tnil) Syntax.ttnil))),
           ) (List.◌∷◌ (
             1,
-            Late.late_aside (Node.the_row (Param.param 0 T1')) (Declared'.row (TheInside.the_type
-                (Param.param 0 T1'))) 0 (Row.bare (Fraction.right qs.0)),
+            Late.late_aside (Node.the_row (Param.param 0 Value)) (Declared'.row (TheInside.the_type
+                (Param.param 0 Value))) 0 (Row.bare (Fraction.right qs.0)),
           ) (List.◌∷◌ (
             2,
             Rows.whole (Declared.row (Option.the_type (Text.str-field record {
@@ -7455,15 +7455,15 @@ module _ (T1' : RattleType.RattleType) (L1' : Laws'.Laws T1') where
             Kind.waits (BTreeMap.the_row
                 of-6 of-2 Global.the_row (TheImpl.ghosts Global.the_row TheImpl'3.ghosts TheImpl.no_dict TheImpl.no_dict) (TheImpl'.ghosts Global.the_row TheImpl'3.ghosts
                 TheImpl'.no_dict TheImpl'.no_dict) (TheImpl''.ghosts Global.the_row TheImpl'3.ghosts TheImpl''.no_dict TheImpl''.no_dict) TheImpl'3.ghosts) (Node.the_row
-                (Param.param 0 T1')) (Syntax.ty_ref Syntax.erased Syntax.mut behind-8),
+                (Param.param 0 Value)) (Syntax.ty_ref Syntax.erased Syntax.mut behind-8),
           ) (List.◌∷◌ (
             11,
             Rows.whole (Declared.row (Option.the_type (Field'.mut_ref_field
-                record { mir = Syntax.erased; lft = κs.0 } (Param.param 0 T1') tt).row)),
+                record { mir = Syntax.erased; lft = κs.0 } (Param.param 0 Value) tt).row)),
           ) (List.◌∷◌ (
             12,
-            Maybe.waits_if (Node.the_row (Param.param 0 T1')) (Param.param 0
-                T1') (Option.the_type (Field'.mut_ref_field record { mir = Syntax.named 0; lft = List.[] } (Param.param 0 T1') tt).row).D (Syntax.ty_ref Syntax.erased
+            Maybe.waits_if (Node.the_row (Param.param 0 Value)) (Param.param 0
+                Value) (Option.the_type (Field'.mut_ref_field record { mir = Syntax.named 0; lft = List.[] } (Param.param 0 Value) tt).row).D (Syntax.ty_ref Syntax.erased
                 Syntax.mut behind-2),
           ) (List.◌∷◌ (
             13,
@@ -7472,7 +7472,7 @@ module _ (T1' : RattleType.RattleType) (L1' : Laws'.Laws T1') where
                 Syntax.ttnil))),
           ) (List.◌∷◌ (
             1,
-            Kind.waits (Declared'.row (TheInside.the_type (Param.param 0 T1'))) (BTreeMap.the_row of-6 of-2 Global.the_row
+            Kind.waits (Declared'.row (TheInside.the_type (Param.param 0 Value))) (BTreeMap.the_row of-6 of-2 Global.the_row
                 (TheImpl.ghosts Global.the_row TheImpl'3.ghosts TheImpl.no_dict TheImpl.no_dict) (TheImpl'.ghosts Global.the_row TheImpl'3.ghosts TheImpl'.no_dict
                 TheImpl'.no_dict) (TheImpl''.ghosts Global.the_row TheImpl'3.ghosts TheImpl''.no_dict TheImpl''.no_dict) TheImpl'3.ghosts) (Syntax.ty_ref (Syntax.named 0)
                 Syntax.mut behind-2),
@@ -7485,8 +7485,8 @@ module _ (T1' : RattleType.RattleType) (L1' : Laws'.Laws T1') where
                 (Syntax.ty_param 0)) Syntax.tnil) Syntax.ttnil))),
           ) (List.◌∷◌ (
             1,
-            Late.late_aside (Node.the_row (Param.param 0 T1')) (Declared'.row (TheInside.the_type
-                (Param.param 0 T1'))) 0 (Row.bare (Fraction.right qs.0)),
+            Late.late_aside (Node.the_row (Param.param 0 Value)) (Declared'.row (TheInside.the_type
+                (Param.param 0 Value))) 0 (Row.bare (Fraction.right qs.0)),
           ) (List.◌∷◌ (
             2,
             Rows.whole (Declared.row (Option.the_type (Text.str-field record {
@@ -7530,11 +7530,11 @@ module _ (T1' : RattleType.RattleType) (L1' : Laws'.Laws T1') where
             Rows.whole (Declared.row (Option.the_type (Field'.mut_ref_field record {
               mir = Syntax.erased;
               lft = κs.0;
-            } (Param.param 0 T1') tt).row)),
+            } (Param.param 0 Value) tt).row)),
           ) (List.◌∷◌ (
             12,
-            Maybe.waits_if (Node.the_row (Param.param 0 T1')) (Param.param 0 T1') (Option.the_type
-                (Field'.mut_ref_field record { mir = Syntax.named 0; lft = List.[] } (Param.param 0 T1') tt).row).D (Syntax.ty_ref Syntax.erased Syntax.mut behind-2),
+            Maybe.waits_if (Node.the_row (Param.param 0 Value)) (Param.param 0 Value) (Option.the_type
+                (Field'.mut_ref_field record { mir = Syntax.named 0; lft = List.[] } (Param.param 0 Value) tt).row).D (Syntax.ty_ref Syntax.erased Syntax.mut behind-2),
           )
               (List.◌∷◌ (
                 13,
@@ -7543,7 +7543,7 @@ module _ (T1' : RattleType.RattleType) (L1' : Laws'.Laws T1') where
               )
               (List.◌∷◌ (
                 1,
-                Kind.waits (Declared'.row (TheInside.the_type (Param.param 0 T1'))) (Node.the_row (Param.param 0 T1')) (Syntax.ty_ref (Syntax.named 0)
+                Kind.waits (Declared'.row (TheInside.the_type (Param.param 0 Value))) (Node.the_row (Param.param 0 Value)) (Syntax.ty_ref (Syntax.named 0)
                     Syntax.mut behind-2),
               ) List.[]))))))))))))))
 
@@ -7554,8 +7554,8 @@ module _ (T1' : RattleType.RattleType) (L1' : Laws'.Laws T1') where
                 (Syntax.ty_param 0)) Syntax.tnil) Syntax.ttnil))),
           ) (List.◌∷◌ (
             1,
-            Late.late_aside (Node.the_row (Param.param 0 T1')) (Declared'.row (TheInside.the_type
-                (Param.param 0 T1'))) 0 (Row.bare (Fraction.right qs.0)),
+            Late.late_aside (Node.the_row (Param.param 0 Value)) (Declared'.row (TheInside.the_type
+                (Param.param 0 Value))) 0 (Row.bare (Fraction.right qs.0)),
           ) (List.◌∷◌ (
             2,
             Rows.whole (Declared.row (Option.the_type (Text.str-field record {
@@ -7599,7 +7599,7 @@ module _ (T1' : RattleType.RattleType) (L1' : Laws'.Laws T1') where
             Rows.whole (Declared.row (Option.the_type (Field'.mut_ref_field record {
               mir = Syntax.erased;
               lft = κs.0;
-            } (Param.param 0 T1') tt).row)),
+            } (Param.param 0 Value) tt).row)),
           ) (List.◌∷◌ (12, Rows.any_gone (Syntax.ty_ref Syntax.erased Syntax.mut behind-2)) (List.◌∷◌ (
             13,
             Rows.any_gone
@@ -7608,11 +7608,11 @@ module _ (T1' : RattleType.RattleType) (L1' : Laws'.Laws T1') where
           ) (List.◌∷◌ (
             1,
             Maybe.waits_if
-                (Declared'.row (TheInside.the_type (Param.param 0 T1'))) (Param.param 0 T1') (Option.the_type (Field'.mut_ref_field record {
+                (Declared'.row (TheInside.the_type (Param.param 0 Value))) (Param.param 0 Value) (Option.the_type (Field'.mut_ref_field record {
                   mir = Syntax.named 0;
                   lft =
                       List.[];
-                } (Param.param 0 T1') tt).row).D (Syntax.ty_ref (Syntax.named 0) Syntax.mut behind-2),
+                } (Param.param 0 Value) tt).row).D (Syntax.ty_ref (Syntax.named 0) Syntax.mut behind-2),
           ) List.[]))))))))))))))
 
           abbrev g36 : List.List Row.Entry
@@ -7622,8 +7622,8 @@ module _ (T1' : RattleType.RattleType) (L1' : Laws'.Laws T1') where
                 (Syntax.ty_param 0)) Syntax.tnil) Syntax.ttnil))),
           ) (List.◌∷◌ (
             1,
-            Maybe.waits_if (Node.the_row (Param.param 0 T1')) (Param.param 0 T1') (Option.the_type
-                (Field'.mut_ref_field record { mir = Syntax.named 0; lft = List.[] } (Param.param 0 T1') tt).row).D (Syntax.ty_ref (Syntax.named 0) Syntax.mut behind-2),
+            Maybe.waits_if (Node.the_row (Param.param 0 Value)) (Param.param 0 Value) (Option.the_type
+                (Field'.mut_ref_field record { mir = Syntax.named 0; lft = List.[] } (Param.param 0 Value) tt).row).D (Syntax.ty_ref (Syntax.named 0) Syntax.mut behind-2),
           )
               (List.◌∷◌ (2, Rows.whole (Declared.row (Option.the_type (Text.str-field record { mir = Syntax.named 1; lft = κs.1.0 }).row))) (List.◌∷◌ (
                 3,
@@ -7655,7 +7655,7 @@ module _ (T1' : RattleType.RattleType) (L1' : Laws'.Laws T1') where
               ) (List.◌∷◌ (10, Rows.any_gone (Syntax.ty_ref Syntax.erased Syntax.mut behind-8)) (List.◌∷◌ (
                 11,
                 Rows.whole (Declared.row (Option.the_type
-                    (Field'.mut_ref_field record { mir = Syntax.erased; lft = κs.0 } (Param.param 0 T1') tt).row)),
+                    (Field'.mut_ref_field record { mir = Syntax.erased; lft = κs.0 } (Param.param 0 Value) tt).row)),
               ) (List.◌∷◌ (
                 12,
                 Rows.any_gone (Syntax.ty_ref Syntax.erased
@@ -7674,8 +7674,8 @@ module _ (T1' : RattleType.RattleType) (L1' : Laws'.Laws T1') where
                 (Syntax.ty_param 0)) Syntax.tnil) Syntax.ttnil))),
           ) (List.◌∷◌ (
             1,
-            Late.late_aside (Node.the_row (Param.param 0 T1')) (Declared'.row (TheInside.the_type
-                (Param.param 0 T1'))) 0 (Row.bare (Fraction.right qs.0)),
+            Late.late_aside (Node.the_row (Param.param 0 Value)) (Declared'.row (TheInside.the_type
+                (Param.param 0 Value))) 0 (Row.bare (Fraction.right qs.0)),
           ) (List.◌∷◌ (
             2,
             Rows.whole (Declared.row (Option.the_type (Text.str-field record {
@@ -7730,7 +7730,7 @@ module _ (T1' : RattleType.RattleType) (L1' : Laws'.Laws T1') where
           ) (List.◌∷◌ (
             1,
             Kind.waits (Declared'.row
-                (TheInside.the_type (Param.param 0 T1'))) (BTreeMap.the_row of-6 of-2 Global.the_row (TheImpl.ghosts Global.the_row TheImpl'3.ghosts TheImpl.no_dict
+                (TheInside.the_type (Param.param 0 Value))) (BTreeMap.the_row of-6 of-2 Global.the_row (TheImpl.ghosts Global.the_row TheImpl'3.ghosts TheImpl.no_dict
                 TheImpl.no_dict) (TheImpl'.ghosts Global.the_row TheImpl'3.ghosts TheImpl'.no_dict TheImpl'.no_dict) (TheImpl''.ghosts Global.the_row TheImpl'3.ghosts
                 TheImpl''.no_dict TheImpl''.no_dict) TheImpl'3.ghosts) (Syntax.ty_ref (Syntax.named 0) Syntax.mut behind-2),
           ) List.[]))))))))))))))
@@ -7742,8 +7742,8 @@ module _ (T1' : RattleType.RattleType) (L1' : Laws'.Laws T1') where
                 (Syntax.ty_param 0)) Syntax.tnil) Syntax.ttnil))),
           ) (List.◌∷◌ (
             1,
-            Late.late_aside (Node.the_row (Param.param 0 T1')) (Declared'.row (TheInside.the_type
-                (Param.param 0 T1'))) 0 (Row.bare (Fraction.right qs.0)),
+            Late.late_aside (Node.the_row (Param.param 0 Value)) (Declared'.row (TheInside.the_type
+                (Param.param 0 Value))) 0 (Row.bare (Fraction.right qs.0)),
           ) (List.◌∷◌ (
             2,
             Rows.whole (Declared.row (Option.the_type (Text.str-field record {
@@ -7794,7 +7794,7 @@ module _ (T1' : RattleType.RattleType) (L1' : Laws'.Laws T1') where
                     Syntax.erased Syntax.imm (Syntax.ty_int Syntax.w8)) (Syntax.tcons (Syntax.ty_int Syntax.w64) Syntax.tnil))) Syntax.tnil) Syntax.ttnil))),
               ) (List.◌∷◌ (
                 1,
-                Kind.waits (Declared'.row (TheInside.the_type (Param.param 0 T1'))) (BTreeMap.the_row of-6 of-2 Global.the_row (TheImpl.ghosts Global.the_row
+                Kind.waits (Declared'.row (TheInside.the_type (Param.param 0 Value))) (BTreeMap.the_row of-6 of-2 Global.the_row (TheImpl.ghosts Global.the_row
                     TheImpl'3.ghosts TheImpl.no_dict TheImpl.no_dict) (TheImpl'.ghosts Global.the_row TheImpl'3.ghosts TheImpl'.no_dict TheImpl'.no_dict) (TheImpl''.ghosts
                     Global.the_row TheImpl'3.ghosts TheImpl''.no_dict TheImpl''.no_dict) TheImpl'3.ghosts) (Syntax.ty_ref (Syntax.named 0) Syntax.mut behind-2),
               )
@@ -7807,8 +7807,8 @@ module _ (T1' : RattleType.RattleType) (L1' : Laws'.Laws T1') where
                 (Syntax.ty_param 0)) Syntax.tnil) Syntax.ttnil))),
           ) (List.◌∷◌ (
             1,
-            Late.late_aside (Node.the_row (Param.param 0 T1')) (Declared'.row (TheInside.the_type
-                (Param.param 0 T1'))) 0 (Row.bare (Fraction.right qs.0)),
+            Late.late_aside (Node.the_row (Param.param 0 Value)) (Declared'.row (TheInside.the_type
+                (Param.param 0 Value))) 0 (Row.bare (Fraction.right qs.0)),
           ) (List.◌∷◌ (
             2,
             Rows.whole (Declared.row (Option.the_type (Text.str-field record {
@@ -7864,7 +7864,7 @@ module _ (T1' : RattleType.RattleType) (L1' : Laws'.Laws T1') where
                 Syntax.ttnil))),
           ) (List.◌∷◌ (
             1,
-            Kind.waits (Declared'.row (TheInside.the_type (Param.param 0 T1'))) (BTreeMap.the_row of-6 of-2 Global.the_row
+            Kind.waits (Declared'.row (TheInside.the_type (Param.param 0 Value))) (BTreeMap.the_row of-6 of-2 Global.the_row
                 (TheImpl.ghosts Global.the_row TheImpl'3.ghosts TheImpl.no_dict TheImpl.no_dict) (TheImpl'.ghosts Global.the_row TheImpl'3.ghosts TheImpl'.no_dict
                 TheImpl'.no_dict) (TheImpl''.ghosts Global.the_row TheImpl'3.ghosts TheImpl''.no_dict TheImpl''.no_dict) TheImpl'3.ghosts) (Syntax.ty_ref (Syntax.named 0)
                 Syntax.mut behind-2),
@@ -7877,8 +7877,8 @@ module _ (T1' : RattleType.RattleType) (L1' : Laws'.Laws T1') where
                 (Syntax.ty_param 0)) Syntax.tnil) Syntax.ttnil))),
           ) (List.◌∷◌ (
             1,
-            Late.late_aside (Node.the_row (Param.param 0 T1')) (Declared'.row (TheInside.the_type
-                (Param.param 0 T1'))) 0 (Row.bare (Fraction.right qs.0)),
+            Late.late_aside (Node.the_row (Param.param 0 Value)) (Declared'.row (TheInside.the_type
+                (Param.param 0 Value))) 0 (Row.bare (Fraction.right qs.0)),
           ) (List.◌∷◌ (
             2,
             Rows.whole (Declared.row (Option.the_type (Text.str-field record {
@@ -7925,7 +7925,7 @@ module _ (T1' : RattleType.RattleType) (L1' : Laws'.Laws T1') where
               mir = Syntax.erased;
               lft =
                   κs.0;
-            } (Param.param 0 T1') tt).row)),
+            } (Param.param 0 Value) tt).row)),
           ) (List.◌∷◌ (12, Rows.any_gone (Syntax.ty_ref Syntax.erased Syntax.mut behind-2)) (List.◌∷◌ (
             13,
             Rows.any_gone
@@ -7934,7 +7934,7 @@ module _ (T1' : RattleType.RattleType) (L1' : Laws'.Laws T1') where
           ) (List.◌∷◌ (
             1,
             Kind.waits
-                (Declared'.row (TheInside.the_type (Param.param 0 T1'))) (BTreeMap.the_row of-6 of-2 Global.the_row (TheImpl.ghosts Global.the_row TheImpl'3.ghosts
+                (Declared'.row (TheInside.the_type (Param.param 0 Value))) (BTreeMap.the_row of-6 of-2 Global.the_row (TheImpl.ghosts Global.the_row TheImpl'3.ghosts
                 TheImpl.no_dict TheImpl.no_dict) (TheImpl'.ghosts Global.the_row TheImpl'3.ghosts TheImpl'.no_dict TheImpl'.no_dict) (TheImpl''.ghosts Global.the_row
                 TheImpl'3.ghosts TheImpl''.no_dict TheImpl''.no_dict) TheImpl'3.ghosts) (Syntax.ty_ref (Syntax.named 0) Syntax.mut behind-2),
           ) List.[]))))))))))))))
@@ -7946,8 +7946,8 @@ module _ (T1' : RattleType.RattleType) (L1' : Laws'.Laws T1') where
                 (Syntax.ty_param 0)) Syntax.tnil) Syntax.ttnil))),
           ) (List.◌∷◌ (
             1,
-            Late.late_aside (Node.the_row (Param.param 0 T1')) (Declared'.row (TheInside.the_type
-                (Param.param 0 T1'))) 0 (Row.bare (Fraction.right qs.0)),
+            Late.late_aside (Node.the_row (Param.param 0 Value)) (Declared'.row (TheInside.the_type
+                (Param.param 0 Value))) 0 (Row.bare (Fraction.right qs.0)),
           ) (List.◌∷◌ (
             2,
             Rows.whole (Declared.row (Option.the_type (Text.str-field record {
@@ -7994,7 +7994,7 @@ module _ (T1' : RattleType.RattleType) (L1' : Laws'.Laws T1') where
               mir = Syntax.erased;
               lft =
                   κs.0;
-            } (Param.param 0 T1') tt).row)),
+            } (Param.param 0 Value) tt).row)),
           ) (List.◌∷◌ (12, Rows.any_gone (Syntax.ty_ref Syntax.erased Syntax.mut behind-2)) (List.◌∷◌ (
             13,
             Rows.any_gone
@@ -8003,7 +8003,7 @@ module _ (T1' : RattleType.RattleType) (L1' : Laws'.Laws T1') where
           ) (List.◌∷◌ (
             1,
             Kind.waits
-                (Declared'.row (TheInside.the_type (Param.param 0 T1'))) (BTreeMap.the_row of-6 of-2 Global.the_row (TheImpl.ghosts Global.the_row TheImpl'3.ghosts
+                (Declared'.row (TheInside.the_type (Param.param 0 Value))) (BTreeMap.the_row of-6 of-2 Global.the_row (TheImpl.ghosts Global.the_row TheImpl'3.ghosts
                 TheImpl.no_dict TheImpl.no_dict) (TheImpl'.ghosts Global.the_row TheImpl'3.ghosts TheImpl'.no_dict TheImpl'.no_dict) (TheImpl''.ghosts Global.the_row
                 TheImpl'3.ghosts TheImpl''.no_dict TheImpl''.no_dict) TheImpl'3.ghosts) (Syntax.ty_ref (Syntax.named 0) Syntax.mut behind-2),
           ) List.[]))))))))))))))
@@ -8015,8 +8015,8 @@ module _ (T1' : RattleType.RattleType) (L1' : Laws'.Laws T1') where
                 (Syntax.ty_param 0)) Syntax.tnil) Syntax.ttnil))),
           ) (List.◌∷◌ (
             1,
-            Late.late_aside (Node.the_row (Param.param 0 T1')) (Declared'.row (TheInside.the_type
-                (Param.param 0 T1'))) 0 (Row.bare (Fraction.right qs.0)),
+            Late.late_aside (Node.the_row (Param.param 0 Value)) (Declared'.row (TheInside.the_type
+                (Param.param 0 Value))) 0 (Row.bare (Fraction.right qs.0)),
           ) (List.◌∷◌ (
             2,
             Rows.whole (Declared.row (Option.the_type (Text.str-field record {
@@ -8063,7 +8063,7 @@ module _ (T1' : RattleType.RattleType) (L1' : Laws'.Laws T1') where
               mir = Syntax.erased;
               lft =
                   κs.0;
-            } (Param.param 0 T1') tt).row)),
+            } (Param.param 0 Value) tt).row)),
           ) (List.◌∷◌ (12, Rows.any_gone (Syntax.ty_ref Syntax.erased Syntax.mut behind-2)) (List.◌∷◌ (
             13,
             Rows.any_gone
@@ -8072,7 +8072,7 @@ module _ (T1' : RattleType.RattleType) (L1' : Laws'.Laws T1') where
           ) (List.◌∷◌ (
             1,
             Rows.mleft
-                (Declared'.row (TheInside.the_type (Param.param 0 T1'))) (Syntax.ty_ref (Syntax.named 0) Syntax.mut behind-2),
+                (Declared'.row (TheInside.the_type (Param.param 0 Value))) (Syntax.ty_ref (Syntax.named 0) Syntax.mut behind-2),
           ) List.[]))))))))))))))
 
           abbrev g43 : List.List Row.Entry
@@ -8082,7 +8082,7 @@ module _ (T1' : RattleType.RattleType) (L1' : Laws'.Laws T1') where
                 (Syntax.ty_param 0)) Syntax.tnil) Syntax.ttnil))),
           ) (List.◌∷◌ (
             1,
-            Rows.mleft (Node.the_row (Param.param 0 T1')) (Syntax.ty_ref (Syntax.named 0) Syntax.mut
+            Rows.mleft (Node.the_row (Param.param 0 Value)) (Syntax.ty_ref (Syntax.named 0) Syntax.mut
                 behind-2),
           ) (List.◌∷◌ (2, Rows.whole (Declared.row (Option.the_type (Text.str-field record { mir = Syntax.named 1; lft = κs.1.0 }).row))) (List.◌∷◌ (
             3,
@@ -8116,7 +8116,7 @@ module _ (T1' : RattleType.RattleType) (L1' : Laws'.Laws T1') where
                     Global.the_row TheImpl'3.ghosts TheImpl''.no_dict TheImpl''.no_dict) TheImpl'3.ghosts) (Syntax.ty_ref Syntax.erased Syntax.mut behind-8),
               ) (List.◌∷◌ (
                 11,
-                Rows.whole (Declared.row (Option.the_type (Field'.mut_ref_field record { mir = Syntax.erased; lft = κs.0 } (Param.param 0 T1') tt).row)),
+                Rows.whole (Declared.row (Option.the_type (Field'.mut_ref_field record { mir = Syntax.erased; lft = κs.0 } (Param.param 0 Value) tt).row)),
               ) (List.◌∷◌ (
                 12,
                 Rows.any_gone (Syntax.ty_ref Syntax.erased Syntax.mut behind-2),
@@ -8134,7 +8134,7 @@ module _ (T1' : RattleType.RattleType) (L1' : Laws'.Laws T1') where
                 (Syntax.ty_param 0)) Syntax.tnil) Syntax.ttnil))),
           ) (List.◌∷◌ (
             1,
-            Maybe.settled (Node.the_row (Param.param 0 T1')) (Syntax.ty_ref (Syntax.named 0)
+            Maybe.settled (Node.the_row (Param.param 0 Value)) (Syntax.ty_ref (Syntax.named 0)
                 Syntax.mut behind-2),
           ) (List.◌∷◌ (2, Rows.whole (Declared.row (Option.the_type (Text.str-field record { mir = Syntax.named 1; lft = κs.1.0 }).row)))
               (List.◌∷◌ (
@@ -8172,7 +8172,7 @@ module _ (T1' : RattleType.RattleType) (L1' : Laws'.Laws T1') where
                     Global.the_row TheImpl'3.ghosts TheImpl''.no_dict TheImpl''.no_dict) TheImpl'3.ghosts) (Syntax.ty_ref Syntax.erased Syntax.mut behind-8),
               ) (List.◌∷◌ (
                 11,
-                Rows.whole (Declared.row (Option.the_type (Field'.mut_ref_field record { mir = Syntax.erased; lft = κs.0 } (Param.param 0 T1') tt).row)),
+                Rows.whole (Declared.row (Option.the_type (Field'.mut_ref_field record { mir = Syntax.erased; lft = κs.0 } (Param.param 0 Value) tt).row)),
               ) (List.◌∷◌ (
                 12,
                 Rows.any_gone (Syntax.ty_ref Syntax.erased Syntax.mut behind-2),
@@ -8190,7 +8190,7 @@ module _ (T1' : RattleType.RattleType) (L1' : Laws'.Laws T1') where
                 (Syntax.ty_param 0)) Syntax.tnil) Syntax.ttnil))),
           ) (List.◌∷◌ (
             1,
-            Maybe.settled (Node.the_row (Param.param 0 T1')) (Syntax.ty_ref (Syntax.named 0)
+            Maybe.settled (Node.the_row (Param.param 0 Value)) (Syntax.ty_ref (Syntax.named 0)
                 Syntax.mut behind-2),
           ) (List.◌∷◌ (2, Rows.whole (Declared.row (Option.the_type (Text.str-field record { mir = Syntax.named 1; lft = κs.1.0 }).row)))
               (List.◌∷◌ (
@@ -8223,7 +8223,7 @@ module _ (T1' : RattleType.RattleType) (L1' : Laws'.Laws T1') where
                     Syntax.mut behind-2) Syntax.tnil) Syntax.ttnil))),
               ) (List.◌∷◌ (10, Rows.any_gone (Syntax.ty_ref Syntax.erased Syntax.mut behind-8)) (List.◌∷◌ (
                 11,
-                Rows.whole (Declared.row (Option.the_type (Field'.mut_ref_field record { mir = Syntax.erased; lft = κs.0 } (Param.param 0 T1') tt).row)),
+                Rows.whole (Declared.row (Option.the_type (Field'.mut_ref_field record { mir = Syntax.erased; lft = κs.0 } (Param.param 0 Value) tt).row)),
               ) (List.◌∷◌ (
                 12,
                 Rows.any_gone (Syntax.ty_ref Syntax.erased Syntax.mut behind-2),
@@ -8726,39 +8726,39 @@ module _ (T1' : RattleType.RattleType) (L1' : Laws'.Laws T1') where
           abbrev Δ2 : Typed.Outs
           Δ2 = Typed.with_next (Option'.some G30) Δ0
 
-          module _ {M : Type 1} {𝓤 : Ura.Ura M} (𝓛 : Logic''.Logic 𝓤) (𝓣 : Wp.Tables 𝓤 𝓛.H) (known : Knowns 𝓛 𝓣) (lives : BorrowLft.◌⊑◌ κs.1.1.0 T1'.lives × Unit {0}) (bs
+          module _ {M : Type 1} {𝓤 : Ura.Ura M} (𝓛 : Logic''.Logic 𝓤) (𝓣 : Wp.Tables 𝓤 𝓛.H) (known : Knowns 𝓛 𝓣) (lives : BorrowLft.◌⊑◌ κs.1.1.0 Value.lives × Unit {0}) (bs
               : List.List Nat.ℕ) (bd : Lifetimes.AllOutlive 3 (Kinds.os_r r) κs) where
             abbrev E : Wp.Env 𝓤 𝓛.H
             E = Frame.EnvOf 𝓛 (List.◌∷◌ (Kinds.ty_r r) (Enter.tys_p ps xs)) bs
 
             d9 : Typed.Typed 𝓛 𝓣 E G14 b3 Δ1 (at9 bs)
             d9 = Typed.g_pre_lem 𝓛 𝓣 E G14 G15 b3 Δ1 (Typed.ask (s12 bs)) (at8 bs) (Through.g_Through_if 𝓛 E G14 14 7 (Syntax.ty_ref (Syntax.named 0) Syntax.mut behind-2)
-                (Syntax.ty_ref Syntax.erased Syntax.mut behind-3) (Declared'.row (TheInside.the_type (Param.param 0 T1'))) (Declared.row (Option.the_type (Param.param 0
-                T1'))) (Param.param 0 T1') (Option.the_type (Field'.mut_ref_field record { mir = Syntax.named 0; lft = List.[] } (Param.param 0 T1') tt).row).D (λ x. x)
-                (λ x. x) (Reads.as_is 𝓛 (Kind.waits (Declared'.row (TheInside.the_type (Param.param 0 T1'))) (Declared.row (Option.the_type (Param.param 0 T1')))
-                (Syntax.ty_ref (Syntax.named 0) Syntax.mut behind-2))) (Reads.as_is 𝓛 (Maybe.waits_if (Declared.row (Option.the_type (Param.param 0 T1'))) (Param.param 0
-                T1') (Option.the_type (Field'.mut_ref_field record { mir = Syntax.named 0; lft = List.[] } (Param.param 0 T1') tt).row).D (Syntax.ty_ref Syntax.erased
-                Syntax.mut behind-3)))) (Typed.g_pre_lem 𝓛 𝓣 E G15 G16 b3 Δ1 (Typed.both (s13 bs)) (at7 bs) (Late.g_close_late_if (Node.the_row (Param.param 0 T1'))
-                (Declared'.row (TheInside.the_type (Param.param 0 T1'))) (Node.the_view (Param.param 0 T1')) (Node.the_invariant (Param.param 0 T1')) 𝓛 E (Mut.view_in
-                (Node.the_row (Param.param 0 T1')) (Declared'.row (TheInside.the_type (Param.param 0 T1'))) (Node.the_view (Param.param 0 T1')) (Node.the_invariant
-                (Param.param 0 T1')) 𝓛 (TheLaws''.the_opens (Param.param 0 T1')) (Fields.view_made (Declared'.row (TheInside.the_type (Param.param 0 T1'))) (Node.the_row
-                (Param.param 0 T1')).Denot (Node.the_row (Param.param 0 T1')).coded (Node.the_view (Param.param 0 T1')) (Node.the_invariant (Param.param 0 T1')) 𝓛) λ a h.
+                (Syntax.ty_ref Syntax.erased Syntax.mut behind-3) (Declared'.row (TheInside.the_type (Param.param 0 Value))) (Declared.row (Option.the_type (Param.param 0
+                Value))) (Param.param 0 Value) (Option.the_type (Field'.mut_ref_field record { mir = Syntax.named 0; lft = List.[] } (Param.param 0 Value) tt).row).D (λ x. x)
+                (λ x. x) (Reads.as_is 𝓛 (Kind.waits (Declared'.row (TheInside.the_type (Param.param 0 Value))) (Declared.row (Option.the_type (Param.param 0 Value)))
+                (Syntax.ty_ref (Syntax.named 0) Syntax.mut behind-2))) (Reads.as_is 𝓛 (Maybe.waits_if (Declared.row (Option.the_type (Param.param 0 Value))) (Param.param 0
+                Value) (Option.the_type (Field'.mut_ref_field record { mir = Syntax.named 0; lft = List.[] } (Param.param 0 Value) tt).row).D (Syntax.ty_ref Syntax.erased
+                Syntax.mut behind-3)))) (Typed.g_pre_lem 𝓛 𝓣 E G15 G16 b3 Δ1 (Typed.both (s13 bs)) (at7 bs) (Late.g_close_late_if (Node.the_row (Param.param 0 Value))
+                (Declared'.row (TheInside.the_type (Param.param 0 Value))) (Node.the_view (Param.param 0 Value)) (Node.the_invariant (Param.param 0 Value)) 𝓛 E (Mut.view_in
+                (Node.the_row (Param.param 0 Value)) (Declared'.row (TheInside.the_type (Param.param 0 Value))) (Node.the_view (Param.param 0 Value)) (Node.the_invariant
+                (Param.param 0 Value)) 𝓛 (TheLaws''.the_opens (Param.param 0 Value)) (Fields.view_made (Declared'.row (TheInside.the_type (Param.param 0 Value))) (Node.the_row
+                (Param.param 0 Value)).Denot (Node.the_row (Param.param 0 Value)).coded (Node.the_view (Param.param 0 Value)) (Node.the_invariant (Param.param 0 Value)) 𝓛) λ a h.
                 (Path'.refl, h)) G15 14 1 0 0 (Syntax.ty_ref (Syntax.named 0) Syntax.mut behind-2) (Fraction.right qs.0) (Row.lease_t κs.0 qs.0 (List.◌∷◌ Bool.false
-                List.[])) Path'.refl Path'.refl tt Path'.refl Path'.refl (λ x. x) (Reads.as_is 𝓛 (Late.late_aside (Node.the_row (Param.param 0 T1')) (Declared'.row
-                (TheInside.the_type (Param.param 0 T1'))) 0 (Row.bare (Fraction.right qs.0)))) (Param.param 0 T1') (Option.the_type (Field'.mut_ref_field record {
+                List.[])) Path'.refl Path'.refl tt Path'.refl Path'.refl (λ x. x) (Reads.as_is 𝓛 (Late.late_aside (Node.the_row (Param.param 0 Value)) (Declared'.row
+                (TheInside.the_type (Param.param 0 Value))) 0 (Row.bare (Fraction.right qs.0)))) (Param.param 0 Value) (Option.the_type (Field'.mut_ref_field record {
                   mir =
                       Syntax.named 0;
                   lft = List.[];
-                } (Param.param 0 T1') tt).row).D (λ x. x) (Reads.as_is 𝓛 (Maybe.waits_if (Declared'.row (TheInside.the_type (Param.param 0
-                T1'))) (Param.param 0 T1') (Option.the_type (Field'.mut_ref_field record { mir = Syntax.named 0; lft = List.[] } (Param.param 0 T1') tt).row).D
+                } (Param.param 0 Value) tt).row).D (λ x. x) (Reads.as_is 𝓛 (Maybe.waits_if (Declared'.row (TheInside.the_type (Param.param 0
+                Value))) (Param.param 0 Value) (Option.the_type (Field'.mut_ref_field record { mir = Syntax.named 0; lft = List.[] } (Param.param 0 Value) tt).row).D
                 (Syntax.ty_ref (Syntax.named 0) Syntax.mut behind-2)))) (Typed.g_pre_lem 𝓛 𝓣 E G16 G17 b3 Δ1 (λ Ψ. Ψ) (at6 bs) (Open'.g_tok_trim 𝓛 E G16 0 (Row.lease_t
                 κs.0 qs.0 (List.◌∷◌ Bool.true List.[])) Path'.refl tt) (Typed.g_pre_lem 𝓛 𝓣 E G17 G18 b3 Δ1 (λ Ψ. Ψ) (at5 bs) (Open'.g_tok_close 𝓛 E G17 0 (Row.lease κs.0
-                qs.0) Path'.refl tt) (Typed.g_pre_lem 𝓛 𝓣 E G18 G19 b3 Δ1 (Typed.pass T16 T19 (s16 bs)) (at4 bs) (Home.g_owing_here 𝓛 E G18 1 (Syntax.ty_ref (Syntax.named
-                0) Syntax.mut behind-2) (Node.the_row (Param.param 0 T1')) (Maybe.maybe (Node.the_row (Param.param 0 T1')) (Param.param 0 T1') (Option.the_type
-                (Field'.mut_ref_field record { mir = Syntax.named 0; lft = List.[] } (Param.param 0 T1') tt).row).D) (λ x. x) (Reads.as_is 𝓛 (Maybe.waits_if
-                (Node.the_row (Param.param 0 T1')) (Param.param 0 T1') (Option.the_type (Field'.mut_ref_field record { mir = Syntax.named 0; lft = List.[] } (Param.param
-                0 T1') tt).row).D (Syntax.ty_ref (Syntax.named 0) Syntax.mut behind-2)))) (Typed.g_pre_lem 𝓛 𝓣 E G19 G20 b3 Δ1 (λ Ψ. Ψ) (at3 bs) (Lifetime.g_forget 𝓛 E
-                G19 3 (Row.lease List.[] Fraction.full_share) Path'.refl) (Typed.g_pre_lem 𝓛 𝓣 E G20 G21 b3 Δ1 (Typed.pass T19 T21 (s18 bs)) (at2 bs) (Two.g_shrink 𝓛 E
+                qs.0) Path'.refl tt) (Typed.g_pre_lem 𝓛 𝓣 E G18 G19 b3 Δ1 (Typed.pass Context-16 Context-19 (s16 bs)) (at4 bs) (Home.g_owing_here 𝓛 E G18 1 (Syntax.ty_ref (Syntax.named
+                0) Syntax.mut behind-2) (Node.the_row (Param.param 0 Value)) (Maybe.maybe (Node.the_row (Param.param 0 Value)) (Param.param 0 Value) (Option.the_type
+                (Field'.mut_ref_field record { mir = Syntax.named 0; lft = List.[] } (Param.param 0 Value) tt).row).D) (λ x. x) (Reads.as_is 𝓛 (Maybe.waits_if
+                (Node.the_row (Param.param 0 Value)) (Param.param 0 Value) (Option.the_type (Field'.mut_ref_field record { mir = Syntax.named 0; lft = List.[] } (Param.param
+                0 Value) tt).row).D (Syntax.ty_ref (Syntax.named 0) Syntax.mut behind-2)))) (Typed.g_pre_lem 𝓛 𝓣 E G19 G20 b3 Δ1 (λ Ψ. Ψ) (at3 bs) (Lifetime.g_forget 𝓛 E
+                G19 3 (Row.lease List.[] Fraction.full_share) Path'.refl) (Typed.g_pre_lem 𝓛 𝓣 E G20 G21 b3 Δ1 (Typed.pass Context-19 Context-21 (s18 bs)) (at2 bs) (Two.g_shrink 𝓛 E
                 G20 14) (Typed.t_return 𝓛 𝓣 E Δ1 tt)))))))
 
             d15 : Typed.Typed 𝓛 𝓣 E G5 b6 Δ1 (at15 bs)
@@ -8776,7 +8776,7 @@ module _ (T1' : RattleType.RattleType) (L1' : Laws'.Laws T1') where
                 (WayStmt.g_way_told
                 𝓛
                 E
-                (Declared'.row (TheInside.the_type (Param.param 0 T1')))
+                (Declared'.row (TheInside.the_type (Param.param 0 Value)))
                 Path'.refl
                 (λ ρ. Unit)
                 G5
@@ -8791,34 +8791,34 @@ module _ (T1' : RattleType.RattleType) (L1' : Laws'.Laws T1') where
                 (λ T'. record {
                   locals = Row.set_row 14 (
                     1,
-                    Rows.mref (Declared'.row (TheInside.the_type (Param.param 0 T1')))
+                    Rows.mref (Declared'.row (TheInside.the_type (Param.param 0 Value)))
                         (Syntax.ty_ref (Syntax.named 0) Syntax.mut behind-2) 0,
                   ) T';
                   slots = G5.slots;
                 })
                 (λ u T' m'. Row.set 14 (
                   1,
-                  Rows.mref (Declared'.row (TheInside.the_type (Param.param 0 T1'))) (Syntax.ty_ref
+                  Rows.mref (Declared'.row (TheInside.the_type (Param.param 0 Value))) (Syntax.ty_ref
                       (Syntax.named 0) Syntax.mut behind-2) 0,
                 ) u.1.1.1.1.1.1.1.1.1.1.1.1.1.1.0 T' m')
                 (λ u. Unit)
-                (λ x. Parts.StructFacts (TheInside.the_type (Param.param 0 T1'))
-                (TheLaws'.the_maybe (Param.param 0 T1') (Laws'.param_laws 0 T1' L1') Option'.none)
+                (λ x. Parts.StructFacts (TheInside.the_type (Param.param 0 Value))
+                (TheLaws'.the_maybe (Param.param 0 Value) (Laws'.param_laws 0 Value ValueLaws) Option'.none)
                 x)
                 (Own.Told-none 𝓛 G5.slots)
-                (Parts.Learns-facts 𝓛 (TheInside.the_type (Param.param 0 T1')) (TheLaws'.the_maybe
-                (Param.param 0 T1') (Laws'.param_laws 0 T1' L1') Option'.none))
+                (Parts.Learns-facts 𝓛 (TheInside.the_type (Param.param 0 Value)) (TheLaws'.the_maybe
+                (Param.param 0 Value) (Laws'.param_laws 0 Value ValueLaws) Option'.none))
                 λ ρ told u asked. Way.w_look
                 𝓛
                 E
                 (Way.w_mut 𝓛 E Syntax.erased (Row.lft ρ 0) (Declared'.row (TheInside.the_type
-                (Param.param 0 T1'))) (Syntax.ty_ref (Syntax.named 0) Syntax.mut behind-2) ty-4
+                (Param.param 0 Value))) (Syntax.ty_ref (Syntax.named 0) Syntax.mut behind-2) ty-4
                 u.1.1.1.1.1.1.1.1.1.1.1.1.1.1.0 u.1.1.1.1.1.1.1.1.1.1.1.1.1.1.0.now
                 ((Wp.spot_of 𝓤 𝓛.H E 1).1, 0) (Way.w_mref 𝓛 E Syntax.erased (Row.lft ρ 0)
-                (Declared'.row (TheInside.the_type (Param.param 0 T1'))) 0 (Syntax.ty_ref
+                (Declared'.row (TheInside.the_type (Param.param 0 Value))) 0 (Syntax.ty_ref
                 (Syntax.named 0) Syntax.mut behind-2) Path'.refl G5 ρ u G5.slots 14 (λ x. x)
                 u.1.1.1.1.1.1.1.1.1.1.1.1.1.1.0 Path'.refl (Reads.as_is 𝓛 (Rows.mref (Declared'.row
-                (TheInside.the_type (Param.param 0 T1'))) (Syntax.ty_ref (Syntax.named 0)
+                (TheInside.the_type (Param.param 0 Value))) (Syntax.ty_ref (Syntax.named 0)
                 Syntax.mut behind-2) 0))) Path'.refl 0 (Row.lease_t κs.0 qs.0 (List.◌∷◌ Bool.false
                 List.[])) (Row.set_life 0 Row.off G5.slots) (Row.set_life 0 Row.off G5.slots)
                 (Open'.Takes-whole 𝓛 0 G5.slots (Row.lease_t κs.0 qs.0 (List.◌∷◌ Bool.false
@@ -8839,9 +8839,9 @@ module _ (T1' : RattleType.RattleType) (L1' : Laws'.Laws T1') where
                   mir = Syntax.named 1;
                   lft = List.[];
                 }).row)
-                T7
-                (Row.out 2 T7.locals)
-                (λ u. Row.drop 2 T7.locals u)
+                Context-7
+                (Row.out 2 Context-7.locals)
+                (λ u. Row.drop 2 Context-7.locals u)
                 (λ u. u.1.1.0)
                 (λ T'. record {
                   locals = Row.set_row 2 (
@@ -9062,64 +9062,64 @@ module _ (T1' : RattleType.RattleType) (L1' : Laws'.Laws T1') where
                         (Typed.give (s9 bs))
                         (at11 bs)
                         (Field.t_field_follow 𝓛 E 𝓣 (Declared'.row (TheInside.the_type (Param.param
-                        0 T1'))) (Declared.row (Option.the_type (Param.param 0 T1'))) (λ o. Nat.◌+◌
+                        0 Value))) (Declared.row (Option.the_type (Param.param 0 Value))) (λ o. Nat.◌+◌
                         o (Memory.up (Memory.align ty-3) 0)) (λ x. At.get_at (TheInside.the_type
-                        (Param.param 0 T1')).parts 0 ((TheInside.struct (Param.param 0
-                        T1')).as_values x)) (Lend.put_record_as (TheInside.the_type (Param.param 0
-                        T1')) (TheLaws'.the_loose (Param.param 0 T1') (Laws'.param_laws 0 T1' L1'))
+                        (Param.param 0 Value)).parts 0 ((TheInside.struct (Param.param 0
+                        Value)).as_values x)) (Lend.put_record_as (TheInside.the_type (Param.param 0
+                        Value)) (TheLaws'.the_loose (Param.param 0 Value) (Laws'.param_laws 0 Value ValueLaws))
                         0 (Memory.up (Memory.align ty-3) 0) (Declared.row (Option.the_type
-                        (Param.param 0 T1'))) (λ x. x) (λ x. x) (λ y b o. SameAs.Enum-same
-                        (Option.the_type (Param.param 0 T1')) Fraction.full_share y b o)
-                        (λ y b o. Path'.sym (SameAs.Enum-same (Option.the_type (Param.param 0 T1'))
+                        (Param.param 0 Value))) (λ x. x) (λ x. x) (λ y b o. SameAs.Enum-same
+                        (Option.the_type (Param.param 0 Value)) Fraction.full_share y b o)
+                        (λ y b o. Path'.sym (SameAs.Enum-same (Option.the_type (Param.param 0 Value))
                         Fraction.full_share y b o)) (TheInside.struct (Param.param 0
-                        T1')).as_values (TheInside.struct (Param.param 0 T1')).Ghost
-                        (TheInside.struct (Param.param 0 T1')).make (λ v. tt) (λ x. Path'.refl)
+                        Value)).as_values (TheInside.struct (Param.param 0 Value)).Ghost
+                        (TheInside.struct (Param.param 0 Value)).make (λ v. tt) (λ x. Path'.refl)
                         λ v g. Path'.refl) (Field.hands_on 𝓛 (Declared'.row (TheInside.the_type
-                        (Param.param 0 T1'))) (Declared.row (Option.the_type (Param.param 0 T1')))
+                        (Param.param 0 Value))) (Declared.row (Option.the_type (Param.param 0 Value)))
                         (Memory.up (Memory.align ty-3) 0) (λ x. At.get_at (TheInside.the_type
-                        (Param.param 0 T1')).parts 0 ((TheInside.struct (Param.param 0
-                        T1')).as_values x)) (Lend.put_record_as (TheInside.the_type (Param.param 0
-                        T1')) (TheLaws'.the_loose (Param.param 0 T1') (Laws'.param_laws 0 T1' L1'))
+                        (Param.param 0 Value)).parts 0 ((TheInside.struct (Param.param 0
+                        Value)).as_values x)) (Lend.put_record_as (TheInside.the_type (Param.param 0
+                        Value)) (TheLaws'.the_loose (Param.param 0 Value) (Laws'.param_laws 0 Value ValueLaws))
                         0 (Memory.up (Memory.align ty-3) 0) (Declared.row (Option.the_type
-                        (Param.param 0 T1'))) (λ x. x) (λ x. x) (λ y b o. SameAs.Enum-same
-                        (Option.the_type (Param.param 0 T1')) Fraction.full_share y b o)
-                        (λ y b o. Path'.sym (SameAs.Enum-same (Option.the_type (Param.param 0 T1'))
+                        (Param.param 0 Value))) (λ x. x) (λ x. x) (λ y b o. SameAs.Enum-same
+                        (Option.the_type (Param.param 0 Value)) Fraction.full_share y b o)
+                        (λ y b o. Path'.sym (SameAs.Enum-same (Option.the_type (Param.param 0 Value))
                         Fraction.full_share y b o)) (TheInside.struct (Param.param 0
-                        T1')).as_values (TheInside.struct (Param.param 0 T1')).Ghost
-                        (TheInside.struct (Param.param 0 T1')).make (λ v. tt) (λ x. Path'.refl)
+                        Value)).as_values (TheInside.struct (Param.param 0 Value)).Ghost
+                        (TheInside.struct (Param.param 0 Value)).make (λ v. tt) (λ x. Path'.refl)
                         λ v g. Path'.refl) (Lend.kept_record_as (TheInside.the_type (Param.param 0
-                        T1')) (TheLaws'.the_loose (Param.param 0 T1') (Laws'.param_laws 0 T1' L1'))
+                        Value)) (TheLaws'.the_loose (Param.param 0 Value) (Laws'.param_laws 0 Value ValueLaws))
                         0 (Memory.up (Memory.align ty-3) 0) (Declared.row (Option.the_type
-                        (Param.param 0 T1'))) (λ x. x) (λ x. x) (λ y b o. SameAs.Enum-same
-                        (Option.the_type (Param.param 0 T1')) Fraction.full_share y b o)
-                        (λ y b o. Path'.sym (SameAs.Enum-same (Option.the_type (Param.param 0 T1'))
+                        (Param.param 0 Value))) (λ x. x) (λ x. x) (λ y b o. SameAs.Enum-same
+                        (Option.the_type (Param.param 0 Value)) Fraction.full_share y b o)
+                        (λ y b o. Path'.sym (SameAs.Enum-same (Option.the_type (Param.param 0 Value))
                         Fraction.full_share y b o)) (TheInside.struct (Param.param 0
-                        T1')).as_values (TheInside.struct (Param.param 0 T1')).Ghost
-                        (TheInside.struct (Param.param 0 T1')).make (λ v. tt) (λ x. Path'.refl)
+                        Value)).as_values (TheInside.struct (Param.param 0 Value)).Ghost
+                        (TheInside.struct (Param.param 0 Value)).make (λ v. tt) (λ x. Path'.refl)
                         λ v g. Path'.refl) (Lend.record_fill_as (TheInside.the_type (Param.param 0
-                        T1')) (TheLaws'.the_loose (Param.param 0 T1') (Laws'.param_laws 0 T1' L1'))
+                        Value)) (TheLaws'.the_loose (Param.param 0 Value) (Laws'.param_laws 0 Value ValueLaws))
                         0 (Memory.up (Memory.align ty-3) 0) (Declared.row (Option.the_type
-                        (Param.param 0 T1'))) (λ x. x) (λ x. x) (λ y b o. SameAs.Enum-same
-                        (Option.the_type (Param.param 0 T1')) Fraction.full_share y b o)
-                        (λ y b o. Path'.sym (SameAs.Enum-same (Option.the_type (Param.param 0 T1'))
+                        (Param.param 0 Value))) (λ x. x) (λ x. x) (λ y b o. SameAs.Enum-same
+                        (Option.the_type (Param.param 0 Value)) Fraction.full_share y b o)
+                        (λ y b o. Path'.sym (SameAs.Enum-same (Option.the_type (Param.param 0 Value))
                         Fraction.full_share y b o)) (TheInside.struct (Param.param 0
-                        T1')).as_values (TheInside.struct (Param.param 0 T1')).Ghost
-                        (TheInside.struct (Param.param 0 T1')).make (λ v. tt) (λ x. Path'.refl)
+                        Value)).as_values (TheInside.struct (Param.param 0 Value)).Ghost
+                        (TheInside.struct (Param.param 0 Value)).make (λ v. tt) (λ x. Path'.refl)
                         (λ v g. Path'.refl) Path'.refl) (Lend.record_apart_as (TheInside.the_type
-                        (Param.param 0 T1')) (TheLaws'.the_loose (Param.param 0 T1')
-                        (Laws'.param_laws 0 T1' L1')) 0 (Memory.up (Memory.align ty-3) 0)
-                        (Declared.row (Option.the_type (Param.param 0 T1'))) (λ x. x) (λ x. x)
-                        (λ y b o. SameAs.Enum-same (Option.the_type (Param.param 0 T1'))
+                        (Param.param 0 Value)) (TheLaws'.the_loose (Param.param 0 Value)
+                        (Laws'.param_laws 0 Value ValueLaws)) 0 (Memory.up (Memory.align ty-3) 0)
+                        (Declared.row (Option.the_type (Param.param 0 Value))) (λ x. x) (λ x. x)
+                        (λ y b o. SameAs.Enum-same (Option.the_type (Param.param 0 Value))
                         Fraction.full_share y b o) (λ y b o. Path'.sym (SameAs.Enum-same
-                        (Option.the_type (Param.param 0 T1')) Fraction.full_share y b o))
-                        (TheInside.struct (Param.param 0 T1')).as_values (TheInside.struct
-                        (Param.param 0 T1')).Ghost (TheInside.struct (Param.param 0 T1')).make
+                        (Option.the_type (Param.param 0 Value)) Fraction.full_share y b o))
+                        (TheInside.struct (Param.param 0 Value)).as_values (TheInside.struct
+                        (Param.param 0 Value)).Ghost (TheInside.struct (Param.param 0 Value)).make
                         (λ v. tt) (λ x. Path'.refl) (λ v g. Path'.refl) 𝓛 Path'.refl Path'.refl))
                         (List.◌∷◌ (Syntax.field 0) List.[]) G11 14 7 0 ty-4 ty-3 (Syntax.ty_ref
                         (Syntax.named 0) Syntax.mut behind-2) (Syntax.ty_ref Syntax.erased
                         Syntax.mut behind-3) (Row.lease_t κs.0 qs.0 (List.◌∷◌ Bool.false List.[]))
                         (λ x. x) (Reads.as_is 𝓛 (Rows.mref (Declared'.row (TheInside.the_type
-                        (Param.param 0 T1'))) (Syntax.ty_ref (Syntax.named 0) Syntax.mut behind-2)
+                        (Param.param 0 Value))) (Syntax.ty_ref (Syntax.named 0) Syntax.mut behind-2)
                         0)) (Reads.room_gone 𝓛 (Syntax.ty_ref Syntax.erased Syntax.mut behind-3))
                         Path'.refl tt Path'.refl (λ b o Γc. Share.walk_field 𝓛 Path'.refl
                         (Share.walk_none 𝓛)) Path'.refl λ b o. tt)
@@ -9144,7 +9144,7 @@ module _ (T1' : RattleType.RattleType) (L1' : Laws'.Laws T1') where
                         r-0
                         (AtSlots.one_type 2 named-0)
                         the-claims.2
-                        (λ κs a. BorrowLft.◌⊑◌ κs.1.0 T1'.lives → the-claims.0 κs a)
+                        (λ κs a. BorrowLft.◌⊑◌ κs.1.0 Value.lives → the-claims.0 κs a)
                         the-claims.1
                         G12 (
                           record {
@@ -9172,9 +9172,9 @@ module _ (T1' : RattleType.RattleType) (L1' : Laws'.Laws T1') where
                         (So.WithSo 2 whole-0 part-0 named-0 lender-0 rest-0 r-0 (AtSlots.one_type 2
                         named-0) the-claims.2 the-claims.0 the-claims.1)
                         (Syntax.fn "core::option::Option::as_mut"
-                        (Syntax.tcons (Param.layout T1') Syntax.tnil, Syntax.dnil))
+                        (Syntax.tcons (Param.layout Value) Syntax.tnil, Syntax.dnil))
                         known.0
-                        (λ κs. BorrowLft.◌⊑◌ κs.1.0 T1'.lives)
+                        (λ κs. BorrowLft.◌⊑◌ κs.1.0 Value.lives)
                         E
                         (λ pos β. β)
                         G12 (
@@ -9187,12 +9187,12 @@ module _ (T1' : RattleType.RattleType) (L1' : Laws'.Laws T1') where
                         )
                         0
                         (List.◌∷◌ 0 (List.◌∷◌ 2 List.[]))
-                        (Call.within_lease 𝓛 2 G12.slots κs.1.1.0 qs.1.1.0 Path'.refl T1'.lives
+                        (Call.within_lease 𝓛 2 G12.slots κs.1.1.0 qs.1.1.0 Path'.refl Value.lives
                         lives.0)
                         (Call.sub_id 𝓛 G12.slots) (
                           Reads.as_is 𝓛 (Rows.mref (Declared.row (Option.the_type (Param.param 0
-                              T1'))) (Syntax.ty_ref Syntax.erased Syntax.mut behind-3) 0),
-                          Reads.reads_mref 𝓛 (Declared.row (Option.the_type (Param.param 0 T1')))
+                              Value))) (Syntax.ty_ref Syntax.erased Syntax.mut behind-3) 0),
+                          Reads.reads_mref 𝓛 (Declared.row (Option.the_type (Param.param 0 Value)))
                               (Syntax.ty_ref Syntax.erased Syntax.mut behind-3) 0,
                           Path'.refl,
                           tt,
@@ -9214,24 +9214,24 @@ module _ (T1' : RattleType.RattleType) (L1' : Laws'.Laws T1') where
                         κs'
                         (EnumTo.r_enum_to (let Y : EnumTo.EnumTo 2 = record {
                           ν = (Option.enum (Field'.mut_ref_field
-                              record { mir = Syntax.named 0; lft = List.[] } (Param.param 0 T1')
+                              record { mir = Syntax.named 0; lft = List.[] } (Param.param 0 Value)
                               tt).row).name;
                           args = List.[];
                           types = λ κs. (Option.the_type (Field'.mut_ref_field
-                              record { mir = Syntax.named 0; lft = κs.0 } (Param.param 0 T1')
+                              record { mir = Syntax.named 0; lft = κs.0 } (Param.param 0 Value)
                               tt).row).types;
                           keeps = Exit.no;
                           variants = List.◌∷◌ List.[] (List.◌∷◌ (List.◌∷◌ (StructFields.f_mut_spent
-                              2 0 tt (Signature.plain λ κs. Param.param 0 T1') (Syntax.wrote
+                              2 0 tt (Signature.plain λ κs. Param.param 0 Value) (Syntax.wrote
                               (Syntax.ty_param 0)) λ κs. Path'.refl) List.[]) List.[]);
                           D = (Option.the_type (Field'.mut_ref_field
-                              record { mir = Syntax.named 0; lft = List.[] } (Param.param 0 T1')
+                              record { mir = Syntax.named 0; lft = List.[] } (Param.param 0 Value)
                               tt).row).D;
                           to = λ κs. (Option.the_type (Field'.mut_ref_field
-                              record { mir = Syntax.named 0; lft = κs.0 } (Param.param 0 T1')
+                              record { mir = Syntax.named 0; lft = κs.0 } (Param.param 0 Value)
                               tt).row).to;
                           one = λ κs. (Option.the_type (Field'.mut_ref_field
-                              record { mir = Syntax.named 0; lft = κs.0 } (Param.param 0 T1')
+                              record { mir = Syntax.named 0; lft = κs.0 } (Param.param 0 Value)
                               tt).row).to_one;
                           mir = Syntax.ty_enum name-2 (Syntax.ttcons Syntax.tnil (Syntax.ttcons
                               (Syntax.tcons (Syntax.ty_ref (Syntax.named 0) Syntax.mut
@@ -9240,19 +9240,19 @@ module _ (T1' : RattleType.RattleType) (L1' : Laws'.Laws T1') where
                           few = λ κs. tt;
                           Vs = Enum.Sum (EnumInner.Tss (List.[], (List.[], tt)) (List.◌∷◌ List.[]
                               (List.◌∷◌ (List.◌∷◌ (StructFields.f_mut_spent 2 0 tt (Signature.plain
-                              λ κs. Param.param 0 T1') (Syntax.wrote (Syntax.ty_param 0))
+                              λ κs. Param.param 0 Value) (Syntax.wrote (Syntax.ty_param 0))
                               λ κs. Path'.refl) List.[]) List.[])));
                           ot = AtSlots.one_type 2 (Enum.Sum (EnumInner.Tss
                               (List.[], (List.[], tt)) (List.◌∷◌ List.[] (List.◌∷◌ (List.◌∷◌
                               (StructFields.f_mut_spent 2 0 tt (Signature.plain λ κs. Param.param 0
-                              T1') (Syntax.wrote (Syntax.ty_param 0)) λ κs. Path'.refl) List.[])
+                              Value) (Syntax.wrote (Syntax.ty_param 0)) λ κs. Path'.refl) List.[])
                               List.[]))));
                         } in Y) λ M 𝓤 𝓛. (
                           tt,
                           (
                             (
                               StructFields.f_mut-Lawful 2 0 tt (Signature.plain λ κs. Param.param 0
-                                  T1') (Syntax.wrote (Syntax.ty_param 0)) (λ κs. Path'.refl) 𝓛,
+                                  Value) (Syntax.wrote (Syntax.ty_param 0)) (λ κs. Path'.refl) 𝓛,
                               tt,
                             ),
                             tt,
@@ -9266,33 +9266,33 @@ module _ (T1' : RattleType.RattleType) (L1' : Laws'.Laws T1') where
                         (Syntax.tcons (Syntax.ty_ref (Syntax.named 0) Syntax.mut (Syntax.ty_param
                         0)) Syntax.tnil) Syntax.ttnil)))
                         Path'.refl))
-                        (Typed.g_pre_lem 𝓛 𝓣 E G13 G14 b3 Δ1 (Typed.pass T13 T14 (s11 bs)) (at9 bs)
+                        (Typed.g_pre_lem 𝓛 𝓣 E G13 G14 b3 Δ1 (Typed.pass Context-13 Context-14 (s11 bs)) (at9 bs)
                         (AtSlots.g_as_by 𝓛 E (λ ρ. Path'.◌≡◌ (Row.lft ρ 0) κs.0) G13 0 (Rows.whole
                         (Declared.row (Option.the_type (Field'.mut_ref_field
-                        record { mir = Syntax.named 0; lft = κs.0 } (Param.param 0 T1') tt).row)))
+                        record { mir = Syntax.named 0; lft = κs.0 } (Param.param 0 Value) tt).row)))
                         (λ x. x) (Call.pin_level 𝓛 0 G13.slots κs.0 qs.0 (List.◌∷◌ Bool.false
                         List.[]) Path'.refl) (ValueAt.of_slots_Val 𝓛 2 Fml.Lft (λ κc. κc.0)
                         (λ c. Declared.row (Option.the_type (Field'.mut_ref_field
-                        record { mir = Syntax.named 0; lft = c } (Param.param 0 T1') tt).row))
+                        record { mir = Syntax.named 0; lft = c } (Param.param 0 Value) tt).row))
                         (Option.the_type (Field'.mut_ref_field
-                        record { mir = Syntax.named 0; lft = List.[] } (Param.param 0 T1')
+                        record { mir = Syntax.named 0; lft = List.[] } (Param.param 0 Value)
                         tt).row).D (λ c v. v) (List.◌∷◌ 0 (List.◌∷◌ 2 List.[])) κs.0
                         (Syntax.ty_enum name-2 (Syntax.ttcons Syntax.tnil (Syntax.ttcons
                         (Syntax.tcons (Syntax.ty_ref (Syntax.named 0) Syntax.mut (Syntax.ty_param
                         0)) Syntax.tnil) Syntax.ttnil))) (Declared.row (Option.the_type
                         (Field'.mut_ref_field record { mir = Syntax.named 0; lft = κs.0 }
-                        (Param.param 0 T1') tt).row)) Path'.refl Path'.refl (λ x. x)
+                        (Param.param 0 Value) tt).row)) Path'.refl Path'.refl (λ x. x)
                         λ x vs. Path'.subst {A = Fml.Fml} (λ g. Logic.ent 𝓤 (Logic''.sem 𝓛 g)
                         (Logic''.sem 𝓛 ((Declared.row (Option.the_type (Field'.mut_ref_field
-                        record { mir = Syntax.named 0; lft = κs.0 } (Param.param 0 T1')
+                        record { mir = Syntax.named 0; lft = κs.0 } (Param.param 0 Value)
                         tt).row)).own_val x vs))) {x = (Declared.row (Option.the_type
                         (Field'.mut_ref_field record { mir = Syntax.named 0; lft = κs.0 }
-                        (Param.param 0 T1') tt).row)).own_val x vs} {y = let c : Fml.Lft = κs.0 in
+                        (Param.param 0 Value) tt).row)).own_val x vs} {y = let c : Fml.Lft = κs.0 in
                         (Declared.row (Option.the_type (Field'.mut_ref_field
-                        record { mir = Syntax.named 0; lft = c } (Param.param 0 T1')
+                        record { mir = Syntax.named 0; lft = c } (Param.param 0 Value)
                         tt).row)).own_val x vs} Path'.refl (Logic.id⊢ 𝓤 (Logic''.sem 𝓛
                         ((Declared.row (Option.the_type (Field'.mut_ref_field
-                        record { mir = Syntax.named 0; lft = κs.0 } (Param.param 0 T1')
+                        record { mir = Syntax.named 0; lft = κs.0 } (Param.param 0 Value)
                         tt).row)).own_val x vs))))) d9))),
                     tt,
                   ),
@@ -9307,9 +9307,9 @@ module _ (T1' : RattleType.RattleType) (L1' : Laws'.Laws T1') where
                 G41
                 b15
                 Δ2
-                (λ Ψ. Typed.both (s38 bs) (Typed.pass T42 T43 (s39 bs) (Typed.pass T43 T44 (s40 bs)
-                (Typed.pass T44 T45 (s41 bs) (Typed.ask (s42 bs) (Typed.ask (s43 bs) (Typed.both
-                (s44 bs) (Typed.pass T48 T51 (s47 bs) Ψ))))))))
+                (λ Ψ. Typed.both (s38 bs) (Typed.pass Context-42 Context-43 (s39 bs) (Typed.pass Context-43 Context-44 (s40 bs)
+                (Typed.pass Context-44 Context-45 (s41 bs) (Typed.ask (s42 bs) (Typed.ask (s43 bs) (Typed.both
+                (s44 bs) (Typed.pass Context-48 Context-51 (s47 bs) Ψ))))))))
                 tt
                 (Typed.g_post
                 𝓛
@@ -9319,10 +9319,10 @@ module _ (T1' : RattleType.RattleType) (L1' : Laws'.Laws T1') where
                 G50
                 G51
                 b15
-                (λ Ψ. Typed.both (s38 bs) (Typed.pass T42 T43 (s39 bs) (Typed.pass T43 T44 (s40 bs)
-                (Typed.pass T44 T45 (s41 bs) (Typed.ask (s42 bs) (Typed.ask (s43 bs) (Typed.both
+                (λ Ψ. Typed.both (s38 bs) (Typed.pass Context-42 Context-43 (s39 bs) (Typed.pass Context-43 Context-44 (s40 bs)
+                (Typed.pass Context-44 Context-45 (s41 bs) (Typed.ask (s42 bs) (Typed.ask (s43 bs) (Typed.both
                 (s44 bs) Ψ)))))))
-                (Typed.pass T48 T51 (s47 bs))
+                (Typed.pass Context-48 Context-51 (s47 bs))
                 (Typed.g_post
                 𝓛
                 𝓣
@@ -9331,8 +9331,8 @@ module _ (T1' : RattleType.RattleType) (L1' : Laws'.Laws T1') where
                 G49
                 G50
                 b15
-                (λ Ψ. Typed.both (s38 bs) (Typed.pass T42 T43 (s39 bs) (Typed.pass T43 T44 (s40 bs)
-                (Typed.pass T44 T45 (s41 bs) (Typed.ask (s42 bs) (Typed.ask (s43 bs) (Typed.both
+                (λ Ψ. Typed.both (s38 bs) (Typed.pass Context-42 Context-43 (s39 bs) (Typed.pass Context-43 Context-44 (s40 bs)
+                (Typed.pass Context-44 Context-45 (s41 bs) (Typed.ask (s42 bs) (Typed.ask (s43 bs) (Typed.both
                 (s44 bs) Ψ)))))))
                 (λ Ψ. Ψ)
                 (Typed.g_post
@@ -9343,8 +9343,8 @@ module _ (T1' : RattleType.RattleType) (L1' : Laws'.Laws T1') where
                 G48
                 G49
                 b15
-                (λ Ψ. Typed.both (s38 bs) (Typed.pass T42 T43 (s39 bs) (Typed.pass T43 T44 (s40 bs)
-                (Typed.pass T44 T45 (s41 bs) (Typed.ask (s42 bs) (Typed.ask (s43 bs) (Typed.both
+                (λ Ψ. Typed.both (s38 bs) (Typed.pass Context-42 Context-43 (s39 bs) (Typed.pass Context-43 Context-44 (s40 bs)
+                (Typed.pass Context-44 Context-45 (s41 bs) (Typed.ask (s42 bs) (Typed.ask (s43 bs) (Typed.both
                 (s44 bs) Ψ)))))))
                 (λ Ψ. Ψ)
                 (Typed.g_post
@@ -9355,8 +9355,8 @@ module _ (T1' : RattleType.RattleType) (L1' : Laws'.Laws T1') where
                 G47
                 G48
                 b15
-                (λ Ψ. Typed.both (s38 bs) (Typed.pass T42 T43 (s39 bs) (Typed.pass T43 T44 (s40 bs)
-                (Typed.pass T44 T45 (s41 bs) (Typed.ask (s42 bs) (Typed.ask (s43 bs) Ψ))))))
+                (λ Ψ. Typed.both (s38 bs) (Typed.pass Context-42 Context-43 (s39 bs) (Typed.pass Context-43 Context-44 (s40 bs)
+                (Typed.pass Context-44 Context-45 (s41 bs) (Typed.ask (s42 bs) (Typed.ask (s43 bs) Ψ))))))
                 (Typed.both (s44 bs))
                 (Typed.g_post
                 𝓛
@@ -9366,8 +9366,8 @@ module _ (T1' : RattleType.RattleType) (L1' : Laws'.Laws T1') where
                 G46
                 G47
                 b15
-                (λ Ψ. Typed.both (s38 bs) (Typed.pass T42 T43 (s39 bs) (Typed.pass T43 T44 (s40 bs)
-                (Typed.pass T44 T45 (s41 bs) (Typed.ask (s42 bs) Ψ)))))
+                (λ Ψ. Typed.both (s38 bs) (Typed.pass Context-42 Context-43 (s39 bs) (Typed.pass Context-43 Context-44 (s40 bs)
+                (Typed.pass Context-44 Context-45 (s41 bs) (Typed.ask (s42 bs) Ψ)))))
                 (Typed.ask (s43 bs))
                 (Typed.g_post
                 𝓛
@@ -9377,8 +9377,8 @@ module _ (T1' : RattleType.RattleType) (L1' : Laws'.Laws T1') where
                 G45
                 G46
                 b15
-                (λ Ψ. Typed.both (s38 bs) (Typed.pass T42 T43 (s39 bs) (Typed.pass T43 T44 (s40 bs)
-                (Typed.pass T44 T45 (s41 bs) Ψ))))
+                (λ Ψ. Typed.both (s38 bs) (Typed.pass Context-42 Context-43 (s39 bs) (Typed.pass Context-43 Context-44 (s40 bs)
+                (Typed.pass Context-44 Context-45 (s41 bs) Ψ))))
                 (Typed.ask (s42 bs))
                 (Typed.g_post
                 𝓛
@@ -9388,9 +9388,9 @@ module _ (T1' : RattleType.RattleType) (L1' : Laws'.Laws T1') where
                 G44
                 G45
                 b15
-                (λ Ψ. Typed.both (s38 bs) (Typed.pass T42 T43 (s39 bs) (Typed.pass T43 T44 (s40 bs)
+                (λ Ψ. Typed.both (s38 bs) (Typed.pass Context-42 Context-43 (s39 bs) (Typed.pass Context-43 Context-44 (s40 bs)
                 Ψ)))
-                (Typed.pass T44 T45 (s41 bs))
+                (Typed.pass Context-44 Context-45 (s41 bs))
                 (Typed.g_post
                 𝓛
                 𝓣
@@ -9399,8 +9399,8 @@ module _ (T1' : RattleType.RattleType) (L1' : Laws'.Laws T1') where
                 G43
                 G44
                 b15
-                (λ Ψ. Typed.both (s38 bs) (Typed.pass T42 T43 (s39 bs) Ψ))
-                (Typed.pass T43 T44 (s40 bs))
+                (λ Ψ. Typed.both (s38 bs) (Typed.pass Context-42 Context-43 (s39 bs) Ψ))
+                (Typed.pass Context-43 Context-44 (s40 bs))
                 (Typed.g_post
                 𝓛
                 𝓣
@@ -9410,7 +9410,7 @@ module _ (T1' : RattleType.RattleType) (L1' : Laws'.Laws T1') where
                 G43
                 b15
                 (Typed.both (s38 bs))
-                (Typed.pass T42 T43 (s39 bs))
+                (Typed.pass Context-42 Context-43 (s39 bs))
                 (So.so_call
                 3
                 whole-3
@@ -9421,7 +9421,7 @@ module _ (T1' : RattleType.RattleType) (L1' : Laws'.Laws T1') where
                 r-3
                 (AtSlots.one_type 3 named-3)
                 the-claims.10
-                (λ κs a. BorrowLft.◌⊑◌ κs.1.1.0 T1'.lives → the-claims.8 κs a)
+                (λ κs a. BorrowLft.◌⊑◌ κs.1.1.0 Value.lives → the-claims.8 κs a)
                 the-claims.9
                 G41 (
                   record {
@@ -9459,9 +9459,9 @@ module _ (T1' : RattleType.RattleType) (L1' : Laws'.Laws T1') where
                 (So.WithSo 3 whole-3 part-3 named-3 lender-3 rest-3 r-3 (AtSlots.one_type 3
                 named-3) the-claims.10 the-claims.8 the-claims.9)
                 (Syntax.fn "mq_tree::node::Node::get_mut"
-                (Syntax.tcons (Param.layout T1') Syntax.tnil, Syntax.dnil))
+                (Syntax.tcons (Param.layout Value) Syntax.tnil, Syntax.dnil))
                 known.3
-                (λ κs. BorrowLft.◌⊑◌ κs.1.1.0 T1'.lives)
+                (λ κs. BorrowLft.◌⊑◌ κs.1.1.0 Value.lives)
                 E
                 (λ pos β. β)
                 G41 (
@@ -9484,11 +9484,11 @@ module _ (T1' : RattleType.RattleType) (L1' : Laws'.Laws T1') where
                 )
                 11
                 (List.◌∷◌ 0 (List.◌∷◌ 1 (List.◌∷◌ 2 List.[])))
-                (Call.within_lease 𝓛 2 G41.slots κs.1.1.0 qs.1.1.0 Path'.refl T1'.lives lives.0)
+                (Call.within_lease 𝓛 2 G41.slots κs.1.1.0 qs.1.1.0 Path'.refl Value.lives lives.0)
                 (Call.sub_id 𝓛 G41.slots) (
-                  Reads.as_is 𝓛 (Rows.mref (Node.the_row (Param.param 0 T1')) (Syntax.ty_ref
+                  Reads.as_is 𝓛 (Rows.mref (Node.the_row (Param.param 0 Value)) (Syntax.ty_ref
                       Syntax.erased Syntax.mut behind-2) 0),
-                  Reads.reads_mref 𝓛 (Node.the_row (Param.param 0 T1')) (Syntax.ty_ref
+                  Reads.reads_mref 𝓛 (Node.the_row (Param.param 0 Value)) (Syntax.ty_ref
                       Syntax.erased Syntax.mut behind-2) 0,
                   Path'.refl,
                   (
@@ -9559,23 +9559,23 @@ module _ (T1' : RattleType.RattleType) (L1' : Laws'.Laws T1') where
                 κs'
                 (EnumTo.r_enum_to (let Y : EnumTo.EnumTo 3 = record {
                   ν = (Option.enum (Field'.mut_ref_field
-                      record { mir = Syntax.named 0; lft = List.[] } (Param.param 0 T1')
+                      record { mir = Syntax.named 0; lft = List.[] } (Param.param 0 Value)
                       tt).row).name;
                   args = List.[];
                   types = λ κs. (Option.the_type (Field'.mut_ref_field
-                      record { mir = Syntax.named 0; lft = κs.0 } (Param.param 0 T1')
+                      record { mir = Syntax.named 0; lft = κs.0 } (Param.param 0 Value)
                       tt).row).types;
                   keeps = Exit.no;
                   variants = List.◌∷◌ List.[] (List.◌∷◌ (List.◌∷◌ (StructFields.f_mut_spent 3 0 tt
-                      (Signature.plain λ κs. Param.param 0 T1') (Syntax.wrote (Syntax.ty_param 0))
+                      (Signature.plain λ κs. Param.param 0 Value) (Syntax.wrote (Syntax.ty_param 0))
                       λ κs. Path'.refl) List.[]) List.[]);
                   D = (Option.the_type (Field'.mut_ref_field
-                      record { mir = Syntax.named 0; lft = List.[] } (Param.param 0 T1')
+                      record { mir = Syntax.named 0; lft = List.[] } (Param.param 0 Value)
                       tt).row).D;
                   to = λ κs. (Option.the_type (Field'.mut_ref_field
-                      record { mir = Syntax.named 0; lft = κs.0 } (Param.param 0 T1') tt).row).to;
+                      record { mir = Syntax.named 0; lft = κs.0 } (Param.param 0 Value) tt).row).to;
                   one = λ κs. (Option.the_type (Field'.mut_ref_field
-                      record { mir = Syntax.named 0; lft = κs.0 } (Param.param 0 T1')
+                      record { mir = Syntax.named 0; lft = κs.0 } (Param.param 0 Value)
                       tt).row).to_one;
                   mir = Syntax.ty_enum name-2 (Syntax.ttcons Syntax.tnil (Syntax.ttcons
                       (Syntax.tcons (Syntax.ty_ref (Syntax.named 0) Syntax.mut (Syntax.ty_param 0))
@@ -9584,17 +9584,17 @@ module _ (T1' : RattleType.RattleType) (L1' : Laws'.Laws T1') where
                   few = λ κs. tt;
                   Vs = Enum.Sum (EnumInner.Tss (List.[], (List.[], (List.[], tt))) (List.◌∷◌
                       List.[] (List.◌∷◌ (List.◌∷◌ (StructFields.f_mut_spent 3 0 tt (Signature.plain
-                      λ κs. Param.param 0 T1') (Syntax.wrote (Syntax.ty_param 0)) λ κs. Path'.refl)
+                      λ κs. Param.param 0 Value) (Syntax.wrote (Syntax.ty_param 0)) λ κs. Path'.refl)
                       List.[]) List.[])));
                   ot = AtSlots.one_type 3 (Enum.Sum (EnumInner.Tss
                       (List.[], (List.[], (List.[], tt))) (List.◌∷◌ List.[] (List.◌∷◌ (List.◌∷◌
-                      (StructFields.f_mut_spent 3 0 tt (Signature.plain λ κs. Param.param 0 T1')
+                      (StructFields.f_mut_spent 3 0 tt (Signature.plain λ κs. Param.param 0 Value)
                       (Syntax.wrote (Syntax.ty_param 0)) λ κs. Path'.refl) List.[]) List.[]))));
                 } in Y) λ M 𝓤 𝓛. (
                   tt,
                   (
                     (
-                      StructFields.f_mut-Lawful 3 0 tt (Signature.plain λ κs. Param.param 0 T1')
+                      StructFields.f_mut-Lawful 3 0 tt (Signature.plain λ κs. Param.param 0 Value)
                           (Syntax.wrote (Syntax.ty_param 0)) (λ κs. Path'.refl) 𝓛,
                       tt,
                     ),
@@ -9633,27 +9633,27 @@ module _ (T1' : RattleType.RattleType) (L1' : Laws'.Laws T1') where
                 record { mir = Syntax.erased; lft = κs.1.0 }).row)).own_val x vs))))))
                 (AtSlots.g_as_by 𝓛 E (λ ρ. Path'.◌≡◌ (Row.lft ρ 0) κs.0) G43 11 (Rows.whole
                 (Declared.row (Option.the_type (Field'.mut_ref_field
-                record { mir = Syntax.erased; lft = κs.0 } (Param.param 0 T1') tt).row))) (λ x. x)
+                record { mir = Syntax.erased; lft = κs.0 } (Param.param 0 Value) tt).row))) (λ x. x)
                 (Call.pin_level 𝓛 0 G43.slots κs.0 qs.0 (List.◌∷◌ Bool.false List.[]) Path'.refl)
                 (ValueAt.of_slots_Val 𝓛 3 Fml.Lft (λ κc. κc.0) (λ c. Declared.row (Option.the_type
-                (Field'.mut_ref_field record { mir = Syntax.named 0; lft = c } (Param.param 0 T1')
+                (Field'.mut_ref_field record { mir = Syntax.named 0; lft = c } (Param.param 0 Value)
                 tt).row)) (Option.the_type (Field'.mut_ref_field
-                record { mir = Syntax.named 0; lft = List.[] } (Param.param 0 T1') tt).row).D
+                record { mir = Syntax.named 0; lft = List.[] } (Param.param 0 Value) tt).row).D
                 (λ c v. v) (List.◌∷◌ 0 (List.◌∷◌ 1 (List.◌∷◌ 2 List.[]))) κs.0 (Syntax.ty_enum
                 name-2 (Syntax.ttcons Syntax.tnil (Syntax.ttcons (Syntax.tcons (Syntax.ty_ref
                 Syntax.erased Syntax.mut (Syntax.ty_param 0)) Syntax.tnil) Syntax.ttnil)))
                 (Declared.row (Option.the_type (Field'.mut_ref_field
-                record { mir = Syntax.erased; lft = κs.0 } (Param.param 0 T1') tt).row))
+                record { mir = Syntax.erased; lft = κs.0 } (Param.param 0 Value) tt).row))
                 Path'.refl Path'.refl (λ x. x) λ x vs. Path'.subst {A = Fml.Fml} (λ g. Logic.ent 𝓤
                 (Logic''.sem 𝓛 g) (Logic''.sem 𝓛 ((Declared.row (Option.the_type
                 (Field'.mut_ref_field record { mir = Syntax.erased; lft = κs.0 } (Param.param 0
-                T1') tt).row)).own_val x vs))) {x = (Declared.row (Option.the_type
+                Value) tt).row)).own_val x vs))) {x = (Declared.row (Option.the_type
                 (Field'.mut_ref_field record { mir = Syntax.erased; lft = κs.0 } (Param.param 0
-                T1') tt).row)).own_val x vs} {y = let c : Fml.Lft = κs.0 in (Declared.row
+                Value) tt).row)).own_val x vs} {y = let c : Fml.Lft = κs.0 in (Declared.row
                 (Option.the_type (Field'.mut_ref_field record { mir = Syntax.named 0; lft = c }
-                (Param.param 0 T1') tt).row)).own_val x vs} Path'.refl (Logic.id⊢ 𝓤 (Logic''.sem 𝓛
+                (Param.param 0 Value) tt).row)).own_val x vs} Path'.refl (Logic.id⊢ 𝓤 (Logic''.sem 𝓛
                 ((Declared.row (Option.the_type (Field'.mut_ref_field
-                record { mir = Syntax.erased; lft = κs.0 } (Param.param 0 T1') tt).row)).own_val x
+                record { mir = Syntax.erased; lft = κs.0 } (Param.param 0 Value) tt).row)).own_val x
                 vs))))))
                 (Scalar.g_room 𝓛 E G44 13 (Syntax.ty_enum name-2 (Syntax.ttcons Syntax.tnil
                 (Syntax.ttcons (Syntax.tcons (Syntax.ty_struct name-0 (Syntax.tcons (Syntax.ty_ref
@@ -9667,13 +9667,13 @@ module _ (T1' : RattleType.RattleType) (L1' : Laws'.Laws T1') where
                 Syntax.ttnil))) Path'.refl)))
                 (Through.g_Through 𝓛 E G45 14 10 (Syntax.ty_ref (Syntax.named 0) Syntax.mut
                 behind-2) (Syntax.ty_ref Syntax.erased Syntax.mut behind-8) (Declared'.row
-                (TheInside.the_type (Param.param 0 T1'))) (BTreeMap.the_row of-6 of-2
+                (TheInside.the_type (Param.param 0 Value))) (BTreeMap.the_row of-6 of-2
                 Global.the_row (TheImpl.ghosts Global.the_row TheImpl'3.ghosts TheImpl.no_dict
                 TheImpl.no_dict) (TheImpl'.ghosts Global.the_row TheImpl'3.ghosts TheImpl'.no_dict
                 TheImpl'.no_dict) (TheImpl''.ghosts Global.the_row TheImpl'3.ghosts
                 TheImpl''.no_dict TheImpl''.no_dict) TheImpl'3.ghosts) (Node.the_row (Param.param 0
-                T1')) (λ x. x) (λ x. x) (Reads.as_is 𝓛 (Kind.waits (Declared'.row
-                (TheInside.the_type (Param.param 0 T1'))) (BTreeMap.the_row of-6 of-2
+                Value)) (λ x. x) (λ x. x) (Reads.as_is 𝓛 (Kind.waits (Declared'.row
+                (TheInside.the_type (Param.param 0 Value))) (BTreeMap.the_row of-6 of-2
                 Global.the_row (TheImpl.ghosts Global.the_row TheImpl'3.ghosts TheImpl.no_dict
                 TheImpl.no_dict) (TheImpl'.ghosts Global.the_row TheImpl'3.ghosts TheImpl'.no_dict
                 TheImpl'.no_dict) (TheImpl''.ghosts Global.the_row TheImpl'3.ghosts
@@ -9683,47 +9683,47 @@ module _ (T1' : RattleType.RattleType) (L1' : Laws'.Laws T1') where
                 TheImpl.no_dict) (TheImpl'.ghosts Global.the_row TheImpl'3.ghosts TheImpl'.no_dict
                 TheImpl'.no_dict) (TheImpl''.ghosts Global.the_row TheImpl'3.ghosts
                 TheImpl''.no_dict TheImpl''.no_dict) TheImpl'3.ghosts) (Node.the_row (Param.param 0
-                T1')) (Syntax.ty_ref Syntax.erased Syntax.mut behind-8)))))
+                Value)) (Syntax.ty_ref Syntax.erased Syntax.mut behind-8)))))
                 (Through.g_Through_if 𝓛 E G46 14 12 (Syntax.ty_ref (Syntax.named 0) Syntax.mut
                 behind-2) (Syntax.ty_ref Syntax.erased Syntax.mut behind-2) (Declared'.row
-                (TheInside.the_type (Param.param 0 T1'))) (Node.the_row (Param.param 0 T1'))
-                (Param.param 0 T1') (Option.the_type (Field'.mut_ref_field
-                record { mir = Syntax.named 0; lft = List.[] } (Param.param 0 T1') tt).row).D
+                (TheInside.the_type (Param.param 0 Value))) (Node.the_row (Param.param 0 Value))
+                (Param.param 0 Value) (Option.the_type (Field'.mut_ref_field
+                record { mir = Syntax.named 0; lft = List.[] } (Param.param 0 Value) tt).row).D
                 (λ x. x) (λ x. x) (Reads.as_is 𝓛 (Kind.waits (Declared'.row (TheInside.the_type
-                (Param.param 0 T1'))) (Node.the_row (Param.param 0 T1')) (Syntax.ty_ref
+                (Param.param 0 Value))) (Node.the_row (Param.param 0 Value)) (Syntax.ty_ref
                 (Syntax.named 0) Syntax.mut behind-2))) (Reads.as_is 𝓛 (Maybe.waits_if
-                (Node.the_row (Param.param 0 T1')) (Param.param 0 T1') (Option.the_type
+                (Node.the_row (Param.param 0 Value)) (Param.param 0 Value) (Option.the_type
                 (Field'.mut_ref_field record { mir = Syntax.named 0; lft = List.[] } (Param.param
-                0 T1') tt).row).D (Syntax.ty_ref Syntax.erased Syntax.mut behind-2)))))
-                (Late.g_close_late_if (Node.the_row (Param.param 0 T1')) (Declared'.row
-                (TheInside.the_type (Param.param 0 T1'))) (Node.the_view (Param.param 0 T1'))
-                (Node.the_invariant (Param.param 0 T1')) 𝓛 E (Mut.view_in (Node.the_row
-                (Param.param 0 T1')) (Declared'.row (TheInside.the_type (Param.param 0 T1')))
-                (Node.the_view (Param.param 0 T1')) (Node.the_invariant (Param.param 0 T1')) 𝓛
-                (TheLaws''.the_opens (Param.param 0 T1')) (Fields.view_made (Declared'.row
-                (TheInside.the_type (Param.param 0 T1'))) (Node.the_row (Param.param 0 T1')).Denot
-                (Node.the_row (Param.param 0 T1')).coded (Node.the_view (Param.param 0 T1'))
-                (Node.the_invariant (Param.param 0 T1')) 𝓛) λ a h. (Path'.refl, h)) G47 14 1 0 0
+                0 Value) tt).row).D (Syntax.ty_ref Syntax.erased Syntax.mut behind-2)))))
+                (Late.g_close_late_if (Node.the_row (Param.param 0 Value)) (Declared'.row
+                (TheInside.the_type (Param.param 0 Value))) (Node.the_view (Param.param 0 Value))
+                (Node.the_invariant (Param.param 0 Value)) 𝓛 E (Mut.view_in (Node.the_row
+                (Param.param 0 Value)) (Declared'.row (TheInside.the_type (Param.param 0 Value)))
+                (Node.the_view (Param.param 0 Value)) (Node.the_invariant (Param.param 0 Value)) 𝓛
+                (TheLaws''.the_opens (Param.param 0 Value)) (Fields.view_made (Declared'.row
+                (TheInside.the_type (Param.param 0 Value))) (Node.the_row (Param.param 0 Value)).Denot
+                (Node.the_row (Param.param 0 Value)).coded (Node.the_view (Param.param 0 Value))
+                (Node.the_invariant (Param.param 0 Value)) 𝓛) λ a h. (Path'.refl, h)) G47 14 1 0 0
                 (Syntax.ty_ref (Syntax.named 0) Syntax.mut behind-2) (Fraction.right qs.0)
                 (Row.lease_t κs.0 qs.0 (List.◌∷◌ Bool.false List.[])) Path'.refl Path'.refl tt
                 Path'.refl Path'.refl (λ x. x) (Reads.as_is 𝓛 (Late.late_aside (Node.the_row
-                (Param.param 0 T1')) (Declared'.row (TheInside.the_type (Param.param 0 T1'))) 0
-                (Row.bare (Fraction.right qs.0)))) (Param.param 0 T1') (Option.the_type
+                (Param.param 0 Value)) (Declared'.row (TheInside.the_type (Param.param 0 Value))) 0
+                (Row.bare (Fraction.right qs.0)))) (Param.param 0 Value) (Option.the_type
                 (Field'.mut_ref_field record { mir = Syntax.named 0; lft = List.[] } (Param.param
-                0 T1') tt).row).D (λ x. x) (Reads.as_is 𝓛 (Maybe.waits_if (Declared'.row
-                (TheInside.the_type (Param.param 0 T1'))) (Param.param 0 T1') (Option.the_type
+                0 Value) tt).row).D (λ x. x) (Reads.as_is 𝓛 (Maybe.waits_if (Declared'.row
+                (TheInside.the_type (Param.param 0 Value))) (Param.param 0 Value) (Option.the_type
                 (Field'.mut_ref_field record { mir = Syntax.named 0; lft = List.[] } (Param.param
-                0 T1') tt).row).D (Syntax.ty_ref (Syntax.named 0) Syntax.mut behind-2)))))
+                0 Value) tt).row).D (Syntax.ty_ref (Syntax.named 0) Syntax.mut behind-2)))))
                 (Open'.g_tok_trim 𝓛 E G48 0 (Row.lease_t κs.0 qs.0 (List.◌∷◌ Bool.true List.[]))
                 Path'.refl tt))
                 (Open'.g_tok_close 𝓛 E G49 0 (Row.lease κs.0 qs.0) Path'.refl tt))
                 (Home.g_owing_here 𝓛 E G50 1 (Syntax.ty_ref (Syntax.named 0) Syntax.mut behind-2)
-                (Node.the_row (Param.param 0 T1')) (Maybe.maybe (Node.the_row (Param.param 0 T1'))
-                (Param.param 0 T1') (Option.the_type (Field'.mut_ref_field
-                record { mir = Syntax.named 0; lft = List.[] } (Param.param 0 T1') tt).row).D)
-                (λ x. x) (Reads.as_is 𝓛 (Maybe.waits_if (Node.the_row (Param.param 0 T1'))
-                (Param.param 0 T1') (Option.the_type (Field'.mut_ref_field
-                record { mir = Syntax.named 0; lft = List.[] } (Param.param 0 T1') tt).row).D
+                (Node.the_row (Param.param 0 Value)) (Maybe.maybe (Node.the_row (Param.param 0 Value))
+                (Param.param 0 Value) (Option.the_type (Field'.mut_ref_field
+                record { mir = Syntax.named 0; lft = List.[] } (Param.param 0 Value) tt).row).D)
+                (λ x. x) (Reads.as_is 𝓛 (Maybe.waits_if (Node.the_row (Param.param 0 Value))
+                (Param.param 0 Value) (Option.the_type (Field'.mut_ref_field
+                record { mir = Syntax.named 0; lft = List.[] } (Param.param 0 Value) tt).row).D
                 (Syntax.ty_ref (Syntax.named 0) Syntax.mut behind-2)))))
 
             d24 : Typed.Typed 𝓛 𝓣 E G33 b18 Δ2 (at24 bs)
@@ -9746,7 +9746,7 @@ module _ (T1' : RattleType.RattleType) (L1' : Laws'.Laws T1') where
                 TheImpl.no_dict) (TheImpl'.ghosts Global.the_row TheImpl'3.ghosts TheImpl'.no_dict
                 TheImpl'.no_dict) (TheImpl''.ghosts Global.the_row TheImpl'3.ghosts
                 TheImpl''.no_dict TheImpl''.no_dict) TheImpl'3.ghosts) (Node.the_row (Param.param 0
-                T1')) (Option.the_type (Field'.mut_ref_field
+                Value)) (Option.the_type (Field'.mut_ref_field
                 record { mir = Syntax.erased; lft = List.[] } of-2 tt).row).D (λ x. x)
                 (λ u. Known.at (Option.enum (Field'.mut_ref_field
                 record { mir = Syntax.erased; lft = List.[] } of-2 tt).row) 1
@@ -9755,18 +9755,18 @@ module _ (T1' : RattleType.RattleType) (L1' : Laws'.Laws T1') where
                 Global.the_row TheImpl'3.ghosts TheImpl.no_dict TheImpl.no_dict) (TheImpl'.ghosts
                 Global.the_row TheImpl'3.ghosts TheImpl'.no_dict TheImpl'.no_dict)
                 (TheImpl''.ghosts Global.the_row TheImpl'3.ghosts TheImpl''.no_dict
-                TheImpl''.no_dict) TheImpl'3.ghosts) (Node.the_row (Param.param 0 T1'))
+                TheImpl''.no_dict) TheImpl'3.ghosts) (Node.the_row (Param.param 0 Value))
                 (Option.the_type (Field'.mut_ref_field
                 record { mir = Syntax.named 0; lft = List.[] } of-2 tt).row).D (Syntax.ty_ref
                 Syntax.erased Syntax.mut behind-8)))) (Typed.s_seq 𝓛 𝓣 E G35 G36 b12 b17 Δ2
-                (Typed.pass T35 T36 (s32 bs)) (at21 bs) (LocalCopy.t_part_move 𝓛 E 𝓣
+                (Typed.pass Context-35 Context-36 (s32 bs)) (at21 bs) (LocalCopy.t_part_move 𝓛 E 𝓣
                 (λ ρ. Path'.◌≡◌ (Row.lft ρ 0) κs.0) G35 9 6 (Ref.MutRef Syntax.erased κs.0
-                (Node.the_row (Param.param 0 T1'))) (Syntax.ty_ref Syntax.erased Syntax.mut
+                (Node.the_row (Param.param 0 Value))) (Syntax.ty_ref Syntax.erased Syntax.mut
                 behind-2) (Syntax.ty_ref Syntax.erased Syntax.mut behind-2) (List.◌∷◌
                 (Syntax.variant 1) (List.◌∷◌ (Syntax.field 1) List.[])) (Nat.◌+◌ 0 8) (Rows.whole
                 (Known.Known (MovedOut.moved_n (Option.enum (Field'.mut_ref_field
                 record { mir = Syntax.erased; lft = κs.0 } of-2 tt).row) 1 0) 1)) (Rows.mref
-                (Node.the_row (Param.param 0 T1')) (Syntax.ty_ref Syntax.erased Syntax.mut
+                (Node.the_row (Param.param 0 Value)) (Syntax.ty_ref Syntax.erased Syntax.mut
                 behind-2) 0) (λ v. v.0) (λ x. x) (λ x. x) Path'.refl (Call.pin_level 𝓛 0 G35.slots
                 κs.0 qs.0 (List.◌∷◌ Bool.false List.[]) Path'.refl) (Open.yields_payload 𝓛
                 (λ ρ. Path'.◌≡◌ (Row.lft ρ 0) κs.0) (Option.enum (Field'.mut_ref_field
@@ -9777,23 +9777,23 @@ module _ (T1' : RattleType.RattleType) (L1' : Laws'.Laws T1') where
                 Path'.refl (Shared'.mut_ref_shared record { mir = Syntax.erased; lft = κs.0 } of-2
                 tt (Laws'.row_shared of-2 of-3)))) 1 0 8 Path'.refl Path'.refl Path'.refl)
                 (Reads.room_gone 𝓛 (Syntax.ty_ref Syntax.erased Syntax.mut behind-2))
-                (MovedOut'.Makes-mref 𝓛 Syntax.erased κs.0 (Node.the_row (Param.param 0 T1')) 0
+                (MovedOut'.Makes-mref 𝓛 Syntax.erased κs.0 (Node.the_row (Param.param 0 Value)) 0
                 (Syntax.ty_ref Syntax.erased Syntax.mut behind-2)) Path'.refl Path'.refl)
-                (Typed.g_pre_lem 𝓛 𝓣 E G36 G37 b17 Δ2 (Typed.pass T36 T37 (s33 bs)) (at20 bs)
+                (Typed.g_pre_lem 𝓛 𝓣 E G36 G37 b17 Δ2 (Typed.pass Context-36 Context-37 (s33 bs)) (at20 bs)
                 (Scalar.g_room 𝓛 E G36 9 (Syntax.ty_enum name-2 (Syntax.ttcons Syntax.tnil
                 (Syntax.ttcons (Syntax.tcons (Syntax.ty_ref Syntax.erased Syntax.mut behind-2)
                 Syntax.tnil) Syntax.ttnil))) (Local.room_whole 𝓛 (Known.Known (MovedOut.moved_n
                 (Option.enum (Field'.mut_ref_field record { mir = Syntax.erased; lft = κs.0 } of-2
                 tt).row) 1 0) 1) (Syntax.ty_enum name-2 (Syntax.ttcons Syntax.tnil (Syntax.ttcons
                 (Syntax.tcons (Syntax.ty_ref Syntax.erased Syntax.mut behind-2) Syntax.tnil)
-                Syntax.ttnil))) Path'.refl)) (Typed.s_seq 𝓛 𝓣 E G37 G38 b13 b16 Δ2 (Typed.pass T37
-                T38 (s34 bs)) (at19 bs) (Pass.t_ref_pass 𝓛 E 𝓣 G37 6 12 0 (Node.the_row
-                (Param.param 0 T1')) ty-2 (Syntax.ty_ref Syntax.erased Syntax.mut behind-2)
+                Syntax.ttnil))) Path'.refl)) (Typed.s_seq 𝓛 𝓣 E G37 G38 b13 b16 Δ2 (Typed.pass Context-37
+                Context-38 (s34 bs)) (at19 bs) (Pass.t_ref_pass 𝓛 E 𝓣 G37 6 12 0 (Node.the_row
+                (Param.param 0 Value)) ty-2 (Syntax.ty_ref Syntax.erased Syntax.mut behind-2)
                 (Syntax.ty_ref Syntax.erased Syntax.mut behind-2) (λ x. x) (Reads.as_is 𝓛
-                (Rows.mref (Node.the_row (Param.param 0 T1')) (Syntax.ty_ref Syntax.erased
+                (Rows.mref (Node.the_row (Param.param 0 Value)) (Syntax.ty_ref Syntax.erased
                 Syntax.mut behind-2) 0)) (Reads.room_gone 𝓛 (Syntax.ty_ref Syntax.erased Syntax.mut
                 behind-2)) Path'.refl Path'.refl λ b o. tt) (Typed.s_seq 𝓛 𝓣 E G38 G39 b14 b15 Δ2
-                (Typed.pass T38 T39 (s35 bs)) (at18 bs) (LocalCopy.t_val_copy 𝓛 E 𝓣 (λ ρ. Path'.◌≡◌
+                (Typed.pass Context-38 Context-39 (s35 bs)) (at18 bs) (LocalCopy.t_val_copy 𝓛 E 𝓣 (λ ρ. Path'.◌≡◌
                 (Row.lft ρ 1) κs.1.0) G38 5 13 (Declared.row (Option.the_type (Text.str-field
                 record { mir = Syntax.erased; lft = κs.1.0 }).row)) (Syntax.ty_enum name-2
                 (Syntax.ttcons Syntax.tnil (Syntax.ttcons (Syntax.tcons (Syntax.ty_struct name-0
@@ -9836,7 +9836,7 @@ module _ (T1' : RattleType.RattleType) (L1' : Laws'.Laws T1') where
                 record { mir = Syntax.erased; lft = κs.1.0 }).row))) (λ x. x)
                 λ ρ told. Local.whole_mem 𝓛 (Declared.row (Option.the_type (Text.str-field
                 record { mir = Syntax.erased; lft = κs.1.0 }).row)) ρ) Path'.refl Path'.refl)
-                (Typed.g_pre_lem 𝓛 𝓣 E G39 G40 b15 Δ2 (Typed.pass T39 T40 (s36 bs)) (at17 bs)
+                (Typed.g_pre_lem 𝓛 𝓣 E G39 G40 b15 Δ2 (Typed.pass Context-39 Context-40 (s36 bs)) (at17 bs)
                 (Scalar.g_room 𝓛 E G39 5 (Syntax.ty_enum name-2 (Syntax.ttcons Syntax.tnil
                 (Syntax.ttcons (Syntax.tcons (Syntax.ty_struct name-0 (Syntax.tcons (Syntax.ty_ref
                 Syntax.erased Syntax.imm (Syntax.ty_int Syntax.w8)) (Syntax.tcons (Syntax.ty_int
@@ -9846,8 +9846,8 @@ module _ (T1' : RattleType.RattleType) (L1' : Laws'.Laws T1') where
                 (Syntax.ttcons Syntax.tnil (Syntax.ttcons (Syntax.tcons (Syntax.ty_struct name-0
                 (Syntax.tcons (Syntax.ty_ref Syntax.erased Syntax.imm (Syntax.ty_int Syntax.w8))
                 (Syntax.tcons (Syntax.ty_int Syntax.w64) Syntax.tnil))) Syntax.tnil)
-                Syntax.ttnil))) Path'.refl)) (Typed.g_pre_lem 𝓛 𝓣 E G40 G41 b15 Δ2 (Typed.pass T40
-                T41 (s37 bs)) (at16 bs) (AtSlots.g_as_by 𝓛 E (λ ρ. Path'.◌≡◌ (Row.lft ρ 1) κs.1.0)
+                Syntax.ttnil))) Path'.refl)) (Typed.g_pre_lem 𝓛 𝓣 E G40 G41 b15 Δ2 (Typed.pass Context-40
+                Context-41 (s37 bs)) (at16 bs) (AtSlots.g_as_by 𝓛 E (λ ρ. Path'.◌≡◌ (Row.lft ρ 1) κs.1.0)
                 G40 13 (ValueAt.val_at 3 (λ κc. Declared.row (Option.the_type (Text.str-field
                 record { mir = Syntax.named 1; lft = κc.1.0 }).row)) (Option.the_type
                 (Text.str-field record { mir = Syntax.named 1; lft = List.[] }).row).D (λ κc v. v)
@@ -9896,10 +9896,10 @@ module _ (T1' : RattleType.RattleType) (L1' : Laws'.Laws T1') where
                 (Typed.give
                 (s58 bs)
                 (Typed.pass
-                T62
-                T63
+                Context-62
+                Context-63
                 (s59 bs)
-                (Typed.pass T63 T64 (s60 bs) (Typed.pass T64 T65 (s61 bs) Ψ))))))))
+                (Typed.pass Context-63 Context-64 (s60 bs) (Typed.pass Context-64 Context-65 (s61 bs) Ψ))))))))
                 tt
                 (Typed.g_post
                 𝓛
@@ -9919,8 +9919,8 @@ module _ (T1' : RattleType.RattleType) (L1' : Laws'.Laws T1') where
                 (s55 bs)
                 (Typed.give
                 (s58 bs)
-                (Typed.pass T62 T63 (s59 bs) (Typed.pass T63 T64 (s60 bs) Ψ)))))))
-                (Typed.pass T64 T65 (s61 bs))
+                (Typed.pass Context-62 Context-63 (s59 bs) (Typed.pass Context-63 Context-64 (s60 bs) Ψ)))))))
+                (Typed.pass Context-64 Context-65 (s61 bs))
                 (Typed.g_post
                 𝓛
                 𝓣
@@ -9935,8 +9935,8 @@ module _ (T1' : RattleType.RattleType) (L1' : Laws'.Laws T1') where
                 (s53 bs)
                 (Typed.both
                 (s54 bs)
-                (Typed.ask (s55 bs) (Typed.give (s58 bs) (Typed.pass T62 T63 (s59 bs) Ψ))))))
-                (Typed.pass T63 T64 (s60 bs))
+                (Typed.ask (s55 bs) (Typed.give (s58 bs) (Typed.pass Context-62 Context-63 (s59 bs) Ψ))))))
+                (Typed.pass Context-63 Context-64 (s60 bs))
                 (Typed.g_post
                 𝓛
                 𝓣
@@ -9950,7 +9950,7 @@ module _ (T1' : RattleType.RattleType) (L1' : Laws'.Laws T1') where
                 (Typed.both
                 (s53 bs)
                 (Typed.both (s54 bs) (Typed.ask (s55 bs) (Typed.give (s58 bs) Ψ)))))
-                (Typed.pass T62 T63 (s59 bs))
+                (Typed.pass Context-62 Context-63 (s59 bs))
                 (Typed.g_post
                 𝓛
                 𝓣
@@ -10020,82 +10020,82 @@ module _ (T1' : RattleType.RattleType) (L1' : Laws'.Laws T1') where
                 (Open.t_variant_takes 𝓛 E 𝓣 (Option.the_type (Field'.mut_ref_field record {
                   mir = Syntax.erased;
                   lft = κs.0;
-                } (Param.param 0 T1') tt).row)
+                } (Param.param 0 Value) tt).row)
                 0
                 List.[]
                 (TheLaws.the_loose (Field'.mut_ref_field record {
                   mir = Syntax.erased;
                   lft = κs.0;
-                } (Param.param 0 T1') tt).row (Laws'.of_field (Field'.mut_ref_field record {
+                } (Param.param 0 Value) tt).row (Laws'.of_field (Field'.mut_ref_field record {
                   mir = Syntax.erased;
                   lft = κs.0;
-                } (Param.param 0 T1') tt) (Laws''.mut_ref_laws record {
+                } (Param.param 0 Value) tt) (Laws''.mut_ref_laws record {
                   mir = Syntax.erased;
                   lft = κs.0;
-                } (Param.param 0 T1') tt) Path'.refl (Shared'.mut_ref_shared record {
+                } (Param.param 0 Value) tt) Path'.refl (Shared'.mut_ref_shared record {
                   mir = Syntax.erased;
                   lft = κs.0;
                 }
-                (Param.param 0 T1')
+                (Param.param 0 Value)
                 tt
-                (Laws'.row_shared (Param.param 0 T1') (Laws'.param_laws 0 T1' L1'))))).0
+                (Laws'.row_shared (Param.param 0 Value) (Laws'.param_laws 0 Value ValueLaws))))).0
                 (Known.at (Option.enum (Field'.mut_ref_field record {
                   mir = Syntax.erased;
                   lft = κs.0;
-                } (Param.param 0 T1') tt).row) 0)
+                } (Param.param 0 Value) tt).row) 0)
                 (λ v us i. Enum.payload
                 (Declared.variants (Option.the_type (Field'.mut_ref_field record {
                   mir = Syntax.erased;
                   lft = κs.0;
-                } (Param.param 0 T1') tt).row))
+                } (Param.param 0 Value) tt).row))
                 (Declared.intoss (Option.enum (Field'.mut_ref_field record {
                   mir = Syntax.erased;
                   lft = κs.0;
-                } (Param.param 0 T1') tt).row).parts ((Option.enum (Field'.mut_ref_field record {
+                } (Param.param 0 Value) tt).row).parts ((Option.enum (Field'.mut_ref_field record {
                   mir = Syntax.erased;
                   lft = κs.0;
-                } (Param.param 0 T1') tt).row).beta
+                } (Param.param 0 Value) tt).row).beta
                 (Known.choose (Option.enum (Field'.mut_ref_field record {
                   mir = Syntax.erased;
                   lft = κs.0;
-                } (Param.param 0 T1') tt).row).parts 0 v)
+                } (Param.param 0 Value) tt).row).parts 0 v)
                 i))
                 us)
                 (λ v i. Enum.tag (Declared.variants (Option.the_type (Field'.mut_ref_field record {
                   mir = Syntax.erased;
                   lft = κs.0;
-                } (Param.param 0 T1') tt).row))
+                } (Param.param 0 Value) tt).row))
                 (Declared.intoss (Option.enum (Field'.mut_ref_field record {
                   mir = Syntax.erased;
                   lft = κs.0;
-                } (Param.param 0 T1') tt).row).parts ((Option.enum (Field'.mut_ref_field record {
+                } (Param.param 0 Value) tt).row).parts ((Option.enum (Field'.mut_ref_field record {
                   mir = Syntax.erased;
                   lft = κs.0;
-                } (Param.param 0 T1') tt).row).beta
+                } (Param.param 0 Value) tt).row).beta
                 (Known.choose (Option.enum (Field'.mut_ref_field record {
                   mir = Syntax.erased;
                   lft = κs.0;
-                } (Param.param 0 T1') tt).row).parts 0 v)
+                } (Param.param 0 Value) tt).row).parts 0 v)
                 i)))
                 (Loose.loose_lawful (Option.the_type (Field'.mut_ref_field record {
                   mir = Syntax.erased;
                   lft = κs.0;
-                } (Param.param 0 T1') tt).row) (TheLaws.the_loose (Field'.mut_ref_field record {
+                } (Param.param 0 Value) tt).row) (TheLaws.the_loose (Field'.mut_ref_field record {
                   mir = Syntax.erased;
                   lft = κs.0;
-                } (Param.param 0 T1') tt).row (Laws'.of_field (Field'.mut_ref_field record {
+                } (Param.param 0 Value) tt).row (Laws'.of_field (Field'.mut_ref_field record {
                   mir = Syntax.erased;
                   lft = κs.0;
-                } (Param.param 0 T1') tt) (Laws''.mut_ref_laws record {
+                } (Param.param 0 Value) tt) (Laws''.mut_ref_laws record {
                   mir = Syntax.erased;
                   lft = κs.0;
-                } (Param.param 0 T1') tt) Path'.refl (Shared'.mut_ref_shared record {
+                } (Param.param 0 Value) tt) Path'.refl (Shared'.mut_ref_shared record {
                   mir = Syntax.erased;
                   lft = κs.0;
                 }
-                (Param.param 0 T1')
+                (Param.param 0 Value)
                 tt
-                (Laws'.row_shared (Param.param 0 T1') (Laws'.param_laws 0 T1' L1')))))
+                (Laws'.row_shared (Param.param 0 Value) (Laws'.param_laws 0 Value ValueLaws)))))
                 tt
                 𝓛)
                 tt
@@ -10218,7 +10218,7 @@ module _ (T1' : RattleType.RattleType) (L1' : Laws'.Laws T1') where
                 G57
                 14
                 (Syntax.ty_ref (Syntax.named 0) Syntax.mut behind-2)
-                (Declared'.row (TheInside.the_type (Param.param 0 T1')))
+                (Declared'.row (TheInside.the_type (Param.param 0 Value)))
                 (BTreeMap.the_row
                 of-6
                 of-2
@@ -10237,7 +10237,7 @@ module _ (T1' : RattleType.RattleType) (L1' : Laws'.Laws T1') where
                 (Reads.as_is
                 𝓛
                 (Kind.waits
-                (Declared'.row (TheInside.the_type (Param.param 0 T1')))
+                (Declared'.row (TheInside.the_type (Param.param 0 Value)))
                 (BTreeMap.the_row
                 of-6
                 of-2
@@ -10289,25 +10289,25 @@ module _ (T1' : RattleType.RattleType) (L1' : Laws'.Laws T1') where
                 x
                 (Wp.spot_of 𝓤 𝓛.H E 10).1)))
                 (Late.g_close_late_said
-                (Node.the_row (Param.param 0 T1'))
-                (Declared'.row (TheInside.the_type (Param.param 0 T1')))
-                (Node.the_view (Param.param 0 T1'))
-                (Node.the_invariant (Param.param 0 T1'))
+                (Node.the_row (Param.param 0 Value))
+                (Declared'.row (TheInside.the_type (Param.param 0 Value)))
+                (Node.the_view (Param.param 0 Value))
+                (Node.the_invariant (Param.param 0 Value))
                 𝓛
                 E
                 (Mut.view_in
-                (Node.the_row (Param.param 0 T1'))
-                (Declared'.row (TheInside.the_type (Param.param 0 T1')))
-                (Node.the_view (Param.param 0 T1'))
-                (Node.the_invariant (Param.param 0 T1'))
+                (Node.the_row (Param.param 0 Value))
+                (Declared'.row (TheInside.the_type (Param.param 0 Value)))
+                (Node.the_view (Param.param 0 Value))
+                (Node.the_invariant (Param.param 0 Value))
                 𝓛
-                (TheLaws''.the_opens (Param.param 0 T1'))
+                (TheLaws''.the_opens (Param.param 0 Value))
                 (Fields.view_made
-                (Declared'.row (TheInside.the_type (Param.param 0 T1')))
-                (Node.the_row (Param.param 0 T1')).Denot
-                (Node.the_row (Param.param 0 T1')).coded
-                (Node.the_view (Param.param 0 T1'))
-                (Node.the_invariant (Param.param 0 T1'))
+                (Declared'.row (TheInside.the_type (Param.param 0 Value)))
+                (Node.the_row (Param.param 0 Value)).Denot
+                (Node.the_row (Param.param 0 Value)).coded
+                (Node.the_view (Param.param 0 Value))
+                (Node.the_invariant (Param.param 0 Value))
                 𝓛)
                 λ a h. (Path'.refl, h))
                 G58
@@ -10327,15 +10327,15 @@ module _ (T1' : RattleType.RattleType) (L1' : Laws'.Laws T1') where
                 (Reads.as_is
                 𝓛
                 (Late.late_aside
-                (Node.the_row (Param.param 0 T1'))
-                (Declared'.row (TheInside.the_type (Param.param 0 T1')))
+                (Node.the_row (Param.param 0 Value))
+                (Declared'.row (TheInside.the_type (Param.param 0 Value)))
                 0
                 (Row.bare (Fraction.right qs.0))))
                 (λ x. x)
                 (Reads.as_is
                 𝓛
                 (Rows.mleft
-                (Declared'.row (TheInside.the_type (Param.param 0 T1')))
+                (Declared'.row (TheInside.the_type (Param.param 0 Value)))
                 (Syntax.ty_ref (Syntax.named 0) Syntax.mut behind-2)))))
                 (Open'.g_tok_trim
                 𝓛
@@ -10352,12 +10352,12 @@ module _ (T1' : RattleType.RattleType) (L1' : Laws'.Laws T1') where
                 G61
                 1
                 (Syntax.ty_ref (Syntax.named 0) Syntax.mut behind-2)
-                (Node.the_row (Param.param 0 T1'))
+                (Node.the_row (Param.param 0 Value))
                 (λ x. x)
                 (Reads.as_is
                 𝓛
                 (Rows.mleft
-                (Node.the_row (Param.param 0 T1'))
+                (Node.the_row (Param.param 0 Value))
                 (Syntax.ty_ref (Syntax.named 0) Syntax.mut behind-2)))))
                 (Scalar.g_room
                 𝓛
@@ -10386,18 +10386,18 @@ module _ (T1' : RattleType.RattleType) (L1' : Laws'.Laws T1') where
                 G63
                 1
                 (Syntax.ty_ref (Syntax.named 0) Syntax.mut behind-2)
-                (Node.the_row (Param.param 0 T1'))
-                (Param.param 0 T1')
+                (Node.the_row (Param.param 0 Value))
+                (Param.param 0 Value)
                 (Option.the_type (Field'.mut_ref_field record {
                   mir = Syntax.named 0;
                   lft = List.[];
-                } (Param.param 0 T1') tt).row).D
+                } (Param.param 0 Value) tt).row).D
                 (λ x. x)
                 (λ u. u.1.1.1.1.1.1.1.1.1.1.1.0)
                 (Reads.as_is
                 𝓛
                 (Maybe.settled
-                (Node.the_row (Param.param 0 T1'))
+                (Node.the_row (Param.param 0 Value))
                 (Syntax.ty_ref (Syntax.named 0) Syntax.mut behind-2)))))
                 (Home.g_owing_here
                 𝓛
@@ -10405,24 +10405,24 @@ module _ (T1' : RattleType.RattleType) (L1' : Laws'.Laws T1') where
                 G64
                 1
                 (Syntax.ty_ref (Syntax.named 0) Syntax.mut behind-2)
-                (Node.the_row (Param.param 0 T1'))
+                (Node.the_row (Param.param 0 Value))
                 (Maybe.maybe
-                (Node.the_row (Param.param 0 T1'))
-                (Param.param 0 T1')
+                (Node.the_row (Param.param 0 Value))
+                (Param.param 0 Value)
                 (Option.the_type (Field'.mut_ref_field record {
                   mir = Syntax.named 0;
                   lft = List.[];
-                } (Param.param 0 T1') tt).row).D)
+                } (Param.param 0 Value) tt).row).D)
                 (λ x. x)
                 (Reads.as_is
                 𝓛
                 (Maybe.waits_if
-                (Node.the_row (Param.param 0 T1'))
-                (Param.param 0 T1')
+                (Node.the_row (Param.param 0 Value))
+                (Param.param 0 Value)
                 (Option.the_type (Field'.mut_ref_field record {
                   mir = Syntax.named 0;
                   lft = List.[];
-                } (Param.param 0 T1') tt).row).D
+                } (Param.param 0 Value) tt).row).D
                 (Syntax.ty_ref (Syntax.named 0) Syntax.mut behind-2)))))
 
             d33 : Typed.Typed 𝓛 𝓣 E G29 b20 Δ2 (at33 bs)
@@ -10435,7 +10435,7 @@ module _ (T1' : RattleType.RattleType) (L1' : Laws'.Laws T1') where
                 G31
                 b20
                 Δ2
-                (Typed.pass T29 T31 (s27 bs))
+                (Typed.pass Context-29 Context-31 (s27 bs))
                 (at32 bs)
                 (AtSlots.g_as_by 𝓛 E (λ ρ. Path'.◌≡◌ (Row.lft ρ 0) κs.0) G29 9 (Rows.whole
                 (Declared.row (Option.the_type (Field'.mut_ref_field
@@ -10468,7 +10468,7 @@ module _ (T1' : RattleType.RattleType) (L1' : Laws'.Laws T1') where
                 G32
                 b20
                 Δ2
-                (Typed.pass T31 T32 (s28 bs))
+                (Typed.pass Context-31 Context-32 (s28 bs))
                 (at31 bs)
                 (Scalar.g_room 𝓛 E G31 4 (Syntax.ty_struct name-0 (Syntax.tcons (Syntax.ty_ref
                 Syntax.erased Syntax.imm (Syntax.ty_int Syntax.w8)) (Syntax.tcons (Syntax.ty_int
@@ -10516,7 +10516,7 @@ module _ (T1' : RattleType.RattleType) (L1' : Laws'.Laws T1') where
                         (TheImpl'.ghosts Global.the_row TheImpl'3.ghosts TheImpl'.no_dict
                         TheImpl'.no_dict) (TheImpl''.ghosts Global.the_row TheImpl'3.ghosts
                         TheImpl''.no_dict TheImpl''.no_dict) TheImpl'3.ghosts) (Node.the_row
-                        (Param.param 0 T1')) (Option.the_type (Field'.mut_ref_field
+                        (Param.param 0 Value)) (Option.the_type (Field'.mut_ref_field
                         record { mir = Syntax.erased; lft = List.[] } of-2 tt).row).D (λ x. x)
                         (λ u. Known.at (Option.enum (Field'.mut_ref_field
                         record { mir = Syntax.erased; lft = List.[] } of-2 tt).row) 0 tt)
@@ -10525,10 +10525,10 @@ module _ (T1' : RattleType.RattleType) (L1' : Laws'.Laws T1') where
                         TheImpl.no_dict) (TheImpl'.ghosts Global.the_row TheImpl'3.ghosts
                         TheImpl'.no_dict TheImpl'.no_dict) (TheImpl''.ghosts Global.the_row
                         TheImpl'3.ghosts TheImpl''.no_dict TheImpl''.no_dict) TheImpl'3.ghosts)
-                        (Node.the_row (Param.param 0 T1')) (Option.the_type (Field'.mut_ref_field
+                        (Node.the_row (Param.param 0 Value)) (Option.the_type (Field'.mut_ref_field
                         record { mir = Syntax.named 0; lft = List.[] } of-2 tt).row).D
                         (Syntax.ty_ref Syntax.erased Syntax.mut behind-8)))) (Typed.g_pre_lem 𝓛 𝓣 E
-                        G53 G54 b19 Δ2 (Typed.pass T53 T54 (s50 bs)) (at27 bs) (Scalar.g_room 𝓛 E
+                        G53 G54 b19 Δ2 (Typed.pass Context-53 Context-54 (s50 bs)) (at27 bs) (Scalar.g_room 𝓛 E
                         G53 5 (Syntax.ty_enum name-2 (Syntax.ttcons Syntax.tnil (Syntax.ttcons
                         (Syntax.tcons (Syntax.ty_struct name-0 (Syntax.tcons (Syntax.ty_ref
                         Syntax.erased Syntax.imm (Syntax.ty_int Syntax.w8)) (Syntax.tcons
@@ -10539,7 +10539,7 @@ module _ (T1' : RattleType.RattleType) (L1' : Laws'.Laws T1') where
                         name-0 (Syntax.tcons (Syntax.ty_ref Syntax.erased Syntax.imm (Syntax.ty_int
                         Syntax.w8)) (Syntax.tcons (Syntax.ty_int Syntax.w64) Syntax.tnil)))
                         Syntax.tnil) Syntax.ttnil))) Path'.refl)) (Typed.g_pre_lem 𝓛 𝓣 E G54 G55
-                        b19 Δ2 (Typed.pass T54 T55 (s51 bs)) (at26 bs) (Scalar.g_room 𝓛 E G54 9
+                        b19 Δ2 (Typed.pass Context-54 Context-55 (s51 bs)) (at26 bs) (Scalar.g_room 𝓛 E G54 9
                         (Syntax.ty_enum name-2 (Syntax.ttcons Syntax.tnil (Syntax.ttcons
                         (Syntax.tcons (Syntax.ty_ref Syntax.erased Syntax.mut behind-2)
                         Syntax.tnil) Syntax.ttnil))) (Local.room_whole 𝓛 (Declared.row
@@ -10562,7 +10562,7 @@ module _ (T1' : RattleType.RattleType) (L1' : Laws'.Laws T1') where
                 G27
                 b26
                 Δ0
-                (Typed.pass T26 T27 (s24 bs))
+                (Typed.pass Context-26 Context-27 (s24 bs))
                 (at40 bs)
                 (Scalar.g_room
                 𝓛
@@ -10635,7 +10635,7 @@ module _ (T1' : RattleType.RattleType) (L1' : Laws'.Laws T1') where
                 𝓛
                 E
                 𝓣
-                (Declared'.row (TheInside.the_type (Param.param 0 T1')))
+                (Declared'.row (TheInside.the_type (Param.param 0 Value)))
                 (BTreeMap.the_row
                 of-6
                 of-2
@@ -10654,26 +10654,26 @@ module _ (T1' : RattleType.RattleType) (L1' : Laws'.Laws T1') where
                 (Memory.align ty-9)
                 (Nat.◌+◌ (Memory.up (Memory.align ty-3) 0) (Memory.size ty-3))))
                 (λ x. At.get_at
-                (TheInside.the_type (Param.param 0 T1')).parts
+                (TheInside.the_type (Param.param 0 Value)).parts
                 1
-                ((TheInside.struct (Param.param 0 T1')).as_values x))
+                ((TheInside.struct (Param.param 0 Value)).as_values x))
                 (Lend.put_record
-                (TheInside.the_type (Param.param 0 T1'))
-                (TheLaws'.the_loose (Param.param 0 T1') (Laws'.param_laws 0 T1' L1'))
+                (TheInside.the_type (Param.param 0 Value))
+                (TheLaws'.the_loose (Param.param 0 Value) (Laws'.param_laws 0 Value ValueLaws))
                 1
                 (Memory.up
                 (Memory.align ty-9)
                 (Nat.◌+◌ (Memory.up (Memory.align ty-3) 0) (Memory.size ty-3)))
-                (TheInside.struct (Param.param 0 T1')).as_values
-                (TheInside.struct (Param.param 0 T1')).Ghost
-                (TheInside.struct (Param.param 0 T1')).make
+                (TheInside.struct (Param.param 0 Value)).as_values
+                (TheInside.struct (Param.param 0 Value)).Ghost
+                (TheInside.struct (Param.param 0 Value)).make
                 (λ v. tt)
                 (λ x. Path'.refl)
                 (λ v g. Path'.refl)
                 λ x. x)
                 (Field.hands_on
                 𝓛
-                (Declared'.row (TheInside.the_type (Param.param 0 T1')))
+                (Declared'.row (TheInside.the_type (Param.param 0 Value)))
                 (BTreeMap.the_row
                 of-6
                 of-2
@@ -10690,47 +10690,47 @@ module _ (T1' : RattleType.RattleType) (L1' : Laws'.Laws T1') where
                 (Memory.align ty-9)
                 (Nat.◌+◌ (Memory.up (Memory.align ty-3) 0) (Memory.size ty-3)))
                 (λ x. At.get_at
-                (TheInside.the_type (Param.param 0 T1')).parts
+                (TheInside.the_type (Param.param 0 Value)).parts
                 1
-                ((TheInside.struct (Param.param 0 T1')).as_values x))
+                ((TheInside.struct (Param.param 0 Value)).as_values x))
                 (Lend.put_record
-                (TheInside.the_type (Param.param 0 T1'))
-                (TheLaws'.the_loose (Param.param 0 T1') (Laws'.param_laws 0 T1' L1'))
+                (TheInside.the_type (Param.param 0 Value))
+                (TheLaws'.the_loose (Param.param 0 Value) (Laws'.param_laws 0 Value ValueLaws))
                 1
                 (Memory.up
                 (Memory.align ty-9)
                 (Nat.◌+◌ (Memory.up (Memory.align ty-3) 0) (Memory.size ty-3)))
-                (TheInside.struct (Param.param 0 T1')).as_values
-                (TheInside.struct (Param.param 0 T1')).Ghost
-                (TheInside.struct (Param.param 0 T1')).make
+                (TheInside.struct (Param.param 0 Value)).as_values
+                (TheInside.struct (Param.param 0 Value)).Ghost
+                (TheInside.struct (Param.param 0 Value)).make
                 (λ v. tt)
                 (λ x. Path'.refl)
                 (λ v g. Path'.refl)
                 λ x. x)
                 (Lend.kept_record
-                (TheInside.the_type (Param.param 0 T1'))
-                (TheLaws'.the_loose (Param.param 0 T1') (Laws'.param_laws 0 T1' L1'))
+                (TheInside.the_type (Param.param 0 Value))
+                (TheLaws'.the_loose (Param.param 0 Value) (Laws'.param_laws 0 Value ValueLaws))
                 1
                 (Memory.up
                 (Memory.align ty-9)
                 (Nat.◌+◌ (Memory.up (Memory.align ty-3) 0) (Memory.size ty-3)))
-                (TheInside.struct (Param.param 0 T1')).as_values
-                (TheInside.struct (Param.param 0 T1')).Ghost
-                (TheInside.struct (Param.param 0 T1')).make
+                (TheInside.struct (Param.param 0 Value)).as_values
+                (TheInside.struct (Param.param 0 Value)).Ghost
+                (TheInside.struct (Param.param 0 Value)).make
                 (λ v. tt)
                 (λ x. Path'.refl)
                 (λ v g. Path'.refl)
                 λ x. x)
                 (Lend.record_fill
-                (TheInside.the_type (Param.param 0 T1'))
-                (TheLaws'.the_loose (Param.param 0 T1') (Laws'.param_laws 0 T1' L1'))
+                (TheInside.the_type (Param.param 0 Value))
+                (TheLaws'.the_loose (Param.param 0 Value) (Laws'.param_laws 0 Value ValueLaws))
                 1
                 (Memory.up
                 (Memory.align ty-9)
                 (Nat.◌+◌ (Memory.up (Memory.align ty-3) 0) (Memory.size ty-3)))
-                (TheInside.struct (Param.param 0 T1')).as_values
-                (TheInside.struct (Param.param 0 T1')).Ghost
-                (TheInside.struct (Param.param 0 T1')).make
+                (TheInside.struct (Param.param 0 Value)).as_values
+                (TheInside.struct (Param.param 0 Value)).Ghost
+                (TheInside.struct (Param.param 0 Value)).make
                 (λ v. tt)
                 (λ x. Path'.refl)
                 (λ v g. Path'.refl)
@@ -10738,15 +10738,15 @@ module _ (T1' : RattleType.RattleType) (L1' : Laws'.Laws T1') where
                 Path'.refl
                 λ f. Path'.refl)
                 (Lend.record_apart
-                (TheInside.the_type (Param.param 0 T1'))
-                (TheLaws'.the_loose (Param.param 0 T1') (Laws'.param_laws 0 T1' L1'))
+                (TheInside.the_type (Param.param 0 Value))
+                (TheLaws'.the_loose (Param.param 0 Value) (Laws'.param_laws 0 Value ValueLaws))
                 1
                 (Memory.up
                 (Memory.align ty-9)
                 (Nat.◌+◌ (Memory.up (Memory.align ty-3) 0) (Memory.size ty-3)))
-                (TheInside.struct (Param.param 0 T1')).as_values
-                (TheInside.struct (Param.param 0 T1')).Ghost
-                (TheInside.struct (Param.param 0 T1')).make
+                (TheInside.struct (Param.param 0 Value)).as_values
+                (TheInside.struct (Param.param 0 Value)).Ghost
+                (TheInside.struct (Param.param 0 Value)).make
                 (λ v. tt)
                 (λ x. Path'.refl)
                 (λ v g. Path'.refl)
@@ -10768,7 +10768,7 @@ module _ (T1' : RattleType.RattleType) (L1' : Laws'.Laws T1') where
                 (Reads.as_is
                 𝓛
                 (Rows.mref
-                (Declared'.row (TheInside.the_type (Param.param 0 T1')))
+                (Declared'.row (TheInside.the_type (Param.param 0 Value)))
                 (Syntax.ty_ref (Syntax.named 0) Syntax.mut behind-2)
                 0))
                 (Reads.room_gone 𝓛 (Syntax.ty_ref Syntax.erased Syntax.mut behind-8))
@@ -10799,7 +10799,7 @@ module _ (T1' : RattleType.RattleType) (L1' : Laws'.Laws T1') where
                 r-2
                 (AtSlots.one_type 5 named-2)
                 the-claims.7
-                (λ κs a. BorrowLft.◌⊑◌ κs.1.1.0 T1'.lives → the-claims.5 κs a)
+                (λ κs a. BorrowLft.◌⊑◌ κs.1.1.0 Value.lives → the-claims.5 κs a)
                 the-claims.6
                 G28 (
                   record {
@@ -10876,7 +10876,7 @@ module _ (T1' : RattleType.RattleType) (L1' : Laws'.Laws T1') where
                       List.[]
                       (Syntax.ttcons
                       Syntax.tnil
-                      (Syntax.ttcons (Syntax.tcons (Param.layout T1') Syntax.tnil) Syntax.ttnil)))
+                      (Syntax.ttcons (Syntax.tcons (Param.layout Value) Syntax.tnil) Syntax.ttnil)))
                       (Syntax.tcons
                       (Syntax.ty_struct
                       List.[]
@@ -11118,7 +11118,7 @@ module _ (T1' : RattleType.RattleType) (L1' : Laws'.Laws T1') where
                       Syntax.dnil))))))),
                 ))
                 known.2
-                (λ κs. BorrowLft.◌⊑◌ κs.1.1.0 T1'.lives)
+                (λ κs. BorrowLft.◌⊑◌ κs.1.1.0 Value.lives)
                 E
                 (λ pos β. β)
                 G28 (
@@ -11138,7 +11138,7 @@ module _ (T1' : RattleType.RattleType) (L1' : Laws'.Laws T1') where
                 )
                 9
                 (List.◌∷◌ 0 (List.◌∷◌ 0 (List.◌∷◌ 2 (List.◌∷◌ 0 (List.◌∷◌ 1 List.[])))))
-                (Call.within_lease 𝓛 2 G28.slots κs.1.1.0 qs.1.1.0 Path'.refl T1'.lives lives.0)
+                (Call.within_lease 𝓛 2 G28.slots κs.1.1.0 qs.1.1.0 Path'.refl Value.lives lives.0)
                 (Call.sub_id 𝓛 G28.slots) (
                   Reads.as_is
                       𝓛
@@ -11275,7 +11275,7 @@ module _ (T1' : RattleType.RattleType) (L1' : Laws'.Laws T1') where
                       5
                       0
                       tt
-                      (Signature.plain λ κs. Node.the_row (Param.param 0 T1'))
+                      (Signature.plain λ κs. Node.the_row (Param.param 0 Value))
                       (Syntax.wrote behind-2)
                       λ κs. Path'.refl)
                       List.[])
@@ -11315,7 +11315,7 @@ module _ (T1' : RattleType.RattleType) (L1' : Laws'.Laws T1') where
                       5
                       0
                       tt
-                      (Signature.plain λ κs. Node.the_row (Param.param 0 T1'))
+                      (Signature.plain λ κs. Node.the_row (Param.param 0 Value))
                       (Syntax.wrote behind-2)
                       λ κs. Path'.refl)
                       List.[])
@@ -11332,7 +11332,7 @@ module _ (T1' : RattleType.RattleType) (L1' : Laws'.Laws T1') where
                       5
                       0
                       tt
-                      (Signature.plain λ κs. Node.the_row (Param.param 0 T1'))
+                      (Signature.plain λ κs. Node.the_row (Param.param 0 Value))
                       (Syntax.wrote behind-2)
                       λ κs. Path'.refl)
                       List.[])
@@ -11345,7 +11345,7 @@ module _ (T1' : RattleType.RattleType) (L1' : Laws'.Laws T1') where
                           5
                           0
                           tt
-                          (Signature.plain λ κs. Node.the_row (Param.param 0 T1'))
+                          (Signature.plain λ κs. Node.the_row (Param.param 0 Value))
                           (Syntax.wrote behind-2)
                           (λ κs. Path'.refl)
                           𝓛,
@@ -11387,7 +11387,7 @@ module _ (T1' : RattleType.RattleType) (L1' : Laws'.Laws T1') where
                 b21
                 b22
                 Δ0
-                (Typed.pass T30 T66 (s62 bs))
+                (Typed.pass Context-30 Context-66 (s62 bs))
                 (at36 bs)
                 (LocalCopy.t_val_copy
                 𝓛
@@ -11400,7 +11400,7 @@ module _ (T1' : RattleType.RattleType) (L1' : Laws'.Laws T1') where
                 (Declared.row (Option.the_type (Field'.mut_ref_field record {
                   mir = Syntax.erased;
                   lft = κs.0;
-                } (Param.param 0 T1') tt).row))
+                } (Param.param 0 Value) tt).row))
                 (Syntax.ty_enum
                 name-2
                 (Syntax.ttcons
@@ -11432,7 +11432,7 @@ module _ (T1' : RattleType.RattleType) (L1' : Laws'.Laws T1') where
                 (Rows.whole (Declared.row (Option.the_type (Field'.mut_ref_field record {
                   mir = Syntax.named 0;
                   lft = κs.0;
-                } (Param.param 0 T1') tt).row)))
+                } (Param.param 0 Value) tt).row)))
                 (λ x. x)
                 (λ x. tt)
                 (λ x. x)
@@ -11444,19 +11444,19 @@ module _ (T1' : RattleType.RattleType) (L1' : Laws'.Laws T1') where
                 (Declared.row (Option.the_type (Field'.mut_ref_field record {
                   mir = Syntax.erased;
                   lft = κs.0;
-                } (Param.param 0 T1') tt).row))
+                } (Param.param 0 Value) tt).row))
                 Path'.refl
                 (Rows.whole (Declared.row (Option.the_type (Field'.mut_ref_field record {
                   mir = Syntax.erased;
                   lft = κs.0;
-                } (Param.param 0 T1') tt).row)))
+                } (Param.param 0 Value) tt).row)))
                 (λ x. x)
                 λ ρ told. Local.mem_whole
                 𝓛
                 (Declared.row (Option.the_type (Field'.mut_ref_field record {
                   mir = Syntax.erased;
                   lft = κs.0;
-                } (Param.param 0 T1') tt).row))
+                } (Param.param 0 Value) tt).row))
                 ρ)
                 (Reads.room_gone
                 𝓛
@@ -11475,19 +11475,19 @@ module _ (T1' : RattleType.RattleType) (L1' : Laws'.Laws T1') where
                 (Declared.row (Option.the_type (Field'.mut_ref_field record {
                   mir = Syntax.named 0;
                   lft = κs.0;
-                } (Param.param 0 T1') tt).row))
+                } (Param.param 0 Value) tt).row))
                 Path'.refl
                 (Rows.whole (Declared.row (Option.the_type (Field'.mut_ref_field record {
                   mir = Syntax.named 0;
                   lft = κs.0;
-                } (Param.param 0 T1') tt).row)))
+                } (Param.param 0 Value) tt).row)))
                 (λ x. x)
                 λ ρ told. Local.whole_mem
                 𝓛
                 (Declared.row (Option.the_type (Field'.mut_ref_field record {
                   mir = Syntax.named 0;
                   lft = κs.0;
-                } (Param.param 0 T1') tt).row))
+                } (Param.param 0 Value) tt).row))
                 ρ)
                 Path'.refl
                 Path'.refl)
@@ -11510,7 +11510,7 @@ module _ (T1' : RattleType.RattleType) (L1' : Laws'.Laws T1') where
                 G68
                 b22
                 Δ0
-                (Typed.pass T66 T68 (s64 bs))
+                (Typed.pass Context-66 Context-68 (s64 bs))
                 (at34 bs)
                 (Two.g_shrink 𝓛 E G67 14)
                 (Typed.t_return 𝓛 𝓣 E Δ0 tt)))))))
@@ -11538,14 +11538,14 @@ module _ (T1' : RattleType.RattleType) (L1' : Laws'.Laws T1') where
                 Δ0
                 (Typed.give (s3 bs))
                 (at47 bs)
-                (Late.g_open_late (Node.the_row (Param.param 0 T1')) (Declared'.row
-                (TheInside.the_type (Param.param 0 T1'))) (Node.the_view (Param.param 0 T1'))
-                (Node.the_invariant (Param.param 0 T1')) 𝓛 E (Mut.View-out (Node.the_row
-                (Param.param 0 T1')) (Declared'.row (TheInside.the_type (Param.param 0 T1')))
-                (Node.the_view (Param.param 0 T1')) (Node.the_invariant (Param.param 0 T1')) 𝓛
-                (TheLaws''.the_opens (Param.param 0 T1')) λ d a k. k) G4 1 14 0 (Syntax.ty_ref
+                (Late.g_open_late (Node.the_row (Param.param 0 Value)) (Declared'.row
+                (TheInside.the_type (Param.param 0 Value))) (Node.the_view (Param.param 0 Value))
+                (Node.the_invariant (Param.param 0 Value)) 𝓛 E (Mut.View-out (Node.the_row
+                (Param.param 0 Value)) (Declared'.row (TheInside.the_type (Param.param 0 Value)))
+                (Node.the_view (Param.param 0 Value)) (Node.the_invariant (Param.param 0 Value)) 𝓛
+                (TheLaws''.the_opens (Param.param 0 Value)) λ d a k. k) G4 1 14 0 (Syntax.ty_ref
                 (Syntax.named 0) Syntax.mut behind-2) (Row.lease_t κs.0 qs.0 List.[]) (λ x. x)
-                (Reads.as_is 𝓛 (Rows.mref (Node.the_row (Param.param 0 T1')) (Syntax.ty_ref
+                (Reads.as_is 𝓛 (Rows.mref (Node.the_row (Param.param 0 Value)) (Syntax.ty_ref
                 (Syntax.named 0) Syntax.mut behind-2) 0)) Path'.refl Path'.refl tt)
                 (Typed.t_seq
                 𝓛
@@ -11619,7 +11619,7 @@ module _ (T1' : RattleType.RattleType) (L1' : Laws'.Laws T1') where
                 G23
                 b28
                 Δ0
-                (Typed.pass T22 T23 (s20 bs))
+                (Typed.pass Context-22 Context-23 (s20 bs))
                 (at44 bs)
                 (AtSlots.g_as_by 𝓛 E (λ ρ. Path'.◌≡◌ (Row.lft ρ 1, Row.lft ρ 1) (κs.1.0, κs.1.0))
                 G22 8 (Rows.whole (Declared'.row (Tuple.type_at name-1 (of-4
@@ -11671,7 +11671,7 @@ module _ (T1' : RattleType.RattleType) (L1' : Laws'.Laws T1') where
                 G24
                 b28
                 Δ0
-                (Typed.pass T23 T24 (s21 bs))
+                (Typed.pass Context-23 Context-24 (s21 bs))
                 (at43 bs)
                 (Scalar.g_room 𝓛 E G23 3 (Syntax.ty_struct name-0 (Syntax.tcons (Syntax.ty_ref
                 Syntax.erased Syntax.imm (Syntax.ty_int Syntax.w8)) (Syntax.tcons (Syntax.ty_int
@@ -12008,7 +12008,7 @@ module _ (T1' : RattleType.RattleType) (L1' : Laws'.Laws T1') where
                 d41)))))))
 
             d51 : Typed.Typed 𝓛 𝓣 E G0 b30 Δ0 (at51 bs)
-            d51 = Typed.g_pre_lem 𝓛 𝓣 E G0 G2 b30 Δ0 (Typed.pass T0 T2 (s0 bs)) (at50 bs) (Two.g_grow 𝓛 E G0 1) (Typed.g_pre_lem 𝓛 𝓣 E G2 G3 b30 Δ0 (λ Ψ. Ψ) (at49 bs)
+            d51 = Typed.g_pre_lem 𝓛 𝓣 E G0 G2 b30 Δ0 (Typed.pass Context-0 Context-2 (s0 bs)) (at50 bs) (Two.g_grow 𝓛 E G0 1) (Typed.g_pre_lem 𝓛 𝓣 E G2 G3 b30 Δ0 (λ Ψ. Ψ) (at49 bs)
                 (Lifetime.g_static 𝓛 E G2 3 (tt, (tt, (tt, (tt, (tt, (tt, (tt, (tt, (tt, (tt, (tt, (tt, (tt, (tt, (tt, tt)))))))))))))))) d49)
 
             pub typed : Typed.Typed 𝓛 𝓣 E (Function.Γin 3 ps r xs m κs qs) b30 (Function.Δret 3 ps r xs m κs qs) (Φ bs)
@@ -12017,7 +12017,7 @@ module _ (T1' : RattleType.RattleType) (L1' : Laws'.Laws T1') where
         module _ (the-clauses : the-Clauses) where
           module _ (κs : Lifetimes.Lfts 3) where
             pub record Args : Type 0 where
-              pub self : Kinds.Den {n = 3} κs (MutRef.p_mut (Node.the_row (Param.param 0 T1')) 0 tt)
+              pub self : Kinds.Den {n = 3} κs (MutRef.p_mut (Node.the_row (Param.param 0 Value)) 0 tt)
               pub key : Kinds.Den {n = 3}
                   κs
                   (ValueTo.p_val_to (let Y : ValueTo.ValuedTo 3 = record {
@@ -12105,7 +12105,7 @@ module _ (T1' : RattleType.RattleType) (L1' : Laws'.Laws T1') where
             abbrev pub dens : (a : Args) → Kinds.Dens κs ps
             dens = λ a. (a.self, (a.key, tt))
 
-          abbrev pub m0 : (lifetimes : Lifetimes.Lfts 3) → (args : Args lifetimes) → (blocks : List.List Nat.ℕ) → Typed.Mo T0
+          abbrev pub m0 : (lifetimes : Lifetimes.Lfts 3) → (args : Args lifetimes) → (blocks : List.List Nat.ℕ) → Typed.Mo Context-0
           m0 = λ lifetimes args blocks. (tt, Enter.parts_p lifetimes 1 ps xs (dens lifetimes args))
 
           abbrev W0 : (lifetimes : Lifetimes.Lfts 3) → (args : Args lifetimes) → (blocks : List.List Nat.ℕ) → Typed.Want O0
@@ -12125,10 +12125,10 @@ module _ (T1' : RattleType.RattleType) (L1' : Laws'.Laws T1') where
             pub requires-raw : the-Pre lifetimes (dens lifetimes args)
             pub requires : the-clauses.claim-own-requires lifetimes (dens lifetimes args)
 
-          abbrev pub m1 : (lifetimes : Lifetimes.Lfts 3) → (args : Args lifetimes) → (blocks : List.List Nat.ℕ) → Typed.Mo T2
+          abbrev pub m1 : (lifetimes : Lifetimes.Lfts 3) → (args : Args lifetimes) → (blocks : List.List Nat.ℕ) → Typed.Mo Context-2
           m1 = λ lifetimes args blocks. s0 blocks (m0 lifetimes args blocks)
 
-          abbrev pub m2 : (before : Start) → (given : (s3 before.blocks).gives (m1 before.lifetimes before.args before.blocks)) → Typed.Mo T5
+          abbrev pub m2 : (before : Start) → (given : (s3 before.blocks).gives (m1 before.lifetimes before.args before.blocks)) → Typed.Mo Context-5
           m2 = λ before given. (s3 before.blocks).next (m1 before.lifetimes before.args before.blocks) given
 
           abbrev W1 : (before : Start) → (given : (s3 before.blocks).gives (m1 before.lifetimes before.args before.blocks)) → Typed.Want O1
@@ -12140,26 +12140,26 @@ module _ (T1' : RattleType.RattleType) (L1' : Laws'.Laws T1') where
           )
 
           abbrev pub m3 : (before : Start) → (given : (s3 before.blocks).gives (m1 before.lifetimes before.args before.blocks)) → (ranges : (s4 before.blocks).gives (m2
-              before given)) → Typed.Mo T7
+              before given)) → Typed.Mo Context-7
           m3 = λ before given ranges. (s4 before.blocks).next (m2 before given) ranges
 
           abbrev pub m4 : (before : Start) → (given : (s3 before.blocks).gives (m1 before.lifetimes before.args before.blocks)) → (ranges : (s4 before.blocks).gives (m2
-              before given)) → Typed.Mo T8
+              before given)) → Typed.Mo Context-8
           m4 = λ before given ranges. (s5 before.blocks).next (m3 before given ranges)
 
           module _ (the-before : Start) where
             pub record Step-After-self : Type 0 where
               pub loan_name : Nat.ℕ
-              pub inside : (Declared'.row (TheInside.the_type (Param.param 0 T1'))).Denot
+              pub inside : (Declared'.row (TheInside.the_type (Param.param 0 Value))).Denot
               pub view_is : Path'.◌≡◌
-                  (Node.the_view (Param.param 0 T1') inside)
+                  (Node.the_view (Param.param 0 Value) inside)
                   let u : Typed.Mo
-                  T2 = m1
+                  Context-2 = m1
                   the-before.lifetimes
                   the-before.args
                   the-before.blocks in
                   u.1.0.now
-              pub invariant : Node.the_invariant (Param.param 0 T1') inside
+              pub invariant : Node.the_invariant (Param.param 0 Value) inside
               pub ranges : (s4 the-before.blocks).gives (m2 the-before (loan_name, inside, (view_is, invariant)))
 
           abbrev pub step-After-self : (w : Start) → (g : (s3 w.blocks).gives (m1 w.lifetimes w.args w.blocks)) → (g : (s4 w.blocks).gives (m2 w g)) → Step-After-self w
@@ -12176,7 +12176,7 @@ module _ (T1' : RattleType.RattleType) (L1' : Laws'.Laws T1') where
           module _ (the-before : After-self) where
             pub record Own-At-match-keys1 : Type 0 where
               pub keys1 : Run.OneOf (List.◌∷◌ 1 List.[]) (Declared.tag_of (Option.the_type (Text.str-field record { mir = Syntax.named 1; lft = List.[] }).row) (Row.get
-                  2 T7.locals (m3 the-before.before (the-before.self.loan_name, the-before.self.inside, (the-before.self.view_is, the-before.self.invariant))
+                  2 Context-7.locals (m3 the-before.before (the-before.self.loan_name, the-before.self.inside, (the-before.self.view_is, the-before.self.invariant))
                   the-before.self.ranges)))
 
           pub record At-match-keys1 : Type 0 where
@@ -12188,7 +12188,7 @@ module _ (T1' : RattleType.RattleType) (L1' : Laws'.Laws T1') where
             before.self.loan_name,
             before.self.inside,
             (before.self.view_is, before.self.invariant),
-          ) before.self.ranges)) → Typed.Mo T9
+          ) before.self.ranges)) → Typed.Mo Context-9
           m5 = λ before given. (s6 before.blocks).next (m4 before.before.before (before.self.loan_name, before.self.inside, (before.self.view_is, before.self.invariant))
               before.self.ranges) given
 
@@ -12211,14 +12211,14 @@ module _ (T1' : RattleType.RattleType) (L1' : Laws'.Laws T1') where
           abbrev pub Need-variant-1-key : Type 0
           Need-variant-1-key =
               (c : After-enum_told_at) →
-              let asks : Typed.Mo T9 →
+              let asks : Typed.Mo Context-9 →
               Type 0 = λ u. Path'.◌≡◌ (Declared.tag_of (Option.the_type (Text.str-field record {
                 mir = Syntax.named 1;
                 lft = List.[];
               }).row) u.1.1.0) 1 in
               asks (m5 c.before c.enum_told_at-1.given)
 
-          abbrev pub m6 : (before : After-enum_told_at) → (given : (s7 before.blocks).gives (m5 before.before before.enum_told_at-1.given)) → Typed.Mo T10
+          abbrev pub m6 : (before : After-enum_told_at) → (given : (s7 before.blocks).gives (m5 before.before before.enum_told_at-1.given)) → Typed.Mo Context-10
           m6 = λ before given. (s7 before.blocks).next (m5 before.before before.enum_told_at-1.given) given
 
           module _ (the-before : After-enum_told_at) where
@@ -12286,7 +12286,7 @@ module _ (T1' : RattleType.RattleType) (L1' : Laws'.Laws T1') where
           module _ (the-before : After-self) where
             pub record Own-At-match-keys2 : Type 0 where
               pub keys2 : Run.OneOf (List.◌∷◌ 0 List.[]) (Declared.tag_of (Option.the_type (Text.str-field record { mir = Syntax.named 1; lft = List.[] }).row) (Row.get
-                  2 T7.locals (m3 the-before.before (the-before.self.loan_name, the-before.self.inside, (the-before.self.view_is, the-before.self.invariant))
+                  2 Context-7.locals (m3 the-before.before (the-before.self.loan_name, the-before.self.inside, (the-before.self.view_is, the-before.self.invariant))
                   the-before.self.ranges)))
 
           pub record At-match-keys2 : Type 0 where
@@ -12298,7 +12298,7 @@ module _ (T1' : RattleType.RattleType) (L1' : Laws'.Laws T1') where
             before.self.loan_name,
             before.self.inside,
             (before.self.view_is, before.self.invariant),
-          ) before.self.ranges)) → Typed.Mo T11
+          ) before.self.ranges)) → Typed.Mo Context-11
           m7 = λ before given. (s8 before.blocks).next (m4 before.before.before (before.self.loan_name, before.self.inside, (before.self.view_is, before.self.invariant))
               before.self.ranges) given
 
@@ -12327,7 +12327,7 @@ module _ (T1' : RattleType.RattleType) (L1' : Laws'.Laws T1') where
                 (the-before.self.view_is, the-before.self.invariant),
               ) the-before.self.ranges))) tt
               pub not-Some : (x : Refused.Part (Known.ValuesAt (Option.enum (Text.str-field record { mir = Syntax.named 1; lft = List.[] }).row).parts 1) λ v. v.0) →
-                  Path'.◌≡◌ (Row.get 2 T7.locals (m3 the-before.before (
+                  Path'.◌≡◌ (Row.get 2 Context-7.locals (m3 the-before.before (
                     the-before.self.loan_name,
                     the-before.self.inside,
                     (
@@ -12355,7 +12355,7 @@ module _ (T1' : RattleType.RattleType) (L1' : Laws'.Laws T1') where
             in_default-own = w.in_default-1;
             is = w.enum_told_at-in_default-1.given.1;
             not-Some = λ x. Refused.not_at (Option.enum
-                (Text.str-field record { mir = Syntax.named 1; lft = List.[] }).row) 1 (List.◌∷◌ 0 List.[]) tt (Row.get 2 T7.locals (m3 w.before.before.before
+                (Text.str-field record { mir = Syntax.named 1; lft = List.[] }).row) 1 (List.◌∷◌ 0 List.[]) tt (Row.get 2 Context-7.locals (m3 w.before.before.before
                 (w.self.loan_name, w.self.inside, (w.self.view_is, w.self.invariant)) w.self.ranges)) w.in_default-1.keys2 (x, tt) λ i. Enum.tag (Declared.variants
                 (Option.the_type (Text.str-field record { mir = Syntax.named 1; lft = List.[] }).row)) (Declared.intoss (Option.enum (Text.str-field record {
                   mir =
@@ -12380,7 +12380,7 @@ module _ (T1' : RattleType.RattleType) (L1' : Laws'.Laws T1') where
             before = before.before;
             in_default-1 =
                 before.in_default.in_default-own;
-          } (tt, before.in_default.is))) → Typed.Mo T12
+          } (tt, before.in_default.is))) → Typed.Mo Context-12
           m8 = λ before given. (s9 before.blocks).next (m7 record { before = before.before; in_default-1 = before.in_default.in_default-own } (tt, before.in_default.is))
               given
 
@@ -12399,7 +12399,7 @@ module _ (T1' : RattleType.RattleType) (L1' : Laws'.Laws T1') where
           abbrev pub Need-as_mut-requires : Type 0
           Need-as_mut-requires = (c : After-self2) → (s10 c.blocks).asks (m8 c.before c.self-1.given)
 
-          abbrev pub m9 : (before : After-self2) → (given : (s10 before.blocks).gives (m8 before.before before.self-1.given)) → Typed.Mo T13
+          abbrev pub m9 : (before : After-self2) → (given : (s10 before.blocks).gives (m8 before.before before.self-1.given)) → Typed.Mo Context-13
           m9 = λ before given. (s10 before.blocks).next (m8 before.before before.self-1.given) given
 
           pub record Last-0 (the-κs : Lifetimes.Lfts 2) (the-vs : Kinds.Dens the-κs ps-0) : Type 0 where
@@ -12413,14 +12413,14 @@ module _ (T1' : RattleType.RattleType) (L1' : Laws'.Laws T1') where
             pub record Step-After-as_mut : Type 0 where
               pub lifetimes : Lifetimes.Lfts 2
               pub result : (Kinds.res_t r-0 lifetimes).Denot
-              pub new : Last-0 lifetimes (Args'.args_v lifetimes ps-0 T12.locals passed10 (m8 the-before.before the-before.self-1.given))
+              pub new : Last-0 lifetimes (Args'.args_v lifetimes ps-0 Context-12.locals passed10 (m8 the-before.before the-before.self-1.given))
               pub type_inv : r-0.is.Ok lifetimes result
-              pub auto : Kept-0 lifetimes (Args'.args_v lifetimes ps-0 T12.locals passed10 (m8 the-before.before the-before.self-1.given)) (new.self, tt)
+              pub auto : Kept-0 lifetimes (Args'.args_v lifetimes ps-0 Context-12.locals passed10 (m8 the-before.before the-before.self-1.given)) (new.self, tt)
               pub follows : So.ToldSo 2 whole-0 part-0 named-0 lender-0 rest-0 r-0 (AtSlots.one_type 2 named-0) the-claims.2 the-claims.0 the-claims.1 lifetimes
-                  (Args'.args_v lifetimes ps-0 T12.locals passed10 (m8 the-before.before the-before.self-1.given)) result (Clauses.at_exit (Kinds.ended_of 2 ps-0 r-0)
-                  lifetimes (Args'.args_v lifetimes ps-0 T12.locals passed10 (m8 the-before.before the-before.self-1.given)) (new.self, tt))
-              pub ensures : the-clauses.claim-0-ensures lifetimes (Args'.args_v lifetimes ps-0 T12.locals passed10 (m8 the-before.before the-before.self-1.given)) result
-                  (Clauses.at_exit (Kinds.ended_of 2 ps-0 r-0) lifetimes (Args'.args_v lifetimes ps-0 T12.locals passed10 (m8 the-before.before the-before.self-1.given))
+                  (Args'.args_v lifetimes ps-0 Context-12.locals passed10 (m8 the-before.before the-before.self-1.given)) result (Clauses.at_exit (Kinds.ended_of 2 ps-0 r-0)
+                  lifetimes (Args'.args_v lifetimes ps-0 Context-12.locals passed10 (m8 the-before.before the-before.self-1.given)) (new.self, tt))
+              pub ensures : the-clauses.claim-0-ensures lifetimes (Args'.args_v lifetimes ps-0 Context-12.locals passed10 (m8 the-before.before the-before.self-1.given)) result
+                  (Clauses.at_exit (Kinds.ended_of 2 ps-0 r-0) lifetimes (Args'.args_v lifetimes ps-0 Context-12.locals passed10 (m8 the-before.before the-before.self-1.given))
                   (new.self, tt))
 
           abbrev pub step-After-as_mut : (w : After-self2) → (g : (s10 w.blocks).gives (m8 w.before w.self-1.given)) → Step-After-as_mut w
@@ -12431,8 +12431,8 @@ module _ (T1' : RattleType.RattleType) (L1' : Laws'.Laws T1') where
             type_inv = g.3;
             auto = record { self = g.4.0 };
             follows = g.5;
-            ensures = the-clauses.of-0-ensures g.0 (Args'.args_v g.0 ps-0 T12.locals passed10 (m8 w.before w.self-1.given)) g.1 (Clauses.at_exit (Kinds.ended_of 2 ps-0
-                r-0) g.0 (Args'.args_v g.0 ps-0 T12.locals passed10 (m8 w.before w.self-1.given)) g.2) g.5;
+            ensures = the-clauses.of-0-ensures g.0 (Args'.args_v g.0 ps-0 Context-12.locals passed10 (m8 w.before w.self-1.given)) g.1 (Clauses.at_exit (Kinds.ended_of 2 ps-0
+                r-0) g.0 (Args'.args_v g.0 ps-0 Context-12.locals passed10 (m8 w.before w.self-1.given)) g.2) g.5;
           }
 
           pub record After-as_mut : Type 0 where
@@ -12443,27 +12443,27 @@ module _ (T1' : RattleType.RattleType) (L1' : Laws'.Laws T1') where
           abbrev pub gave-After-as_mut : (c : After-as_mut) → (s10 c.blocks).gives (m8 c.before.before c.self-1.given)
           gave-After-as_mut = λ c. (c.as_mut.lifetimes, c.as_mut.result, (c.as_mut.new.self, tt), c.as_mut.type_inv, (c.as_mut.auto.self, tt), c.as_mut.follows)
 
-          abbrev pub m10 : (before : After-self2) → (given : (s10 before.blocks).gives (m8 before.before before.self-1.given)) → Typed.Mo T14
+          abbrev pub m10 : (before : After-self2) → (given : (s10 before.blocks).gives (m8 before.before before.self-1.given)) → Typed.Mo Context-14
           m10 = λ before given. s11 before.blocks (m9 before given)
 
-          abbrev pub m11 : (before : After-self2) → (given : (s10 before.blocks).gives (m8 before.before before.self-1.given)) → Typed.Mo T15
+          abbrev pub m11 : (before : After-self2) → (given : (s10 before.blocks).gives (m8 before.before before.self-1.given)) → Typed.Mo Context-15
           m11 = λ before given. (s12 before.blocks).next (m10 before given)
 
           abbrev pub Need-close_late_if-self : Type 0
-          Need-close_late_if-self = (c : After-as_mut) → Late.late_asked_if (Node.the_row (Param.param 0 T1')) (Declared'.row (TheInside.the_type (Param.param 0 T1')))
-              (Node.the_view (Param.param 0 T1')) (Node.the_invariant (Param.param 0 T1')) (Param.param 0 T1') (Option.the_type (Field'.mut_ref_field record {
+          Need-close_late_if-self = (c : After-as_mut) → Late.late_asked_if (Node.the_row (Param.param 0 Value)) (Declared'.row (TheInside.the_type (Param.param 0 Value)))
+              (Node.the_view (Param.param 0 Value)) (Node.the_invariant (Param.param 0 Value)) (Param.param 0 Value) (Option.the_type (Field'.mut_ref_field record {
                 mir =
                     Syntax.named 0;
                 lft = List.[];
-              } (Param.param 0 T1') tt).row).D T15 14 1 (λ x. x) (m11 c.before (gave-After-as_mut c))
+              } (Param.param 0 Value) tt).row).D Context-15 14 1 (λ x. x) (m11 c.before (gave-After-as_mut c))
 
-          abbrev pub m12 : (before : After-as_mut) → (given : (s13 before.blocks).gives (m11 before.before (gave-After-as_mut before))) → Typed.Mo T16
+          abbrev pub m12 : (before : After-as_mut) → (given : (s13 before.blocks).gives (m11 before.before (gave-After-as_mut before))) → Typed.Mo Context-16
           m12 = λ before given. (s13 before.blocks).next (m11 before.before (gave-After-as_mut before)) given
 
-          abbrev pub m13 : (before : After-as_mut) → (given : (s13 before.blocks).gives (m11 before.before (gave-After-as_mut before))) → Typed.Mo T19
+          abbrev pub m13 : (before : After-as_mut) → (given : (s13 before.blocks).gives (m11 before.before (gave-After-as_mut before))) → Typed.Mo Context-19
           m13 = λ before given. s16 before.blocks (m12 before given)
 
-          abbrev pub m14 : (before : After-as_mut) → (given : (s13 before.blocks).gives (m11 before.before (gave-After-as_mut before))) → Typed.Mo T21
+          abbrev pub m14 : (before : After-as_mut) → (given : (s13 before.blocks).gives (m11 before.before (gave-After-as_mut before))) → Typed.Mo Context-21
           m14 = λ before given. s18 before.blocks (m13 before given)
 
           module _ (the-before : After-as_mut) where
@@ -12510,7 +12510,7 @@ module _ (T1' : RattleType.RattleType) (L1' : Laws'.Laws T1') where
           } (
             ((before.in-Some.key, tt), before.in-Some.key-1-is),
             before.in-Some.key-1-given,
-          ))) → Typed.Mo T22
+          ))) → Typed.Mo Context-22
           m15 = λ before given. (s19 before.blocks).next (m6 record {
             before = record { before = before.before; in-Some-1 = before.in-Some.in-Some-own };
             enum_told_at-1 =
@@ -12526,7 +12526,7 @@ module _ (T1' : RattleType.RattleType) (L1' : Laws'.Laws T1') where
             pub record Step-After-split_first : Type 0 where
               pub lifetimes : Lifetimes.Lfts 1
               pub result : (Kinds.res_t r-1 lifetimes).Denot
-              pub new : Last-1 lifetimes (Args'.args_v lifetimes ps-1 T6.locals passed19 (m6 record {
+              pub new : Last-1 lifetimes (Args'.args_v lifetimes ps-1 Context-6.locals passed19 (m6 record {
                 before = record {
                   before = the-before.before;
                   in-Some-1 =
@@ -12541,7 +12541,7 @@ module _ (T1' : RattleType.RattleType) (L1' : Laws'.Laws T1') where
                 the-before.in-Some.key-1-given,
               )))
               pub type_inv : r-1.is.Ok lifetimes result
-              pub auto : Kept-1 lifetimes (Args'.args_v lifetimes ps-1 T6.locals passed19 (m6 record {
+              pub auto : Kept-1 lifetimes (Args'.args_v lifetimes ps-1 Context-6.locals passed19 (m6 record {
                 before = record {
                   before = the-before.before;
                   in-Some-1 =
@@ -12555,7 +12555,7 @@ module _ (T1' : RattleType.RattleType) (L1' : Laws'.Laws T1') where
                 ),
                 the-before.in-Some.key-1-given,
               ))) (tt, tt)
-              ensures-raw : the-claims.4 lifetimes (Args'.args_v lifetimes ps-1 T6.locals passed19 (m6 record {
+              ensures-raw : the-claims.4 lifetimes (Args'.args_v lifetimes ps-1 Context-6.locals passed19 (m6 record {
                 before = record {
                   before = the-before.before;
                   in-Some-1 =
@@ -12569,12 +12569,12 @@ module _ (T1' : RattleType.RattleType) (L1' : Laws'.Laws T1') where
                 ),
                 the-before.in-Some.key-1-given,
               ))) result (Clauses.at_exit (Kinds.ended_of 1 ps-1 r-1) lifetimes (Args'.args_v lifetimes
-                  ps-1 T6.locals passed19 (m6 record {
+                  ps-1 Context-6.locals passed19 (m6 record {
                     before = record { before = the-before.before; in-Some-1 = the-before.in-Some.in-Some-own };
                     enum_told_at-1 =
                         the-before.in-Some.enum_told_at-1-own;
                   } (((the-before.in-Some.key, tt), the-before.in-Some.key-1-is), the-before.in-Some.key-1-given))) (tt, tt))
-              pub ensures : the-clauses.claim-1-ensures lifetimes (Args'.args_v lifetimes ps-1 T6.locals passed19 (m6 record {
+              pub ensures : the-clauses.claim-1-ensures lifetimes (Args'.args_v lifetimes ps-1 Context-6.locals passed19 (m6 record {
                 before = record {
                   before =
                       the-before.before;
@@ -12591,7 +12591,7 @@ module _ (T1' : RattleType.RattleType) (L1' : Laws'.Laws T1') where
                 ),
                 the-before.in-Some.key-1-given,
               ))) result (Clauses.at_exit (Kinds.ended_of 1 ps-1 r-1) lifetimes (Args'.args_v
-                  lifetimes ps-1 T6.locals passed19 (m6 record {
+                  lifetimes ps-1 Context-6.locals passed19 (m6 record {
                     before = record { before = the-before.before; in-Some-1 = the-before.in-Some.in-Some-own };
                     enum_told_at-1 = the-before.in-Some.enum_told_at-1-own;
                   } (
@@ -12616,14 +12616,14 @@ module _ (T1' : RattleType.RattleType) (L1' : Laws'.Laws T1') where
             auto = record {};
             ensures-raw = g.5;
             ensures =
-                the-clauses.of-1-ensures g.0 (Args'.args_v g.0 ps-1 T6.locals passed19 (m6 record {
+                the-clauses.of-1-ensures g.0 (Args'.args_v g.0 ps-1 Context-6.locals passed19 (m6 record {
                   before = record {
                     before = w.before;
                     in-Some-1 = w.in-Some.in-Some-own;
                   };
                   enum_told_at-1 = w.in-Some.enum_told_at-1-own;
                 } (((w.in-Some.key, tt), w.in-Some.key-1-is), w.in-Some.key-1-given))) g.1 (Clauses.at_exit
-                (Kinds.ended_of 1 ps-1 r-1) g.0 (Args'.args_v g.0 ps-1 T6.locals passed19 (m6 record {
+                (Kinds.ended_of 1 ps-1 r-1) g.0 (Args'.args_v g.0 ps-1 Context-6.locals passed19 (m6 record {
                   before = record {
                     before = w.before;
                     in-Some-1 =
@@ -12658,7 +12658,7 @@ module _ (T1' : RattleType.RattleType) (L1' : Laws'.Laws T1') where
           } (
             ((before.in-Some.key, tt), before.in-Some.key-1-is),
             before.in-Some.key-1-given,
-          ))) → Typed.Mo T23
+          ))) → Typed.Mo Context-23
           m16 = λ before given. s20 before.blocks (m15 before given)
 
           abbrev pub m17 : (before : Past-After-key) → (given : (s19 before.blocks).gives (m6 record {
@@ -12671,10 +12671,10 @@ module _ (T1' : RattleType.RattleType) (L1' : Laws'.Laws T1') where
           } (
             ((before.in-Some.key, tt), before.in-Some.key-1-is),
             before.in-Some.key-1-given,
-          ))) → Typed.Mo T24
+          ))) → Typed.Mo Context-24
           m17 = λ before given. s21 before.blocks (m16 before given)
 
-          abbrev pub m18 : (before : After-split_first) → (given : (s22 before.blocks).gives (m17 before.before (gave-After-split_first before))) → Typed.Mo T25
+          abbrev pub m18 : (before : After-split_first) → (given : (s22 before.blocks).gives (m17 before.before (gave-After-split_first before))) → Typed.Mo Context-25
           m18 = λ before given. (s22 before.blocks).next (m17 before.before (gave-After-split_first before)) given
 
           module _ (the-before : After-split_first) where
@@ -12686,10 +12686,10 @@ module _ (T1' : RattleType.RattleType) (L1' : Laws'.Laws T1') where
             pub open before use *
             pub level-1 : Own-After-level before
 
-          abbrev pub m19 : (before : After-level) → (given : (s23 before.blocks).gives (m18 before.before before.level-1.given)) → Typed.Mo T26
+          abbrev pub m19 : (before : After-level) → (given : (s23 before.blocks).gives (m18 before.before before.level-1.given)) → Typed.Mo Context-26
           m19 = λ before given. (s23 before.blocks).next (m18 before.before before.level-1.given) given
 
-          abbrev pub m20 : (before : After-level) → (given : (s23 before.blocks).gives (m18 before.before before.level-1.given)) → Typed.Mo T27
+          abbrev pub m20 : (before : After-level) → (given : (s23 before.blocks).gives (m18 before.before before.level-1.given)) → Typed.Mo Context-27
           m20 = λ before given. s24 before.blocks (m19 before given)
 
           module _ (the-before : After-level) where
@@ -12701,7 +12701,7 @@ module _ (T1' : RattleType.RattleType) (L1' : Laws'.Laws T1') where
             pub open before use *
             pub rest-1 : Own-After-rest before
 
-          abbrev pub m21 : (before : After-rest) → (given : (s25 before.blocks).gives (m20 before.before before.rest-1.given)) → Typed.Mo T28
+          abbrev pub m21 : (before : After-rest) → (given : (s25 before.blocks).gives (m20 before.before before.rest-1.given)) → Typed.Mo Context-28
           m21 = λ before given. (s25 before.blocks).next (m20 before.before before.rest-1.given) given
 
           module _ (the-before : After-rest) where
@@ -12716,7 +12716,7 @@ module _ (T1' : RattleType.RattleType) (L1' : Laws'.Laws T1') where
           abbrev pub Need-get_mut-requires : Type 0
           Need-get_mut-requires = (c : After-self4) → (s26 c.blocks).asks (m21 c.before c.self-2-1.given)
 
-          abbrev pub m22 : (before : After-self4) → (given : (s26 before.blocks).gives (m21 before.before before.self-2-1.given)) → Typed.Mo T29
+          abbrev pub m22 : (before : After-self4) → (given : (s26 before.blocks).gives (m21 before.before before.self-2-1.given)) → Typed.Mo Context-29
           m22 = λ before given. (s26 before.blocks).next (m21 before.before before.self-2-1.given) given
 
           pub record Last-2 (the-κs : Lifetimes.Lfts 5) (the-vs : Kinds.Dens the-κs ps-2) : Type 0 where
@@ -12730,14 +12730,14 @@ module _ (T1' : RattleType.RattleType) (L1' : Laws'.Laws T1') where
             pub record Step-After-get_mut : Type 0 where
               pub lifetimes : Lifetimes.Lfts 5
               pub result : (Kinds.res_t r-2 lifetimes).Denot
-              pub new : Last-2 lifetimes (Args'.args_v lifetimes ps-2 T28.locals passed26 (m21 the-before.before the-before.self-2-1.given))
+              pub new : Last-2 lifetimes (Args'.args_v lifetimes ps-2 Context-28.locals passed26 (m21 the-before.before the-before.self-2-1.given))
               pub type_inv : r-2.is.Ok lifetimes result
-              pub auto : Kept-2 lifetimes (Args'.args_v lifetimes ps-2 T28.locals passed26 (m21 the-before.before the-before.self-2-1.given)) (new.self, (tt, tt))
+              pub auto : Kept-2 lifetimes (Args'.args_v lifetimes ps-2 Context-28.locals passed26 (m21 the-before.before the-before.self-2-1.given)) (new.self, (tt, tt))
               pub follows : So.ToldSo 5 whole-2 part-2 named-2 lender-2 rest-2 r-2 (AtSlots.one_type 5 named-2) the-claims.7 the-claims.5 the-claims.6 lifetimes
-                  (Args'.args_v lifetimes ps-2 T28.locals passed26 (m21 the-before.before the-before.self-2-1.given)) result (Clauses.at_exit (Kinds.ended_of 5 ps-2 r-2)
-                  lifetimes (Args'.args_v lifetimes ps-2 T28.locals passed26 (m21 the-before.before the-before.self-2-1.given)) (new.self, (tt, tt)))
-              pub ensures : the-clauses.claim-2-ensures lifetimes (Args'.args_v lifetimes ps-2 T28.locals passed26 (m21 the-before.before the-before.self-2-1.given))
-                  result (Clauses.at_exit (Kinds.ended_of 5 ps-2 r-2) lifetimes (Args'.args_v lifetimes ps-2 T28.locals passed26 (m21 the-before.before
+                  (Args'.args_v lifetimes ps-2 Context-28.locals passed26 (m21 the-before.before the-before.self-2-1.given)) result (Clauses.at_exit (Kinds.ended_of 5 ps-2 r-2)
+                  lifetimes (Args'.args_v lifetimes ps-2 Context-28.locals passed26 (m21 the-before.before the-before.self-2-1.given)) (new.self, (tt, tt)))
+              pub ensures : the-clauses.claim-2-ensures lifetimes (Args'.args_v lifetimes ps-2 Context-28.locals passed26 (m21 the-before.before the-before.self-2-1.given))
+                  result (Clauses.at_exit (Kinds.ended_of 5 ps-2 r-2) lifetimes (Args'.args_v lifetimes ps-2 Context-28.locals passed26 (m21 the-before.before
                   the-before.self-2-1.given)) (new.self, (tt, tt)))
 
           abbrev pub step-After-get_mut : (w : After-self4) → (g : (s26 w.blocks).gives (m21 w.before w.self-2-1.given)) → Step-After-get_mut w
@@ -12749,8 +12749,8 @@ module _ (T1' : RattleType.RattleType) (L1' : Laws'.Laws T1') where
             auto = record { self = g.4.0 };
             follows =
                 g.5;
-            ensures = the-clauses.of-2-ensures g.0 (Args'.args_v g.0 ps-2 T28.locals passed26 (m21 w.before w.self-2-1.given)) g.1 (Clauses.at_exit (Kinds.ended_of
-                5 ps-2 r-2) g.0 (Args'.args_v g.0 ps-2 T28.locals passed26 (m21 w.before w.self-2-1.given)) g.2) g.5;
+            ensures = the-clauses.of-2-ensures g.0 (Args'.args_v g.0 ps-2 Context-28.locals passed26 (m21 w.before w.self-2-1.given)) g.1 (Clauses.at_exit (Kinds.ended_of
+                5 ps-2 r-2) g.0 (Args'.args_v g.0 ps-2 Context-28.locals passed26 (m21 w.before w.self-2-1.given)) g.2) g.5;
           }
 
           pub record After-get_mut : Type 0 where
@@ -12776,21 +12776,21 @@ module _ (T1' : RattleType.RattleType) (L1' : Laws'.Laws T1') where
                 before.lifetimes before.args before.blocks).2,
           )
 
-          abbrev pub m23 : (before : After-self4) → (given : (s26 before.blocks).gives (m21 before.before before.self-2-1.given)) → Typed.Mo T31
+          abbrev pub m23 : (before : After-self4) → (given : (s26 before.blocks).gives (m21 before.before before.self-2-1.given)) → Typed.Mo Context-31
           m23 = λ before given. s27 before.blocks (m22 before given)
 
-          abbrev pub m24 : (before : After-self4) → (given : (s26 before.blocks).gives (m21 before.before before.self-2-1.given)) → Typed.Mo T32
+          abbrev pub m24 : (before : After-self4) → (given : (s26 before.blocks).gives (m21 before.before before.self-2-1.given)) → Typed.Mo Context-32
           m24 = λ before given. s28 before.blocks (m23 before given)
 
           module _ (the-before : After-get_mut) where
             pub record Own-At-match2-keys1 : Type 0 where
               pub keys1 : Run.OneOf (List.◌∷◌ 1 List.[]) (Declared.tag_of (Option.the_type (Field'.mut_ref_field record { mir = Syntax.erased; lft = List.[] } of-2
-                  tt).row) (Row.get 9 T32.locals (m24 the-before.before (gave-After-get_mut the-before))))
+                  tt).row) (Row.get 9 Context-32.locals (m24 the-before.before (gave-After-get_mut the-before))))
               pub ensures : {u : Unit {0}} → So.ToldSo 5 whole-2 part-2 named-2 lender-2 rest-2 r-2 (AtSlots.one_type 5 named-2) the-claims.7 the-claims.5 the-claims.6
-                  the-before.get_mut.lifetimes (Args'.args_v the-before.get_mut.lifetimes ps-2 T28.locals passed26 (m21 the-before.before.before
+                  the-before.get_mut.lifetimes (Args'.args_v the-before.get_mut.lifetimes ps-2 Context-28.locals passed26 (m21 the-before.before.before
                   the-before.self-2-1.given)) (Known.at (Option.enum (Field'.mut_ref_field record { mir = Syntax.erased; lft = List.[] } of-2 tt).row) 1 (Known.lives_at
                   (Option.enum (Field'.mut_ref_field record { mir = Syntax.erased; lft = List.[] } of-2 tt).row) the-before.get_mut.result 1 keys1).0) (Clauses.at_exit
-                  (Kinds.ended_of 5 ps-2 r-2) the-before.get_mut.lifetimes (Args'.args_v the-before.get_mut.lifetimes ps-2 T28.locals passed26 (m21
+                  (Kinds.ended_of 5 ps-2 r-2) the-before.get_mut.lifetimes (Args'.args_v the-before.get_mut.lifetimes ps-2 Context-28.locals passed26 (m21
                   the-before.before.before the-before.self-2-1.given)) (the-before.get_mut.new.self, (tt, tt)))
 
           pub record At-match2-keys1 : Type 0 where
@@ -12798,16 +12798,16 @@ module _ (T1' : RattleType.RattleType) (L1' : Laws'.Laws T1') where
             pub open before use *
             pub in-Some-get_mut-1 : Own-At-match2-keys1 before
 
-          abbrev pub m25 : (before : At-match2-keys1) → (given : (s29 before.blocks).gives (m24 before.before.before (gave-After-get_mut before.before))) → Typed.Mo T33
+          abbrev pub m25 : (before : At-match2-keys1) → (given : (s29 before.blocks).gives (m24 before.before.before (gave-After-get_mut before.before))) → Typed.Mo Context-33
           m25 = λ before given. (s29 before.blocks).next (m24 before.before.before (gave-After-get_mut before.before)) given
 
           module _ (the-before : At-match2-keys1) where
             pub record Own-After-self5 : Type 0 where
               pub given : (s29 the-before.blocks).gives (m24 the-before.before.before (gave-After-get_mut the-before.before))
               pub ensures-named : {u : Unit {0}} → So.ToldSo 5 whole-2 part-2 named-2 lender-2 rest-2 r-2 (AtSlots.one_type 5 named-2) the-claims.7 the-claims.5
-                  the-claims.6 the-before.get_mut.lifetimes (Args'.args_v the-before.get_mut.lifetimes ps-2 T28.locals passed26 (m21 the-before.before.before.before
+                  the-claims.6 the-before.get_mut.lifetimes (Args'.args_v the-before.get_mut.lifetimes ps-2 Context-28.locals passed26 (m21 the-before.before.before.before
                   the-before.self-2-1.given)) (Known.at (Option.enum (Field'.mut_ref_field record { mir = Syntax.erased; lft = List.[] } of-2 tt).row) 1 given.0)
-                  (Clauses.at_exit (Kinds.ended_of 5 ps-2 r-2) the-before.get_mut.lifetimes (Args'.args_v the-before.get_mut.lifetimes ps-2 T28.locals passed26 (m21
+                  (Clauses.at_exit (Kinds.ended_of 5 ps-2 r-2) the-before.get_mut.lifetimes (Args'.args_v the-before.get_mut.lifetimes ps-2 Context-28.locals passed26 (m21
                   the-before.before.before.before the-before.self-2-1.given)) (the-before.get_mut.new.self, (tt, tt)))
 
           pub record After-self5 : Type 0 where
@@ -12815,7 +12815,7 @@ module _ (T1' : RattleType.RattleType) (L1' : Laws'.Laws T1') where
             pub open before use *
             pub self-in-Some-get_mut-1 : Own-After-self5 before
 
-          abbrev pub m26 : (before : After-self5) → (given : (s30 before.blocks).gives (m25 before.before before.self-in-Some-get_mut-1.given)) → Typed.Mo T34
+          abbrev pub m26 : (before : After-self5) → (given : (s30 before.blocks).gives (m25 before.before before.self-in-Some-get_mut-1.given)) → Typed.Mo Context-34
           m26 = λ before given. (s30 before.blocks).next (m25 before.before before.self-in-Some-get_mut-1.given) given
 
           module _ (the-before : After-self5) where
@@ -12834,22 +12834,22 @@ module _ (T1' : RattleType.RattleType) (L1' : Laws'.Laws T1') where
                 mir = Syntax.erased;
                 lft =
                     List.[];
-              } of-2 tt).row) (Row.get 9 T32.locals (m24 the-before.before (gave-After-get_mut the-before))))
+              } of-2 tt).row) (Row.get 9 Context-32.locals (m24 the-before.before (gave-After-get_mut the-before))))
               pub in-Some-get_mut-ensures : {u : Unit {0}} → So.ToldSo 5 whole-2 part-2 named-2 lender-2 rest-2 r-2 (AtSlots.one_type 5 named-2) the-claims.7 the-claims.5
-                  the-claims.6 the-before.get_mut.lifetimes (Args'.args_v the-before.get_mut.lifetimes ps-2 T28.locals passed26 (m21 the-before.before.before
+                  the-claims.6 the-before.get_mut.lifetimes (Args'.args_v the-before.get_mut.lifetimes ps-2 Context-28.locals passed26 (m21 the-before.before.before
                   the-before.self-2-1.given)) (Known.at (Option.enum (Field'.mut_ref_field record { mir = Syntax.erased; lft = List.[] } of-2 tt).row) 1 (Known.lives_at
                   (Option.enum (Field'.mut_ref_field record { mir = Syntax.erased; lft = List.[] } of-2 tt).row) the-before.get_mut.result 1 in-Some-get_mut-keys1).0)
-                  (Clauses.at_exit (Kinds.ended_of 5 ps-2 r-2) the-before.get_mut.lifetimes (Args'.args_v the-before.get_mut.lifetimes ps-2 T28.locals passed26 (m21
+                  (Clauses.at_exit (Kinds.ended_of 5 ps-2 r-2) the-before.get_mut.lifetimes (Args'.args_v the-before.get_mut.lifetimes ps-2 Context-28.locals passed26 (m21
                   the-before.before.before the-before.self-2-1.given)) (the-before.get_mut.new.self, (tt, tt)))
-              pub ensures : {u : Unit {0}} → the-clauses.claim-2-ensures the-before.get_mut.lifetimes (Args'.args_v the-before.get_mut.lifetimes ps-2 T28.locals passed26
+              pub ensures : {u : Unit {0}} → the-clauses.claim-2-ensures the-before.get_mut.lifetimes (Args'.args_v the-before.get_mut.lifetimes ps-2 Context-28.locals passed26
                   (m21 the-before.before.before the-before.self-2-1.given)) (Known.at (Option.enum (Field'.mut_ref_field record { mir = Syntax.erased; lft = List.[] }
                   of-2 tt).row) 1 (child, tt)) (Clauses.at_exit (Kinds.ended_of 5 ps-2 r-2) the-before.get_mut.lifetimes (Args'.args_v the-before.get_mut.lifetimes ps-2
-                  T28.locals passed26 (m21 the-before.before.before the-before.self-2-1.given)) (the-before.get_mut.new.self, (tt, tt)))
+                  Context-28.locals passed26 (m21 the-before.before.before the-before.self-2-1.given)) (the-before.get_mut.new.self, (tt, tt)))
               pub is : Arm.Rest (Arm.itself ((s29 the-before.blocks).gives (m24 the-before.before (gave-After-get_mut the-before)))) (child, tt)
               pub self-in-Some-get_mut-1-ensures-named : {u : Unit {0}} → So.ToldSo 5 whole-2 part-2 named-2 lender-2 rest-2 r-2 (AtSlots.one_type 5 named-2) the-claims.7
-                  the-claims.5 the-claims.6 the-before.get_mut.lifetimes (Args'.args_v the-before.get_mut.lifetimes ps-2 T28.locals passed26 (m21 the-before.before.before
+                  the-claims.5 the-claims.6 the-before.get_mut.lifetimes (Args'.args_v the-before.get_mut.lifetimes ps-2 Context-28.locals passed26 (m21 the-before.before.before
                   the-before.self-2-1.given)) (Known.at (Option.enum (Field'.mut_ref_field record { mir = Syntax.erased; lft = List.[] } of-2 tt).row) 1 (child, tt))
-                  (Clauses.at_exit (Kinds.ended_of 5 ps-2 r-2) the-before.get_mut.lifetimes (Args'.args_v the-before.get_mut.lifetimes ps-2 T28.locals passed26 (m21
+                  (Clauses.at_exit (Kinds.ended_of 5 ps-2 r-2) the-before.get_mut.lifetimes (Args'.args_v the-before.get_mut.lifetimes ps-2 Context-28.locals passed26 (m21
                   the-before.before.before the-before.self-2-1.given)) (the-before.get_mut.new.self, (tt, tt)))
               pub known_told-1-own : Own-After-known_told record {
                 before = record {
@@ -12888,12 +12888,12 @@ module _ (T1' : RattleType.RattleType) (L1' : Laws'.Laws T1') where
             in-Some-get_mut-keys1 = w.in-Some-get_mut-1.keys1;
             in-Some-get_mut-ensures =
                 w.in-Some-get_mut-1.ensures;
-            ensures = Path'.subst (λ x. the-clauses.claim-2-ensures w.get_mut.lifetimes (Args'.args_v w.get_mut.lifetimes ps-2 T28.locals
+            ensures = Path'.subst (λ x. the-clauses.claim-2-ensures w.get_mut.lifetimes (Args'.args_v w.get_mut.lifetimes ps-2 Context-28.locals
                 passed26 (m21 w.before.before.before.before.before w.self-2-1.given)) x (Clauses.at_exit (Kinds.ended_of 5 ps-2 r-2) w.get_mut.lifetimes (Args'.args_v
-                w.get_mut.lifetimes ps-2 T28.locals passed26 (m21 w.before.before.before.before.before w.self-2-1.given)) (w.get_mut.new.self, (tt, tt))))
-                w.self-in-Some-get_mut-1.given.1 (the-clauses.of-2-ensures w.get_mut.lifetimes (Args'.args_v w.get_mut.lifetimes ps-2 T28.locals passed26 (m21
+                w.get_mut.lifetimes ps-2 Context-28.locals passed26 (m21 w.before.before.before.before.before w.self-2-1.given)) (w.get_mut.new.self, (tt, tt))))
+                w.self-in-Some-get_mut-1.given.1 (the-clauses.of-2-ensures w.get_mut.lifetimes (Args'.args_v w.get_mut.lifetimes ps-2 Context-28.locals passed26 (m21
                 w.before.before.before.before.before w.self-2-1.given)) w.get_mut.result (Clauses.at_exit (Kinds.ended_of 5 ps-2 r-2) w.get_mut.lifetimes (Args'.args_v
-                w.get_mut.lifetimes ps-2 T28.locals passed26 (m21 w.before.before.before.before.before w.self-2-1.given)) (w.get_mut.new.self, (tt, tt)))
+                w.get_mut.lifetimes ps-2 Context-28.locals passed26 (m21 w.before.before.before.before.before w.self-2-1.given)) (w.get_mut.new.self, (tt, tt)))
                 w.get_mut.follows);
             is = w.self-in-Some-get_mut-1.given.1;
             self-in-Some-get_mut-1-ensures-named = w.self-in-Some-get_mut-1.ensures-named;
@@ -12930,25 +12930,25 @@ module _ (T1' : RattleType.RattleType) (L1' : Laws'.Laws T1') where
           }
               c.in-Some-get_mut.known_told-1-own.given)
 
-          abbrev pub m27 : (before : After-self5) → (given : (s30 before.blocks).gives (m25 before.before before.self-in-Some-get_mut-1.given)) → Typed.Mo T35
+          abbrev pub m27 : (before : After-self5) → (given : (s30 before.blocks).gives (m25 before.before before.self-in-Some-get_mut-1.given)) → Typed.Mo Context-35
           m27 = λ before given. (s31 before.blocks).next (m26 before given)
 
-          abbrev pub m28 : (before : After-self5) → (given : (s30 before.blocks).gives (m25 before.before before.self-in-Some-get_mut-1.given)) → Typed.Mo T36
+          abbrev pub m28 : (before : After-self5) → (given : (s30 before.blocks).gives (m25 before.before before.self-in-Some-get_mut-1.given)) → Typed.Mo Context-36
           m28 = λ before given. s32 before.blocks (m27 before given)
 
-          abbrev pub m29 : (before : After-self5) → (given : (s30 before.blocks).gives (m25 before.before before.self-in-Some-get_mut-1.given)) → Typed.Mo T37
+          abbrev pub m29 : (before : After-self5) → (given : (s30 before.blocks).gives (m25 before.before before.self-in-Some-get_mut-1.given)) → Typed.Mo Context-37
           m29 = λ before given. s33 before.blocks (m28 before given)
 
-          abbrev pub m30 : (before : After-self5) → (given : (s30 before.blocks).gives (m25 before.before before.self-in-Some-get_mut-1.given)) → Typed.Mo T38
+          abbrev pub m30 : (before : After-self5) → (given : (s30 before.blocks).gives (m25 before.before before.self-in-Some-get_mut-1.given)) → Typed.Mo Context-38
           m30 = λ before given. s34 before.blocks (m29 before given)
 
-          abbrev pub m31 : (before : After-self5) → (given : (s30 before.blocks).gives (m25 before.before before.self-in-Some-get_mut-1.given)) → Typed.Mo T39
+          abbrev pub m31 : (before : After-self5) → (given : (s30 before.blocks).gives (m25 before.before before.self-in-Some-get_mut-1.given)) → Typed.Mo Context-39
           m31 = λ before given. s35 before.blocks (m30 before given)
 
-          abbrev pub m32 : (before : After-self5) → (given : (s30 before.blocks).gives (m25 before.before before.self-in-Some-get_mut-1.given)) → Typed.Mo T40
+          abbrev pub m32 : (before : After-self5) → (given : (s30 before.blocks).gives (m25 before.before before.self-in-Some-get_mut-1.given)) → Typed.Mo Context-40
           m32 = λ before given. s36 before.blocks (m31 before given)
 
-          abbrev pub m33 : (before : After-self5) → (given : (s30 before.blocks).gives (m25 before.before before.self-in-Some-get_mut-1.given)) → Typed.Mo T41
+          abbrev pub m33 : (before : After-self5) → (given : (s30 before.blocks).gives (m25 before.before before.self-in-Some-get_mut-1.given)) → Typed.Mo Context-41
           m33 = λ before given. s37 before.blocks (m32 before given)
 
           abbrev pub Need-get_next-requires : Type 0
@@ -12981,7 +12981,7 @@ module _ (T1' : RattleType.RattleType) (L1' : Laws'.Laws T1') where
                   ensures-named =
                       before.in-Some-get_mut.self-in-Some-get_mut-1-ensures-named;
                 };
-          } before.in-Some-get_mut.known_told-1-own.given)) → Typed.Mo T42
+          } before.in-Some-get_mut.known_told-1-own.given)) → Typed.Mo Context-42
           m34 = λ before given. (s38 before.blocks).next (m33 record {
             before = record {
               before = before.before;
@@ -13011,7 +13011,7 @@ module _ (T1' : RattleType.RattleType) (L1' : Laws'.Laws T1') where
                   ensures-named =
                       before.in-Some-get_mut.self-in-Some-get_mut-1-ensures-named;
                 };
-          } before.in-Some-get_mut.known_told-1-own.given)) → Typed.Mo T43
+          } before.in-Some-get_mut.known_told-1-own.given)) → Typed.Mo Context-43
           m35 = λ before given. s39 before.blocks (m34 before given)
 
           abbrev pub m36 : (before : Past-After-known_told) → (given : (s38 before.blocks).gives (m33 record {
@@ -13026,7 +13026,7 @@ module _ (T1' : RattleType.RattleType) (L1' : Laws'.Laws T1') where
                   ensures-named =
                       before.in-Some-get_mut.self-in-Some-get_mut-1-ensures-named;
                 };
-          } before.in-Some-get_mut.known_told-1-own.given)) → Typed.Mo T44
+          } before.in-Some-get_mut.known_told-1-own.given)) → Typed.Mo Context-44
           m36 = λ before given. s40 before.blocks (m35 before given)
 
           abbrev pub m37 : (before : Past-After-known_told) → (given : (s38 before.blocks).gives (m33 record {
@@ -13041,7 +13041,7 @@ module _ (T1' : RattleType.RattleType) (L1' : Laws'.Laws T1') where
                   ensures-named =
                       before.in-Some-get_mut.self-in-Some-get_mut-1-ensures-named;
                 };
-          } before.in-Some-get_mut.known_told-1-own.given)) → Typed.Mo T45
+          } before.in-Some-get_mut.known_told-1-own.given)) → Typed.Mo Context-45
           m37 = λ before given. s41 before.blocks (m36 before given)
 
           abbrev pub m38 : (before : Past-After-known_told) → (given : (s38 before.blocks).gives (m33 record {
@@ -13056,7 +13056,7 @@ module _ (T1' : RattleType.RattleType) (L1' : Laws'.Laws T1') where
                   ensures-named =
                       before.in-Some-get_mut.self-in-Some-get_mut-1-ensures-named;
                 };
-          } before.in-Some-get_mut.known_told-1-own.given)) → Typed.Mo T46
+          } before.in-Some-get_mut.known_told-1-own.given)) → Typed.Mo Context-46
           m38 = λ before given. (s42 before.blocks).next (m37 before given)
 
           abbrev pub m39 : (before : Past-After-known_told) → (given : (s38 before.blocks).gives (m33 record {
@@ -13071,7 +13071,7 @@ module _ (T1' : RattleType.RattleType) (L1' : Laws'.Laws T1') where
                   ensures-named =
                       before.in-Some-get_mut.self-in-Some-get_mut-1-ensures-named;
                 };
-          } before.in-Some-get_mut.known_told-1-own.given)) → Typed.Mo T47
+          } before.in-Some-get_mut.known_told-1-own.given)) → Typed.Mo Context-47
           m39 = λ before given. (s43 before.blocks).next (m38 before given)
 
           pub record Last-3 (the-κs : Lifetimes.Lfts 3) (the-vs : Kinds.Dens the-κs ps-3) : Type 0 where
@@ -13087,7 +13087,7 @@ module _ (T1' : RattleType.RattleType) (L1' : Laws'.Laws T1') where
             pub record Step-After-get_next : Type 0 where
               pub lifetimes : Lifetimes.Lfts 3
               pub result : (Kinds.res_t r-3 lifetimes).Denot
-              pub new : Last-3 lifetimes (Args'.args_v lifetimes ps-3 T41.locals passed38 (m33 record {
+              pub new : Last-3 lifetimes (Args'.args_v lifetimes ps-3 Context-41.locals passed38 (m33 record {
                 before = record {
                   before = the-before.before;
                   in-Some-get_mut-1 =
@@ -13100,7 +13100,7 @@ module _ (T1' : RattleType.RattleType) (L1' : Laws'.Laws T1') where
                 };
               } the-before.in-Some-get_mut.known_told-1-own.given))
               pub type_inv : r-3.is.Ok lifetimes result
-              pub auto : Kept-3 lifetimes (Args'.args_v lifetimes ps-3 T41.locals passed38 (m33 record {
+              pub auto : Kept-3 lifetimes (Args'.args_v lifetimes ps-3 Context-41.locals passed38 (m33 record {
                 before = record {
                   before = the-before.before;
                   in-Some-get_mut-1 =
@@ -13113,7 +13113,7 @@ module _ (T1' : RattleType.RattleType) (L1' : Laws'.Laws T1') where
                 };
               } the-before.in-Some-get_mut.known_told-1-own.given)) (new.self, (new.key, tt))
               pub follows : So.ToldSo 3 whole-3 part-3 named-3 lender-3 rest-3 r-3 (AtSlots.one_type 3 named-3) the-claims.10 the-claims.8 the-claims.9 lifetimes
-                  (Args'.args_v lifetimes ps-3 T41.locals passed38 (m33 record {
+                  (Args'.args_v lifetimes ps-3 Context-41.locals passed38 (m33 record {
                     before = record {
                       before = the-before.before;
                       in-Some-get_mut-1 = record {
@@ -13128,7 +13128,7 @@ module _ (T1' : RattleType.RattleType) (L1' : Laws'.Laws T1') where
                           the-before.in-Some-get_mut.self-in-Some-get_mut-1-ensures-named;
                     };
                   } the-before.in-Some-get_mut.known_told-1-own.given)) result (Clauses.at_exit
-                  (Kinds.ended_of 3 ps-3 r-3) lifetimes (Args'.args_v lifetimes ps-3 T41.locals passed38 (m33 record {
+                  (Kinds.ended_of 3 ps-3 r-3) lifetimes (Args'.args_v lifetimes ps-3 Context-41.locals passed38 (m33 record {
                     before = record {
                       before = the-before.before;
                       in-Some-get_mut-1 = record { keys1 = the-before.in-Some-get_mut.in-Some-get_mut-keys1; ensures = the-before.in-Some-get_mut.in-Some-get_mut-ensures };
@@ -13139,7 +13139,7 @@ module _ (T1' : RattleType.RattleType) (L1' : Laws'.Laws T1') where
                           the-before.in-Some-get_mut.self-in-Some-get_mut-1-ensures-named;
                     };
                   } the-before.in-Some-get_mut.known_told-1-own.given)) (new.self, (new.key, tt)))
-              pub ensures : the-clauses.claim-3-ensures lifetimes (Args'.args_v lifetimes ps-3 T41.locals passed38 (m33 record {
+              pub ensures : the-clauses.claim-3-ensures lifetimes (Args'.args_v lifetimes ps-3 Context-41.locals passed38 (m33 record {
                 before = record {
                   before =
                       the-before.before;
@@ -13158,7 +13158,7 @@ module _ (T1' : RattleType.RattleType) (L1' : Laws'.Laws T1') where
                 };
               }
                   the-before.in-Some-get_mut.known_told-1-own.given)) result (Clauses.at_exit (Kinds.ended_of 3 ps-3 r-3) lifetimes (Args'.args_v lifetimes ps-3
-                  T41.locals passed38 (m33 record {
+                  Context-41.locals passed38 (m33 record {
                     before = record {
                       before = the-before.before;
                       in-Some-get_mut-1 = record {
@@ -13197,7 +13197,7 @@ module _ (T1' : RattleType.RattleType) (L1' : Laws'.Laws T1') where
               key = g.4.1.0;
             };
             follows = g.5;
-            ensures = the-clauses.of-3-ensures g.0 (Args'.args_v g.0 ps-3 T41.locals passed38 (m33 record {
+            ensures = the-clauses.of-3-ensures g.0 (Args'.args_v g.0 ps-3 Context-41.locals passed38 (m33 record {
               before = record {
                 before =
                     w.before;
@@ -13209,7 +13209,7 @@ module _ (T1' : RattleType.RattleType) (L1' : Laws'.Laws T1') where
                     w.in-Some-get_mut.self-in-Some-get_mut-1-ensures-named;
               };
             } w.in-Some-get_mut.known_told-1-own.given)) g.1 (Clauses.at_exit (Kinds.ended_of 3 ps-3 r-3) g.0
-                (Args'.args_v g.0 ps-3 T41.locals passed38 (m33 record {
+                (Args'.args_v g.0 ps-3 Context-41.locals passed38 (m33 record {
                   before = record {
                     before = w.before;
                     in-Some-get_mut-1 = record {
@@ -13255,17 +13255,17 @@ module _ (T1' : RattleType.RattleType) (L1' : Laws'.Laws T1') where
           )
 
           abbrev pub Need-close_late_if-self-2 : Type 0
-          Need-close_late_if-self-2 = (c : After-get_next) → Late.late_asked_if (Node.the_row (Param.param 0 T1')) (Declared'.row (TheInside.the_type (Param.param 0
-              T1'))) (Node.the_view (Param.param 0 T1')) (Node.the_invariant (Param.param 0 T1')) (Param.param 0 T1') (Option.the_type (Field'.mut_ref_field record {
+          Need-close_late_if-self-2 = (c : After-get_next) → Late.late_asked_if (Node.the_row (Param.param 0 Value)) (Declared'.row (TheInside.the_type (Param.param 0
+              Value))) (Node.the_view (Param.param 0 Value)) (Node.the_invariant (Param.param 0 Value)) (Param.param 0 Value) (Option.the_type (Field'.mut_ref_field record {
                 mir
                     = Syntax.named 0;
                 lft = List.[];
-              } (Param.param 0 T1') tt).row).D T47 14 1 (λ x. x) (m39 c.before (gave-After-get_next c))
+              } (Param.param 0 Value) tt).row).D Context-47 14 1 (λ x. x) (m39 c.before (gave-After-get_next c))
 
-          abbrev pub m40 : (before : After-get_next) → (given : (s44 before.blocks).gives (m39 before.before (gave-After-get_next before))) → Typed.Mo T48
+          abbrev pub m40 : (before : After-get_next) → (given : (s44 before.blocks).gives (m39 before.before (gave-After-get_next before))) → Typed.Mo Context-48
           m40 = λ before given. (s44 before.blocks).next (m39 before.before (gave-After-get_next before)) given
 
-          abbrev pub m41 : (before : After-get_next) → (given : (s44 before.blocks).gives (m39 before.before (gave-After-get_next before))) → Typed.Mo T51
+          abbrev pub m41 : (before : After-get_next) → (given : (s44 before.blocks).gives (m39 before.before (gave-After-get_next before))) → Typed.Mo Context-51
           m41 = λ before given. s47 before.blocks (m40 before given)
 
           module _ (the-before : After-get_next) where
@@ -13280,12 +13280,12 @@ module _ (T1' : RattleType.RattleType) (L1' : Laws'.Laws T1') where
           module _ (the-before : After-get_mut) where
             pub record Own-At-match2-keys2 : Type 0 where
               pub keys2 : Run.OneOf (List.◌∷◌ 0 List.[]) (Declared.tag_of (Option.the_type (Field'.mut_ref_field record { mir = Syntax.erased; lft = List.[] } of-2
-                  tt).row) (Row.get 9 T32.locals (m24 the-before.before (gave-After-get_mut the-before))))
+                  tt).row) (Row.get 9 Context-32.locals (m24 the-before.before (gave-After-get_mut the-before))))
               pub ensures : {u : Unit {0}} → So.ToldSo 5 whole-2 part-2 named-2 lender-2 rest-2 r-2 (AtSlots.one_type 5 named-2) the-claims.7 the-claims.5 the-claims.6
-                  the-before.get_mut.lifetimes (Args'.args_v the-before.get_mut.lifetimes ps-2 T28.locals passed26 (m21 the-before.before.before
+                  the-before.get_mut.lifetimes (Args'.args_v the-before.get_mut.lifetimes ps-2 Context-28.locals passed26 (m21 the-before.before.before
                   the-before.self-2-1.given)) (Known.at (Option.enum (Field'.mut_ref_field record { mir = Syntax.erased; lft = List.[] } of-2 tt).row) 0 (Known.lives_at
                   (Option.enum (Field'.mut_ref_field record { mir = Syntax.erased; lft = List.[] } of-2 tt).row) the-before.get_mut.result 0 keys2).0) (Clauses.at_exit
-                  (Kinds.ended_of 5 ps-2 r-2) the-before.get_mut.lifetimes (Args'.args_v the-before.get_mut.lifetimes ps-2 T28.locals passed26 (m21
+                  (Kinds.ended_of 5 ps-2 r-2) the-before.get_mut.lifetimes (Args'.args_v the-before.get_mut.lifetimes ps-2 Context-28.locals passed26 (m21
                   the-before.before.before the-before.self-2-1.given)) (the-before.get_mut.new.self, (tt, tt)))
 
           pub record At-match2-keys2 : Type 0 where
@@ -13293,7 +13293,7 @@ module _ (T1' : RattleType.RattleType) (L1' : Laws'.Laws T1') where
             pub open before use *
             pub in-None-1 : Own-At-match2-keys2 before
 
-          abbrev pub m42 : (before : At-match2-keys2) → (given : (s48 before.blocks).gives (m24 before.before.before (gave-After-get_mut before.before))) → Typed.Mo T52
+          abbrev pub m42 : (before : At-match2-keys2) → (given : (s48 before.blocks).gives (m24 before.before.before (gave-After-get_mut before.before))) → Typed.Mo Context-52
           m42 = λ before given. (s48 before.blocks).next (m24 before.before.before (gave-After-get_mut before.before)) given
 
           module _ (the-before : At-match2-keys2) where
@@ -13308,18 +13308,18 @@ module _ (T1' : RattleType.RattleType) (L1' : Laws'.Laws T1') where
           module _ (the-before : After-get_mut) where
             pub record Arm-After-enum_told : Type 0 where
               pub in-None-keys2 : Run.OneOf (List.◌∷◌ 0 List.[]) (Declared.tag_of (Option.the_type (Field'.mut_ref_field record { mir = Syntax.erased; lft = List.[] }
-                  of-2 tt).row) (Row.get 9 T32.locals (m24 the-before.before (gave-After-get_mut the-before))))
+                  of-2 tt).row) (Row.get 9 Context-32.locals (m24 the-before.before (gave-After-get_mut the-before))))
               pub in-None-ensures : {u : Unit {0}} → So.ToldSo 5 whole-2 part-2 named-2 lender-2 rest-2 r-2 (AtSlots.one_type 5 named-2) the-claims.7 the-claims.5
-                  the-claims.6 the-before.get_mut.lifetimes (Args'.args_v the-before.get_mut.lifetimes ps-2 T28.locals passed26 (m21 the-before.before.before
+                  the-claims.6 the-before.get_mut.lifetimes (Args'.args_v the-before.get_mut.lifetimes ps-2 Context-28.locals passed26 (m21 the-before.before.before
                   the-before.self-2-1.given)) (Known.at (Option.enum (Field'.mut_ref_field record { mir = Syntax.erased; lft = List.[] } of-2 tt).row) 0 (Known.lives_at
                   (Option.enum (Field'.mut_ref_field record { mir = Syntax.erased; lft = List.[] } of-2 tt).row) the-before.get_mut.result 0 in-None-keys2).0)
-                  (Clauses.at_exit (Kinds.ended_of 5 ps-2 r-2) the-before.get_mut.lifetimes (Args'.args_v the-before.get_mut.lifetimes ps-2 T28.locals passed26 (m21
+                  (Clauses.at_exit (Kinds.ended_of 5 ps-2 r-2) the-before.get_mut.lifetimes (Args'.args_v the-before.get_mut.lifetimes ps-2 Context-28.locals passed26 (m21
                   the-before.before.before the-before.self-2-1.given)) (the-before.get_mut.new.self, (tt, tt)))
-              pub ensures : {u : Unit {0}} → the-clauses.claim-2-ensures the-before.get_mut.lifetimes (Args'.args_v the-before.get_mut.lifetimes ps-2 T28.locals passed26
+              pub ensures : {u : Unit {0}} → the-clauses.claim-2-ensures the-before.get_mut.lifetimes (Args'.args_v the-before.get_mut.lifetimes ps-2 Context-28.locals passed26
                   (m21 the-before.before.before the-before.self-2-1.given)) (Known.at (Option.enum (Field'.mut_ref_field record { mir = Syntax.erased; lft = List.[] }
                   of-2 tt).row) 0 (Known.lives_at (Option.enum (Field'.mut_ref_field record { mir = Syntax.erased; lft = List.[] } of-2 tt).row)
                   the-before.get_mut.result 0 in-None-keys2).0) (Clauses.at_exit (Kinds.ended_of 5 ps-2 r-2) the-before.get_mut.lifetimes (Args'.args_v
-                  the-before.get_mut.lifetimes ps-2 T28.locals passed26 (m21 the-before.before.before the-before.self-2-1.given)) (the-before.get_mut.new.self, (tt, tt)))
+                  the-before.get_mut.lifetimes ps-2 Context-28.locals passed26 (m21 the-before.before.before the-before.self-2-1.given)) (the-before.get_mut.new.self, (tt, tt)))
               pub is : Arm.Rest (Arm.itself ((s48 the-before.blocks).gives (m24 the-before.before (gave-After-get_mut the-before)))) tt
 
           abbrev pub out-After-enum_told : (w : After-get_mut) → Arm-After-enum_told w → After-enum_told
@@ -13334,13 +13334,13 @@ module _ (T1' : RattleType.RattleType) (L1' : Laws'.Laws T1') where
             in-None-keys2 = w.in-None-1.keys2;
             in-None-ensures = w.in-None-1.ensures;
             ensures = the-clauses.of-2-ensures
-                w.get_mut.lifetimes (Args'.args_v w.get_mut.lifetimes ps-2 T28.locals passed26 (m21 w.before.before.before.before w.self-2-1.given)) (Known.at (Option.enum
+                w.get_mut.lifetimes (Args'.args_v w.get_mut.lifetimes ps-2 Context-28.locals passed26 (m21 w.before.before.before.before w.self-2-1.given)) (Known.at (Option.enum
                 (Field'.mut_ref_field record { mir = Syntax.erased; lft = List.[] } of-2 tt).row) 0 (Known.lives_at (Option.enum (Field'.mut_ref_field record {
                   mir =
                       Syntax.erased;
                   lft = List.[];
                 } of-2 tt).row) w.get_mut.result 0 w.in-None-1.keys2).0) (Clauses.at_exit (Kinds.ended_of 5 ps-2 r-2) w.get_mut.lifetimes
-                (Args'.args_v w.get_mut.lifetimes ps-2 T28.locals passed26 (m21 w.before.before.before.before w.self-2-1.given)) (w.get_mut.new.self, (tt, tt)))
+                (Args'.args_v w.get_mut.lifetimes ps-2 Context-28.locals passed26 (m21 w.before.before.before.before w.self-2-1.given)) (w.get_mut.new.self, (tt, tt)))
                 w.in-None-1.ensures;
             is = w.enum_told-1.given.1;
           }
@@ -13372,7 +13372,7 @@ module _ (T1' : RattleType.RattleType) (L1' : Laws'.Laws T1') where
                   before.in-None.in-None-keys2;
               ensures = before.in-None.in-None-ensures;
             };
-          } (tt, before.in-None.is))) → Typed.Mo T53
+          } (tt, before.in-None.is))) → Typed.Mo Context-53
           m43 = λ before given. (s49 before.blocks).next (m42 record {
             before = before.before;
             in-None-1 = record {
@@ -13389,7 +13389,7 @@ module _ (T1' : RattleType.RattleType) (L1' : Laws'.Laws T1') where
                   before.in-None.in-None-keys2;
               ensures = before.in-None.in-None-ensures;
             };
-          } (tt, before.in-None.is))) → Typed.Mo T54
+          } (tt, before.in-None.is))) → Typed.Mo Context-54
           m44 = λ before given. s50 before.blocks (m43 before given)
 
           abbrev pub m45 : (before : Past-After-enum_told) → (given : (s49 before.blocks).gives (m42 record {
@@ -13399,7 +13399,7 @@ module _ (T1' : RattleType.RattleType) (L1' : Laws'.Laws T1') where
                   before.in-None.in-None-keys2;
               ensures = before.in-None.in-None-ensures;
             };
-          } (tt, before.in-None.is))) → Typed.Mo T55
+          } (tt, before.in-None.is))) → Typed.Mo Context-55
           m45 = λ before given. s51 before.blocks (m44 before given)
 
           abbrev pub m46 : (before : Past-After-enum_told) → (given : (s49 before.blocks).gives (m42 record {
@@ -13409,7 +13409,7 @@ module _ (T1' : RattleType.RattleType) (L1' : Laws'.Laws T1') where
                   before.in-None.in-None-keys2;
               ensures = before.in-None.in-None-ensures;
             };
-          } (tt, before.in-None.is))) → Typed.Mo T56
+          } (tt, before.in-None.is))) → Typed.Mo Context-56
           m46 = λ before given. (s52 before.blocks).next (m45 before given)
 
           module _ (the-before : Past-After-enum_told) where
@@ -13428,7 +13428,7 @@ module _ (T1' : RattleType.RattleType) (L1' : Laws'.Laws T1') where
             pub open before use *
             pub self-in-None-1 : Own-After-self7 before
 
-          abbrev pub m47 : (before : After-self7) → (given : (s53 before.blocks).gives (m46 before.before before.self-in-None-1.given)) → Typed.Mo T57
+          abbrev pub m47 : (before : After-self7) → (given : (s53 before.blocks).gives (m46 before.before before.self-in-None-1.given)) → Typed.Mo Context-57
           m47 = λ before given. (s53 before.blocks).next (m46 before.before before.self-in-None-1.given) given
 
           module _ (the-before : After-self7) where
@@ -13443,7 +13443,7 @@ module _ (T1' : RattleType.RattleType) (L1' : Laws'.Laws T1') where
           abbrev pub Need-followed-self : Type 0
           Need-followed-self = (c : After-self8) → (s54 c.blocks).asks (m47 c.before c.self-in-None-2-1.given)
 
-          abbrev pub m48 : (before : After-self8) → (given : (s54 before.blocks).gives (m47 before.before before.self-in-None-2-1.given)) → Typed.Mo T58
+          abbrev pub m48 : (before : After-self8) → (given : (s54 before.blocks).gives (m47 before.before before.self-in-None-2-1.given)) → Typed.Mo Context-58
           m48 = λ before given. (s54 before.blocks).next (m47 before.before before.self-in-None-2-1.given) given
 
           module _ (the-before : After-self8) where
@@ -13456,22 +13456,22 @@ module _ (T1' : RattleType.RattleType) (L1' : Laws'.Laws T1') where
             pub self-in-None-3-1 : Own-After-self9 before
 
           abbrev pub Need-close_late_said-self : Type 0
-          Need-close_late_said-self = (c : After-self9) → Mut.holds_asked (Node.the_row (Param.param 0 T1')) (Declared'.row (TheInside.the_type (Param.param 0 T1')))
-              (Node.the_view (Param.param 0 T1')) (Node.the_invariant (Param.param 0 T1')) T58 14 1 (λ x. x) (m48 c.before c.self-in-None-3-1.given)
+          Need-close_late_said-self = (c : After-self9) → Mut.holds_asked (Node.the_row (Param.param 0 Value)) (Declared'.row (TheInside.the_type (Param.param 0 Value)))
+              (Node.the_view (Param.param 0 Value)) (Node.the_invariant (Param.param 0 Value)) Context-58 14 1 (λ x. x) (m48 c.before c.self-in-None-3-1.given)
 
-          abbrev pub m49 : (before : After-self8) → (given : (s54 before.blocks).gives (m47 before.before before.self-in-None-2-1.given)) → Typed.Mo T59
+          abbrev pub m49 : (before : After-self8) → (given : (s54 before.blocks).gives (m47 before.before before.self-in-None-2-1.given)) → Typed.Mo Context-59
           m49 = λ before given. (s55 before.blocks).next (m48 before given)
 
-          abbrev pub m50 : (before : After-self9) → (given : (s58 before.blocks).gives (m49 before.before before.self-in-None-3-1.given)) → Typed.Mo T62
+          abbrev pub m50 : (before : After-self9) → (given : (s58 before.blocks).gives (m49 before.before before.self-in-None-3-1.given)) → Typed.Mo Context-62
           m50 = λ before given. (s58 before.blocks).next (m49 before.before before.self-in-None-3-1.given) given
 
-          abbrev pub m51 : (before : After-self9) → (given : (s58 before.blocks).gives (m49 before.before before.self-in-None-3-1.given)) → Typed.Mo T63
+          abbrev pub m51 : (before : After-self9) → (given : (s58 before.blocks).gives (m49 before.before before.self-in-None-3-1.given)) → Typed.Mo Context-63
           m51 = λ before given. s59 before.blocks (m50 before given)
 
-          abbrev pub m52 : (before : After-self9) → (given : (s58 before.blocks).gives (m49 before.before before.self-in-None-3-1.given)) → Typed.Mo T64
+          abbrev pub m52 : (before : After-self9) → (given : (s58 before.blocks).gives (m49 before.before before.self-in-None-3-1.given)) → Typed.Mo Context-64
           m52 = λ before given. s60 before.blocks (m51 before given)
 
-          abbrev pub m53 : (before : After-self9) → (given : (s58 before.blocks).gives (m49 before.before before.self-in-None-3-1.given)) → Typed.Mo T65
+          abbrev pub m53 : (before : After-self9) → (given : (s58 before.blocks).gives (m49 before.before before.self-in-None-3-1.given)) → Typed.Mo Context-65
           m53 = λ before given. s61 before.blocks (m52 before given)
 
           module _ (the-before : After-self9) where
@@ -13483,10 +13483,10 @@ module _ (T1' : RattleType.RattleType) (L1' : Laws'.Laws T1') where
             pub open before use *
             pub self-in-None-4-1 : Own-After-self10 before
 
-          abbrev pub m54 : (before : After-get_next) → (given : (s44 before.blocks).gives (m39 before.before (gave-After-get_next before))) → Typed.Mo T66
+          abbrev pub m54 : (before : After-get_next) → (given : (s44 before.blocks).gives (m39 before.before (gave-After-get_next before))) → Typed.Mo Context-66
           m54 = λ before given. s62 before.blocks (m41 before given)
 
-          abbrev pub m55 : (before : After-get_next) → (given : (s44 before.blocks).gives (m39 before.before (gave-After-get_next before))) → Typed.Mo T68
+          abbrev pub m55 : (before : After-get_next) → (given : (s44 before.blocks).gives (m39 before.before (gave-After-get_next before))) → Typed.Mo Context-68
           m55 = λ before given. s64 before.blocks (m54 before given)
 
           abbrev pub Need-returns-2 : Type 0
@@ -13508,10 +13508,10 @@ module _ (T1' : RattleType.RattleType) (L1' : Laws'.Laws T1') where
               c.self-in-Some-get_mut-2.given).0) (Clauses.at_exit (Kinds.ended_of 3 ps r) c.lifetimes (dens c.lifetimes c.args) (Enter.lasts_p c.lifetimes 1 ps xs (dens
               c.lifetimes c.args) (m55 c.before c.self-in-Some-get_mut-2.given).1)) a
 
-          abbrev pub m56 : (before : After-self9) → (given : (s58 before.blocks).gives (m49 before.before before.self-in-None-3-1.given)) → Typed.Mo T66
+          abbrev pub m56 : (before : After-self9) → (given : (s58 before.blocks).gives (m49 before.before before.self-in-None-3-1.given)) → Typed.Mo Context-66
           m56 = λ before given. s62 before.blocks (m53 before given)
 
-          abbrev pub m57 : (before : After-self9) → (given : (s58 before.blocks).gives (m49 before.before before.self-in-None-3-1.given)) → Typed.Mo T68
+          abbrev pub m57 : (before : After-self9) → (given : (s58 before.blocks).gives (m49 before.before before.self-in-None-3-1.given)) → Typed.Mo Context-68
           m57 = λ before given. s64 before.blocks (m56 before given)
 
           abbrev pub Need-returns-3 : Type 0
@@ -13568,7 +13568,7 @@ module _ (T1' : RattleType.RattleType) (L1' : Laws'.Laws T1') where
                       (Args'.args_v
                       c.get_mut.lifetimes
                       ps-2
-                      T28.locals
+                      Context-28.locals
                       passed26
                       (m21 c.before.before c.self-2-1.given))
                       x
@@ -13578,7 +13578,7 @@ module _ (T1' : RattleType.RattleType) (L1' : Laws'.Laws T1') where
                       (Args'.args_v
                       c.get_mut.lifetimes
                       ps-2
-                      T28.locals
+                      Context-28.locals
                       passed26
                       (m21 c.before.before c.self-2-1.given))
                       (c.get_mut.new.self, (tt, tt))))
@@ -13611,7 +13611,7 @@ module _ (T1' : RattleType.RattleType) (L1' : Laws'.Laws T1') where
                         (Args'.args_v
                         c.get_mut.lifetimes
                         ps-2
-                        T28.locals
+                        Context-28.locals
                         passed26
                         (m21 c.before.before c.self-2-1.given))
                         x
@@ -13621,7 +13621,7 @@ module _ (T1' : RattleType.RattleType) (L1' : Laws'.Laws T1') where
                         (Args'.args_v
                         c.get_mut.lifetimes
                         ps-2
-                        T28.locals
+                        Context-28.locals
                         passed26
                         (m21 c.before.before c.self-2-1.given))
                         (c.get_mut.new.self, (tt, tt))))
@@ -13685,7 +13685,7 @@ module _ (T1' : RattleType.RattleType) (L1' : Laws'.Laws T1') where
                         (Args'.args_v
                         c.get_mut.lifetimes
                         ps-2
-                        T28.locals
+                        Context-28.locals
                         passed26
                         (m21 c.before.before c.self-2-1.given))
                         x
@@ -13695,7 +13695,7 @@ module _ (T1' : RattleType.RattleType) (L1' : Laws'.Laws T1') where
                         (Args'.args_v
                         c.get_mut.lifetimes
                         ps-2
-                        T28.locals
+                        Context-28.locals
                         passed26
                         (m21 c.before.before c.self-2-1.given))
                         (c.get_mut.new.self, (tt, tt))))
@@ -13759,11 +13759,11 @@ module _ (T1' : RattleType.RattleType) (L1' : Laws'.Laws T1') where
                     (Declared.tag_of (Option.the_type (Field'.mut_ref_field record {
                       mir = Syntax.erased;
                       lft = List.[];
-                    } of-2 tt).row) (Row.get 9 T32.locals (m24 c.before (gave-After-get_mut c))))
+                    } of-2 tt).row) (Row.get 9 Context-32.locals (m24 c.before (gave-After-get_mut c))))
                     (Match.tag_small (Option.the_type (Field'.mut_ref_field record {
                       mir = Syntax.erased;
                       lft = List.[];
-                    } of-2 tt).row) (Row.get 9 T32.locals (m24 c.before (gave-After-get_mut c)))),
+                    } of-2 tt).row) (Row.get 9 Context-32.locals (m24 c.before (gave-After-get_mut c)))),
               ),
             )
 
@@ -13865,11 +13865,11 @@ module _ (T1' : RattleType.RattleType) (L1' : Laws'.Laws T1') where
                         (Declared.tag_of (Option.the_type (Text.str-field record {
                           mir = Syntax.named 1;
                           lft = List.[];
-                        }).row) (Row.get 2 T7.locals (m3 c g g')))
+                        }).row) (Row.get 2 Context-7.locals (m3 c g g')))
                         (Match.tag_small (Option.the_type (Text.str-field record {
                           mir = Syntax.named 1;
                           lft = List.[];
-                        }).row) (Row.get 2 T7.locals (m3 c g g'))),
+                        }).row) (Row.get 2 Context-7.locals (m3 c g g'))),
                   ),
                 ),
               ),
@@ -13907,17 +13907,17 @@ module _ (T1' : RattleType.RattleType) (L1' : Laws'.Laws T1') where
                 requires = the-clauses.of-own-requires κs a pre;
               }
 
-            module _ (has : (κs : Lifetimes.Lfts 3) → (a : Kinds.Dens κs ps) → the-Pre κs a → BorrowLft.◌⊑◌ κs.1.1.0 T1'.lives × Unit {0}) where
+            module _ (has : (κs : Lifetimes.Lfts 3) → (a : Kinds.Dens κs ps) → the-Pre κs a → BorrowLft.◌⊑◌ κs.1.1.0 Value.lives × Unit {0}) where
               module _ {M : Type 1} (𝓤 : Ura.Ura M) (𝓛 : Logic''.Logic 𝓤) (𝓣 : Wp.Tables 𝓤 𝓛.H) (known0 : Plain.Known 𝓛 𝓣 2 ps_on-0 r-0 the-claims.0 (So.WithSo 2 whole-0
                   part-0 named-0 lender-0 rest-0 r-0 (AtSlots.one_type 2 named-0) the-claims.2 the-claims.0 the-claims.1) (Syntax.fn "core::option::Option::as_mut"
-                  (Syntax.tcons (Param.layout T1') Syntax.tnil, Syntax.dnil))) (known1 : Plain.Known 𝓛 𝓣 1 ps-1 r-1 the-claims.3 the-claims.4 (Syntax.fn₀
+                  (Syntax.tcons (Param.layout Value) Syntax.tnil, Syntax.dnil))) (known1 : Plain.Known 𝓛 𝓣 1 ps-1 r-1 the-claims.3 the-claims.4 (Syntax.fn₀
                   "mq_topic::levels::split_first")) (known2 : Plain.Known 𝓛 𝓣 5 ps_on-2 r-2 the-claims.5 (So.WithSo 5 whole-2 part-2 named-2 lender-2 rest-2 r-2
                   (AtSlots.one_type 5 named-2) the-claims.7 the-claims.5 the-claims.6) (Syntax.fn "std_collections::btree_map::BTreeMap::get_mut" (
                     Syntax.tcons
                         (Syntax.ty_struct List.[] (Syntax.tcons (Syntax.ty_struct List.[] (Syntax.tcons Syntax.ty_ptr (Syntax.tcons (Syntax.ty_int Syntax.w64) (Syntax.tcons
                         (Syntax.ty_int Syntax.w64) (Syntax.tcons (Syntax.ty_struct List.[] (Syntax.tcons (Syntax.ty_struct List.[] (Syntax.tcons Syntax.ty_unit Syntax.tnil))
                         Syntax.tnil)) Syntax.tnil))))) Syntax.tnil)) (Syntax.tcons (Syntax.ty_struct List.[] (Syntax.tcons (Syntax.ty_enum List.[] (Syntax.ttcons Syntax.tnil
-                        (Syntax.ttcons (Syntax.tcons (Param.layout T1') Syntax.tnil) Syntax.ttnil))) (Syntax.tcons (Syntax.ty_struct List.[] (Syntax.tcons (Syntax.ty_struct
+                        (Syntax.ttcons (Syntax.tcons (Param.layout Value) Syntax.tnil) Syntax.ttnil))) (Syntax.tcons (Syntax.ty_struct List.[] (Syntax.tcons (Syntax.ty_struct
                         List.[] (Syntax.tcons (Syntax.ty_enum List.[] (Syntax.ttcons Syntax.tnil (Syntax.ttcons (Syntax.tcons (Syntax.ty_struct List.[] (Syntax.tcons
                         (Syntax.ty_struct List.[] (Syntax.tcons Syntax.ty_ptr Syntax.tnil)) Syntax.tnil)) Syntax.tnil) Syntax.ttnil))) (Syntax.tcons (Syntax.ty_int Syntax.w64)
                         (Syntax.tcons (Syntax.ty_struct List.[] (Syntax.tcons (Syntax.ty_struct List.[] (Syntax.tcons Syntax.ty_unit Syntax.tnil)) Syntax.tnil)) Syntax.tnil))))
@@ -13957,9 +13957,9 @@ module _ (T1' : RattleType.RattleType) (L1' : Laws'.Laws T1') where
                         Syntax.dnil))))))),
                   ))) (known3 : Plain.Known 𝓛 𝓣 3 ps_on-3 r-3 the-claims.8 (So.WithSo 3 whole-3 part-3 named-3 lender-3 rest-3 r-3 (AtSlots.one_type 3
                   named-3) the-claims.10 the-claims.8 the-claims.9) (Syntax.fn "mq_tree::node::Node::get_mut" (
-                    Syntax.tcons (Param.layout T1') Syntax.tnil,
+                    Syntax.tcons (Param.layout Value) Syntax.tnil,
                     Syntax.dnil,
                   ))) where
                 pub spec : Statement.Triple 𝓤 (Wp.WpFn 𝓤 𝓛.H 𝓣.C 𝓣.Λ (Function.fn_of 3 ps r xs m hs body)) (Function.plain_of 𝓛 3 ps r the-Pre the-Post)
-                spec = Plain.t_fn_plain_given 𝓛 𝓣 3 ps r xs m hs body (λ κs qs bs. Φ bs) (λ κs. BorrowLft.◌⊑◌ κs.1.1.0 T1'.lives × Unit {0}) (λ κs qs bs bd lives. typed
+                spec = Plain.t_fn_plain_given 𝓛 𝓣 3 ps r xs m hs body (λ κs qs bs. Φ bs) (λ κs. BorrowLft.◌⊑◌ κs.1.1.0 Value.lives × Unit {0}) (λ κs qs bs bd lives. typed
                     κs qs 𝓛 𝓣 (known0, known1, known2, known3) lives bs bd) the-Pre the-Post has asked

@@ -24,24 +24,24 @@ use mathlib.Core.List
 use mathlib.Core.Path as Path'
 use native.Mathlib.Omega
 
-module _ (t : Nat.ℕ) (T1' : RattleType.RattleType) (L1' : Laws.Laws T1') where
-  pub way_copy_out_told-key : tie.Need-variant-1-key t T1' L1'
+module _ (t : Nat.ℕ) (Value : RattleType.RattleType) (ValueLaws : Laws.Laws Value) where
+  pub way_copy_out_told-key : tie.Need-variant-1-key t Value ValueLaws
   way_copy_out_told-key c = c.in-Some-1.keys1
 
   lives-as_mut-requires :
       (κs : Lifetimes.Lfts 2) →
-      BorrowLft.◌⊑◌ κs.1.0 T1'.lives →
-      BorrowLft.◌⊑◌ κs.1.0 T1'.lives ×
+      BorrowLft.◌⊑◌ κs.1.0 Value.lives →
+      BorrowLft.◌⊑◌ κs.1.0 Value.lives ×
       Unit {0}
   lives-as_mut-requires = λ κs h. (
-    BorrowLft.⊑_trans κs.1.0 κs.1.0 T1'.lives (BorrowLft.⊑_refl κs.1.0) h,
+    BorrowLft.⊑_trans κs.1.0 κs.1.0 Value.lives (BorrowLft.⊑_refl κs.1.0) h,
     tt,
   )
 
-  pub as_mut-requires : tie.Need-as_mut-requires t T1' L1'
+  pub as_mut-requires : tie.Need-as_mut-requires t Value ValueLaws
   as_mut-requires c κs within = (lives-as_mut-requires κs within).0
 
-  pub invariant_of-self-lent : tie.Need-close_late_if-self t T1' L1'
+  pub invariant_of-self-lent : tie.Need-close_late_if-self t Value ValueLaws
   invariant_of-self-lent c = first_of (
     search (
       rules,
@@ -50,20 +50,20 @@ module _ (t : Nat.ℕ) (T1' : RattleType.RattleType) (L1' : Laws.Laws T1') where
       TheTie.below-Node
           _
           (lts.raw_of-After-self
-          T1'
-          L1'
-          (tie.the-claims t T1' L1')
-          (tie.handed_pre t T1' L1')
-          (tie.handed_post t T1' L1')
-          (tie.handed_clauses t T1' L1')
+          Value
+          ValueLaws
+          (tie.the-claims t Value ValueLaws)
+          (tie.handed_pre t Value ValueLaws)
+          (tie.handed_post t Value ValueLaws)
+          (tie.handed_clauses t Value ValueLaws)
           c.before.before.before).1
           (lts.raw_of-After-self
-          T1'
-          L1'
-          (tie.the-claims t T1' L1')
-          (tie.handed_pre t T1' L1')
-          (tie.handed_post t T1' L1')
-          (tie.handed_clauses t T1' L1')
+          Value
+          ValueLaws
+          (tie.the-claims t Value ValueLaws)
+          (tie.handed_pre t Value ValueLaws)
+          (tie.handed_post t Value ValueLaws)
+          (tie.handed_clauses t Value ValueLaws)
           c.before.before.before).2.1,
     ),
     grind (Omega.arith, Grind.common_steps) steps 2000000,
@@ -76,35 +76,35 @@ module _ (t : Nat.ℕ) (T1' : RattleType.RattleType) (L1' : Laws.Laws T1') where
       TheTie.below-Node
           _
           (lts.raw_of-After-self
-          T1'
-          L1'
-          (tie.the-claims t T1' L1')
-          (tie.handed_pre t T1' L1')
-          (tie.handed_post t T1' L1')
-          (tie.handed_clauses t T1' L1')
+          Value
+          ValueLaws
+          (tie.the-claims t Value ValueLaws)
+          (tie.handed_pre t Value ValueLaws)
+          (tie.handed_post t Value ValueLaws)
+          (tie.handed_clauses t Value ValueLaws)
           c.before.before.before).1
           (lts.raw_of-After-self
-          T1'
-          L1'
-          (tie.the-claims t T1' L1')
-          (tie.handed_pre t T1' L1')
-          (tie.handed_post t T1' L1')
-          (tie.handed_clauses t T1' L1')
+          Value
+          ValueLaws
+          (tie.the-claims t Value ValueLaws)
+          (tie.handed_pre t Value ValueLaws)
+          (tie.handed_post t Value ValueLaws)
+          (tie.handed_clauses t Value ValueLaws)
           c.before.before.before).2.1,
       Grind.common_steps,
     ),
     grind (Omega.arith, Grind.common_steps) steps 4000000,
   )
 
-  pub returns-in_default : tie.Need-returns t T1' L1'
+  pub returns-in_default : tie.Need-returns t Value ValueLaws
   returns-in_default =
       Goals.the-fit-returns-in_default t
-      T1'
-      L1'
-      (Answers.returns-in_default t (Given.the-over T1' L1'))
+      Value
+      ValueLaws
+      (Answers.returns-in_default t (Given.the-over Value ValueLaws))
 
   split_first-requires-text-text :
-      let W : Type 0 = tie.Need-split_first-requires t T1' L1' in
+      let W : Type 0 = tie.Need-split_first-requires t Value ValueLaws in
       (c : Past.Binder W Path'.refl) →
       let B : Type 0 = (κs : _) →
       _ in
@@ -118,20 +118,20 @@ module _ (t : Nat.ℕ) (T1' : RattleType.RattleType) (L1' : Laws.Laws T1') where
       TheTie.below-Node
           _
           (lts.raw_of-After-self
-          T1'
-          L1'
-          (tie.the-claims t T1' L1')
-          (tie.handed_pre t T1' L1')
-          (tie.handed_post t T1' L1')
-          (tie.handed_clauses t T1' L1')
+          Value
+          ValueLaws
+          (tie.the-claims t Value ValueLaws)
+          (tie.handed_pre t Value ValueLaws)
+          (tie.handed_post t Value ValueLaws)
+          (tie.handed_clauses t Value ValueLaws)
           c.before).1
           (lts.raw_of-After-self
-          T1'
-          L1'
-          (tie.the-claims t T1' L1')
-          (tie.handed_pre t T1' L1')
-          (tie.handed_post t T1' L1')
-          (tie.handed_clauses t T1' L1')
+          Value
+          ValueLaws
+          (tie.the-claims t Value ValueLaws)
+          (tie.handed_pre t Value ValueLaws)
+          (tie.handed_post t Value ValueLaws)
+          (tie.handed_clauses t Value ValueLaws)
           c.before).2.1,
     ),
     grind (Omega.arith, Grind.common_steps) steps 2000000,
@@ -143,31 +143,31 @@ module _ (t : Nat.ℕ) (T1' : RattleType.RattleType) (L1' : Laws.Laws T1') where
       TheTie.below-Node
           _
           (lts.raw_of-After-self
-          T1'
-          L1'
-          (tie.the-claims t T1' L1')
-          (tie.handed_pre t T1' L1')
-          (tie.handed_post t T1' L1')
-          (tie.handed_clauses t T1' L1')
+          Value
+          ValueLaws
+          (tie.the-claims t Value ValueLaws)
+          (tie.handed_pre t Value ValueLaws)
+          (tie.handed_post t Value ValueLaws)
+          (tie.handed_clauses t Value ValueLaws)
           c.before).1
           (lts.raw_of-After-self
-          T1'
-          L1'
-          (tie.the-claims t T1' L1')
-          (tie.handed_pre t T1' L1')
-          (tie.handed_post t T1' L1')
-          (tie.handed_clauses t T1' L1')
+          Value
+          ValueLaws
+          (tie.the-claims t Value ValueLaws)
+          (tie.handed_pre t Value ValueLaws)
+          (tie.handed_post t Value ValueLaws)
+          (tie.handed_clauses t Value ValueLaws)
           c.before).2.1,
       Grind.common_steps,
     ),
     grind (Omega.arith, Grind.common_steps) steps 4000000,
   )
 
-  pub split_first-requires : tie.Need-split_first-requires t T1' L1'
+  pub split_first-requires : tie.Need-split_first-requires t Value ValueLaws
   split_first-requires c κs = ((split_first-requires-text-text c κs, tt), _)
 
   get_mut-requires-text-key :
-      let W : Type 0 = tie.Need-get_mut-requires t T1' L1' in
+      let W : Type 0 = tie.Need-get_mut-requires t Value ValueLaws in
       (c : Past.Binder W Path'.refl) →
       let B : Type 0 = (κs : _) →
       (within : _) →
@@ -182,20 +182,20 @@ module _ (t : Nat.ℕ) (T1' : RattleType.RattleType) (L1' : Laws.Laws T1') where
       TheTie.below-Node
           _
           (lts.raw_of-After-self
-          T1'
-          L1'
-          (tie.the-claims t T1' L1')
-          (tie.handed_pre t T1' L1')
-          (tie.handed_post t T1' L1')
-          (tie.handed_clauses t T1' L1')
+          Value
+          ValueLaws
+          (tie.the-claims t Value ValueLaws)
+          (tie.handed_pre t Value ValueLaws)
+          (tie.handed_post t Value ValueLaws)
+          (tie.handed_clauses t Value ValueLaws)
           c.before.before.before.before.before).1
           (lts.raw_of-After-self
-          T1'
-          L1'
-          (tie.the-claims t T1' L1')
-          (tie.handed_pre t T1' L1')
-          (tie.handed_post t T1' L1')
-          (tie.handed_clauses t T1' L1')
+          Value
+          ValueLaws
+          (tie.the-claims t Value ValueLaws)
+          (tie.handed_pre t Value ValueLaws)
+          (tie.handed_post t Value ValueLaws)
+          (tie.handed_clauses t Value ValueLaws)
           c.before.before.before.before.before).2.1,
     ),
     grind (Omega.arith, Grind.common_steps) steps 2000000,
@@ -207,20 +207,20 @@ module _ (t : Nat.ℕ) (T1' : RattleType.RattleType) (L1' : Laws.Laws T1') where
       TheTie.below-Node
           _
           (lts.raw_of-After-self
-          T1'
-          L1'
-          (tie.the-claims t T1' L1')
-          (tie.handed_pre t T1' L1')
-          (tie.handed_post t T1' L1')
-          (tie.handed_clauses t T1' L1')
+          Value
+          ValueLaws
+          (tie.the-claims t Value ValueLaws)
+          (tie.handed_pre t Value ValueLaws)
+          (tie.handed_post t Value ValueLaws)
+          (tie.handed_clauses t Value ValueLaws)
           c.before.before.before.before.before).1
           (lts.raw_of-After-self
-          T1'
-          L1'
-          (tie.the-claims t T1' L1')
-          (tie.handed_pre t T1' L1')
-          (tie.handed_post t T1' L1')
-          (tie.handed_clauses t T1' L1')
+          Value
+          ValueLaws
+          (tie.the-claims t Value ValueLaws)
+          (tie.handed_pre t Value ValueLaws)
+          (tie.handed_post t Value ValueLaws)
+          (tie.handed_clauses t Value ValueLaws)
           c.before.before.before.before.before).2.1,
       Grind.common_steps,
     ),
@@ -229,18 +229,18 @@ module _ (t : Nat.ℕ) (T1' : RattleType.RattleType) (L1' : Laws.Laws T1') where
 
   lives-get_mut-requires :
       (κs : Lifetimes.Lfts 5) →
-      BorrowLft.◌⊑◌ κs.1.1.0 T1'.lives →
+      BorrowLft.◌⊑◌ κs.1.1.0 Value.lives →
       BorrowLft.◌⊑◌ κs.1.0 Common.[] ×
-      (BorrowLft.◌⊑◌ κs.1.1.0 (Node.the_row (Param.param 0 T1')).lives ×
+      (BorrowLft.◌⊑◌ κs.1.1.0 (Node.the_row (Param.param 0 Value)).lives ×
       (BorrowLft.◌⊑◌ κs.1.1.1.0 Common.[] ×
       (BorrowLft.◌⊑◌ κs.1.1.1.1.0 (List.◌++◌ κs.1.1.1.1.0 Common.[]) × Unit {0})))
   lives-get_mut-requires = λ κs h. (
     BorrowLft.⊑_static κs.1.0,
     (
       TheLaws.the_within
-          (Param.param 0 T1')
+          (Param.param 0 Value)
           κs.1.1.0
-          (BorrowLft.⊑_trans κs.1.1.0 κs.1.1.0 T1'.lives (BorrowLft.⊑_refl κs.1.1.0) h),
+          (BorrowLft.⊑_trans κs.1.1.0 κs.1.1.0 Value.lives (BorrowLft.⊑_refl κs.1.1.0) h),
       (
         BorrowLft.⊑_static κs.1.1.1.0,
         (
@@ -256,7 +256,7 @@ module _ (t : Nat.ℕ) (T1' : RattleType.RattleType) (L1' : Laws.Laws T1') where
     ),
   )
 
-  pub get_mut-requires : tie.Need-get_mut-requires t T1' L1'
+  pub get_mut-requires : tie.Need-get_mut-requires t Value ValueLaws
   get_mut-requires c κs within = (
     (tt, (get_mut-requires-text-key c κs within, tt)),
     (
@@ -268,15 +268,15 @@ module _ (t : Nat.ℕ) (T1' : RattleType.RattleType) (L1' : Laws.Laws T1') where
     ),
   )
 
-  pub part_some-self : tie.Need-part_some-self t T1' L1'
+  pub part_some-self : tie.Need-part_some-self t Value ValueLaws
   part_some-self c =
       let h = (lts.walk_of-After-known_told
-      T1'
-      L1'
-      (tie.the-claims t T1' L1')
-      (tie.handed_pre t T1' L1')
-      (tie.handed_post t T1' L1')
-      (tie.handed_clauses t T1' L1')
+      Value
+      ValueLaws
+      (tie.the-claims t Value ValueLaws)
+      (tie.handed_pre t Value ValueLaws)
+      (tie.handed_post t Value ValueLaws)
+      (tie.handed_clauses t Value ValueLaws)
       c).self-in-Some-get_mut-1.ensures-named in
       first_of (
         search (
@@ -286,20 +286,20 @@ module _ (t : Nat.ℕ) (T1' : RattleType.RattleType) (L1' : Laws.Laws T1') where
           TheTie.below-Node
               _
               (lts.raw_of-After-self
-              T1'
-              L1'
-              (tie.the-claims t T1' L1')
-              (tie.handed_pre t T1' L1')
-              (tie.handed_post t T1' L1')
-              (tie.handed_clauses t T1' L1')
+              Value
+              ValueLaws
+              (tie.the-claims t Value ValueLaws)
+              (tie.handed_pre t Value ValueLaws)
+              (tie.handed_post t Value ValueLaws)
+              (tie.handed_clauses t Value ValueLaws)
               c.before.before.before.before.before.before.before).1
               (lts.raw_of-After-self
-              T1'
-              L1'
-              (tie.the-claims t T1' L1')
-              (tie.handed_pre t T1' L1')
-              (tie.handed_post t T1' L1')
-              (tie.handed_clauses t T1' L1')
+              Value
+              ValueLaws
+              (tie.the-claims t Value ValueLaws)
+              (tie.handed_pre t Value ValueLaws)
+              (tie.handed_post t Value ValueLaws)
+              (tie.handed_clauses t Value ValueLaws)
               c.before.before.before.before.before.before.before).2.1,
         ),
         grind (Omega.arith, Grind.common_steps) steps 2000000,
@@ -313,20 +313,20 @@ module _ (t : Nat.ℕ) (T1' : RattleType.RattleType) (L1' : Laws.Laws T1') where
           TheTie.below-Node
               _
               (lts.raw_of-After-self
-              T1'
-              L1'
-              (tie.the-claims t T1' L1')
-              (tie.handed_pre t T1' L1')
-              (tie.handed_post t T1' L1')
-              (tie.handed_clauses t T1' L1')
+              Value
+              ValueLaws
+              (tie.the-claims t Value ValueLaws)
+              (tie.handed_pre t Value ValueLaws)
+              (tie.handed_post t Value ValueLaws)
+              (tie.handed_clauses t Value ValueLaws)
               c.before.before.before.before.before.before.before).1
               (lts.raw_of-After-self
-              T1'
-              L1'
-              (tie.the-claims t T1' L1')
-              (tie.handed_pre t T1' L1')
-              (tie.handed_post t T1' L1')
-              (tie.handed_clauses t T1' L1')
+              Value
+              ValueLaws
+              (tie.the-claims t Value ValueLaws)
+              (tie.handed_pre t Value ValueLaws)
+              (tie.handed_post t Value ValueLaws)
+              (tie.handed_clauses t Value ValueLaws)
               c.before.before.before.before.before.before.before).2.1,
           Grind.common_steps,
         ),
@@ -336,36 +336,36 @@ module _ (t : Nat.ℕ) (T1' : RattleType.RattleType) (L1' : Laws.Laws T1') where
 
   lives-get_next-requires :
       (κs : Lifetimes.Lfts 3) →
-      BorrowLft.◌⊑◌ κs.1.1.0 T1'.lives →
-      BorrowLft.◌⊑◌ κs.1.1.0 T1'.lives ×
+      BorrowLft.◌⊑◌ κs.1.1.0 Value.lives →
+      BorrowLft.◌⊑◌ κs.1.1.0 Value.lives ×
       Unit {0}
   lives-get_next-requires = λ κs h. (
-    BorrowLft.⊑_trans κs.1.1.0 κs.1.1.0 T1'.lives (BorrowLft.⊑_refl κs.1.1.0) h,
+    BorrowLft.⊑_trans κs.1.1.0 κs.1.1.0 Value.lives (BorrowLft.⊑_refl κs.1.1.0) h,
     tt,
   )
 
-  pub get_next-requires : tie.Need-get_next-requires t T1' L1'
+  pub get_next-requires : tie.Need-get_next-requires t Value ValueLaws
   get_next-requires c κs within = (
     (lives-get_next-requires κs within).0,
     low_below c.args.key c.in-Some.key c.split_first.result.0.now c.split_first.result.1 t c.requires c.in-Some.is c.split_first.ensures,
   )
 
-  pub invariant_of-self-lent-in-Some-get_mut : tie.Need-close_late_if-self-2 t T1' L1'
+  pub invariant_of-self-lent-in-Some-get_mut : tie.Need-close_late_if-self-2 t Value ValueLaws
   invariant_of-self-lent-in-Some-get_mut =
       Goals.the-fit-invariant_of-self-lent-in-Some-get_mut t
-      T1'
-      L1'
-      (Answers.invariant_of-self-lent-in-Some-get_mut t (Given.the-over T1' L1'))
+      Value
+      ValueLaws
+      (Answers.invariant_of-self-lent-in-Some-get_mut t (Given.the-over Value ValueLaws))
 
-  pub part_none-self : tie.Need-part_none-self t T1' L1'
+  pub part_none-self : tie.Need-part_none-self t Value ValueLaws
   part_none-self c =
       let h = (lts.walk_of-After-enum_told
-      T1'
-      L1'
-      (tie.the-claims t T1' L1')
-      (tie.handed_pre t T1' L1')
-      (tie.handed_post t T1' L1')
-      (tie.handed_clauses t T1' L1')
+      Value
+      ValueLaws
+      (tie.the-claims t Value ValueLaws)
+      (tie.handed_pre t Value ValueLaws)
+      (tie.handed_post t Value ValueLaws)
+      (tie.handed_clauses t Value ValueLaws)
       c).in-None-1.ensures in
       first_of (
         search (
@@ -375,20 +375,20 @@ module _ (t : Nat.ℕ) (T1' : RattleType.RattleType) (L1' : Laws.Laws T1') where
           TheTie.below-Node
               _
               (lts.raw_of-After-self
-              T1'
-              L1'
-              (tie.the-claims t T1' L1')
-              (tie.handed_pre t T1' L1')
-              (tie.handed_post t T1' L1')
-              (tie.handed_clauses t T1' L1')
+              Value
+              ValueLaws
+              (tie.the-claims t Value ValueLaws)
+              (tie.handed_pre t Value ValueLaws)
+              (tie.handed_post t Value ValueLaws)
+              (tie.handed_clauses t Value ValueLaws)
               c.before.before.before.before.before.before.before).1
               (lts.raw_of-After-self
-              T1'
-              L1'
-              (tie.the-claims t T1' L1')
-              (tie.handed_pre t T1' L1')
-              (tie.handed_post t T1' L1')
-              (tie.handed_clauses t T1' L1')
+              Value
+              ValueLaws
+              (tie.the-claims t Value ValueLaws)
+              (tie.handed_pre t Value ValueLaws)
+              (tie.handed_post t Value ValueLaws)
+              (tie.handed_clauses t Value ValueLaws)
               c.before.before.before.before.before.before.before).2.1,
         ),
         grind (Omega.arith, Grind.common_steps) steps 2000000,
@@ -402,20 +402,20 @@ module _ (t : Nat.ℕ) (T1' : RattleType.RattleType) (L1' : Laws.Laws T1') where
           TheTie.below-Node
               _
               (lts.raw_of-After-self
-              T1'
-              L1'
-              (tie.the-claims t T1' L1')
-              (tie.handed_pre t T1' L1')
-              (tie.handed_post t T1' L1')
-              (tie.handed_clauses t T1' L1')
+              Value
+              ValueLaws
+              (tie.the-claims t Value ValueLaws)
+              (tie.handed_pre t Value ValueLaws)
+              (tie.handed_post t Value ValueLaws)
+              (tie.handed_clauses t Value ValueLaws)
               c.before.before.before.before.before.before.before).1
               (lts.raw_of-After-self
-              T1'
-              L1'
-              (tie.the-claims t T1' L1')
-              (tie.handed_pre t T1' L1')
-              (tie.handed_post t T1' L1')
-              (tie.handed_clauses t T1' L1')
+              Value
+              ValueLaws
+              (tie.the-claims t Value ValueLaws)
+              (tie.handed_pre t Value ValueLaws)
+              (tie.handed_post t Value ValueLaws)
+              (tie.handed_clauses t Value ValueLaws)
               c.before.before.before.before.before.before.before).2.1,
           Grind.common_steps,
         ),
@@ -423,15 +423,15 @@ module _ (t : Nat.ℕ) (T1' : RattleType.RattleType) (L1' : Laws.Laws T1') where
         grind (Omega.arith, Grind.common_steps) steps 4000000,
       )
 
-  pub followed-self-in-None : tie.Need-followed-self t T1' L1'
+  pub followed-self-in-None : tie.Need-followed-self t Value ValueLaws
   followed-self-in-None c =
       let h = (lts.walk_of-After-enum_told
-      T1'
-      L1'
-      (tie.the-claims t T1' L1')
-      (tie.handed_pre t T1' L1')
-      (tie.handed_post t T1' L1')
-      (tie.handed_clauses t T1' L1')
+      Value
+      ValueLaws
+      (tie.the-claims t Value ValueLaws)
+      (tie.handed_pre t Value ValueLaws)
+      (tie.handed_post t Value ValueLaws)
+      (tie.handed_clauses t Value ValueLaws)
       c.before.before).in-None-1.ensures in
       first_of (
         search (
@@ -442,20 +442,20 @@ module _ (t : Nat.ℕ) (T1' : RattleType.RattleType) (L1' : Laws.Laws T1') where
           TheTie.below-Node
               _
               (lts.raw_of-After-self
-              T1'
-              L1'
-              (tie.the-claims t T1' L1')
-              (tie.handed_pre t T1' L1')
-              (tie.handed_post t T1' L1')
-              (tie.handed_clauses t T1' L1')
+              Value
+              ValueLaws
+              (tie.the-claims t Value ValueLaws)
+              (tie.handed_pre t Value ValueLaws)
+              (tie.handed_post t Value ValueLaws)
+              (tie.handed_clauses t Value ValueLaws)
               c.before.before.before.before.before.before.before.before.before).1
               (lts.raw_of-After-self
-              T1'
-              L1'
-              (tie.the-claims t T1' L1')
-              (tie.handed_pre t T1' L1')
-              (tie.handed_post t T1' L1')
-              (tie.handed_clauses t T1' L1')
+              Value
+              ValueLaws
+              (tie.the-claims t Value ValueLaws)
+              (tie.handed_pre t Value ValueLaws)
+              (tie.handed_post t Value ValueLaws)
+              (tie.handed_clauses t Value ValueLaws)
               c.before.before.before.before.before.before.before.before.before).2.1,
         ),
         grind (Omega.arith, Grind.common_steps) steps 2000000,
@@ -470,20 +470,20 @@ module _ (t : Nat.ℕ) (T1' : RattleType.RattleType) (L1' : Laws.Laws T1') where
           TheTie.below-Node
               _
               (lts.raw_of-After-self
-              T1'
-              L1'
-              (tie.the-claims t T1' L1')
-              (tie.handed_pre t T1' L1')
-              (tie.handed_post t T1' L1')
-              (tie.handed_clauses t T1' L1')
+              Value
+              ValueLaws
+              (tie.the-claims t Value ValueLaws)
+              (tie.handed_pre t Value ValueLaws)
+              (tie.handed_post t Value ValueLaws)
+              (tie.handed_clauses t Value ValueLaws)
               c.before.before.before.before.before.before.before.before.before).1
               (lts.raw_of-After-self
-              T1'
-              L1'
-              (tie.the-claims t T1' L1')
-              (tie.handed_pre t T1' L1')
-              (tie.handed_post t T1' L1')
-              (tie.handed_clauses t T1' L1')
+              Value
+              ValueLaws
+              (tie.the-claims t Value ValueLaws)
+              (tie.handed_pre t Value ValueLaws)
+              (tie.handed_post t Value ValueLaws)
+              (tie.handed_clauses t Value ValueLaws)
               c.before.before.before.before.before.before.before.before.before).2.1,
           Grind.common_steps,
         ),
@@ -491,15 +491,15 @@ module _ (t : Nat.ℕ) (T1' : RattleType.RattleType) (L1' : Laws.Laws T1') where
         grind (Omega.arith, Grind.common_steps) steps 4000000,
       )
 
-  pub invariant_of-self : tie.Need-close_late_said-self t T1' L1'
+  pub invariant_of-self : tie.Need-close_late_said-self t Value ValueLaws
   invariant_of-self c =
       let h = (lts.walk_of-After-enum_told
-      T1'
-      L1'
-      (tie.the-claims t T1' L1')
-      (tie.handed_pre t T1' L1')
-      (tie.handed_post t T1' L1')
-      (tie.handed_clauses t T1' L1')
+      Value
+      ValueLaws
+      (tie.the-claims t Value ValueLaws)
+      (tie.handed_pre t Value ValueLaws)
+      (tie.handed_post t Value ValueLaws)
+      (tie.handed_clauses t Value ValueLaws)
       c.before.before.before).in-None-1.ensures in
       first_of (
         search (
@@ -509,20 +509,20 @@ module _ (t : Nat.ℕ) (T1' : RattleType.RattleType) (L1' : Laws.Laws T1') where
           TheTie.below-Node
               _
               (lts.raw_of-After-self
-              T1'
-              L1'
-              (tie.the-claims t T1' L1')
-              (tie.handed_pre t T1' L1')
-              (tie.handed_post t T1' L1')
-              (tie.handed_clauses t T1' L1')
+              Value
+              ValueLaws
+              (tie.the-claims t Value ValueLaws)
+              (tie.handed_pre t Value ValueLaws)
+              (tie.handed_post t Value ValueLaws)
+              (tie.handed_clauses t Value ValueLaws)
               (c.before.before.before.before.before.before.before.before.before).before).1
               (lts.raw_of-After-self
-              T1'
-              L1'
-              (tie.the-claims t T1' L1')
-              (tie.handed_pre t T1' L1')
-              (tie.handed_post t T1' L1')
-              (tie.handed_clauses t T1' L1')
+              Value
+              ValueLaws
+              (tie.the-claims t Value ValueLaws)
+              (tie.handed_pre t Value ValueLaws)
+              (tie.handed_post t Value ValueLaws)
+              (tie.handed_clauses t Value ValueLaws)
               (c.before.before.before.before.before.before.before.before.before).before).2.1,
         ),
         grind (Omega.arith, Grind.common_steps) steps 2000000,
@@ -536,20 +536,20 @@ module _ (t : Nat.ℕ) (T1' : RattleType.RattleType) (L1' : Laws.Laws T1') where
           TheTie.below-Node
               _
               (lts.raw_of-After-self
-              T1'
-              L1'
-              (tie.the-claims t T1' L1')
-              (tie.handed_pre t T1' L1')
-              (tie.handed_post t T1' L1')
-              (tie.handed_clauses t T1' L1')
+              Value
+              ValueLaws
+              (tie.the-claims t Value ValueLaws)
+              (tie.handed_pre t Value ValueLaws)
+              (tie.handed_post t Value ValueLaws)
+              (tie.handed_clauses t Value ValueLaws)
               (c.before.before.before.before.before.before.before.before.before).before).1
               (lts.raw_of-After-self
-              T1'
-              L1'
-              (tie.the-claims t T1' L1')
-              (tie.handed_pre t T1' L1')
-              (tie.handed_post t T1' L1')
-              (tie.handed_clauses t T1' L1')
+              Value
+              ValueLaws
+              (tie.the-claims t Value ValueLaws)
+              (tie.handed_pre t Value ValueLaws)
+              (tie.handed_post t Value ValueLaws)
+              (tie.handed_clauses t Value ValueLaws)
               (c.before.before.before.before.before.before.before.before.before).before).2.1,
           Grind.common_steps,
         ),
@@ -557,13 +557,13 @@ module _ (t : Nat.ℕ) (T1' : RattleType.RattleType) (L1' : Laws.Laws T1') where
         grind (Omega.arith, Grind.common_steps) steps 4000000,
       )
 
-  pub returns-in-Some-get_mut : tie.Need-returns-2 t T1' L1'
+  pub returns-in-Some-get_mut : tie.Need-returns-2 t Value ValueLaws
   returns-in-Some-get_mut =
       Goals.the-fit-returns-in-Some-get_mut t
-      T1'
-      L1'
-      (Answers.returns-in-Some-get_mut t (Given.the-over T1' L1'))
+      Value
+      ValueLaws
+      (Answers.returns-in-Some-get_mut t (Given.the-over Value ValueLaws))
 
-  pub returns-in-None : tie.Need-returns-3 t T1' L1'
+  pub returns-in-None : tie.Need-returns-3 t Value ValueLaws
   returns-in-None =
-      Goals.the-fit-returns-in-None t T1' L1' (Answers.returns-in-None t (Given.the-over T1' L1'))
+      Goals.the-fit-returns-in-None t Value ValueLaws (Answers.returns-in-None t (Given.the-over Value ValueLaws))

@@ -70,87 +70,87 @@ use prog.Wired
 use seplogic.Ra.Ura
 use types.Logic
 
-module _ (t : Nat.ℕ) (T1' : RattleType.RattleType) (L1' : Laws.Laws T1') where
+module _ (t : Nat.ℕ) (Value : RattleType.RattleType) (ValueLaws : Laws.Laws Value) where
   abbrev pub ghosts-2-0-0-0 :
       (κs : Lifetimes.Lfts 5) →
-      let T = Lts.impl_arg-2-0 T1' L1' κs in
+      let T = Lts.impl_arg-2-0 Value ValueLaws κs in
       Ord.Ghosts (String'.String T.Denot)
-  ghosts-2-0-0-0 = λ κs. TheImpl''.ghosts (Lts.impl_arg-2-0 T1' L1' κs) TheImpl'6.ghosts TheImpl'6.dict (Syntax.impl (List.◌∷◌ "mq_tree::Destruct++none::drop" List.[])
-      (Syntax.tcons (Param.layout (Lts.impl_arg-2-1 T1' L1' κs)) Syntax.tnil) Syntax.dnil)
+  ghosts-2-0-0-0 = λ κs. TheImpl''.ghosts (Lts.impl_arg-2-0 Value ValueLaws κs) TheImpl'6.ghosts TheImpl'6.dict (Syntax.impl (List.◌∷◌ "mq_tree::Destruct++none::drop" List.[])
+      (Syntax.tcons (Param.layout (Lts.impl_arg-2-1 Value ValueLaws κs)) Syntax.tnil) Syntax.dnil)
 
   abbrev pub dict-2-0-0-0 : (κs : Lifetimes.Lfts 5) → Syntax.Dict
-  dict-2-0-0-0 = λ κs. TheImpl''.dict (Lts.impl_arg-2-0 T1' L1' κs) TheImpl'6.ghosts TheImpl'6.dict (Syntax.impl (List.◌∷◌ "mq_tree::Destruct++none::drop" List.[])
-      (Syntax.tcons (Param.layout (Lts.impl_arg-2-1 T1' L1' κs)) Syntax.tnil) Syntax.dnil)
+  dict-2-0-0-0 = λ κs. TheImpl''.dict (Lts.impl_arg-2-0 Value ValueLaws κs) TheImpl'6.ghosts TheImpl'6.dict (Syntax.impl (List.◌∷◌ "mq_tree::Destruct++none::drop" List.[])
+      (Syntax.tcons (Param.layout (Lts.impl_arg-2-1 Value ValueLaws κs)) Syntax.tnil) Syntax.dnil)
 
   abbrev pub ghosts-2-0-2-1 :
       (κs : Lifetimes.Lfts 5) →
-      let T = Lts.impl_arg-2-2 T1' L1' κs in
+      let T = Lts.impl_arg-2-2 Value ValueLaws κs in
       Eq.Ghosts (String'.String T.Denot)
-  ghosts-2-0-2-1 = λ κs. TheImpl'.ghosts (Lts.impl_arg-2-2 T1' L1' κs) TheImpl'6.ghosts TheImpl'6.dict (Syntax.impl (List.◌∷◌ "mq_tree::Destruct++none::drop" List.[])
-      (Syntax.tcons (Param.layout (Lts.impl_arg-2-3 T1' L1' κs)) Syntax.tnil) Syntax.dnil)
+  ghosts-2-0-2-1 = λ κs. TheImpl'.ghosts (Lts.impl_arg-2-2 Value ValueLaws κs) TheImpl'6.ghosts TheImpl'6.dict (Syntax.impl (List.◌∷◌ "mq_tree::Destruct++none::drop" List.[])
+      (Syntax.tcons (Param.layout (Lts.impl_arg-2-3 Value ValueLaws κs)) Syntax.tnil) Syntax.dnil)
 
   abbrev pub dict-2-0-2-1 : (κs : Lifetimes.Lfts 5) → Syntax.Dict
-  dict-2-0-2-1 = λ κs. TheImpl'.dict (Lts.impl_arg-2-2 T1' L1' κs) TheImpl'6.ghosts TheImpl'6.dict (Syntax.impl (List.◌∷◌ "mq_tree::Destruct++none::drop" List.[])
-      (Syntax.tcons (Param.layout (Lts.impl_arg-2-3 T1' L1' κs)) Syntax.tnil) Syntax.dnil)
+  dict-2-0-2-1 = λ κs. TheImpl'.dict (Lts.impl_arg-2-2 Value ValueLaws κs) TheImpl'6.ghosts TheImpl'6.dict (Syntax.impl (List.◌∷◌ "mq_tree::Destruct++none::drop" List.[])
+      (Syntax.tcons (Param.layout (Lts.impl_arg-2-3 Value ValueLaws κs)) Syntax.tnil) Syntax.dnil)
 
   abbrev pub ghosts-2-0-4-2 :
       (κs : Lifetimes.Lfts 5) →
-      let T = Lts.impl_arg-2-4 T1' L1' κs in
+      let T = Lts.impl_arg-2-4 Value ValueLaws κs in
       PartialEq.Ghosts (String'.String T.Denot)
-  ghosts-2-0-4-2 = λ κs. TheImpl'3.ghosts (Lts.impl_arg-2-4 T1' L1' κs) TheImpl'6.ghosts TheImpl'6.dict (Syntax.impl (List.◌∷◌ "mq_tree::Destruct++none::drop" List.[])
-      (Syntax.tcons (Param.layout (Lts.impl_arg-2-5 T1' L1' κs)) Syntax.tnil) Syntax.dnil)
+  ghosts-2-0-4-2 = λ κs. TheImpl'3.ghosts (Lts.impl_arg-2-4 Value ValueLaws κs) TheImpl'6.ghosts TheImpl'6.dict (Syntax.impl (List.◌∷◌ "mq_tree::Destruct++none::drop" List.[])
+      (Syntax.tcons (Param.layout (Lts.impl_arg-2-5 Value ValueLaws κs)) Syntax.tnil) Syntax.dnil)
 
   abbrev pub dict-2-0-4-2 : (κs : Lifetimes.Lfts 5) → Syntax.Dict
-  dict-2-0-4-2 = λ κs. TheImpl'3.dict (Lts.impl_arg-2-4 T1' L1' κs) TheImpl'6.ghosts TheImpl'6.dict (Syntax.impl (List.◌∷◌ "mq_tree::Destruct++none::drop" List.[])
-      (Syntax.tcons (Param.layout (Lts.impl_arg-2-5 T1' L1' κs)) Syntax.tnil) Syntax.dnil)
+  dict-2-0-4-2 = λ κs. TheImpl'3.dict (Lts.impl_arg-2-4 Value ValueLaws κs) TheImpl'6.ghosts TheImpl'6.dict (Syntax.impl (List.◌∷◌ "mq_tree::Destruct++none::drop" List.[])
+      (Syntax.tcons (Param.layout (Lts.impl_arg-2-5 Value ValueLaws κs)) Syntax.tnil) Syntax.dnil)
 
   abbrev pub ghosts-2-0-6-3 :
       (κs : Lifetimes.Lfts 5) →
-      let T = Lts.impl_arg-2-6 T1' L1' κs in
+      let T = Lts.impl_arg-2-6 Value ValueLaws κs in
       PartialOrd.Ghosts (String'.String T.Denot)
-  ghosts-2-0-6-3 = λ κs. TheImpl'4.ghosts (Lts.impl_arg-2-6 T1' L1' κs) TheImpl'6.ghosts TheImpl'6.dict (Syntax.impl (List.◌∷◌ "mq_tree::Destruct++none::drop" List.[])
-      (Syntax.tcons (Param.layout (Lts.impl_arg-2-7 T1' L1' κs)) Syntax.tnil) Syntax.dnil)
+  ghosts-2-0-6-3 = λ κs. TheImpl'4.ghosts (Lts.impl_arg-2-6 Value ValueLaws κs) TheImpl'6.ghosts TheImpl'6.dict (Syntax.impl (List.◌∷◌ "mq_tree::Destruct++none::drop" List.[])
+      (Syntax.tcons (Param.layout (Lts.impl_arg-2-7 Value ValueLaws κs)) Syntax.tnil) Syntax.dnil)
 
   abbrev pub dict-2-0-6-3 : (κs : Lifetimes.Lfts 5) → Syntax.Dict
-  dict-2-0-6-3 = λ κs. TheImpl'4.dict (Lts.impl_arg-2-6 T1' L1' κs) TheImpl'6.ghosts TheImpl'6.dict (Syntax.impl (List.◌∷◌ "mq_tree::Destruct++none::drop" List.[])
-      (Syntax.tcons (Param.layout (Lts.impl_arg-2-7 T1' L1' κs)) Syntax.tnil) Syntax.dnil)
+  dict-2-0-6-3 = λ κs. TheImpl'4.dict (Lts.impl_arg-2-6 Value ValueLaws κs) TheImpl'6.ghosts TheImpl'6.dict (Syntax.impl (List.◌∷◌ "mq_tree::Destruct++none::drop" List.[])
+      (Syntax.tcons (Param.layout (Lts.impl_arg-2-7 Value ValueLaws κs)) Syntax.tnil) Syntax.dnil)
 
   abbrev pub ghosts-2-0-9-6 :
       (κs : Lifetimes.Lfts 5) →
-      let T = Lts.impl_arg-2-9 T1' L1' κs in
+      let T = Lts.impl_arg-2-9 Value ValueLaws κs in
       Comparable.Ghosts (Ref.Bor (List.List (Field.u8-field).Value)) (String'.String T.Denot)
-  ghosts-2-0-9-6 = λ κs. TheImpl'5.ghosts (Lts.impl_arg-2-9 T1' L1' κs) TheImpl'6.ghosts TheImpl'6.dict (Syntax.impl (List.◌∷◌ "mq_tree::Destruct++none::drop" List.[])
-      (Syntax.tcons (Param.layout (Lts.impl_arg-2-10 T1' L1' κs)) Syntax.tnil) Syntax.dnil)
+  ghosts-2-0-9-6 = λ κs. TheImpl'5.ghosts (Lts.impl_arg-2-9 Value ValueLaws κs) TheImpl'6.ghosts TheImpl'6.dict (Syntax.impl (List.◌∷◌ "mq_tree::Destruct++none::drop" List.[])
+      (Syntax.tcons (Param.layout (Lts.impl_arg-2-10 Value ValueLaws κs)) Syntax.tnil) Syntax.dnil)
 
   abbrev pub dict-2-0-9-6 : (κs : Lifetimes.Lfts 5) → Syntax.Dict
-  dict-2-0-9-6 = λ κs. TheImpl'5.dict (Lts.impl_arg-2-9 T1' L1' κs) TheImpl'6.ghosts TheImpl'6.dict (Syntax.impl (List.◌∷◌ "mq_tree::Destruct++none::drop" List.[])
-      (Syntax.tcons (Param.layout (Lts.impl_arg-2-10 T1' L1' κs)) Syntax.tnil) Syntax.dnil)
+  dict-2-0-9-6 = λ κs. TheImpl'5.dict (Lts.impl_arg-2-9 Value ValueLaws κs) TheImpl'6.ghosts TheImpl'6.dict (Syntax.impl (List.◌∷◌ "mq_tree::Destruct++none::drop" List.[])
+      (Syntax.tcons (Param.layout (Lts.impl_arg-2-10 Value ValueLaws κs)) Syntax.tnil) Syntax.dnil)
 
-  abbrev pub the-claims : Lts.Claims T1' L1'
+  abbrev pub the-claims : Lts.Claims Value ValueLaws
   the-claims = (
-    λ κs a. Reads.Asked (Lts.arg-0-0 T1' L1' κs) (Lts.laws-0-0 T1' L1' κs) κs a,
-    λ κs a x e. Reads.Learnt (Lts.arg-0-0 T1' L1' κs) (Lts.laws-0-0 T1' L1' κs) κs a x e,
-    λ κs a x e. Reads.how (Lts.arg-0-0 T1' L1' κs) (Lts.laws-0-0 T1' L1' κs) κs a x e,
-    λ κs a. Such.Facts κs (Lts.ps-1 T1' L1') (Option.some (Such.is_str 0 tt), tt) a ×
+    λ κs a. Reads.Asked (Lts.arg-0-0 Value ValueLaws κs) (Lts.laws-0-0 Value ValueLaws κs) κs a,
+    λ κs a x e. Reads.Learnt (Lts.arg-0-0 Value ValueLaws κs) (Lts.laws-0-0 Value ValueLaws κs) κs a x e,
+    λ κs a x e. Reads.how (Lts.arg-0-0 Value ValueLaws κs) (Lts.laws-0-0 Value ValueLaws κs) κs a x e,
+    λ κs a. Such.Facts κs (Lts.ps-1 Value ValueLaws) (Option.some (Such.is_str 0 tt), tt) a ×
         Reads'.Asked κs a,
-    λ κs a x e. Reads'.Learnt κs a x e × Such.Holds κs (Lts.r-1 T1' L1').is.slot Option.none x,
+    λ κs a x e. Reads'.Learnt κs a x e × Such.Holds κs (Lts.r-1 Value ValueLaws).is.slot Option.none x,
     λ κs a. Such.Facts
         κs
-        (Lts.ps-2 T1' L1')
+        (Lts.ps-2 Value ValueLaws)
         (Option.none, (Option.some (Such.is_str 4 tt), tt))
         a ×
         (let claim : Kinds'.In
         5
-        (Lts.ps-2 T1' L1') = λ κs a. Reads'4.Asked
-        (Lts.arg-2-0 T1' L1' κs)
-        (Lts.arg-2-1 T1' L1' κs)
-        (Lts.arg-2-2 T1' L1' κs)
-        (Lts.arg-2-3 T1' L1' κs)
-        (Lts.laws-2-0 T1' L1' κs)
-        (Lts.laws-2-1 T1' L1' κs)
-        (Lts.laws-2-2 T1' L1' κs)
-        (Lts.laws-2-3 T1' L1' κs)
-        (Lts.copy-2-3 T1' L1' κs)
+        (Lts.ps-2 Value ValueLaws) = λ κs a. Reads'4.Asked
+        (Lts.arg-2-0 Value ValueLaws κs)
+        (Lts.arg-2-1 Value ValueLaws κs)
+        (Lts.arg-2-2 Value ValueLaws κs)
+        (Lts.arg-2-3 Value ValueLaws κs)
+        (Lts.laws-2-0 Value ValueLaws κs)
+        (Lts.laws-2-1 Value ValueLaws κs)
+        (Lts.laws-2-2 Value ValueLaws κs)
+        (Lts.laws-2-3 Value ValueLaws κs)
+        (Lts.copy-2-3 Value ValueLaws κs)
         (ghosts-2-0-0-0 κs)
         (dict-2-0-0-0 κs)
         (ghosts-2-0-2-1 κs)
@@ -163,7 +163,7 @@ module _ (t : Nat.ℕ) (T1' : RattleType.RattleType) (L1' : Laws.Laws T1') where
         TheImpl'6.dict
         (Syntax.impl
         (List.◌∷◌ "mq_tree::Destruct++none::drop" List.[])
-        (Syntax.tcons (Param.layout (Lts.impl_arg-2-8 T1' L1' κs)) Syntax.tnil)
+        (Syntax.tcons (Param.layout (Lts.impl_arg-2-8 Value ValueLaws κs)) Syntax.tnil)
         Syntax.dnil)
         (ghosts-2-0-9-6 κs)
         (dict-2-0-9-6 κs)
@@ -176,17 +176,17 @@ module _ (t : Nat.ℕ) (T1' : RattleType.RattleType) (L1' : Laws.Laws T1') where
         a,
     let claim : Kinds'.Out
         5
-        (Lts.ps-2 T1' L1')
-        (Lts.r-2 T1' L1') = λ κs a x e. Reads'4.Learnt
-        (Lts.arg-2-0 T1' L1' κs)
-        (Lts.arg-2-1 T1' L1' κs)
-        (Lts.arg-2-2 T1' L1' κs)
-        (Lts.arg-2-3 T1' L1' κs)
-        (Lts.laws-2-0 T1' L1' κs)
-        (Lts.laws-2-1 T1' L1' κs)
-        (Lts.laws-2-2 T1' L1' κs)
-        (Lts.laws-2-3 T1' L1' κs)
-        (Lts.copy-2-3 T1' L1' κs)
+        (Lts.ps-2 Value ValueLaws)
+        (Lts.r-2 Value ValueLaws) = λ κs a x e. Reads'4.Learnt
+        (Lts.arg-2-0 Value ValueLaws κs)
+        (Lts.arg-2-1 Value ValueLaws κs)
+        (Lts.arg-2-2 Value ValueLaws κs)
+        (Lts.arg-2-3 Value ValueLaws κs)
+        (Lts.laws-2-0 Value ValueLaws κs)
+        (Lts.laws-2-1 Value ValueLaws κs)
+        (Lts.laws-2-2 Value ValueLaws κs)
+        (Lts.laws-2-3 Value ValueLaws κs)
+        (Lts.copy-2-3 Value ValueLaws κs)
         (ghosts-2-0-0-0 κs)
         (dict-2-0-0-0 κs)
         (ghosts-2-0-2-1 κs)
@@ -199,7 +199,7 @@ module _ (t : Nat.ℕ) (T1' : RattleType.RattleType) (L1' : Laws.Laws T1') where
         TheImpl'6.dict
         (Syntax.impl
         (List.◌∷◌ "mq_tree::Destruct++none::drop" List.[])
-        (Syntax.tcons (Param.layout (Lts.impl_arg-2-8 T1' L1' κs)) Syntax.tnil)
+        (Syntax.tcons (Param.layout (Lts.impl_arg-2-8 Value ValueLaws κs)) Syntax.tnil)
         Syntax.dnil)
         (ghosts-2-0-9-6 κs)
         (dict-2-0-9-6 κs)
@@ -211,15 +211,15 @@ module _ (t : Nat.ℕ) (T1' : RattleType.RattleType) (L1' : Laws.Laws T1') where
         e in
         claim,
     λ κs a x e. Reads'4.how
-        (Lts.arg-2-0 T1' L1' κs)
-        (Lts.arg-2-1 T1' L1' κs)
-        (Lts.arg-2-2 T1' L1' κs)
-        (Lts.arg-2-3 T1' L1' κs)
-        (Lts.laws-2-0 T1' L1' κs)
-        (Lts.laws-2-1 T1' L1' κs)
-        (Lts.laws-2-2 T1' L1' κs)
-        (Lts.laws-2-3 T1' L1' κs)
-        (Lts.copy-2-3 T1' L1' κs)
+        (Lts.arg-2-0 Value ValueLaws κs)
+        (Lts.arg-2-1 Value ValueLaws κs)
+        (Lts.arg-2-2 Value ValueLaws κs)
+        (Lts.arg-2-3 Value ValueLaws κs)
+        (Lts.laws-2-0 Value ValueLaws κs)
+        (Lts.laws-2-1 Value ValueLaws κs)
+        (Lts.laws-2-2 Value ValueLaws κs)
+        (Lts.laws-2-3 Value ValueLaws κs)
+        (Lts.copy-2-3 Value ValueLaws κs)
         (ghosts-2-0-0-0 κs)
         (dict-2-0-0-0 κs)
         (ghosts-2-0-2-1 κs)
@@ -232,7 +232,7 @@ module _ (t : Nat.ℕ) (T1' : RattleType.RattleType) (L1' : Laws.Laws T1') where
         TheImpl'6.dict
         (Syntax.impl
         (List.◌∷◌ "mq_tree::Destruct++none::drop" List.[])
-        (Syntax.tcons (Param.layout (Lts.impl_arg-2-8 T1' L1' κs)) Syntax.tnil)
+        (Syntax.tcons (Param.layout (Lts.impl_arg-2-8 Value ValueLaws κs)) Syntax.tnil)
         Syntax.dnil)
         (ghosts-2-0-9-6 κs)
         (dict-2-0-9-6 κs)
@@ -242,180 +242,180 @@ module _ (t : Nat.ℕ) (T1' : RattleType.RattleType) (L1' : Laws.Laws T1') where
         a
         x
         e,
-    λ κs a. Own.Asked t (Lts.arg-3-0 T1' L1' κs) (Lts.laws-3-0 T1' L1' κs) κs a,
-    λ κs a x e. Reads'3.Learnt (Lts.arg-3-0 T1' L1' κs) (Lts.laws-3-0 T1' L1' κs) κs a x e,
-    λ κs a x e. Reads'3.how (Lts.arg-3-0 T1' L1' κs) (Lts.laws-3-0 T1' L1' κs) κs a x e,
+    λ κs a. Own.Asked t (Lts.arg-3-0 Value ValueLaws κs) (Lts.laws-3-0 Value ValueLaws κs) κs a,
+    λ κs a x e. Reads'3.Learnt (Lts.arg-3-0 Value ValueLaws κs) (Lts.laws-3-0 Value ValueLaws κs) κs a x e,
+    λ κs a x e. Reads'3.how (Lts.arg-3-0 Value ValueLaws κs) (Lts.laws-3-0 Value ValueLaws κs) κs a x e,
   )
 
-  abbrev pub handed_clauses : Lts.the-Clauses T1' L1' the-claims (Own.Pre t T1' L1') (Closed.Owing 3 (Kinds.whole T1' L1') (Maybe.maybe (Kinds.whole T1' L1') (Kinds.part
-      T1' L1') (Kinds.named T1' L1')) (Kinds.lender T1' L1') (Kinds.rest T1' L1') (Kinds.r T1' L1') (So.owed_so 3 (Kinds.whole T1' L1') (Kinds.part T1' L1') (Kinds.named
-      T1' L1') (Kinds.lender T1' L1') (Kinds.rest T1' L1') (Kinds.r T1' L1') (AtSlots.one_type 3 (Kinds.named T1' L1')) (Reads'3.how T1' L1')) (Reads'3.Post T1' L1'))
+  abbrev pub handed_clauses : Lts.the-Clauses Value ValueLaws the-claims (Own.Pre t Value ValueLaws) (Closed.Owing 3 (Kinds.whole Value ValueLaws) (Maybe.maybe (Kinds.whole Value ValueLaws) (Kinds.part
+      Value ValueLaws) (Kinds.named Value ValueLaws)) (Kinds.lender Value ValueLaws) (Kinds.rest Value ValueLaws) (Kinds.r Value ValueLaws) (So.owed_so 3 (Kinds.whole Value ValueLaws) (Kinds.part Value ValueLaws) (Kinds.named
+      Value ValueLaws) (Kinds.lender Value ValueLaws) (Kinds.rest Value ValueLaws) (Kinds.r Value ValueLaws) (AtSlots.one_type 3 (Kinds.named Value ValueLaws)) (Reads'3.how Value ValueLaws)) (Reads'3.Post Value ValueLaws))
   handed_clauses = record {
-    claim-own-requires = Own.Low t T1' L1' (Nat.suc t);
-    of-own-requires = Own.pre-low t T1' L1';
+    claim-own-requires = Own.Low t Value ValueLaws (Nat.suc t);
+    of-own-requires = Own.pre-low t Value ValueLaws;
     claim-0-ensures = λ κs a x e. Reads.Learnt-named
-        (Lts.arg-0-0 T1' L1' κs) (Lts.laws-0-0 T1' L1' κs) κs a x e;
-    of-0-ensures = λ κs a x e q. Reads.learnt-apart (Lts.arg-0-0 T1' L1' κs) (Lts.laws-0-0 T1' L1' κs) κs a
-        x e (Followed.besides (Reads.how (Lts.arg-0-0 T1' L1' κs) (Lts.laws-0-0 T1' L1' κs) κs a x e) (Reads.Learnt (Lts.arg-0-0 T1' L1' κs) (Lts.laws-0-0 T1' L1' κs) κs a
+        (Lts.arg-0-0 Value ValueLaws κs) (Lts.laws-0-0 Value ValueLaws κs) κs a x e;
+    of-0-ensures = λ κs a x e q. Reads.learnt-apart (Lts.arg-0-0 Value ValueLaws κs) (Lts.laws-0-0 Value ValueLaws κs) κs a
+        x e (Followed.besides (Reads.how (Lts.arg-0-0 Value ValueLaws κs) (Lts.laws-0-0 Value ValueLaws κs) κs a x e) (Reads.Learnt (Lts.arg-0-0 Value ValueLaws κs) (Lts.laws-0-0 Value ValueLaws κs) κs a
         x e) q);
     claim-1-ensures = Reads'.Learnt;
     of-1-ensures = λ κs a x e q. q.0;
-    claim-2-ensures = λ κs a x e. Reads'4.Learnt-named (Lts.arg-2-0 T1' L1' κs) (Lts.arg-2-1
-        T1' L1' κs) (Lts.arg-2-2 T1' L1' κs) (Lts.arg-2-3 T1' L1' κs) (Lts.laws-2-0 T1' L1' κs) (Lts.laws-2-1 T1' L1' κs) (Lts.laws-2-2 T1' L1' κs) (Lts.laws-2-3 T1' L1'
-        κs) (Lts.copy-2-3 T1' L1' κs) (ghosts-2-0-0-0 κs) (dict-2-0-0-0 κs) (ghosts-2-0-2-1 κs) (dict-2-0-2-1 κs) (ghosts-2-0-4-2 κs) (dict-2-0-4-2 κs) (ghosts-2-0-6-3 κs)
-        (dict-2-0-6-3 κs) TheImpl'6.ghosts TheImpl'6.dict (Syntax.impl (List.◌∷◌ "mq_tree::Destruct++none::drop" List.[]) (Syntax.tcons (Param.layout (Lts.impl_arg-2-8 T1'
-        L1' κs)) Syntax.tnil) Syntax.dnil) (ghosts-2-0-9-6 κs) (dict-2-0-9-6 κs) TheImpl.ghosts TheImpl.dict κs a x e;
+    claim-2-ensures = λ κs a x e. Reads'4.Learnt-named (Lts.arg-2-0 Value ValueLaws κs) (Lts.arg-2-1
+        Value ValueLaws κs) (Lts.arg-2-2 Value ValueLaws κs) (Lts.arg-2-3 Value ValueLaws κs) (Lts.laws-2-0 Value ValueLaws κs) (Lts.laws-2-1 Value ValueLaws κs) (Lts.laws-2-2 Value ValueLaws κs) (Lts.laws-2-3 Value ValueLaws
+        κs) (Lts.copy-2-3 Value ValueLaws κs) (ghosts-2-0-0-0 κs) (dict-2-0-0-0 κs) (ghosts-2-0-2-1 κs) (dict-2-0-2-1 κs) (ghosts-2-0-4-2 κs) (dict-2-0-4-2 κs) (ghosts-2-0-6-3 κs)
+        (dict-2-0-6-3 κs) TheImpl'6.ghosts TheImpl'6.dict (Syntax.impl (List.◌∷◌ "mq_tree::Destruct++none::drop" List.[]) (Syntax.tcons (Param.layout (Lts.impl_arg-2-8 Value
+        ValueLaws κs)) Syntax.tnil) Syntax.dnil) (ghosts-2-0-9-6 κs) (dict-2-0-9-6 κs) TheImpl.ghosts TheImpl.dict κs a x e;
     of-2-ensures = λ κs a x e q. Reads'4.learnt-apart
-        (Lts.arg-2-0 T1' L1' κs) (Lts.arg-2-1 T1' L1' κs) (Lts.arg-2-2 T1' L1' κs) (Lts.arg-2-3 T1' L1' κs) (Lts.laws-2-0 T1' L1' κs) (Lts.laws-2-1 T1' L1' κs)
-        (Lts.laws-2-2 T1' L1' κs) (Lts.laws-2-3 T1' L1' κs) (Lts.copy-2-3 T1' L1' κs) (ghosts-2-0-0-0 κs) (dict-2-0-0-0 κs) (ghosts-2-0-2-1 κs) (dict-2-0-2-1 κs)
+        (Lts.arg-2-0 Value ValueLaws κs) (Lts.arg-2-1 Value ValueLaws κs) (Lts.arg-2-2 Value ValueLaws κs) (Lts.arg-2-3 Value ValueLaws κs) (Lts.laws-2-0 Value ValueLaws κs) (Lts.laws-2-1 Value ValueLaws κs)
+        (Lts.laws-2-2 Value ValueLaws κs) (Lts.laws-2-3 Value ValueLaws κs) (Lts.copy-2-3 Value ValueLaws κs) (ghosts-2-0-0-0 κs) (dict-2-0-0-0 κs) (ghosts-2-0-2-1 κs) (dict-2-0-2-1 κs)
         (ghosts-2-0-4-2 κs) (dict-2-0-4-2 κs) (ghosts-2-0-6-3 κs) (dict-2-0-6-3 κs) TheImpl'6.ghosts TheImpl'6.dict (Syntax.impl (List.◌∷◌ "mq_tree::Destruct++none::drop"
-        List.[]) (Syntax.tcons (Param.layout (Lts.impl_arg-2-8 T1' L1' κs)) Syntax.tnil) Syntax.dnil) (ghosts-2-0-9-6 κs) (dict-2-0-9-6 κs) TheImpl.ghosts TheImpl.dict κs a
-        x e (Followed.besides (Reads'4.how (Lts.arg-2-0 T1' L1' κs) (Lts.arg-2-1 T1' L1' κs) (Lts.arg-2-2 T1' L1' κs) (Lts.arg-2-3 T1' L1' κs) (Lts.laws-2-0 T1' L1' κs)
-        (Lts.laws-2-1 T1' L1' κs) (Lts.laws-2-2 T1' L1' κs) (Lts.laws-2-3 T1' L1' κs) (Lts.copy-2-3 T1' L1' κs) (ghosts-2-0-0-0 κs) (dict-2-0-0-0 κs) (ghosts-2-0-2-1 κs)
+        List.[]) (Syntax.tcons (Param.layout (Lts.impl_arg-2-8 Value ValueLaws κs)) Syntax.tnil) Syntax.dnil) (ghosts-2-0-9-6 κs) (dict-2-0-9-6 κs) TheImpl.ghosts TheImpl.dict κs a
+        x e (Followed.besides (Reads'4.how (Lts.arg-2-0 Value ValueLaws κs) (Lts.arg-2-1 Value ValueLaws κs) (Lts.arg-2-2 Value ValueLaws κs) (Lts.arg-2-3 Value ValueLaws κs) (Lts.laws-2-0 Value ValueLaws κs)
+        (Lts.laws-2-1 Value ValueLaws κs) (Lts.laws-2-2 Value ValueLaws κs) (Lts.laws-2-3 Value ValueLaws κs) (Lts.copy-2-3 Value ValueLaws κs) (ghosts-2-0-0-0 κs) (dict-2-0-0-0 κs) (ghosts-2-0-2-1 κs)
         (dict-2-0-2-1 κs) (ghosts-2-0-4-2 κs) (dict-2-0-4-2 κs) (ghosts-2-0-6-3 κs) (dict-2-0-6-3 κs) TheImpl'6.ghosts TheImpl'6.dict (Syntax.impl (List.◌∷◌
-        "mq_tree::Destruct++none::drop" List.[]) (Syntax.tcons (Param.layout (Lts.impl_arg-2-8 T1' L1' κs)) Syntax.tnil) Syntax.dnil) (ghosts-2-0-9-6 κs) (dict-2-0-9-6 κs)
-        TheImpl.ghosts TheImpl.dict κs a x e) (Reads'4.Learnt (Lts.arg-2-0 T1' L1' κs) (Lts.arg-2-1 T1' L1' κs) (Lts.arg-2-2 T1' L1' κs) (Lts.arg-2-3 T1' L1' κs)
-        (Lts.laws-2-0 T1' L1' κs) (Lts.laws-2-1 T1' L1' κs) (Lts.laws-2-2 T1' L1' κs) (Lts.laws-2-3 T1' L1' κs) (Lts.copy-2-3 T1' L1' κs) (ghosts-2-0-0-0 κs) (dict-2-0-0-0
+        "mq_tree::Destruct++none::drop" List.[]) (Syntax.tcons (Param.layout (Lts.impl_arg-2-8 Value ValueLaws κs)) Syntax.tnil) Syntax.dnil) (ghosts-2-0-9-6 κs) (dict-2-0-9-6 κs)
+        TheImpl.ghosts TheImpl.dict κs a x e) (Reads'4.Learnt (Lts.arg-2-0 Value ValueLaws κs) (Lts.arg-2-1 Value ValueLaws κs) (Lts.arg-2-2 Value ValueLaws κs) (Lts.arg-2-3 Value ValueLaws κs)
+        (Lts.laws-2-0 Value ValueLaws κs) (Lts.laws-2-1 Value ValueLaws κs) (Lts.laws-2-2 Value ValueLaws κs) (Lts.laws-2-3 Value ValueLaws κs) (Lts.copy-2-3 Value ValueLaws κs) (ghosts-2-0-0-0 κs) (dict-2-0-0-0
         κs) (ghosts-2-0-2-1 κs) (dict-2-0-2-1 κs) (ghosts-2-0-4-2 κs) (dict-2-0-4-2 κs) (ghosts-2-0-6-3 κs) (dict-2-0-6-3 κs) TheImpl'6.ghosts TheImpl'6.dict (Syntax.impl
-        (List.◌∷◌ "mq_tree::Destruct++none::drop" List.[]) (Syntax.tcons (Param.layout (Lts.impl_arg-2-8 T1' L1' κs)) Syntax.tnil) Syntax.dnil) (ghosts-2-0-9-6 κs)
+        (List.◌∷◌ "mq_tree::Destruct++none::drop" List.[]) (Syntax.tcons (Param.layout (Lts.impl_arg-2-8 Value ValueLaws κs)) Syntax.tnil) Syntax.dnil) (ghosts-2-0-9-6 κs)
         (dict-2-0-9-6 κs) TheImpl.ghosts TheImpl.dict κs a x e) q);
-    claim-3-ensures = λ κs a x e. Reads'3.Learnt-named (Lts.arg-3-0 T1' L1' κs) (Lts.laws-3-0 T1' L1' κs) κs
+    claim-3-ensures = λ κs a x e. Reads'3.Learnt-named (Lts.arg-3-0 Value ValueLaws κs) (Lts.laws-3-0 Value ValueLaws κs) κs
         a x e;
-    of-3-ensures = λ κs a x e q. Reads'3.learnt-apart (Lts.arg-3-0 T1' L1' κs) (Lts.laws-3-0 T1' L1' κs) κs a x e (Followed.besides (Reads'3.how (Lts.arg-3-0 T1'
-        L1' κs) (Lts.laws-3-0 T1' L1' κs) κs a x e) (Reads'3.Learnt (Lts.arg-3-0 T1' L1' κs) (Lts.laws-3-0 T1' L1' κs) κs a x e) q);
+    of-3-ensures = λ κs a x e q. Reads'3.learnt-apart (Lts.arg-3-0 Value ValueLaws κs) (Lts.laws-3-0 Value ValueLaws κs) κs a x e (Followed.besides (Reads'3.how (Lts.arg-3-0 Value
+        ValueLaws κs) (Lts.laws-3-0 Value ValueLaws κs) κs a x e) (Reads'3.Learnt (Lts.arg-3-0 Value ValueLaws κs) (Lts.laws-3-0 Value ValueLaws κs) κs a x e) q);
     claim-own-asked = Closed.Owing 3
-        (Kinds.whole T1' L1') (Maybe.maybe (Kinds.whole T1' L1') (Kinds.part T1' L1') (Kinds.named T1' L1')) (Kinds.lender T1' L1') (Kinds.rest T1' L1') (Kinds.r T1' L1')
-        (So.owed_so 3 (Kinds.whole T1' L1') (Kinds.part T1' L1') (Kinds.named T1' L1') (Kinds.lender T1' L1') (Kinds.rest T1' L1') (Kinds.r T1' L1') (AtSlots.one_type 3
-        (Kinds.named T1' L1')) (Reads'3.how T1' L1')) (Reads'3.Post-named T1' L1');
-    of-own-asked = Closed.Owing-along 3 (Kinds.whole T1' L1') (Maybe.maybe (Kinds.whole T1'
-        L1') (Kinds.part T1' L1') (Kinds.named T1' L1')) (Kinds.lender T1' L1') (Kinds.rest T1' L1') (Kinds.r T1' L1') (So.owed_so 3 (Kinds.whole T1' L1') (Kinds.part T1'
-        L1') (Kinds.named T1' L1') (Kinds.lender T1' L1') (Kinds.rest T1' L1') (Kinds.r T1' L1') (AtSlots.one_type 3 (Kinds.named T1' L1')) (Reads'3.how T1' L1'))
-        (Reads'3.Post-named T1' L1') (Reads'3.Post T1' L1') (Reads'3.post-joined T1' L1');
-    raw-own-asked = Closed.Owing 3 (Kinds.whole T1' L1') (Maybe.maybe (Kinds.whole
-        T1' L1') (Kinds.part T1' L1') (Kinds.named T1' L1')) (Kinds.lender T1' L1') (Kinds.rest T1' L1') (Kinds.r T1' L1') (So.owed_so 3 (Kinds.whole T1' L1') (Kinds.part
-        T1' L1') (Kinds.named T1' L1') (Kinds.lender T1' L1') (Kinds.rest T1' L1') (Kinds.r T1' L1') (AtSlots.one_type 3 (Kinds.named T1' L1')) (Reads'3.how T1' L1'))
-        (Reads'3.Post T1' L1');
+        (Kinds.whole Value ValueLaws) (Maybe.maybe (Kinds.whole Value ValueLaws) (Kinds.part Value ValueLaws) (Kinds.named Value ValueLaws)) (Kinds.lender Value ValueLaws) (Kinds.rest Value ValueLaws) (Kinds.r Value ValueLaws)
+        (So.owed_so 3 (Kinds.whole Value ValueLaws) (Kinds.part Value ValueLaws) (Kinds.named Value ValueLaws) (Kinds.lender Value ValueLaws) (Kinds.rest Value ValueLaws) (Kinds.r Value ValueLaws) (AtSlots.one_type 3
+        (Kinds.named Value ValueLaws)) (Reads'3.how Value ValueLaws)) (Reads'3.Post-named Value ValueLaws);
+    of-own-asked = Closed.Owing-along 3 (Kinds.whole Value ValueLaws) (Maybe.maybe (Kinds.whole Value
+        ValueLaws) (Kinds.part Value ValueLaws) (Kinds.named Value ValueLaws)) (Kinds.lender Value ValueLaws) (Kinds.rest Value ValueLaws) (Kinds.r Value ValueLaws) (So.owed_so 3 (Kinds.whole Value ValueLaws) (Kinds.part Value
+        ValueLaws) (Kinds.named Value ValueLaws) (Kinds.lender Value ValueLaws) (Kinds.rest Value ValueLaws) (Kinds.r Value ValueLaws) (AtSlots.one_type 3 (Kinds.named Value ValueLaws)) (Reads'3.how Value ValueLaws))
+        (Reads'3.Post-named Value ValueLaws) (Reads'3.Post Value ValueLaws) (Reads'3.post-joined Value ValueLaws);
+    raw-own-asked = Closed.Owing 3 (Kinds.whole Value ValueLaws) (Maybe.maybe (Kinds.whole
+        Value ValueLaws) (Kinds.part Value ValueLaws) (Kinds.named Value ValueLaws)) (Kinds.lender Value ValueLaws) (Kinds.rest Value ValueLaws) (Kinds.r Value ValueLaws) (So.owed_so 3 (Kinds.whole Value ValueLaws) (Kinds.part
+        Value ValueLaws) (Kinds.named Value ValueLaws) (Kinds.lender Value ValueLaws) (Kinds.rest Value ValueLaws) (Kinds.r Value ValueLaws) (AtSlots.one_type 3 (Kinds.named Value ValueLaws)) (Reads'3.how Value ValueLaws))
+        (Reads'3.Post Value ValueLaws);
   }
 
   abbrev pub Need-variant-1-key : Type 0
-  Need-variant-1-key = Lts.Need-variant-1-key T1' L1' the-claims (Own.Pre t T1' L1') (Closed.Owing 3 (Kinds.whole T1' L1') (Maybe.maybe (Kinds.whole T1' L1') (Kinds.part
-      T1' L1') (Kinds.named T1' L1')) (Kinds.lender T1' L1') (Kinds.rest T1' L1') (Kinds.r T1' L1') (So.owed_so 3 (Kinds.whole T1' L1') (Kinds.part T1' L1') (Kinds.named
-      T1' L1') (Kinds.lender T1' L1') (Kinds.rest T1' L1') (Kinds.r T1' L1') (AtSlots.one_type 3 (Kinds.named T1' L1')) (Reads'3.how T1' L1')) (Reads'3.Post T1' L1'))
+  Need-variant-1-key = Lts.Need-variant-1-key Value ValueLaws the-claims (Own.Pre t Value ValueLaws) (Closed.Owing 3 (Kinds.whole Value ValueLaws) (Maybe.maybe (Kinds.whole Value ValueLaws) (Kinds.part
+      Value ValueLaws) (Kinds.named Value ValueLaws)) (Kinds.lender Value ValueLaws) (Kinds.rest Value ValueLaws) (Kinds.r Value ValueLaws) (So.owed_so 3 (Kinds.whole Value ValueLaws) (Kinds.part Value ValueLaws) (Kinds.named
+      Value ValueLaws) (Kinds.lender Value ValueLaws) (Kinds.rest Value ValueLaws) (Kinds.r Value ValueLaws) (AtSlots.one_type 3 (Kinds.named Value ValueLaws)) (Reads'3.how Value ValueLaws)) (Reads'3.Post Value ValueLaws))
       handed_clauses
 
   abbrev pub Need-as_mut-requires : Type 0
-  Need-as_mut-requires = Lts.Need-as_mut-requires T1' L1' the-claims (Own.Pre t T1' L1') (Closed.Owing 3 (Kinds.whole T1' L1') (Maybe.maybe (Kinds.whole T1' L1')
-      (Kinds.part T1' L1') (Kinds.named T1' L1')) (Kinds.lender T1' L1') (Kinds.rest T1' L1') (Kinds.r T1' L1') (So.owed_so 3 (Kinds.whole T1' L1') (Kinds.part T1' L1')
-      (Kinds.named T1' L1') (Kinds.lender T1' L1') (Kinds.rest T1' L1') (Kinds.r T1' L1') (AtSlots.one_type 3 (Kinds.named T1' L1')) (Reads'3.how T1' L1')) (Reads'3.Post
-      T1' L1')) handed_clauses
+  Need-as_mut-requires = Lts.Need-as_mut-requires Value ValueLaws the-claims (Own.Pre t Value ValueLaws) (Closed.Owing 3 (Kinds.whole Value ValueLaws) (Maybe.maybe (Kinds.whole Value ValueLaws)
+      (Kinds.part Value ValueLaws) (Kinds.named Value ValueLaws)) (Kinds.lender Value ValueLaws) (Kinds.rest Value ValueLaws) (Kinds.r Value ValueLaws) (So.owed_so 3 (Kinds.whole Value ValueLaws) (Kinds.part Value ValueLaws)
+      (Kinds.named Value ValueLaws) (Kinds.lender Value ValueLaws) (Kinds.rest Value ValueLaws) (Kinds.r Value ValueLaws) (AtSlots.one_type 3 (Kinds.named Value ValueLaws)) (Reads'3.how Value ValueLaws)) (Reads'3.Post
+      Value ValueLaws)) handed_clauses
 
   abbrev pub Need-close_late_if-self : Type 0
-  Need-close_late_if-self = Lts.Need-close_late_if-self T1' L1' the-claims (Own.Pre t T1' L1') (Closed.Owing 3 (Kinds.whole T1' L1') (Maybe.maybe (Kinds.whole T1' L1')
-      (Kinds.part T1' L1') (Kinds.named T1' L1')) (Kinds.lender T1' L1') (Kinds.rest T1' L1') (Kinds.r T1' L1') (So.owed_so 3 (Kinds.whole T1' L1') (Kinds.part T1' L1')
-      (Kinds.named T1' L1') (Kinds.lender T1' L1') (Kinds.rest T1' L1') (Kinds.r T1' L1') (AtSlots.one_type 3 (Kinds.named T1' L1')) (Reads'3.how T1' L1')) (Reads'3.Post
-      T1' L1')) handed_clauses
+  Need-close_late_if-self = Lts.Need-close_late_if-self Value ValueLaws the-claims (Own.Pre t Value ValueLaws) (Closed.Owing 3 (Kinds.whole Value ValueLaws) (Maybe.maybe (Kinds.whole Value ValueLaws)
+      (Kinds.part Value ValueLaws) (Kinds.named Value ValueLaws)) (Kinds.lender Value ValueLaws) (Kinds.rest Value ValueLaws) (Kinds.r Value ValueLaws) (So.owed_so 3 (Kinds.whole Value ValueLaws) (Kinds.part Value ValueLaws)
+      (Kinds.named Value ValueLaws) (Kinds.lender Value ValueLaws) (Kinds.rest Value ValueLaws) (Kinds.r Value ValueLaws) (AtSlots.one_type 3 (Kinds.named Value ValueLaws)) (Reads'3.how Value ValueLaws)) (Reads'3.Post
+      Value ValueLaws)) handed_clauses
 
   abbrev pub Need-returns : Type 0
-  Need-returns = Lts.Need-returns T1' L1' the-claims (Own.Pre t T1' L1') (Closed.Owing 3 (Kinds.whole T1' L1') (Maybe.maybe (Kinds.whole T1' L1') (Kinds.part T1' L1')
-      (Kinds.named T1' L1')) (Kinds.lender T1' L1') (Kinds.rest T1' L1') (Kinds.r T1' L1') (So.owed_so 3 (Kinds.whole T1' L1') (Kinds.part T1' L1') (Kinds.named T1' L1')
-      (Kinds.lender T1' L1') (Kinds.rest T1' L1') (Kinds.r T1' L1') (AtSlots.one_type 3 (Kinds.named T1' L1')) (Reads'3.how T1' L1')) (Reads'3.Post T1' L1'))
+  Need-returns = Lts.Need-returns Value ValueLaws the-claims (Own.Pre t Value ValueLaws) (Closed.Owing 3 (Kinds.whole Value ValueLaws) (Maybe.maybe (Kinds.whole Value ValueLaws) (Kinds.part Value ValueLaws)
+      (Kinds.named Value ValueLaws)) (Kinds.lender Value ValueLaws) (Kinds.rest Value ValueLaws) (Kinds.r Value ValueLaws) (So.owed_so 3 (Kinds.whole Value ValueLaws) (Kinds.part Value ValueLaws) (Kinds.named Value ValueLaws)
+      (Kinds.lender Value ValueLaws) (Kinds.rest Value ValueLaws) (Kinds.r Value ValueLaws) (AtSlots.one_type 3 (Kinds.named Value ValueLaws)) (Reads'3.how Value ValueLaws)) (Reads'3.Post Value ValueLaws))
       handed_clauses
 
   abbrev pub Need-split_first-requires : Type 0
-  Need-split_first-requires = Lts.Need-split_first-requires T1' L1' the-claims (Own.Pre t T1' L1') (Closed.Owing 3 (Kinds.whole T1' L1') (Maybe.maybe (Kinds.whole T1'
-      L1') (Kinds.part T1' L1') (Kinds.named T1' L1')) (Kinds.lender T1' L1') (Kinds.rest T1' L1') (Kinds.r T1' L1') (So.owed_so 3 (Kinds.whole T1' L1') (Kinds.part T1'
-      L1') (Kinds.named T1' L1') (Kinds.lender T1' L1') (Kinds.rest T1' L1') (Kinds.r T1' L1') (AtSlots.one_type 3 (Kinds.named T1' L1')) (Reads'3.how T1' L1'))
-      (Reads'3.Post T1' L1')) handed_clauses
+  Need-split_first-requires = Lts.Need-split_first-requires Value ValueLaws the-claims (Own.Pre t Value ValueLaws) (Closed.Owing 3 (Kinds.whole Value ValueLaws) (Maybe.maybe (Kinds.whole Value
+      ValueLaws) (Kinds.part Value ValueLaws) (Kinds.named Value ValueLaws)) (Kinds.lender Value ValueLaws) (Kinds.rest Value ValueLaws) (Kinds.r Value ValueLaws) (So.owed_so 3 (Kinds.whole Value ValueLaws) (Kinds.part Value
+      ValueLaws) (Kinds.named Value ValueLaws) (Kinds.lender Value ValueLaws) (Kinds.rest Value ValueLaws) (Kinds.r Value ValueLaws) (AtSlots.one_type 3 (Kinds.named Value ValueLaws)) (Reads'3.how Value ValueLaws))
+      (Reads'3.Post Value ValueLaws)) handed_clauses
 
   abbrev pub Need-get_mut-requires : Type 0
-  Need-get_mut-requires = Lts.Need-get_mut-requires T1' L1' the-claims (Own.Pre t T1' L1') (Closed.Owing 3 (Kinds.whole T1' L1') (Maybe.maybe (Kinds.whole T1' L1')
-      (Kinds.part T1' L1') (Kinds.named T1' L1')) (Kinds.lender T1' L1') (Kinds.rest T1' L1') (Kinds.r T1' L1') (So.owed_so 3 (Kinds.whole T1' L1') (Kinds.part T1' L1')
-      (Kinds.named T1' L1') (Kinds.lender T1' L1') (Kinds.rest T1' L1') (Kinds.r T1' L1') (AtSlots.one_type 3 (Kinds.named T1' L1')) (Reads'3.how T1' L1')) (Reads'3.Post
-      T1' L1')) handed_clauses
+  Need-get_mut-requires = Lts.Need-get_mut-requires Value ValueLaws the-claims (Own.Pre t Value ValueLaws) (Closed.Owing 3 (Kinds.whole Value ValueLaws) (Maybe.maybe (Kinds.whole Value ValueLaws)
+      (Kinds.part Value ValueLaws) (Kinds.named Value ValueLaws)) (Kinds.lender Value ValueLaws) (Kinds.rest Value ValueLaws) (Kinds.r Value ValueLaws) (So.owed_so 3 (Kinds.whole Value ValueLaws) (Kinds.part Value ValueLaws)
+      (Kinds.named Value ValueLaws) (Kinds.lender Value ValueLaws) (Kinds.rest Value ValueLaws) (Kinds.r Value ValueLaws) (AtSlots.one_type 3 (Kinds.named Value ValueLaws)) (Reads'3.how Value ValueLaws)) (Reads'3.Post
+      Value ValueLaws)) handed_clauses
 
   abbrev pub Need-part_some-self : Type 0
-  Need-part_some-self = Lts.Need-part_some-self T1' L1' the-claims (Own.Pre t T1' L1') (Closed.Owing 3 (Kinds.whole T1' L1') (Maybe.maybe (Kinds.whole T1' L1')
-      (Kinds.part T1' L1') (Kinds.named T1' L1')) (Kinds.lender T1' L1') (Kinds.rest T1' L1') (Kinds.r T1' L1') (So.owed_so 3 (Kinds.whole T1' L1') (Kinds.part T1' L1')
-      (Kinds.named T1' L1') (Kinds.lender T1' L1') (Kinds.rest T1' L1') (Kinds.r T1' L1') (AtSlots.one_type 3 (Kinds.named T1' L1')) (Reads'3.how T1' L1')) (Reads'3.Post
-      T1' L1')) handed_clauses
+  Need-part_some-self = Lts.Need-part_some-self Value ValueLaws the-claims (Own.Pre t Value ValueLaws) (Closed.Owing 3 (Kinds.whole Value ValueLaws) (Maybe.maybe (Kinds.whole Value ValueLaws)
+      (Kinds.part Value ValueLaws) (Kinds.named Value ValueLaws)) (Kinds.lender Value ValueLaws) (Kinds.rest Value ValueLaws) (Kinds.r Value ValueLaws) (So.owed_so 3 (Kinds.whole Value ValueLaws) (Kinds.part Value ValueLaws)
+      (Kinds.named Value ValueLaws) (Kinds.lender Value ValueLaws) (Kinds.rest Value ValueLaws) (Kinds.r Value ValueLaws) (AtSlots.one_type 3 (Kinds.named Value ValueLaws)) (Reads'3.how Value ValueLaws)) (Reads'3.Post
+      Value ValueLaws)) handed_clauses
 
   abbrev pub Need-get_next-requires : Type 0
-  Need-get_next-requires = Lts.Need-get_next-requires T1' L1' the-claims (Own.Pre t T1' L1') (Closed.Owing 3 (Kinds.whole T1' L1') (Maybe.maybe (Kinds.whole T1' L1')
-      (Kinds.part T1' L1') (Kinds.named T1' L1')) (Kinds.lender T1' L1') (Kinds.rest T1' L1') (Kinds.r T1' L1') (So.owed_so 3 (Kinds.whole T1' L1') (Kinds.part T1' L1')
-      (Kinds.named T1' L1') (Kinds.lender T1' L1') (Kinds.rest T1' L1') (Kinds.r T1' L1') (AtSlots.one_type 3 (Kinds.named T1' L1')) (Reads'3.how T1' L1')) (Reads'3.Post
-      T1' L1')) handed_clauses
+  Need-get_next-requires = Lts.Need-get_next-requires Value ValueLaws the-claims (Own.Pre t Value ValueLaws) (Closed.Owing 3 (Kinds.whole Value ValueLaws) (Maybe.maybe (Kinds.whole Value ValueLaws)
+      (Kinds.part Value ValueLaws) (Kinds.named Value ValueLaws)) (Kinds.lender Value ValueLaws) (Kinds.rest Value ValueLaws) (Kinds.r Value ValueLaws) (So.owed_so 3 (Kinds.whole Value ValueLaws) (Kinds.part Value ValueLaws)
+      (Kinds.named Value ValueLaws) (Kinds.lender Value ValueLaws) (Kinds.rest Value ValueLaws) (Kinds.r Value ValueLaws) (AtSlots.one_type 3 (Kinds.named Value ValueLaws)) (Reads'3.how Value ValueLaws)) (Reads'3.Post
+      Value ValueLaws)) handed_clauses
 
   abbrev pub Need-close_late_if-self-2 : Type 0
-  Need-close_late_if-self-2 = Lts.Need-close_late_if-self-2 T1' L1' the-claims (Own.Pre t T1' L1') (Closed.Owing 3 (Kinds.whole T1' L1') (Maybe.maybe (Kinds.whole T1'
-      L1') (Kinds.part T1' L1') (Kinds.named T1' L1')) (Kinds.lender T1' L1') (Kinds.rest T1' L1') (Kinds.r T1' L1') (So.owed_so 3 (Kinds.whole T1' L1') (Kinds.part T1'
-      L1') (Kinds.named T1' L1') (Kinds.lender T1' L1') (Kinds.rest T1' L1') (Kinds.r T1' L1') (AtSlots.one_type 3 (Kinds.named T1' L1')) (Reads'3.how T1' L1'))
-      (Reads'3.Post T1' L1')) handed_clauses
+  Need-close_late_if-self-2 = Lts.Need-close_late_if-self-2 Value ValueLaws the-claims (Own.Pre t Value ValueLaws) (Closed.Owing 3 (Kinds.whole Value ValueLaws) (Maybe.maybe (Kinds.whole Value
+      ValueLaws) (Kinds.part Value ValueLaws) (Kinds.named Value ValueLaws)) (Kinds.lender Value ValueLaws) (Kinds.rest Value ValueLaws) (Kinds.r Value ValueLaws) (So.owed_so 3 (Kinds.whole Value ValueLaws) (Kinds.part Value
+      ValueLaws) (Kinds.named Value ValueLaws) (Kinds.lender Value ValueLaws) (Kinds.rest Value ValueLaws) (Kinds.r Value ValueLaws) (AtSlots.one_type 3 (Kinds.named Value ValueLaws)) (Reads'3.how Value ValueLaws))
+      (Reads'3.Post Value ValueLaws)) handed_clauses
 
   abbrev pub Need-part_none-self : Type 0
-  Need-part_none-self = Lts.Need-part_none-self T1' L1' the-claims (Own.Pre t T1' L1') (Closed.Owing 3 (Kinds.whole T1' L1') (Maybe.maybe (Kinds.whole T1' L1')
-      (Kinds.part T1' L1') (Kinds.named T1' L1')) (Kinds.lender T1' L1') (Kinds.rest T1' L1') (Kinds.r T1' L1') (So.owed_so 3 (Kinds.whole T1' L1') (Kinds.part T1' L1')
-      (Kinds.named T1' L1') (Kinds.lender T1' L1') (Kinds.rest T1' L1') (Kinds.r T1' L1') (AtSlots.one_type 3 (Kinds.named T1' L1')) (Reads'3.how T1' L1')) (Reads'3.Post
-      T1' L1')) handed_clauses
+  Need-part_none-self = Lts.Need-part_none-self Value ValueLaws the-claims (Own.Pre t Value ValueLaws) (Closed.Owing 3 (Kinds.whole Value ValueLaws) (Maybe.maybe (Kinds.whole Value ValueLaws)
+      (Kinds.part Value ValueLaws) (Kinds.named Value ValueLaws)) (Kinds.lender Value ValueLaws) (Kinds.rest Value ValueLaws) (Kinds.r Value ValueLaws) (So.owed_so 3 (Kinds.whole Value ValueLaws) (Kinds.part Value ValueLaws)
+      (Kinds.named Value ValueLaws) (Kinds.lender Value ValueLaws) (Kinds.rest Value ValueLaws) (Kinds.r Value ValueLaws) (AtSlots.one_type 3 (Kinds.named Value ValueLaws)) (Reads'3.how Value ValueLaws)) (Reads'3.Post
+      Value ValueLaws)) handed_clauses
 
   abbrev pub Need-followed-self : Type 0
-  Need-followed-self = Lts.Need-followed-self T1' L1' the-claims (Own.Pre t T1' L1') (Closed.Owing 3 (Kinds.whole T1' L1') (Maybe.maybe (Kinds.whole T1' L1') (Kinds.part
-      T1' L1') (Kinds.named T1' L1')) (Kinds.lender T1' L1') (Kinds.rest T1' L1') (Kinds.r T1' L1') (So.owed_so 3 (Kinds.whole T1' L1') (Kinds.part T1' L1') (Kinds.named
-      T1' L1') (Kinds.lender T1' L1') (Kinds.rest T1' L1') (Kinds.r T1' L1') (AtSlots.one_type 3 (Kinds.named T1' L1')) (Reads'3.how T1' L1')) (Reads'3.Post T1' L1'))
+  Need-followed-self = Lts.Need-followed-self Value ValueLaws the-claims (Own.Pre t Value ValueLaws) (Closed.Owing 3 (Kinds.whole Value ValueLaws) (Maybe.maybe (Kinds.whole Value ValueLaws) (Kinds.part
+      Value ValueLaws) (Kinds.named Value ValueLaws)) (Kinds.lender Value ValueLaws) (Kinds.rest Value ValueLaws) (Kinds.r Value ValueLaws) (So.owed_so 3 (Kinds.whole Value ValueLaws) (Kinds.part Value ValueLaws) (Kinds.named
+      Value ValueLaws) (Kinds.lender Value ValueLaws) (Kinds.rest Value ValueLaws) (Kinds.r Value ValueLaws) (AtSlots.one_type 3 (Kinds.named Value ValueLaws)) (Reads'3.how Value ValueLaws)) (Reads'3.Post Value ValueLaws))
       handed_clauses
 
   abbrev pub Need-close_late_said-self : Type 0
-  Need-close_late_said-self = Lts.Need-close_late_said-self T1' L1' the-claims (Own.Pre t T1' L1') (Closed.Owing 3 (Kinds.whole T1' L1') (Maybe.maybe (Kinds.whole T1'
-      L1') (Kinds.part T1' L1') (Kinds.named T1' L1')) (Kinds.lender T1' L1') (Kinds.rest T1' L1') (Kinds.r T1' L1') (So.owed_so 3 (Kinds.whole T1' L1') (Kinds.part T1'
-      L1') (Kinds.named T1' L1') (Kinds.lender T1' L1') (Kinds.rest T1' L1') (Kinds.r T1' L1') (AtSlots.one_type 3 (Kinds.named T1' L1')) (Reads'3.how T1' L1'))
-      (Reads'3.Post T1' L1')) handed_clauses
+  Need-close_late_said-self = Lts.Need-close_late_said-self Value ValueLaws the-claims (Own.Pre t Value ValueLaws) (Closed.Owing 3 (Kinds.whole Value ValueLaws) (Maybe.maybe (Kinds.whole Value
+      ValueLaws) (Kinds.part Value ValueLaws) (Kinds.named Value ValueLaws)) (Kinds.lender Value ValueLaws) (Kinds.rest Value ValueLaws) (Kinds.r Value ValueLaws) (So.owed_so 3 (Kinds.whole Value ValueLaws) (Kinds.part Value
+      ValueLaws) (Kinds.named Value ValueLaws) (Kinds.lender Value ValueLaws) (Kinds.rest Value ValueLaws) (Kinds.r Value ValueLaws) (AtSlots.one_type 3 (Kinds.named Value ValueLaws)) (Reads'3.how Value ValueLaws))
+      (Reads'3.Post Value ValueLaws)) handed_clauses
 
   abbrev pub Need-returns-2 : Type 0
-  Need-returns-2 = Lts.Need-returns-2 T1' L1' the-claims (Own.Pre t T1' L1') (Closed.Owing 3 (Kinds.whole T1' L1') (Maybe.maybe (Kinds.whole T1' L1') (Kinds.part T1' L1')
-      (Kinds.named T1' L1')) (Kinds.lender T1' L1') (Kinds.rest T1' L1') (Kinds.r T1' L1') (So.owed_so 3 (Kinds.whole T1' L1') (Kinds.part T1' L1') (Kinds.named T1' L1')
-      (Kinds.lender T1' L1') (Kinds.rest T1' L1') (Kinds.r T1' L1') (AtSlots.one_type 3 (Kinds.named T1' L1')) (Reads'3.how T1' L1')) (Reads'3.Post T1' L1'))
+  Need-returns-2 = Lts.Need-returns-2 Value ValueLaws the-claims (Own.Pre t Value ValueLaws) (Closed.Owing 3 (Kinds.whole Value ValueLaws) (Maybe.maybe (Kinds.whole Value ValueLaws) (Kinds.part Value ValueLaws)
+      (Kinds.named Value ValueLaws)) (Kinds.lender Value ValueLaws) (Kinds.rest Value ValueLaws) (Kinds.r Value ValueLaws) (So.owed_so 3 (Kinds.whole Value ValueLaws) (Kinds.part Value ValueLaws) (Kinds.named Value ValueLaws)
+      (Kinds.lender Value ValueLaws) (Kinds.rest Value ValueLaws) (Kinds.r Value ValueLaws) (AtSlots.one_type 3 (Kinds.named Value ValueLaws)) (Reads'3.how Value ValueLaws)) (Reads'3.Post Value ValueLaws))
       handed_clauses
 
   abbrev pub Need-returns-3 : Type 0
-  Need-returns-3 = Lts.Need-returns-3 T1' L1' the-claims (Own.Pre t T1' L1') (Closed.Owing 3 (Kinds.whole T1' L1') (Maybe.maybe (Kinds.whole T1' L1') (Kinds.part T1' L1')
-      (Kinds.named T1' L1')) (Kinds.lender T1' L1') (Kinds.rest T1' L1') (Kinds.r T1' L1') (So.owed_so 3 (Kinds.whole T1' L1') (Kinds.part T1' L1') (Kinds.named T1' L1')
-      (Kinds.lender T1' L1') (Kinds.rest T1' L1') (Kinds.r T1' L1') (AtSlots.one_type 3 (Kinds.named T1' L1')) (Reads'3.how T1' L1')) (Reads'3.Post T1' L1'))
+  Need-returns-3 = Lts.Need-returns-3 Value ValueLaws the-claims (Own.Pre t Value ValueLaws) (Closed.Owing 3 (Kinds.whole Value ValueLaws) (Maybe.maybe (Kinds.whole Value ValueLaws) (Kinds.part Value ValueLaws)
+      (Kinds.named Value ValueLaws)) (Kinds.lender Value ValueLaws) (Kinds.rest Value ValueLaws) (Kinds.r Value ValueLaws) (So.owed_so 3 (Kinds.whole Value ValueLaws) (Kinds.part Value ValueLaws) (Kinds.named Value ValueLaws)
+      (Kinds.lender Value ValueLaws) (Kinds.rest Value ValueLaws) (Kinds.r Value ValueLaws) (AtSlots.one_type 3 (Kinds.named Value ValueLaws)) (Reads'3.how Value ValueLaws)) (Reads'3.Post Value ValueLaws))
       handed_clauses
 
-  abbrev pub handed_pre : Lts.Pre-type T1' L1'
-  handed_pre = Own.Pre t T1' L1'
+  abbrev pub handed_pre : Lts.Pre-type Value ValueLaws
+  handed_pre = Own.Pre t Value ValueLaws
 
-  abbrev pub handed_post : Lts.Post-type T1' L1'
-  handed_post = Closed.Owing 3 (Kinds.whole T1' L1') (Maybe.maybe (Kinds.whole T1' L1') (Kinds.part T1' L1') (Kinds.named T1' L1')) (Kinds.lender T1' L1') (Kinds.rest T1'
-      L1') (Kinds.r T1' L1') (So.owed_so 3 (Kinds.whole T1' L1') (Kinds.part T1' L1') (Kinds.named T1' L1') (Kinds.lender T1' L1') (Kinds.rest T1' L1') (Kinds.r T1' L1')
-      (AtSlots.one_type 3 (Kinds.named T1' L1')) (Reads'3.how T1' L1')) (Reads'3.Post T1' L1')
+  abbrev pub handed_post : Lts.Post-type Value ValueLaws
+  handed_post = Closed.Owing 3 (Kinds.whole Value ValueLaws) (Maybe.maybe (Kinds.whole Value ValueLaws) (Kinds.part Value ValueLaws) (Kinds.named Value ValueLaws)) (Kinds.lender Value ValueLaws) (Kinds.rest Value
+      ValueLaws) (Kinds.r Value ValueLaws) (So.owed_so 3 (Kinds.whole Value ValueLaws) (Kinds.part Value ValueLaws) (Kinds.named Value ValueLaws) (Kinds.lender Value ValueLaws) (Kinds.rest Value ValueLaws) (Kinds.r Value ValueLaws)
+      (AtSlots.one_type 3 (Kinds.named Value ValueLaws)) (Reads'3.how Value ValueLaws)) (Reads'3.Post Value ValueLaws)
 
   module _ {M : Type 1} where
     pub spec : (answer : Need-variant-1-key) → (answer : Need-as_mut-requires) → (answer : Need-close_late_if-self) → (answer : Need-returns) → (answer :
         Need-split_first-requires) → (answer : Need-get_mut-requires) → (answer : Need-part_some-self) → (answer : Need-get_next-requires) → (answer :
         Need-close_late_if-self-2) → (answer : Need-part_none-self) → (answer : Need-followed-self) → (answer : Need-close_late_said-self) → (answer : Need-returns-2) →
-        (answer : Need-returns-3) → Lts.Closed T1' L1' the-claims (Own.Pre t T1' L1') (Closed.Owing 3 (Kinds.whole T1' L1') (Maybe.maybe (Kinds.whole T1' L1') (Kinds.part
-        T1' L1') (Kinds.named T1' L1')) (Kinds.lender T1' L1') (Kinds.rest T1' L1') (Kinds.r T1' L1') (So.owed_so 3 (Kinds.whole T1' L1') (Kinds.part T1' L1')
-        (Kinds.named T1' L1') (Kinds.lender T1' L1') (Kinds.rest T1' L1') (Kinds.r T1' L1') (AtSlots.one_type 3 (Kinds.named T1' L1')) (Reads'3.how T1' L1'))
-        (Reads'3.Post T1' L1')) M
-    spec = λ answer answer' answer'' answer'3 answer'4 answer'5 answer'6 answer'7 answer'8 answer'9 answer'10 answer'11 answer'12 answer'13. Lts.spec T1' L1' the-claims
-        (Own.Pre t T1' L1') (Closed.Owing 3 (Kinds.whole T1' L1') (Maybe.maybe (Kinds.whole T1' L1') (Kinds.part T1' L1') (Kinds.named T1' L1')) (Kinds.lender T1' L1')
-        (Kinds.rest T1' L1') (Kinds.r T1' L1') (So.owed_so 3 (Kinds.whole T1' L1') (Kinds.part T1' L1') (Kinds.named T1' L1') (Kinds.lender T1' L1') (Kinds.rest T1' L1')
-        (Kinds.r T1' L1') (AtSlots.one_type 3 (Kinds.named T1' L1')) (Reads'3.how T1' L1')) (Reads'3.Post T1' L1')) handed_clauses answer answer' answer'' answer'3
+        (answer : Need-returns-3) → Lts.Closed Value ValueLaws the-claims (Own.Pre t Value ValueLaws) (Closed.Owing 3 (Kinds.whole Value ValueLaws) (Maybe.maybe (Kinds.whole Value ValueLaws) (Kinds.part
+        Value ValueLaws) (Kinds.named Value ValueLaws)) (Kinds.lender Value ValueLaws) (Kinds.rest Value ValueLaws) (Kinds.r Value ValueLaws) (So.owed_so 3 (Kinds.whole Value ValueLaws) (Kinds.part Value ValueLaws)
+        (Kinds.named Value ValueLaws) (Kinds.lender Value ValueLaws) (Kinds.rest Value ValueLaws) (Kinds.r Value ValueLaws) (AtSlots.one_type 3 (Kinds.named Value ValueLaws)) (Reads'3.how Value ValueLaws))
+        (Reads'3.Post Value ValueLaws)) M
+    spec = λ answer answer' answer'' answer'3 answer'4 answer'5 answer'6 answer'7 answer'8 answer'9 answer'10 answer'11 answer'12 answer'13. Lts.spec Value ValueLaws the-claims
+        (Own.Pre t Value ValueLaws) (Closed.Owing 3 (Kinds.whole Value ValueLaws) (Maybe.maybe (Kinds.whole Value ValueLaws) (Kinds.part Value ValueLaws) (Kinds.named Value ValueLaws)) (Kinds.lender Value ValueLaws)
+        (Kinds.rest Value ValueLaws) (Kinds.r Value ValueLaws) (So.owed_so 3 (Kinds.whole Value ValueLaws) (Kinds.part Value ValueLaws) (Kinds.named Value ValueLaws) (Kinds.lender Value ValueLaws) (Kinds.rest Value ValueLaws)
+        (Kinds.r Value ValueLaws) (AtSlots.one_type 3 (Kinds.named Value ValueLaws)) (Reads'3.how Value ValueLaws)) (Reads'3.Post Value ValueLaws)) handed_clauses answer answer' answer'' answer'3
         answer'4 answer'5 answer'6 answer'7 answer'8 answer'9 answer'10 answer'11 answer'12 answer'13 λ κs a pre. (
-          Claims.All-at 0 (Own.pre_read t T1' L1' κs a tt).tells
+          Claims.All-at 0 (Own.pre_read t Value ValueLaws κs a tt).tells
               pre,
           tt,
         )
 
-pub same_locals : (T1' : RattleType.RattleType) → (L1' : Laws.Laws T1') → Path'.◌≡◌ (Lts.function T1' L1').locals (MapTy.inst_fn (Param.layouts (List.◌∷◌ Syntax.a_type
-    List.[]) (T1', tt)) Code'.get_mut-function).locals
+pub same_locals : (Value : RattleType.RattleType) → (ValueLaws : Laws.Laws Value) → Path'.◌≡◌ (Lts.function Value ValueLaws).locals (MapTy.inst_fn (Param.layouts (List.◌∷◌ Syntax.a_type
+    List.[]) (Value, tt)) Code'.get_mut-function).locals
 unfolding Running.tables_of Code.code
-same_locals = λ T1' L1'. Path'.refl
+same_locals = λ Value ValueLaws. Path'.refl
 
-pub same_body : (T1' : RattleType.RattleType) → (L1' : Laws.Laws T1') → Path'.◌≡◌ (Lts.function T1' L1').body (MapTy.inst_fn (Param.layouts (List.◌∷◌ Syntax.a_type
-    List.[]) (T1', tt)) Code'.get_mut-function).body
+pub same_body : (Value : RattleType.RattleType) → (ValueLaws : Laws.Laws Value) → Path'.◌≡◌ (Lts.function Value ValueLaws).body (MapTy.inst_fn (Param.layouts (List.◌∷◌ Syntax.a_type
+    List.[]) (Value, tt)) Code'.get_mut-function).body
 unfolding Running.tables_of Code.code
-same_body = λ T1' L1'. Path'.refl
+same_body = λ Value ValueLaws. Path'.refl
 
 module _ {M : Type 1} (t : Nat.ℕ) where
   pub holds-2-0-0-0 :
@@ -424,18 +424,18 @@ module _ {M : Type 1} (t : Nat.ℕ) where
       (𝓜 : Model.Model 𝓤 𝓛.H) →
       (𝓡 : Running.Running 𝓤 𝓛.H 𝓜) →
       Wired.Wired 𝓡.env Code'.code →
-      (T1' : RattleType.RattleType) →
-      (L1' : Laws.Laws T1') →
+      (Value : RattleType.RattleType) →
+      (ValueLaws : Laws.Laws Value) →
       (κs : Lifetimes.Lfts 5) →
-      let T = Lts.impl_arg-2-0 T1' L1' κs in
+      let T = Lts.impl_arg-2-0 Value ValueLaws κs in
       let g = TheImpl'6.ghosts in
       let d = TheImpl'6.dict in
       let d' = Syntax.impl
       (List.◌∷◌ "mq_tree::Destruct++none::drop" List.[])
-      (Syntax.tcons (Param.layout (Lts.impl_arg-2-1 T1' L1' κs)) Syntax.tnil)
+      (Syntax.tcons (Param.layout (Lts.impl_arg-2-1 Value ValueLaws κs)) Syntax.tnil)
       Syntax.dnil in
-      let g' = ghosts-2-0-0-0 t T1' L1' κs in
-      let d'' = dict-2-0-0-0 t T1' L1' κs in
+      let g' = ghosts-2-0-0-0 t Value ValueLaws κs in
+      let d'' = dict-2-0-0-0 t Value ValueLaws κs in
       TheBound'.Met
       𝓛
       𝓜
@@ -451,12 +451,12 @@ module _ {M : Type 1} (t : Nat.ℕ) where
       (TheImpl'4.ghosts T g d d')
       (TheImpl'4.dict T g d d')
   unfolding Running.tables_of Code.code
-  holds-2-0-0-0 = λ 𝓤 𝓛 𝓜 𝓡 w T1' L1'. λ κs. Met'5.bound 𝓡.env (Code'.calls-std_alloc::compared::StringOrd::cmp 𝓡.env w) (Lts.impl_arg-2-0 T1' L1' κs) (Lts.impl_laws-2-0
-      T1' L1' κs) TheImpl'6.ghosts TheImpl'6.dict (Syntax.impl (List.◌∷◌ "mq_tree::Destruct++none::drop" List.[]) (Syntax.tcons (Param.layout (Lts.impl_arg-2-1 T1' L1'
+  holds-2-0-0-0 = λ 𝓤 𝓛 𝓜 𝓡 w Value ValueLaws. λ κs. Met'5.bound 𝓡.env (Code'.calls-std_alloc::compared::StringOrd::cmp 𝓡.env w) (Lts.impl_arg-2-0 Value ValueLaws κs) (Lts.impl_laws-2-0
+      Value ValueLaws κs) TheImpl'6.ghosts TheImpl'6.dict (Syntax.impl (List.◌∷◌ "mq_tree::Destruct++none::drop" List.[]) (Syntax.tcons (Param.layout (Lts.impl_arg-2-1 Value ValueLaws
       κs)) Syntax.tnil) Syntax.dnil) M 𝓤 𝓛 𝓜 𝓡 (Met'10.passed 𝓡.env (Code'.calls-std_heap::GlobalAllocator::allocate 𝓡.env w)
       (Code'.calls-std_heap::GlobalAllocator::deallocate 𝓡.env w) (Code'.calls-std_heap::GlobalAllocator::grow 𝓡.env w) (Code'.calls-std_heap::GlobalAllocator::shrink
-      𝓡.env w) M 𝓤 𝓛 𝓜 𝓡) (NoDrop.glues "mq_tree::Destruct++none::drop" 𝓡.env (Code'.calls-mq_tree::Destruct++none::drop 𝓡.env w) (Lts.impl_arg-2-1 T1' L1' κs)
-      (Lts.impl_laws-2-1 T1' L1' κs) M 𝓤 𝓛 𝓜 𝓡)
+      𝓡.env w) M 𝓤 𝓛 𝓜 𝓡) (NoDrop.glues "mq_tree::Destruct++none::drop" 𝓡.env (Code'.calls-mq_tree::Destruct++none::drop 𝓡.env w) (Lts.impl_arg-2-1 Value ValueLaws κs)
+      (Lts.impl_laws-2-1 Value ValueLaws κs) M 𝓤 𝓛 𝓜 𝓡)
 
   pub holds-2-0-2-1 :
       (𝓤 : Ura.Ura M) →
@@ -464,18 +464,18 @@ module _ {M : Type 1} (t : Nat.ℕ) where
       (𝓜 : Model.Model 𝓤 𝓛.H) →
       (𝓡 : Running.Running 𝓤 𝓛.H 𝓜) →
       Wired.Wired 𝓡.env Code'.code →
-      (T1' : RattleType.RattleType) →
-      (L1' : Laws.Laws T1') →
+      (Value : RattleType.RattleType) →
+      (ValueLaws : Laws.Laws Value) →
       (κs : Lifetimes.Lfts 5) →
-      let T = Lts.impl_arg-2-2 T1' L1' κs in
+      let T = Lts.impl_arg-2-2 Value ValueLaws κs in
       let g = TheImpl'6.ghosts in
       let d = TheImpl'6.dict in
       let d' = Syntax.impl
       (List.◌∷◌ "mq_tree::Destruct++none::drop" List.[])
-      (Syntax.tcons (Param.layout (Lts.impl_arg-2-3 T1' L1' κs)) Syntax.tnil)
+      (Syntax.tcons (Param.layout (Lts.impl_arg-2-3 Value ValueLaws κs)) Syntax.tnil)
       Syntax.dnil in
-      let g' = ghosts-2-0-2-1 t T1' L1' κs in
-      let d'' = dict-2-0-2-1 t T1' L1' κs in
+      let g' = ghosts-2-0-2-1 t Value ValueLaws κs in
+      let d'' = dict-2-0-2-1 t Value ValueLaws κs in
       TheBound.Met
       𝓛
       𝓜
@@ -487,11 +487,11 @@ module _ {M : Type 1} (t : Nat.ℕ) where
       (TheImpl'3.ghosts T g d d')
       (TheImpl'3.dict T g d d')
   unfolding Running.tables_of Code.code
-  holds-2-0-2-1 = λ 𝓤 𝓛 𝓜 𝓡 w T1' L1'. λ κs. Met'4.bound 𝓡.env (Lts.impl_arg-2-2 T1' L1' κs) (Lts.impl_laws-2-2 T1' L1' κs) TheImpl'6.ghosts TheImpl'6.dict (Syntax.impl
-      (List.◌∷◌ "mq_tree::Destruct++none::drop" List.[]) (Syntax.tcons (Param.layout (Lts.impl_arg-2-3 T1' L1' κs)) Syntax.tnil) Syntax.dnil) M 𝓤 𝓛 𝓜 𝓡 (Met'10.passed
+  holds-2-0-2-1 = λ 𝓤 𝓛 𝓜 𝓡 w Value ValueLaws. λ κs. Met'4.bound 𝓡.env (Lts.impl_arg-2-2 Value ValueLaws κs) (Lts.impl_laws-2-2 Value ValueLaws κs) TheImpl'6.ghosts TheImpl'6.dict (Syntax.impl
+      (List.◌∷◌ "mq_tree::Destruct++none::drop" List.[]) (Syntax.tcons (Param.layout (Lts.impl_arg-2-3 Value ValueLaws κs)) Syntax.tnil) Syntax.dnil) M 𝓤 𝓛 𝓜 𝓡 (Met'10.passed
       𝓡.env (Code'.calls-std_heap::GlobalAllocator::allocate 𝓡.env w) (Code'.calls-std_heap::GlobalAllocator::deallocate 𝓡.env w)
       (Code'.calls-std_heap::GlobalAllocator::grow 𝓡.env w) (Code'.calls-std_heap::GlobalAllocator::shrink 𝓡.env w) M 𝓤 𝓛 𝓜 𝓡) (NoDrop.glues
-      "mq_tree::Destruct++none::drop" 𝓡.env (Code'.calls-mq_tree::Destruct++none::drop 𝓡.env w) (Lts.impl_arg-2-3 T1' L1' κs) (Lts.impl_laws-2-3 T1' L1' κs) M 𝓤 𝓛 𝓜 𝓡)
+      "mq_tree::Destruct++none::drop" 𝓡.env (Code'.calls-mq_tree::Destruct++none::drop 𝓡.env w) (Lts.impl_arg-2-3 Value ValueLaws κs) (Lts.impl_laws-2-3 Value ValueLaws κs) M 𝓤 𝓛 𝓜 𝓡)
 
   pub holds-2-0-4-2 :
       (𝓤 : Ura.Ura M) →
@@ -499,26 +499,26 @@ module _ {M : Type 1} (t : Nat.ℕ) where
       (𝓜 : Model.Model 𝓤 𝓛.H) →
       (𝓡 : Running.Running 𝓤 𝓛.H 𝓜) →
       Wired.Wired 𝓡.env Code'.code →
-      (T1' : RattleType.RattleType) →
-      (L1' : Laws.Laws T1') →
+      (Value : RattleType.RattleType) →
+      (ValueLaws : Laws.Laws Value) →
       (κs : Lifetimes.Lfts 5) →
-      let T = Lts.impl_arg-2-4 T1' L1' κs in
+      let T = Lts.impl_arg-2-4 Value ValueLaws κs in
       let g = TheImpl'6.ghosts in
       let d = TheImpl'6.dict in
       let d = Syntax.impl
       (List.◌∷◌ "mq_tree::Destruct++none::drop" List.[])
-      (Syntax.tcons (Param.layout (Lts.impl_arg-2-5 T1' L1' κs)) Syntax.tnil)
+      (Syntax.tcons (Param.layout (Lts.impl_arg-2-5 Value ValueLaws κs)) Syntax.tnil)
       Syntax.dnil in
-      let g' = ghosts-2-0-4-2 t T1' L1' κs in
-      let d = dict-2-0-4-2 t T1' L1' κs in
+      let g' = ghosts-2-0-4-2 t Value ValueLaws κs in
+      let d = dict-2-0-4-2 t Value ValueLaws κs in
       TheBound''.Met 𝓛 𝓜 𝓡 𝓡.env (String.the_row (Param.param 0 T) g) g' d
   unfolding Running.tables_of Code.code
-  holds-2-0-4-2 = λ 𝓤 𝓛 𝓜 𝓡 w T1' L1'. λ κs. Met'6.bound 𝓡.env (Code'.calls-std_alloc::compared::StringPartialEq::eq 𝓡.env w) (Lts.impl_arg-2-4 T1' L1' κs)
-      (Lts.impl_laws-2-4 T1' L1' κs) TheImpl'6.ghosts TheImpl'6.dict (Syntax.impl (List.◌∷◌ "mq_tree::Destruct++none::drop" List.[]) (Syntax.tcons (Param.layout
-      (Lts.impl_arg-2-5 T1' L1' κs)) Syntax.tnil) Syntax.dnil) M 𝓤 𝓛 𝓜 𝓡 (Met'10.passed 𝓡.env (Code'.calls-std_heap::GlobalAllocator::allocate 𝓡.env w)
+  holds-2-0-4-2 = λ 𝓤 𝓛 𝓜 𝓡 w Value ValueLaws. λ κs. Met'6.bound 𝓡.env (Code'.calls-std_alloc::compared::StringPartialEq::eq 𝓡.env w) (Lts.impl_arg-2-4 Value ValueLaws κs)
+      (Lts.impl_laws-2-4 Value ValueLaws κs) TheImpl'6.ghosts TheImpl'6.dict (Syntax.impl (List.◌∷◌ "mq_tree::Destruct++none::drop" List.[]) (Syntax.tcons (Param.layout
+      (Lts.impl_arg-2-5 Value ValueLaws κs)) Syntax.tnil) Syntax.dnil) M 𝓤 𝓛 𝓜 𝓡 (Met'10.passed 𝓡.env (Code'.calls-std_heap::GlobalAllocator::allocate 𝓡.env w)
       (Code'.calls-std_heap::GlobalAllocator::deallocate 𝓡.env w) (Code'.calls-std_heap::GlobalAllocator::grow 𝓡.env w) (Code'.calls-std_heap::GlobalAllocator::shrink
-      𝓡.env w) M 𝓤 𝓛 𝓜 𝓡) (NoDrop.glues "mq_tree::Destruct++none::drop" 𝓡.env (Code'.calls-mq_tree::Destruct++none::drop 𝓡.env w) (Lts.impl_arg-2-5 T1' L1' κs)
-      (Lts.impl_laws-2-5 T1' L1' κs) M 𝓤 𝓛 𝓜 𝓡)
+      𝓡.env w) M 𝓤 𝓛 𝓜 𝓡) (NoDrop.glues "mq_tree::Destruct++none::drop" 𝓡.env (Code'.calls-mq_tree::Destruct++none::drop 𝓡.env w) (Lts.impl_arg-2-5 Value ValueLaws κs)
+      (Lts.impl_laws-2-5 Value ValueLaws κs) M 𝓤 𝓛 𝓜 𝓡)
 
   pub holds-2-0-6-3 :
       (𝓤 : Ura.Ura M) →
@@ -526,18 +526,18 @@ module _ {M : Type 1} (t : Nat.ℕ) where
       (𝓜 : Model.Model 𝓤 𝓛.H) →
       (𝓡 : Running.Running 𝓤 𝓛.H 𝓜) →
       Wired.Wired 𝓡.env Code'.code →
-      (T1' : RattleType.RattleType) →
-      (L1' : Laws.Laws T1') →
+      (Value : RattleType.RattleType) →
+      (ValueLaws : Laws.Laws Value) →
       (κs : Lifetimes.Lfts 5) →
-      let T = Lts.impl_arg-2-6 T1' L1' κs in
+      let T = Lts.impl_arg-2-6 Value ValueLaws κs in
       let g = TheImpl'6.ghosts in
       let d = TheImpl'6.dict in
       let d' = Syntax.impl
       (List.◌∷◌ "mq_tree::Destruct++none::drop" List.[])
-      (Syntax.tcons (Param.layout (Lts.impl_arg-2-7 T1' L1' κs)) Syntax.tnil)
+      (Syntax.tcons (Param.layout (Lts.impl_arg-2-7 Value ValueLaws κs)) Syntax.tnil)
       Syntax.dnil in
-      let g' = ghosts-2-0-6-3 t T1' L1' κs in
-      let d'' = dict-2-0-6-3 t T1' L1' κs in
+      let g' = ghosts-2-0-6-3 t Value ValueLaws κs in
+      let d'' = dict-2-0-6-3 t Value ValueLaws κs in
       TheBound'3.Met
       𝓛
       𝓜
@@ -549,109 +549,109 @@ module _ {M : Type 1} (t : Nat.ℕ) where
       (TheImpl'3.ghosts T g d d')
       (TheImpl'3.dict T g d d')
   unfolding Running.tables_of Code.code
-  holds-2-0-6-3 = λ 𝓤 𝓛 𝓜 𝓡 w T1' L1'. λ κs. Met'7.bound 𝓡.env (Code'.calls-std_alloc::compared::StringPartialOrd::partial_cmp 𝓡.env w) (Lts.impl_arg-2-6 T1' L1' κs)
-      (Lts.impl_laws-2-6 T1' L1' κs) TheImpl'6.ghosts TheImpl'6.dict (Syntax.impl (List.◌∷◌ "mq_tree::Destruct++none::drop" List.[]) (Syntax.tcons (Param.layout
-      (Lts.impl_arg-2-7 T1' L1' κs)) Syntax.tnil) Syntax.dnil) M 𝓤 𝓛 𝓜 𝓡 (Met'10.passed 𝓡.env (Code'.calls-std_heap::GlobalAllocator::allocate 𝓡.env w)
+  holds-2-0-6-3 = λ 𝓤 𝓛 𝓜 𝓡 w Value ValueLaws. λ κs. Met'7.bound 𝓡.env (Code'.calls-std_alloc::compared::StringPartialOrd::partial_cmp 𝓡.env w) (Lts.impl_arg-2-6 Value ValueLaws κs)
+      (Lts.impl_laws-2-6 Value ValueLaws κs) TheImpl'6.ghosts TheImpl'6.dict (Syntax.impl (List.◌∷◌ "mq_tree::Destruct++none::drop" List.[]) (Syntax.tcons (Param.layout
+      (Lts.impl_arg-2-7 Value ValueLaws κs)) Syntax.tnil) Syntax.dnil) M 𝓤 𝓛 𝓜 𝓡 (Met'10.passed 𝓡.env (Code'.calls-std_heap::GlobalAllocator::allocate 𝓡.env w)
       (Code'.calls-std_heap::GlobalAllocator::deallocate 𝓡.env w) (Code'.calls-std_heap::GlobalAllocator::grow 𝓡.env w) (Code'.calls-std_heap::GlobalAllocator::shrink
-      𝓡.env w) M 𝓤 𝓛 𝓜 𝓡) (NoDrop.glues "mq_tree::Destruct++none::drop" 𝓡.env (Code'.calls-mq_tree::Destruct++none::drop 𝓡.env w) (Lts.impl_arg-2-7 T1' L1' κs)
-      (Lts.impl_laws-2-7 T1' L1' κs) M 𝓤 𝓛 𝓜 𝓡)
+      𝓡.env w) M 𝓤 𝓛 𝓜 𝓡) (NoDrop.glues "mq_tree::Destruct++none::drop" 𝓡.env (Code'.calls-mq_tree::Destruct++none::drop 𝓡.env w) (Lts.impl_arg-2-7 Value ValueLaws κs)
+      (Lts.impl_laws-2-7 Value ValueLaws κs) M 𝓤 𝓛 𝓜 𝓡)
 
-  pub known-0 : (𝓤 : Ura.Ura M) → (𝓛 : Logic.Logic 𝓤) → (𝓜 : Model.Model 𝓤 𝓛.H) → (𝓡 : Running.Running 𝓤 𝓛.H 𝓜) → Wired.Wired 𝓡.env Code'.code → (T1' :
-      RattleType.RattleType) → (L1' : Laws.Laws T1') → Lts.Known-0 T1' L1' (the-claims t T1' L1') 𝓛 (Run.Over 𝓛 𝓜 𝓡 𝓡.env)
+  pub known-0 : (𝓤 : Ura.Ura M) → (𝓛 : Logic.Logic 𝓤) → (𝓜 : Model.Model 𝓤 𝓛.H) → (𝓡 : Running.Running 𝓤 𝓛.H 𝓜) → Wired.Wired 𝓡.env Code'.code → (Value :
+      RattleType.RattleType) → (ValueLaws : Laws.Laws Value) → Lts.Known-0 Value ValueLaws (the-claims t Value ValueLaws) 𝓛 (Run.Over 𝓛 𝓜 𝓡 𝓡.env)
   unfolding Running.tables_of Code.code
-  known-0 = λ 𝓤 𝓛 𝓜 𝓡 w T1' L1'. λ y. Reads.followed (Lts.arg-0-0 T1' L1' y.0.0) (Lts.laws-0-0 T1' L1' y.0.0) record { M = M; 𝓤 = 𝓤; 𝓛 = 𝓛; 𝓜 = 𝓜; 𝓡 = 𝓡 } 𝓡.env
-      (Symbol.name (Lts.passed-0 T1' L1')) (𝓡.env (Symbol.name (Lts.passed-0 T1' L1'))) Path'.refl (Met'.met 𝓤 𝓛 𝓜 𝓡 (Code'.calls-core::option::Option::as_mut 𝓡.env w)
-      (Lts.arg-0-0 T1' L1' y.0.0) (Lts.laws-0-0 T1' L1' y.0.0)) y
+  known-0 = λ 𝓤 𝓛 𝓜 𝓡 w Value ValueLaws. λ y. Reads.followed (Lts.arg-0-0 Value ValueLaws y.0.0) (Lts.laws-0-0 Value ValueLaws y.0.0) record { M = M; 𝓤 = 𝓤; 𝓛 = 𝓛; 𝓜 = 𝓜; 𝓡 = 𝓡 } 𝓡.env
+      (Symbol.name (Lts.passed-0 Value ValueLaws)) (𝓡.env (Symbol.name (Lts.passed-0 Value ValueLaws))) Path'.refl (Met'.met 𝓤 𝓛 𝓜 𝓡 (Code'.calls-core::option::Option::as_mut 𝓡.env w)
+      (Lts.arg-0-0 Value ValueLaws y.0.0) (Lts.laws-0-0 Value ValueLaws y.0.0)) y
 
-  pub known-1 : (𝓤 : Ura.Ura M) → (𝓛 : Logic.Logic 𝓤) → (𝓜 : Model.Model 𝓤 𝓛.H) → (𝓡 : Running.Running 𝓤 𝓛.H 𝓜) → Wired.Wired 𝓡.env Code'.code → (T1' :
-      RattleType.RattleType) → (L1' : Laws.Laws T1') → Lts.Known-1 T1' L1' (the-claims t T1' L1') 𝓛 (Run.Over 𝓛 𝓜 𝓡 𝓡.env)
+  pub known-1 : (𝓤 : Ura.Ura M) → (𝓛 : Logic.Logic 𝓤) → (𝓜 : Model.Model 𝓤 𝓛.H) → (𝓡 : Running.Running 𝓤 𝓛.H 𝓜) → Wired.Wired 𝓡.env Code'.code → (Value :
+      RattleType.RattleType) → (ValueLaws : Laws.Laws Value) → Lts.Known-1 Value ValueLaws (the-claims t Value ValueLaws) 𝓛 (Run.Over 𝓛 𝓜 𝓡 𝓡.env)
   unfolding Running.tables_of Code.code
-  known-1 = λ 𝓤 𝓛 𝓜 𝓡 w T1' L1'. Such.Known-under 𝓛 1 (Lts.ps-1 T1' L1') (Lts.r-1 T1' L1') (Option.some (Such.is_str 0 tt), tt) Option.none Reads'.Asked Reads'.Learnt
+  known-1 = λ 𝓤 𝓛 𝓜 𝓡 w Value ValueLaws. Such.Known-under 𝓛 1 (Lts.ps-1 Value ValueLaws) (Lts.r-1 Value ValueLaws) (Option.some (Such.is_str 0 tt), tt) Option.none Reads'.Asked Reads'.Learnt
       (Run.Over 𝓛 𝓜 𝓡 𝓡.env) Symbol'.name (Reads'.known record { M = M; 𝓤 = 𝓤; 𝓛 = 𝓛; 𝓜 = 𝓜; 𝓡 = 𝓡 } 𝓡.env Symbol'.name (𝓡.env Symbol'.name) Path'.refl (Met''.met 𝓤 𝓛 𝓜 𝓡
       (Code'.calls-mq_topic::split_first 𝓡.env w)))
 
-  pub known-2 : (𝓤 : Ura.Ura M) → (𝓛 : Logic.Logic 𝓤) → (𝓜 : Model.Model 𝓤 𝓛.H) → (𝓡 : Running.Running 𝓤 𝓛.H 𝓜) → Wired.Wired 𝓡.env Code'.code → (T1' :
-      RattleType.RattleType) → (L1' : Laws.Laws T1') → Lts.Known-2 T1' L1' (the-claims t T1' L1') 𝓛 (Run.Over 𝓛 𝓜 𝓡 𝓡.env)
+  pub known-2 : (𝓤 : Ura.Ura M) → (𝓛 : Logic.Logic 𝓤) → (𝓜 : Model.Model 𝓤 𝓛.H) → (𝓡 : Running.Running 𝓤 𝓛.H 𝓜) → Wired.Wired 𝓡.env Code'.code → (Value :
+      RattleType.RattleType) → (ValueLaws : Laws.Laws Value) → Lts.Known-2 Value ValueLaws (the-claims t Value ValueLaws) 𝓛 (Run.Over 𝓛 𝓜 𝓡 𝓡.env)
   unfolding Running.tables_of Code.code
   known-2 =
-      λ 𝓤 𝓛 𝓜 𝓡 w T1' L1'. let P : Kinds'.In
+      λ 𝓤 𝓛 𝓜 𝓡 w Value ValueLaws. let P : Kinds'.In
       5
-      (Lts.ps_on-2 T1' L1') = λ κs a. Reads'4.Asked
-      (Lts.arg-2-0 T1' L1' κs)
-      (Lts.arg-2-1 T1' L1' κs)
-      (Lts.arg-2-2 T1' L1' κs)
-      (Lts.arg-2-3 T1' L1' κs)
-      (Lts.laws-2-0 T1' L1' κs)
-      (Lts.laws-2-1 T1' L1' κs)
-      (Lts.laws-2-2 T1' L1' κs)
-      (Lts.laws-2-3 T1' L1' κs)
-      (Lts.copy-2-3 T1' L1' κs)
-      (ghosts-2-0-0-0 t T1' L1' κs)
-      (dict-2-0-0-0 t T1' L1' κs)
-      (ghosts-2-0-2-1 t T1' L1' κs)
-      (dict-2-0-2-1 t T1' L1' κs)
-      (ghosts-2-0-4-2 t T1' L1' κs)
-      (dict-2-0-4-2 t T1' L1' κs)
-      (ghosts-2-0-6-3 t T1' L1' κs)
-      (dict-2-0-6-3 t T1' L1' κs)
+      (Lts.ps_on-2 Value ValueLaws) = λ κs a. Reads'4.Asked
+      (Lts.arg-2-0 Value ValueLaws κs)
+      (Lts.arg-2-1 Value ValueLaws κs)
+      (Lts.arg-2-2 Value ValueLaws κs)
+      (Lts.arg-2-3 Value ValueLaws κs)
+      (Lts.laws-2-0 Value ValueLaws κs)
+      (Lts.laws-2-1 Value ValueLaws κs)
+      (Lts.laws-2-2 Value ValueLaws κs)
+      (Lts.laws-2-3 Value ValueLaws κs)
+      (Lts.copy-2-3 Value ValueLaws κs)
+      (ghosts-2-0-0-0 t Value ValueLaws κs)
+      (dict-2-0-0-0 t Value ValueLaws κs)
+      (ghosts-2-0-2-1 t Value ValueLaws κs)
+      (dict-2-0-2-1 t Value ValueLaws κs)
+      (ghosts-2-0-4-2 t Value ValueLaws κs)
+      (dict-2-0-4-2 t Value ValueLaws κs)
+      (ghosts-2-0-6-3 t Value ValueLaws κs)
+      (dict-2-0-6-3 t Value ValueLaws κs)
       TheImpl'6.ghosts
       TheImpl'6.dict
       (Syntax.impl
       (List.◌∷◌ "mq_tree::Destruct++none::drop" List.[])
-      (Syntax.tcons (Param.layout (Lts.impl_arg-2-8 T1' L1' κs)) Syntax.tnil)
+      (Syntax.tcons (Param.layout (Lts.impl_arg-2-8 Value ValueLaws κs)) Syntax.tnil)
       Syntax.dnil)
-      (ghosts-2-0-9-6 t T1' L1' κs)
-      (dict-2-0-9-6 t T1' L1' κs)
+      (ghosts-2-0-9-6 t Value ValueLaws κs)
+      (dict-2-0-9-6 t Value ValueLaws κs)
       TheImpl.ghosts
       TheImpl.dict
       κs
       a in
       let Q : Kinds'.Out
       5
-      (Lts.ps_on-2 T1' L1')
-      (Lts.r-2 T1' L1') = λ κs a x e. Reads'4.tells
-      (Lts.arg-2-0 T1' L1' κs)
-      (Lts.arg-2-1 T1' L1' κs)
-      (Lts.arg-2-2 T1' L1' κs)
-      (Lts.arg-2-3 T1' L1' κs)
-      (Lts.laws-2-0 T1' L1' κs)
-      (Lts.laws-2-1 T1' L1' κs)
-      (Lts.laws-2-2 T1' L1' κs)
-      (Lts.laws-2-3 T1' L1' κs)
-      (Lts.copy-2-3 T1' L1' κs)
-      (ghosts-2-0-0-0 t T1' L1' κs)
-      (dict-2-0-0-0 t T1' L1' κs)
-      (ghosts-2-0-2-1 t T1' L1' κs)
-      (dict-2-0-2-1 t T1' L1' κs)
-      (ghosts-2-0-4-2 t T1' L1' κs)
-      (dict-2-0-4-2 t T1' L1' κs)
-      (ghosts-2-0-6-3 t T1' L1' κs)
-      (dict-2-0-6-3 t T1' L1' κs)
+      (Lts.ps_on-2 Value ValueLaws)
+      (Lts.r-2 Value ValueLaws) = λ κs a x e. Reads'4.tells
+      (Lts.arg-2-0 Value ValueLaws κs)
+      (Lts.arg-2-1 Value ValueLaws κs)
+      (Lts.arg-2-2 Value ValueLaws κs)
+      (Lts.arg-2-3 Value ValueLaws κs)
+      (Lts.laws-2-0 Value ValueLaws κs)
+      (Lts.laws-2-1 Value ValueLaws κs)
+      (Lts.laws-2-2 Value ValueLaws κs)
+      (Lts.laws-2-3 Value ValueLaws κs)
+      (Lts.copy-2-3 Value ValueLaws κs)
+      (ghosts-2-0-0-0 t Value ValueLaws κs)
+      (dict-2-0-0-0 t Value ValueLaws κs)
+      (ghosts-2-0-2-1 t Value ValueLaws κs)
+      (dict-2-0-2-1 t Value ValueLaws κs)
+      (ghosts-2-0-4-2 t Value ValueLaws κs)
+      (dict-2-0-4-2 t Value ValueLaws κs)
+      (ghosts-2-0-6-3 t Value ValueLaws κs)
+      (dict-2-0-6-3 t Value ValueLaws κs)
       TheImpl'6.ghosts
       TheImpl'6.dict
       (Syntax.impl
       (List.◌∷◌ "mq_tree::Destruct++none::drop" List.[])
-      (Syntax.tcons (Param.layout (Lts.impl_arg-2-8 T1' L1' κs)) Syntax.tnil)
+      (Syntax.tcons (Param.layout (Lts.impl_arg-2-8 Value ValueLaws κs)) Syntax.tnil)
       Syntax.dnil)
-      (ghosts-2-0-9-6 t T1' L1' κs)
-      (dict-2-0-9-6 t T1' L1' κs)
+      (ghosts-2-0-9-6 t Value ValueLaws κs)
+      (dict-2-0-9-6 t Value ValueLaws κs)
       TheImpl.ghosts
       TheImpl.dict
       κs
       a
       x
       e in
-      let k = Symbol'3.name (Lts.passed-2 T1' L1') in
+      let k = Symbol'3.name (Lts.passed-2 Value ValueLaws) in
       AtTypes.known_by_lem
       𝓛
       5
-      (Lts.ps_on-2 T1' L1')
-      (Lts.r-2 T1' L1')
-      (Clauses.Lasts (Kinds'.ended_of 5 (Lts.ps_on-2 T1' L1') (Lts.r-2 T1' L1')))
-      (Clauses.lasts (Kinds'.ended_of 5 (Lts.ps_on-2 T1' L1') (Lts.r-2 T1' L1')))
+      (Lts.ps_on-2 Value ValueLaws)
+      (Lts.r-2 Value ValueLaws)
+      (Clauses.Lasts (Kinds'.ended_of 5 (Lts.ps_on-2 Value ValueLaws) (Lts.r-2 Value ValueLaws)))
+      (Clauses.lasts (Kinds'.ended_of 5 (Lts.ps_on-2 Value ValueLaws) (Lts.r-2 Value ValueLaws)))
       (λ κs a x w. Walked.Fit
-      (Kinds'.ended_of 5 (Lts.ps_on-2 T1' L1') (Lts.r-2 T1' L1'))
-      (Kinds'.stays (Lts.ps_on-2 T1' L1'))
+      (Kinds'.ended_of 5 (Lts.ps_on-2 Value ValueLaws) (Lts.r-2 Value ValueLaws))
+      (Kinds'.stays (Lts.ps_on-2 Value ValueLaws))
       κs
       a
       w ×
@@ -659,9 +659,9 @@ module _ {M : Type 1} (t : Nat.ℕ) where
       κs
       a
       x
-      (Clauses.at_exit (Kinds'.ended_of 5 (Lts.ps_on-2 T1' L1') (Lts.r-2 T1' L1')) κs a w) ×
+      (Clauses.at_exit (Kinds'.ended_of 5 (Lts.ps_on-2 Value ValueLaws) (Lts.r-2 Value ValueLaws)) κs a w) ×
       Unit {0}))
-      (λ κs a. Such.Facts κs (Lts.ps-2 T1' L1') (
+      (λ κs a. Such.Facts κs (Lts.ps-2 Value ValueLaws) (
         Option.none,
         (Option.some (Such.is_str 4 tt), tt),
       ) a × P κs a)
@@ -672,9 +672,9 @@ module _ {M : Type 1} (t : Nat.ℕ) where
       (λ κs a w. 𝓛.laws.⇛_intro
       (Logic.sem
       𝓛
-      (Clauses.lasts (Kinds'.ended_of 5 (Lts.ps_on-2 T1' L1') (Lts.r-2 T1' L1')) κs a w)))
+      (Clauses.lasts (Kinds'.ended_of 5 (Lts.ps_on-2 Value ValueLaws) (Lts.r-2 Value ValueLaws)) κs a w)))
       (λ κs a x w g. g.1.0)
-      (Such.Known-under 𝓛 5 (Lts.ps_on-2 T1' L1') (Lts.r-2 T1' L1') (
+      (Such.Known-under 𝓛 5 (Lts.ps_on-2 Value ValueLaws) (Lts.r-2 Value ValueLaws) (
         Option.none,
         (Option.some (Such.is_str 4 tt), tt),
       )
@@ -684,37 +684,37 @@ module _ {M : Type 1} (t : Nat.ℕ) where
       (Run.Over 𝓛 𝓜 𝓡 𝓡.env)
       k
       λ y. Reads'4.followed
-      (Lts.arg-2-0 T1' L1' y.0.0)
-      (Lts.arg-2-1 T1' L1' y.0.0)
-      (Lts.arg-2-2 T1' L1' y.0.0)
-      (Lts.arg-2-3 T1' L1' y.0.0)
-      (Lts.laws-2-0 T1' L1' y.0.0)
-      (Lts.laws-2-1 T1' L1' y.0.0)
-      (Lts.laws-2-2 T1' L1' y.0.0)
-      (Lts.laws-2-3 T1' L1' y.0.0)
-      (Lts.copy-2-3 T1' L1' y.0.0)
-      (ghosts-2-0-0-0 t T1' L1' y.0.0)
-      (dict-2-0-0-0 t T1' L1' y.0.0)
-      (ghosts-2-0-2-1 t T1' L1' y.0.0)
-      (dict-2-0-2-1 t T1' L1' y.0.0)
-      (ghosts-2-0-4-2 t T1' L1' y.0.0)
-      (dict-2-0-4-2 t T1' L1' y.0.0)
-      (ghosts-2-0-6-3 t T1' L1' y.0.0)
-      (dict-2-0-6-3 t T1' L1' y.0.0)
+      (Lts.arg-2-0 Value ValueLaws y.0.0)
+      (Lts.arg-2-1 Value ValueLaws y.0.0)
+      (Lts.arg-2-2 Value ValueLaws y.0.0)
+      (Lts.arg-2-3 Value ValueLaws y.0.0)
+      (Lts.laws-2-0 Value ValueLaws y.0.0)
+      (Lts.laws-2-1 Value ValueLaws y.0.0)
+      (Lts.laws-2-2 Value ValueLaws y.0.0)
+      (Lts.laws-2-3 Value ValueLaws y.0.0)
+      (Lts.copy-2-3 Value ValueLaws y.0.0)
+      (ghosts-2-0-0-0 t Value ValueLaws y.0.0)
+      (dict-2-0-0-0 t Value ValueLaws y.0.0)
+      (ghosts-2-0-2-1 t Value ValueLaws y.0.0)
+      (dict-2-0-2-1 t Value ValueLaws y.0.0)
+      (ghosts-2-0-4-2 t Value ValueLaws y.0.0)
+      (dict-2-0-4-2 t Value ValueLaws y.0.0)
+      (ghosts-2-0-6-3 t Value ValueLaws y.0.0)
+      (dict-2-0-6-3 t Value ValueLaws y.0.0)
       TheImpl'6.ghosts
       TheImpl'6.dict
       (Syntax.impl
       (List.◌∷◌ "mq_tree::Destruct++none::drop" List.[])
-      (Syntax.tcons (Param.layout (Lts.impl_arg-2-8 T1' L1' y.0.0)) Syntax.tnil)
+      (Syntax.tcons (Param.layout (Lts.impl_arg-2-8 Value ValueLaws y.0.0)) Syntax.tnil)
       Syntax.dnil)
-      (ghosts-2-0-9-6 t T1' L1' y.0.0)
-      (dict-2-0-9-6 t T1' L1' y.0.0)
+      (ghosts-2-0-9-6 t Value ValueLaws y.0.0)
+      (dict-2-0-9-6 t Value ValueLaws y.0.0)
       TheImpl.ghosts
       TheImpl.dict
       record { M = M; 𝓤 = 𝓤; 𝓛 = 𝓛; 𝓜 = 𝓜; 𝓡 = 𝓡 }
       𝓡.env
-      (Symbol'3.name (Lts.passed-2 T1' L1'))
-      (𝓡.env (Symbol'3.name (Lts.passed-2 T1' L1')))
+      (Symbol'3.name (Lts.passed-2 Value ValueLaws))
+      (𝓡.env (Symbol'3.name (Lts.passed-2 Value ValueLaws)))
       Path'.refl
       (Met'8.met
       𝓤
@@ -722,42 +722,42 @@ module _ {M : Type 1} (t : Nat.ℕ) where
       𝓜
       𝓡
       (Code'.calls-std_collections::btree_map::BTreeMap::get_mut 𝓡.env w)
-      (Lts.arg-2-0 T1' L1' y.0.0)
-      (Lts.arg-2-1 T1' L1' y.0.0)
-      (Lts.arg-2-2 T1' L1' y.0.0)
-      (Lts.arg-2-3 T1' L1' y.0.0)
-      (Lts.laws-2-0 T1' L1' y.0.0)
-      (Lts.laws-2-1 T1' L1' y.0.0)
-      (Lts.laws-2-2 T1' L1' y.0.0)
-      (Lts.laws-2-3 T1' L1' y.0.0)
-      (Lts.copy-2-3 T1' L1' y.0.0)
-      (ghosts-2-0-0-0 t T1' L1' y.0.0)
-      (dict-2-0-0-0 t T1' L1' y.0.0)
-      (ghosts-2-0-2-1 t T1' L1' y.0.0)
-      (dict-2-0-2-1 t T1' L1' y.0.0)
-      (ghosts-2-0-4-2 t T1' L1' y.0.0)
-      (dict-2-0-4-2 t T1' L1' y.0.0)
-      (ghosts-2-0-6-3 t T1' L1' y.0.0)
-      (dict-2-0-6-3 t T1' L1' y.0.0)
+      (Lts.arg-2-0 Value ValueLaws y.0.0)
+      (Lts.arg-2-1 Value ValueLaws y.0.0)
+      (Lts.arg-2-2 Value ValueLaws y.0.0)
+      (Lts.arg-2-3 Value ValueLaws y.0.0)
+      (Lts.laws-2-0 Value ValueLaws y.0.0)
+      (Lts.laws-2-1 Value ValueLaws y.0.0)
+      (Lts.laws-2-2 Value ValueLaws y.0.0)
+      (Lts.laws-2-3 Value ValueLaws y.0.0)
+      (Lts.copy-2-3 Value ValueLaws y.0.0)
+      (ghosts-2-0-0-0 t Value ValueLaws y.0.0)
+      (dict-2-0-0-0 t Value ValueLaws y.0.0)
+      (ghosts-2-0-2-1 t Value ValueLaws y.0.0)
+      (dict-2-0-2-1 t Value ValueLaws y.0.0)
+      (ghosts-2-0-4-2 t Value ValueLaws y.0.0)
+      (dict-2-0-4-2 t Value ValueLaws y.0.0)
+      (ghosts-2-0-6-3 t Value ValueLaws y.0.0)
+      (dict-2-0-6-3 t Value ValueLaws y.0.0)
       TheImpl'6.ghosts
       TheImpl'6.dict
       (Syntax.impl
       (List.◌∷◌ "mq_tree::Destruct++none::drop" List.[])
-      (Syntax.tcons (Param.layout (Lts.impl_arg-2-8 T1' L1' y.0.0)) Syntax.tnil)
+      (Syntax.tcons (Param.layout (Lts.impl_arg-2-8 Value ValueLaws y.0.0)) Syntax.tnil)
       Syntax.dnil)
-      (ghosts-2-0-9-6 t T1' L1' y.0.0)
-      (dict-2-0-9-6 t T1' L1' y.0.0)
+      (ghosts-2-0-9-6 t Value ValueLaws y.0.0)
+      (dict-2-0-9-6 t Value ValueLaws y.0.0)
       TheImpl.ghosts
       TheImpl.dict
-      (let met = holds-2-0-0-0 𝓤 𝓛 𝓜 𝓡 w T1' L1' y.0.0 in record {
+      (let met = holds-2-0-0-0 𝓤 𝓛 𝓜 𝓡 w Value ValueLaws y.0.0 in record {
         total = met.total;
         matches_partial_cmp = met.matches_partial_cmp;
         matches_eq = met.matches_eq;
         cmp = met.cmp;
       })
-      (let met = holds-2-0-2-1 𝓤 𝓛 𝓜 𝓡 w T1' L1' y.0.0 in record { laws = met.laws })
-      (let met = holds-2-0-4-2 𝓤 𝓛 𝓜 𝓡 w T1' L1' y.0.0 in record { laws = met.laws; eq = met.eq })
-      (let met = holds-2-0-6-3 𝓤 𝓛 𝓜 𝓡 w T1' L1' y.0.0 in record {
+      (let met = holds-2-0-2-1 𝓤 𝓛 𝓜 𝓡 w Value ValueLaws y.0.0 in record { laws = met.laws })
+      (let met = holds-2-0-4-2 𝓤 𝓛 𝓜 𝓡 w Value ValueLaws y.0.0 in record { laws = met.laws; eq = met.eq })
+      (let met = holds-2-0-6-3 𝓤 𝓛 𝓜 𝓡 w Value ValueLaws y.0.0 in record {
         laws = met.laws;
         partial_cmp = met.partial_cmp;
       })
@@ -776,8 +776,8 @@ module _ {M : Type 1} (t : Nat.ℕ) where
       "mq_tree::Destruct++none::drop"
       𝓡.env
       (Code'.calls-mq_tree::Destruct++none::drop 𝓡.env w)
-      (Lts.impl_arg-2-8 T1' L1' y.0.0)
-      (Lts.impl_laws-2-8 T1' L1' y.0.0)
+      (Lts.impl_arg-2-8 Value ValueLaws y.0.0)
+      (Lts.impl_laws-2-8 Value ValueLaws y.0.0)
       M
       𝓤
       𝓛
@@ -787,13 +787,13 @@ module _ {M : Type 1} (t : Nat.ℕ) where
       𝓡.env
       (Code'.calls-std_collections::btree_map::comparable::RefStrComparableString::compare 𝓡.env w)
       y.0.0.1.1.1.1.0
-      (Lts.impl_arg-2-9 T1' L1' y.0.0)
-      (Lts.impl_laws-2-9 T1' L1' y.0.0)
+      (Lts.impl_arg-2-9 Value ValueLaws y.0.0)
+      (Lts.impl_laws-2-9 Value ValueLaws y.0.0)
       TheImpl'6.ghosts
       TheImpl'6.dict
       (Syntax.impl
       (List.◌∷◌ "mq_tree::Destruct++none::drop" List.[])
-      (Syntax.tcons (Param.layout (Lts.impl_arg-2-10 T1' L1' y.0.0)) Syntax.tnil)
+      (Syntax.tcons (Param.layout (Lts.impl_arg-2-10 Value ValueLaws y.0.0)) Syntax.tnil)
       Syntax.dnil)
       M
       𝓤
@@ -815,8 +815,8 @@ module _ {M : Type 1} (t : Nat.ℕ) where
       "mq_tree::Destruct++none::drop"
       𝓡.env
       (Code'.calls-mq_tree::Destruct++none::drop 𝓡.env w)
-      (Lts.impl_arg-2-10 T1' L1' y.0.0)
-      (Lts.impl_laws-2-10 T1' L1' y.0.0)
+      (Lts.impl_arg-2-10 Value ValueLaws y.0.0)
+      (Lts.impl_laws-2-10 Value ValueLaws y.0.0)
       M
       𝓤
       𝓛
@@ -847,7 +847,7 @@ module _ {M : Type 1} (t : Nat.ℕ) where
     𝓛 = 𝓛;
     𝓜 = 𝓜;
     𝓡 = 𝓡;
-  } → (T1' : RattleType.RattleType) → (L1' : Laws.Laws T1') → Lts.Known-3 T1' L1' (the-claims t T1' L1') 𝓛 (Run.Over 𝓛 𝓜 𝓡 𝓡.env)
+  } → (Value : RattleType.RattleType) → (ValueLaws : Laws.Laws Value) → Lts.Known-3 Value ValueLaws (the-claims t Value ValueLaws) 𝓛 (Run.Over 𝓛 𝓜 𝓡 𝓡.env)
   unfolding Running.tables_of Code.code
-  known-3 = λ 𝓤 𝓛 𝓜 𝓡 w below T1' L1'. λ y. Own.followed t (Lts.arg-3-0 T1' L1' y.0.0) (Lts.laws-3-0 T1' L1' y.0.0) record { M = M; 𝓤 = 𝓤; 𝓛 = 𝓛; 𝓜 = 𝓜; 𝓡 = 𝓡 } 𝓡.env
-      (Key.name (Lts.passed-3 T1' L1')) (𝓡.env (Key.name (Lts.passed-3 T1' L1'))) Path'.refl (below (Lts.arg-3-0 T1' L1' y.0.0) (Lts.laws-3-0 T1' L1' y.0.0)) y
+  known-3 = λ 𝓤 𝓛 𝓜 𝓡 w below Value ValueLaws. λ y. Own.followed t (Lts.arg-3-0 Value ValueLaws y.0.0) (Lts.laws-3-0 Value ValueLaws y.0.0) record { M = M; 𝓤 = 𝓤; 𝓛 = 𝓛; 𝓜 = 𝓜; 𝓡 = 𝓡 } 𝓡.env
+      (Key.name (Lts.passed-3 Value ValueLaws)) (𝓡.env (Key.name (Lts.passed-3 Value ValueLaws))) Path'.refl (below (Lts.arg-3-0 Value ValueLaws y.0.0) (Lts.laws-3-0 Value ValueLaws y.0.0)) y
