@@ -1,4 +1,4 @@
-ghost use Rattle.std.specs.Prelude.{◌≡◌, IfOk, IfErr, IsTrue};
+ghost use Rattle.std.specs.Prelude.{◌≡◌, IfOk, IfErr, IsTrue, string_bytes};
 ghost use Rattle.mq_topic.specs.Texts.{filter_fault, told, accepts, is_filter};
 
 use crate::fault::TopicFault;
@@ -49,6 +49,14 @@ impl TopicFilter {
         Ok(TopicFilter {
             text: String::from_str(alloc, text)?,
         })
+    }
+
+    /// The text alone. It takes no memory.
+    pub fn into_text(self) -> String
+        ensures { string_bytes result ≡ self }
+    {
+        let TopicFilter { text } = self;
+        text
     }
 
     /// Another filter with the same text.

@@ -1,12 +1,12 @@
--- How many keys and nodes a node has.
+-- How many keys and nodes a node has, and what its values hold together.
 use Rattle.std.proofs.Common.{true≢false, ◌≡◌, ◌≢◌, ℕ, ◌+◌, ◌≤◌, Bool, true, false, ◌↔◌, eqb, List, [], ◌∷◌, ◌++◌, length, Option, Some, None, is_some, refl, sym, ap, ap₂, ◌∙◌, suc, arith, length-append}
 use mir.Val.{bool_byte}
 use Rattle.std.specs.declared.string.String.{String}
 use Rattle.std.specs.List.{sum_by}
 use Rattle.std.specs.Map.{keys_of, values_of}
 use Rattle.std.proofs.lemmas.Bool.Decides.{nat_tests}
-use Rattle.std.proofs.lemmas.List.Sums.{sum_by-cons}
-use Rattle.mq_tree.specs.Entries.{Entries}
+use Rattle.std.proofs.lemmas.List.Sums.{sum_by-cons, sum_by-append}
+use Rattle.mq_tree.specs.Entries.{Entries, capped}
 use Rattle.mq_tree.specs.Nodes.{NodeView, Children, under, below, own, entries_of, children_of, AreChildren}
 use Rattle.mq_tree.specs.Below.{tallied}
 use Rattle.mq_tree.specs.Prefixes.{prefixes}
@@ -75,3 +75,30 @@ pub prefixes_node : {Y V : Type 0} (value : Option V) (nodes : List (String Y ×
     → sum_by (λ node. nodes_of (entries_of node)) (values_of nodes) ≡ length (prefixes (keys_of (entries_of now)))
 prefixes_node value nodes now is are =
     sym (tallied_nodes nodes) ∙ sym (length-blocks (children_of nodes)) ∙ ap length (sym (prefixes_own value (children_of nodes) are)) ∙ ap (λ node. length (prefixes (keys_of (entries_of node)))) is
+
+-- ---- values
+-- what the values hold, f of each
+abbrev pub held : {V : Type 0} → (V → ℕ) → Entries V → ℕ
+held f es = sum_by (λ e. f e.1) es
+
+held-under : {V : Type 0} (f : V → ℕ) (l : List ℕ) (es : Entries V) → held f (under l es) ≡ held f es
+held-under f l [] = refl
+held-under f l (e ∷ es) =
+    sum_by-cons (λ x. f x.1) (l ∷ e.0, e.1) (under l es) ∙ ap (λ n. f e.1 + n) (held-under f l es) ∙ sym (sum_by-cons (λ x. f x.1) e es)
+
+held-below : {V : Type 0} (f : V → ℕ) (children : Children V) → held f (below children) ≡ sum_by (held f) (values_of children)
+held-below f [] = refl
+held-below f (child ∷ children) =
+    sum_by-append (λ e. f e.1) (under child.0 child.1) (below children)
+    ∙ ap₂ (λ a b. a + b) (held-under f child.0 child.1) (held-below f children) ∙ sym (sum_by-cons (held f) child.1 (values_of children))
+
+pub held-node : {Y V : Type 0} (f : V → ℕ) (value : Option V) (nodes : List (String Y × NodeView V)) (now : NodeView V) (n : ℕ) → ◌≡◌ {A = NodeView V} (value, children_of nodes) now → n ≡ capped (held f (own value))
+    → capped (n + sum_by (λ node. held f (entries_of node)) (values_of nodes)) ≡ capped (held f (entries_of now))
+held-node f value nodes now n is e =
+    let rest : held f (below (children_of nodes)) ≡ sum_by (λ node. held f (entries_of node)) (values_of nodes) =
+    held-below f (children_of nodes) ∙ sum_by-children (held f) nodes in
+    let whole : held f (own value ++ below (children_of nodes)) ≡ held f (own value) + held f (below (children_of nodes)) =
+    sum_by-append (λ e. f e.1) (own value) (below (children_of nodes)) in
+    let both : capped (n + sum_by (λ node. held f (entries_of node)) (values_of nodes)) ≡ capped (held f (own value ++ below (children_of nodes))) =
+    omega (arith, e, rest, whole) in
+    both ∙ ap (λ node. capped (held f (entries_of node))) is

@@ -1,17 +1,15 @@
 -- One level down a key, at a node.
 use Rattle.std.proofs.Common.{◌≡◌, ◌≢◌, ℕ, List, [], ◌∷◌, ◌++◌, Option, Some, None, refl, sym, ap, ◌∙◌}
 use Rattle.std.specs.declared.string.String.{String}
-use Rattle.std.specs.String.{string_bytes, string_cmp}
+use Rattle.std.specs.String.{string_cmp}
 use Rattle.std.specs.BTreeMap.{insert_entry}
 use Rattle.std.specs.Map.{keys_of, lookup, remove_entry, set_value}
 use Rattle.std.specs.List.Sorted.{IsStrictlySortedBy}
 use Rattle.std.specs.Option.{option_map, option_and_then}
-use Rattle.std.specs.Ordering.{nat_cmp}
-use Rattle.std.specs.Cmp.Lexicographic.{slice_cmp}
 use Rattle.mq_topic.specs.Levels.{level_order}
 use Rattle.mq_tree.specs.Entries.{is_key}
-use Rattle.mq_tree.specs.Nodes.{NodeView, is_level, own, below, entries_of, children_of, AreChildren}
-use Rattle.mq_tree.proofs.Maps.{is_text, lookup_children, set_children, remove_children, insert_children, ordered_levels}
+use Rattle.mq_tree.specs.Nodes.{NodeView, is_level, own, below, entries_of, children_of, with_branch, AreChildren}
+use Rattle.mq_tree.proofs.Maps.{is_text, lookup_children, set_children, remove_children, ordered_levels}
 use Rattle.mq_tree.proofs.Children.{lookup-there}
 use Rattle.mq_tree.proofs.Changes as changes
 
@@ -58,11 +56,10 @@ module _ {Y V : Type 0} (key : List (List ℕ)) (l : List ℕ) (rest : List (Lis
   put_same node new fin f n e =
       changes.put_same l rest value (children_of nodes) at.are (entries_of node) (entries_of new) (children_of fin) (child_is (Some node) f) n (ap children_of e ∙ set_children l nodes new) ∙ entries_is
 
-  pub put_branch : (text : String Y) (v : V) (new : NodeView V) (fin : List (String Y × NodeView V)) → None ≡ lookup (is_text l) nodes → string_bytes text ≡ l → entries_of new ≡ (rest, v) ∷ [] → fin ≡ insert_entry string_cmp nodes text new
+  pub put_branch : (v : V) (fin : List (String Y × NodeView V)) → None ≡ lookup (is_text l) nodes → children_of fin ≡ with_branch (children_of nodes) l rest v
       → own value ++ below (children_of fin) ≡ insert_entry level_order (entries_of now) key v
-  put_branch text v new fin f t n e =
-      rw (at.key_is, ← entries_is) (changes.put_branch l rest value (children_of nodes) at.are v (entries_of new) (children_of fin) (child_is None f) n
-      (ap children_of e ∙ insert_children text nodes new ∙ ap (λ b. insert_entry (slice_cmp nat_cmp) (children_of nodes) b (entries_of new)) t))
+  put_branch v fin f e =
+      rw (at.key_is, ← entries_is) (changes.put_branch l rest value (children_of nodes) at.are v ((rest, v) ∷ []) (children_of fin) (child_is None f) refl e)
 
   -- ---- what becomes of the children
   pub some_child : (node : NodeView V) → Some node ≡ lookup (is_text l) nodes → entries_of node ≢ []
@@ -76,6 +73,6 @@ module _ {Y V : Type 0} (key : List (List ℕ)) (l : List ℕ) (rest : List (Lis
   children_cut new mid fin m e o =
       record { ordered = ordered_levels fin o; live = rw (e, remove_children l mid, m, set_children l nodes new) (changes.live_cut (is_level l) (children_of nodes) (entries_of new) at.are.live) }
 
-  pub children_hung : (text : String Y) (new : NodeView V) (fin : List (String Y × NodeView V)) → entries_of new ≢ [] → fin ≡ insert_entry string_cmp nodes text new → IsStrictlySortedBy string_cmp (keys_of fin) → AreChildren (children_of fin)
-  children_hung text new fin n e o =
-      record { ordered = ordered_levels fin o; live = rw (e, insert_children text nodes new) (changes.live_insert (string_bytes text) (children_of nodes) (entries_of new) at.are.live n) }
+  pub children_hung : (v : V) (fin : List (String Y × NodeView V)) → children_of fin ≡ with_branch (children_of nodes) l rest v → IsStrictlySortedBy string_cmp (keys_of fin) → AreChildren (children_of fin)
+  children_hung v fin e o =
+      record { ordered = ordered_levels fin o; live = rw e (changes.live_insert l (children_of nodes) ((rest, v) ∷ []) at.are.live (λ none. cc)) }

@@ -1,11 +1,13 @@
--- Whether two levels are the same.
-use Rattle.std.proofs.Common.{true≢false, ◌≡◌, ◌≢◌, ℕ, Bool, true, false, List, Less, nat_cmp, refl, sym, ap, ◌∙◌}
+-- Whether two levels are the same, and which comes first.
+use Rattle.std.proofs.Common.{true≢false, ◌≡◌, ◌≢◌, ℕ, ◌≤◌, Bool, true, false, cond, List, [], ◌∷◌, length, Ordering, Less, Equal, Greater, nat_cmp, nat_lt, eqb, get_or, arith, refl, sym, ap, ◌∙◌}
 use Rattle.std.specs.Str.{bytes_eq}
 use Rattle.std.specs.Cmp.Lexicographic.{slice_cmp}
-use Rattle.std.specs.Ordering.{is_lt}
+use Rattle.std.specs.Ordering.{is_lt, ordering_then, ordering_reverse}
 use Rattle.std.proofs.lemmas.Slice.Eq.{slice_eq-Decides}
 use Rattle.std.proofs.lemmas.Bool.Decides.{Decides-eqb}
 use Rattle.std.proofs.lemmas.Cmp.{nat_list_cmp_total, tied_itself}
+use Rattle.std.proofs.lemmas.Map.Lookups.{exact_bytes}
+use Rattle.mq_tree.specs.Below.{hash, plus, is_before, in_order_of}
 
 pub is_same : (l : List ℕ) → bytes_eq l l ≡ true
 is_same l = (slice_eq-Decides Decides-eqb l l (bytes_eq l l) refl).1 refl
@@ -29,3 +31,44 @@ apart_from_greater l m e =
 
 pub flipped : (l m : List ℕ) → bytes_eq l m ≡ false → bytes_eq m l ≡ false
 flipped l m h = not_same m l (λ same. absurd (true≢false (sym (is_same l) ∙ ap (bytes_eq l) (sym same) ∙ h)))
+
+not_before_empty : (l : List ℕ) → false ≡ is_before l []
+not_before_empty [] = refl
+not_before_empty (x ∷ xs) = refl
+
+-- the first byte tells whether a level comes before one of a single byte
+pub before_byte : (l : List ℕ) (b : ℕ) → 1 ≤ length l → nat_lt (get_or l 0 0) b ≡ is_before l (b ∷ [])
+before_byte [] b h = absurd (omega (arith, h))
+before_byte (x ∷ xs) b h =
+    elim (nat_lt x b) as (λ a. a ≡ is_lt (ordering_then (cond a Less (cond (eqb x b) Equal Greater)) (slice_cmp nat_cmp xs []))) [
+      | true ↦ refl
+      | false ↦ elim (eqb x b) as (λ e. false ≡ is_lt (ordering_then (cond e Equal Greater) (slice_cmp nat_cmp xs []))) [ true ↦ not_before_empty xs | false ↦ refl ]
+    ]
+
+-- of a level that does not come before `+`: `#` comes before it, and so does `+` where it is another
+pub hash_first : (l : List ℕ) → is_before l plus ≡ false → slice_cmp nat_cmp hash l ≡ Less
+hash_first l h =
+    let go : (o : Ordering) → slice_cmp nat_cmp l plus ≡ o → slice_cmp nat_cmp hash l ≡ Less =
+    λ o. elim o as (λ o. slice_cmp nat_cmp l plus ≡ o → slice_cmp nat_cmp hash l ≡ Less) [
+      | Less ↦ λ e. absurd (true≢false (sym (ap is_lt e) ∙ h))
+      | Equal ↦ λ e. ap (slice_cmp nat_cmp hash) (exact_bytes l plus e)
+      | Greater ↦ λ e. nat_list_cmp_total.trans hash plus l refl (nat_list_cmp_total.antisymm plus l ∙ ap ordering_reverse e)
+    ] in
+    go (slice_cmp nat_cmp l plus) refl
+
+pub plus_first : (l : List ℕ) → is_before l plus ≡ false → l ≢ plus → slice_cmp nat_cmp plus l ≡ Less
+plus_first l h n =
+    let go : (o : Ordering) → slice_cmp nat_cmp l plus ≡ o → slice_cmp nat_cmp plus l ≡ Less =
+    λ o. elim o as (λ o. slice_cmp nat_cmp l plus ≡ o → slice_cmp nat_cmp plus l ≡ Less) [
+      | Less ↦ λ e. absurd (true≢false (sym (ap is_lt e) ∙ h))
+      | Equal ↦ λ e. absurd (n (exact_bytes l plus e))
+      | Greater ↦ λ e. nat_list_cmp_total.antisymm plus l ∙ ap ordering_reverse e
+    ] in
+    go (slice_cmp nat_cmp l plus) refl
+
+-- such a level is looked for last
+pub last_in_order : (n : List ℕ) → is_before n plus ≡ false → in_order_of n ≡ hash ∷ plus ∷ n ∷ []
+last_in_order n h =
+    let after : is_before n hash ≡ false = ap is_lt (nat_list_cmp_total.antisymm n hash ∙ ap ordering_reverse (hash_first n h)) in
+    ap (λ b. cond b (n ∷ hash ∷ plus ∷ []) (cond (is_before n plus) (hash ∷ n ∷ plus ∷ []) (hash ∷ plus ∷ n ∷ []))) after
+    ∙ ap (λ b. cond b (hash ∷ n ∷ plus ∷ []) (hash ∷ plus ∷ n ∷ [])) h

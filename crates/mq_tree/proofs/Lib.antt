@@ -2,11 +2,12 @@ mod Blocks
 mod Changes
 mod Children
 mod Counts
-mod Counted
+mod SmallTrees
 mod Descents
 mod Edits
 mod Exact
 mod Filters
+mod Firsts
 mod Lent
 mod Levels
 mod Levelwise

@@ -1,13 +1,15 @@
 -- Private words of the look-ups below a tree's root, where the rule on `$` plays no part.
-use Rattle.std.specs.Prelude.{◌≢◌, ℕ, ◌+◌, Bool, true, false, cond, ◌==◌, ◌&&◌, ◌||◌, slice_index, List, [], ◌∷◌}
-use Rattle.std.specs.List.{filter, list_any, AllByRecursion}
-use Rattle.std.specs.Map.{values_of}
+use Rattle.std.specs.Prelude.{◌≡◌, ◌≢◌, ℕ, ◌+◌, Bool, true, false, not, cond, ◌==◌, ◌&&◌, ◌||◌, slice_index, List, [], ◌∷◌, ◌++◌, length, map}
+use denote.Ref.{Bor}
+use Rattle.std.specs.List.{filter, flat_map, list_any, AllByRecursion}
+use Rattle.std.specs.Map.{keys_of, values_of}
 use Rattle.std.specs.Ordering.{nat_cmp, is_lt}
 use Rattle.std.specs.Cmp.Lexicographic.{slice_cmp}
 use Rattle.std.specs.Str.{bytes_eq}
 use Rattle.mq_topic.specs.Matching.{level_matches}
 use Rattle.mq_tree.specs.Entries.{Entries}
-use Rattle.mq_tree.specs.Prefixes.{heads}
+use Rattle.mq_tree.specs.Nodes.{Children}
+use Rattle.mq_tree.specs.Prefixes.{heads, prefixes}
 
 -- `#` and `+`
 abbrev pub hash : List ℕ
@@ -32,6 +34,10 @@ matches_below [] (n ∷ ns) = false
 matches_below (f ∷ fs) [] = is_last_hash f fs
 matches_below (f ∷ fs) (n ∷ ns) = is_last_hash f fs || (level_matches f n && matches_below fs ns)
 
+-- k matches the name
+abbrev pub suits_name : List (List ℕ) → List (List ℕ) → Bool
+suits_name name k = matches_below k name
+
 -- the prefixes of a list of levels, the empty one first
 abbrev pub fronts : List (List ℕ) → List (List (List ℕ))
 fronts ls = [] ∷ heads ls
@@ -48,10 +54,30 @@ meets_filter wanted p = list_any (λ g. matches_below g p) (fronts wanted)
 abbrev pub values_at : {V : Type 0} → (List (List ℕ) → Bool) → Entries V → List V
 values_at passes es = values_of (filter (λ e. passes e.0) es)
 
+-- how many of the nodes below pass
+abbrev pub nodes_at : {V : Type 0} → (List (List ℕ) → Bool) → Entries V → ℕ
+nodes_at passes es = length (filter passes (prefixes (keys_of es)))
+
 -- one for each, and what f counts there
 abbrev pub tallied : {A : Type 0} → (A → ℕ) → List A → ℕ
 tallied f [] = 0
 tallied f (x ∷ xs) = (1 + f x) + tallied f xs
+
+-- the values below each of the children at the keys that pass
+abbrev pub values_below : {V : Type 0} → (List (List ℕ) → Bool) → Children V → List V
+values_below passes children = flat_map (λ child. values_at passes child.1) children
+
+-- each of the children, and how many of the nodes below it pass
+abbrev pub nodes_below : {V : Type 0} → (List (List ℕ) → Bool) → Children V → ℕ
+nodes_below passes children = tallied (λ child. nodes_at passes child.1) children
+
+-- the children whose level does not begin with `$`
+abbrev pub shown : {V : Type 0} → Children V → Children V
+shown children = filter (λ child. not (begins_with_dollar child.0)) children
+
+-- these values are added at the end
+abbrev pub Adds : {V : Type 0} → List (Bor V) → List (Bor V) → List V → Type 0
+Adds old new values = map (λ v. v.now) new ≡ map (λ v. v.now) old ++ values
 
 -- no level is a wildcard
 abbrev pub ArePlain : List (List ℕ) → Type 0
@@ -63,7 +89,12 @@ HashLast [] = Unit {0}
 HashLast (l ∷ []) = Unit {0}
 HashLast (l ∷ m ∷ k) = (l ≢ hash) × HashLast (m ∷ k)
 
+-- l comes before m
+abbrev pub is_before : List ℕ → List ℕ → Bool
+is_before l m = is_lt (slice_cmp nat_cmp l m)
+
 -- the levels of children that may match n, in their order
 abbrev pub in_order_of : List ℕ → List (List ℕ)
 in_order_of n =
-    cond (is_lt (slice_cmp nat_cmp n hash)) (n ∷ hash ∷ plus ∷ []) (cond (is_lt (slice_cmp nat_cmp n plus)) (hash ∷ n ∷ plus ∷ []) (hash ∷ plus ∷ n ∷ []))
+    cond (is_before n hash) (n ∷ hash ∷ plus ∷ [])
+    (cond (is_before n plus) (hash ∷ n ∷ plus ∷ []) (hash ∷ plus ∷ n ∷ []))

@@ -7,7 +7,7 @@ use denote.RattleType.{RattleType}
 use Rattle.mq_topic.specs.Levels.{level_order}
 use Rattle.mq_tree.specs.Entries.{Entries, is_key}
 use Rattle.mq_tree.specs.Nodes.{NodeView, entries_of}
-use Rattle.mq_tree.specs.contracts.node.Node.{the_row}
+use Rattle.mq_tree.specs.contracts.tree.node.Node.{the_row}
 
 -- v is put at the key k, or nothing is done
 abbrev pub PutsAtMost : {V : Type 0} → List (List ℕ) → V → Entries V → Entries V → Type 0

@@ -4,7 +4,7 @@ use Rattle.std.specs.declared.string.String.{String}
 use Rattle.std.specs.String.{string_bytes}
 use Rattle.std.specs.Ordering.{nat_cmp}
 use Rattle.std.specs.Cmp.Lexicographic.{slice_cmp}
-use Rattle.std.specs.BTreeMap.{is_at}
+use Rattle.std.specs.BTreeMap.{insert_entry, is_at}
 use Rattle.std.specs.Map.{keys_of}
 use Rattle.std.specs.List.Sorted.{IsStrictlySortedBy}
 use Rattle.mq_tree.specs.Entries.{Entries}
@@ -39,6 +39,10 @@ entries_of node = own node.0 ++ below node.1
 -- the children that a map from levels to nodes holds
 abbrev pub children_of : {Y V : Type 0} → List (String Y × NodeView V) → Children V
 children_of nodes = map (λ node. (string_bytes node.0, entries_of node.1)) nodes
+
+-- the children once a branch that leads to v alone is hung in at a level
+abbrev pub with_branch : {V : Type 0} → Children V → List ℕ → List (List ℕ) → V → Children V
+with_branch children level rest v = insert_entry (slice_cmp nat_cmp) children level ((rest, v) ∷ [])
 
 -- the test for the child at a level
 abbrev pub is_level : List ℕ → List ℕ → Bool

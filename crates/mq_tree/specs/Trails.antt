@@ -1,8 +1,8 @@
 -- How long a trail is.
 use Rattle.std.specs.Prelude.{ℕ, ◌+◌, Option, Some, None}
-use Rattle.mq_tree.specs.declared.steps.Trail.{Trail}
-use Rattle.mq_tree.specs.declared.steps.Trail.TheOpen.{Trail-F}
-use Rattle.mq_tree.specs.declared.steps.Trail.TheFolds.{fold-Trail}
+use Rattle.mq_tree.specs.declared.tree.steps.Trail.{Trail}
+use Rattle.mq_tree.specs.declared.tree.steps.Trail.TheOpen.{Trail-F}
+use Rattle.mq_tree.specs.declared.tree.steps.Trail.TheFolds.{fold-Trail}
 
 -- one more than the trail before, if there is one
 abbrev pub one_more : Option ℕ → ℕ

@@ -2,10 +2,10 @@
 //! by a topic name or a topic filter walk matching nodes alone.
 #![tactic(auto)]
 
+mod counted;
 mod lookup;
-mod node;
-mod steps;
 mod tree;
 
-pub use steps::Steps;
+pub use counted::Counted;
 pub use tree::LevelTree;
+pub use tree::steps::Steps;

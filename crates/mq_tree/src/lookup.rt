@@ -1,16 +1,17 @@
-//! Look-ups by a topic name and by a topic filter. They reach a node only by a call that ticks, and enter only
-//! nodes that match so far.
-ghost use Rattle.std.specs.Prelude.{◌≡◌, ◌+◌, ◌++◌, not, length, map, OnOk};
-ghost use Rattle.std.specs.List.{filter, flat_map};
+//! Look-ups by a topic name and by a topic filter. They stand outside the module `tree`, so that they can enter a
+//! node below another only by a call that ticks; they enter only nodes that match so far.
+ghost use Rattle.std.specs.Prelude.{◌≡◌, ◌+◌, [], length, map, OnOk};
 ghost use Rattle.std.specs.Map.{keys_of, values_of};
 ghost use Rattle.mq_topic.specs.Levels.{levels, levels_left};
 ghost use Rattle.mq_topic.specs.Matching.{matches};
-ghost use Rattle.mq_tree.specs.Below.{matches_below, meets_name, meets_filter, values_at, tallied, begins_with_dollar, ArePlain, HashLast, in_order_of};
+ghost use Rattle.mq_tree.specs.Below.{begins_with_dollar, is_before, plus, in_order_of, shown};
+ghost use Rattle.mq_tree.specs.Below.{Adds, values_at, values_below, nodes_at, nodes_below};
+ghost use Rattle.mq_tree.specs.Below.{suits_name, meets_name, matches_below, meets_filter, ArePlain, HashLast};
 ghost use Rattle.mq_tree.specs.Nodes.{entries_of, own, AreChildren};
 ghost use Rattle.mq_tree.specs.Prefixes.{prefixes, met_by_name, met_by_filter};
 
-use crate::node::Node;
-use crate::steps::Steps;
+use crate::tree::node::Node;
+use crate::tree::steps::Walk;
 use mq_topic::split_first;
 use std::alloc::AllocError;
 
@@ -19,11 +20,11 @@ use std::alloc::AllocError;
 pub(crate) fn by_name<'a, V>(
     root: &'a Node<V>,
     name: &str,
-    steps: &mut Steps,
+    steps: &mut Walk,
     found: &mut Vec<&'a V>,
 ) -> Result<(), AllocError>
     requires { ArePlain (levels name.now) }
-    ensures found { OnOk result (map (λ v. v.now) found.new.items ≡ map (λ v. v.now) found.old.items ++ values_of (filter (λ e. matches e.0 (levels name.now)) (entries_of root.now))) }
+    ensures found { OnOk result (Adds found.old.items found.new.items (values_at (λ k. matches k (levels name.now)) (entries_of root.now))) }
     ensures count { OnOk result (steps.new ≡ steps.old + length (met_by_name (levels name.now) (prefixes (keys_of (entries_of root.now))))) }
 {
     let (first, rest) = split_first(name);
@@ -42,25 +43,34 @@ fn begins_with_dollar(level: &str) -> bool
     level.starts_with('$')
 }
 
-// The same at a node, with these levels left of the name. A `#` matches its parent too.
+// The same at a node, with these levels left of the name.
 fn below_by_name<'a, V>(
     node: &'a Node<V>,
     name: Option<&str>,
-    steps: &mut Steps,
+    steps: &mut Walk,
     found: &mut Vec<&'a V>,
 ) -> Result<(), AllocError>
     requires { ArePlain (levels_left name) }
-    ensures found { OnOk result (map (λ v. v.now) found.new.items ≡ map (λ v. v.now) found.old.items ++ values_at (λ k. matches_below k (levels_left name.entry)) (entries_of node.now)) }
-    ensures count { OnOk result (steps.new ≡ steps.old + length (filter (meets_name (levels_left name.entry)) (prefixes (keys_of (entries_of node.now))))) }
+    ensures found { OnOk result (Adds found.old.items found.new.items (values_at (suits_name (levels_left name.entry)) (entries_of node.now))) }
+    ensures count { OnOk result (steps.new ≡ steps.old + nodes_at (meets_name (levels_left name.entry)) (entries_of node.now)) }
 {
     let Some(name) = name else {
-        add_value(node, found)?;
-        return match node.child("#", steps) {
-            Some(child) => add_value(child, found),
-            None => Ok(()),
-        };
+        return at_end(node, steps, found);
     };
     let (level, rest) = split_first(name);
+    let Some(first) = node.first() else {
+        return Ok(());
+    };
+    // Mostly no child comes before `+`: then there is no `#`, and a `+` comes first.
+    if !comes_before_plus(first.level()) && !comes_before_plus(level) {
+        if first.level() == "+" {
+            below_by_name(first.enter(steps), rest, steps, found)?;
+        }
+        let Some(exact) = node.child(level, steps) else {
+            return Ok(());
+        };
+        return below_by_name(exact, rest, steps, found);
+    }
     for candidate in in_order(level) {
         let Some(child) = node.child(candidate, steps) else {
             continue;
@@ -74,13 +84,38 @@ fn below_by_name<'a, V>(
     Ok(())
 }
 
+// The same where the name ends. A `#` matches its parent too.
+fn at_end<'a, V>(
+    node: &'a Node<V>,
+    steps: &mut Walk,
+    found: &mut Vec<&'a V>,
+) -> Result<(), AllocError>
+    ensures found { OnOk result (Adds found.old.items found.new.items (values_at (suits_name []) (entries_of node.now))) }
+    ensures count { OnOk result (steps.new ≡ steps.old + nodes_at (meets_name []) (entries_of node.now)) }
+{
+    add_value(node, found)?;
+    match node.child("#", steps) {
+        Some(child) => add_value(child, found),
+        None => Ok(()),
+    }
+}
+
+fn comes_before_plus(level: &str) -> bool
+    ensures { result ≡ is_before level.now plus }
+{
+    match level.as_bytes() {
+        [first, ..] => *first < b'+',
+        [] => true,
+    }
+}
+
 // The levels of the children that may match a name's level, in their order.
 fn in_order<'a>(level: &'a str) -> [&'a str; 3]
     ensures { map (λ x. x.now) result ≡ in_order_of level.now }
 {
     if level < "#" {
         [level, "#", "+"]
-    } else if level < "+" {
+    } else if comes_before_plus(level) {
         ["#", level, "+"]
     } else {
         ["#", "+", level]
@@ -88,7 +123,7 @@ fn in_order<'a>(level: &'a str) -> [&'a str; 3]
 }
 
 fn add_value<'a, V>(node: &'a Node<V>, found: &mut Vec<&'a V>) -> Result<(), AllocError>
-    ensures { OnOk result (map (λ v. v.now) found.new.items ≡ map (λ v. v.now) found.old.items ++ values_of (own node.now.0)) }
+    ensures { OnOk result (Adds found.old.items found.new.items (values_of (own node.now.0))) }
 {
     match node.value() {
         Some(value) => Ok(found.push(value)?),
@@ -101,11 +136,11 @@ fn add_value<'a, V>(node: &'a Node<V>, found: &mut Vec<&'a V>) -> Result<(), All
 pub(crate) fn by_filter<'a, V>(
     root: &'a Node<V>,
     wanted: &str,
-    steps: &mut Steps,
+    steps: &mut Walk,
     found: &mut Vec<&'a V>,
 ) -> Result<(), AllocError>
     requires { HashLast (levels wanted.now) }
-    ensures found { OnOk result (map (λ v. v.now) found.new.items ≡ map (λ v. v.now) found.old.items ++ values_of (filter (λ e. matches (levels wanted.now) e.0) (entries_of root.now))) }
+    ensures found { OnOk result (Adds found.old.items found.new.items (values_at (matches (levels wanted.now)) (entries_of root.now))) }
     ensures count { OnOk result (steps.new ≡ steps.old + length (met_by_filter (levels wanted.now) (prefixes (keys_of (entries_of root.now))))) }
 {
     let (first, rest) = split_first(wanted);
@@ -122,12 +157,12 @@ pub(crate) fn by_filter<'a, V>(
 fn shown_by_filter<'a, V>(
     root: &'a Node<V>,
     wanted: Option<&str>,
-    steps: &mut Steps,
+    steps: &mut Walk,
     found: &mut Vec<&'a V>,
 ) -> Result<(), AllocError>
     requires { HashLast (levels_left wanted) }
-    ensures found { OnOk result (map (λ v. v.now) found.new.items ≡ map (λ v. v.now) found.old.items ++ flat_map (λ child. values_at (matches_below (levels_left wanted.entry)) child.1) (filter (λ child. not (begins_with_dollar child.0)) root.now.1)) }
-    ensures count { OnOk result (steps.new ≡ steps.old + tallied (λ child. length (filter (meets_filter (levels_left wanted.entry)) (prefixes (keys_of child.1)))) (filter (λ child. not (begins_with_dollar child.0)) root.now.1)) }
+    ensures found { OnOk result (Adds found.old.items found.new.items (values_below (matches_below (levels_left wanted.entry)) (shown root.now.1))) }
+    ensures count { OnOk result (steps.new ≡ steps.old + nodes_below (meets_filter (levels_left wanted.entry)) (shown root.now.1)) }
     ensures children { AreChildren root.now.1 }
 {
     for child in root.children() {
@@ -144,12 +179,12 @@ fn shown_by_filter<'a, V>(
 fn below_by_filter<'a, V>(
     node: &'a Node<V>,
     wanted: Option<&str>,
-    steps: &mut Steps,
+    steps: &mut Walk,
     found: &mut Vec<&'a V>,
 ) -> Result<(), AllocError>
     requires { HashLast (levels_left wanted) }
-    ensures found { OnOk result (map (λ v. v.now) found.new.items ≡ map (λ v. v.now) found.old.items ++ values_at (matches_below (levels_left wanted.entry)) (entries_of node.now)) }
-    ensures count { OnOk result (steps.new ≡ steps.old + length (filter (meets_filter (levels_left wanted.entry)) (prefixes (keys_of (entries_of node.now))))) }
+    ensures found { OnOk result (Adds found.old.items found.new.items (values_at (matches_below (levels_left wanted.entry)) (entries_of node.now))) }
+    ensures count { OnOk result (steps.new ≡ steps.old + nodes_at (meets_filter (levels_left wanted.entry)) (entries_of node.now)) }
 {
     let Some(wanted) = wanted else {
         return add_value(node, found);
@@ -171,12 +206,8 @@ fn below_by_filter<'a, V>(
 }
 
 // The values of the node and of all nodes below it.
-fn all<'a, V>(
-    node: &'a Node<V>,
-    steps: &mut Steps,
-    found: &mut Vec<&'a V>,
-) -> Result<(), AllocError>
-    ensures found { OnOk result (map (λ v. v.now) found.new.items ≡ map (λ v. v.now) found.old.items ++ values_of (entries_of node.now)) }
+fn all<'a, V>(node: &'a Node<V>, steps: &mut Walk, found: &mut Vec<&'a V>) -> Result<(), AllocError>
+    ensures found { OnOk result (Adds found.old.items found.new.items (values_of (entries_of node.now))) }
     ensures count { OnOk result (steps.new ≡ steps.old + length (prefixes (keys_of (entries_of node.now)))) }
 {
     add_value(node, found)?;

@@ -1,6 +1,6 @@
 ghost use Rattle.std.specs.Prelude.{◌≡◌, ◌+◌, [], length, map, IfOk, OnOk, OnErr, None};
 ghost use Rattle.std.specs.BTreeMap.{insert_entry};
-ghost use Rattle.std.specs.List.{filter};
+ghost use Rattle.std.specs.List.{filter, sum_by};
 ghost use Rattle.std.specs.Map.{lookup, keys_of, values_of, remove_entry};
 ghost use Rattle.std.specs.Borrow.{sem};
 ghost use Rattle.std.specs.Option.{option_copied, option_copied_mut};
@@ -10,9 +10,13 @@ ghost use Rattle.mq_topic.specs.Matching.{matches};
 ghost use Rattle.mq_tree.specs.Entries.{is_key, capped, AreInOrder};
 ghost use Rattle.mq_tree.specs.Prefixes.{prefixes, met_by_name, met_by_filter};
 
+pub(crate) mod node;
+pub(crate) mod steps;
+
+use self::node::Node;
+use self::steps::Steps;
+use crate::counted::Counted;
 use crate::lookup::{by_filter, by_name};
-use crate::node::Node;
-use crate::steps::Steps;
 use mq_topic::{LevelText, TopicFilter, TopicName};
 use std::alloc::{AllocError, Global};
 use std::marker::Model;
@@ -93,7 +97,8 @@ impl<V> LevelTree<V> {
         self.root.len()
     }
 
-    /// How many nodes there are, one for each nonempty prefix of a key, at most `u64::MAX`. It takes no memory.
+    /// How many nodes are kept, one for each nonempty prefix of a key, at most `u64::MAX`. It counts them one by
+    /// one, in the very maps that hold them, and takes no memory.
     pub fn nodes(&self) -> u64
         ensures { result ≡ capped (length (prefixes (keys_of self.now))) }
     {
@@ -104,9 +109,10 @@ impl<V> LevelTree<V> {
     pub fn for_name(&self, name: &TopicName, steps: &mut Steps) -> Result<Vec<&V>, AllocError>
         ensures found { IfOk result (λ found. map (λ v. v.now) found.items ≡ values_of (filter (λ e. matches e.0 (levels name.now)) self.now)) }
         ensures count { OnOk result (steps.new ≡ steps.old + length (met_by_name (levels name.now) (prefixes (keys_of self.now)))) }
+        ensures ordered { AreInOrder self.now }
     {
         let mut found = Vec::new(self.alloc);
-        by_name(&self.root, name.text(), steps, &mut found)?;
+        by_name(&self.root, name.text(), &mut steps.walk, &mut found)?;
         Ok(found)
     }
 
@@ -115,9 +121,19 @@ impl<V> LevelTree<V> {
     pub fn for_filter(&self, wanted: &TopicFilter, steps: &mut Steps) -> Result<Vec<&V>, AllocError>
         ensures found { IfOk result (λ found. map (λ v. v.now) found.items ≡ values_of (filter (λ e. matches (levels wanted.now) e.0) self.now)) }
         ensures count { OnOk result (steps.new ≡ steps.old + length (met_by_filter (levels wanted.now) (prefixes (keys_of self.now)))) }
+        ensures ordered { AreInOrder self.now }
     {
         let mut found = Vec::new(self.alloc);
-        by_filter(&self.root, wanted.text(), steps, &mut found)?;
+        by_filter(&self.root, wanted.text(), &mut steps.walk, &mut found)?;
         Ok(found)
+    }
+}
+
+impl<V: Counted> LevelTree<V> {
+    /// The numbers of all values together, at most `u64::MAX`, by a walk over the tree. It takes no memory.
+    pub fn total(&self) -> u64
+        ensures { result ≡ capped (sum_by (λ e. V.count_of e.1) self.now) }
+    {
+        self.root.total()
     }
 }

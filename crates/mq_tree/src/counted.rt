@@ -1,0 +1,12 @@
+ghost use Rattle.std.specs.Prelude.{◌≡◌, ℕ};
+ghost use Rattle.mq_tree.specs.Entries.{capped};
+
+/// A value that holds some number of things.
+pub trait Counted {
+    /// How many.
+    ghost count_of: { Self → ℕ };
+
+    /// How many, at most `u64::MAX`. It takes no memory.
+    fn count(&self) -> u64
+        ensures { result ≡ capped (count_of self.now) };
+}
