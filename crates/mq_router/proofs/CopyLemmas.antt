@@ -1,32 +1,17 @@
 -- The copy that a client's subscriptions give it, and the copies for all clients.
-use Rattle.std.proofs.Common.{◌≡◌, ◌<◌, ℕ, suc, ◌+◌, true, false, cond, List, [], ◌∷◌, ◌++◌, map, Option, Some, None, max, length, take, get_or, refl, sym, ◌∙◌, ap, subst, append_assoc, arith, nat_le}
-use Rattle.std.specs.List.{filter, cons_option}
+use Rattle.std.proofs.Common.{◌≡◌, ◌<◌, ℕ, suc, ◌+◌, Bool, true, false, cond, List, [], ◌∷◌, ◌++◌, map, Option, max, length, take, get_or, refl, sym, ◌∙◌, ap, subst, arith, nat_le}
 use Rattle.std.specs.Ordering.{is_lt, nat_cmp}
 use Rattle.std.specs.List.Sorted.{IsPermutation, IsSorted}
-use Rattle.std.proofs.lemmas.List.{map_more, append-nil}
+use Rattle.std.proofs.lemmas.List.{map_more}
 use Rattle.std.proofs.lemmas.List.Sorted.{sum_by-IsPermutation}
 use Rattle.std.proofs.lemmas.List.Sums.{length-filter}
 use Rattle.std.proofs.lemmas.Cmp.{ranked}
 use Rattle.std.specs.declared.cmp.Ordering.{Ordering}
 use Rattle.std.specs.declared.cmp.Ordering.TheVariants.{Less, Equal, Greater}
-use Rattle.std.proofs.lemmas.Simd.{map-map}
 use Rattle.std.proofs.lemmas.Bool.Decides.{nat_tests}
-use Rattle.mq_acl.specs.Rows.{AclRow}
 use Rattle.mq_router.specs.Lists.{Text, SameElements, greatest, ascending, insert_number}
-use Rattle.mq_router.specs.World.{Session, Subscription, Message, Copy}
-use Rattle.mq_router.specs.Copies.{takes_part, options_for, direct_copy, direct_copies}
-use Rattle.mq_router.specs.Held.{subscription_of, options_of}
-use Rattle.mq_router.specs.declared.subscriptions.Subscription as held
-use Rattle.mq_router.proofs.ListLemmas.{map-filter}
+use Rattle.mq_router.specs.World.{Group, Copy}
 use Rattle.mq_router.proofs.SameLemmas.{ascending-SameElements}
-
--- ## What the code's subscriptions show
-
-pub options-is : (m : Message) (id : Text) (ss : List held.Subscription) → map options_of (map (λ s. s.options) (filter (λ s. takes_part m id (subscription_of s)) ss)) ≡ options_for (map subscription_of ss) m id
-options-is m id ss =
-    map-map options_of (λ s. s.options) (filter (λ s. takes_part m id (subscription_of s)) ss)
-    ∙ sym (map-map (λ (s : Subscription). s.options) subscription_of (filter (λ s. takes_part m id (subscription_of s)) ss))
-    ∙ ap (map (λ s. s.options)) (map-filter subscription_of (takes_part m id) ss)
 
 -- ## The greatest number, as a loop meets it
 
@@ -70,28 +55,5 @@ sorted-is xs ys moved sorted = sym (ascending-sorted ys sorted) ∙ sym (ascendi
 
 -- ## One copy
 
-pub same_copy : (id id' topic topic' payload payload' : Text) (qos qos' : ℕ) (ids ids' : List ℕ) → id ≡ id' → topic ≡ topic' → payload ≡ payload' → qos ≡ qos' → ids ≡ ids' → ◌≡◌ {A = Copy} (record { client = id; topic = topic; payload = payload; qos = qos; retain = false; identifiers = ids }) (record { client = id'; topic = topic'; payload = payload'; qos = qos'; retain = false; identifiers = ids' })
-same_copy id id' topic topic' payload payload' qos qos' ids ids' e1 e2 e3 e4 e5 = rw (e1, e2, e3, e4, e5) refl
-
--- ## The copies so far, and those for the sessions that are left
-
-copies-cons : (access : Option (List AclRow)) (s : Session) (ss : List Session) (subscriptions : List Subscription) (m : Message) → direct_copies access (s ∷ ss) subscriptions m ≡ cons_option (direct_copy access subscriptions m s) (direct_copies access ss subscriptions m)
-unfolding direct_copies
-copies-cons access s ss subscriptions m = refl
-
-copies-none : (access : Option (List AclRow)) (subscriptions : List Subscription) (m : Message) → direct_copies access [] subscriptions m ≡ []
-unfolding direct_copies
-copies-none access subscriptions m = refl
-
-pub copies_step : (access : Option (List AclRow)) (subs : List Subscription) (m : Message) (ys : List Copy) (o : Option Copy) (total : List Copy) (rest : List Session) (s : Session) → o ≡ direct_copy access subs m s → ys ++ direct_copies access (s ∷ rest) subs m ≡ total → (ys ++ cons_option o []) ++ direct_copies access rest subs m ≡ total
-copies_step access subs m ys o total rest s says h =
-    append_assoc ys (cons_option o []) (direct_copies access rest subs m)
-    ∙ ap (λ l. ys ++ l) (one o (direct_copies access rest subs m) ∙ ap (λ p. cons_option p (direct_copies access rest subs m)) says ∙ sym (copies-cons access s rest subs m))
-    ∙ h
-  where
-    one : (p : Option Copy) (l : List Copy) → cons_option p [] ++ l ≡ cons_option p l
-    one None l = refl
-    one (Some c) l = refl
-
-pub copies_end : (access : Option (List AclRow)) (subs : List Subscription) (m : Message) (ys : List Copy) (total : List Copy) → ys ++ direct_copies access [] subs m ≡ total → ys ≡ total
-copies_end access subs m ys total h = sym (append-nil ys) ∙ ap (λ l. ys ++ l) (sym (copies-none access subs m)) ∙ h
+pub same_copy : (id id' topic topic' payload payload' : Text) (qos qos' : ℕ) (retain retain' : Bool) (ids ids' : List ℕ) (expiry : Option ℕ) (group : Option Group) → id ≡ id' → topic ≡ topic' → payload ≡ payload' → qos ≡ qos' → retain ≡ retain' → ids ≡ ids' → ◌≡◌ {A = Copy} (record { client = id; topic = topic; payload = payload; qos = qos; retain = retain; expiry = expiry; identifiers = ids; group = group }) (record { client = id'; topic = topic'; payload = payload'; qos = qos'; retain = retain'; expiry = expiry; identifiers = ids'; group = group })
+same_copy id id' topic topic' payload payload' qos qos' retain retain' ids ids' expiry group e1 e2 e3 e4 e5 e6 = rw (e1, e2, e3, e4, e5, e6) refl

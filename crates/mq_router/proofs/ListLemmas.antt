@@ -1,14 +1,16 @@
 -- Facts on lists that the definitions and the code need.
-use Rattle.std.proofs.Common.{◌≡◌, Bool, true, false, cond, ◌||◌, not, List, [], ◌∷◌, ◌++◌, map, Option, Some, is_some, refl, sym, ◌∙◌, ap}
+use Rattle.std.proofs.Common.{◌≡◌, Bool, true, false, cond, ◌||◌, not, List, [], ◌∷◌, ◌++◌, map, Option, Some, is_some, Result, Ok, Err, refl, sym, ◌∙◌, ap}
 use Rattle.std.specs.declared.cmp.Ordering.{Ordering}
 use Rattle.std.specs.declared.cmp.Ordering.TheVariants.{Less, Equal, Greater}
 use Rattle.std.specs.Ordering.{is_lt, match_ordering}
 use Rattle.std.specs.Cmp.{IsTotalOrder}
-use Rattle.std.specs.List.{filter, list_any, filter_map, cons_option, AllByRecursion}
+use Rattle.std.specs.Result.{OnOk, OnErr}
+use Rattle.std.specs.List.{find, filter, list_any, filter_map, cons_option, AllByRecursion}
 use Rattle.std.specs.List.Sorted.{IsStrictlySortedBy}
 use Rattle.std.specs.Map.{lookup, remove_entry, keys_of}
 use Rattle.std.specs.BTreeMap.{insert_entry}
 use Rattle.mq_router.specs.Lists.{with_row}
+use Rattle.mq_router.proofs.BoolLemmas.{or_assoc}
 
 pub map-filter : {X Y : Type 0} (f : X → Y) (p : Y → Bool) (xs : List X) → map f (filter (λ x. p (f x)) xs) ≡ filter p (map f xs)
 map-filter f p [] = refl
@@ -34,24 +36,40 @@ pub list_any-same : {X : Type 0} (p q : X → Bool) → ((x : X) → p x ≡ q x
 list_any-same p q h [] = refl
 list_any-same p q h (x ∷ xs) = rw (h x) (ap (λ b. q x || b) (list_any-same p q h xs))
 
+pub is_some-find : {X : Type 0} (p : X → Bool) (xs : List X) → is_some (find p xs) ≡ list_any p xs
+is_some-find p [] = refl
+is_some-find p (x ∷ xs) = elim (p x) as (λ b. is_some (cond b (Some x) (find p xs)) ≡ (b || list_any p xs)) [ true ↦ refl | false ↦ is_some-find p xs ]
+
+pub any-append : {X : Type 0} (p : X → Bool) (xs ys : List X) → list_any p (xs ++ ys) ≡ (list_any p xs || list_any p ys)
+any-append p [] ys = refl
+any-append p (x ∷ xs) ys = ap (λ b. p x || b) (any-append p xs ys) ∙ sym (or_assoc (p x) (list_any p xs) (list_any p ys))
+
 pub filter-same : {X : Type 0} (p q : X → Bool) → ((x : X) → p x ≡ q x) → (xs : List X) → filter p xs ≡ filter q xs
 filter-same p q h [] = refl
 filter-same p q h (x ∷ xs) = rw (h x, filter-same p q h xs) refl
 
 -- ## One row among rows in order
 
-module _ {K X C : Type 0} (cmp : K → K → Ordering) (o : IsTotalOrder cmp) (view : K × X → C) (view_cmp : C → C → Ordering) (agrees : (e d : K × X) → view_cmp (view e) (view d) ≡ cmp e.0 d.0) where
-  none_before : (k : K) (v : X) (es : List (K × X)) → AllByRecursion (λ y. cmp k y ≡ Less) (keys_of es) → filter (λ other. is_lt (view_cmp other (view (k, v)))) (map view es) ≡ []
-  none_before k v [] h = refl
-  none_before k v (e ∷ es) h =
-      let here : is_lt (view_cmp (view e) (view (k, v))) ≡ false = rw (agrees e (k, v), o.antisymm e.0 k, h.0) refl in
-      rw here (none_before k v es h.1)
+pub on_ok : {X E : Type 0} {P : Type 0} (r : Result X E) → P → OnOk r P
+on_ok (Ok x) p = p
+on_ok (Err e) p = tt
 
-  all_after : (k : K) (v : X) (es : List (K × X)) → AllByRecursion (λ y. cmp k y ≡ Less) (keys_of es) → filter (λ other. is_lt (view_cmp (view (k, v)) other)) (map view es) ≡ map view es
-  all_after k v [] h = refl
-  all_after k v (e ∷ es) h =
-      let here : is_lt (view_cmp (view (k, v)) (view e)) ≡ true = rw (agrees (k, v) e, h.0) refl in
-      rw (here, all_after k v es h.1) refl
+pub on_err : {X E : Type 0} {P : Type 0} (r : Result X E) → P → OnErr r P
+on_err (Ok x) p = tt
+on_err (Err e) p = p
+
+module _ {K X C : Type 0} (cmp : K → K → Ordering) (o : IsTotalOrder cmp) (view : K × X → C) (view_cmp : C → C → Ordering) (Stands : K × X → Type 0) (agrees : (e d : K × X) → Stands e → Stands d → view_cmp (view e) (view d) ≡ cmp e.0 d.0) where
+  none_before : (k : K) (v : X) (es : List (K × X)) → Stands (k, v) → AllByRecursion Stands es → AllByRecursion (λ y. cmp k y ≡ Less) (keys_of es) → filter (λ other. is_lt (view_cmp other (view (k, v)))) (map view es) ≡ []
+  none_before k v [] p ps h = refl
+  none_before k v (e ∷ es) p ps h =
+      let here : is_lt (view_cmp (view e) (view (k, v))) ≡ false = rw (agrees e (k, v) ps.0 p, o.antisymm e.0 k, h.0) refl in
+      rw here (none_before k v es p ps.1 h.1)
+
+  all_after : (k : K) (v : X) (es : List (K × X)) → Stands (k, v) → AllByRecursion Stands es → AllByRecursion (λ y. cmp k y ≡ Less) (keys_of es) → filter (λ other. is_lt (view_cmp (view (k, v)) other)) (map view es) ≡ map view es
+  all_after k v [] p ps h = refl
+  all_after k v (e ∷ es) p ps h =
+      let here : is_lt (view_cmp (view (k, v)) (view e)) ≡ true = rw (agrees (k, v) e p ps.0, h.0) refl in
+      rw (here, all_after k v es p ps.1 h.1) refl
 
   still_below : (k e : K) (es : List (K × X)) → cmp k e ≡ Less → AllByRecursion (λ y. cmp e y ≡ Less) (keys_of es) → AllByRecursion (λ y. cmp k y ≡ Less) (keys_of es)
   still_below k e [] h hs = tt
@@ -61,24 +79,32 @@ module _ {K X C : Type 0} (cmp : K → K → Ordering) (o : IsTotalOrder cmp) (v
   also_below k e [] h hs = tt
   also_below k e (d ∷ es) h hs = (o.congr k e d.0 h ∙ hs.0, also_below k e es h hs.1)
 
-  pub map-insert_entry : (same : (k e : K) (v : X) → cmp k e ≡ Equal → view (e, v) ≡ view (k, v)) (k : K) (v : X) (es : List (K × X)) → IsStrictlySortedBy cmp (keys_of es) → map view (insert_entry cmp es k v) ≡ with_row view_cmp (view (k, v)) (map view es)
+  pub map-insert_entry_among : (same : (k e : K) (v : X) → cmp k e ≡ Equal → view (e, v) ≡ view (k, v)) (k : K) (v : X) (es : List (K × X)) → Stands (k, v) → AllByRecursion Stands es → IsStrictlySortedBy cmp (keys_of es) → map view (insert_entry cmp es k v) ≡ with_row view_cmp (view (k, v)) (map view es)
   unfolding IsStrictlySortedBy with_row
-  map-insert_entry same k v [] s = refl
-  map-insert_entry same k v (e ∷ es) s =
+  map-insert_entry_among same k v [] p ps s = refl
+  map-insert_entry_among same k v (e ∷ es) p ps s =
       let P : Ordering → Type 0 = λ r. cmp k e.0 ≡ r → map view (match_ordering r ((k, v) ∷ e ∷ es) ((e.0, v) ∷ es) (e ∷ insert_entry cmp es k v)) ≡ filter (λ other. is_lt (view_cmp other (view (k, v)))) (view e ∷ map view es) ++ view (k, v) ∷ filter (λ other. is_lt (view_cmp (view (k, v)) other)) (view e ∷ map view es) in
       let less : P Less = λ h.
       let below : AllByRecursion (λ y. cmp k y ≡ Less) (keys_of (e ∷ es)) = (h, still_below k e.0 es h s.0) in
-      rw (none_before k v (e ∷ es) below, all_after k v (e ∷ es) below) refl in
+      rw (none_before k v (e ∷ es) p ps below, all_after k v (e ∷ es) p ps below) refl in
       let equal : P Equal = λ h.
       let below : AllByRecursion (λ y. cmp k y ≡ Less) (keys_of es) = also_below k e.0 es h s.0 in
-      let not_before : is_lt (view_cmp (view e) (view (k, v))) ≡ false = rw (agrees e (k, v), o.antisymm e.0 k, h) refl in
-      let not_after : is_lt (view_cmp (view (k, v)) (view e)) ≡ false = rw (agrees (k, v) e, h) refl in
-      rw (not_before, not_after, none_before k v es below, all_after k v es below, same k e.0 v h) refl in
+      let not_before : is_lt (view_cmp (view e) (view (k, v))) ≡ false = rw (agrees e (k, v) ps.0 p, o.antisymm e.0 k, h) refl in
+      let not_after : is_lt (view_cmp (view (k, v)) (view e)) ≡ false = rw (agrees (k, v) e p ps.0, h) refl in
+      rw (not_before, not_after, none_before k v es p ps.1 below, all_after k v es p ps.1 below, same k e.0 v h) refl in
       let greater : P Greater = λ h.
-      let before : is_lt (view_cmp (view e) (view (k, v))) ≡ true = rw (agrees e (k, v), o.antisymm e.0 k, h) refl in
-      let not_after : is_lt (view_cmp (view (k, v)) (view e)) ≡ false = rw (agrees (k, v) e, h) refl in
-      rw (before, not_after) (ap (λ l. view e ∷ l) (map-insert_entry same k v es s.1)) in
+      let before : is_lt (view_cmp (view e) (view (k, v))) ≡ true = rw (agrees e (k, v) ps.0 p, o.antisymm e.0 k, h) refl in
+      let not_after : is_lt (view_cmp (view (k, v)) (view e)) ≡ false = rw (agrees (k, v) e p ps.0, h) refl in
+      rw (before, not_after) (ap (λ l. view e ∷ l) (map-insert_entry_among same k v es p ps.1 s.1)) in
       (elim (cmp k e.0) as P [ Less ↦ less | Equal ↦ equal | Greater ↦ greater ]) refl
+
+any_stand : {X : Type 0} (xs : List X) → AllByRecursion (λ _. Unit {0}) xs
+any_stand [] = tt
+any_stand (x ∷ xs) = (tt, any_stand xs)
+
+pub map-insert_entry : {K X C : Type 0} (cmp : K → K → Ordering) (o : IsTotalOrder cmp) (view : K × X → C) (view_cmp : C → C → Ordering) (agrees : (e d : K × X) → view_cmp (view e) (view d) ≡ cmp e.0 d.0) (same : (k e : K) (v : X) → cmp k e ≡ Equal → view (e, v) ≡ view (k, v)) (k : K) (v : X) (es : List (K × X)) → IsStrictlySortedBy cmp (keys_of es) → map view (insert_entry cmp es k v) ≡ with_row view_cmp (view (k, v)) (map view es)
+map-insert_entry cmp o view view_cmp agrees same k v es s =
+    map-insert_entry_among cmp o view view_cmp (λ _. Unit {0}) (λ e d p q. agrees e d) same k v es tt (any_stand es) s
 
 -- ## Entries that are removed
 

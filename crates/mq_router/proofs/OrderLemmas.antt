@@ -1,35 +1,42 @@
 -- Rows in the order of their keys, and a row put among them.
-use Rattle.std.proofs.Common.{◌≡◌, ℕ, ◌+◌, Bool, true, false, cond, ◌&&◌, not, List, [], ◌∷◌, ◌++◌, map, length, refl, sym, ◌∙◌, ap, subst, arith}
+use Rattle.std.proofs.Common.{◌≡◌, ◌+◌, Bool, true, false, cond, ◌&&◌, List, [], ◌∷◌, ◌++◌, length, Option, Some, None, refl, sym, ◌∙◌, ap, subst, arith}
 use Rattle.std.specs.declared.cmp.Ordering.{Ordering}
 use Rattle.std.specs.declared.cmp.Ordering.TheVariants.{Less, Equal, Greater}
-use Rattle.std.specs.Ordering.{is_lt, is_eq, nat_cmp, ordering_reverse}
+use Rattle.std.specs.Ordering.{is_lt, is_eq, nat_cmp, on, then_cmp}
+use Rattle.std.specs.Option.{option_cmp}
 use Rattle.std.specs.Cmp.{IsTotalOrder, both_ways, tied_itself, tied_then}
-use Rattle.std.specs.Cmp.Lexicographic.{slice_cmp, nat_list_cmp_total, lists_total, on_texts}
+use Rattle.std.specs.Cmp.Lexicographic.{slice_cmp, nat_list_cmp_total, lists_total, options_total, on_texts}
 use Rattle.std.proofs.lemmas.Cmp.{on_total, then_total}
 use Rattle.std.specs.FinMap.{nat_cmp-IsAntisymmetric, slice_cmp-IsAntisymmetric}
 use Rattle.std.specs.List.{filter, join_with_byte, AllByRecursion}
 use Rattle.std.specs.List.Sorted.{IsStrictlySortedBy}
-use Rattle.std.proofs.lemmas.List.{map-append}
 use Rattle.std.proofs.lemmas.List.Kept.{IsStrictlySortedBy-filter}
 use Rattle.std.proofs.lemmas.Map.Text.{is_eq-slice_cmp}
 use Rattle.std.proofs.lemmas.List.Splits.{join_with_byte-slice_split}
 use Rattle.std.proofs.lemmas.Slice.Eq.{bytes_eq-Decides}
 use Rattle.mq_topic.specs.Levels.{levels, level_order}
-use Rattle.mq_router.specs.Lists.{Text, same_text, with_row}
-use Rattle.mq_router.specs.World.{Subscription, Row, session_cmp, subscription_cmp, row_cmp, has_key}
-use Rattle.mq_router.proofs.ListLemmas.{map-filter}
-use Rattle.mq_router.proofs.SameLemmas.{length-filter-cons}
+use Rattle.mq_router.specs.Lists.{Text, same_text, text_cmp, with_row}
+use Rattle.mq_router.specs.World.{Subscription, session_cmp, subscription_cmp, row_cmp, retained_cmp, group_cmp, same_share, has_key}
+use Rattle.mq_router.proofs.BoolLemmas.{and_assoc}
 
 -- ## The orders
 
 pub session_total : IsTotalOrder session_cmp
 session_total = on_texts (λ s. s.id)
 
-levels_total : IsTotalOrder level_order
+pub levels_total : IsTotalOrder level_order
 levels_total = lists_total nat_list_cmp_total
 
 pub subscription_total : IsTotalOrder subscription_cmp
-subscription_total = then_total (on_texts (λ s. s.client)) (on_total (λ s. levels s.filter) levels_total)
+subscription_total =
+    then_total (on_texts (λ s. s.client))
+    (then_total (on_total (λ s. s.share) (options_total nat_list_cmp_total)) (on_total (λ s. levels s.filter) levels_total))
+
+pub retained_total : IsTotalOrder retained_cmp
+retained_total = on_total (λ kept. levels kept.topic) levels_total
+
+pub group_total : IsTotalOrder group_cmp
+group_total = then_total (on_texts (λ g. g.share)) (on_total (λ g. levels g.filter) levels_total)
 
 pub row_total : IsTotalOrder row_cmp
 row_total = on_total (λ row. row.subscription) subscription_total
@@ -44,24 +51,40 @@ less_from Less h = refl
 less_from Equal h = cc
 less_from Greater h = cc
 
-same_levels : (a b : Text) → levels a ≡ levels b → a ≡ b
+pub same_levels : (a b : Text) → levels a ≡ levels b → a ≡ b
 same_levels a b h = sym (join_with_byte-slice_split 47 a) ∙ ap (join_with_byte 47) h ∙ join_with_byte-slice_split 47 b
 
-level_equal : (a b : Text) → is_eq (level_order (levels a) (levels b)) ≡ same_text a b
+pub level_equal : (a b : Text) → is_eq (level_order (levels a) (levels b)) ≡ same_text a b
 level_equal a b = both_ways _ _
     (λ h. (bytes_eq-Decides a b).1 (same_levels a b (slice_cmp-IsAntisymmetric (slice_cmp-IsAntisymmetric nat_cmp-IsAntisymmetric) (levels a) (levels b) (equal_from _ h))))
     (λ h. (let e : a ≡ b = (bytes_eq-Decides a b).0 h in subst (λ (t : Text). is_eq (level_order (levels a) (levels t)) ≡ true) e (ap is_eq (tied_itself levels_total (levels a)))))
 
+pub text_flip : (a b : Text) → same_text a b ≡ same_text b a
+text_flip a b = both_ways _ _
+    (λ h. (bytes_eq-Decides b a).1 (sym ((bytes_eq-Decides a b).0 h)))
+    (λ h. (bytes_eq-Decides a b).1 (sym ((bytes_eq-Decides b a).0 h)))
+
+pub share_equal : (a b : Option Text) → is_eq (option_cmp text_cmp a b) ≡ same_share a b
+share_equal None None = refl
+share_equal None (Some b) = refl
+share_equal (Some a) None = refl
+share_equal (Some a) (Some b) = is_eq-slice_cmp a b
+
 -- only a subscription with the key ties
-tied_is : (x s : Subscription) → is_eq (subscription_cmp x s) ≡ has_key s.client s.filter x
+pub tied_is : (x s : Subscription) → is_eq (subscription_cmp x s) ≡ has_key s.client s.share s.filter x
 tied_is x s =
-    sym (tied_then (slice_cmp nat_cmp x.client s.client) (level_order (levels x.filter) (levels s.filter)))
-    ∙ ap (λ b. b && is_eq (level_order (levels x.filter) (levels s.filter))) (is_eq-slice_cmp x.client s.client)
-    ∙ ap (λ b. same_text x.client s.client && b) (level_equal x.filter s.filter)
+    let levels_tie : Bool = is_eq (level_order (levels x.filter) (levels s.filter)) in
+    let rest : Ordering = then_cmp (on (λ (y : Subscription). y.share) (option_cmp text_cmp)) (on (λ y. levels y.filter) level_order) x s in
+    sym (tied_then (slice_cmp nat_cmp x.client s.client) rest)
+    ∙ ap (λ b. b && is_eq rest) (is_eq-slice_cmp x.client s.client)
+    ∙ ap (λ b. same_text x.client s.client && b) (sym (tied_then (option_cmp text_cmp x.share s.share) (level_order (levels x.filter) (levels s.filter))))
+    ∙ ap (λ b. same_text x.client s.client && (b && levels_tie)) (share_equal x.share s.share)
+    ∙ ap (λ b. same_text x.client s.client && (same_share x.share s.share && b)) (level_equal x.filter s.filter)
+    ∙ and_assoc (same_text x.client s.client) (same_share x.share s.share) (same_text x.filter s.filter)
 
 -- ## A row put among rows in order leaves them in order
 
-all_passed : {X : Type 0} (p : X → Bool) (xs : List X) → AllByRecursion (λ x. p x ≡ true) (filter p xs)
+pub all_passed : {X : Type 0} (p : X → Bool) (xs : List X) → AllByRecursion (λ x. p x ≡ true) (filter p xs)
 all_passed p [] = tt
 all_passed p (x ∷ xs) =
     let P : Bool → Type 0 = λ b. p x ≡ b → AllByRecursion (λ y. p y ≡ true) (cond b (x ∷ filter p xs) (filter p xs)) in
@@ -104,40 +127,13 @@ module _ {X : Type 0} (cmp : X → X → Ordering) (o : IsTotalOrder cmp) where
       all_append P (filter (λ other. is_lt (cmp other x)) xs) (x ∷ filter (λ other. is_lt (cmp x other)) xs)
       (all_filtered P (λ other. is_lt (cmp other x)) xs h) (here, all_filtered P (λ other. is_lt (cmp x other)) xs h)
 
--- ## A row among rows: as many pass a test as without it, and it
+-- ## Before a subscription, and behind it
 
 abbrev pub before : Subscription → Subscription → Bool
 before s x = is_lt (subscription_cmp x s)
 
 abbrev pub behind : Subscription → Subscription → Bool
 behind s x = is_lt (subscription_cmp s x)
-
-abbrev pub apart : Subscription → Subscription → Bool
-apart s x = not (has_key s.client s.filter x)
-
--- at each row exactly one of before, tied and behind
-one_of : (s x : Subscription) (p : ℕ) → cond (before s x) p 0 + cond (behind s x) p 0 ≡ cond (apart s x) p 0
-one_of s x p =
-    let P : Ordering → Type 0 = λ o. cond (is_lt o) p 0 + cond (is_lt (ordering_reverse o)) p 0 ≡ cond (not (is_eq o)) p 0 in
-    ap (λ o. cond (before s x) p 0 + cond (is_lt o) p 0) (subscription_total.antisymm s x)
-    ∙ (elim (subscription_cmp x s) as P [ Less ↦ omega arith | Equal ↦ omega arith | Greater ↦ omega arith ])
-    ∙ ap (λ b. cond (not b) p 0) (tied_is x s)
-
-passing : (q test : Subscription → Bool) (x : Subscription) (xs : List Subscription) → length (filter test (filter q (x ∷ xs))) ≡ cond (q x) (cond (test x) 1 0) 0 + length (filter test (filter q xs))
-passing q test x xs =
-    elim (q x) as (λ b. length (filter test (cond b (x ∷ filter q xs) (filter q xs))) ≡ cond b (cond (test x) 1 0) 0 + length (filter test (filter q xs))) [
-      | true ↦ length-filter-cons test x (filter q xs)
-      | false ↦ omega arith
-    ]
-
-summed : (a b c i j k x y z : ℕ) → x ≡ i + a → y ≡ j + b → z ≡ k + c → a + b ≡ c → i + j ≡ k → x + y ≡ z
-summed a b c i j k x y z e1 e2 e3 e4 e5 = omega arith
-
-both_sides : (s : Subscription) (test : Subscription → Bool) (xs : List Subscription) → length (filter test (filter (before s) xs)) + length (filter test (filter (behind s) xs)) ≡ length (filter test (filter (apart s) xs))
-both_sides s test [] = refl
-both_sides s test (x ∷ xs) =
-    summed _ _ _ _ _ _ _ _ _ (passing (before s) test x xs) (passing (behind s) test x xs) (passing (apart s) test x xs)
-    (both_sides s test xs) (one_of s x (cond (test x) 1 0))
 
 pub length-filter-append : {X : Type 0} (p : X → Bool) (xs ys : List X) → length (filter p (xs ++ ys)) ≡ length (filter p xs) + length (filter p ys)
 length-filter-append p [] ys = omega arith
@@ -147,21 +143,3 @@ length-filter-append p (x ∷ xs) ys =
       | true ↦ omega arith
       | false ↦ h
     ]
-
--- the subscriptions of rows among which a row is put
-pub subscriptions-with_row : (row : Row) (rows : List Row) → map (λ r. r.subscription) (with_row row_cmp row rows) ≡ filter (before row.subscription) (map (λ r. r.subscription) rows) ++ row.subscription ∷ filter (behind row.subscription) (map (λ r. r.subscription) rows)
-unfolding with_row
-subscriptions-with_row row rows =
-    map-append (λ (r : Row). r.subscription) (filter (λ other. before row.subscription other.subscription) rows) (row ∷ filter (λ other. behind row.subscription other.subscription) rows)
-    ∙ ap (λ l. l ++ row.subscription ∷ map (λ (r : Row). r.subscription) (filter (λ other. behind row.subscription other.subscription) rows)) (map-filter (λ r. r.subscription) (before row.subscription) rows)
-    ∙ ap (λ l. filter (before row.subscription) (map (λ (r : Row). r.subscription) rows) ++ row.subscription ∷ l) (map-filter (λ r. r.subscription) (behind row.subscription) rows)
-
-total_is : (a b c d e x y : ℕ) → a + b ≡ c → x ≡ a + d → d ≡ e + b → y ≡ c + (e + 0) → y ≡ x
-total_is a b c d e x y e1 e2 e3 e4 = omega arith
-
-pub passes-with_row : (s : Subscription) (test : Subscription → Bool) (xs : List Subscription) → length (filter test (filter (apart s) xs ++ s ∷ [])) ≡ length (filter test (filter (before s) xs ++ s ∷ filter (behind s) xs))
-passes-with_row s test xs =
-    total_is _ _ _ _ _ _ _ (both_sides s test xs)
-    (length-filter-append test (filter (before s) xs) (s ∷ filter (behind s) xs))
-    (length-filter-cons test s (filter (behind s) xs))
-    (length-filter-append test (filter (apart s) xs) (s ∷ []) ∙ ap (λ n. length (filter test (filter (apart s) xs)) + n) (length-filter-cons test s []))

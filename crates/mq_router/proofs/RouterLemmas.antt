@@ -1,24 +1,31 @@
 -- What each command does with what the router holds.
-use Rattle.std.proofs.Common.{◌≡◌, ◌⊎◌, ℕ, Bool, true, false, not, List, [], ◌∷◌, ◌++◌, map, Option, Some, None, Result, Err, length, if◌then◌else◌, refl, sym, ◌∙◌, ap, subst, inl, inr}
+use Rattle.std.proofs.Common.{◌≡◌, ◌⊎◌, ◌<◌, ◌≤◌, ◌+◌, nat_lt, arith, ℕ, Bool, true, false, not, List, [], ◌∷◌, ◌++◌, Option, Some, None, Result, Err, is_some, ◌&&◌, if◌then◌else◌, refl, sym, ◌∙◌, ap, subst, inl, inr}
 use Rattle.std.specs.Option.{option_map}
 use Rattle.std.specs.List.{filter, list_any}
-use Rattle.mq_topic.specs.Texts.{is_name}
+use Rattle.std.proofs.lemmas.Bool.Decides.{nat_tests}
+use Rattle.mq_topic.specs.Texts.{is_name, is_shared, is_subscription, share_of, share_name, filter_part}
 use Rattle.mq_acl.specs.Access.{allowed}
 use Rattle.mq_acl.specs.declared.access.Direction.TheVariants.{Writing}
-use Rattle.mq_router.specs.Lists.{Text, SameElements, same_text, with_row}
-use Rattle.mq_router.specs.World.{Session, Subscription, Row, Options, Message, Reply, Request, Connect, Disconnect, Subscribe, Unsubscribe, Publish, SetAcl, session_cmp, has_id, has_key, subscriptions_of}
-use Rattle.mq_router.specs.Refusals.{Conditions, first_refusal, client_conditions, is_client_id, is_user_name, is_own_filter, user_of, faulty_line, refusal}
-use Rattle.mq_router.specs.Copies.{direct_copies}
-use Rattle.mq_router.specs.Answers.{answer, reason, published}
-use Rattle.mq_router.specs.After.{after, kept_stamp, access_of}
+use Rattle.mq_router.specs.Lists.{Text, same_text, with_row}
+use Rattle.mq_router.specs.World.{Session, Subscription, Options, Message, Reply, Request, Connect, Disconnect, Subscribe, Unsubscribe, Publish, SetAcl, Advance, Stat, asked, session_cmp, has_id, has_key}
+use Rattle.mq_router.specs.Clock.{last_moment}
+use Rattle.mq_router.specs.Sessions.{new_session, user_of}
+use Rattle.mq_router.specs.Refusals.{Conditions, first_refusal, client_conditions, is_client_id, is_user_name, faulty_line, refusal}
+use Rattle.mq_router.specs.Retained.{asks_for_retained, retained_copies, retained_after, unexpired}
+use Rattle.mq_router.specs.Counts.{filters_among, topics_of}
+use Rattle.mq_router.specs.Deadlines.{Indexes}
+use Rattle.mq_router.specs.Turns.{SameInTurn}
+use Rattle.mq_router.specs.Answers.{reason, published}
+use Rattle.mq_router.specs.After.{access_of}
 use Rattle.mq_router.specs.StandsFor.{State, Refuses}
-use Rattle.mq_router.specs.Applied.{Applied, Does, world_of}
+use Rattle.mq_router.specs.Applied.{Applied, Does, world_of, joined, copies_made, copies_sent, counts_held, next_members, all_turned}
+use Rattle.mq_router.specs.Kept.{KeptSubscriptions, AreKeys}
+use Rattle.mq_router.specs.Stored.{KeptRetained, AreFiled}
+use Rattle.mq_router.proofs.InTurn.{same-is, same-itself}
 use Rattle.mq_router.specs.declared.answer.Answer.{Answer}
+use Rattle.mq_router.specs.declared.answer.Outcome.TheVariants.{Reason}
 use Rattle.mq_router.specs.declared.refusal.Refusal.{Refusal}
-use Rattle.mq_router.specs.declared.refusal.Refusal.TheVariants.{ClientId, UserName, TopicName, TopicFilter, NotAuthorized, AclLine, Memory}
-use Rattle.mq_router.proofs.ListLemmas.{map-filter}
-use Rattle.mq_router.proofs.OrderLemmas.{apart, passes-with_row, subscriptions-with_row}
-use Rattle.mq_router.proofs.WorldLemmas.{subscriptions-world_of}
+use Rattle.mq_router.specs.declared.refusal.Refusal.TheVariants.{ClientId, UserName, TopicName, TopicFilter, SharedNoLocal, NotAuthorized, AclLine, ClockTooFar, Memory}
 
 -- ## Refusals
 
@@ -54,15 +61,6 @@ refused-behind xs ys r wanted b h why =
 passed-behind : (xs ys : Conditions) (wanted : Refusal) (b : Bool) → None ≡ first_refusal xs → b ≡ true → first_refusal (xs ++ (not b, wanted) ∷ ys) ≡ first_refusal ys
 passed-behind xs ys wanted b h e = first-passed xs ((not b, wanted) ∷ ys) h ∙ skip b wanted ys e
 
--- ## What is kept
-
-kept-holds : (q : Subscription → Bool) (s : State) (new : List Subscription) → new ≡ filter q s.subscriptions → SameElements new (map (λ row. row.subscription) (filter (λ row. q row.subscription) (world_of s).rows))
-kept-holds q s new e = λ p.
-    ap (λ l. length (filter p l)) (e ∙ ap (filter q) (sym (subscriptions-world_of s)) ∙ sym (map-filter (λ (row : Row). row.subscription) q (world_of s).rows))
-
-all-hold : (s : State) → SameElements s.subscriptions (subscriptions_of (world_of s))
-all-hold s = λ p. ap (λ l. length (filter p l)) (sym (subscriptions-world_of s))
-
 -- ## Connect and disconnect
 
 pub connect-client : (s : State) (id : Text) (user : Option Text) → is_client_id id ≡ false → Refuses (world_of s) (Connect id user) ClientId
@@ -73,68 +71,85 @@ pub connect-user : (s : State) (id : Text) (user : Option Text) → is_client_id
 unfolding refusal
 connect-user s id user e u = inr (skip (is_client_id id) ClientId ((not (is_user_name user), UserName) ∷ []) e ∙ hit (is_user_name user) UserName [] u)
 
-pub connect-does : (s : State) (id : Text) (user : Option Text) (sessions : List Session) (subs : List Subscription) (reply : Reply) → is_client_id id ≡ true → is_user_name user ≡ true → reply ≡ reason 0 → sessions ≡ with_row session_cmp (record { id = id; user = user }) s.sessions → subs ≡ filter (λ x. not (same_text x.client id)) s.subscriptions → Does s (Connect id user) reply (record { access = s.access; sessions = sessions; subscriptions = subs })
-unfolding refusal answer after
-connect-does s id user sessions subs reply e u r ss xs = record {
+pub connect-does : (s : State) (id : Text) (user : Option Text) (sessions : List Session) (subs : KeptSubscriptions) (reply : Reply) → is_client_id id ≡ true → is_user_name user ≡ true → reply ≡ reason 0 → sessions ≡ with_row session_cmp (new_session id user) s.sessions → subs.rows ≡ filter (λ x. not (same_text x.client id)) s.subscriptions → AreKeys subs → Does s (Connect id user) reply (record s { sessions = sessions; subscriptions = subs.rows; filter_keys = subs.keys })
+unfolding refusal
+connect-does s id user sessions subs reply e u r ss xs keys = record {
   accepted = skip (is_client_id id) ClientId ((not (is_user_name user), UserName) ∷ []) e ∙ skip (is_user_name user) UserName [] u;
   reply_is = r;
-  holds = record { access = refl; sessions = ss; subscriptions = kept-holds (λ x. not (same_text x.client id)) s subs xs };
+  rows = record { moment = refl; access = refl; sessions = ss; subscriptions = same-is _ _ xs; retained = refl };
+  filed = λ old. record { filter_keys = keys; topic_keys = old.topic_keys; deadlines = old.deadlines };
 }
 
 pub disconnect-client : (s : State) (id : Text) (r : Refusal) → Some r ≡ first_refusal (client_conditions s.sessions id) → Refuses (world_of s) (Disconnect id) r
 unfolding refusal
 disconnect-client s id r h = inr (sym h)
 
-pub disconnect-does : (s : State) (id : Text) (sessions : List Session) (subs : List Subscription) (reply : Reply) → None ≡ first_refusal (client_conditions s.sessions id) → reply ≡ reason 0 → sessions ≡ filter (λ session. not (has_id id session)) s.sessions → subs ≡ filter (λ x. not (same_text x.client id)) s.subscriptions → Does s (Disconnect id) reply (record { access = s.access; sessions = sessions; subscriptions = subs })
-unfolding refusal answer after
-disconnect-does s id sessions subs reply h r ss xs = record {
+pub disconnect-does : (s : State) (id : Text) (sessions : List Session) (subs : KeptSubscriptions) (reply : Reply) → None ≡ first_refusal (client_conditions s.sessions id) → reply ≡ reason 0 → sessions ≡ filter (λ session. not (has_id id session)) s.sessions → subs.rows ≡ filter (λ x. not (same_text x.client id)) s.subscriptions → AreKeys subs → Does s (Disconnect id) reply (record s { sessions = sessions; subscriptions = subs.rows; filter_keys = subs.keys })
+unfolding refusal
+disconnect-does s id sessions subs reply h r ss xs keys = record {
   accepted = sym h;
   reply_is = r;
-  holds = record { access = refl; sessions = ss; subscriptions = kept-holds (λ x. not (same_text x.client id)) s subs xs };
+  rows = record { moment = refl; access = refl; sessions = ss; subscriptions = same-is _ _ xs; retained = refl };
+  filed = λ old. record { filter_keys = keys; topic_keys = old.topic_keys; deadlines = old.deadlines };
 }
 
 -- ## Subscribe and unsubscribe
 
+shared-is : (text : Text) → is_some (share_of text) ≡ is_shared text
+shared-is text = elim (is_shared text) as (λ b. is_some (if b then Some (share_name text) else None) ≡ b) [ true ↦ refl | false ↦ refl ]
+
+abbrev shared_condition : Text → Options → Conditions
+shared_condition text options = (is_shared text && options.no_local, SharedNoLocal) ∷ []
+
 pub subscribe-client : (s : State) (id text : Text) (options : Options) (r : Refusal) → Some r ≡ first_refusal (client_conditions s.sessions id) → Refuses (world_of s) (Subscribe id text options) r
 unfolding refusal
-subscribe-client s id text options r h = inr (first-refused (client_conditions s.sessions id) ((not (is_own_filter text), TopicFilter) ∷ []) r h)
+subscribe-client s id text options r h = inr (first-refused (client_conditions s.sessions id) ((not (is_subscription text), TopicFilter) ∷ shared_condition text options) r h)
 
-pub subscribe-filter : (s : State) (id text : Text) (options : Options) (r : Refusal) → None ≡ first_refusal (client_conditions s.sessions id) → (r ≡ Memory) ⊎ ((r ≡ TopicFilter) × (is_own_filter text ≡ false)) → Refuses (world_of s) (Subscribe id text options) r
+pub subscribe-filter : (s : State) (id text : Text) (options : Options) (r : Refusal) → None ≡ first_refusal (client_conditions s.sessions id) → (r ≡ Memory) ⊎ ((r ≡ TopicFilter) × (is_subscription text ≡ false)) → Refuses (world_of s) (Subscribe id text options) r
 unfolding refusal
-subscribe-filter s id text options r h why = refused-behind (client_conditions s.sessions id) [] r TopicFilter (is_own_filter text) h why
+subscribe-filter s id text options r h why = refused-behind (client_conditions s.sessions id) (shared_condition text options) r TopicFilter (is_subscription text) h why
 
-pub subscribe-does : (s : State) (id text : Text) (options : Options) (subs : List Subscription) (reply : Reply) → None ≡ first_refusal (client_conditions s.sessions id) → is_own_filter text ≡ true → reply ≡ reason options.qos → subs ≡ filter (λ x. not (has_key id text x)) s.subscriptions ++ record { client = id; filter = text; options = options } ∷ [] → Does s (Subscribe id text options) reply (record { access = s.access; sessions = s.sessions; subscriptions = subs })
-unfolding refusal answer after
-subscribe-does s id text options subs reply h f r xs =
-    let new : Subscription = record { client = id; filter = text; options = options } in
-    let stamp : ℕ = kept_stamp (world_of s) new in
-    record {
-      accepted = passed-behind (client_conditions s.sessions id) [] TopicFilter (is_own_filter text) h f;
-      reply_is = r;
-      holds = record {
-        access = refl;
-        sessions = refl;
-        subscriptions = λ p.
-            ap (λ l. length (filter p l)) (xs ∙ ap (λ l. filter (apart new) l ++ new ∷ []) (sym (subscriptions-world_of s)))
-            ∙ passes-with_row new p (subscriptions_of (world_of s))
-            ∙ ap (λ l. length (filter p l)) (sym (subscriptions-with_row (record { subscription = new; stamp = stamp }) (world_of s).rows));
-      };
-    }
+pub subscribe-shared : (s : State) (id text : Text) (options : Options) → None ≡ first_refusal (client_conditions s.sessions id) → is_subscription text ≡ true → (is_some (share_of text) && options.no_local) ≡ true → Refuses (world_of s) (Subscribe id text options) SharedNoLocal
+unfolding refusal
+subscribe-shared s id text options h f e =
+    inr (passed-behind (client_conditions s.sessions id) (shared_condition text options) TopicFilter (is_subscription text) h f
+    ∙ ap (λ v. first_refusal ((v, SharedNoLocal) ∷ [])) (sym (ap (λ b. b && options.no_local) (shared-is text)) ∙ e))
+
+pub subscribe-does : (s : State) (id text : Text) (options : Options) (subs : KeptSubscriptions) (reply : Reply) → None ≡ first_refusal (client_conditions s.sessions id) → is_subscription text ≡ true → (is_some (share_of text) && options.no_local) ≡ false → reply ≡ record { copies = copies_sent s (asked id text options); outcome = Reason options.qos } → SameInTurn subs.rows (joined (asked id text options) s.subscriptions) → AreKeys subs → Does s (Subscribe id text options) reply (record s { subscriptions = subs.rows; filter_keys = subs.keys })
+unfolding refusal
+subscribe-does s id text options subs reply h f e r xs keys = record {
+  accepted = passed-behind (client_conditions s.sessions id) (shared_condition text options) TopicFilter (is_subscription text) h f
+      ∙ ap (λ v. first_refusal ((v, SharedNoLocal) ∷ [])) (sym (ap (λ b. b && options.no_local) (shared-is text)) ∙ e);
+  reply_is = r;
+  rows = record { moment = refl; access = refl; sessions = refl; subscriptions = xs; retained = refl };
+  filed = λ old. record { filter_keys = keys; topic_keys = old.topic_keys; deadlines = old.deadlines };
+}
+
+pub sent-none : (s : State) (new : Subscription) → asks_for_retained s.subscriptions new ≡ false → copies_sent s new ≡ []
+sent-none s new e = ap (λ b. if b then retained_copies s.moment s.access (user_of s.sessions new.client) s.retained new else []) e
+
+-- a share name makes no difference to the copies
+pub sent-some : (s : State) (new alone : Subscription) → alone ≡ record new { share = None } → asks_for_retained s.subscriptions new ≡ true → copies_sent s new ≡ retained_copies s.moment s.access (user_of s.sessions new.client) s.retained alone
+unfolding retained_copies
+sent-some s new alone is e =
+    ap (λ b. if b then retained_copies s.moment s.access (user_of s.sessions new.client) s.retained new else []) e
+    ∙ ap (retained_copies s.moment s.access (user_of s.sessions new.client) s.retained) (sym is)
 
 pub unsubscribe-client : (s : State) (id text : Text) (r : Refusal) → Some r ≡ first_refusal (client_conditions s.sessions id) → Refuses (world_of s) (Unsubscribe id text) r
 unfolding refusal
-unsubscribe-client s id text r h = inr (first-refused (client_conditions s.sessions id) ((not (is_own_filter text), TopicFilter) ∷ []) r h)
+unsubscribe-client s id text r h = inr (first-refused (client_conditions s.sessions id) ((not (is_subscription text), TopicFilter) ∷ []) r h)
 
-pub unsubscribe-filter : (s : State) (id text : Text) (r : Refusal) → None ≡ first_refusal (client_conditions s.sessions id) → (r ≡ Memory) ⊎ ((r ≡ TopicFilter) × (is_own_filter text ≡ false)) → Refuses (world_of s) (Unsubscribe id text) r
+pub unsubscribe-filter : (s : State) (id text : Text) (r : Refusal) → None ≡ first_refusal (client_conditions s.sessions id) → (r ≡ Memory) ⊎ ((r ≡ TopicFilter) × (is_subscription text ≡ false)) → Refuses (world_of s) (Unsubscribe id text) r
 unfolding refusal
-unsubscribe-filter s id text r h why = refused-behind (client_conditions s.sessions id) [] r TopicFilter (is_own_filter text) h why
+unsubscribe-filter s id text r h why = refused-behind (client_conditions s.sessions id) [] r TopicFilter (is_subscription text) h why
 
-pub unsubscribe-does : (s : State) (id text : Text) (subs : List Subscription) (reply : Reply) → None ≡ first_refusal (client_conditions s.sessions id) → is_own_filter text ≡ true → reply ≡ reason (if list_any (has_key id text) s.subscriptions then 0 else 17) → subs ≡ filter (λ x. not (has_key id text x)) s.subscriptions → Does s (Unsubscribe id text) reply (record { access = s.access; sessions = s.sessions; subscriptions = subs })
-unfolding refusal answer after
-unsubscribe-does s id text subs reply h f r xs = record {
-  accepted = passed-behind (client_conditions s.sessions id) [] TopicFilter (is_own_filter text) h f;
-  reply_is = r ∙ ap (λ l. reason (if list_any (has_key id text) l then 0 else 17)) (sym (subscriptions-world_of s));
-  holds = record { access = refl; sessions = refl; subscriptions = kept-holds (λ x. not (has_key id text x)) s subs xs };
+pub unsubscribe-does : (s : State) (id text : Text) (subs : KeptSubscriptions) (reply : Reply) → None ≡ first_refusal (client_conditions s.sessions id) → is_subscription text ≡ true → reply ≡ reason (if list_any (has_key id (share_of text) (filter_part text)) s.subscriptions then 0 else 17) → subs.rows ≡ filter (λ x. not (has_key id (share_of text) (filter_part text) x)) s.subscriptions → AreKeys subs → Does s (Unsubscribe id text) reply (record s { subscriptions = subs.rows; filter_keys = subs.keys })
+unfolding refusal
+unsubscribe-does s id text subs reply h f r xs keys = record {
+  accepted = passed-behind (client_conditions s.sessions id) [] TopicFilter (is_subscription text) h f;
+  reply_is = r;
+  rows = record { moment = refl; access = refl; sessions = refl; subscriptions = same-is _ _ xs; retained = refl };
+  filed = λ old. record { filter_keys = keys; topic_keys = old.topic_keys; deadlines = old.deadlines };
 }
 
 -- ## Publish
@@ -156,13 +171,14 @@ publish-write s m h n e =
     inr (passed-behind (client_conditions s.sessions m.publisher) (write_condition s m) TopicName (is_name m.topic) h n
     ∙ hit (allowed s.access m.publisher (user_of s.sessions m.publisher) m.topic Writing) NotAuthorized [] e)
 
-pub publish-does : (s : State) (m : Message) (reply : Reply) → None ≡ first_refusal (client_conditions s.sessions m.publisher) → is_name m.topic ≡ true → allowed s.access m.publisher (user_of s.sessions m.publisher) m.topic Writing ≡ true → reply ≡ published (direct_copies s.access s.sessions s.subscriptions m) → Does s (Publish m) reply s
-unfolding refusal answer after
-publish-does s m reply h n e r = record {
+pub publish-does : (s : State) (m : Message) (subs : KeptSubscriptions) (kept : KeptRetained) (reply : Reply) → None ≡ first_refusal (client_conditions s.sessions m.publisher) → is_name m.topic ≡ true → allowed s.access m.publisher (user_of s.sessions m.publisher) m.topic Writing ≡ true → reply ≡ published (copies_made s.access s.sessions s.subscriptions m) → SameInTurn subs.rows (all_turned (next_members s.access s.sessions s.subscriptions m) s.subscriptions) → (s.filter_keys ≡ filters_among s.subscriptions → AreKeys subs) → kept.messages ≡ retained_after s.moment s.retained m → (s.topic_keys ≡ topics_of s.retained → Indexes s.deadlines s.retained → AreFiled kept) → Does s (Publish m) reply (record s { subscriptions = subs.rows; filter_keys = subs.keys; retained = kept.messages; topic_keys = kept.keys; deadlines = kept.pairs })
+unfolding refusal
+publish-does s m subs kept reply h n e r xs keys rs filed = record {
   accepted = passed-behind (client_conditions s.sessions m.publisher) (write_condition s m) TopicName (is_name m.topic) h n
       ∙ skip (allowed s.access m.publisher (user_of s.sessions m.publisher) m.topic Writing) NotAuthorized [] e;
-  reply_is = r ∙ ap (λ l. published (direct_copies s.access s.sessions l m)) (sym (subscriptions-world_of s));
-  holds = record { access = refl; sessions = refl; subscriptions = all-hold s };
+  reply_is = r;
+  rows = record { moment = refl; access = refl; sessions = refl; subscriptions = xs; retained = rs };
+  filed = λ old. (let now : AreFiled kept = filed old.topic_keys old.deadlines in record { filter_keys = keys old.filter_keys; topic_keys = now.keys; deadlines = now.pairs });
 }
 
 -- ## Access lists
@@ -171,10 +187,45 @@ pub set_acl-refused : (s : State) (text : Option Text) (r : Refusal) → (r ≡ 
 unfolding refusal
 set_acl-refused s text r why = why
 
-pub set_acl-does : (s : State) (text : Option Text) (reply : Reply) → faulty_line text ≡ None → reply ≡ reason 0 → Does s (SetAcl text) reply (record { access = access_of text; sessions = s.sessions; subscriptions = s.subscriptions })
-unfolding refusal answer after
+pub set_acl-does : (s : State) (text : Option Text) (reply : Reply) → faulty_line text ≡ None → reply ≡ reason 0 → Does s (SetAcl text) reply (record s { access = access_of text })
+unfolding refusal
 set_acl-does s text reply h r = record {
   accepted = ap (λ o. option_map (λ line. AclLine line) o) h;
   reply_is = r;
-  holds = record { access = refl; sessions = refl; subscriptions = all-hold s };
+  rows = record { moment = refl; access = refl; sessions = refl; subscriptions = same-itself s.subscriptions; retained = refl };
+  filed = λ old. record { filter_keys = old.filter_keys; topic_keys = old.topic_keys; deadlines = old.deadlines };
+}
+
+-- ## The clock
+
+is_above : (a b : ℕ) → a < b → nat_lt a b ≡ true
+is_above a b h = grind (arith, nat_tests)
+
+not_above : (a b : ℕ) → b ≤ a → nat_lt a b ≡ false
+not_above a b h = grind (arith, nat_tests)
+
+pub advance-refused : (s : State) (seconds : ℕ) → last_moment < s.moment + seconds → Refuses (world_of s) (Advance seconds) ClockTooFar
+unfolding refusal
+advance-refused s seconds h = inr (ap (λ b. first_refusal ((b, ClockTooFar) ∷ [])) (is_above last_moment (s.moment + seconds) h))
+
+pub advance-does : (s : State) (seconds moment : ℕ) (kept : KeptRetained) (reply : Reply) → moment ≤ last_moment → moment ≡ s.moment + seconds → kept.messages ≡ unexpired moment s.retained → AreFiled kept → reply ≡ reason 0 → Does s (Advance seconds) reply (record s { moment = moment; retained = kept.messages; topic_keys = kept.keys; deadlines = kept.pairs })
+unfolding refusal
+advance-does s seconds moment kept reply within m rs filed r =
+    let reached : s.moment + seconds ≤ last_moment = omega arith in
+    record {
+      accepted = ap (λ b. first_refusal ((b, ClockTooFar) ∷ [])) (not_above last_moment (s.moment + seconds) reached);
+      reply_is = r;
+      rows = record { moment = m; access = refl; sessions = refl; subscriptions = same-itself s.subscriptions; retained = rs ∙ ap (λ n. unexpired n s.retained) m };
+      filed = λ old. record { filter_keys = old.filter_keys; topic_keys = filed.keys; deadlines = filed.pairs };
+    }
+
+-- ## Counts
+
+pub stat-does : (s : State) (reply : Reply) → reply ≡ record { copies = []; outcome = counts_held s } → Does s Stat reply s
+unfolding refusal
+stat-does s reply r = record {
+  accepted = refl;
+  reply_is = r;
+  rows = record { moment = refl; access = refl; sessions = refl; subscriptions = same-itself s.subscriptions; retained = refl };
+  filed = λ old. old;
 }

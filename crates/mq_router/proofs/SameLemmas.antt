@@ -59,7 +59,7 @@ eqb-suc-zero n =
     let P : Bool → Type 0 = λ b. (suc n == 0) ≡ b → b ≡ false in
     (elim (suc n == 0) as P [ true ↦ λ h. absurd (let e : suc n ≡ 0 = eqb-true _ _ h in omega arith) | false ↦ λ h. refl ]) refl
 
-some_pass : (n : ℕ) → true ≡ not (suc n == 0)
+pub some_pass : (n : ℕ) → true ≡ not (suc n == 0)
 some_pass n = sym (ap not (eqb-suc-zero n))
 
 any-is : {X : Type 0} (p : X → Bool) (xs : List X) → list_any p xs ≡ not (length (filter p xs) == 0)

@@ -6,7 +6,7 @@ use Rattle.std.specs.Ordering.{is_eq, nat_cmp}
 use Rattle.std.specs.Option.{option_map, option_and_then}
 use Rattle.std.specs.Cmp.Lexicographic.{slice_cmp, nat_list_eq_equiv, nat_list_cmp_total}
 use Rattle.std.specs.String.{string_cmp, string_cmp_total}
-use Rattle.std.specs.List.{filter, list_any, find}
+use Rattle.std.specs.List.{filter, find}
 use Rattle.std.specs.List.Sorted.{IsStrictlySortedBy}
 use Rattle.std.specs.Map.{lookup, remove_entry, keys_of}
 use Rattle.std.specs.BTreeMap.{insert_entry}
@@ -14,10 +14,10 @@ use Rattle.std.proofs.lemmas.Map.Text.{is_eq-slice_cmp}
 use Rattle.std.proofs.lemmas.Slice.Eq.{bytes_eq-Decides}
 use Rattle.mq_router.specs.Lists.{same_text, with_row}
 use Rattle.mq_router.specs.World.{Session, has_id, session_cmp}
-use Rattle.mq_router.specs.Refusals.{user_of}
+use Rattle.mq_router.specs.Sessions.{is_connected, user_of}
 use Rattle.mq_router.specs.Held.{session_of}
 use Rattle.mq_router.proofs.OrderLemmas.{equal_from}
-use Rattle.mq_router.proofs.ListLemmas.{is_some-lookup, list_any-map, list_any-same, filter-same, map-filter, map-insert_entry, remove_entry-filter}
+use Rattle.mq_router.proofs.ListLemmas.{is_some-lookup, is_some-find, list_any-map, list_any-same, filter-same, map-filter, map-insert_entry, remove_entry-filter}
 
 abbrev Entry : Type 0
 Entry = String Global × Option (String Global)
@@ -29,13 +29,14 @@ finds bs k = is_eq (slice_cmp nat_cmp bs (string_bytes k))
 pub finds-is : (bs : List ℕ) (k : String Global) → finds bs k ≡ same_text (string_bytes k) bs
 finds-is bs k = is_eq-slice_cmp bs (string_bytes k) ∙ nat_list_eq_equiv.symm bs (string_bytes k)
 
-pub contains-is : (bs : List ℕ) (es : List Entry) → is_some (lookup (finds bs) es) ≡ list_any (has_id bs) (map session_of es)
+pub contains-is : (bs : List ℕ) (es : List Entry) → is_some (lookup (finds bs) es) ≡ is_connected (map session_of es) bs
 contains-is bs es =
     is_some-lookup (finds bs) es
     ∙ list_any-same (λ e. finds bs e.0) (λ e. has_id bs (session_of e)) (λ e. finds-is bs e.0) es
     ∙ sym (list_any-map session_of (has_id bs) es)
+    ∙ sym (is_some-find (has_id bs) (map session_of es))
 
-apart : (bs : List ℕ) (x y : String Global) → finds bs x ≡ true → string_cmp x y ≡ Less → finds bs y ≡ false
+pub apart : (bs : List ℕ) (x y : String Global) → finds bs x ≡ true → string_cmp x y ≡ Less → finds bs y ≡ false
 apart bs x y h less = ap is_eq (nat_list_cmp_total.congr bs (string_bytes x) (string_bytes y) (equal_from _ h) ∙ less)
 
 pub removed-is : (bs : List ℕ) (es : List Entry) → IsStrictlySortedBy string_cmp (keys_of es) → map session_of (remove_entry (finds bs) es) ≡ filter (λ session. not (has_id bs session)) (map session_of es)

@@ -1,17 +1,20 @@
 -- The worked rows of tests/rows, computed from the definitions alone. Made by tools/worked_scripts.py.
-use Rattle.std.specs.Prelude.{◌≡◌, ℕ, true, false, List, [], ◌∷◌, Some, None, Result, Ok, Err, codes}
+use Rattle.std.specs.Prelude.{◌≡◌, ℕ, Bool, true, false, List, [], ◌∷◌, map, Option, Some, None, is_some, Result, Ok, Err, codes, slice_index_or, if◌then◌else◌}
 use Rattle.std.proofs.Common.{refl}
 use Rattle.std.specs.Option.{option_map_or}
 use Rattle.mq_acl.specs.Access.{allowed}
 use Rattle.mq_router.specs.Lists.{Text, with_row}
-use Rattle.mq_router.specs.World.{World, Request, Connect, Disconnect, Subscribe, Unsubscribe, Publish, SetAcl, Copy, Reply, fresh_world, empty_world}
+use Rattle.mq_router.specs.World.{World, Request, Connect, Disconnect, Subscribe, Unsubscribe, Publish, SetAcl, Advance, Stat, Group, Copy, Reply, fresh_world, empty_world}
 use Rattle.mq_router.specs.Refusals.{refusal}
 use Rattle.mq_router.specs.Copies.{direct_copies}
+use Rattle.mq_router.specs.Groups.{groups_of, served}
+use Rattle.mq_router.specs.Retained.{retained_after, retained_copies}
+use Rattle.mq_router.specs.Counts.{filters_of, counts, steps}
 use Rattle.mq_router.specs.Answers.{answer}
 use Rattle.mq_router.specs.After.{after, next}
 use Rattle.mq_router.specs.declared.refusal.Refusal.{Refusal}
-use Rattle.mq_router.specs.declared.refusal.Refusal.TheVariants.{ClientId, NotConnected, TopicName, TopicFilter, NotAuthorized, AclLine}
-use Rattle.mq_router.specs.declared.answer.Outcome.TheVariants.{Reason}
+use Rattle.mq_router.specs.declared.refusal.Refusal.TheVariants.{ClientId, UserName, NotConnected, TopicName, TopicFilter, SharedNoLocal, NotAuthorized, AclLine, ClockTooFar}
+use Rattle.mq_router.specs.declared.answer.Outcome.TheVariants.{Reason, Counts}
 
 -- what each command is answered
 abbrev answers : World → List Request → List (Result Reply Refusal)
@@ -19,16 +22,38 @@ answers w [] = []
 answers w (request ∷ requests) =
     option_map_or (λ r. Err r) (refusal w request) (Ok (answer w request)) ∷ answers (next w request) requests
 
+-- the steps that each command counts: none where it is refused
+abbrev counted : World → List Request → List ℕ
+counted w [] = []
+counted w (request ∷ requests) =
+    (if is_some (refusal w request) then 0 else steps w request) ∷ counted (next w request) requests
+
+-- those of the commands at these places
+abbrev counted_at : List ℕ → List Request → List ℕ
+counted_at places requests = map (λ i. slice_index_or (counted empty_world requests) i 0) places
+
 abbrev ok : List Copy → ℕ → Result Reply Refusal
 ok copies n = Ok (record { copies = copies; outcome = Reason n })
 
+abbrev counted_reply : ℕ → ℕ → ℕ → Result Reply Refusal
+counted_reply nodes retained subscriptions = Ok (record { copies = []; outcome = Counts nodes retained subscriptions })
+
+abbrev publish : Text → Text → Text → ℕ → Bool → Option ℕ → Request
+publish client topic payload qos retain expiry =
+    Publish (record { publisher = client; topic = topic; payload = payload; qos = qos; retain = retain; expiry = expiry })
+
 abbrev message : Text → Text → Text → ℕ → Request
-message client topic payload qos = Publish (record { publisher = client; topic = topic; payload = payload; qos = qos })
+message client topic payload qos = publish client topic payload qos false None
 
 abbrev subscribe : Text → Text → ℕ → Request
-subscribe client text qos = Subscribe client text (record { qos = qos; no_local = false; identifier = None })
+subscribe client text qos =
+    Subscribe client text (record { qos = qos; no_local = false; retain_as_published = false; handling = 0; identifier = None })
 
-access_list_lines : answers empty_world (
+abbrev group : Text → Text → Option Group
+group share filter = Some (record { share = share; filter = filter })
+
+abbrev access_list_lines-script : List Request
+access_list_lines-script =
     SetAcl (Some (codes "topic read a b"))
     ∷ SetAcl (Some (35 ∷ 32 ∷ 99 ∷ 10 ∷ 10 ∷ 116 ∷ 111 ∷ 112 ∷ 105 ∷ 99 ∷ 32 ∷ 97 ∷ 32 ∷ 98 ∷ []))
     ∷ SetAcl (Some (codes "topic read"))
@@ -40,7 +65,9 @@ access_list_lines : answers empty_world (
     ∷ message (codes "a") (codes "x") (codes "x") 0
     ∷ SetAcl (Some [])
     ∷ message (codes "a") (codes "x") (codes "x") 0
-    ∷ [])
+    ∷ []
+
+access_list_lines : answers empty_world access_list_lines-script
     ≡ (ok [] 0
     ∷ Err (AclLine 3)
     ∷ ok [] 0
@@ -53,10 +80,12 @@ access_list_lines : answers empty_world (
     ∷ ok [] 0
     ∷ Err NotAuthorized
     ∷ [])
-unfolding fresh_world refusal answer after next direct_copies with_row allowed
+unfolding fresh_world refusal answer after next with_row allowed direct_copies groups_of served
+    retained_after retained_copies filters_of counts
 access_list_lines = refl
 
-access_list : answers empty_world (
+abbrev access_list-script : List Request
+access_list-script =
     SetAcl (Some (116 ∷ 111 ∷ 112 ∷ 105 ∷ 99 ∷ 32 ∷ 114 ∷ 101 ∷ 97 ∷ 100 ∷ 32 ∷ 97 ∷ 47 ∷ 35 ∷ 10 ∷ 112 ∷ 97 ∷ 116 ∷ 116 ∷ 101 ∷ 114 ∷ 110 ∷ 32 ∷ 100 ∷ 101 ∷ 110 ∷ 121 ∷ 32 ∷ 97 ∷ 47 ∷ 37 ∷ 117 ∷ 10 ∷ 112 ∷ 97 ∷ 116 ∷ 116 ∷ 101 ∷ 114 ∷ 110 ∷ 32 ∷ 114 ∷ 101 ∷ 97 ∷ 100 ∷ 32 ∷ 37 ∷ 117 ∷ 47 ∷ 35 ∷ 10 ∷ 112 ∷ 97 ∷ 116 ∷ 116 ∷ 101 ∷ 114 ∷ 110 ∷ 32 ∷ 119 ∷ 114 ∷ 105 ∷ 116 ∷ 101 ∷ 32 ∷ 43 ∷ 47 ∷ 43 ∷ 10 ∷ 112 ∷ 97 ∷ 116 ∷ 116 ∷ 101 ∷ 114 ∷ 110 ∷ 32 ∷ 119 ∷ 114 ∷ 105 ∷ 116 ∷ 101 ∷ 32 ∷ 36 ∷ 83 ∷ 89 ∷ 83 ∷ 47 ∷ 35 ∷ 10 ∷ 117 ∷ 115 ∷ 101 ∷ 114 ∷ 32 ∷ 98 ∷ 10 ∷ 116 ∷ 111 ∷ 112 ∷ 105 ∷ 99 ∷ 32 ∷ 114 ∷ 101 ∷ 97 ∷ 100 ∷ 32 ∷ 97 ∷ 47 ∷ 35 ∷ 10 ∷ []))
     ∷ Connect (codes "b") (Some (codes "b"))
     ∷ Connect (codes "n") None
@@ -73,7 +102,9 @@ access_list : answers empty_world (
     ∷ message (codes "w") (codes "$SYS/x") (codes "x") 0
     ∷ message (codes "b") (codes "a/b") (codes "x") 0
     ∷ message (codes "w") (codes "q") (codes "x") 0
-    ∷ [])
+    ∷ []
+
+access_list : answers empty_world access_list-script
     ≡ (ok [] 0
     ∷ ok [] 0
     ∷ ok [] 0
@@ -84,59 +115,129 @@ access_list : answers empty_world (
     ∷ ok [] 0
     ∷ ok [] 0
     ∷ ok [] 0
-    ∷ ok (record { client = (codes "b"); topic = (codes "b/x"); payload = (codes "x"); qos = 0; retain = false; identifiers = [] } ∷ []) 0
-    ∷ ok (record { client = (codes "n"); topic = (codes "a/b"); payload = (codes "x"); qos = 0; retain = false; identifiers = [] } ∷ []) 0
-    ∷ ok (record { client = (codes "b"); topic = (codes "a/c"); payload = (codes "x"); qos = 0; retain = false; identifiers = [] } ∷ record { client = (codes "n"); topic = (codes "a/c"); payload = (codes "x"); qos = 0; retain = false; identifiers = [] } ∷ []) 0
+    ∷ ok (record { client = (codes "b"); topic = (codes "b/x"); payload = (codes "x"); qos = 0; retain = false; expiry = None; identifiers = []; group = None } ∷ []) 0
+    ∷ ok (record { client = (codes "n"); topic = (codes "a/b"); payload = (codes "x"); qos = 0; retain = false; expiry = None; identifiers = []; group = None } ∷ []) 0
+    ∷ ok (record { client = (codes "b"); topic = (codes "a/c"); payload = (codes "x"); qos = 0; retain = false; expiry = None; identifiers = []; group = None } ∷ record { client = (codes "n"); topic = (codes "a/c"); payload = (codes "x"); qos = 0; retain = false; expiry = None; identifiers = []; group = None } ∷ []) 0
     ∷ ok [] 16
     ∷ Err NotAuthorized
     ∷ Err NotAuthorized
     ∷ [])
-unfolding fresh_world refusal answer after next direct_copies with_row allowed
+unfolding fresh_world refusal answer after next with_row allowed direct_copies groups_of served
+    retained_after retained_copies filters_of counts
 access_list = refl
 
-dollar_names : answers empty_world (
+abbrev clock_limit-script : List Request
+clock_limit-script =
+    Advance 1000000000000
+    ∷ Advance 1
+    ∷ Advance 0
+    ∷ Advance 18446744073709551615
+    ∷ []
+
+clock_limit : answers empty_world clock_limit-script
+    ≡ (ok [] 0
+    ∷ Err ClockTooFar
+    ∷ ok [] 0
+    ∷ Err ClockTooFar
+    ∷ [])
+unfolding fresh_world refusal answer after next with_row allowed direct_copies groups_of served
+    retained_after retained_copies filters_of counts
+clock_limit = refl
+
+-- the steps of line 2
+clock_limit-steps : counted_at (1 ∷ []) clock_limit-script ≡ (0 ∷ [])
+unfolding fresh_world refusal answer after next with_row allowed groups_of served retained_after
+    filters_of steps
+clock_limit-steps = refl
+
+abbrev dollar_names-script : List Request
+dollar_names-script =
     Connect (codes "a") None
     ∷ subscribe (codes "a") (codes "#") 0
     ∷ subscribe (codes "a") (codes "+/x") 0
     ∷ message (codes "a") (codes "$SYS/x") (codes "x") 0
-    ∷ Subscribe (codes "a") (codes "$SYS/+") (record { qos = 0; no_local = false; identifier = (Some 3) })
+    ∷ Subscribe (codes "a") (codes "$SYS/+") (record { qos = 0; no_local = false; retain_as_published = false; handling = 0; identifier = (Some 3) })
     ∷ message (codes "a") (codes "$SYS/x") (codes "x") 0
     ∷ Connect (codes "b") None
     ∷ subscribe (codes "b") (codes "a/+") 0
     ∷ message (codes "b") (codes "a/$x") (codes "x") 0
-    ∷ [])
+    ∷ []
+
+dollar_names : answers empty_world dollar_names-script
     ≡ (ok [] 0
     ∷ ok [] 0
     ∷ ok [] 0
     ∷ ok [] 16
     ∷ ok [] 0
-    ∷ ok (record { client = (codes "a"); topic = (codes "$SYS/x"); payload = (codes "x"); qos = 0; retain = false; identifiers = (3 ∷ []) } ∷ []) 0
+    ∷ ok (record { client = (codes "a"); topic = (codes "$SYS/x"); payload = (codes "x"); qos = 0; retain = false; expiry = None; identifiers = (3 ∷ []); group = None } ∷ []) 0
     ∷ ok [] 0
     ∷ ok [] 0
-    ∷ ok (record { client = (codes "a"); topic = (codes "a/$x"); payload = (codes "x"); qos = 0; retain = false; identifiers = [] } ∷ record { client = (codes "b"); topic = (codes "a/$x"); payload = (codes "x"); qos = 0; retain = false; identifiers = [] } ∷ []) 0
+    ∷ ok (record { client = (codes "a"); topic = (codes "a/$x"); payload = (codes "x"); qos = 0; retain = false; expiry = None; identifiers = []; group = None } ∷ record { client = (codes "b"); topic = (codes "a/$x"); payload = (codes "x"); qos = 0; retain = false; expiry = None; identifiers = []; group = None } ∷ []) 0
     ∷ [])
-unfolding fresh_world refusal answer after next direct_copies with_row allowed
+unfolding fresh_world refusal answer after next with_row allowed direct_copies groups_of served
+    retained_after retained_copies filters_of counts
 dollar_names = refl
 
-first_look : answers empty_world (
+abbrev expiry_replaced-script : List Request
+expiry_replaced-script =
+    Connect (codes "a") None
+    ∷ publish (codes "a") (codes "t") (codes "x") 0 true (Some 10)
+    ∷ publish (codes "a") (codes "t") (codes "new") 0 true (Some 30)
+    ∷ Advance 10
+    ∷ subscribe (codes "a") (codes "t") 0
+    ∷ publish (codes "a") (codes "u") (codes "x") 0 true (Some 20)
+    ∷ publish (codes "a") (codes "v") (codes "x") 0 true None
+    ∷ Advance 20
+    ∷ subscribe (codes "a") (codes "#") 0
+    ∷ Advance 999999999970
+    ∷ publish (codes "a") (codes "w") (codes "x") 0 true (Some 1)
+    ∷ Advance 1
+    ∷ subscribe (codes "a") (codes "w") 0
+    ∷ []
+
+expiry_replaced : answers empty_world expiry_replaced-script
+    ≡ (ok [] 0
+    ∷ ok [] 16
+    ∷ ok [] 16
+    ∷ ok [] 0
+    ∷ ok (record { client = (codes "a"); topic = (codes "t"); payload = (codes "new"); qos = 0; retain = true; expiry = (Some 20); identifiers = []; group = None } ∷ []) 0
+    ∷ ok [] 16
+    ∷ ok [] 16
+    ∷ ok [] 0
+    ∷ ok (record { client = (codes "a"); topic = (codes "v"); payload = (codes "x"); qos = 0; retain = true; expiry = None; identifiers = []; group = None } ∷ []) 0
+    ∷ ok [] 0
+    ∷ ok (record { client = (codes "a"); topic = (codes "w"); payload = (codes "x"); qos = 0; retain = false; expiry = (Some 1); identifiers = []; group = None } ∷ []) 0
+    ∷ Err ClockTooFar
+    ∷ ok (record { client = (codes "a"); topic = (codes "w"); payload = (codes "x"); qos = 0; retain = true; expiry = (Some 1); identifiers = []; group = None } ∷ []) 0
+    ∷ [])
+unfolding fresh_world refusal answer after next with_row allowed direct_copies groups_of served
+    retained_after retained_copies filters_of counts
+expiry_replaced = refl
+
+abbrev first_look-script : List Request
+first_look-script =
     Connect (codes "a") None
     ∷ subscribe (codes "a") (codes "a/#") 1
     ∷ message (codes "a") (codes "a") (codes "x") 2
     ∷ message (codes "a") (codes "a/") (codes "y") 0
     ∷ message (codes "a") (codes "a/b/c") [] 0
     ∷ message (codes "a") (codes "b") (codes "z") 0
-    ∷ [])
+    ∷ []
+
+first_look : answers empty_world first_look-script
     ≡ (ok [] 0
     ∷ ok [] 1
-    ∷ ok (record { client = (codes "a"); topic = (codes "a"); payload = (codes "x"); qos = 1; retain = false; identifiers = [] } ∷ []) 0
-    ∷ ok (record { client = (codes "a"); topic = (codes "a/"); payload = (codes "y"); qos = 0; retain = false; identifiers = [] } ∷ []) 0
-    ∷ ok (record { client = (codes "a"); topic = (codes "a/b/c"); payload = []; qos = 0; retain = false; identifiers = [] } ∷ []) 0
+    ∷ ok (record { client = (codes "a"); topic = (codes "a"); payload = (codes "x"); qos = 1; retain = false; expiry = None; identifiers = []; group = None } ∷ []) 0
+    ∷ ok (record { client = (codes "a"); topic = (codes "a/"); payload = (codes "y"); qos = 0; retain = false; expiry = None; identifiers = []; group = None } ∷ []) 0
+    ∷ ok (record { client = (codes "a"); topic = (codes "a/b/c"); payload = []; qos = 0; retain = false; expiry = None; identifiers = []; group = None } ∷ []) 0
     ∷ ok [] 16
     ∷ [])
-unfolding fresh_world refusal answer after next direct_copies with_row allowed
+unfolding fresh_world refusal answer after next with_row allowed direct_copies groups_of served
+    retained_after retained_copies filters_of counts
 first_look = refl
 
-first_path : answers empty_world (
+abbrev first_path-script : List Request
+first_path-script =
     Connect (codes "a") None
     ∷ Connect (codes "b") None
     ∷ subscribe (codes "a") (codes "a/+") 2
@@ -151,28 +252,122 @@ first_path : answers empty_world (
     ∷ message (codes "b") (codes "a/+") (codes "x") 0
     ∷ subscribe (codes "b") (codes "sport+") 0
     ∷ Connect [] None
-    ∷ [])
+    ∷ []
+
+first_path : answers empty_world first_path-script
     ≡ (ok [] 0
     ∷ ok [] 0
     ∷ ok [] 2
     ∷ ok [] 0
     ∷ ok [] 1
-    ∷ ok (record { client = (codes "a"); topic = (codes "a/b"); payload = (codes "x"); qos = 1; retain = false; identifiers = [] } ∷ record { client = (codes "b"); topic = (codes "a/b"); payload = (codes "x"); qos = 1; retain = false; identifiers = [] } ∷ []) 0
+    ∷ ok (record { client = (codes "a"); topic = (codes "a/b"); payload = (codes "x"); qos = 1; retain = false; expiry = None; identifiers = []; group = None } ∷ record { client = (codes "b"); topic = (codes "a/b"); payload = (codes "x"); qos = 1; retain = false; expiry = None; identifiers = []; group = None } ∷ []) 0
     ∷ ok [] 0
-    ∷ ok (record { client = (codes "a"); topic = (codes "a/b"); payload = (codes "x"); qos = 0; retain = false; identifiers = [] } ∷ record { client = (codes "b"); topic = (codes "a/b"); payload = (codes "x"); qos = 1; retain = false; identifiers = [] } ∷ []) 0
+    ∷ ok (record { client = (codes "a"); topic = (codes "a/b"); payload = (codes "x"); qos = 0; retain = false; expiry = None; identifiers = []; group = None } ∷ record { client = (codes "b"); topic = (codes "a/b"); payload = (codes "x"); qos = 1; retain = false; expiry = None; identifiers = []; group = None } ∷ []) 0
     ∷ ok [] 0
-    ∷ ok (record { client = (codes "b"); topic = (codes "a/b"); payload = (codes "x"); qos = 0; retain = false; identifiers = [] } ∷ []) 0
+    ∷ ok (record { client = (codes "b"); topic = (codes "a/b"); payload = (codes "x"); qos = 0; retain = false; expiry = None; identifiers = []; group = None } ∷ []) 0
     ∷ Err NotConnected
     ∷ Err TopicName
     ∷ Err TopicFilter
     ∷ Err ClientId
     ∷ [])
-unfolding fresh_world refusal answer after next direct_copies with_row allowed
+unfolding fresh_world refusal answer after next with_row allowed direct_copies groups_of served
+    retained_after retained_copies filters_of counts
 first_path = refl
 
-leaving : answers empty_world (
+abbrev group_and_access-script : List Request
+group_and_access-script =
+    SetAcl (Some (112 ∷ 97 ∷ 116 ∷ 116 ∷ 101 ∷ 114 ∷ 110 ∷ 32 ∷ 119 ∷ 114 ∷ 105 ∷ 116 ∷ 101 ∷ 32 ∷ 116 ∷ 10 ∷ 117 ∷ 115 ∷ 101 ∷ 114 ∷ 32 ∷ 117 ∷ 97 ∷ 10 ∷ 116 ∷ 111 ∷ 112 ∷ 105 ∷ 99 ∷ 32 ∷ 114 ∷ 101 ∷ 97 ∷ 100 ∷ 32 ∷ 116 ∷ []))
+    ∷ Connect (codes "a") (Some (codes "ua"))
+    ∷ Connect (codes "b") (Some (codes "ub"))
+    ∷ Connect (codes "p") None
+    ∷ subscribe (codes "b") (codes "$share/g/t") 0
+    ∷ subscribe (codes "a") (codes "$share/g/t") 0
+    ∷ message (codes "p") (codes "t") (codes "x") 0
+    ∷ message (codes "p") (codes "t") (codes "x") 0
+    ∷ SetAcl (Some (codes "pattern write t"))
+    ∷ message (codes "p") (codes "t") (codes "x") 0
+    ∷ SetAcl (Some (codes "pattern readwrite t"))
+    ∷ message (codes "p") (codes "t") (codes "x") 0
+    ∷ message (codes "p") (codes "t") (codes "x") 0
+    ∷ SetAcl (Some (codes "pattern read t"))
+    ∷ message (codes "p") (codes "t") (codes "x") 0
+    ∷ SetAcl None
+    ∷ message (codes "p") (codes "t") (codes "x") 0
+    ∷ []
+
+group_and_access : answers empty_world group_and_access-script
+    ≡ (ok [] 0
+    ∷ ok [] 0
+    ∷ ok [] 0
+    ∷ ok [] 0
+    ∷ ok [] 0
+    ∷ ok [] 0
+    ∷ ok (record { client = (codes "a"); topic = (codes "t"); payload = (codes "x"); qos = 0; retain = false; expiry = None; identifiers = []; group = group (codes "g") (codes "t") } ∷ []) 0
+    ∷ ok (record { client = (codes "a"); topic = (codes "t"); payload = (codes "x"); qos = 0; retain = false; expiry = None; identifiers = []; group = group (codes "g") (codes "t") } ∷ []) 0
+    ∷ ok [] 0
+    ∷ ok [] 16
+    ∷ ok [] 0
+    ∷ ok (record { client = (codes "b"); topic = (codes "t"); payload = (codes "x"); qos = 0; retain = false; expiry = None; identifiers = []; group = group (codes "g") (codes "t") } ∷ []) 0
+    ∷ ok (record { client = (codes "a"); topic = (codes "t"); payload = (codes "x"); qos = 0; retain = false; expiry = None; identifiers = []; group = group (codes "g") (codes "t") } ∷ []) 0
+    ∷ ok [] 0
+    ∷ Err NotAuthorized
+    ∷ ok [] 0
+    ∷ ok (record { client = (codes "b"); topic = (codes "t"); payload = (codes "x"); qos = 0; retain = false; expiry = None; identifiers = []; group = group (codes "g") (codes "t") } ∷ []) 0
+    ∷ [])
+unfolding fresh_world refusal answer after next with_row allowed direct_copies groups_of served
+    retained_after retained_copies filters_of counts
+group_and_access = refl
+
+abbrev group_turns-script : List Request
+group_turns-script =
     Connect (codes "a") None
-    ∷ Subscribe (codes "a") (codes "t") (record { qos = 0; no_local = false; identifier = (Some 5) })
+    ∷ Connect (codes "b") None
+    ∷ Connect (codes "c") None
+    ∷ Connect (codes "p") None
+    ∷ subscribe (codes "a") (codes "$share/g/t") 0
+    ∷ subscribe (codes "b") (codes "$share/g/t") 0
+    ∷ subscribe (codes "c") (codes "$share/g/t") 0
+    ∷ message (codes "p") (codes "t") (codes "x") 0
+    ∷ message (codes "p") (codes "t") (codes "x") 0
+    ∷ subscribe (codes "c") (codes "$share/g/t") 1
+    ∷ message (codes "p") (codes "t") (codes "x") 1
+    ∷ Unsubscribe (codes "a") (codes "$share/g/t")
+    ∷ subscribe (codes "a") (codes "$share/g/t") 0
+    ∷ message (codes "p") (codes "t") (codes "x") 1
+    ∷ message (codes "p") (codes "t") (codes "x") 0
+    ∷ message (codes "p") (codes "t") (codes "x") 0
+    ∷ Disconnect (codes "b")
+    ∷ message (codes "p") (codes "t") (codes "x") 0
+    ∷ []
+
+group_turns : answers empty_world group_turns-script
+    ≡ (ok [] 0
+    ∷ ok [] 0
+    ∷ ok [] 0
+    ∷ ok [] 0
+    ∷ ok [] 0
+    ∷ ok [] 0
+    ∷ ok [] 0
+    ∷ ok (record { client = (codes "a"); topic = (codes "t"); payload = (codes "x"); qos = 0; retain = false; expiry = None; identifiers = []; group = group (codes "g") (codes "t") } ∷ []) 0
+    ∷ ok (record { client = (codes "b"); topic = (codes "t"); payload = (codes "x"); qos = 0; retain = false; expiry = None; identifiers = []; group = group (codes "g") (codes "t") } ∷ []) 0
+    ∷ ok [] 1
+    ∷ ok (record { client = (codes "c"); topic = (codes "t"); payload = (codes "x"); qos = 1; retain = false; expiry = None; identifiers = []; group = group (codes "g") (codes "t") } ∷ []) 0
+    ∷ ok [] 0
+    ∷ ok [] 0
+    ∷ ok (record { client = (codes "b"); topic = (codes "t"); payload = (codes "x"); qos = 0; retain = false; expiry = None; identifiers = []; group = group (codes "g") (codes "t") } ∷ []) 0
+    ∷ ok (record { client = (codes "c"); topic = (codes "t"); payload = (codes "x"); qos = 0; retain = false; expiry = None; identifiers = []; group = group (codes "g") (codes "t") } ∷ []) 0
+    ∷ ok (record { client = (codes "a"); topic = (codes "t"); payload = (codes "x"); qos = 0; retain = false; expiry = None; identifiers = []; group = group (codes "g") (codes "t") } ∷ []) 0
+    ∷ ok [] 0
+    ∷ ok (record { client = (codes "c"); topic = (codes "t"); payload = (codes "x"); qos = 0; retain = false; expiry = None; identifiers = []; group = group (codes "g") (codes "t") } ∷ []) 0
+    ∷ [])
+unfolding fresh_world refusal answer after next with_row allowed direct_copies groups_of served
+    retained_after retained_copies filters_of counts
+group_turns = refl
+
+abbrev leaving-script : List Request
+leaving-script =
+    Connect (codes "a") None
+    ∷ Subscribe (codes "a") (codes "t") (record { qos = 0; no_local = false; retain_as_published = false; handling = 0; identifier = (Some 5) })
     ∷ subscribe (codes "a") (codes "t") 0
     ∷ message (codes "a") (codes "t") (codes "x") 0
     ∷ Unsubscribe (codes "a") (codes "t")
@@ -180,55 +375,371 @@ leaving : answers empty_world (
     ∷ message (codes "a") (codes "t") (codes "x") 0
     ∷ Unsubscribe (codes "a") (codes "t#")
     ∷ Disconnect []
-    ∷ [])
+    ∷ []
+
+leaving : answers empty_world leaving-script
     ≡ (ok [] 0
     ∷ ok [] 0
     ∷ ok [] 0
-    ∷ ok (record { client = (codes "a"); topic = (codes "t"); payload = (codes "x"); qos = 0; retain = false; identifiers = [] } ∷ []) 0
+    ∷ ok (record { client = (codes "a"); topic = (codes "t"); payload = (codes "x"); qos = 0; retain = false; expiry = None; identifiers = []; group = None } ∷ []) 0
     ∷ ok [] 0
     ∷ ok [] 17
     ∷ ok [] 16
     ∷ Err TopicFilter
     ∷ Err ClientId
     ∷ [])
-unfolding fresh_world refusal answer after next direct_copies with_row allowed
+unfolding fresh_world refusal answer after next with_row allowed direct_copies groups_of served
+    retained_after retained_copies filters_of counts
 leaving = refl
 
-no_local_first : answers empty_world (
+abbrev message_expiry-script : List Request
+message_expiry-script =
     Connect (codes "a") None
-    ∷ Subscribe (codes "a") (codes "t") (record { qos = 0; no_local = true; identifier = (Some 4) })
-    ∷ Subscribe (codes "a") (codes "#") (record { qos = 0; no_local = false; identifier = (Some 6) })
+    ∷ publish (codes "a") (codes "t") (codes "x") 0 true (Some 60)
+    ∷ Advance 20
+    ∷ subscribe (codes "a") (codes "t") 0
+    ∷ Advance 39
+    ∷ subscribe (codes "a") (codes "t") 0
+    ∷ Advance 1
+    ∷ subscribe (codes "a") (codes "t") 0
+    ∷ publish (codes "a") (codes "t") (codes "old") 0 true None
+    ∷ publish (codes "a") (codes "t") (codes "new") 0 true (Some 0)
+    ∷ subscribe (codes "a") (codes "t") 0
+    ∷ publish (codes "a") (codes "t") (codes "k") 0 true None
+    ∷ publish (codes "a") (codes "t") [] 0 true None
+    ∷ subscribe (codes "a") (codes "t") 0
+    ∷ []
+
+message_expiry : answers empty_world message_expiry-script
+    ≡ (ok [] 0
+    ∷ ok [] 16
+    ∷ ok [] 0
+    ∷ ok (record { client = (codes "a"); topic = (codes "t"); payload = (codes "x"); qos = 0; retain = true; expiry = (Some 40); identifiers = []; group = None } ∷ []) 0
+    ∷ ok [] 0
+    ∷ ok (record { client = (codes "a"); topic = (codes "t"); payload = (codes "x"); qos = 0; retain = true; expiry = (Some 1); identifiers = []; group = None } ∷ []) 0
+    ∷ ok [] 0
+    ∷ ok [] 0
+    ∷ ok (record { client = (codes "a"); topic = (codes "t"); payload = (codes "old"); qos = 0; retain = false; expiry = None; identifiers = []; group = None } ∷ []) 0
+    ∷ ok (record { client = (codes "a"); topic = (codes "t"); payload = (codes "new"); qos = 0; retain = false; expiry = (Some 0); identifiers = []; group = None } ∷ []) 0
+    ∷ ok [] 0
+    ∷ ok (record { client = (codes "a"); topic = (codes "t"); payload = (codes "k"); qos = 0; retain = false; expiry = None; identifiers = []; group = None } ∷ []) 0
+    ∷ ok (record { client = (codes "a"); topic = (codes "t"); payload = []; qos = 0; retain = false; expiry = None; identifiers = []; group = None } ∷ []) 0
+    ∷ ok [] 0
+    ∷ [])
+unfolding fresh_world refusal answer after next with_row allowed direct_copies groups_of served
+    retained_after retained_copies filters_of counts
+message_expiry = refl
+
+-- the steps of lines 4, 5, 7, 8
+message_expiry-steps : counted_at (3 ∷ 4 ∷ 6 ∷ 7 ∷ []) message_expiry-script ≡ (1 ∷ 0 ∷ 1 ∷ 0 ∷ [])
+unfolding fresh_world refusal answer after next with_row allowed groups_of served retained_after
+    filters_of steps
+message_expiry-steps = refl
+
+abbrev no_local_first-script : List Request
+no_local_first-script =
+    Connect (codes "a") None
+    ∷ Subscribe (codes "a") (codes "t") (record { qos = 0; no_local = true; retain_as_published = false; handling = 0; identifier = (Some 4) })
+    ∷ Subscribe (codes "a") (codes "#") (record { qos = 0; no_local = false; retain_as_published = false; handling = 0; identifier = (Some 6) })
     ∷ message (codes "a") (codes "t") (codes "x") 0
     ∷ Connect (codes "b") None
     ∷ message (codes "b") (codes "t") (codes "x") 0
-    ∷ [])
+    ∷ []
+
+no_local_first : answers empty_world no_local_first-script
     ≡ (ok [] 0
     ∷ ok [] 0
     ∷ ok [] 0
-    ∷ ok (record { client = (codes "a"); topic = (codes "t"); payload = (codes "x"); qos = 0; retain = false; identifiers = (6 ∷ []) } ∷ []) 0
+    ∷ ok (record { client = (codes "a"); topic = (codes "t"); payload = (codes "x"); qos = 0; retain = false; expiry = None; identifiers = (6 ∷ []); group = None } ∷ []) 0
     ∷ ok [] 0
-    ∷ ok (record { client = (codes "a"); topic = (codes "t"); payload = (codes "x"); qos = 0; retain = false; identifiers = (4 ∷ 6 ∷ []) } ∷ []) 0
+    ∷ ok (record { client = (codes "a"); topic = (codes "t"); payload = (codes "x"); qos = 0; retain = false; expiry = None; identifiers = (4 ∷ 6 ∷ []); group = None } ∷ []) 0
     ∷ [])
-unfolding fresh_world refusal answer after next direct_copies with_row allowed
+unfolding fresh_world refusal answer after next with_row allowed direct_copies groups_of served
+    retained_after retained_copies filters_of counts
 no_local_first = refl
 
-overlapping_identifiers_first : answers empty_world (
+abbrev no_local-script : List Request
+no_local-script =
     Connect (codes "a") None
-    ∷ Subscribe (codes "a") (codes "a/+") (record { qos = 0; no_local = false; identifier = (Some 7) })
-    ∷ Subscribe (codes "a") (codes "a/#") (record { qos = 2; no_local = false; identifier = (Some 7) })
+    ∷ Subscribe (codes "a") (codes "t") (record { qos = 0; no_local = true; retain_as_published = false; handling = 0; identifier = (Some 4) })
+    ∷ Subscribe (codes "a") (codes "#") (record { qos = 0; no_local = false; retain_as_published = false; handling = 0; identifier = (Some 6) })
+    ∷ message (codes "a") (codes "t") (codes "x") 0
+    ∷ Connect (codes "b") None
+    ∷ message (codes "b") (codes "t") (codes "x") 0
+    ∷ publish (codes "a") (codes "t") (codes "x") 0 true None
+    ∷ Subscribe (codes "a") (codes "t") (record { qos = 0; no_local = true; retain_as_published = false; handling = 0; identifier = (Some 4) })
+    ∷ []
+
+no_local : answers empty_world no_local-script
+    ≡ (ok [] 0
+    ∷ ok [] 0
+    ∷ ok [] 0
+    ∷ ok (record { client = (codes "a"); topic = (codes "t"); payload = (codes "x"); qos = 0; retain = false; expiry = None; identifiers = (6 ∷ []); group = None } ∷ []) 0
+    ∷ ok [] 0
+    ∷ ok (record { client = (codes "a"); topic = (codes "t"); payload = (codes "x"); qos = 0; retain = false; expiry = None; identifiers = (4 ∷ 6 ∷ []); group = None } ∷ []) 0
+    ∷ ok (record { client = (codes "a"); topic = (codes "t"); payload = (codes "x"); qos = 0; retain = false; expiry = None; identifiers = (6 ∷ []); group = None } ∷ []) 0
+    ∷ ok [] 0
+    ∷ [])
+unfolding fresh_world refusal answer after next with_row allowed direct_copies groups_of served
+    retained_after retained_copies filters_of counts
+no_local = refl
+
+abbrev order_of_groups-script : List Request
+order_of_groups-script =
+    Connect (codes "a") None
+    ∷ Subscribe (codes "a") (codes "t") (record { qos = 0; no_local = false; retain_as_published = false; handling = 0; identifier = (Some 1) })
+    ∷ Subscribe (codes "a") (codes "$share/g/t") (record { qos = 0; no_local = false; retain_as_published = false; handling = 0; identifier = (Some 2) })
+    ∷ subscribe (codes "a") (codes "$share/g/#") 0
+    ∷ Subscribe (codes "a") (codes "$share/f/+") (record { qos = 0; no_local = false; retain_as_published = true; handling = 0; identifier = None })
+    ∷ publish (codes "a") (codes "t") (codes "x") 0 true None
+    ∷ []
+
+order_of_groups : answers empty_world order_of_groups-script
+    ≡ (ok [] 0
+    ∷ ok [] 0
+    ∷ ok [] 0
+    ∷ ok [] 0
+    ∷ ok [] 0
+    ∷ ok (record { client = (codes "a"); topic = (codes "t"); payload = (codes "x"); qos = 0; retain = false; expiry = None; identifiers = (1 ∷ []); group = None } ∷ record { client = (codes "a"); topic = (codes "t"); payload = (codes "x"); qos = 0; retain = true; expiry = None; identifiers = []; group = group (codes "f") (codes "+") } ∷ record { client = (codes "a"); topic = (codes "t"); payload = (codes "x"); qos = 0; retain = false; expiry = None; identifiers = []; group = group (codes "g") (codes "#") } ∷ record { client = (codes "a"); topic = (codes "t"); payload = (codes "x"); qos = 0; retain = false; expiry = None; identifiers = (2 ∷ []); group = group (codes "g") (codes "t") } ∷ []) 0
+    ∷ [])
+unfolding fresh_world refusal answer after next with_row allowed direct_copies groups_of served
+    retained_after retained_copies filters_of counts
+order_of_groups = refl
+
+-- the steps of line 6
+order_of_groups-steps : counted_at (5 ∷ []) order_of_groups-script ≡ (3 ∷ [])
+unfolding fresh_world refusal answer after next with_row allowed groups_of served retained_after
+    filters_of steps
+order_of_groups-steps = refl
+
+abbrev overlapping_identifiers_first-script : List Request
+overlapping_identifiers_first-script =
+    Connect (codes "a") None
+    ∷ Subscribe (codes "a") (codes "a/+") (record { qos = 0; no_local = false; retain_as_published = false; handling = 0; identifier = (Some 7) })
+    ∷ Subscribe (codes "a") (codes "a/#") (record { qos = 2; no_local = false; retain_as_published = false; handling = 0; identifier = (Some 7) })
     ∷ subscribe (codes "a") (codes "#") 1
     ∷ message (codes "a") (codes "a/b") (codes "x") 1
-    ∷ [])
+    ∷ []
+
+overlapping_identifiers_first : answers empty_world overlapping_identifiers_first-script
     ≡ (ok [] 0
     ∷ ok [] 0
     ∷ ok [] 2
     ∷ ok [] 1
-    ∷ ok (record { client = (codes "a"); topic = (codes "a/b"); payload = (codes "x"); qos = 1; retain = false; identifiers = (7 ∷ 7 ∷ []) } ∷ []) 0
+    ∷ ok (record { client = (codes "a"); topic = (codes "a/b"); payload = (codes "x"); qos = 1; retain = false; expiry = None; identifiers = (7 ∷ 7 ∷ []); group = None } ∷ []) 0
     ∷ [])
-unfolding fresh_world refusal answer after next direct_copies with_row allowed
+unfolding fresh_world refusal answer after next with_row allowed direct_copies groups_of served
+    retained_after retained_copies filters_of counts
 overlapping_identifiers_first = refl
 
-session_begun_anew : answers empty_world (
+abbrev overlapping_identifiers-script : List Request
+overlapping_identifiers-script =
+    Connect (codes "a") None
+    ∷ Subscribe (codes "a") (codes "a/+") (record { qos = 0; no_local = false; retain_as_published = false; handling = 0; identifier = (Some 7) })
+    ∷ Subscribe (codes "a") (codes "a/#") (record { qos = 2; no_local = false; retain_as_published = false; handling = 0; identifier = (Some 7) })
+    ∷ subscribe (codes "a") (codes "#") 1
+    ∷ message (codes "a") (codes "a/b") (codes "x") 1
+    ∷ Subscribe (codes "a") (codes "#") (record { qos = 1; no_local = false; retain_as_published = true; handling = 0; identifier = None })
+    ∷ publish (codes "a") (codes "a/b") (codes "x") 0 true None
+    ∷ []
+
+overlapping_identifiers : answers empty_world overlapping_identifiers-script
+    ≡ (ok [] 0
+    ∷ ok [] 0
+    ∷ ok [] 2
+    ∷ ok [] 1
+    ∷ ok (record { client = (codes "a"); topic = (codes "a/b"); payload = (codes "x"); qos = 1; retain = false; expiry = None; identifiers = (7 ∷ 7 ∷ []); group = None } ∷ []) 0
+    ∷ ok [] 1
+    ∷ ok (record { client = (codes "a"); topic = (codes "a/b"); payload = (codes "x"); qos = 0; retain = true; expiry = None; identifiers = (7 ∷ 7 ∷ []); group = None } ∷ []) 0
+    ∷ [])
+unfolding fresh_world refusal answer after next with_row allowed direct_copies groups_of served
+    retained_after retained_copies filters_of counts
+overlapping_identifiers = refl
+
+-- the steps of line 5
+overlapping_identifiers-steps : counted_at (4 ∷ []) overlapping_identifiers-script ≡ (4 ∷ [])
+unfolding fresh_world refusal answer after next with_row allowed groups_of served retained_after
+    filters_of steps
+overlapping_identifiers-steps = refl
+
+abbrev refusals-script : List Request
+refusals-script =
+    Connect (codes "a") None
+    ∷ subscribe (codes "a") (codes "$share//t") 0
+    ∷ Subscribe (codes "a") (codes "$share/g/t") (record { qos = 0; no_local = true; retain_as_published = false; handling = 0; identifier = None })
+    ∷ message (codes "a") (codes "a/+") (codes "x") 0
+    ∷ message (codes "b") (codes "t") (codes "x") 0
+    ∷ Connect [] None
+    ∷ Connect (codes "a") (Some (0 ∷ []))
+    ∷ message (codes "a") (codes "t") (codes "x") 0
+    ∷ []
+
+refusals : answers empty_world refusals-script
+    ≡ (ok [] 0
+    ∷ Err TopicFilter
+    ∷ Err SharedNoLocal
+    ∷ Err TopicName
+    ∷ Err NotConnected
+    ∷ Err ClientId
+    ∷ Err UserName
+    ∷ ok [] 16
+    ∷ [])
+unfolding fresh_world refusal answer after next with_row allowed direct_copies groups_of served
+    retained_after retained_copies filters_of counts
+refusals = refl
+
+-- the steps of line 3
+refusals-steps : counted_at (2 ∷ []) refusals-script ≡ (0 ∷ [])
+unfolding fresh_world refusal answer after next with_row allowed groups_of served retained_after
+    filters_of steps
+refusals-steps = refl
+
+abbrev retain_handling_unshared-script : List Request
+retain_handling_unshared-script =
+    Connect (codes "a") None
+    ∷ publish (codes "a") (codes "t") (codes "x") 0 true None
+    ∷ subscribe (codes "a") (codes "t") 0
+    ∷ subscribe (codes "a") (codes "t") 0
+    ∷ Subscribe (codes "a") (codes "+") (record { qos = 0; no_local = false; retain_as_published = false; handling = 1; identifier = None })
+    ∷ Subscribe (codes "a") (codes "+") (record { qos = 0; no_local = false; retain_as_published = false; handling = 1; identifier = None })
+    ∷ Subscribe (codes "a") (codes "#") (record { qos = 0; no_local = false; retain_as_published = false; handling = 2; identifier = None })
+    ∷ Subscribe (codes "a") (codes "#") (record { qos = 0; no_local = false; retain_as_published = false; handling = 2; identifier = None })
+    ∷ Unsubscribe (codes "a") (codes "+")
+    ∷ Subscribe (codes "a") (codes "+") (record { qos = 0; no_local = false; retain_as_published = false; handling = 1; identifier = None })
+    ∷ Unsubscribe (codes "a") (codes "x")
+    ∷ []
+
+retain_handling_unshared : answers empty_world retain_handling_unshared-script
+    ≡ (ok [] 0
+    ∷ ok [] 16
+    ∷ ok (record { client = (codes "a"); topic = (codes "t"); payload = (codes "x"); qos = 0; retain = true; expiry = None; identifiers = []; group = None } ∷ []) 0
+    ∷ ok (record { client = (codes "a"); topic = (codes "t"); payload = (codes "x"); qos = 0; retain = true; expiry = None; identifiers = []; group = None } ∷ []) 0
+    ∷ ok (record { client = (codes "a"); topic = (codes "t"); payload = (codes "x"); qos = 0; retain = true; expiry = None; identifiers = []; group = None } ∷ []) 0
+    ∷ ok [] 0
+    ∷ ok [] 0
+    ∷ ok [] 0
+    ∷ ok [] 0
+    ∷ ok (record { client = (codes "a"); topic = (codes "t"); payload = (codes "x"); qos = 0; retain = true; expiry = None; identifiers = []; group = None } ∷ []) 0
+    ∷ ok [] 17
+    ∷ [])
+unfolding fresh_world refusal answer after next with_row allowed direct_copies groups_of served
+    retained_after retained_copies filters_of counts
+retain_handling_unshared = refl
+
+abbrev retain_handling-script : List Request
+retain_handling-script =
+    Connect (codes "a") None
+    ∷ publish (codes "a") (codes "t") (codes "x") 0 true None
+    ∷ subscribe (codes "a") (codes "t") 0
+    ∷ subscribe (codes "a") (codes "t") 0
+    ∷ Subscribe (codes "a") (codes "+") (record { qos = 0; no_local = false; retain_as_published = false; handling = 1; identifier = None })
+    ∷ Subscribe (codes "a") (codes "+") (record { qos = 0; no_local = false; retain_as_published = false; handling = 1; identifier = None })
+    ∷ Subscribe (codes "a") (codes "#") (record { qos = 0; no_local = false; retain_as_published = false; handling = 2; identifier = None })
+    ∷ Subscribe (codes "a") (codes "#") (record { qos = 0; no_local = false; retain_as_published = false; handling = 2; identifier = None })
+    ∷ subscribe (codes "a") (codes "$share/g/t") 0
+    ∷ subscribe (codes "a") (codes "$share/g/t") 0
+    ∷ Unsubscribe (codes "a") (codes "+")
+    ∷ Subscribe (codes "a") (codes "+") (record { qos = 0; no_local = false; retain_as_published = false; handling = 1; identifier = None })
+    ∷ Unsubscribe (codes "a") (codes "x")
+    ∷ []
+
+retain_handling : answers empty_world retain_handling-script
+    ≡ (ok [] 0
+    ∷ ok [] 16
+    ∷ ok (record { client = (codes "a"); topic = (codes "t"); payload = (codes "x"); qos = 0; retain = true; expiry = None; identifiers = []; group = None } ∷ []) 0
+    ∷ ok (record { client = (codes "a"); topic = (codes "t"); payload = (codes "x"); qos = 0; retain = true; expiry = None; identifiers = []; group = None } ∷ []) 0
+    ∷ ok (record { client = (codes "a"); topic = (codes "t"); payload = (codes "x"); qos = 0; retain = true; expiry = None; identifiers = []; group = None } ∷ []) 0
+    ∷ ok [] 0
+    ∷ ok [] 0
+    ∷ ok [] 0
+    ∷ ok [] 0
+    ∷ ok [] 0
+    ∷ ok [] 0
+    ∷ ok (record { client = (codes "a"); topic = (codes "t"); payload = (codes "x"); qos = 0; retain = true; expiry = None; identifiers = []; group = None } ∷ []) 0
+    ∷ ok [] 17
+    ∷ [])
+unfolding fresh_world refusal answer after next with_row allowed direct_copies groups_of served
+    retained_after retained_copies filters_of counts
+retain_handling = refl
+
+-- the steps of lines 5, 6
+retain_handling-steps : counted_at (4 ∷ 5 ∷ []) retain_handling-script ≡ (1 ∷ 0 ∷ [])
+unfolding fresh_world refusal answer after next with_row allowed groups_of served retained_after
+    filters_of steps
+retain_handling-steps = refl
+
+abbrev retained_and_access-script : List Request
+retained_and_access-script =
+    SetAcl (Some (112 ∷ 97 ∷ 116 ∷ 116 ∷ 101 ∷ 114 ∷ 110 ∷ 32 ∷ 119 ∷ 114 ∷ 105 ∷ 116 ∷ 101 ∷ 32 ∷ 35 ∷ 10 ∷ 112 ∷ 97 ∷ 116 ∷ 116 ∷ 101 ∷ 114 ∷ 110 ∷ 32 ∷ 114 ∷ 101 ∷ 97 ∷ 100 ∷ 32 ∷ 97 ∷ 47 ∷ 35 ∷ []))
+    ∷ Connect (codes "a") None
+    ∷ publish (codes "a") (codes "a/b") (codes "x") 2 true None
+    ∷ publish (codes "a") (codes "b") (codes "x") 0 true None
+    ∷ Subscribe (codes "a") (codes "#") (record { qos = 1; no_local = false; retain_as_published = false; handling = 0; identifier = (Some 8) })
+    ∷ SetAcl (Some (codes "pattern write #"))
+    ∷ subscribe (codes "a") (codes "a/#") 0
+    ∷ SetAcl None
+    ∷ subscribe (codes "a") (codes "a/#") 0
+    ∷ publish (codes "a") (codes "a/b") [] 0 true None
+    ∷ subscribe (codes "a") (codes "+/b") 0
+    ∷ SetAcl (Some [])
+    ∷ publish (codes "a") (codes "b") (codes "new") 0 true None
+    ∷ SetAcl None
+    ∷ subscribe (codes "a") (codes "b") 0
+    ∷ []
+
+retained_and_access : answers empty_world retained_and_access-script
+    ≡ (ok [] 0
+    ∷ ok [] 0
+    ∷ ok [] 16
+    ∷ ok [] 16
+    ∷ ok (record { client = (codes "a"); topic = (codes "a/b"); payload = (codes "x"); qos = 1; retain = true; expiry = None; identifiers = (8 ∷ []); group = None } ∷ []) 1
+    ∷ ok [] 0
+    ∷ ok [] 0
+    ∷ ok [] 0
+    ∷ ok (record { client = (codes "a"); topic = (codes "a/b"); payload = (codes "x"); qos = 0; retain = true; expiry = None; identifiers = []; group = None } ∷ []) 0
+    ∷ ok (record { client = (codes "a"); topic = (codes "a/b"); payload = []; qos = 0; retain = false; expiry = None; identifiers = (8 ∷ []); group = None } ∷ []) 0
+    ∷ ok [] 0
+    ∷ ok [] 0
+    ∷ Err NotAuthorized
+    ∷ ok [] 0
+    ∷ ok (record { client = (codes "a"); topic = (codes "b"); payload = (codes "x"); qos = 0; retain = true; expiry = None; identifiers = []; group = None } ∷ []) 0
+    ∷ [])
+unfolding fresh_world refusal answer after next with_row allowed direct_copies groups_of served
+    retained_after retained_copies filters_of counts
+retained_and_access = refl
+
+abbrev retained_order-script : List Request
+retained_order-script =
+    Connect (codes "a") None
+    ∷ publish (codes "a") (codes "a b") (codes "x") 0 true None
+    ∷ publish (codes "a") (codes "a/b") (codes "x") 0 true None
+    ∷ publish (codes "a") (codes "a") (codes "x") 0 true None
+    ∷ publish (codes "a") (codes "/a") (codes "x") 0 true None
+    ∷ publish (codes "a") (codes "$x") (codes "x") 0 true None
+    ∷ subscribe (codes "a") (codes "#") 0
+    ∷ []
+
+retained_order : answers empty_world retained_order-script
+    ≡ (ok [] 0
+    ∷ ok [] 16
+    ∷ ok [] 16
+    ∷ ok [] 16
+    ∷ ok [] 16
+    ∷ ok [] 16
+    ∷ ok (record { client = (codes "a"); topic = (codes "/a"); payload = (codes "x"); qos = 0; retain = true; expiry = None; identifiers = []; group = None } ∷ record { client = (codes "a"); topic = (codes "a"); payload = (codes "x"); qos = 0; retain = true; expiry = None; identifiers = []; group = None } ∷ record { client = (codes "a"); topic = (codes "a/b"); payload = (codes "x"); qos = 0; retain = true; expiry = None; identifiers = []; group = None } ∷ record { client = (codes "a"); topic = (codes "a b"); payload = (codes "x"); qos = 0; retain = true; expiry = None; identifiers = []; group = None } ∷ []) 0
+    ∷ [])
+unfolding fresh_world refusal answer after next with_row allowed direct_copies groups_of served
+    retained_after retained_copies filters_of counts
+retained_order = refl
+
+-- the steps of line 7
+retained_order-steps : counted_at (6 ∷ []) retained_order-script ≡ (5 ∷ [])
+unfolding fresh_world refusal answer after next with_row allowed groups_of served retained_after
+    filters_of steps
+retained_order-steps = refl
+
+abbrev session_begun_anew-script : List Request
+session_begun_anew-script =
     Connect (codes "a") None
     ∷ subscribe (codes "a") (codes "t") 0
     ∷ Connect (codes "a") None
@@ -236,7 +747,9 @@ session_begun_anew : answers empty_world (
     ∷ Disconnect (codes "a")
     ∷ Disconnect (codes "a")
     ∷ Unsubscribe (codes "a") (codes "t")
-    ∷ [])
+    ∷ []
+
+session_begun_anew : answers empty_world session_begun_anew-script
     ≡ (ok [] 0
     ∷ ok [] 0
     ∷ ok [] 0
@@ -245,23 +758,106 @@ session_begun_anew : answers empty_world (
     ∷ Err NotConnected
     ∷ Err NotConnected
     ∷ [])
-unfolding fresh_world refusal answer after next direct_copies with_row allowed
+unfolding fresh_world refusal answer after next with_row allowed direct_copies groups_of served
+    retained_after retained_copies filters_of counts
 session_begun_anew = refl
 
-single_level_wildcard : answers empty_world (
+abbrev single_level_wildcard-script : List Request
+single_level_wildcard-script =
     Connect (codes "a") None
-    ∷ Subscribe (codes "a") (codes "+/+") (record { qos = 0; no_local = false; identifier = (Some 2) })
-    ∷ Subscribe (codes "a") (codes "/+") (record { qos = 0; no_local = false; identifier = (Some 1) })
-    ∷ Subscribe (codes "a") (codes "+") (record { qos = 0; no_local = false; identifier = (Some 9) })
+    ∷ Subscribe (codes "a") (codes "+/+") (record { qos = 0; no_local = false; retain_as_published = false; handling = 0; identifier = (Some 2) })
+    ∷ Subscribe (codes "a") (codes "/+") (record { qos = 0; no_local = false; retain_as_published = false; handling = 0; identifier = (Some 1) })
+    ∷ Subscribe (codes "a") (codes "+") (record { qos = 0; no_local = false; retain_as_published = false; handling = 0; identifier = (Some 9) })
     ∷ message (codes "a") (codes "/finance") (codes "x") 0
     ∷ message (codes "a") (codes "finance") (codes "x") 0
-    ∷ [])
+    ∷ []
+
+single_level_wildcard : answers empty_world single_level_wildcard-script
     ≡ (ok [] 0
     ∷ ok [] 0
     ∷ ok [] 0
     ∷ ok [] 0
-    ∷ ok (record { client = (codes "a"); topic = (codes "/finance"); payload = (codes "x"); qos = 0; retain = false; identifiers = (1 ∷ 2 ∷ []) } ∷ []) 0
-    ∷ ok (record { client = (codes "a"); topic = (codes "finance"); payload = (codes "x"); qos = 0; retain = false; identifiers = (9 ∷ []) } ∷ []) 0
+    ∷ ok (record { client = (codes "a"); topic = (codes "/finance"); payload = (codes "x"); qos = 0; retain = false; expiry = None; identifiers = (1 ∷ 2 ∷ []); group = None } ∷ []) 0
+    ∷ ok (record { client = (codes "a"); topic = (codes "finance"); payload = (codes "x"); qos = 0; retain = false; expiry = None; identifiers = (9 ∷ []); group = None } ∷ []) 0
     ∷ [])
-unfolding fresh_world refusal answer after next direct_copies with_row allowed
+unfolding fresh_world refusal answer after next with_row allowed direct_copies groups_of served
+    retained_after retained_copies filters_of counts
 single_level_wildcard = refl
+
+abbrev stat_counts-script : List Request
+stat_counts-script =
+    Connect (codes "a") None
+    ∷ subscribe (codes "a") (codes "a/b") 0
+    ∷ subscribe (codes "a") (codes "a/c/#") 0
+    ∷ subscribe (codes "a") (codes "a") 0
+    ∷ subscribe (codes "a") (codes "$share/g/a/+") 0
+    ∷ publish (codes "a") (codes "x/y") (codes "x") 0 true None
+    ∷ Stat
+    ∷ Unsubscribe (codes "a") (codes "a")
+    ∷ Stat
+    ∷ Unsubscribe (codes "a") (codes "$share/g/a/+")
+    ∷ Unsubscribe (codes "a") (codes "a/c/#")
+    ∷ Stat
+    ∷ publish (codes "a") (codes "x/y") [] 0 true None
+    ∷ Disconnect (codes "a")
+    ∷ Stat
+    ∷ []
+
+stat_counts : answers empty_world stat_counts-script
+    ≡ (ok [] 0
+    ∷ ok [] 0
+    ∷ ok [] 0
+    ∷ ok [] 0
+    ∷ ok [] 0
+    ∷ ok [] 16
+    ∷ counted_reply 7 1 4
+    ∷ ok [] 0
+    ∷ counted_reply 7 1 3
+    ∷ ok [] 0
+    ∷ ok [] 0
+    ∷ counted_reply 4 1 1
+    ∷ ok [] 16
+    ∷ ok [] 0
+    ∷ counted_reply 0 0 0
+    ∷ [])
+unfolding fresh_world refusal answer after next with_row allowed direct_copies groups_of served
+    retained_after retained_copies filters_of counts
+stat_counts = refl
+
+abbrev two_groups-script : List Request
+two_groups-script =
+    Connect (codes "a") None
+    ∷ Connect (codes "b") None
+    ∷ subscribe (codes "a") (codes "$share/g/t") 0
+    ∷ subscribe (codes "b") (codes "$share/g/t") 0
+    ∷ subscribe (codes "b") (codes "$share/g/+") 0
+    ∷ subscribe (codes "a") (codes "$share/g/+") 0
+    ∷ message (codes "a") (codes "t") (codes "x") 0
+    ∷ message (codes "a") (codes "u") (codes "x") 0
+    ∷ message (codes "a") (codes "t") (codes "x") 0
+    ∷ Connect (codes "a") None
+    ∷ message (codes "b") (codes "t") (codes "x") 0
+    ∷ subscribe (codes "a") (codes "$share/g/t") 0
+    ∷ message (codes "b") (codes "t") (codes "x") 0
+    ∷ message (codes "b") (codes "t") (codes "x") 0
+    ∷ []
+
+two_groups : answers empty_world two_groups-script
+    ≡ (ok [] 0
+    ∷ ok [] 0
+    ∷ ok [] 0
+    ∷ ok [] 0
+    ∷ ok [] 0
+    ∷ ok [] 0
+    ∷ ok (record { client = (codes "b"); topic = (codes "t"); payload = (codes "x"); qos = 0; retain = false; expiry = None; identifiers = []; group = group (codes "g") (codes "+") } ∷ record { client = (codes "a"); topic = (codes "t"); payload = (codes "x"); qos = 0; retain = false; expiry = None; identifiers = []; group = group (codes "g") (codes "t") } ∷ []) 0
+    ∷ ok (record { client = (codes "a"); topic = (codes "u"); payload = (codes "x"); qos = 0; retain = false; expiry = None; identifiers = []; group = group (codes "g") (codes "+") } ∷ []) 0
+    ∷ ok (record { client = (codes "b"); topic = (codes "t"); payload = (codes "x"); qos = 0; retain = false; expiry = None; identifiers = []; group = group (codes "g") (codes "+") } ∷ record { client = (codes "b"); topic = (codes "t"); payload = (codes "x"); qos = 0; retain = false; expiry = None; identifiers = []; group = group (codes "g") (codes "t") } ∷ []) 0
+    ∷ ok [] 0
+    ∷ ok (record { client = (codes "b"); topic = (codes "t"); payload = (codes "x"); qos = 0; retain = false; expiry = None; identifiers = []; group = group (codes "g") (codes "+") } ∷ record { client = (codes "b"); topic = (codes "t"); payload = (codes "x"); qos = 0; retain = false; expiry = None; identifiers = []; group = group (codes "g") (codes "t") } ∷ []) 0
+    ∷ ok [] 0
+    ∷ ok (record { client = (codes "b"); topic = (codes "t"); payload = (codes "x"); qos = 0; retain = false; expiry = None; identifiers = []; group = group (codes "g") (codes "+") } ∷ record { client = (codes "b"); topic = (codes "t"); payload = (codes "x"); qos = 0; retain = false; expiry = None; identifiers = []; group = group (codes "g") (codes "t") } ∷ []) 0
+    ∷ ok (record { client = (codes "b"); topic = (codes "t"); payload = (codes "x"); qos = 0; retain = false; expiry = None; identifiers = []; group = group (codes "g") (codes "+") } ∷ record { client = (codes "a"); topic = (codes "t"); payload = (codes "x"); qos = 0; retain = false; expiry = None; identifiers = []; group = group (codes "g") (codes "t") } ∷ []) 0
+    ∷ [])
+unfolding fresh_world refusal answer after next with_row allowed direct_copies groups_of served
+    retained_after retained_copies filters_of counts
+two_groups = refl

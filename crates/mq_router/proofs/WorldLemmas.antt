@@ -1,135 +1,301 @@
--- Worlds with the same access rows, sessions and subscriptions refuse, answer and change alike.
-use Rattle.std.proofs.Common.{◌≡◌, ◌<◌, ℕ, ◌+◌, ◌==◌, Bool, true, false, cond, ◌&&◌, not, List, [], ◌∷◌, ◌++◌, map, Option, Some, None, Result, Ok, Err, length, if◌then◌else◌, refl, sym, ◌∙◌, ap, inl, inr, arith}
-use Rattle.std.specs.Option.{option_map_or}
-use Rattle.std.specs.List.{filter, filter_map, cons_option, find, AllByRecursion}
+-- What the router does by its own state, it does for each world that it stands for.
+use Rattle.std.proofs.Common.{◌≡◌, ◌<◌, ℕ, ◌+◌, ◌==◌, nat_lt, Bool, true, false, cond, ◌&&◌, ◌||◌, not, List, [], ◌∷◌, ◌++◌, map, Option, Some, None, is_none, Result, Ok, Err, length, if◌then◌else◌, refl, sym, ◌∙◌, ap, subst, inl, inr, arith}
+use Rattle.std.specs.Option.{option_map, option_map_or}
+use Rattle.std.specs.List.{filter, filter_map, cons_option, find, list_any, AllByRecursion}
 use Rattle.std.specs.List.Sorted.{IsStrictlySortedBy}
-use Rattle.std.proofs.lemmas.List.{map-id}
+use Rattle.std.proofs.lemmas.List.{length-map}
 use Rattle.std.proofs.lemmas.List.Kept.{IsStrictlySortedBy-filter}
 use Rattle.std.proofs.lemmas.Simd.{map-map}
-use Rattle.mq_topic.specs.Texts.{is_name}
+use Rattle.mq_topic.specs.Levels.{levels}
+use Rattle.mq_topic.specs.Texts.{is_name, is_shared, is_subscription, share_of, filter_part}
 use Rattle.mq_acl.specs.Rows.{AclRow}
 use Rattle.mq_acl.specs.Access.{allowed}
 use Rattle.mq_acl.specs.declared.access.Direction.TheVariants.{Reading, Writing}
-use Rattle.mq_router.specs.Lists.{SameElements, same_text, with_row, greatest, ascending}
-use Rattle.mq_router.specs.World.{World, IsWorld, Session, Subscription, Row, Options, Message, Reply, Request, Connect, Disconnect, Subscribe, Unsubscribe, Publish, SetAcl, session_cmp, row_cmp, has_id, has_key, subscriptions_of}
-use Rattle.mq_router.specs.Refusals.{first_refusal, client_conditions, is_own_filter, user_of, refusal}
-use Rattle.mq_router.specs.Copies.{takes_part, options_for, copy_by, direct_copy, direct_copies}
+use Rattle.mq_router.specs.Lists.{SameElements, Text, same_text, with_row, greatest, ascending}
+use Rattle.mq_router.specs.World.{World, IsWorld, Group, Session, Subscription, Row, Options, Retained, Message, Copy, Reply, Request, Connect, Disconnect, Subscribe, Unsubscribe, Publish, SetAcl, Advance, Stat, asked, session_cmp, row_cmp, retained_cmp, has_id, has_key, same_key, is_in_group, rows_in, subscriptions_of}
+use Rattle.mq_router.specs.Clock.{last_moment, is_over}
+use Rattle.mq_router.specs.Sessions.{new_session, user_of, may, can_be_served}
+use Rattle.mq_router.specs.Refusals.{first_refusal, client_conditions, refusal}
+use Rattle.mq_router.specs.Copies.{takes_part, options_for, copy_by, direct_copy, direct_copies, filter_matches}
+use Rattle.mq_router.specs.Groups.{groups_of, turn_of, served, served_by}
+use Rattle.mq_router.specs.Retained.{retained_copies, retained_after, is_stored, stored, has_topic, unexpired}
+use Rattle.mq_router.specs.Counts.{filters_of, topics_of, counts, steps}
+use Rattle.mq_router.specs.Deadlines.{Indexes, is_due}
+use Rattle.mq_router.specs.Receivers.{steps_among}
 use Rattle.mq_router.specs.Answers.{answer, reason, published}
 use Rattle.mq_router.specs.After.{after, kept_stamp}
-use Rattle.mq_router.specs.StandsFor.{State, Holds, StandsFor, Answers, AnswersFor, Refuses}
-use Rattle.mq_router.specs.Applied.{Applied, Does, world_of, unstamped}
+use Rattle.mq_router.specs.Turns.{by_turn, in_turn, SameInTurn}
+use Rattle.mq_router.specs.StandsFor.{State, Holds, StandsFor, Answers, AnswersFor, CountsFor, Refuses}
+use Rattle.mq_router.specs.Applied.{Applied, CountsSteps, Does, IsFiled, world_of, reply_to, counts_held, steps_to, moved, next_in, next_members, all_turned, member_copy}
 use Rattle.mq_router.specs.Views.{reply_of}
-use Rattle.mq_router.specs.declared.answer.Answer.{Answer}
-use Rattle.mq_router.specs.declared.refusal.Refusal.{Refusal}
-use Rattle.mq_router.specs.declared.refusal.Refusal.TheVariants.{TopicName, TopicFilter, NotAuthorized}
+use Rattle.mq_tree.specs.Entries.{capped}
+use Rattle.mq_tree.specs.Prefixes.{prefixes, met_by_name}
 use Rattle.mq_router.proofs.ListLemmas.{map-filter}
-use Rattle.mq_router.proofs.SameLemmas.{SameElements-filter, SameElements-map, SameElements-filter_map, length-SameElements, list_any-SameElements, greatest-SameElements, ascending-SameElements, length-filter-cons}
-use Rattle.mq_router.proofs.OrderLemmas.{session_total, row_total, before, behind, subscriptions-with_row, sorted-with_row, all-with_row, all_weaker, all_filtered, length-filter-append}
+use Rattle.mq_router.proofs.SameLemmas.{SameElements-filter, SameElements-map, SameElements-filter_map, length-SameElements, list_any-SameElements, greatest-SameElements, ascending-SameElements}
+use Rattle.mq_router.proofs.OrderLemmas.{session_total, row_total, retained_total, sorted-with_row, all-with_row, all_weaker, all_filtered}
+use Rattle.mq_router.proofs.InTurn.{same-is, same-then, same-filter, joined-same, all_turned-same, filter-swap}
+use Rattle.mq_router.proofs.TurnLemmas.{by_turn-filter, least-is}
+use Rattle.mq_router.proofs.JoinTurn.{AreApart, turn-elements, joins, apart-joined, apart-filter, apart-from, apart-to}
+use Rattle.mq_router.proofs.OneServed.{told}
+use Rattle.mq_router.proofs.ServeTurn.{serves, served-apart, restamped-sorted, restamped-below}
+use Rattle.mq_router.proofs.GroupLemmas.{groups-same, groups-told}
+use Rattle.mq_router.proofs.FiledLemmas.{filters-same}
+use Rattle.mq_router.specs.declared.answer.Answer.{Answer}
+use Rattle.mq_router.specs.declared.answer.Outcome.{Outcome}
+use Rattle.mq_router.specs.declared.answer.Outcome.TheVariants.{Reason, Counts}
+use Rattle.mq_router.specs.declared.refusal.Refusal.{Refusal}
+use Rattle.mq_router.specs.declared.refusal.Refusal.TheVariants.{TopicName, TopicFilter, SharedNoLocal, NotAuthorized, ClockTooFar}
 
-pub record SameWorld (v w : World) : Type 0 where
-  pub access : v.access ≡ w.access
-  pub sessions : v.sessions ≡ w.sessions
-  pub subscriptions : SameElements (subscriptions_of v) (subscriptions_of w)
+-- the subscriptions in turn are those of the rows
+turn_told : (w : World) → SameElements (in_turn w) (subscriptions_of w)
+turn_told w = SameElements-map (λ (r : Row). r.subscription) (by_turn w.rows) w.rows (turn-elements w.rows)
 
--- ## Refusals
+-- the state has the moment, access rows, sessions and retained messages of the world, and its subscriptions in turn
+pub record HasRows (s : State) (w : World) : Type 0 where
+  pub moment : s.moment ≡ w.moment
+  pub access : s.access ≡ w.access
+  pub sessions : s.sessions ≡ w.sessions
+  pub subscriptions : SameInTurn s.subscriptions (in_turn w)
+  pub retained : s.retained ≡ w.retained
 
-abbrev publish_refusal : Option (List AclRow) → List Session → Message → Option Refusal
-publish_refusal access sessions m =
-    first_refusal (client_conditions sessions m.publisher
-    ++ (not (is_name m.topic), TopicName) ∷ (not (allowed access m.publisher (user_of sessions m.publisher) m.topic Writing), NotAuthorized) ∷ [])
+module _ (s : State) (w : World) (h : HasRows s w) where
+  all_told : SameElements s.subscriptions (subscriptions_of w)
+  all_told = λ p. h.subscriptions.elements p ∙ turn_told w p
 
-pub refusal-same : (v w : World) → SameWorld v w → (request : Request) → refusal v request ≡ refusal w request
-unfolding refusal
-refusal-same v w h (Connect id user) = refl
-refusal-same v w h (Disconnect id) = ap (λ ss. first_refusal (client_conditions ss id)) h.sessions
-refusal-same v w h (Subscribe id text options) =
-    ap (λ ss. first_refusal (client_conditions ss id ++ (not (is_own_filter text), TopicFilter) ∷ [])) h.sessions
-refusal-same v w h (Unsubscribe id text) =
-    ap (λ ss. first_refusal (client_conditions ss id ++ (not (is_own_filter text), TopicFilter) ∷ [])) h.sessions
-refusal-same v w h (Publish m) =
-    ap (λ access. publish_refusal access v.sessions m) h.access ∙ ap (λ ss. publish_refusal w.access ss m) h.sessions
-refusal-same v w h (SetAcl text) = refl
+  -- ## Refusals
 
--- ## Answers
+  abbrev publish_refusal : Option (List AclRow) → List Session → Message → Option Refusal
+  publish_refusal access sessions m =
+      first_refusal (client_conditions sessions m.publisher
+      ++ (not (is_name m.topic), TopicName) ∷ (not (allowed access m.publisher (user_of sessions m.publisher) m.topic Writing), NotAuthorized) ∷ [])
 
-direct_copy-same : (access : Option (List AclRow)) (xs ys : List Subscription) (m : Message) (session : Session) → SameElements xs ys → direct_copy access xs m session ≡ direct_copy access ys m session
-direct_copy-same access xs ys m session same =
-    let part : Subscription → Bool = takes_part m session.id in
-    let ox : List Options = options_for xs m session.id in
-    let oy : List Options = options_for ys m session.id in
-    let options : SameElements ox oy = SameElements-map (λ s. s.options) (filter part xs) (filter part ys) (SameElements-filter part xs ys same) in
-    let able : Bool = allowed access session.id session.user m.topic Reading in
-    let qos : greatest (map (λ o. o.qos) ox) ≡ greatest (map (λ o. o.qos) oy) = greatest-SameElements _ _ (SameElements-map (λ o. o.qos) ox oy options) in
-    let ids : ascending (filter_map (λ o. o.identifier) ox) ≡ ascending (filter_map (λ o. o.identifier) oy) = ascending-SameElements _ _ (SameElements-filter_map (λ o. o.identifier) ox oy options) in
-    let copy : copy_by session.id m ox ≡ copy_by session.id m oy = rw (qos, ids) refl in
-    ap (λ n. if not (n == 0) && able then Some (copy_by session.id m ox) else None) (length-SameElements ox oy options)
-    ∙ ap (λ k. if not (length oy == 0) && able then Some k else None) copy
+  pub refusal-held : (request : Request) → refusal (world_of s) request ≡ refusal w request
+  unfolding refusal
+  refusal-held (Connect id user) = refl
+  refusal-held (Disconnect id) = ap (λ ss. first_refusal (client_conditions ss id)) h.sessions
+  refusal-held (Subscribe id text options) =
+      ap (λ ss. first_refusal (client_conditions ss id ++ (not (is_subscription text), TopicFilter) ∷ (is_shared text && options.no_local, SharedNoLocal) ∷ [])) h.sessions
+  refusal-held (Unsubscribe id text) = ap (λ ss. first_refusal (client_conditions ss id ++ (not (is_subscription text), TopicFilter) ∷ [])) h.sessions
+  refusal-held (Publish m) = ap (λ access. publish_refusal access s.sessions m) h.access ∙ ap (λ ss. publish_refusal w.access ss m) h.sessions
+  refusal-held (SetAcl text) = refl
+  refusal-held (Advance seconds) = ap (λ moment. first_refusal ((nat_lt last_moment (moment + seconds), ClockTooFar) ∷ [])) h.moment
+  refusal-held Stat = refl
 
-direct_copies-same : (access : Option (List AclRow)) (sessions : List Session) (xs ys : List Subscription) (m : Message) → SameElements xs ys → direct_copies access sessions xs m ≡ direct_copies access sessions ys m
-unfolding direct_copies
-direct_copies-same access [] xs ys m same = refl
-direct_copies-same access (s ∷ ss) xs ys m same =
-    ap (λ o. cons_option o (direct_copies access ss xs m)) (direct_copy-same access xs ys m s same)
-    ∙ ap (cons_option (direct_copy access ys m s)) (direct_copies-same access ss xs ys m same)
+  -- ## Who is served
 
-pub answer-same : (v w : World) → SameWorld v w → (request : Request) → answer v request ≡ answer w request
-unfolding answer
-answer-same v w h (Connect id user) = refl
-answer-same v w h (Disconnect id) = refl
-answer-same v w h (Subscribe id text options) = refl
-answer-same v w h (Unsubscribe id text) =
-    ap (λ b. reason (if b then 0 else 17)) (list_any-SameElements (has_key id text) (subscriptions_of v) (subscriptions_of w) h.subscriptions)
-answer-same v w h (Publish m) =
-    ap published (ap (λ access. direct_copies access v.sessions (subscriptions_of v) m) h.access
-    ∙ ap (λ ss. direct_copies w.access ss (subscriptions_of v) m) h.sessions
-    ∙ direct_copies-same w.access w.sessions (subscriptions_of v) (subscriptions_of w) m h.subscriptions)
-answer-same v w h (SetAcl text) = refl
+  told_find : (p : Subscription → Bool) (rows : List Row) → option_map (λ (r : Row). r.subscription) (find (λ (r : Row). p r.subscription) rows) ≡ find p (told rows)
+  told_find p [] = refl
+  told_find p (r ∷ rows) =
+      elim (p r.subscription) as (λ b. option_map (λ (o : Row). o.subscription) (cond b (Some r) (find (λ (o : Row). p o.subscription) rows)) ≡ cond b (Some r.subscription) (find p (told rows))) [
+        | true ↦ refl
+        | false ↦ told_find p rows
+      ]
 
--- ## The next world
+  turn-held : (topic : Text) (g : Group) → next_in s.access s.sessions s.subscriptions topic g ≡ option_map (λ (r : Row). r.subscription) (turn_of (can_be_served w topic) w.rows g)
+  turn-held topic g =
+      let able : Subscription → Bool = λ x. may w x.client topic Reading in
+      ap (λ access. find (λ (x : Subscription). allowed access x.client (user_of s.sessions x.client) topic Reading) (filter (is_in_group g) s.subscriptions)) h.access
+      ∙ ap (λ ss. find (λ (x : Subscription). allowed w.access x.client (user_of ss x.client) topic Reading) (filter (is_in_group g) s.subscriptions)) h.sessions
+      ∙ ap (find able) (h.subscriptions.members g ∙ sym (map-filter (λ (r : Row). r.subscription) (is_in_group g) (by_turn w.rows)) ∙ ap told (sym (by_turn-filter (λ r. is_in_group g r.subscription) w.rows)))
+      ∙ sym (told_find able (by_turn (rows_in g w.rows)))
+      ∙ ap (option_map (λ (r : Row). r.subscription)) (sym (least-is (λ r. able r.subscription) (rows_in g w.rows)))
 
--- rows of which those are kept whose subscriptions pass
-kept_rows : (q : Subscription → Bool) (v w : World) → SameWorld v w → SameElements (map (λ row. row.subscription) (filter (λ row. q row.subscription) v.rows)) (map (λ row. row.subscription) (filter (λ row. q row.subscription) w.rows))
-kept_rows q v w h = λ p.
-    ap (λ l. length (filter p l)) (map-filter (λ row. row.subscription) q v.rows)
-    ∙ SameElements-filter q (subscriptions_of v) (subscriptions_of w) h.subscriptions p
-    ∙ ap (λ l. length (filter p l)) (sym (map-filter (λ row. row.subscription) q w.rows))
+  each_turn : (topic : Text) (gs : List Group) → filter_map (next_in s.access s.sessions s.subscriptions topic) gs ≡ told (filter_map (turn_of (can_be_served w topic) w.rows) gs)
+  each_turn topic [] = refl
+  each_turn topic (g ∷ gs) =
+      ap (λ o. cons_option o (filter_map (next_in s.access s.sessions s.subscriptions topic) gs)) (turn-held topic g)
+      ∙ ap (cons_option (option_map (λ (r : Row). r.subscription) (turn_of (can_be_served w topic) w.rows g))) (each_turn topic gs)
+      ∙ onto (turn_of (can_be_served w topic) w.rows g)
+    where
+      onto : (o : Option Row) → cons_option (option_map (λ (r : Row). r.subscription) o) (told (filter_map (turn_of (can_be_served w topic) w.rows) gs)) ≡ told (cons_option o (filter_map (turn_of (can_be_served w topic) w.rows) gs))
+      onto None = refl
+      onto (Some r) = refl
 
-among : (s : Subscription) (xs ys : List Subscription) → SameElements xs ys → SameElements (filter (before s) xs ++ s ∷ filter (behind s) xs) (filter (before s) ys ++ s ∷ filter (behind s) ys)
-among s xs ys same = λ p.
-    length-filter-append p (filter (before s) xs) (s ∷ filter (behind s) xs)
-    ∙ ap (λ n. n + length (filter p (s ∷ filter (behind s) xs))) (SameElements-filter (before s) xs ys same p)
-    ∙ ap (λ n. length (filter p (filter (before s) ys)) + n)
-    (length-filter-cons p s (filter (behind s) xs) ∙ ap (λ n. cond (p s) 1 0 + n) (SameElements-filter (behind s) xs ys same p) ∙ sym (length-filter-cons p s (filter (behind s) ys)))
-    ∙ sym (length-filter-append p (filter (before s) ys) (s ∷ filter (behind s) ys))
+  pub served-held : (m : Message) → next_members s.access s.sessions s.subscriptions m ≡ told (served_by w m)
+  unfolding next_members served
+  served-held m =
+      let q : Group → Bool = λ group. filter_matches group.filter m.topic in
+      ap (filter_map (next_in s.access s.sessions s.subscriptions m.topic)) (groups-same q s.subscriptions (subscriptions_of w) (λ g t. list_any-SameElements (is_in_group g) s.subscriptions (subscriptions_of w) all_told) ∙ ap (filter q) (groups-told w.rows))
+      ∙ each_turn m.topic (filter q (groups_of w.rows))
 
-rows_among : (s : Subscription) (j k : ℕ) (v w : World) → SameWorld v w → SameElements (map (λ row. row.subscription) (with_row row_cmp (record { subscription = s; stamp = j }) v.rows)) (map (λ row. row.subscription) (with_row row_cmp (record { subscription = s; stamp = k }) w.rows))
-rows_among s j k v w h = λ p.
-    ap (λ l. length (filter p l)) (subscriptions-with_row (record { subscription = s; stamp = j }) v.rows)
-    ∙ among s (subscriptions_of v) (subscriptions_of w) h.subscriptions p
-    ∙ ap (λ l. length (filter p l)) (sym (subscriptions-with_row (record { subscription = s; stamp = k }) w.rows))
+  -- ## Answers
 
-pub after-same : (v w : World) → SameWorld v w → (request : Request) → SameWorld (after v request) (after w request)
-unfolding after
-after-same v w h (Connect id user) = record {
-  access = h.access;
-  sessions = ap (with_row session_cmp (record { id = id; user = user })) h.sessions;
-  subscriptions = kept_rows (λ s. not (same_text s.client id)) v w h;
-}
-after-same v w h (Disconnect id) = record {
-  access = h.access;
-  sessions = ap (filter (λ session. not (has_id id session))) h.sessions;
-  subscriptions = kept_rows (λ s. not (same_text s.client id)) v w h;
-}
-after-same v w h (Subscribe id text options) =
-    let s : Subscription = record { client = id; filter = text; options = options } in
-    record { access = h.access; sessions = h.sessions; subscriptions = rows_among s (kept_stamp v s) (kept_stamp w s) v w h }
-after-same v w h (Unsubscribe id text) = record {
+  direct_copy-same : (access : Option (List AclRow)) (xs ys : List Subscription) (m : Message) (id : Text) (user : Option Text) → SameElements xs ys → direct_copy access xs m id user ≡ direct_copy access ys m id user
+  direct_copy-same access xs ys m id user same =
+      let part : Subscription → Bool = takes_part m id in
+      let ox : List Options = options_for xs m id in
+      let oy : List Options = options_for ys m id in
+      let options : SameElements ox oy = SameElements-map (λ (x : Subscription). x.options) (filter part xs) (filter part ys) (SameElements-filter part xs ys same) in
+      let able : Bool = allowed access id user m.topic Reading in
+      let qos : greatest (map (λ o. o.qos) ox) ≡ greatest (map (λ o. o.qos) oy) = greatest-SameElements _ _ (SameElements-map (λ (o : Options). o.qos) ox oy options) in
+      let ids : ascending (filter_map (λ o. o.identifier) ox) ≡ ascending (filter_map (λ o. o.identifier) oy) = ascending-SameElements _ _ (SameElements-filter_map (λ (o : Options). o.identifier) ox oy options) in
+      let keeps : list_any (λ o. o.retain_as_published) ox ≡ list_any (λ o. o.retain_as_published) oy = list_any-SameElements (λ (o : Options). o.retain_as_published) ox oy options in
+      let copy : copy_by id None m ox ≡ copy_by id None m oy = rw (qos, keeps, ids) refl in
+      ap (λ n. if not (n == 0) && able then Some (copy_by id None m ox) else None) (length-SameElements ox oy options)
+      ∙ ap (λ k. if not (length oy == 0) && able then Some k else None) copy
+
+  direct_copies-same : (access : Option (List AclRow)) (sessions : List Session) (xs ys : List Subscription) (m : Message) → SameElements xs ys → direct_copies access sessions xs m ≡ direct_copies access sessions ys m
+  unfolding direct_copies
+  direct_copies-same access [] xs ys m same = refl
+  direct_copies-same access (c ∷ cs) xs ys m same =
+      ap (λ o. cons_option o (direct_copies access cs xs m)) (direct_copy-same access xs ys m c.id c.user same)
+      ∙ ap (cons_option (direct_copy access ys m c.id c.user)) (direct_copies-same access cs xs ys m same)
+
+  -- what a subscribe is sent, by what it depends on
+  abbrev sent_by : ℕ → Option (List AclRow) → List Session → List Retained → Subscription → Bool → List Copy
+  sent_by moment access sessions retained new exists =
+      if is_none new.share && (new.options.handling == 0 || (new.options.handling == 1 && not exists))
+      then retained_copies moment access (user_of sessions new.client) retained new
+      else []
+
+  sent-held : (new : Subscription) → sent_by s.moment s.access s.sessions s.retained new (list_any (same_key new) s.subscriptions) ≡ sent_by w.moment w.access w.sessions w.retained new (list_any (same_key new) (subscriptions_of w))
+  sent-held new =
+      let exists : Bool = list_any (same_key new) (subscriptions_of w) in
+      ap (sent_by s.moment s.access s.sessions s.retained new) (list_any-SameElements (same_key new) s.subscriptions (subscriptions_of w) all_told)
+      ∙ ap (λ moment. sent_by moment s.access s.sessions s.retained new exists) h.moment
+      ∙ ap (λ access. sent_by w.moment access s.sessions s.retained new exists) h.access
+      ∙ ap (λ sessions. sent_by w.moment w.access sessions s.retained new exists) h.sessions
+      ∙ ap (λ retained. sent_by w.moment w.access w.sessions retained new exists) h.retained
+
+  pub answer-held : counts_held s ≡ counts w → (request : Request) → reply_to s request ≡ answer w request
+  unfolding answer
+  answer-held told (Connect id user) = refl
+  answer-held told (Disconnect id) = refl
+  answer-held told (Subscribe id text options) =
+      ap (λ copies. record { copies = copies; outcome = Reason options.qos }) (sent-held (asked id text options))
+  answer-held told (Unsubscribe id text) =
+      ap (λ b. reason (if b then 0 else 17)) (list_any-SameElements (has_key id (share_of text) (filter_part text)) s.subscriptions (subscriptions_of w) all_told)
+  answer-held told (Publish m) =
+      let members : List Subscription = next_members s.access s.sessions s.subscriptions m in
+      ap published (ap (λ access. direct_copies access s.sessions s.subscriptions m ++ map (member_copy m) members) h.access
+      ∙ ap (λ ss. direct_copies w.access ss s.subscriptions m ++ map (member_copy m) members) h.sessions
+      ∙ ap (λ l. l ++ map (member_copy m) members) (direct_copies-same w.access w.sessions s.subscriptions (subscriptions_of w) m all_told)
+      ∙ ap (λ l. direct_copies w.access w.sessions (subscriptions_of w) m ++ map (member_copy m) l) (served-held m)
+      ∙ ap (λ l. direct_copies w.access w.sessions (subscriptions_of w) m ++ l) (map-map (member_copy m) (λ (r : Row). r.subscription) (served_by w m)))
+  answer-held told (SetAcl text) = refl
+  answer-held told (Advance seconds) = refl
+  answer-held told Stat = ap (λ outcome. record { copies = []; outcome = outcome }) told
+
+  -- ## The next world
+
+  kept_rows : (q : Subscription → Bool) → SameInTurn (filter q s.subscriptions) (told (by_turn (filter (λ r. q r.subscription) w.rows)))
+  kept_rows q =
+      same-then _ _ _ (same-filter q s.subscriptions (in_turn w) h.subscriptions)
+      (same-is _ _ (sym (map-filter (λ (r : Row). r.subscription) q (by_turn w.rows)) ∙ ap told (sym (by_turn-filter (λ r. q r.subscription) w.rows))))
+
+  pub moved-held : IsWorld w → (request : Request) → HasRows (moved s request) (after w request)
+  unfolding after
+  moved-held is (Connect id user) = record {
+    moment = h.moment;
+    access = h.access;
+    sessions = ap (with_row session_cmp (new_session id user)) h.sessions;
+    subscriptions = kept_rows (λ x. not (same_text x.client id));
+    retained = h.retained;
+  }
+  moved-held is (Disconnect id) = record {
+    moment = h.moment;
+    access = h.access;
+    sessions = ap (filter (λ session. not (has_id id session))) h.sessions;
+    subscriptions = kept_rows (λ x. not (same_text x.client id));
+    retained = h.retained;
+  }
+  moved-held is (Subscribe id text options) =
+      let x : Subscription = asked id text options in
+      record {
+        moment = h.moment;
+        access = h.access;
+        sessions = h.sessions;
+        subscriptions = same-then _ _ _ (joined-same x s.subscriptions (in_turn w) h.subscriptions) (same-is _ _ (joins x w is));
+        retained = h.retained;
+      }
+  moved-held is (Unsubscribe id text) = record {
+    moment = h.moment;
+    access = h.access;
+    sessions = h.sessions;
+    subscriptions = kept_rows (λ x. not (has_key id (share_of text) (filter_part text) x));
+    retained = h.retained;
+  }
+  moved-held is (Publish m) = record {
+    moment = h.moment;
+    access = h.access;
+    sessions = h.sessions;
+    subscriptions = same-then _ _ _ (all_turned-same (next_members s.access s.sessions s.subscriptions m) s.subscriptions (in_turn w) h.subscriptions)
+        (same-then _ _ _ (same-is _ _ (ap (λ l. all_turned l (in_turn w)) (served-held m))) (serves w is m));
+    retained = ap (λ moment. retained_after moment s.retained m) h.moment ∙ ap (λ retained. retained_after w.moment retained m) h.retained;
+  }
+  moved-held is (SetAcl text) = record { moment = h.moment; access = refl; sessions = h.sessions; subscriptions = h.subscriptions; retained = h.retained }
+  moved-held is (Advance seconds) = record {
+    moment = ap (λ moment. moment + seconds) h.moment;
+    access = h.access;
+    sessions = h.sessions;
+    subscriptions = h.subscriptions;
+    retained = ap (λ moment. unexpired (moment + seconds) s.retained) h.moment ∙ ap (unexpired (w.moment + seconds)) h.retained;
+  }
+  moved-held is Stat = record { moment = h.moment; access = h.access; sessions = h.sessions; subscriptions = h.subscriptions; retained = h.retained }
+
+-- ## Trees and index
+
+-- a state that holds the rows of the world, and whose trees and index are those of its rows, holds the world
+filed-holds : (s : State) (w : World) → HasRows s w → IsFiled s → Holds s w
+unfolding filters_of
+filed-holds s w h filed = record {
+  moment = h.moment;
   access = h.access;
   sessions = h.sessions;
-  subscriptions = kept_rows (λ s. not (has_key id text s)) v w h;
+  subscriptions = h.subscriptions;
+  retained = h.retained;
+  filter_keys = filed.filter_keys ∙ filters-same s.subscriptions (subscriptions_of w) (λ p. h.subscriptions.elements p ∙ turn_told w p);
+  topic_keys = filed.topic_keys ∙ ap topics_of h.retained;
+  deadlines = subst (λ (retained : List Retained). Indexes s.deadlines retained) h.retained filed.deadlines;
 }
-after-same v w h (Publish m) = record { access = h.access; sessions = h.sessions; subscriptions = h.subscriptions }
-after-same v w h (SetAcl text) = record { access = refl; sessions = h.sessions; subscriptions = h.subscriptions }
+
+holds-rows : (s : State) (w : World) → Holds s w → HasRows s w
+holds-rows s w h = record { moment = h.moment; access = h.access; sessions = h.sessions; subscriptions = h.subscriptions; retained = h.retained }
+
+holds-filed : (s : State) (w : World) → Holds s w → IsFiled s
+unfolding filters_of
+holds-filed s w h = record {
+  filter_keys = h.filter_keys ∙ sym (filters-same s.subscriptions (subscriptions_of w) (λ p. h.subscriptions.elements p ∙ turn_told w p));
+  topic_keys = h.topic_keys ∙ ap topics_of (sym h.retained);
+  deadlines = subst (λ (retained : List Retained). Indexes s.deadlines retained) (sym h.retained) h.deadlines;
+}
+
+-- ## Counts
+
+counts-held : (s : State) (w : World) → Holds s w → counts_held s ≡ counts w
+unfolding counts
+counts-held s w h =
+    let many : length s.subscriptions ≡ length w.rows =
+    length-SameElements s.subscriptions (subscriptions_of w) (all_told s w (holds-rows s w h)) ∙ length-map w.rows (λ (r : Row). r.subscription) in
+    let by : List (List Text) → List (List Text) → ℕ → ℕ → Outcome = λ filters topics kept rows.
+    Counts (capped (length (prefixes filters) + length (prefixes topics))) (capped kept) (capped rows) in
+    ap (λ keys. by keys s.topic_keys (length s.retained) (length s.subscriptions)) h.filter_keys
+    ∙ ap (λ keys. by (filters_of w) keys (length s.retained) (length s.subscriptions)) h.topic_keys
+    ∙ ap (λ (kept : List Retained). by (filters_of w) (topics_of w.retained) (length kept) (length s.subscriptions)) h.retained
+    ∙ ap (by (filters_of w) (topics_of w.retained) (length w.retained)) many
+
+-- the steps of a subscribe, by what they depend on
+abbrev steps_by : Subscription → Bool → List Retained → ℕ
+steps_by new exists retained =
+    if is_none new.share && (new.options.handling == 0 || (new.options.handling == 1 && not exists))
+    then steps_among new.filter retained
+    else 0
+
+steps-held : (s : State) (w : World) → Holds s w → (request : Request) → steps_to s request ≡ steps w request
+unfolding steps
+steps-held s w h (Connect id user) = refl
+steps-held s w h (Disconnect id) = refl
+steps-held s w h (Subscribe id text options) =
+    let new : Subscription = asked id text options in
+    ap (λ exists. steps_by new exists s.retained) (list_any-SameElements (same_key new) s.subscriptions (subscriptions_of w) (all_told s w (holds-rows s w h)))
+    ∙ ap (steps_by new (list_any (same_key new) (subscriptions_of w))) h.retained
+steps-held s w h (Unsubscribe id text) = refl
+steps-held s w h (Publish m) = ap (λ keys. length (met_by_name (levels m.topic) (prefixes keys))) h.filter_keys
+steps-held s w h (SetAcl text) = refl
+steps-held s w h (Advance seconds) =
+    ap (λ moment. length (filter (is_due (moment + seconds)) s.retained)) h.moment
+    ∙ ap (λ (retained : List Retained). length (filter (is_due (w.moment + seconds)) retained)) h.retained
+steps-held s w h Stat = refl
 
 -- ## The next world is one
 
@@ -146,58 +312,81 @@ found_below p n (row ∷ rows) h =
     ]
 
 -- rows of which some are kept
-fewer : (q : Row → Bool) (w : World) (n : ℕ) → IsWorld w → n ≡ w.accepted → (sessions : List Session) → IsStrictlySortedBy session_cmp sessions → IsWorld (record w { sessions = sessions; rows = filter q w.rows; accepted = w.accepted + 1 })
-fewer q w n h e sessions s = record {
+fewer : (q : Row → Bool) (w : World) → IsWorld w → (sessions : List Session) → IsStrictlySortedBy session_cmp sessions → IsWorld (record w { sessions = sessions; rows = filter q w.rows; accepted = w.accepted + 1 })
+fewer q w h sessions s = record {
   sessions = s;
   rows = IsStrictlySortedBy-filter row_cmp q w.rows h.rows;
+  retained = h.retained;
   stamps = all_filtered (λ row. row.stamp < w.accepted + 1) q w.rows (stamp_below w.accepted w.rows h.stamps);
+  apart = λ g. apart-to (rows_in g (filter q w.rows))
+      (subst (λ (l : List Row). AreApart l) (filter-swap q (λ r. is_in_group g r.subscription) w.rows) (apart-filter q (rows_in g w.rows) (apart-from (rows_in g w.rows) (h.apart g))));
 }
+
+sorted-after : (now : ℕ) (retained : List Retained) (m : Message) → IsStrictlySortedBy retained_cmp retained → IsStrictlySortedBy retained_cmp (retained_after now retained m)
+unfolding retained_after
+sorted-after now retained m s =
+    let new : Retained = stored now m in
+    let rest : List Retained = filter (λ kept. not (has_topic m.topic kept)) retained in
+    elim (not m.retain) as (λ r. IsStrictlySortedBy retained_cmp (if r then retained else if is_stored m then with_row retained_cmp new retained else rest)) [
+      | true ↦ s
+      | false ↦ elim (is_stored m) as (λ k. IsStrictlySortedBy retained_cmp (if k then with_row retained_cmp new retained else rest)) [
+        | true ↦ sorted-with_row retained_cmp retained_total new retained s
+        | false ↦ IsStrictlySortedBy-filter retained_cmp (λ kept. not (has_topic m.topic kept)) retained s
+      ]
+    ]
 
 pub after-is_world : (w : World) → IsWorld w → (request : Request) → IsWorld (after w request)
 unfolding after
 after-is_world w h (Connect id user) =
-    fewer (λ row. not (same_text row.subscription.client id)) w w.accepted h refl _ (sorted-with_row session_cmp session_total (record { id = id; user = user }) w.sessions h.sessions)
+    fewer (λ row. not (same_text row.subscription.client id)) w h _ (sorted-with_row session_cmp session_total (new_session id user) w.sessions h.sessions)
 after-is_world w h (Disconnect id) =
-    fewer (λ row. not (same_text row.subscription.client id)) w w.accepted h refl _ (IsStrictlySortedBy-filter session_cmp (λ session. not (has_id id session)) w.sessions h.sessions)
+    fewer (λ row. not (same_text row.subscription.client id)) w h _ (IsStrictlySortedBy-filter session_cmp (λ session. not (has_id id session)) w.sessions h.sessions)
 after-is_world w h (Subscribe id text options) =
-    let s : Subscription = record { client = id; filter = text; options = options } in
+    let s : Subscription = asked id text options in
     record {
       sessions = h.sessions;
       rows = sorted-with_row row_cmp row_total (record { subscription = s; stamp = kept_stamp w s }) w.rows h.rows;
+      retained = h.retained;
       stamps = all-with_row row_cmp row_total (λ row. row.stamp < w.accepted + 1) (record { subscription = s; stamp = kept_stamp w s }) w.rows
-          (found_below (λ row. has_key id text row.subscription) w.accepted w.rows h.stamps) (stamp_below w.accepted w.rows h.stamps);
+          (found_below (λ row. same_key s row.subscription) w.accepted w.rows h.stamps) (stamp_below w.accepted w.rows h.stamps);
+      apart = λ g. apart-to _ (apart-joined s w h g);
     }
-after-is_world w h (Unsubscribe id text) = fewer (λ row. not (has_key id text row.subscription)) w w.accepted h refl _ h.sessions
-after-is_world w h (Publish m) = record { sessions = h.sessions; rows = h.rows; stamps = stamp_below w.accepted w.rows h.stamps }
-after-is_world w h (SetAcl text) = record { sessions = h.sessions; rows = h.rows; stamps = stamp_below w.accepted w.rows h.stamps }
-
--- ## What the router does for the world that has its rows, it does for each that it stands for
-
-pub subscriptions-world_of : (s : State) → subscriptions_of (world_of s) ≡ s.subscriptions
-subscriptions-world_of s = map-map (λ (row : Row). row.subscription) unstamped s.subscriptions ∙ map-id s.subscriptions
-
-held-same : (s : State) (w : World) → Holds s w → SameWorld (world_of s) w
-held-same s w h = record {
-  access = h.access;
+after-is_world w h (Unsubscribe id text) = fewer (λ row. not (has_key id (share_of text) (filter_part text) row.subscription)) w h _ h.sessions
+after-is_world w h (Publish m) = record {
   sessions = h.sessions;
-  subscriptions = λ p. ap (λ l. length (filter p l)) (subscriptions-world_of s) ∙ h.subscriptions p;
+  rows = restamped-sorted w.accepted (served_by w m) w.rows h.rows;
+  retained = sorted-after w.moment w.retained m h.retained;
+  stamps = restamped-below w.accepted (served_by w m) w.rows h.stamps;
+  apart = served-apart w h m;
 }
+after-is_world w h (SetAcl text) = record { sessions = h.sessions; rows = h.rows; retained = h.retained; stamps = stamp_below w.accepted w.rows h.stamps; apart = h.apart }
+after-is_world w h (Advance seconds) = record {
+  sessions = h.sessions;
+  rows = h.rows;
+  retained = IsStrictlySortedBy-filter retained_cmp (λ kept. not (is_over (w.moment + seconds) kept.deadline)) w.retained h.retained;
+  stamps = stamp_below w.accepted w.rows h.stamps;
+  apart = h.apart;
+}
+after-is_world w h Stat = record { sessions = h.sessions; rows = h.rows; retained = h.retained; stamps = stamp_below w.accepted w.rows h.stamps; apart = h.apart }
 
-still-holds : (s : State) (v w : World) → Holds s v → SameWorld v w → Holds s w
-still-holds s v w h same = record {
-  access = h.access ∙ same.access;
-  sessions = h.sessions ∙ same.sessions;
-  subscriptions = λ p. h.subscriptions p ∙ same.subscriptions p;
-}
+-- ## Each world that the router stands for
 
 done-answers : (old : State) (request : Request) (reply : Reply) (new : State) → Does old request reply new → (w : World) → StandsFor old w → Answers w request reply new
 unfolding StandsFor
 done-answers old request reply new d w h =
-    let same : SameWorld (world_of old) w = held-same old w h.0 in
+    let rows : HasRows old w = holds-rows old w h.0 in
+    let held : HasRows (moved old request) (after w request) = moved-held old w rows h.1 request in
+    let has : HasRows new (after w request) = record {
+      moment = d.rows.moment ∙ held.moment;
+      access = d.rows.access ∙ held.access;
+      sessions = d.rows.sessions ∙ held.sessions;
+      subscriptions = same-then _ _ _ d.rows.subscriptions held.subscriptions;
+      retained = d.rows.retained ∙ held.retained;
+    } in
     record {
-      accepted = sym (refusal-same (world_of old) w same request) ∙ d.accepted;
-      reply_is = d.reply_is ∙ answer-same (world_of old) w same request;
-      stands = (still-holds new (after (world_of old) request) (after w request) d.holds (after-same (world_of old) w same request), after-is_world w h.1 request);
+      accepted = sym (refusal-held old w rows request) ∙ d.accepted;
+      reply_is = d.reply_is ∙ answer-held old w rows (counts-held old w h.0) request;
+      stands = (filed-holds new (after w request) has (d.filed (holds-filed old w h.0)), after-is_world w h.1 request);
     }
 
 refused-refuses : (old : State) (request : Request) (r : Refusal) → Refuses (world_of old) request r → (w : World) → StandsFor old w → Refuses w request r
@@ -205,9 +394,27 @@ unfolding StandsFor
 refused-refuses old request r why w h =
     elim why as (λ _. Refuses w request r) [
       | inl memory ↦ inl memory
-      | inr refused ↦ inr (sym (refusal-same (world_of old) w (held-same old w h.0) request) ∙ refused)
+      | inr refused ↦ inr (sym (refusal-held old w (holds-rows old w h.0) request) ∙ refused)
     ]
 
-pub applied_answers : (old : State) (request : Request) (result : Result Answer Refusal) (new : State) → Applied old request result new → AnswersFor old request result new
-applied_answers old request (Ok a) new d = λ w h. done-answers old request (reply_of a) new d w h
-applied_answers old request (Err r) new why = λ w h. refused-refuses old request r why w h
+pub applied_answers : (old : State) (told request : Request) (result : Result Answer Refusal) (new : State) → told ≡ request → Applied old told result new → AnswersFor old request result new
+applied_answers old told request result new is done = subst (λ r. AnswersFor old r result new) is (each result done)
+  where
+    each : (result : Result Answer Refusal) → Applied old told result new → AnswersFor old told result new
+    each (Ok a) d = λ w h. done-answers old told (reply_of a) new d w h
+    each (Err r) why = λ w h. refused-refuses old told r why w h
+
+pub applied_counts : (old : State) (told request : Request) (result : Result Answer Refusal) (before now : ℕ) → told ≡ request → CountsSteps old told result before now → CountsFor old request result before now
+unfolding StandsFor
+applied_counts old told request result before now is done = subst (λ r. CountsFor old r result before now) is (each result done)
+  where
+    each : (result : Result Answer Refusal) → CountsSteps old told result before now → CountsFor old told result before now
+    each (Ok a) adds = λ w h. adds ∙ ap (λ n. before + n) (steps-held old w h.0 told)
+    each (Err r) adds = λ w h. adds
+
+pub none_counted : (old : State) (told request : Request) (result : Result Answer Refusal) (n : ℕ) → told ≡ request → steps_to old told ≡ 0 → CountsFor old request result n n
+none_counted old told request result n is none = applied_counts old told request result n n is (each result)
+  where
+    each : (result : Result Answer Refusal) → CountsSteps old told result n n
+    each (Ok a) = omega (arith, none)
+    each (Err r) = inr refl

@@ -1,29 +1,181 @@
--- What the router does, told by what it holds alone: in the world that has its rows, each with the stamp 0.
-use Rattle.std.specs.Prelude.{◌≡◌, map, Option, Some, None, Result, Ok, Err, MatchResult}
-use Rattle.mq_router.specs.World.{World, Row, Subscription, Request, Reply}
+-- What the router does, told by what it holds alone: without stamps, by the order in which members stand.
+use Rattle.std.specs.Prelude.{◌≡◌, ◌⊎◌, ℕ, ◌+◌, Bool, List, [], ◌∷◌, ◌++◌, length, map, not, Option, Some, None, Result, Ok, Err, MatchResult, if◌then◌else◌}
+use Rattle.std.specs.List.{filter, filter_map, find, list_any}
+use Rattle.mq_topic.specs.Levels.{levels}
+use Rattle.mq_topic.specs.Texts.{share_of, filter_part}
+use Rattle.mq_tree.specs.Entries.{capped}
+use Rattle.mq_tree.specs.Prefixes.{prefixes, met_by_name}
+use Rattle.mq_acl.specs.Rows.{AclRow}
+use Rattle.mq_acl.specs.Access.{allowed}
+use Rattle.mq_acl.specs.declared.access.Direction.TheVariants.{Reading}
+use Rattle.mq_router.specs.Lists.{Text, same_text, with_row, in_order}
+use Rattle.mq_router.specs.World.{World, Row, Session, Group, Subscription, Message, Copy, Request, Connect, Disconnect, Subscribe, Unsubscribe, Publish, SetAcl, Advance, Stat, Reply, asked, session_cmp, group_cmp, group_of, has_id, has_key, same_key, is_in_group}
+use Rattle.mq_router.specs.Sessions.{new_session, user_of}
 use Rattle.mq_router.specs.Refusals.{refusal}
-use Rattle.mq_router.specs.Answers.{answer}
-use Rattle.mq_router.specs.After.{after}
-use Rattle.mq_router.specs.StandsFor.{State, Holds, Refuses}
+use Rattle.mq_router.specs.Copies.{direct_copies, filter_matches}
+use Rattle.mq_router.specs.Groups.{group_copy}
+use Rattle.mq_router.specs.Retained.{asks_for_retained, retained_copies, retained_after, unexpired}
+use Rattle.mq_router.specs.Answers.{reason, published}
+use Rattle.mq_router.specs.After.{access_of}
+use Rattle.mq_router.specs.Counts.{filters_among, topics_of}
+use Rattle.mq_router.specs.Deadlines.{Indexes, is_due}
+use Rattle.mq_router.specs.Receivers.{steps_among}
+use Rattle.mq_router.specs.StandsFor.{State, Refuses}
+use Rattle.mq_router.specs.Turns.{SameInTurn}
 use Rattle.mq_router.specs.Views.{reply_of}
 use Rattle.mq_router.specs.declared.answer.Answer.{Answer}
+use Rattle.mq_router.specs.declared.answer.Outcome.{Outcome}
+use Rattle.mq_router.specs.declared.answer.Outcome.TheVariants.{Reason, Counts}
 use Rattle.mq_router.specs.declared.refusal.Refusal.{Refusal}
+use Rattle.mq_router.specs.declared.refusal.Refusal.TheVariants.{Memory}
 
 abbrev pub unstamped : Subscription → Row
 unstamped s = record { subscription = s; stamp = 0 }
 
 abbrev pub world_of : State → World
-world_of s = record { access = s.access; sessions = s.sessions; rows = map unstamped s.subscriptions; accepted = 0 }
+world_of s = record {
+  moment = s.moment;
+  access = s.access;
+  sessions = s.sessions;
+  rows = map unstamped s.subscriptions;
+  retained = s.retained;
+  accepted = 0;
+}
 
--- the request is accepted and answered, and then the router holds what the next world has
+-- ## Subscriptions in turn
+
+-- the element takes the place of what is the same, and goes last where nothing is
+abbrev pub with_one : {X : Type 0} → (X → Bool) → X → List X → List X
+with_one same x xs = map (λ y. if same y then x else y) xs ++ (if list_any same xs then [] else x ∷ [])
+
+-- those that pass go last
+abbrev pub put_last : {X : Type 0} → (X → Bool) → List X → List X
+put_last passes xs = filter (λ x. not (passes x)) xs ++ filter passes xs
+
+-- a subscription takes the place of the one with its key, and else goes last
+abbrev pub joined : Subscription → List Subscription → List Subscription
+joined s xs = with_one (same_key s) s xs
+
+abbrev pub all_turned : List Subscription → List Subscription → List Subscription
+all_turned [] xs = xs
+all_turned (s ∷ ss) xs = all_turned ss (put_last (same_key s) xs)
+
+-- each group that has a member, by share name, then by filter in level order
+unfoldable pub groups_among : List Subscription → List Group
+groups_among subscriptions = in_order group_cmp (filter_map group_of subscriptions)
+
+-- of a group the first member whose client may read the topic
+abbrev pub next_in : Option (List AclRow) → List Session → List Subscription → Text → Group → Option Subscription
+next_in access sessions subscriptions topic group =
+    find (λ s. allowed access s.client (user_of sessions s.client) topic Reading) (filter (is_in_group group) subscriptions)
+
+unfoldable pub next_members : Option (List AclRow) → List Session → List Subscription → Message → List Subscription
+next_members access sessions subscriptions m =
+    filter_map (next_in access sessions subscriptions m.topic)
+    (filter (λ group. filter_matches group.filter m.topic) (groups_among subscriptions))
+
+-- ## Requests
+
+abbrev pub member_copy : Message → Subscription → Copy
+member_copy m s = group_copy m (unstamped s)
+
+abbrev pub copies_made : Option (List AclRow) → List Session → List Subscription → Message → List Copy
+copies_made access sessions subscriptions m =
+    direct_copies access sessions subscriptions m ++ map (member_copy m) (next_members access sessions subscriptions m)
+
+abbrev pub copies_sent : State → Subscription → List Copy
+copies_sent s new =
+    if asks_for_retained s.subscriptions new
+    then retained_copies s.moment s.access (user_of s.sessions new.client) s.retained new
+    else []
+
+-- the nodes of both trees, the retained messages and the subscriptions
+abbrev pub counts_held : State → Outcome
+counts_held s =
+    Counts (capped (length (prefixes s.filter_keys) + length (prefixes s.topic_keys)))
+    (capped (length s.retained))
+    (capped (length s.subscriptions))
+
+abbrev pub reply_to : State → Request → Reply
+reply_to s (Connect id user) = reason 0
+reply_to s (Disconnect id) = reason 0
+reply_to s (Subscribe id text options) =
+    record { copies = copies_sent s (asked id text options); outcome = Reason options.qos }
+reply_to s (Unsubscribe id text) =
+    reason (if list_any (has_key id (share_of text) (filter_part text)) s.subscriptions then 0 else 17)
+reply_to s (Publish m) = published (copies_made s.access s.sessions s.subscriptions m)
+reply_to s (SetAcl text) = reason 0
+reply_to s (Advance seconds) = reason 0
+reply_to s Stat = record { copies = []; outcome = counts_held s }
+
+-- the rows that change; the trees and the index are told apart, by `IsFiled`
+abbrev pub moved : State → Request → State
+moved s (Connect id user) = record s {
+  sessions = with_row session_cmp (new_session id user) s.sessions;
+  subscriptions = filter (λ x. not (same_text x.client id)) s.subscriptions;
+}
+moved s (Disconnect id) = record s {
+  sessions = filter (λ session. not (has_id id session)) s.sessions;
+  subscriptions = filter (λ x. not (same_text x.client id)) s.subscriptions;
+}
+moved s (Subscribe id text options) = record s { subscriptions = joined (asked id text options) s.subscriptions }
+moved s (Unsubscribe id text) =
+    record s { subscriptions = filter (λ x. not (has_key id (share_of text) (filter_part text) x)) s.subscriptions }
+moved s (Publish m) = record s {
+  subscriptions = all_turned (next_members s.access s.sessions s.subscriptions m) s.subscriptions;
+  retained = retained_after s.moment s.retained m;
+}
+moved s (SetAcl text) = record s { access = access_of text }
+moved s (Advance seconds) = record s {
+  moment = s.moment + seconds;
+  retained = unexpired (s.moment + seconds) s.retained;
+}
+moved s Stat = s
+
+-- the same moment, access rows, sessions and retained messages, and the same subscriptions in turn
+pub record SameRows (s t : State) : Type 0 where
+  pub moment : s.moment ≡ t.moment
+  pub access : s.access ≡ t.access
+  pub sessions : s.sessions ≡ t.sessions
+  pub subscriptions : SameInTurn s.subscriptions t.subscriptions
+  pub retained : s.retained ≡ t.retained
+
+-- the keys of the trees and the index are those of the rows
+pub record IsFiled (s : State) : Type 0 where
+  pub filter_keys : s.filter_keys ≡ filters_among s.subscriptions
+  pub topic_keys : s.topic_keys ≡ topics_of s.retained
+  pub deadlines : Indexes s.deadlines s.retained
+
+-- the request is accepted and answered, and the router holds what comes of it
 pub record Does (old : State) (request : Request) (reply : Reply) (new : State) : Type 0 where
   pub accepted : refusal (world_of old) request ≡ None
-  pub reply_is : reply ≡ answer (world_of old) request
-  pub holds : Holds new (after (world_of old) request)
+  pub reply_is : reply ≡ reply_to old request
+  pub rows : SameRows new (moved old request)
+  pub filed : IsFiled old → IsFiled new
 
 abbrev pub Applied : State → Request → Result Answer Refusal → State → Type 0
 Applied old request result new =
     MatchResult result (λ a. Does old request (reply_of a) new) (λ r. Refuses (world_of old) request r)
+
+-- ## Steps
+
+abbrev pub steps_sent : State → Subscription → ℕ
+steps_sent s new = if asks_for_retained s.subscriptions new then steps_among new.filter s.retained else 0
+
+abbrev pub steps_to : State → Request → ℕ
+steps_to s (Connect id user) = 0
+steps_to s (Disconnect id) = 0
+steps_to s (Subscribe id text options) = steps_sent s (asked id text options)
+steps_to s (Unsubscribe id text) = 0
+steps_to s (Publish m) = length (met_by_name (levels m.topic) (prefixes s.filter_keys))
+steps_to s (SetAcl text) = 0
+steps_to s (Advance seconds) = length (filter (is_due (s.moment + seconds)) s.retained)
+steps_to s Stat = 0
+
+-- how many steps an answer adds to those before; a refusal adds none, and want of memory may add any
+abbrev pub CountsSteps : State → Request → Result Answer Refusal → ℕ → ℕ → Type 0
+CountsSteps old request result before now =
+    MatchResult result (λ a. now ≡ before + steps_to old request) (λ r. (r ≡ Memory) ⊎ (now ≡ before))
 
 -- the refusal of a test that may refuse
 abbrev pub refused_by : {X : Type 0} → Result X Refusal → Option Refusal

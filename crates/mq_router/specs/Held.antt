@@ -1,15 +1,18 @@
 -- What the router's own values show.
-use Rattle.std.specs.Prelude.{List, map, Option, String, string_bytes}
+use Rattle.std.specs.Prelude.{List, map, Option, Some, String, string_bytes}
 use Rattle.std.specs.Option.{option_map}
 use Rattle.std.specs.declared.alloc.Global.{Global}
+use Rattle.mq_router.specs.Lists.{Text}
 use Rattle.mq_router.specs.World as world
 use Rattle.mq_router.specs.StandsFor.{State}
+use Rattle.mq_router.specs.Kept.{options_of, AreListed, KeptSubscriptions, kept_at}
+use Rattle.mq_router.specs.KeptViews.{texts}
 use Rattle.mq_router.specs.declared.copies.Message.{Message}
+use Rattle.mq_router.specs.declared.copies.Turn.{Turn}
 use Rattle.mq_router.specs.declared.sessions.Sessions.TheInside as in_sessions
-use Rattle.mq_router.specs.declared.subscriptions.Options.{Options}
-use Rattle.mq_router.specs.declared.subscriptions.Subscription.{Subscription}
 use Rattle.mq_router.specs.declared.subscriptions.Subscriptions.TheInside as in_subscriptions
 use Rattle.mq_router.specs.declared.router.Router.TheInside as in_router
+use Rattle.mq_router.specs.declared.router.Properties.{Properties}
 
 abbrev pub session_of : String Global × Option (String Global) → world.Session
 session_of entry = record { id = string_bytes entry.0; user = option_map string_bytes entry.1 }
@@ -17,17 +20,48 @@ session_of entry = record { id = string_bytes entry.0; user = option_map string_
 abbrev pub sessions_of : in_sessions.Inside → List world.Session
 sessions_of inside = map session_of inside.users.entries
 
-abbrev pub options_of : Options → world.Options
-options_of o = record { qos = o.qos; no_local = o.no_local; identifier = o.id }
+abbrev pub subscriptions_of : in_subscriptions.Inside → KeptSubscriptions
+subscriptions_of inside = kept_at inside.tree
 
-abbrev pub subscription_of : Subscription → world.Subscription
-subscription_of s = record { client = string_bytes s.client; filter = s.filter; options = options_of s.options }
-
-abbrev pub subscriptions_of : in_subscriptions.Inside → List world.Subscription
-subscriptions_of inside = map subscription_of inside.all.items
+abbrev pub AreSubscriptions : in_subscriptions.Inside → Type 0
+AreSubscriptions inside = AreListed inside.tree (texts inside.lists.entries)
 
 abbrev pub message_of : Message → world.Message
-message_of m = record { publisher = m.publisher.now; topic = m.topic.now; payload = m.payload.now; qos = m.qos }
+message_of m = record {
+  publisher = m.publisher.now;
+  topic = m.topic.now;
+  payload = m.payload.now;
+  qos = m.qos;
+  retain = m.retain;
+  expiry = m.expiry;
+}
+
+abbrev pub published_message : Text → Text → Text → Properties → world.Message
+published_message client topic payload properties = record {
+  publisher = client;
+  topic = topic;
+  payload = payload;
+  qos = properties.qos;
+  retain = properties.retain;
+  expiry = properties.expiry;
+}
+
+abbrev pub turn_of : Turn → world.Subscription
+turn_of t = record {
+  client = string_bytes t.client;
+  share = Some (string_bytes t.share);
+  filter = t.filter;
+  options = options_of t.options;
+}
 
 abbrev pub state_of : in_router.Inside → State
-state_of inside = record { access = inside.access; sessions = inside.sessions; subscriptions = inside.subscriptions }
+state_of inside = record {
+  moment = inside.clock.moment;
+  access = inside.access;
+  sessions = inside.sessions;
+  subscriptions = inside.subscriptions.rows;
+  retained = inside.retained.messages;
+  filter_keys = inside.subscriptions.keys;
+  topic_keys = inside.retained.keys;
+  deadlines = inside.retained.pairs;
+}

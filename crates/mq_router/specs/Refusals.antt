@@ -1,17 +1,17 @@
 -- Which commands are refused, and why: the first of the conditions that holds.
-use Rattle.std.specs.Prelude.{ℕ, Bool, true, false, List, [], ◌∷◌, ◌++◌, ◌&&◌, not, nat_le, length, Option, Some, None, Result, Ok, Err}
+use Rattle.std.specs.Prelude.{ℕ, ◌+◌, Bool, true, false, List, [], ◌∷◌, ◌++◌, ◌&&◌, not, nat_le, nat_lt, length, Option, Some, None, Result, Ok, Err}
 use Rattle.std.specs.Option.{option_map, option_and_then}
-use Rattle.std.specs.List.{find, list_any}
-use Rattle.mq_topic.specs.Texts.{contains_byte, is_name, is_filter, is_shared}
+use Rattle.std.specs.List.{find}
+use Rattle.mq_topic.specs.Texts.{contains_byte, is_name, is_shared, is_subscription}
 use Rattle.mq_acl.specs.Rows.{AclRow, rows_of}
-use Rattle.mq_acl.specs.Access.{allowed}
-use Rattle.mq_acl.specs.declared.access.Direction.{Direction}
 use Rattle.mq_acl.specs.declared.access.Direction.TheVariants.{Writing}
 use Rattle.mq_acl.specs.declared.fault.AclFault.{AclFault}
 use Rattle.mq_router.specs.Lists.{Text}
-use Rattle.mq_router.specs.World.{World, Session, Request, Connect, Disconnect, Subscribe, Unsubscribe, Publish, SetAcl, has_id, are_valid}
+use Rattle.mq_router.specs.World.{World, Session, Message, Request, Connect, Disconnect, Subscribe, Unsubscribe, Publish, SetAcl, Advance, Stat, are_valid}
+use Rattle.mq_router.specs.Clock.{last_moment}
+use Rattle.mq_router.specs.Sessions.{is_connected, may}
 use Rattle.mq_router.specs.declared.refusal.Refusal.{Refusal}
-use Rattle.mq_router.specs.declared.refusal.Refusal.TheVariants.{ClientId, UserName, NotConnected, TopicName, TopicFilter, NotAuthorized, AclLine}
+use Rattle.mq_router.specs.declared.refusal.Refusal.TheVariants.{ClientId, UserName, NotConnected, TopicName, TopicFilter, SharedNoLocal, NotAuthorized, AclLine, ClockTooFar}
 
 -- a list of conditions, each with the refusal that it leads to
 abbrev pub Conditions : Type 0
@@ -30,24 +30,14 @@ abbrev pub is_user_name : Option Text → Bool
 is_user_name None = true
 is_user_name (Some user) = nat_le (length user) 65535 && not (contains_byte 0 user)
 
--- a valid filter; one that begins with `$share/` asks for a shared subscription, which does not exist
-abbrev pub is_own_filter : Text → Bool
-is_own_filter text = not (is_shared text) && is_filter text
-
-abbrev pub is_connected : List Session → Text → Bool
-is_connected sessions id = list_any (has_id id) sessions
-
--- the user name of a connected client, if it has one
-abbrev pub user_of : List Session → Text → Option Text
-user_of sessions id = option_and_then (λ session. session.user) (find (has_id id) sessions)
-
--- whether the access list lets the client read or write the topic
-abbrev pub may : World → Text → Text → Direction → Bool
-may w id topic direction = allowed w.access id (user_of w.sessions id) topic direction
-
 -- the conditions on the client of a command other than connect
 abbrev pub client_conditions : List Session → Text → Conditions
 client_conditions sessions id = (not (is_client_id id), ClientId) ∷ (not (is_connected sessions id), NotConnected) ∷ []
+
+-- the conditions on a published message
+abbrev pub message_conditions : World → Message → Conditions
+message_conditions w m =
+    (not (is_name m.topic), TopicName) ∷ (not (may w m.publisher m.topic Writing), NotAuthorized) ∷ []
 
 abbrev pub fault_line : Result (List AclRow) AclFault → Option ℕ
 fault_line (Ok rows) = None
@@ -57,18 +47,24 @@ fault_line (Err fault) = Some fault.line
 abbrev pub faulty_line : Option Text → Option ℕ
 faulty_line text = option_and_then (λ t. fault_line (rows_of t)) text
 
+-- the refusal of an access list's text, if it has a fault
+abbrev pub acl_refusal : Option Text → Option Refusal
+acl_refusal text = option_map (λ line. AclLine line) (faulty_line text)
+
+-- a shared subscription has no No Local (MQTT 5.0, section 3.8.3.1)
 unfoldable pub refusal : World → Request → Option Refusal
 refusal w (Connect id user) =
     first_refusal ((not (is_client_id id), ClientId) ∷ (not (is_user_name user), UserName) ∷ [])
 refusal w (Disconnect id) = first_refusal (client_conditions w.sessions id)
 refusal w (Subscribe id text options) =
-    first_refusal (client_conditions w.sessions id ++ (not (is_own_filter text), TopicFilter) ∷ [])
+    first_refusal (client_conditions w.sessions id
+    ++ (not (is_subscription text), TopicFilter) ∷ (is_shared text && options.no_local, SharedNoLocal) ∷ [])
 refusal w (Unsubscribe id text) =
-    first_refusal (client_conditions w.sessions id ++ (not (is_own_filter text), TopicFilter) ∷ [])
-refusal w (Publish m) =
-    first_refusal (client_conditions w.sessions m.publisher
-    ++ (not (is_name m.topic), TopicName) ∷ (not (may w m.publisher m.topic Writing), NotAuthorized) ∷ [])
-refusal w (SetAcl text) = option_map (λ line. AclLine line) (faulty_line text)
+    first_refusal (client_conditions w.sessions id ++ (not (is_subscription text), TopicFilter) ∷ [])
+refusal w (Publish m) = first_refusal (client_conditions w.sessions m.publisher ++ message_conditions w m)
+refusal w (SetAcl text) = acl_refusal text
+refusal w (Advance seconds) = first_refusal ((nat_lt last_moment (w.moment + seconds), ClockTooFar) ∷ [])
+refusal w Stat = None
 
 -- ## Which commands are valid, and which never want memory
 
@@ -79,8 +75,12 @@ is_valid (Subscribe id text options) = are_valid options
 is_valid (Unsubscribe id text) = true
 is_valid (Publish m) = nat_le m.qos 2
 is_valid (SetAcl text) = true
+is_valid (Advance seconds) = true
+is_valid Stat = true
 
 -- a command that takes no memory
 abbrev pub takes_no_memory : Request → Bool
 takes_no_memory (Disconnect id) = true
+takes_no_memory (Advance seconds) = true
+takes_no_memory Stat = true
 takes_no_memory request = false

@@ -1,12 +1,15 @@
-//! Which texts a command may name.
-ghost use Rattle.std.specs.Prelude.{◌≡◌, IfOk, IfErr, ◌⊎◌, not, true, false};
-ghost use Rattle.std.specs.Option.{option_copied};
-ghost use Rattle.mq_topic.specs.Texts.{contains_byte, is_name};
-ghost use Rattle.mq_router.specs.Refusals.{is_client_id, is_user_name, is_own_filter};
+//! Which texts a command may name, and what they stand for.
+ghost use Rattle.std.specs.Prelude.{◌≡◌, ◌&&◌, None, Some, is_some, string_bytes, IfOk, IfErr, ◌⊎◌, true, false};
+ghost use Rattle.std.specs.Option.{option_copied, option_map};
+ghost use Rattle.mq_topic.specs.Texts.{contains_byte, is_name, is_subscription};
+ghost use Rattle.mq_router.specs.Refusals.{is_client_id, is_user_name, faulty_line, acl_refusal};
+ghost use Rattle.mq_router.specs.Asked.{IsAskedBy};
+ghost use Rattle.mq_router.specs.After.{access_of};
 
 use crate::refusal::Refusal;
-use mq_topic::{TopicFault, TopicFilter, TopicName};
-use std::alloc::Global;
+use mq_acl::{Acl, AclKind};
+use mq_topic::{SubFilter, TopicFault, TopicName};
+use std::alloc::{AllocError, Global};
 
 const MAX_BYTES: usize = 65_535;
 
@@ -31,16 +34,13 @@ pub(crate) fn is_user_name(user: Option<&str>) -> bool
     }
 }
 
-/// The filter of a subscription that is not shared.
-pub(crate) fn parse_filter(alloc: Global, text: &str) -> Result<TopicFilter, Refusal>
-    ensures ok { IfOk result (λ filter. (filter ≡ text.now) × (is_own_filter text.now ≡ true)) }
-    ensures err { IfErr result (λ refusal. (refusal ≡ Refusal.Memory) ⊎ ((refusal ≡ Refusal.TopicFilter) × (is_own_filter text.now ≡ false))) }
+/// A filter, and a share name or none.
+pub(crate) fn parse_filter(alloc: Global, text: &str) -> Result<SubFilter, Refusal>
+    ensures ok { IfOk result (λ wanted. IsAskedBy text.now wanted) }
+    ensures err { IfErr result (λ refusal. (refusal ≡ Refusal.Memory) ⊎ ((refusal ≡ Refusal.TopicFilter) × (is_subscription text.now ≡ false))) }
 {
-    if text.starts_with("$share/") {
-        return Err(Refusal::TopicFilter);
-    }
-    match TopicFilter::parse(alloc, text) {
-        Ok(filter) => Ok(filter),
+    match SubFilter::parse(alloc, text) {
+        Ok(wanted) => Ok(wanted),
         Err(TopicFault::Memory) => Err(Refusal::Memory),
         Err(_) => Err(Refusal::TopicFilter),
     }
@@ -54,5 +54,43 @@ pub(crate) fn parse_name(alloc: Global, text: &str) -> Result<TopicName, Refusal
         Ok(name) => Ok(name),
         Err(TopicFault::Memory) => Err(Refusal::Memory),
         Err(_) => Err(Refusal::TopicName),
+    }
+}
+
+/// A copy of a text, if there is one.
+pub(crate) fn copied(alloc: Global, text: Option<&str>) -> Result<Option<String>, AllocError>
+    ensures { IfOk result (λ copy. option_map string_bytes copy ≡ option_copied text.entry) }
+{
+    match text {
+        None => Ok(None),
+        Some(text) => Ok(Some(String::from_str(alloc, text)?)),
+    }
+}
+
+/// The access list of a text, or none without a text.
+pub(crate) fn read_access(alloc: Global, text: Option<&str>) -> Result<Option<Acl>, Refusal>
+    ensures ok { IfOk result (λ access. (access ≡ access_of (option_copied text.entry)) × (faulty_line (option_copied text.entry) ≡ None)) }
+    ensures err { IfErr result (λ refusal. (refusal ≡ Refusal.Memory) ⊎ (acl_refusal (option_copied text.entry) ≡ Some refusal)) }
+{
+    let Some(text) = text else {
+        return Ok(None);
+    };
+    match Acl::read(alloc, text) {
+        Ok(acl) => Ok(Some(acl)),
+        Err(fault) => match fault.kind {
+            AclKind::Memory => Err(Refusal::Memory),
+            _ => Err(Refusal::AclLine { line: fault.line }),
+        },
+    }
+}
+
+/// Whether a subscription asks for what is not for shared ones, No Local (MQTT 5.0, section 3.8.3.1).
+pub(crate) fn is_shared_no_local(wanted: &SubFilter, no_local: bool) -> bool
+    ensures { result ≡ (is_some wanted.now.share && no_local) }
+{
+    if no_local {
+        wanted.share.is_some()
+    } else {
+        false
     }
 }

@@ -23,6 +23,10 @@ pub enum Command {
         qos: u8,
         /// Whether the client gets no copies of its own messages.
         no_local: bool,
+        /// Retain As Published: whether copies keep the RETAIN flag of the message.
+        rap: bool,
+        /// Retain Handling, 0 to 2: whether retained messages are sent always, to a new subscription only, or never.
+        handling: u8,
         /// 1 to 268,435,455.
         id: Option<u32>,
     },
@@ -38,11 +42,21 @@ pub enum Command {
         payload: String,
         /// 0 to 2.
         qos: u8,
+        /// Whether the message is to be retained.
+        retain: bool,
+        /// The message expiry interval in seconds.
+        expiry: Option<u32>,
     },
     /// An access list takes the place of the one that is set; without text there is none then, and all is allowed.
     SetAcl {
         text: Option<String>,
     },
+    /// The clock moves.
+    Advance {
+        seconds: u64,
+    },
+    /// Asks for the numbers of nodes, retained messages and subscriptions.
+    Stat,
 }
 
 impl Command {
@@ -51,7 +65,12 @@ impl Command {
         ensures { result ≡ is_valid (request_of self.now) }
     {
         match self {
-            Command::Subscribe { qos, id, .. } => *qos <= 2 && id.is_none_or(is_identifier),
+            Command::Subscribe {
+                qos,
+                handling,
+                id,
+                ..
+            } => *qos <= 2 && *handling <= 2 && id.is_none_or(is_identifier),
             Command::Publish { qos, .. } => *qos <= 2,
             _ => true,
         }

@@ -1,14 +1,26 @@
-//! The router: sessions, subscriptions, access and delivery of MQTT 5, as one call that answers a command at a time.
+//! The router: sessions, subscriptions, access, delivery and retained messages of MQTT 5, as one call that answers a command
+//! at a time.
 #![tactic(auto)]
 
 mod answer;
+mod at_filter;
 mod checks;
+mod clock;
 mod command;
 mod copies;
+mod deadlines;
+mod gathered;
+mod group;
+mod options;
+mod own;
+mod readers;
 mod refusal;
+mod replies;
+mod retained;
 mod router;
 mod sessions;
 mod subscriptions;
+mod turns;
 
 pub use answer::{Answer, Delivery, Outcome};
 pub use command::Command;

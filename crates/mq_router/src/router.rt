@@ -1,32 +1,55 @@
-ghost use Rattle.std.specs.Prelude.{◌≡◌, ◌≢◌, IsTrue, None, Some, OnErr, IfErr, if◌then◌else◌, map, Result};
+ghost use Rattle.std.specs.Prelude.{◌≡◌, ◌≢◌, ◌+◌, [], IsTrue, Some, IfOk, OnOk, OnErr, IfErr};
 ghost use Rattle.std.specs.Option.{option_copied};
 ghost use Rattle.mq_router.specs.Refusals.{is_valid, takes_no_memory, client_conditions, first_refusal};
 ghost use Rattle.mq_router.specs.World.{fresh_world, empty_world};
 ghost use Rattle.mq_router.specs.World as world;
-ghost use Rattle.mq_router.specs.Answers.{reason, published};
-ghost use Rattle.mq_router.specs.StandsFor.{StandsFor, AnswersFor};
-ghost use Rattle.mq_router.specs.Applied.{Applied, refused_by};
-ghost use Rattle.mq_router.specs.Views.{request_of, reply_of, copy_of};
-ghost use Rattle.mq_router.specs.Held.{options_of};
+ghost use Rattle.mq_router.specs.StandsFor.{StandsFor, AnswersFor, CountsFor};
+ghost use Rattle.mq_router.specs.Applied.{Applied, CountsSteps, refused_by, copies_sent, steps_sent, counts_held};
+ghost use Rattle.mq_router.specs.Views.{request_of, reply_of};
+ghost use Rattle.mq_router.specs.Kept.{options_of};
+ghost use Rattle.mq_router.specs.Asked.{wanted_row};
+ghost use Rattle.mq_router.specs.Gathers.{copies_in};
+ghost use Rattle.mq_router.specs.Held.{published_message};
 
 use crate::answer::{Answer, Delivery, Outcome};
-use crate::checks::{is_client_id, is_user_name, parse_filter, parse_name};
+use crate::checks::{
+    copied, is_client_id, is_shared_no_local, is_user_name, parse_filter, parse_name, read_access,
+};
+use crate::clock::Clock;
 use crate::command::Command;
-use crate::copies::{Message, may_write};
+use crate::copies::{Message, make_copies, may_write};
+use crate::options::Options;
+use crate::readers::Readers;
 use crate::refusal::Refusal;
+use crate::replies::{published, reason_to_leave, with_reason};
+use crate::retained::{Receiver, Retained, asks_for_retained};
 use crate::sessions::Sessions;
-use crate::subscriptions::{Options, Subscription, Subscriptions};
-use mq_acl::{Acl, AclKind};
+use crate::subscriptions::Subscriptions;
+use crate::turns::serve_all;
+use mq_acl::Acl;
+use mq_topic::SubFilter;
+use mq_tree::Steps;
 use std::alloc::{AllocError, Global};
 use std::marker::Model;
 
-/// Sessions, subscriptions and an access list, or none. It keeps the allocator that it was made with.
+/// A clock, sessions, subscriptions, retained messages and an access list, or none. It keeps the allocator that it was made
+/// with.
 #[derive(Drop)]
 pub struct Router {
     alloc: Global,
+    clock: Clock,
     access: Option<Acl>,
     sessions: Sessions,
     subscriptions: Subscriptions,
+    retained: Retained,
+}
+
+// What a message has beside its texts.
+#[derive(Clone, Copy, Debug)]
+struct Properties {
+    qos: u8,
+    retain: bool,
+    expiry: Option<u32>,
 }
 
 impl Model for Router {
@@ -35,8 +58,11 @@ impl Model for Router {
     ghost Value = { State };
 
     ghost use Rattle.mq_router.specs.Held.{state_of};
+    ghost use Rattle.mq_router.specs.Stored.{AreNear};
 
     ghost view = { state_of };
+
+    ghost invariant = { λ a. AreNear a.clock.moment a.retained.messages };
 }
 
 impl Router {
@@ -46,9 +72,11 @@ impl Router {
     {
         Router {
             alloc,
+            clock: Clock::start(),
             access: None,
             sessions: Sessions::new(alloc),
             subscriptions: Subscriptions::new(alloc),
+            retained: Retained::new(alloc),
         }
     }
 
@@ -58,9 +86,11 @@ impl Router {
     {
         Router {
             alloc,
+            clock: Clock::start(),
             access: Some(acl),
             sessions: Sessions::new(alloc),
             subscriptions: Subscriptions::new(alloc),
+            retained: Retained::new(alloc),
         }
     }
 
@@ -72,6 +102,20 @@ impl Router {
         ensures err { OnErr result (self.new ≡ self.old) }
         ensures no_memory { IsTrue (takes_no_memory (request_of command.now)) → IfErr result (λ refusal. refusal ≢ Refusal.Memory) }
     {
+        let mut steps = Steps::new();
+        self.apply_counted(command, &mut steps)
+    }
+
+    /// `apply`, and its steps are added to those that there are: in a publish the nodes entered among the filters, in a
+    /// subscribe that asks for retained messages those entered among the topics, in an advance the messages removed, in
+    /// another command none. A refusal adds none, but want of memory may add any.
+    pub fn apply_counted(&mut self, command: &Command, steps: &mut Steps) -> Result<Answer, Refusal>
+        requires { IsTrue (is_valid (request_of command.now)) }
+        ensures answered { AnswersFor self.old (request_of command.now) result self.new }
+        ensures counted { CountsFor self.old (request_of command.now) result steps.old steps.new }
+        ensures err { OnErr result (self.new ≡ self.old) }
+        ensures no_memory { IsTrue (takes_no_memory (request_of command.now)) → IfErr result (λ refusal. refusal ≢ Refusal.Memory) }
+    {
         match command {
             Command::Connect { client, user } => self.connect(client.as_str(), user.as_deref()),
             Command::Disconnect { client } => self.disconnect(client.as_str()),
@@ -80,14 +124,18 @@ impl Router {
                 filter,
                 qos,
                 no_local,
+                rap,
+                handling,
                 id,
             } => {
                 let options = Options {
                     qos: *qos,
                     no_local: *no_local,
+                    rap: *rap,
+                    handling: *handling,
                     id: *id,
                 };
-                self.subscribe(client.as_str(), filter.as_str(), options)
+                self.subscribe(client.as_str(), filter.as_str(), options, steps)
             }
             Command::Unsubscribe { client, filter } => {
                 self.unsubscribe(client.as_str(), filter.as_str())
@@ -97,8 +145,25 @@ impl Router {
                 topic,
                 payload,
                 qos,
-            } => self.publish(client.as_str(), topic.as_str(), payload.as_str(), *qos),
+                retain,
+                expiry,
+            } => {
+                let properties = Properties {
+                    qos: *qos,
+                    retain: *retain,
+                    expiry: *expiry,
+                };
+                self.publish(
+                    client.as_str(),
+                    topic.as_str(),
+                    payload.as_str(),
+                    properties,
+                    steps,
+                )
+            }
             Command::SetAcl { text } => self.set_acl(text.as_deref()),
+            Command::Advance { seconds } => self.advance(*seconds, steps),
+            Command::Stat => Ok(self.stat()),
         }
     }
 
@@ -143,19 +208,54 @@ impl Router {
         Ok(with_reason(self.alloc, 0))
     }
 
-    fn subscribe(&mut self, client: &str, text: &str, options: Options) -> Result<Answer, Refusal>
+    fn subscribe(
+        &mut self,
+        client: &str,
+        text: &str,
+        options: Options,
+        steps: &mut Steps,
+    ) -> Result<Answer, Refusal>
         ensures applied { Applied self.old (world.Subscribe client.now text.now (options_of options)) result self.new }
+        ensures counted { CountsSteps self.old (world.Subscribe client.now text.now (options_of options)) result steps.old steps.new }
         ensures err { OnErr result (self.new ≡ self.old) }
     {
         self.check_client(client)?;
-        let filter = parse_filter(self.alloc, text)?;
-        let client = String::from_str(self.alloc, client)?;
-        self.subscriptions.put(Subscription {
+        let wanted = parse_filter(self.alloc, text)?;
+        if is_shared_no_local(&wanted, options.no_local) {
+            return Err(Refusal::SharedNoLocal);
+        }
+        let copies = self.copies_sent(client, &wanted, options, steps)?;
+        self.subscriptions.put(client, &wanted, options)?;
+        Ok(Answer {
+            copies,
+            outcome: Outcome::Reason(options.qos),
+        })
+    }
+
+    // The copies of retained messages that a subscribe sends.
+    fn copies_sent(
+        &self,
+        client: &str,
+        wanted: &SubFilter,
+        options: Options,
+        steps: &mut Steps,
+    ) -> Result<Vec<Delivery>, AllocError>
+        ensures copies { IfOk result (λ copies. copies_in copies ≡ copies_sent self.now (wanted_row client.now wanted.now options)) }
+        ensures count { OnOk result (steps.new ≡ steps.old + steps_sent self.now (wanted_row client.now wanted.now options)) }
+    {
+        if !asks_for_retained(&self.subscriptions, client, wanted, options) {
+            return Ok(Vec::new(self.alloc));
+        }
+        let receiver = Receiver {
+            access: &self.access,
+            clock: self.clock,
+            user: self.sessions.user(client),
             client,
-            filter,
+            filter: &wanted.filter,
             options,
-        })?;
-        Ok(with_reason(self.alloc, options.qos))
+        };
+        let copies = self.retained.copies(&receiver, steps)?;
+        Ok(copies)
     }
 
     fn unsubscribe(&mut self, client: &str, text: &str) -> Result<Answer, Refusal>
@@ -163,14 +263,26 @@ impl Router {
         ensures err { OnErr result (self.new ≡ self.old) }
     {
         self.check_client(client)?;
-        let filter = parse_filter(self.alloc, text)?;
-        let existed = self.subscriptions.contains(client, &filter);
-        self.subscriptions.remove(client, &filter);
+        let wanted = parse_filter(self.alloc, text)?;
+        let existed = self.subscriptions.contains(client, &wanted);
+        self.subscriptions.remove(client, wanted);
         Ok(with_reason(self.alloc, reason_to_leave(existed)))
     }
 
-    fn publish(&self, client: &str, topic: &str, payload: &str, qos: u8) -> Result<Answer, Refusal>
-        ensures { Applied self.now (world.Publish (record { publisher = client.now; topic = topic.now; payload = payload.now; qos = qos })) result self.now }
+    // All copies are made before anything changes; then the message is stored, or nothing changes; the turns, which cannot
+    // fail, come last.
+    fn publish(
+        &mut self,
+        client: &str,
+        topic: &str,
+        payload: &str,
+        properties: Properties,
+        steps: &mut Steps,
+    ) -> Result<Answer, Refusal>
+        ensures applied { Applied self.old (world.Publish (published_message client.now topic.now payload.now properties)) result self.new }
+        ensures counted { CountsSteps self.old (world.Publish (published_message client.now topic.now payload.now properties)) result
+            steps.old steps.new }
+        ensures err { OnErr result (self.new ≡ self.old) }
     {
         self.check_client(client)?;
         let name = parse_name(self.alloc, topic)?;
@@ -181,12 +293,18 @@ impl Router {
             publisher: client,
             topic: &name,
             payload,
-            qos,
+            qos: properties.qos,
+            retain: properties.retain,
+            expiry: properties.expiry,
         };
-        let copies = self
-            .sessions
-            .copies(self.alloc, &self.access, &self.subscriptions, &message)?;
-        Ok(published(copies))
+        let readers = Readers {
+            access: &self.access,
+            sessions: &self.sessions,
+        };
+        let made = make_copies(self.alloc, &readers, &self.subscriptions, &message, steps)?;
+        self.retained.publish(self.clock, &message)?;
+        serve_all(&mut self.subscriptions, made.served.as_slice());
+        Ok(published(made.copies))
     }
 
     fn set_acl(&mut self, text: Option<&str>) -> Result<Answer, Refusal>
@@ -197,61 +315,32 @@ impl Router {
         self.access = access;
         Ok(with_reason(self.alloc, 0))
     }
-}
 
-ghost use Rattle.std.specs.Prelude.{IfOk, string_bytes, ◌⊎◌};
-ghost use Rattle.std.specs.Option.{option_map};
-ghost use Rattle.mq_router.specs.Refusals.{faulty_line};
-ghost use Rattle.mq_router.specs.After.{access_of};
-
-fn copied(alloc: Global, text: Option<&str>) -> Result<Option<String>, AllocError>
-    ensures { IfOk result (λ copy. option_map string_bytes copy ≡ option_copied text.entry) }
-{
-    match text {
-        None => Ok(None),
-        Some(text) => Ok(Some(String::from_str(alloc, text)?)),
+    fn advance(&mut self, seconds: u64, steps: &mut Steps) -> Result<Answer, Refusal>
+        ensures applied { Applied self.old (world.Advance seconds) result self.new }
+        ensures counted { CountsSteps self.old (world.Advance seconds) result steps.old steps.new }
+        ensures err { OnErr result (self.new ≡ self.old) }
+        ensures no_memory { IfErr result (λ refusal. refusal ≢ Refusal.Memory) }
+    {
+        let Some(clock) = self.clock.later(seconds) else {
+            return Err(Refusal::ClockTooFar);
+        };
+        self.clock = clock;
+        self.retained.advance(clock.moment, steps);
+        Ok(with_reason(self.alloc, 0))
     }
-}
 
-// The access list of a text, or none without a text.
-fn read_access(alloc: Global, text: Option<&str>) -> Result<Option<Acl>, Refusal>
-    ensures ok { IfOk result (λ access. (access ≡ access_of (option_copied text.entry)) × (faulty_line (option_copied text.entry) ≡ None)) }
-    ensures err { IfErr result (λ refusal. (refusal ≡ Refusal.Memory) ⊎ (option_map (λ line. Refusal.AclLine line) (faulty_line (option_copied text.entry)) ≡ Some refusal)) }
-{
-    let Some(text) = text else {
-        return Ok(None);
-    };
-    match Acl::read(alloc, text) {
-        Ok(acl) => Ok(Some(acl)),
-        Err(fault) => match fault.kind {
-            AclKind::Memory => Err(Refusal::Memory),
-            _ => Err(Refusal::AclLine { line: fault.line }),
-        },
-    }
-}
-
-// An answer without copies.
-fn with_reason(alloc: Global, code: u8) -> Answer
-    ensures { reply_of result ≡ reason code }
-{
-    Answer {
-        copies: Vec::new(alloc),
-        outcome: Outcome::Reason(code),
-    }
-}
-
-fn reason_to_leave(existed: bool) -> u8
-    ensures { result ≡ (if existed then 0 else 17) }
-{
-    if existed { 0 } else { 17 }
-}
-
-fn published(copies: Vec<Delivery>) -> Answer
-    ensures { reply_of result ≡ published (map copy_of copies.items) }
-{
-    let code = if copies.is_empty() { 16 } else { 0 };
-    Answer {
-        copies,
-        outcome: Outcome::Reason(code),
+    fn stat(&self) -> Answer
+        ensures { reply_of result ≡ record { copies = []; outcome = counts_held self.now } }
+    {
+        let nodes = self.subscriptions.nodes();
+        Answer {
+            copies: Vec::new(self.alloc),
+            outcome: Outcome::Counts {
+                nodes: nodes.saturating_add(self.retained.nodes()),
+                retained: self.retained.len(),
+                subscriptions: self.subscriptions.len(),
+            },
+        }
     }
 }

@@ -1,17 +1,12 @@
 //! The clients that are connected.
-ghost use Rattle.std.specs.Prelude.{◌≡◌, [], not, OnOk, OnErr, IfOk, map, string_bytes};
+ghost use Rattle.std.specs.Prelude.{◌≡◌, [], not, OnOk, OnErr, length, map, string_bytes};
 ghost use Rattle.std.specs.Option.{option_copied, option_map};
-ghost use Rattle.std.specs.List.{filter, list_any};
+ghost use Rattle.std.specs.List.{filter};
+ghost use Rattle.std.specs.List.Sorted.{IsStrictlySortedBy};
 ghost use Rattle.mq_router.specs.Lists.{with_row};
 ghost use Rattle.mq_router.specs.World.{has_id, session_cmp};
-ghost use Rattle.mq_router.specs.Refusals.{is_connected, user_of};
-ghost use Rattle.mq_router.specs.Copies.{direct_copies};
-ghost use Rattle.mq_router.specs.Views.{copy_of};
+ghost use Rattle.mq_router.specs.Sessions.{is_connected, user_of, new_session};
 
-use crate::answer::Delivery;
-use crate::copies::{Message, copies_for};
-use crate::subscriptions::Subscriptions;
-use mq_acl::Acl;
 use std::alloc::{AllocError, Global};
 use std::collections::BTreeMap;
 use std::marker::Model;
@@ -34,14 +29,20 @@ impl Model for Sessions {
 }
 
 impl Sessions {
-    ghost use Rattle.mq_router.specs.Held.{message_of};
-
     pub(crate) fn new(alloc: Global) -> Self
         ensures { result ≡ [] }
     {
         Sessions {
             users: BTreeMap::new(alloc),
         }
+    }
+
+    /// How many clients are connected.
+    pub(crate) fn len(&self) -> usize
+        ensures len { result ≡ length self.now }
+        ensures ordered { IsStrictlySortedBy session_cmp self.now }
+    {
+        self.users.len()
     }
 
     pub(crate) fn contains(&self, id: &str) -> bool
@@ -59,7 +60,7 @@ impl Sessions {
 
     /// Adds a session, in place of an older one of the client.
     pub(crate) fn put(&mut self, id: String, user: Option<String>) -> Result<(), AllocError>
-        ensures ok { OnOk result (self.new ≡ with_row session_cmp (record { id = string_bytes id; user = option_map string_bytes user }) self.old) }
+        ensures ok { OnOk result (self.new ≡ with_row session_cmp (new_session (string_bytes id) (option_map string_bytes user)) self.old) }
         ensures err { OnErr result (self.new ≡ self.old) }
     {
         self.users.insert(id, user)?;
@@ -72,19 +73,6 @@ impl Sessions {
         // Learns that the keys are in order.
         let _count = self.users.len();
         let _ = self.users.remove(id);
-    }
-
-    /// The copies of a message for the clients, by client id.
-    pub(crate) fn copies(
-        &self,
-        alloc: Global,
-        access: &Option<Acl>,
-        subscriptions: &Subscriptions,
-        message: &Message,
-    ) -> Result<Vec<Delivery>, AllocError>
-        ensures { IfOk result (λ copies. map copy_of copies.items ≡ direct_copies access.now self.now subscriptions.now (message_of message.now)) }
-    {
-        copies_for(alloc, access, &self.users, subscriptions, message)
     }
 }
 

@@ -1,154 +1,339 @@
-//! The subscriptions of all clients, in a plain list.
-ghost use Rattle.std.specs.Prelude.{◌≡◌, [], ◌∷◌, ◌++◌, not, OnOk, OnErr, IfOk, map, string_bytes};
-ghost use Rattle.std.specs.List.{filter, list_any};
+//! The subscriptions of all clients.
+ghost use Rattle.std.specs.Prelude.{◌≡◌, ◌+◌, [], length, not, OnOk, OnErr, IfOk, map, string_bytes};
+ghost use Rattle.std.specs.Option.{option_map};
+ghost use Rattle.std.specs.List.{filter, list_any, flat_map};
+ghost use Rattle.mq_tree.specs.Entries.{capped};
+ghost use Rattle.mq_tree.specs.Prefixes.{prefixes, met_by_name};
 ghost use Rattle.mq_router.specs.Lists.{same_text};
 ghost use Rattle.mq_router.specs.World.{has_key};
+ghost use Rattle.mq_router.specs.Asked.{wanted_row, has_wanted, ListsMore, ListsLess, NoneEmptied};
+ghost use Rattle.mq_router.specs.Gathers.{seen};
+ghost use Rattle.mq_router.specs.Made.{rows_found};
+ghost use Rattle.mq_router.specs.Copies.{filter_matches};
+ghost use Rattle.mq_router.specs.Turns.{SameInTurn};
+ghost use Rattle.mq_router.specs.Applied.{joined, put_last};
+ghost use Rattle.mq_router.specs.Kept.{row, At, AreKeys};
 
-use crate::copies::Message;
-use mq_topic::{LevelText, TopicFilter, matches};
+use crate::at_filter::AtFilter;
+use crate::options::Options;
+use crate::own::{Key, Own};
+use mq_topic::{SubFilter, TopicFilter, TopicName};
+use mq_tree::{LevelTree, Steps};
 use std::alloc::{AllocError, Global};
+use std::collections::BTreeMap;
 use std::marker::Model;
 
-/// What a subscription asks for beside its filter.
-#[derive(Clone, Copy, Debug)]
-pub(crate) struct Options {
-    pub(crate) qos: u8,
-    pub(crate) no_local: bool,
-    pub(crate) id: Option<u32>,
-}
-
-/// A client's subscription to a filter.
-#[derive(Debug, Drop)]
-pub(crate) struct Subscription {
-    pub(crate) client: String,
-    pub(crate) filter: TopicFilter,
-    pub(crate) options: Options,
-}
-
-/// The subscriptions, one for each client and filter, in the order in which they came.
-#[derive(Debug, Drop)]
+/// The subscriptions, by their filters, and for each client that has any its own, so that its end walks no other's.
+#[derive(Drop)]
 pub(crate) struct Subscriptions {
-    all: Vec<Subscription>,
+    alloc: Global,
+    tree: LevelTree<AtFilter>,
+    lists: BTreeMap<String, Own>,
 }
 
 impl Model for Subscriptions {
-    ghost use Rattle.std.specs.Prelude.{List};
-    ghost use Rattle.mq_router.specs.World.{Subscription};
+    ghost use Rattle.mq_router.specs.Kept.{KeptSubscriptions};
 
-    ghost Value = { List Subscription };
+    ghost Value = { KeptSubscriptions };
 
-    ghost use Rattle.mq_router.specs.Held.{subscriptions_of};
+    ghost use Rattle.mq_router.specs.Held.{subscriptions_of, AreSubscriptions};
 
     ghost view = { subscriptions_of };
+
+    ghost invariant = { AreSubscriptions };
 }
 
 impl Subscriptions {
-    ghost use Rattle.mq_router.specs.Held.{subscription_of, options_of, message_of};
-    ghost use Rattle.mq_router.specs.Copies.{options_for};
-
     pub(crate) fn new(alloc: Global) -> Self
-        ensures { result ≡ [] }
+        ensures { result ≡ record { rows = []; keys = [] } }
     {
         Subscriptions {
-            all: Vec::new(alloc),
+            alloc,
+            tree: LevelTree::new(alloc),
+            lists: BTreeMap::new(alloc),
         }
     }
 
-    /// Adds a subscription, in place of an older one with its key.
-    pub(crate) fn put(&mut self, new: Subscription) -> Result<(), AllocError>
-        ensures ok { OnOk result (self.new ≡ filter (λ s. not (has_key (string_bytes new.client) new.filter s)) self.old ++ subscription_of new ∷ []) }
+    pub(crate) fn contains(&self, client: &str, wanted: &SubFilter) -> bool
+        ensures { result ≡ list_any (has_wanted client.now wanted.now) self.now.rows }
+    {
+        contains_in(&self.tree, client, wanted)
+    }
+
+    /// Adds a subscription, in the place of the one with its key.
+    pub(crate) fn put(
+        &mut self,
+        client: &str,
+        wanted: &SubFilter,
+        options: Options,
+    ) -> Result<(), AllocError>
+        ensures ok { OnOk result (SameInTurn self.new.rows (joined (wanted_row client.now wanted.now options) self.old.rows)) }
+        ensures keys { OnOk result (AreKeys self.new) }
         ensures err { OnErr result (self.new ≡ self.old) }
     {
-        put_into(&mut self.all, new)
+        put_in(
+            &mut self.tree,
+            &mut self.lists,
+            self.alloc,
+            client,
+            wanted,
+            options,
+        )
     }
 
-    pub(crate) fn contains(&self, client: &str, wanted: &TopicFilter) -> bool
-        ensures { result ≡ list_any (has_key client.now wanted.now) self.now }
+    /// Takes a subscription out. It takes no memory.
+    pub(crate) fn remove(&mut self, client: &str, wanted: SubFilter)
+        ensures rows { self.new.rows ≡ filter (λ s. not (has_wanted client.now wanted s)) self.old.rows }
+        ensures keys { AreKeys self.new }
     {
-        any_with_key(self.all.as_slice(), client, wanted)
+        take_out(&mut self.tree, &mut self.lists, client, wanted);
     }
 
-    pub(crate) fn remove(&mut self, client: &str, wanted: &TopicFilter)
-        ensures { self.new ≡ filter (λ s. not (has_key client.now wanted.now s)) self.old }
-    {
-        remove_key(&mut self.all, client, wanted);
-    }
-
+    /// Takes a client's subscriptions out, and no other is looked at. It takes no memory.
     pub(crate) fn remove_client(&mut self, client: &str)
-        ensures { self.new ≡ filter (λ s. not (same_text s.client client.now)) self.old }
+        ensures rows { self.new.rows ≡ filter (λ s. not (same_text s.client client.now)) self.old.rows }
+        ensures keys { AreKeys self.new }
     {
-        remove_client(&mut self.all, client);
+        take_all(&mut self.tree, &mut self.lists, client);
     }
 
-    /// The options of the client's subscriptions that take part in a message.
-    pub(crate) fn options_for(
+    /// What is kept at the filters that match the name, in level order of the filters.
+    pub(crate) fn candidates(
         &self,
-        alloc: Global,
-        message: &Message,
-        client: &str,
-    ) -> Result<Vec<Options>, AllocError>
-        ensures { IfOk result (λ v. map options_of v.items ≡ options_for self.now (message_of message.now) client.now) }
+        name: &TopicName,
+        steps: &mut Steps,
+    ) -> Result<Vec<&AtFilter>, AllocError>
+        ensures rows { IfOk result (λ found. rows_found (seen found.items) ≡ filter (λ s. filter_matches s.filter name.now) self.now.rows) }
+        ensures order { IfOk result (λ found. AreAtFilters name.now (seen found.items)) }
+        ensures count { OnOk result (steps.new ≡ steps.old + length (met_by_name (levels name.now) (prefixes self.now.keys))) }
     {
-        Ok(options_among(alloc, self.all.as_slice(), message, client)?)
+        Ok(self.tree.for_name(name, steps)?)
+    }
+
+    /// A member of a group goes last. It takes no memory.
+    pub(crate) fn serve(&mut self, share: &str, wanted: &TopicFilter, client: &str)
+        ensures rows { SameInTurn self.new.rows (put_last (has_key client.now (Some share.now) wanted.now) self.old.rows) }
+        ensures keys { AreKeys self.new }
+    {
+        serve_in(&mut self.tree, share, wanted, client);
+    }
+
+    /// How many subscriptions there are, at most `u64::MAX`, by a walk over the tree. It takes no memory.
+    pub(crate) fn len(&self) -> u64
+        ensures { result ≡ capped (length self.now.rows) }
+    {
+        self.tree.total()
+    }
+
+    /// How many nodes the tree keeps, at most `u64::MAX`. It takes no memory.
+    pub(crate) fn nodes(&self) -> u64
+        ensures { result ≡ capped (length (prefixes self.now.keys)) }
+    {
+        self.tree.nodes()
     }
 }
 
-ghost use Rattle.mq_router.specs.Held.{subscription_of, options_of, message_of};
-ghost use Rattle.mq_router.specs.Copies.{takes_part};
+ghost use Rattle.std.specs.Prelude.{Some, true, false, IsSome, None};
+ghost use Rattle.std.specs.Map.{lookup};
+ghost use Rattle.mq_topic.specs.Levels.{levels};
+ghost use Rattle.mq_tree.specs.Entries.{is_key};
+ghost use Rattle.mq_router.specs.Kept.{all_rows, AreKept, AreAtFilters, is_listed};
+ghost use Rattle.mq_router.specs.KeptViews.{texts};
+ghost use Rattle.mq_router.specs.World.{Subscription};
 
-fn has_key(subscription: &Subscription, client: &str, wanted: &TopicFilter) -> bool
-    ensures { result ≡ has_key client.now wanted.now (subscription_of subscription.now) }
+fn contains_in(tree: &LevelTree<AtFilter>, client: &str, wanted: &SubFilter) -> bool
+    requires { AreKept tree.now }
+    ensures { result ≡ list_any (has_wanted client.now wanted.now) (all_rows tree.now) }
 {
-    subscription.client.as_str() == client && subscription.filter.text() == wanted.text()
+    match tree.get(&wanted.filter) {
+        Some(at) => at.contains(wanted.share.as_deref(), client),
+        None => false,
+    }
 }
 
-fn any_with_key(all: &[Subscription], client: &str, wanted: &TopicFilter) -> bool
-    ensures { result ≡ list_any (λ s. has_key client.now wanted.now (subscription_of s)) all.now }
+fn join_in(
+    tree: &mut LevelTree<AtFilter>,
+    alloc: Global,
+    client: &str,
+    wanted: &SubFilter,
+    options: Options,
+) -> Result<(), AllocError>
+    requires { AreKept tree.old }
+    ensures ok { OnOk result (SameInTurn (all_rows tree.new) (joined (wanted_row client.now wanted.now options) (all_rows tree.old))) }
+    ensures err { OnErr result (tree.new ≡ tree.old) }
+    ensures kept { AreKept tree.new }
 {
-    all.iter().any(|s| has_key(s, client, wanted))
+    let client = String::from_str(alloc, client)?;
+    match tree.get_mut(&wanted.filter) {
+        Some(at) => {
+            at.join(alloc, wanted.share.as_deref(), client, options)?;
+            Ok(())
+        }
+        None => add_in(tree, alloc, client, wanted, options),
+    }
 }
 
-fn remove_key(all: &mut Vec<Subscription>, client: &str, wanted: &TopicFilter)
-    ensures { map subscription_of all.new.items ≡ filter (λ s. not (has_key client.now wanted.now s)) (map subscription_of all.old.items) }
+// A filter with one subscription, made aside.
+fn add_in(
+    tree: &mut LevelTree<AtFilter>,
+    alloc: Global,
+    client: String,
+    wanted: &SubFilter,
+    options: Options,
+) -> Result<(), AllocError>
+    requires kept { AreKept tree.old }
+    requires absent { lookup (is_key (levels wanted.now.filter)) tree.old ≡ None }
+    ensures ok { OnOk result (SameInTurn (all_rows tree.new) (joined (wanted_row (string_bytes client) wanted.now options) (all_rows tree.old))) }
+    ensures err { OnErr result (tree.new ≡ tree.old) }
+    ensures kept { AreKept tree.new }
 {
-    all.retain(|s| !has_key(s, client, wanted));
-}
-
-fn remove_client(all: &mut Vec<Subscription>, client: &str)
-    ensures { map subscription_of all.new.items ≡ filter (λ s. not (same_text s.client client.now)) (map subscription_of all.old.items) }
-{
-    all.retain(|s| s.client.as_str() != client);
-}
-
-// Room first: after it nothing fails.
-fn put_into(all: &mut Vec<Subscription>, new: Subscription) -> Result<(), AllocError>
-    ensures ok { OnOk result (map subscription_of all.new.items ≡ filter (λ s. not (has_key (string_bytes new.client) new.filter s)) (map subscription_of all.old.items) ++ subscription_of new ∷ []) }
-    ensures err { OnErr result (all.new.items ≡ all.old.items) }
-{
-    all.reserve(1)?;
-    all.retain(|s| !has_key(s, new.client.as_str(), &new.filter));
-    all.push(new)?;
+    let mut at = AtFilter::new(alloc, wanted.filter.clone()?);
+    at.join(alloc, wanted.share.as_deref(), client, options)?;
+    tree.put(&wanted.filter, at)?;
     Ok(())
 }
 
-fn takes_part(subscription: &Subscription, message: &Message, client: &str) -> bool
-    ensures { result ≡ takes_part (message_of message.now) client.now (subscription_of subscription.now) }
+// Takes a subscription out, and the filter with its last one.
+pub(crate) fn leave_in(tree: &mut LevelTree<AtFilter>, client: &str, wanted: &SubFilter)
+    requires { AreKept tree.old }
+    ensures rows { all_rows tree.new ≡ filter (λ s. not (has_wanted client.now wanted.now s)) (all_rows tree.old) }
+    ensures kept { AreKept tree.new }
 {
-    subscription.client.as_str() == client
-        && matches(&subscription.filter, message.topic)
-        && !(subscription.options.no_local && client == message.publisher)
+    let Some(at) = tree.get_mut(&wanted.filter) else {
+        return;
+    };
+    at.leave(wanted.share.as_deref(), client);
+    if at.is_bare() {
+        let _ = tree.take(&wanted.filter);
+    }
 }
 
-fn options_among(
-    alloc: Global,
-    all: &[Subscription],
-    message: &Message,
-    client: &str,
-) -> Result<Vec<Options>, AllocError>
-    ensures { IfOk result (λ v. v.items ≡ map (λ s. s.options) (filter (λ s. takes_part (message_of message.now) client.now (subscription_of s)) all.now)) }
+fn serve_in(tree: &mut LevelTree<AtFilter>, share: &str, wanted: &TopicFilter, client: &str)
+    requires { AreKept tree.old }
+    ensures turned { SameInTurn (all_rows tree.new) (put_last (has_key client.now (Some share.now) wanted.now) (all_rows tree.old)) }
+    ensures kept { AreKept tree.new }
 {
-    all.iter()
-        .filter(|s| takes_part(s, message, client))
-        .map(|s| s.options)
-        .collect(alloc)
+    match tree.get_mut(wanted) {
+        Some(at) => at.serve(share, client),
+        None => {}
+    }
+}
+
+ghost use Rattle.std.specs.Prelude.{◌&&◌, ◌||◌};
+ghost use Rattle.std.specs.List.{AllByRecursion};
+ghost use Rattle.mq_router.specs.Kept.{AreListed, is_empty, is_text, OwnKey};
+ghost use Rattle.mq_router.specs.OwnViews.{key_of};
+
+// Where there is no memory, nothing is left beside the tree that leads to no subscription.
+fn put_in(
+    tree: &mut LevelTree<AtFilter>,
+    lists: &mut BTreeMap<String, Own>,
+    alloc: Global,
+    client: &str,
+    wanted: &SubFilter,
+    options: Options,
+) -> Result<(), AllocError>
+    requires { AreListed tree.old (texts lists.old.entries) }
+    ensures ok { OnOk result (SameInTurn (all_rows tree.new) (joined (wanted_row client.now wanted.now options) (all_rows tree.old))) }
+    ensures err { OnErr result (tree.new ≡ tree.old) }
+    ensures listed { AreListed tree.new (texts lists.new.entries) }
+{
+    if contains_in(tree, client, wanted) {
+        join_in(tree, alloc, client, wanted, options)?;
+        return Ok(());
+    }
+    let key = Key::of(alloc, wanted)?;
+    list_add(lists, alloc, client, wanted)?;
+    match join_in(tree, alloc, client, wanted, options) {
+        Ok(()) => Ok(()),
+        Err(fault) => {
+            list_remove(lists, client, &key);
+            Err(fault)
+        }
+    }
+}
+
+fn take_out(
+    tree: &mut LevelTree<AtFilter>,
+    lists: &mut BTreeMap<String, Own>,
+    client: &str,
+    wanted: SubFilter,
+)
+    requires { AreListed tree.old (texts lists.old.entries) }
+    ensures rows { all_rows tree.new ≡ filter (λ s. not (has_wanted client.now wanted s)) (all_rows tree.old) }
+    ensures listed { AreListed tree.new (texts lists.new.entries) }
+{
+    leave_in(tree, client, &wanted);
+    list_remove(lists, client, &Key::from_filter(wanted));
+}
+
+fn take_all(tree: &mut LevelTree<AtFilter>, lists: &mut BTreeMap<String, Own>, client: &str)
+    requires { AreListed tree.old (texts lists.old.entries) }
+    ensures rows { all_rows tree.new ≡ filter (λ s. not (same_text s.client client.now)) (all_rows tree.old) }
+    ensures listed { AreListed tree.new (texts lists.new.entries) }
+{
+    let _count = lists.len();
+    match lists.remove(client) {
+        Some(own) => own.leave_all(tree, client),
+        None => {}
+    }
+}
+
+ghost use Rattle.mq_router.specs.Kept.{wanted_key};
+
+fn list_add(
+    lists: &mut BTreeMap<String, Own>,
+    alloc: Global,
+    client: &str,
+    wanted: &SubFilter,
+) -> Result<(), AllocError>
+    requires { NoneEmptied lists.old.entries }
+    ensures ok { OnOk result (ListsMore client.now wanted.now lists.old.entries lists.new.entries) }
+    ensures err { OnErr result (lists.new.entries ≡ lists.old.entries) }
+    ensures live { NoneEmptied lists.new.entries }
+{
+    match lists.get_mut(client) {
+        Some(own) => {
+            own.add(alloc, wanted)?;
+            Ok(())
+        }
+        None => list_begin(lists, alloc, client, wanted),
+    }
+}
+
+// A client's first one, made aside.
+fn list_begin(
+    lists: &mut BTreeMap<String, Own>,
+    alloc: Global,
+    client: &str,
+    wanted: &SubFilter,
+) -> Result<(), AllocError>
+    requires live { NoneEmptied lists.old.entries }
+    requires absent { lookup (is_text client.now) (texts lists.old.entries) ≡ None }
+    ensures ok { OnOk result (ListsMore client.now wanted.now lists.old.entries lists.new.entries) }
+    ensures err { OnErr result (lists.new.entries ≡ lists.old.entries) }
+    ensures live { NoneEmptied lists.new.entries }
+{
+    let _count = lists.len();
+    let client = String::from_str(alloc, client)?;
+    let mut own = Own::new(alloc);
+    own.add(alloc, wanted)?;
+    lists.insert(client, own)?;
+    Ok(())
+}
+
+// Takes a key out, and with its last one the client.
+fn list_remove(lists: &mut BTreeMap<String, Own>, client: &str, key: &Key)
+    requires { NoneEmptied lists.old.entries }
+    ensures rest { ListsLess client.now (key_of key.now) lists.old.entries lists.new.entries }
+    ensures live { NoneEmptied lists.new.entries }
+{
+    let _count = lists.len();
+    let Some(own) = lists.get_mut(client) else {
+        return;
+    };
+    own.remove(key);
+    if own.is_empty() {
+        let _ = lists.remove(client);
+    }
 }

@@ -2,6 +2,7 @@ use Rattle.std.proofs.Common.{◌≡◌, ◌∙◌, sym, ap, subst, Err, None}
 use Rattle.std.proofs.lemmas.Result.{err_from_is_err_and}
 use Rattle.mq_router.specs.World.{Disconnect}
 use Rattle.mq_router.specs.Refusals.{first_refusal, client_conditions}
+use Rattle.mq_router.specs.Held.{state_of}
 use Rattle.mq_router.specs.StandsFor.{State}
 use Rattle.mq_router.specs.Applied.{Does}
 use Rattle.mq_router.specs.Views.{reply_of}
@@ -16,9 +17,10 @@ returns-in_err-check_client-clause-applied c =
 
 pub returns-clause-applied : goal.returns-clause-applied
 returns-clause-applied c =
-    let s : State = record { access = c.self.inside.access; sessions = c.self.inside.sessions; subscriptions = c.self.inside.subscriptions } in
+    let s : State = state_of c.self.inside in
     let id = c.args.client.now in
-    let new : State = record { access = s.access; sessions = c.remove.new.self; subscriptions = c.remove_client.new.self } in
+    let subs = c.remove_client.new.self in
+    let new : State = record s { sessions = c.remove.new.self; subscriptions = subs.rows; filter_keys = subs.keys } in
     let tested : None ≡ first_refusal (client_conditions s.sessions id) = c.in_ok-check_client.ensures ∙ ap (λ (v : State). first_refusal (client_conditions v.sessions id)) (sym c.self.view_is) in
     subst (λ (v : State). Does v (Disconnect id) (reply_of c.with_reason.result) new) c.self.view_is
-    (disconnect-does s id c.remove.new.self c.remove_client.new.self _ tested c.with_reason.ensures c.remove.ensures c.remove_client.ensures)
+    (disconnect-does s id c.remove.new.self subs _ tested c.with_reason.ensures c.remove.ensures c.remove_client.ensures.rows c.remove_client.ensures.keys)

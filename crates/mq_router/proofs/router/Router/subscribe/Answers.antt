@@ -1,14 +1,19 @@
-use Rattle.std.proofs.Common.{◌≡◌, ◌∙◌, ◌++◌, ◌∷◌, [], sym, ap, subst, Err, None, not}
+use Rattle.std.proofs.Common.{◌≡◌, ◌∙◌, sym, ap, subst, Err, None}
 use Rattle.std.proofs.lemmas.Result.{err_from_is_err_and}
-use Rattle.std.specs.List.{filter}
-use Rattle.mq_router.specs.World.{Subscribe, Subscription, Options, has_key}
+use Rattle.mq_router.specs.World.{Subscribe, Subscription, Options, asked}
 use Rattle.mq_router.specs.Lists.{Text}
 use Rattle.mq_router.specs.Refusals.{first_refusal, client_conditions}
 use Rattle.mq_router.specs.StandsFor.{State}
-use Rattle.mq_router.specs.Applied.{Does}
-use Rattle.mq_router.specs.Views.{reply_of}
-use Rattle.mq_router.specs.Held.{options_of}
-use Rattle.mq_router.proofs.RouterLemmas.{refused-applied, subscribe-client, subscribe-filter, subscribe-does}
+use Rattle.mq_router.specs.Applied.{Does, joined, copies_sent}
+use Rattle.mq_router.specs.Views.{copy_of}
+use Rattle.mq_router.specs.Kept.{options_of}
+use Rattle.mq_router.specs.Held.{state_of}
+use Rattle.mq_router.proofs.InTurn.{same-is, same-then}
+use Rattle.mq_router.proofs.RouterLemmas.{refused-applied, subscribe-client, subscribe-filter, subscribe-shared, subscribe-does}
+use Rattle.std.proofs.Common.{map, Option, Some, String, Global, is_some, ◌&&◌, refl, string_bytes}
+use Rattle.std.specs.Option.{option_map}
+use Rattle.mq_topic.specs.Texts.{share_of}
+use Rattle.mq_router.specs.declared.answer.Outcome.TheVariants.{Reason}
 use Rattle.mq_router.proofs.router.Router.subscribe.Goals as goal
 
 pub returns-in_err-check_client-clause-applied : goal.returns-in_err-check_client-clause-applied
@@ -17,25 +22,39 @@ returns-in_err-check_client-clause-applied c =
     refused-applied c.args.self.now _ c.from_residual.result c.in_err-check_client.field-0.0 c.args.self.now (p.1 ∙ ap (λ e. Err e) p.2)
     (subscribe-client c.args.self.now c.args.client.now c.args.text.now (options_of c.args.options) _ c.in_err-check_client.ensures)
 
-pub returns-in_err-filter-clause-applied : goal.returns-in_err-filter-clause-applied
-returns-in_err-filter-clause-applied c =
-    let p = err_from_is_err_and c.from_residual-in_err-filter.result c.from_residual-in_err-filter.ensures.1 in
-    refused-applied c.args.self.now _ c.from_residual-in_err-filter.result c.in_err-filter.field-0.0 c.args.self.now (p.1 ∙ ap (λ e. Err e) p.2)
-    (subscribe-filter c.args.self.now c.args.client.now c.args.text.now (options_of c.args.options) _ c.in_ok-check_client.ensures c.in_err-filter.ensures.err)
+pub returns-in_err-wanted-clause-applied : goal.returns-in_err-wanted-clause-applied
+returns-in_err-wanted-clause-applied c =
+    let p = err_from_is_err_and c.from_residual-in_err-wanted.result c.from_residual-in_err-wanted.ensures.1 in
+    refused-applied c.args.self.now _ c.from_residual-in_err-wanted.result c.in_err-wanted.field-0.0 c.args.self.now (p.1 ∙ ap (λ e. Err e) p.2)
+    (subscribe-filter c.args.self.now c.args.client.now c.args.text.now (options_of c.args.options) _ c.in_ok-check_client.ensures c.in_err-wanted.ensures.err)
 
-abbrev keyed : Text → Text → Options → Subscription
-keyed client text options = record { client = client; filter = text; options = options }
+some_told : (o : Option (String Global)) → is_some o ≡ is_some (option_map string_bytes o)
+some_told None = refl
+some_told (Some x) = refl
+
+pub returns-then-is_shared_no_local-clause-applied : goal.returns-then-is_shared_no_local-clause-applied
+returns-then-is_shared_no_local-clause-applied c =
+    let ok = c.in_ok-wanted.ensures.ok in
+    subscribe-shared c.args.self.now c.args.client.now c.args.text.now (options_of c.args.options) c.in_ok-check_client.ensures ok.2
+    (ap (λ o. is_some o && c.args.options.no_local) (sym ok.0) ∙ ap (λ b. b && c.args.options.no_local) (sym (some_told c.in_ok-wanted.wanted.share)) ∙ sym c.is_shared_no_local.ensures ∙ c.if-is_shared_no_local.true)
 
 pub returns-clause-applied : goal.returns-clause-applied
 returns-clause-applied c =
-    let s : State = record { access = c.self.inside.access; sessions = c.self.inside.sessions; subscriptions = c.self.inside.subscriptions } in
+    let s : State = state_of c.self.inside in
     let id = c.args.client.now in
     let text = c.args.text.now in
     let options : Options = options_of c.args.options in
-    let new : State = record { access = s.access; sessions = s.sessions; subscriptions = c.put.new.self } in
+    let subs = c.put.new.self in
+    let new : State = record s { subscriptions = subs.rows; filter_keys = subs.keys } in
     let tested : None ≡ first_refusal (client_conditions s.sessions id) = c.in_ok-check_client.ensures ∙ ap (λ (v : State). first_refusal (client_conditions v.sessions id)) (sym c.self.view_is) in
-    subst (λ (v : State). Does v (Subscribe id text options) (reply_of c.with_reason.result) new) c.self.view_is
-    (subscribe-does s id text options c.put.new.self _ tested c.in_ok-filter.ensures.ok.1 c.with_reason.ensures
-    (c.in_ok-put.ensures.ok
-    ∙ ap (λ i. filter (λ x. not (has_key i c.in_ok-filter.filter x)) s.subscriptions ++ keyed i c.in_ok-filter.filter options ∷ []) c.in_ok-client.ensures.ok
-    ∙ ap (λ t. filter (λ x. not (has_key id t x)) s.subscriptions ++ keyed id t options ∷ []) c.in_ok-filter.ensures.ok.0))
+    let ok = c.in_ok-wanted.ensures.ok in
+    let named : Option Text → Text → Subscription = λ sh f. record { client = id; share = sh; filter = f; options = options } in
+    let is : named (option_map string_bytes c.in_ok-wanted.wanted.share) c.in_ok-wanted.wanted.filter ≡ asked id text options =
+    ap (λ sh. named sh c.in_ok-wanted.wanted.filter) ok.0 ∙ ap (named (share_of text)) ok.1 in
+    let copies : map copy_of c.in_ok-copies.copies.items ≡ copies_sent s (asked id text options) =
+    c.in_ok-copies.ensures.copies ∙ ap (λ (v : State). copies_sent v (named (option_map string_bytes c.in_ok-wanted.wanted.share) c.in_ok-wanted.wanted.filter)) (sym c.self.view_is) ∙ ap (copies_sent s) is in
+    subst (λ (v : State). Does v (Subscribe id text options) (record { copies = map copy_of c.in_ok-copies.copies.items; outcome = Reason c.args.options.qos }) new) c.self.view_is
+    (subscribe-does s id text options subs _ tested ok.2
+    (ap (λ o. is_some o && c.args.options.no_local) (sym ok.0) ∙ ap (λ b. b && c.args.options.no_local) (sym (some_told c.in_ok-wanted.wanted.share)) ∙ sym c.is_shared_no_local.ensures ∙ c.if-is_shared_no_local.false)
+    (ap (λ l. record { copies = l; outcome = Reason c.args.options.qos }) copies)
+    (same-then _ _ _ c.in_ok-put.ensures.ok (same-is _ _ (ap (λ (x : Subscription). joined x s.subscriptions) is))) c.in_ok-put.ensures.keys)

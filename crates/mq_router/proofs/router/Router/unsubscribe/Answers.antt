@@ -1,9 +1,13 @@
 use Rattle.std.proofs.Common.{◌≡◌, ◌∙◌, sym, ap, subst, Err, None, not, if◌then◌else◌}
 use Rattle.std.proofs.lemmas.Result.{err_from_is_err_and}
 use Rattle.std.specs.List.{filter, list_any}
-use Rattle.mq_router.specs.World.{Unsubscribe, has_key}
+use Rattle.std.proofs.Common.{Option, Bool, List}
+use Rattle.mq_topic.specs.Texts.{share_of}
+use Rattle.mq_router.specs.Lists.{Text}
+use Rattle.mq_router.specs.World.{Subscription, Unsubscribe, has_key}
 use Rattle.mq_router.specs.Refusals.{first_refusal, client_conditions}
 use Rattle.mq_router.specs.Answers.{reason}
+use Rattle.mq_router.specs.Held.{state_of}
 use Rattle.mq_router.specs.StandsFor.{State}
 use Rattle.mq_router.specs.Applied.{Does}
 use Rattle.mq_router.specs.Views.{reply_of}
@@ -16,21 +20,25 @@ returns-in_err-check_client-clause-applied c =
     refused-applied c.args.self.now _ c.from_residual.result c.in_err-check_client.field-0.0 c.args.self.now (p.1 ∙ ap (λ e. Err e) p.2)
     (unsubscribe-client c.args.self.now c.args.client.now c.args.text.now _ c.in_err-check_client.ensures)
 
-pub returns-in_err-filter-clause-applied : goal.returns-in_err-filter-clause-applied
-returns-in_err-filter-clause-applied c =
-    let p = err_from_is_err_and c.from_residual-in_err-filter.result c.from_residual-in_err-filter.ensures.1 in
-    refused-applied c.args.self.now _ c.from_residual-in_err-filter.result c.in_err-filter.field-0.0 c.args.self.now (p.1 ∙ ap (λ e. Err e) p.2)
-    (unsubscribe-filter c.args.self.now c.args.client.now c.args.text.now _ c.in_ok-check_client.ensures c.in_err-filter.ensures.err)
+pub returns-in_err-wanted-clause-applied : goal.returns-in_err-wanted-clause-applied
+returns-in_err-wanted-clause-applied c =
+    let p = err_from_is_err_and c.from_residual-in_err-wanted.result c.from_residual-in_err-wanted.ensures.1 in
+    refused-applied c.args.self.now _ c.from_residual-in_err-wanted.result c.in_err-wanted.field-0.0 c.args.self.now (p.1 ∙ ap (λ e. Err e) p.2)
+    (unsubscribe-filter c.args.self.now c.args.client.now c.args.text.now _ c.in_ok-check_client.ensures c.in_err-wanted.ensures.err)
 
 pub returns-clause-applied : goal.returns-clause-applied
 returns-clause-applied c =
-    let s : State = record { access = c.self.inside.access; sessions = c.self.inside.sessions; subscriptions = c.self.inside.subscriptions } in
+    let s : State = state_of c.self.inside in
     let id = c.args.client.now in
     let text = c.args.text.now in
-    let new : State = record { access = s.access; sessions = s.sessions; subscriptions = c.remove.new.self } in
+    let subs = c.remove.new.self in
+    let new : State = record s { subscriptions = subs.rows; filter_keys = subs.keys } in
     let tested : None ≡ first_refusal (client_conditions s.sessions id) = c.in_ok-check_client.ensures ∙ ap (λ (v : State). first_refusal (client_conditions v.sessions id)) (sym c.self.view_is) in
-    let ok = c.in_ok-filter.ensures.ok in
+    let ok = c.in_ok-wanted.ensures.ok in
+    let by : Option Text → Text → Bool = λ sh f. list_any (has_key id sh f) s.subscriptions in
+    let out : Option Text → Text → List Subscription = λ sh f. filter (λ x. not (has_key id sh f x)) s.subscriptions in
+    let f = c.in_ok-wanted.wanted.filter in
     subst (λ (v : State). Does v (Unsubscribe id text) (reply_of c.with_reason.result) new) c.self.view_is
-    (unsubscribe-does s id text c.remove.new.self _ tested ok.1
-    (c.with_reason.ensures ∙ ap reason (c.reason_to_leave.ensures ∙ ap (λ b. if b then 0 else 17) (c.contains-existed.ensures ∙ ap (λ t. list_any (has_key id t) s.subscriptions) ok.0)))
-    (c.remove.ensures ∙ ap (λ t. filter (λ x. not (has_key id t x)) s.subscriptions) ok.0))
+    (unsubscribe-does s id text subs _ tested ok.2
+    (c.with_reason.ensures ∙ ap reason (c.reason_to_leave.ensures ∙ ap (λ b. if b then 0 else 17) (c.contains-existed.ensures ∙ ap (λ sh. by sh f) ok.0 ∙ ap (by (share_of text)) ok.1)))
+    (c.remove.ensures.rows ∙ ap (λ sh. out sh f) ok.0 ∙ ap (out (share_of text)) ok.1) c.remove.ensures.keys)

@@ -1,0 +1,116 @@
+use Rattle.std.proofs.Common.{◌≡◌, ℕ, Bool, Option, Ok, ◌∙◌, sym, ap, refl, rules, string_bytes}
+use Rattle.std.specs.Option.{option_copied}
+use Rattle.mq_router.specs.Lists.{Text}
+use Rattle.mq_router.specs.World.{Request, Connect, Disconnect, Subscribe, Unsubscribe, Publish, SetAcl, Advance, Stat, Options, Message}
+use Rattle.mq_router.specs.Views.{request_of}
+use Rattle.mq_router.proofs.RouterLemmas.{stat-does}
+use Rattle.mq_router.proofs.WorldLemmas.{applied_answers, applied_counts, none_counted}
+use Rattle.mq_router.proofs.router.Router.apply_counted.Goals as goal
+
+pub returns-in-Connect : goal.returns-in-Connect
+returns-in-Connect c =
+    let is : Connect c.as_str.result.now (option_copied c.as_deref.result) ≡ request_of c.args.command.now =
+    ap (λ id. Connect id (option_copied c.as_deref.result)) c.as_str.ensures.value
+    ∙ ap (λ user. Connect (string_bytes c.in-Connect.client) user) c.as_deref.ensures.value
+    ∙ ap request_of (sym c.in-Connect.is) in
+    record {
+      answered = applied_answers _ _ _ _ _ is c.connect.ensures.applied;
+      counted = none_counted c.args.self.now _ _ c.connect.result _ is refl;
+      err = search rules;
+      no_memory = search rules;
+    }
+
+pub returns-in-Disconnect : goal.returns-in-Disconnect
+returns-in-Disconnect c =
+    let is : Disconnect c.as_str-in-Disconnect.result.now ≡ request_of c.args.command.now =
+    ap (λ id. Disconnect id) c.as_str-in-Disconnect.ensures.value ∙ ap request_of (sym c.in-Disconnect.is) in
+    record {
+      answered = applied_answers _ _ _ _ _ is c.disconnect.ensures.applied;
+      counted = none_counted c.args.self.now _ _ c.disconnect.result _ is refl;
+      err = search rules;
+      no_memory = search rules;
+    }
+
+pub returns-in-Subscribe : goal.returns-in-Subscribe
+returns-in-Subscribe c =
+    let options : Options = record { qos = c.in-Subscribe.qos; no_local = c.in-Subscribe.no_local; retain_as_published = c.in-Subscribe.rap; handling = c.in-Subscribe.handling; identifier = c.in-Subscribe.id } in
+    let is : Subscribe c.as_str-in-Subscribe.result.now c.as_str-in-Subscribe-2.result.now options ≡ request_of c.args.command.now =
+    ap (λ id. Subscribe id c.as_str-in-Subscribe-2.result.now options) c.as_str-in-Subscribe.ensures.value
+    ∙ ap (λ text. Subscribe (string_bytes c.in-Subscribe.client) text options) c.as_str-in-Subscribe-2.ensures.value
+    ∙ ap request_of (sym c.in-Subscribe.is) in
+    record {
+      answered = applied_answers _ _ _ _ _ is c.subscribe.ensures.applied;
+      counted = applied_counts _ _ _ _ _ _ is c.subscribe.ensures.counted;
+      err = search rules;
+      no_memory = search rules;
+    }
+
+pub returns-in-Unsubscribe : goal.returns-in-Unsubscribe
+returns-in-Unsubscribe c =
+    let is : Unsubscribe c.as_str-in-Unsubscribe.result.now c.as_str-in-Unsubscribe-2.result.now ≡ request_of c.args.command.now =
+    ap (λ id. Unsubscribe id c.as_str-in-Unsubscribe-2.result.now) c.as_str-in-Unsubscribe.ensures.value
+    ∙ ap (λ text. Unsubscribe (string_bytes c.in-Unsubscribe.client) text) c.as_str-in-Unsubscribe-2.ensures.value
+    ∙ ap request_of (sym c.in-Unsubscribe.is) in
+    record {
+      answered = applied_answers _ _ _ _ _ is c.unsubscribe.ensures.applied;
+      counted = none_counted c.args.self.now _ _ c.unsubscribe.result _ is refl;
+      err = search rules;
+      no_memory = search rules;
+    }
+
+abbrev message : Text → Text → Text → ℕ → Bool → Option ℕ → Message
+message client topic payload qos retain expiry = record {
+  publisher = client;
+  topic = topic;
+  payload = payload;
+  qos = qos;
+  retain = retain;
+  expiry = expiry;
+}
+
+pub returns-in-Publish : goal.returns-in-Publish
+returns-in-Publish c =
+    let p = c.in-Publish in
+    let by : Text → Text → Text → Request = λ client topic payload. Publish (message client topic payload p.qos p.retain p.expiry) in
+    let is : by c.as_str-in-Publish.result.now c.as_str-in-Publish-2.result.now c.as_str-in-Publish-3.result.now ≡ request_of c.args.command.now =
+    ap (λ id. by id c.as_str-in-Publish-2.result.now c.as_str-in-Publish-3.result.now) c.as_str-in-Publish.ensures.value
+    ∙ ap (λ topic. by (string_bytes p.client) topic c.as_str-in-Publish-3.result.now) c.as_str-in-Publish-2.ensures.value
+    ∙ ap (by (string_bytes p.client) (string_bytes p.topic)) c.as_str-in-Publish-3.ensures.value
+    ∙ ap request_of (sym c.in-Publish.is) in
+    record {
+      answered = applied_answers _ _ _ _ _ is c.publish.ensures.applied;
+      counted = applied_counts _ _ _ _ _ _ is c.publish.ensures.counted;
+      err = search rules;
+      no_memory = search rules;
+    }
+
+pub returns-in-SetAcl : goal.returns-in-SetAcl
+returns-in-SetAcl c =
+    let is : SetAcl (option_copied c.as_deref-in-SetAcl.result) ≡ request_of c.args.command.now =
+    ap (λ text. SetAcl text) c.as_deref-in-SetAcl.ensures.value ∙ ap request_of (sym c.in-SetAcl.is) in
+    record {
+      answered = applied_answers _ _ _ _ _ is c.set_acl.ensures.applied;
+      counted = none_counted c.args.self.now _ _ c.set_acl.result _ is refl;
+      err = search rules;
+      no_memory = search rules;
+    }
+
+pub returns-in-Advance : goal.returns-in-Advance
+returns-in-Advance c =
+    let is : Advance c.in-Advance.seconds ≡ request_of c.args.command.now = ap request_of (sym c.in-Advance.is) in
+    record {
+      answered = applied_answers _ _ _ _ _ is c.advance.ensures.applied;
+      counted = applied_counts _ _ _ _ _ _ is c.advance.ensures.counted;
+      err = search rules;
+      no_memory = search rules;
+    }
+
+pub returns-in-Stat : goal.returns-in-Stat
+returns-in-Stat c =
+    let is : Stat ≡ request_of c.args.command.now = ap request_of (sym c.in-Stat.is) in
+    record {
+      answered = applied_answers _ _ _ (Ok c.stat.result) _ is (stat-does _ _ c.stat.ensures);
+      counted = none_counted c.args.self.now _ _ (Ok c.stat.result) _ is refl;
+      err = search rules;
+      no_memory = search rules;
+    }

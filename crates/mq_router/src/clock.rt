@@ -1,0 +1,52 @@
+//! The router's clock.
+ghost use Rattle.std.specs.Prelude.{◌≡◌, ◌≤◌, ◌<◌, ◌+◌, ◌-◌, ◌^◌, IfSome, IfNone};
+ghost use Rattle.mq_router.specs.Clock.{last_moment, deadline_of};
+
+/// The moment, in seconds from the start: at most 1,000,000,000,000.
+#[derive(Clone, Copy, Debug)]
+pub(crate) struct Clock {
+    pub(crate) moment: u64,
+    ghost within: { moment ≤ last_moment },
+}
+
+const LAST_MOMENT: u64 = 1_000_000_000_000;
+
+impl Clock {
+    pub(crate) fn start() -> Clock
+        ensures { result.moment ≡ 0 }
+    {
+        Clock { moment: 0 }
+    }
+
+    /// The clock some seconds later, unless that is past the last moment.
+    pub(crate) fn later(self, seconds: u64) -> Option<Clock>
+        ensures some { IfSome result (λ clock. clock.moment ≡ self.moment + seconds) }
+        ensures none { IfNone result (last_moment < self.moment + seconds) }
+    {
+        if seconds > LAST_MOMENT - self.moment {
+            return None;
+        }
+        Some(Clock {
+            moment: self.moment + seconds,
+        })
+    }
+
+    /// The moment at which a message that is published now expires.
+    pub(crate) fn deadline(self, expiry: Option<u32>) -> Option<u64>
+        ensures value { result ≡ deadline_of self.moment expiry }
+        ensures near { IfSome result (λ deadline. deadline < self.moment + 2 ^ 32) }
+    {
+        match expiry {
+            None => None,
+            Some(seconds) => Some(self.moment + seconds as u64),
+        }
+    }
+
+    /// What is left until a deadline.
+    pub(crate) fn left(self, deadline: u64) -> u32
+        requires { deadline < self.moment + 2 ^ 32 }
+        ensures { result ≡ deadline - self.moment }
+    {
+        deadline.saturating_sub(self.moment) as u32
+    }
+}

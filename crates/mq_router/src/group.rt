@@ -1,0 +1,103 @@
+//! The members of a group, in their turn.
+ghost use Rattle.std.specs.Prelude.{◌≡◌, [], length, not, OnOk, OnErr, string_bytes};
+ghost use Rattle.std.specs.Option.{option_map};
+ghost use Rattle.std.specs.List.{filter, find, list_any};
+ghost use Rattle.mq_acl.specs.Access.{allowed};
+ghost use Rattle.mq_acl.specs.declared.access.Direction.TheVariants.{Reading};
+ghost use Rattle.mq_router.specs.Sessions.{user_of};
+ghost use Rattle.mq_router.specs.Kept.{has_client, is_empty};
+ghost use Rattle.mq_router.specs.Applied.{with_one, put_last};
+
+use crate::options::Options;
+use crate::readers::Readers;
+use indexmap::IndexMap;
+use mq_topic::TopicName;
+use std::alloc::{AllocError, Global};
+use std::marker::Model;
+
+/// The members of a group, the one that joined or was served longest ago first.
+#[derive(Debug, Drop)]
+pub(crate) struct Group {
+    members: IndexMap<String, Options>,
+}
+
+impl Model for Group {
+    ghost use Rattle.std.specs.Prelude.{List};
+    ghost use Rattle.mq_router.specs.Kept.{Member};
+
+    ghost Value = { List Member };
+
+    ghost use Rattle.mq_router.specs.KeptViews.{members_of};
+
+    ghost view = { members_of };
+}
+
+impl Group {
+    pub(crate) fn new(alloc: Global) -> Group
+        ensures { result ≡ [] }
+    {
+        Group {
+            members: IndexMap::new(alloc),
+        }
+    }
+
+    pub(crate) fn is_empty(&self) -> bool
+        ensures { result ≡ is_empty self.now }
+    {
+        self.members.is_empty()
+    }
+
+    pub(crate) fn len(&self) -> usize
+        ensures { result ≡ length self.now }
+    {
+        self.members.len()
+    }
+
+    pub(crate) fn contains(&self, client: &str) -> bool
+        ensures { result ≡ list_any (has_client client.now) self.now }
+    {
+        self.members.get_index_of(client).is_some()
+    }
+
+    /// A member keeps its place, and a new one goes last.
+    pub(crate) fn join(&mut self, client: String, options: Options) -> Result<(), AllocError>
+        ensures ok { OnOk result (self.new ≡ with_one (has_client (string_bytes client)) (string_bytes client, options) self.old) }
+        ensures err { OnErr result (self.new ≡ self.old) }
+    {
+        let _count = self.members.len();
+        self.members.insert(client, options)?;
+        Ok(())
+    }
+
+    pub(crate) fn leave(&mut self, client: &str)
+        ensures { self.new ≡ filter (λ m. not (has_client client.now m)) self.old }
+    {
+        let _count = self.members.len();
+        let _ = self.members.shift_remove(client);
+    }
+
+    /// The member goes last. It takes no memory.
+    pub(crate) fn serve(&mut self, client: &str)
+        ensures { self.new ≡ put_last (has_client client.now) self.old }
+    {
+        let count = self.members.len();
+        match self.members.get_index_of(client) {
+            Some(place) => self.members.move_index(place, count - 1),
+            None => {}
+        }
+    }
+
+    /// The first member whose client may read the topic.
+    pub(crate) fn next(&self, readers: &Readers, name: &TopicName) -> Option<(&str, Options)>
+        ensures { option_map (λ m. (m.0.now, m.1)) result
+            ≡ find (λ m. allowed readers.now.access.now m.0 (user_of readers.now.sessions.now m.0) name.now Reading) self.now }
+    {
+        for (client, options) in &self.members {
+            let client = client.as_str();
+            if readers.may_read(client, name) {
+                return Some((client, *options));
+            }
+        }
+        None
+    }
+}

@@ -1,0 +1,130 @@
+//! The retained messages: a tree by topic, and an index of their deadlines.
+ghost use Rattle.std.specs.Prelude.{◌≡◌, ◌+◌, [], length, OnOk, OnErr, IfOk};
+ghost use Rattle.std.specs.List.{filter};
+ghost use Rattle.mq_tree.specs.Entries.{capped};
+ghost use Rattle.mq_tree.specs.Prefixes.{prefixes};
+ghost use Rattle.mq_router.specs.Retained.{retained_after, unexpired};
+ghost use Rattle.mq_router.specs.Deadlines.{is_due};
+ghost use Rattle.mq_router.specs.Stored.{AreFiled, AreNear};
+
+mod edits;
+mod sending;
+mod stored;
+
+use crate::answer::Delivery;
+use crate::clock::Clock;
+use crate::copies::Message;
+use crate::deadlines::Deadlines;
+use edits::{expire, forget, is_stored, store};
+use mq_tree::{LevelTree, Steps};
+use sending::copies_of;
+pub(crate) use sending::{Receiver, asks_for_retained};
+use std::alloc::{AllocError, Global};
+use std::marker::Model;
+use stored::Stored;
+
+/// One message for a topic, each with a deadline or none. It is seen as the list of the messages by topic in level order,
+/// with the keys of the tree and the pairs of the index.
+#[derive(Drop)]
+pub(crate) struct Retained {
+    alloc: Global,
+    tree: LevelTree<Stored>,
+    deadlines: Deadlines,
+}
+
+impl Model for Retained {
+    ghost use Rattle.mq_router.specs.Stored.{KeptRetained};
+
+    ghost Value = { KeptRetained };
+
+    ghost use Rattle.mq_router.specs.Stored.{kept_retained, IsSound};
+
+    ghost view = { λ a. kept_retained a.tree a.deadlines };
+
+    ghost invariant = { λ a. IsSound a.tree a.deadlines };
+}
+
+impl Retained {
+    ghost use Rattle.mq_router.specs.Held.{message_of};
+    ghost use Rattle.mq_router.specs.Receivers.{copies_for, steps_among};
+    ghost use Rattle.mq_router.specs.Gathers.{copies_in};
+
+    pub(crate) fn new(alloc: Global) -> Retained
+        ensures { result ≡ record { messages = []; keys = []; pairs = [] } }
+    {
+        Retained {
+            alloc,
+            tree: LevelTree::new(alloc),
+            deadlines: Deadlines::new(alloc),
+        }
+    }
+
+    /// Takes in a message that is published: with RETAIN it takes the place of the older one of its topic, or only removes
+    /// that.
+    pub(crate) fn publish(&mut self, clock: Clock, message: &Message) -> Result<(), AllocError>
+        ensures ok { OnOk result (self.new.messages ≡ retained_after clock.moment self.old.messages (message_of message.now)) }
+        ensures filed { OnOk result (AreFiled self.old → AreFiled self.new) }
+        ensures near { OnOk result (AreNear clock.moment self.old.messages → AreNear clock.moment self.new.messages) }
+        ensures err { OnErr result (self.new ≡ self.old) }
+    {
+        if !message.retain {
+            return Ok(());
+        }
+        if !is_stored(message) {
+            forget(
+                self.alloc,
+                &mut self.tree,
+                &mut self.deadlines,
+                message.topic,
+            )?;
+            return Ok(());
+        }
+        let deadline = clock.deadline(message.expiry);
+        store(
+            self.alloc,
+            &mut self.tree,
+            &mut self.deadlines,
+            message,
+            deadline,
+        )?;
+        Ok(())
+    }
+
+    /// Removes each message whose deadline is at the moment or before it. It takes no memory.
+    pub(crate) fn advance(&mut self, moment: u64, steps: &mut Steps)
+        ensures rest { self.new.messages ≡ unexpired moment self.old.messages }
+        ensures filed { AreFiled self.new }
+        ensures count { steps.new ≡ steps.old + length (filter (is_due moment) self.old.messages) }
+    {
+        expire(&mut self.tree, &mut self.deadlines, moment, steps);
+    }
+
+    /// The copies that a client is sent, by topic in level order.
+    pub(crate) fn copies(
+        &self,
+        receiver: &Receiver,
+        steps: &mut Steps,
+    ) -> Result<Vec<Delivery>, AllocError>
+        requires { AreNear receiver.now.clock.moment self.now.messages }
+        ensures copies { IfOk result (λ copies. copies_in copies ≡ copies_for receiver.now self.now.messages) }
+        ensures count { OnOk result (steps.new ≡ steps.old + steps_among receiver.now.filter.now self.now.messages) }
+    {
+        let found = self.tree.for_filter(receiver.filter, steps)?;
+        let copies = copies_of(self.alloc, receiver, found.as_slice())?;
+        Ok(copies)
+    }
+
+    /// How many messages there are, at most `u64::MAX`. It takes no memory.
+    pub(crate) fn len(&self) -> u64
+        ensures { result ≡ capped (length self.now.messages) }
+    {
+        self.tree.len()
+    }
+
+    /// How many nodes the tree keeps, at most `u64::MAX`. It takes no memory.
+    pub(crate) fn nodes(&self) -> u64
+        ensures { result ≡ capped (length (prefixes self.now.keys)) }
+    {
+        self.tree.nodes()
+    }
+}

@@ -1,0 +1,116 @@
+//! Edits of the tree and of the index of deadlines together. Where a call fails, both hold what they held.
+ghost use Rattle.std.specs.Prelude.{◌≡◌, ◌+◌, length, not, OnOk, OnErr, IfOk, nat_eq, None, if◌then◌else◌};
+ghost use Rattle.std.specs.Option.{option_map, option_eq};
+ghost use Rattle.std.specs.List.{filter};
+ghost use Rattle.mq_router.specs.Lists.{with_row};
+ghost use Rattle.mq_router.specs.World.{retained_cmp};
+ghost use Rattle.mq_router.specs.Retained.{is_stored, has_topic, unexpired};
+ghost use Rattle.mq_router.specs.Deadlines.{deadline_at, is_due, SamePairs};
+ghost use Rattle.mq_router.specs.Due.{due_of};
+ghost use Rattle.mq_router.specs.Held.{message_of};
+ghost use Rattle.mq_router.specs.Stored.{retained_in, stored_until, IsPlaced, IsSound};
+
+use crate::copies::Message;
+use crate::deadlines::{Deadlines, Due};
+use crate::retained::stored::Stored;
+use mq_topic::TopicName;
+use mq_tree::{LevelTree, Steps};
+use std::alloc::{AllocError, Global};
+
+/// Whether a message that is published is stored.
+pub(crate) fn is_stored(message: &Message) -> bool
+    ensures { result ≡ is_stored (message_of message.now) }
+{
+    message.retain
+        && !message.payload.is_empty()
+        && !message.expiry.is_some_and(|seconds| seconds == 0)
+}
+
+fn deadline_at(tree: &LevelTree<Stored>, topic: &TopicName) -> Option<u64>
+    requires { IsPlaced tree.now }
+    ensures { result ≡ deadline_at topic.now (retained_in tree.now) }
+{
+    tree.get(topic)?.deadline
+}
+
+// The pair of the older message, unless it is the pair of the new one.
+fn replaced(
+    alloc: Global,
+    older: Option<u64>,
+    new: Option<u64>,
+    topic: &TopicName,
+) -> Result<Option<Due>, AllocError>
+    ensures { IfOk result (λ due. option_map due_of due ≡ (if option_eq nat_eq older new then None else option_map (λ d. (d, topic.now)) older)) }
+{
+    if older == new {
+        return Ok(None);
+    }
+    Due::of(alloc, older, topic)
+}
+
+/// Stores a message, in place of an older one of its topic. What takes memory comes first, but for the tree's entry: where
+/// that is refused the topic had none, and the new deadline is removed again.
+pub(crate) fn store(
+    alloc: Global,
+    tree: &mut LevelTree<Stored>,
+    deadlines: &mut Deadlines,
+    message: &Message,
+    deadline: Option<u64>,
+) -> Result<(), AllocError>
+    requires { IsSound tree.old deadlines.old }
+    ensures sound { IsSound tree.new deadlines.new }
+    ensures ok { OnOk result (retained_in tree.new ≡ with_row retained_cmp (stored_until deadline (message_of message.now)) (retained_in tree.old)) }
+    ensures err { OnErr result ((tree.new ≡ tree.old) × SamePairs deadlines.new deadlines.old) }
+{
+    let stored = Stored::from_message(alloc, message, deadline)?;
+    let new = Due::of(alloc, deadline, message.topic)?;
+    let older = deadline_at(tree, message.topic);
+    let older = replaced(alloc, older, deadline, message.topic)?;
+    deadlines.put(alloc, deadline, message.topic)?;
+    match tree.put(message.topic, stored) {
+        Err(fault) => {
+            deadlines.remove(&new);
+            Err(fault)
+        }
+        Ok(_) => {
+            deadlines.remove(&older);
+            Ok(())
+        }
+    }
+}
+
+/// Removes the message of a topic, if there is one.
+pub(crate) fn forget(
+    alloc: Global,
+    tree: &mut LevelTree<Stored>,
+    deadlines: &mut Deadlines,
+    topic: &TopicName,
+) -> Result<(), AllocError>
+    requires { IsSound tree.old deadlines.old }
+    ensures sound { IsSound tree.new deadlines.new }
+    ensures ok { OnOk result (retained_in tree.new ≡ filter (λ kept. not (has_topic topic.now kept)) (retained_in tree.old)) }
+    ensures err { OnErr result ((tree.new ≡ tree.old) × SamePairs deadlines.new deadlines.old) }
+{
+    let deadline = deadline_at(tree, topic);
+    let older = Due::of(alloc, deadline, topic)?;
+    let _ = tree.take(topic);
+    deadlines.remove(&older);
+    Ok(())
+}
+
+/// Removes the messages that are due, each at one step.
+pub(crate) fn expire(
+    tree: &mut LevelTree<Stored>,
+    deadlines: &mut Deadlines,
+    moment: u64,
+    steps: &mut Steps,
+)
+    requires { IsSound tree.old deadlines.old }
+    ensures sound { IsSound tree.new deadlines.new }
+    ensures rest { retained_in tree.new ≡ unexpired moment (retained_in tree.old) }
+    ensures count { steps.new ≡ steps.old + length (filter (is_due moment) (retained_in tree.old)) }
+{
+    while let Some(topic) = deadlines.take_due(moment, steps) {
+        let _ = tree.take(&topic);
+    }
+}

@@ -1,0 +1,120 @@
+//! The copies of retained messages that a subscribe sends, if it sends any.
+ghost use Rattle.std.specs.Prelude.{◌≡◌, ◌+◌, ◌<◌, ◌^◌, IfOk, IfSome, map};
+ghost use Rattle.std.specs.Option.{option_copied, option_to_list};
+ghost use Rattle.mq_router.specs.Retained.{asks_for_retained, retained_copy};
+ghost use Rattle.mq_router.specs.Views.{copy_of};
+ghost use Rattle.mq_router.specs.Asked.{wanted_row};
+ghost use Rattle.mq_router.specs.Gathers.{copies_in};
+ghost use Rattle.mq_router.specs.Stored.{message_in, may_get, AreNear};
+
+use crate::answer::Delivery;
+use crate::clock::Clock;
+use crate::copies::may_read;
+use crate::options::Options;
+use crate::retained::stored::Stored;
+use crate::subscriptions::Subscriptions;
+use mq_acl::Acl;
+use mq_topic::{LevelText, SubFilter, TopicFilter};
+use std::alloc::{AllocError, Global};
+
+/// A client that subscribes, with its user name or none, under an access list at a moment.
+#[derive(Clone, Copy)]
+pub(crate) struct Receiver<'a> {
+    pub(crate) access: &'a Option<Acl>,
+    pub(crate) clock: Clock,
+    pub(crate) user: Option<&'a str>,
+    pub(crate) client: &'a str,
+    pub(crate) filter: &'a TopicFilter,
+    pub(crate) options: Options,
+}
+
+/// Whether a subscribe is sent retained messages.
+pub(crate) fn asks_for_retained(
+    subscriptions: &Subscriptions,
+    client: &str,
+    wanted: &SubFilter,
+    options: Options,
+) -> bool
+    ensures { result ≡ asks_for_retained subscriptions.now.rows (wanted_row client.now wanted.now options) }
+{
+    if wanted.share.is_some() {
+        return false;
+    }
+    match options.handling {
+        0 => true,
+        1 => !subscriptions.contains(client, wanted),
+        _ => false,
+    }
+}
+
+ghost use Rattle.mq_router.specs.Receivers.{subscription_for, copies_among};
+
+fn may_get(receiver: &Receiver, stored: &Stored) -> bool
+    ensures { result ≡ may_get receiver.now.access.now (option_copied receiver.now.user) (subscription_for receiver.now) (message_in stored.now) }
+{
+    let client = receiver.client;
+    may_read(receiver.access, client, receiver.user, &stored.topic)
+        && !(receiver.options.no_local && stored.publisher.as_str() == client)
+}
+
+fn left(clock: Clock, deadline: Option<u64>) -> Option<u32>
+    requires { IfSome deadline (λ d. d < clock.moment + 2 ^ 32) }
+    ensures { result ≡ time_left clock.moment deadline }
+{
+    match deadline {
+        None => None,
+        Some(deadline) => Some(clock.left(deadline)),
+    }
+}
+
+ghost use Rattle.mq_router.specs.Clock.{time_left};
+
+fn identifiers(alloc: Global, id: Option<u32>) -> Result<Vec<u32>, AllocError>
+    ensures { IfOk result (λ ids. ids.items ≡ option_to_list id) }
+{
+    let mut ids = Vec::new(alloc);
+    if let Some(id) = id {
+        ids.push(id)?;
+    }
+    Ok(ids)
+}
+
+fn retained_copy(
+    alloc: Global,
+    receiver: &Receiver,
+    stored: &Stored,
+) -> Result<Delivery, AllocError>
+    requires { IfSome stored.now.deadline (λ d. d < receiver.now.clock.moment + 2 ^ 32) }
+    ensures { IfOk result (λ d. copy_of d ≡ retained_copy receiver.now.clock.moment (subscription_for receiver.now) (message_in stored.now)) }
+{
+    Ok(Delivery {
+        client: String::from_str(alloc, receiver.client)?,
+        topic: String::from_str(alloc, stored.topic.text())?,
+        payload: stored.payload.clone()?,
+        qos: stored.qos.min(receiver.options.qos),
+        retain: true,
+        expiry: left(receiver.clock, stored.deadline),
+        ids: identifiers(alloc, receiver.options.id)?,
+        group: None,
+    })
+}
+
+/// The copies of the messages that the client may get, in their order.
+pub(crate) fn copies_of(
+    alloc: Global,
+    receiver: &Receiver,
+    found: &[&Stored],
+) -> Result<Vec<Delivery>, AllocError>
+    requires { AreNear receiver.now.clock.moment (map (λ s. message_in s.now) found.now) }
+    ensures { IfOk result (λ copies. copies_in copies ≡ copies_among receiver.now (map (λ s. message_in s.now) found.now)) }
+{
+    let mut copies = Vec::new(alloc);
+    for stored in found {
+        let stored: &Stored = stored;
+        if !may_get(receiver, stored) {
+            continue;
+        }
+        copies.push(retained_copy(alloc, receiver, stored)?)?;
+    }
+    Ok(copies)
+}

@@ -1,0 +1,35 @@
+ghost use Rattle.std.specs.Prelude.{◌≡◌, IfOk};
+ghost use Rattle.mq_router.specs.Held.{message_of};
+ghost use Rattle.mq_router.specs.Stored.{message_in, stored_until};
+
+use crate::copies::Message;
+use mq_topic::TopicName;
+use std::alloc::{AllocError, Global};
+
+/// The message that is retained for a topic.
+#[derive(Debug, Drop)]
+pub(crate) struct Stored {
+    pub(crate) topic: TopicName,
+    pub(crate) payload: String,
+    pub(crate) qos: u8,
+    pub(crate) publisher: String,
+    pub(crate) deadline: Option<u64>,
+}
+
+impl Stored {
+    pub(crate) fn from_message(
+        alloc: Global,
+        message: &Message,
+        deadline: Option<u64>,
+    ) -> Result<Stored, AllocError>
+        ensures { IfOk result (λ stored. message_in stored ≡ stored_until deadline (message_of message.now)) }
+    {
+        Ok(Stored {
+            topic: message.topic.clone()?,
+            payload: String::from_str(alloc, message.payload)?,
+            qos: message.qos,
+            publisher: String::from_str(alloc, message.publisher)?,
+            deadline,
+        })
+    }
+}
