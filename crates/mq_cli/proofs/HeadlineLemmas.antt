@@ -7,7 +7,8 @@ use Rattle.mq_cli.specs.declared.script.outcome.Summary.{Summary}
 use Rattle.mq_cli.specs.declared.script.outcome.RunFault.{RunFault}
 use Rattle.mq_cli.specs.declared.script.outcome.RunFault.TheVariants as fault
 use Rattle.mq_cli.specs.Output.{output, Summarizes}
-use Rattle.mq_cli.specs.Ending.{Seen, DidNotFail, Failed, Failures, Ending}
+use Rattle.mq_cli.specs.Program.{IsScript, AnswersScript}
+use Rattle.mq_cli.specs.Ending.{Seen, Watched, DidNotFail, Failed, Failures, Ending, EndsOver}
 
 whole : (a b : Option (List ℕ)) (script given : List ℕ) → a ≡ Some script → Consumes a b given → IsAtEnd b → given ≡ script
 whole None b script given e c end = absurd (let bad : None ≡ Some script = e in cc)
@@ -33,6 +34,10 @@ written (Some x) (Some y) before text e c =
 failed_not : (calls : Failures) → Failed calls → DidNotFail calls → ⊥
 failed_not calls f d = absurd (omega (arith, f, d))
 
+is_script : (a b : Option (List ℕ)) (given : List ℕ) → Consumes a b given → IsAtEnd b → IsScript None a given
+is_script None b given c end = tt
+is_script (Some x) b given c end = whole (Some x) b x given refl c end
+
 -- a run that ends well answers all of the script
 pub Ending-ok : (limit : ℕ) (w : World) (summary : Summary) (seen : Seen) (to_come : Option (List ℕ)) (script before : List ℕ)
     → to_come ≡ Some script → seen.before ≡ Some before → Consumes to_come seen.left seen.given → Ending limit w (Ok summary) seen
@@ -43,13 +48,29 @@ Ending-ok limit w summary seen to_come script before e f c h =
       subst (λ (s : List ℕ). Summarizes w s summary) all h.summary,
     )
 
-pub Ending-honest : (limit : ℕ) (w : World) (result : Result Summary RunFault) (seen : Seen) (to_come : Option (List ℕ)) (script before : List ℕ)
-    → to_come ≡ Some script → seen.before ≡ Some before → length script ≤ limit → DidNotFail seen.reader → DidNotFail seen.writer
-    → (result ≡ Err fault.Memory → ⊥) → Consumes to_come seen.left seen.given → Ending limit w result seen
-    → IsOkAnd result (λ summary. (seen.after ≡ Some (before ++ output w script)) × Summarizes w script summary)
-Ending-honest limit w (Ok summary) seen to_come script before e f small reader writer memory c h = Ending-ok limit w summary seen to_come script before e f c h
-Ending-honest limit w (Err fault.Read) seen to_come script before e f small reader writer memory c h = absurd (failed_not seen.reader h.reader reader)
-Ending-honest limit w (Err fault.Write) seen to_come script before e f small reader writer memory c h = absurd (failed_not seen.writer h.writer writer)
-Ending-honest limit w (Err fault.TooMuch) seen to_come script before e f small reader writer memory c h =
-    let fits = front to_come seen.left script seen.given e c in absurd (omega (arith, h.over))
-Ending-honest limit w (Err fault.Memory) seen to_come script before e f small reader writer memory c h = absurd (memory refl)
+-- where the devices tell their bytes and don't fail, and memory suffices, it ends well
+pub EndsOver-honest : (limit : ℕ) (w : World) (result : Result Summary RunFault) (reader writer : Watched) (script before : List ℕ)
+    → EndsOver limit w result reader writer → reader.before ≡ Some script → writer.before ≡ Some before → length script ≤ limit
+    → DidNotFail reader.calls → DidNotFail writer.calls → (result ≡ Err fault.Memory → ⊥)
+    → IsOkAnd result (λ summary. (writer.after ≡ Some (before ++ output w script)) × Summarizes w script summary)
+EndsOver-honest limit w (Ok summary) reader writer script before end e f small read_well wrote_well memory =
+    Ending-ok limit w summary _ reader.before script before e f end.1 end.2
+EndsOver-honest limit w (Err fault.Read) reader writer script before end e f small read_well wrote_well memory =
+    absurd (failed_not reader.calls end.2.reader read_well)
+EndsOver-honest limit w (Err fault.Write) reader writer script before end e f small read_well wrote_well memory =
+    absurd (failed_not writer.calls end.2.writer wrote_well)
+EndsOver-honest limit w (Err fault.TooMuch) reader writer script before end e f small read_well wrote_well memory =
+    let fits = front reader.before reader.after script end.0 e end.1 in
+    let over = end.2.over in
+    absurd (omega arith)
+EndsOver-honest limit w (Err fault.Memory) reader writer script before end e f small read_well wrote_well memory = absurd (memory refl)
+
+-- ended well, it answers some script, which is all that the reader tells
+pub EndsOver-script : (limit : ℕ) (w : World) (summary : Summary) (reader writer : Watched) (before : List ℕ)
+    → EndsOver limit w (Ok summary) reader writer → writer.before ≡ Some before
+    → (script : List ℕ) × IsScript None reader.before script × AnswersScript w script before writer.after summary
+EndsOver-script limit w summary reader writer before end e = (
+  end.0,
+  is_script reader.before reader.after end.0 end.1 end.2.ended,
+  record { written = written writer.before writer.after before (output w end.0) e end.2.written; counts = end.2.summary },
+)

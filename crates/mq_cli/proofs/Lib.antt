@@ -5,6 +5,7 @@ pub mod WrittenLemmas
 pub mod PieceLemmas
 pub mod OutputLemmas
 pub mod RunLemmas
+pub mod StepLemmas
 pub mod HeadlineLemmas
 pub mod AclFileLemmas
 pub mod ProgramLemmas

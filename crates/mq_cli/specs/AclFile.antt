@@ -1,11 +1,11 @@
 -- How the reading of an access list file ends.
 use Rattle.std.specs.Prelude.{◌≡◌, ◌≢◌, ◌≤◌, ◌<◌, ℕ, List, length, Option, Result, Ok, Err, IsUtf8}
-use Rattle.std.specs.Io.KnownBytes.{IsAtEnd}
+use Rattle.std.specs.Io.KnownBytes.{Consumes, IsAtEnd}
 use Rattle.mq_acl.specs.Rows.{AclRow, rows_of}
 use Rattle.mq_acl.specs.declared.fault.AclKind.TheVariants as kind
 use Rattle.mq_cli.specs.declared.acl_file.AclFileFault.{AclFileFault}
 use Rattle.mq_cli.specs.declared.acl_file.AclFileFault.TheVariants as fault
-use Rattle.mq_cli.specs.Ending.{Failures, DidNotFail, Failed}
+use Rattle.mq_cli.specs.Ending.{Failures, Watched, DidNotFail, Failed}
 
 -- how many bytes the file may have
 unfoldable pub acl_file_limit : ℕ
@@ -34,3 +34,8 @@ AclFileEnding limit (Err fault.TooLong) given left calls = (limit < length given
 AclFileEnding limit (Err fault.Utf8) given left calls = IsWholeFile limit given left calls × IsAnswerTo given (Err fault.Utf8)
 AclFileEnding limit (Err (fault.Line f)) given left calls = IsWholeFile limit given left calls × IsAnswerTo given (Err (fault.Line f))
 AclFileEnding limit (Err fault.Memory) given left calls = DidNotFail calls
+
+-- it ended so over what its reader gave
+abbrev pub AclFileEnds : ℕ → Result (List AclRow) AclFileFault → Watched → Type 0
+AclFileEnds limit result reader =
+    (given : List ℕ) × Consumes reader.before reader.after given × AclFileEnding limit result given reader.after reader.calls

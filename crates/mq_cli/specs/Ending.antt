@@ -1,6 +1,6 @@
 -- How a run ends.
 use Rattle.std.specs.Prelude.{◌≡◌, ◌≤◌, ◌<◌, ◌⊎◌, ℕ, ◌+◌, List, ◌++◌, length, take, Option, Result, Ok, Err}
-use Rattle.std.specs.Io.KnownBytes.{Appends, IsAtEnd}
+use Rattle.std.specs.Io.KnownBytes.{Appends, Consumes, IsAtEnd}
 use Rattle.mq_router.specs.World.{World}
 use Rattle.mq_cli.specs.declared.script.outcome.Summary.{Summary}
 use Rattle.mq_cli.specs.declared.script.outcome.RunFault.{RunFault}
@@ -21,6 +21,20 @@ DidNotFail calls = calls.after ≡ calls.before
 
 abbrev pub Failed : Failures → Type 0
 Failed calls = calls.after ≡ calls.before + 1
+
+-- what is known of a device: the bytes that it tells before and after, and the failures
+pub record Watched : Type 0 where
+  pub before : Option (List ℕ)
+  pub after : Option (List ℕ)
+  pub calls : Failures
+
+-- of a device of which such bytes and such failures are told
+abbrev pub watch : {D : Type 0} → (D → Option (List ℕ)) → (D → ℕ) → (old new : D) → Watched
+watch bytes failures old new = record {
+  before = bytes old;
+  after = bytes new;
+  calls = record { before = failures old; after = failures new };
+}
 
 -- what was seen of the devices: the bytes that the reader gave and those that are known to come, what the writer had
 -- taken before and after, and the failures of both
@@ -76,3 +90,14 @@ Ending limit w (Err fault.Memory) seen = record {
   reader : DidNotFail seen.reader;
   writer : DidNotFail seen.writer;
 }
+
+-- it ended so over what its reader gave
+abbrev pub EndsOver : ℕ → World → Result Summary RunFault → (reader writer : Watched) → Type 0
+EndsOver limit w result reader writer = (given : List ℕ) × Consumes reader.before reader.after given × Ending limit w result (record {
+  given = given;
+  left = reader.after;
+  before = writer.before;
+  after = writer.after;
+  reader = reader.calls;
+  writer = writer.calls;
+})

@@ -28,9 +28,13 @@ flag d = as_bool d
 abbrev pub within : ℕ → ℕ → ℕ → Option ℕ
 within low high n = if nat_le low n && nat_le n high then Some n else None
 
--- a whole number, written without fraction or exponent
+-- a whole number of 64 bits, written without fraction or exponent
+abbrev pub unsigned : Data → Option ℕ
+unsigned d = option_and_then as_u64 (as_number d)
+
+-- one in a range
 abbrev pub whole : ℕ → ℕ → Data → Option ℕ
-whole low high d = option_and_then (within low high) (option_and_then as_u64 (as_number d))
+whole low high d = option_and_then (within low high) (unsigned d)
 
 -- ---- a field by its kind and name
 

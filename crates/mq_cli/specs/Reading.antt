@@ -5,8 +5,8 @@ use Rattle.std.specs.Str.{bytes_eq, is_utf8}
 use Rattle.serde_json.specs.Data.{Data}
 use Rattle.serde_json.specs.Find.{get, as_str}
 use Rattle.serde_json.specs.Read.{read}
-use Rattle.mq_router.specs.World.{Request, Connect, Disconnect, Subscribe, Unsubscribe, Publish, SetAcl}
-use Rattle.mq_cli.specs.Fields.{◌>>=◌, text, flag, whole, optional, required, defaulted, has_only, or_fault}
+use Rattle.mq_router.specs.World.{Request, Connect, Disconnect, Subscribe, Unsubscribe, Publish, SetAcl, Advance, Stat}
+use Rattle.mq_cli.specs.Fields.{◌>>=◌, text, flag, unsigned, whole, optional, required, defaulted, has_only, or_fault}
 use Rattle.mq_cli.specs.declared.lines.fault.LineFault.{LineFault}
 use Rattle.mq_cli.specs.declared.lines.fault.LineFault.TheVariants.{LineTooLong, BadJson, BadCommand, BadField}
 
@@ -23,14 +23,26 @@ disconnect_fields d = if has_only (codes "do" ∷ codes "client" ∷ []) d then 
   client ← required text (codes "client") d
   Ok (Disconnect client)) else Err BadField
 
+abbrev pub subscribe_names : List (List ℕ)
+subscribe_names =
+    codes "do" ∷ codes "client" ∷ codes "filter" ∷ codes "qos" ∷ codes "no_local" ∷ codes "rap" ∷ codes "handling" ∷ codes "id" ∷ []
+
 unfoldable pub subscribe_fields : Data → Result Request LineFault
-subscribe_fields d = if has_only (codes "do" ∷ codes "client" ∷ codes "filter" ∷ codes "qos" ∷ codes "no_local" ∷ codes "id" ∷ []) d then (do
+subscribe_fields d = if has_only subscribe_names d then (do
   client ← required text (codes "client") d
   filter ← required text (codes "filter") d
   qos ← defaulted 0 (whole 0 2) (codes "qos") d
   no_local ← defaulted false flag (codes "no_local") d
+  rap ← defaulted false flag (codes "rap") d
+  handling ← defaulted 0 (whole 0 2) (codes "handling") d
   id ← optional (whole 1 268435455) (codes "id") d
-  Ok (Subscribe client filter (record { qos = qos; no_local = no_local; identifier = id }))) else Err BadField
+  Ok (Subscribe client filter (record {
+    qos = qos;
+    no_local = no_local;
+    retain_as_published = rap;
+    handling = handling;
+    identifier = id;
+  }))) else Err BadField
 
 unfoldable pub unsubscribe_fields : Data → Result Request LineFault
 unsubscribe_fields d = if has_only (codes "do" ∷ codes "client" ∷ codes "filter" ∷ []) d then (do
@@ -38,18 +50,39 @@ unsubscribe_fields d = if has_only (codes "do" ∷ codes "client" ∷ codes "fil
   filter ← required text (codes "filter") d
   Ok (Unsubscribe client filter)) else Err BadField
 
+abbrev pub publish_names : List (List ℕ)
+publish_names =
+    codes "do" ∷ codes "client" ∷ codes "topic" ∷ codes "payload" ∷ codes "qos" ∷ codes "retain" ∷ codes "expiry" ∷ []
+
 unfoldable pub publish_fields : Data → Result Request LineFault
-publish_fields d = if has_only (codes "do" ∷ codes "client" ∷ codes "topic" ∷ codes "payload" ∷ codes "qos" ∷ []) d then (do
+publish_fields d = if has_only publish_names d then (do
   client ← required text (codes "client") d
   topic ← required text (codes "topic") d
   payload ← defaulted [] text (codes "payload") d
   qos ← defaulted 0 (whole 0 2) (codes "qos") d
-  Ok (Publish (record { publisher = client; topic = topic; payload = payload; qos = qos }))) else Err BadField
+  retain ← defaulted false flag (codes "retain") d
+  expiry ← optional (whole 0 4294967295) (codes "expiry") d
+  Ok (Publish (record {
+    publisher = client;
+    topic = topic;
+    payload = payload;
+    qos = qos;
+    retain = retain;
+    expiry = expiry;
+  }))) else Err BadField
 
 unfoldable pub acl_fields : Data → Result Request LineFault
 acl_fields d = if has_only (codes "do" ∷ codes "text" ∷ []) d then (do
   acl ← optional text (codes "text") d
   Ok (SetAcl acl)) else Err BadField
+
+unfoldable pub advance_fields : Data → Result Request LineFault
+advance_fields d = if has_only (codes "do" ∷ codes "seconds" ∷ []) d then (do
+  seconds ← required unsigned (codes "seconds") d
+  Ok (Advance seconds)) else Err BadField
+
+unfoldable pub stat_fields : Data → Result Request LineFault
+stat_fields d = if has_only (codes "do" ∷ []) d then Ok Stat else Err BadField
 
 -- ## A line
 
@@ -61,7 +94,9 @@ fields_of word d =
     if bytes_eq word (codes "subscribe") then subscribe_fields d else
     if bytes_eq word (codes "unsubscribe") then unsubscribe_fields d else
     if bytes_eq word (codes "publish") then publish_fields d else
-    if bytes_eq word (codes "acl") then acl_fields d else Err BadCommand
+    if bytes_eq word (codes "acl") then acl_fields d else
+    if bytes_eq word (codes "advance") then advance_fields d else
+    if bytes_eq word (codes "stat") then stat_fields d else Err BadCommand
 
 -- the word under `do`, which a value that is no object lacks
 abbrev pub word_of : Data → Result (List ℕ) LineFault

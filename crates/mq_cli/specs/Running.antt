@@ -1,5 +1,5 @@
 -- A run on its way: what is answered so far, and what is kept of the line that has not ended.
-use Rattle.std.specs.Prelude.{◌≡◌, ◌≤◌, ℕ, ◌+◌, List, [], ◌++◌, length, take, if◌then◌else◌, Bool, Option, Some, None}
+use Rattle.std.specs.Prelude.{◌≡◌, ◌≤◌, ℕ, ◌+◌, List, [], ◌++◌, length, take, if◌then◌else◌, Bool, Option, Some, None, Result, Ok, Err, MatchResult}
 use Rattle.std.specs.Io.KnownBytes.{Appends, IsAtEnd}
 use Rattle.mq_router.specs.World.{World, Request}
 use Rattle.mq_router.specs.After.{next}
@@ -7,13 +7,13 @@ use Rattle.mq_router.specs.StandsFor.{State, StandsFor}
 use Rattle.mq_cli.specs.declared.script.outcome.RunFault.{RunFault}
 use Rattle.mq_cli.specs.declared.script.outcome.RunFault.TheVariants as fault
 use Rattle.mq_cli.specs.declared.script.progress.Progress.{Progress}
-use Rattle.mq_cli.specs.Reading.{reading}
+use Rattle.mq_cli.specs.Reading.{reading, line_limit}
 use Rattle.mq_cli.specs.Output.{whole_lines, last_piece, output, whole_output, command_in, world_after, text_of, is_refused, refused_from, Summarizes}
 use Rattle.mq_cli.specs.Ending.{AppendsSome, WritesLines}
 
 -- how much of a line is kept: one byte more than a line may have
 unfoldable pub kept : ℕ
-kept = 1048577
+kept = line_limit + 1
 
 abbrev pub next_or : World → Option Request → World
 next_or w None = w
@@ -64,11 +64,9 @@ write_failures fault.Read = 0
 write_failures fault.TooMuch = 0
 write_failures fault.Memory = 0
 
--- all was read, and its whole lines are answered
-pub record ReadAll (limit : ℕ) (w : World) (given : List ℕ) (p : Progress) (left before after : Option (List ℕ)) : Type 0 where
-  pub ended : IsAtEnd left
-  pub within : length given ≤ limit
-  pub told : Told w given p before after
+abbrev pub failures_of : {T : Type 0} → Result T RunFault → ℕ
+failures_of (Ok x) = 0
+failures_of (Err e) = write_failures e
 
 -- all lines are answered
 pub record Finished (w : World) (given : List ℕ) (p : Progress) (before after : Option (List ℕ)) : Type 0 where
@@ -81,3 +79,51 @@ StoppedLast w given fault.Read before after = ⊥
 StoppedLast w given fault.TooMuch before after = ⊥
 StoppedLast w given fault.Write before after = AppendsSome before after (output w given)
 StoppedLast w given fault.Memory before after = WritesLines w given before after
+
+-- ## What a call makes of a run, and of what its writer had taken
+
+-- the line that is kept is answered
+unfoldable pub AnswersLine : (old new : Progress) (before after : Option (List ℕ)) → Type 0
+AnswersLine old new before after = (w : World) → StandsFor old.router w → Answered w old new before after
+
+-- or it isn't
+unfoldable pub StopsAtLine : Progress → RunFault → (before after : Option (List ℕ)) → Type 0
+StopsAtLine old e before after = (w : World) → StandsFor old.router w → Unanswered w old e before after
+
+abbrev pub Answers : {T : Type 0} → (old new : Progress) → Result T RunFault → (before after : Option (List ℕ)) → Type 0
+Answers old new result before after =
+    MatchResult result (λ _. AnswersLine old new before after) (λ e. StopsAtLine old e before after)
+
+-- more bytes are given, and the lines that they end are answered
+unfoldable pub TakesBytes : (old new : Progress) → List ℕ → (before after : Option (List ℕ)) → Type 0
+TakesBytes old new bytes before after = (w : World) (given : List ℕ) (start : Option (List ℕ))
+    → Told w given old start before → Told w (given ++ bytes) new start after
+
+-- or the run stops among them
+unfoldable pub StopsAmong : Progress → List ℕ → RunFault → (before after : Option (List ℕ)) → Type 0
+StopsAmong old bytes e before after = (w : World) (given : List ℕ) (start : Option (List ℕ))
+    → Told w given old start before → Stopped w (given ++ bytes) e start after
+
+abbrev pub Takes : {T : Type 0} → (old new : Progress) → List ℕ → Result T RunFault → (before after : Option (List ℕ)) → Type 0
+Takes old new bytes result before after =
+    MatchResult result (λ _. TakesBytes old new bytes before after) (λ e. StopsAmong old bytes e before after)
+
+-- no more bytes come, and a last piece is answered
+unfoldable pub EndsLines : (old new : Progress) (before after : Option (List ℕ)) → Type 0
+EndsLines old new before after = (w : World) (given : List ℕ) (start : Option (List ℕ))
+    → Told w given old start before → Finished w given new start after
+
+-- or the run stops there
+unfoldable pub StopsLast : Progress → RunFault → (before after : Option (List ℕ)) → Type 0
+StopsLast old e before after = (w : World) (given : List ℕ) (start : Option (List ℕ))
+    → Told w given old start before → StoppedLast w given e start after
+
+abbrev pub Ends : {T : Type 0} → (old new : Progress) → Result T RunFault → (before after : Option (List ℕ)) → Type 0
+Ends old new result before after =
+    MatchResult result (λ _. EndsLines old new before after) (λ e. StopsLast old e before after)
+
+-- all that the reader gives was taken
+pub record TakesAll (limit : ℕ) (old new : Progress) (given : List ℕ) (left before after : Option (List ℕ)) : Type 0 where
+  pub ended : IsAtEnd left
+  pub within : length given ≤ limit
+  pub taken : TakesBytes old new given before after

@@ -1,5 +1,5 @@
 -- What a device wraps, and how often it failed.
-use Rattle.std.specs.Prelude.{ℕ}
+use Rattle.std.specs.Prelude.{ℕ, List, Option, option_and_then}
 use Rattle.mq_cli.specs.declared.devices.standard.StdSource.{StdSource}
 use Rattle.mq_cli.specs.declared.devices.standard.StdSink.{StdSink}
 
@@ -14,3 +14,7 @@ writer_of s = s.inner
 
 abbrev pub sink_failures : {W : Type 0} → StdSink W → ℕ
 sink_failures s = s.failed
+
+-- what the writer of a sink held after its last flush
+abbrev pub flushed_contents : {W : Type 0} → (W → Option (List ℕ)) → StdSink W → Option (List ℕ)
+flushed_contents contents s = option_and_then (λ flushed. contents flushed.value) s.flushed

@@ -1,9 +1,10 @@
 //! Access list files.
-ghost use Rattle.std.specs.Prelude.{◌<◌, ℕ, List, Err, IfOk, IfErr, length};
+ghost use Rattle.std.specs.Prelude.{◌<◌, Err, IfOk, IfErr, length};
 ghost use Rattle.std.specs.Io.KnownBytes.{Consumes};
-ghost use Rattle.mq_cli.specs.AclFile.{AclFileEnding, IsAnswerTo, IsWholeFile, acl_file_limit};
+ghost use Rattle.mq_cli.specs.AclFile.{AclFileEnds, IsAnswerTo, IsWholeFile, acl_file_limit};
+ghost use Rattle.mq_cli.specs.Ending.{watch};
 
-use crate::devices::Source;
+use crate::devices::{PIECE, Source};
 use mq_acl::{Acl, AclFault, AclKind};
 use std::alloc::{AllocError, Global};
 use std::str;
@@ -11,9 +12,6 @@ use thiserror::Error;
 
 /// How many bytes the file may have.
 const FILE_LIMIT: usize = 16_777_216;
-
-/// How many bytes are asked for at a time.
-const PIECE: usize = 65_536;
 
 /// Why an access list file gives no access list: the first of these whose condition holds. `Memory` may stand in place
 /// of any answer.
@@ -55,10 +53,9 @@ fn read_file<R: Source>(
     limit: usize,
 ) -> Result<Vec<u8>, AclFileFault>
     requires { 0 < length piece.old }
-    ensures ok { IfOk result (λ bytes. Consumes (R.to_come reader.old) (R.to_come reader.new) bytes.items
-        × IsWholeFile limit bytes.items (R.to_come reader.new) (record { before = R.failures reader.old; after = R.failures reader.new })) }
-    ensures err { IfErr result (λ fault. (given : List ℕ) × Consumes (R.to_come reader.old) (R.to_come reader.new) given
-        × AclFileEnding limit (Err fault) given (R.to_come reader.new) (record { before = R.failures reader.old; after = R.failures reader.new })) }
+    ensures ok { let seen = watch R.to_come R.failures reader.old reader.new in
+        IfOk result (λ bytes. Consumes seen.before seen.after bytes.items × IsWholeFile limit bytes.items seen.after seen.calls) }
+    ensures err { IfErr result (λ fault. AclFileEnds limit (Err fault) (watch R.to_come R.failures reader.old reader.new)) }
 {
     let mut bytes = Vec::new(alloc);
     'reads: loop {
@@ -72,10 +69,7 @@ fn read_file<R: Source>(
         if n > limit - bytes.len() {
             return Err(AclFileFault::TooLong);
         }
-        match bytes.extend_from_slice(&piece[..n]) {
-            Ok(()) => {}
-            Err(_) => return Err(AclFileFault::Memory),
-        }
+        bytes.extend_from_slice(&piece[..n])?;
     }
 }
 
@@ -99,14 +93,11 @@ fn parse_acl(alloc: Global, bytes: &[u8]) -> Result<Acl, AclFileFault>
 /// Reads an access list from the bytes that a reader gives, in whatever pieces. Memory is that of the file and of its
 /// access list.
 pub fn read_acl<R: Source>(alloc: Global, reader: &mut R) -> Result<Acl, AclFileFault>
-    ensures { (given : List ℕ) × Consumes (R.to_come reader.old) (R.to_come reader.new) given
-        × AclFileEnding acl_file_limit result given (R.to_come reader.new) (record { before = R.failures reader.old; after = R.failures reader.new }) }
+    ensures { AclFileEnds acl_file_limit result (watch R.to_come R.failures reader.old reader.new) }
 {
     let Ok(mut piece) = vec![in alloc; 0u8; PIECE] else {
         return Err(AclFileFault::Memory);
     };
-    match read_file(alloc, reader, piece.as_mut_slice(), FILE_LIMIT) {
-        Ok(bytes) => parse_acl(alloc, bytes.as_slice()),
-        Err(fault) => Err(fault),
-    }
+    let bytes = read_file(alloc, reader, piece.as_mut_slice(), FILE_LIMIT)?;
+    parse_acl(alloc, bytes.as_slice())
 }

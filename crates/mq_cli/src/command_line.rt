@@ -23,10 +23,15 @@ Each line of a script is a JSON object, such as
 The commands and their fields, those in brackets optional:
   connect      client [user]
   disconnect   client
-  subscribe    client filter [qos] [no_local] [id]
+  subscribe    client filter [qos] [no_local] [rap] [handling] [id]
   unsubscribe  client filter
-  publish      client topic [payload] [qos]
+  publish      client topic [payload] [qos] [retain] [expiry]
   acl          [text]
+  advance      seconds
+  stat
+
+A filter $share/NAME/FILTER is a shared subscription: the clients that share
+FILTER under NAME take turns.
 
 An accepted line is answered by a line for each copy of its message and a
 closing line, a refused line by one line that says why.

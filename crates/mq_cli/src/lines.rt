@@ -9,4 +9,4 @@ mod report;
 
 pub use fault::LineFault;
 pub use print::{print_answer, print_line_fault, print_refusal};
-pub use read::read_line;
+pub use read::{LINE_LIMIT, read_line};

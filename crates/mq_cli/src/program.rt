@@ -1,22 +1,25 @@
 //! All of the program but its `main`.
-ghost use Rattle.std.specs.Prelude.{◌≡◌, ◌≢◌, ◌≤◌, ◌++◌, [], ℕ, List, Some, None, IfOk, IfErr, map, option_map, string_bytes, codes};
+ghost use Rattle.std.specs.Prelude.{◌≡◌, ◌≢◌, ◌≤◌, [], ℕ, List, Some, None, Ok, OnOk, IfOk, IfErr, map, option_map, string_bytes, codes};
 ghost use Rattle.clap.specs.Words.{fault_of};
-ghost use Rattle.mq_router.specs.World.{empty_world};
+ghost use Rattle.mq_router.specs.World.{World, empty_world};
 ghost use Rattle.mq_router.specs.StandsFor.{StandsFor};
-ghost use Rattle.mq_cli.specs.Output.{output, Summarizes};
+ghost use Rattle.mq_cli.specs.AclFile.{IsAnswerTo};
 ghost use Rattle.mq_cli.specs.CommandLine.{mqroute, given};
-ghost use Rattle.mq_cli.specs.Program.{script_file, failure_status, AnswersAll};
+ghost use Rattle.mq_cli.specs.Program.{script_file, failure_status, BeginsIn, IsScript, AnswersScript, AnswersAll};
 
 use crate::acl_file::{AclFileFault, read_acl};
 use crate::command_line::{Options, UsageFault, arguments};
 use crate::devices::{Sink, Source, StdSource};
-use crate::script::{RunFault, Summary, exit_status, run, write_all};
+use crate::script::{RUN_FAILED, RunFault, Summary, exit_status, flush, run, write_all};
 use mq_acl::{Acl, AclFault, AclKind};
 use mq_router::Router;
 use std::alloc::Global;
 use std::rt::Files;
 use std::{fs, io};
 use thiserror::Error;
+
+/// The exit status where the words, a file or the access list can't be read.
+pub const UNREADABLE: u8 = 2;
 
 /// Why the program ends before its script does.
 #[derive(Clone, Copy, Debug, Error)]
@@ -35,8 +38,25 @@ enum Failure<'a> {
     },
     #[error("cannot open script {0}")]
     Script(&'a str),
-    #[error("{0}")]
-    Run(RunFault),
+    #[error("read fault")]
+    Read,
+    #[error("write fault")]
+    Write,
+    #[error("script too long")]
+    TooMuch,
+    #[error("out of memory")]
+    Memory,
+}
+
+fn run_failure<'a>(fault: RunFault) -> Failure<'a>
+    ensures { failure_status result ≡ 3 }
+{
+    match fault {
+        RunFault::Read => Failure::Read,
+        RunFault::Write => Failure::Write,
+        RunFault::TooMuch => Failure::TooMuch,
+        RunFault::Memory => Failure::Memory,
+    }
 }
 
 fn acl_failure(file: &str, fault: AclFileFault) -> Failure<'_> {
@@ -45,7 +65,7 @@ fn acl_failure(file: &str, fault: AclFileFault) -> Failure<'_> {
         AclFileFault::TooLong => Failure::AclTooLong(file),
         AclFileFault::Utf8 => Failure::AclUtf8(file),
         AclFileFault::Line(AclFault { line, kind }) => Failure::AclLine { file, line, kind },
-        AclFileFault::Memory => Failure::Run(RunFault::Memory),
+        AclFileFault::Memory => Failure::Memory,
     }
 }
 
@@ -58,31 +78,20 @@ fn open<'a, R: Files>(
     match fs::open(rt, file) {
         Ok(opened) => Ok(StdSource::new(opened)),
         Err(e) => match e.kind() {
-            io::ErrorKind::OutOfMemory => Err(Failure::Run(RunFault::Memory)),
+            io::ErrorKind::OutOfMemory => Err(Failure::Memory),
             _ => Err(failure),
         },
     }
 }
 
-fn acl_in<'a, R: Files>(rt: &R, alloc: Global, file: &'a str) -> Result<Acl, Failure<'a>> {
+/// The access list in a file.
+fn acl_in<'a, R: Files>(rt: &R, alloc: Global, file: &'a str) -> Result<Acl, Failure<'a>>
+    ensures { IfOk result (λ acl. (text : List ℕ) × IsAnswerTo text (Ok acl)) }
+{
     let mut source = open(rt, file, Failure::AclRead(file))?;
     match read_acl(alloc, &mut source) {
         Ok(acl) => Ok(acl),
         Err(fault) => Err(acl_failure(file, fault)),
-    }
-}
-
-fn run_file<'a, R: Files, W: Sink>(
-    rt: &R,
-    alloc: Global,
-    router: Router,
-    file: &'a str,
-    out: &mut W,
-) -> Result<Summary, Failure<'a>> {
-    let mut source = open(rt, file, Failure::Script(file))?;
-    match run(alloc, router, &mut source, out) {
-        Ok(summary) => Ok(summary),
-        Err(fault) => Err(Failure::Run(fault)),
     }
 }
 
@@ -96,6 +105,25 @@ fn script_of(options: &Options) -> Option<&str>
     }
 }
 
+/// Runs the script that is in a file.
+fn run_file<'a, R: Files, W: Sink>(
+    rt: &R,
+    alloc: Global,
+    router: Router,
+    file: &'a str,
+    out: &mut W,
+) -> Result<Summary, Failure<'a>>
+    ensures ok { (w : World) (before : List ℕ) → StandsFor router w → W.taken out.old ≡ Some before → IfOk result (λ summary.
+        (script : List ℕ) × AnswersScript w script before (W.taken out.new) summary) }
+    ensures flushed { OnOk result (W.flushed out.new ≡ W.taken out.new) }
+{
+    let mut source = open(rt, file, Failure::Script(file))?;
+    match run(alloc, router, &mut source, out) {
+        Ok(summary) => Ok(summary),
+        Err(fault) => Err(run_failure(fault)),
+    }
+}
+
 /// Runs the script that is read from the input.
 fn run_input<'a, S: Source, W: Sink>(
     alloc: Global,
@@ -103,13 +131,14 @@ fn run_input<'a, S: Source, W: Sink>(
     input: &mut S,
     out: &mut W,
 ) -> Result<Summary, Failure<'a>>
-    ensures ok { (script before : List ℕ) → StandsFor router empty_world → S.to_come input.old ≡ Some script → W.taken out.old ≡ Some before
-        → IfOk result (λ summary. (W.taken out.new ≡ Some (before ++ output empty_world script)) × Summarizes empty_world script summary) }
+    ensures ok { (w : World) (before : List ℕ) → StandsFor router w → W.taken out.old ≡ Some before → IfOk result (λ summary.
+        (script : List ℕ) × IsScript None (S.to_come input.old) script × AnswersScript w script before (W.taken out.new) summary) }
     ensures err { IfErr result (λ failure. failure_status failure ≡ 3) }
+    ensures flushed { OnOk result (W.flushed out.new ≡ W.taken out.new) }
 {
     match run(alloc, router, input, out) {
         Ok(summary) => Ok(summary),
-        Err(fault) => Err(Failure::Run(fault)),
+        Err(fault) => Err(run_failure(fault)),
     }
 }
 
@@ -122,11 +151,12 @@ fn run_with<'a, R: Files, S: Source, W: Sink>(
     input: &mut S,
     out: &mut W,
 ) -> Result<Summary, Failure<'a>>
-    ensures ok { (script before : List ℕ) → StandsFor router empty_world → script_file (option_map string_bytes options.now.script) ≡ None
-        → S.to_come input.old ≡ Some script → W.taken out.old ≡ Some before
-        → IfOk result (λ summary. (W.taken out.new ≡ Some (before ++ output empty_world script)) × Summarizes empty_world script summary) }
+    ensures ok { (w : World) (before : List ℕ) → StandsFor router w → W.taken out.old ≡ Some before → IfOk result (λ summary.
+        (script : List ℕ) × IsScript (script_file (option_map string_bytes options.now.script)) (S.to_come input.old) script
+        × AnswersScript w script before (W.taken out.new) summary) }
     ensures err { script_file (option_map string_bytes options.now.script) ≡ None
         → IfErr result (λ failure. failure_status failure ≡ 3) }
+    ensures flushed { OnOk result (W.flushed out.new ≡ W.taken out.new) }
 {
     match script_of(options) {
         Some(file) => run_file(rt, alloc, router, file, out),
@@ -142,28 +172,25 @@ fn run_options<'a, R: Files, S: Source, W: Sink>(
     input: &mut S,
     out: &mut W,
 ) -> Result<Summary, Failure<'a>>
-    ensures ok { (script before : List ℕ) → options.now.acl_file ≡ None → script_file (option_map string_bytes options.now.script) ≡ None
-        → S.to_come input.old ≡ Some script → W.taken out.old ≡ Some before
-        → IfOk result (λ summary. (W.taken out.new ≡ Some (before ++ output empty_world script)) × Summarizes empty_world script summary) }
+    ensures ok { (before : List ℕ) → W.taken out.old ≡ Some before → IfOk result (λ summary.
+        (w : World) × BeginsIn (option_map string_bytes options.now.acl_file) w
+        × (script : List ℕ) × IsScript (script_file (option_map string_bytes options.now.script)) (S.to_come input.old) script
+        × AnswersScript w script before (W.taken out.new) summary) }
     ensures err { options.now.acl_file ≡ None → script_file (option_map string_bytes options.now.script) ≡ None
         → IfErr result (λ failure. failure_status failure ≡ 3) }
+    ensures flushed { OnOk result (W.flushed out.new ≡ W.taken out.new) }
 {
     let Some(file) = &options.acl_file else {
         return run_with(rt, alloc, Router::new(alloc), options, input, out);
     };
-    match acl_in(rt, alloc, file.as_str()) {
-        Ok(acl) => run_with(rt, alloc, Router::with_acl(alloc, acl), options, input, out),
-        Err(failure) => Err(failure),
-    }
+    let acl = acl_in(rt, alloc, file.as_str())?;
+    run_with(rt, alloc, Router::with_acl(alloc, acl), options, input, out)
 }
 
 /// Writes all of a text at once.
 fn print<W: Sink>(writer: &mut W, text: &str) -> Result<(), RunFault> {
     write_all(writer, text.as_bytes())?;
-    match writer.flush() {
-        Ok(()) => Ok(()),
-        Err(_) => Err(RunFault::Write),
-    }
+    flush(writer)
 }
 
 /// Tells why the program ends, and answers its status. A failed write is passed over.
@@ -176,8 +203,8 @@ fn report<E: Sink>(alloc: Global, failure: Failure<'_>, err: &mut E) -> u8
         Err(_) => print(err, "mqroute: out of memory\n"),
     };
     match failure {
-        Failure::Run(_) => 3,
-        _ => 2,
+        Failure::Read | Failure::Write | Failure::TooMuch | Failure::Memory => RUN_FAILED,
+        _ => UNREADABLE,
     }
 }
 
@@ -189,13 +216,13 @@ fn report_usage<W: Sink, E: Sink>(alloc: Global, fault: UsageFault, out: &mut W,
     match fault {
         UsageFault::Help(text) => match print(out, text.as_str()) {
             Ok(()) => 0,
-            Err(fault) => report(alloc, Failure::Run(fault), err),
+            Err(fault) => report(alloc, run_failure(fault), err),
         },
         UsageFault::Usage(text) => {
             let _ = print(err, text.as_str());
-            2
+            UNREADABLE
         }
-        UsageFault::Memory => report(alloc, Failure::Run(RunFault::Memory), err),
+        UsageFault::Memory => report(alloc, Failure::Memory, err),
     }
 }
 
@@ -219,7 +246,19 @@ pub fn start<R: Files, S: Source, W: Sink, E: Sink>(
         fault_of mqroute given_words ≡ [] → given (codes "acl-file") given_words ≡ None
         → script_file (given (codes "script") given_words) ≡ None
         → S.to_come input.old ≡ Some script → W.taken out.old ≡ Some before
-        → result ≢ 3 → AnswersAll script before (W.taken out.new) result }
+        → result ≢ 3 → AnswersAll empty_world script before (W.taken out.new) result }
+
+    // Where they may name files, a status of 0 or 1 says the same of some script, which is the input's where no file is
+    // named, and of the world that the access list makes.
+    ensures with_files { (before : List ℕ) → let given_words = map string_bytes words.now in
+        fault_of mqroute given_words ≡ [] → W.taken out.old ≡ Some before → result ≢ 2 → result ≢ 3
+        → (w : World) × BeginsIn (given (codes "acl-file") given_words) w
+        × (script : List ℕ) × IsScript (script_file (given (codes "script") given_words)) (S.to_come input.old) script
+        × AnswersAll w script before (W.taken out.new) result }
+
+    // And all that was written is handed on.
+    ensures flushed { fault_of mqroute (map string_bytes words.now) ≡ [] → result ≢ 2 → result ≢ 3
+        → W.flushed out.new ≡ W.taken out.new }
 {
     let options = match arguments(alloc, words) {
         Ok(options) => options,

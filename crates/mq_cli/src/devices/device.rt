@@ -1,4 +1,4 @@
-ghost use Rattle.std.specs.Prelude.{◌≡◌, ℕ, ◌+◌, ◌≤◌, List, length, IfOk, Option};
+ghost use Rattle.std.specs.Prelude.{◌≡◌, ℕ, ◌+◌, ◌≤◌, List, length, IfOk, OnOk, Option};
 ghost use Rattle.std.specs.Io.KnownBytes.{Keeps, ReadConsumes, WriteAppends};
 ghost use Rattle.mq_cli.specs.Failures.{failed, write_failed};
 
@@ -27,6 +27,9 @@ pub trait Sink {
     /// The bytes that were taken, where the device tells them.
     ghost taken: { Self → Option (List ℕ) };
 
+    /// The bytes that were taken when they were last handed on, where the device tells them.
+    ghost flushed: { Self → Option (List ℕ) };
+
     /// How many calls failed.
     ghost failures: { Self → ℕ };
 
@@ -40,5 +43,6 @@ pub trait Sink {
     /// Hands on what it has taken.
     fn flush(&mut self) -> Result<(), DeviceFault>
         ensures bytes { Keeps (taken self.old) (taken self.new) }
+        ensures flushed { OnOk result (flushed self.new ≡ taken self.new) }
         ensures counted { failures self.new ≡ failures self.old + failed result };
 }

@@ -1,9 +1,10 @@
 ghost use Rattle.std.specs.Prelude.{◌≡◌};
-ghost use Rattle.mq_cli.specs.Wrapped.{reader_of, source_failures, writer_of, sink_failures};
+ghost use Rattle.mq_cli.specs.Wrapped.{reader_of, source_failures, writer_of, sink_failures, flushed_contents};
 
 use crate::devices::count::Count;
 use crate::devices::device::{DeviceFault, Sink, Source};
 use std::io::{Read, Write};
+use std::snapshot::Snapshot;
 
 /// A source over a reader. It passes on one call each.
 #[derive(Drop)]
@@ -50,6 +51,8 @@ impl<R: Read> Source for StdSource<R> {
 #[derive(Drop)]
 pub struct StdSink<W> {
     inner: W,
+    /// The writer as it was after its last flush, for contracts alone.
+    flushed: Option<Snapshot<W>>,
     failed: Count,
 }
 
@@ -59,6 +62,7 @@ impl<W: Write> StdSink<W> {
     {
         StdSink {
             inner,
+            flushed: None,
             failed: Count::new(),
         }
     }
@@ -66,13 +70,19 @@ impl<W: Write> StdSink<W> {
     pub fn into_inner(self) -> W
         ensures { result ≡ writer_of self }
     {
-        let StdSink { inner, failed: _ } = self;
+        let StdSink {
+            inner,
+            flushed: _,
+            failed: _,
+        } = self;
         inner
     }
 }
 
 impl<W: Write> Sink for StdSink<W> {
     ghost taken = { λ s. W.contents (writer_of s) };
+
+    ghost flushed = { λ s. flushed_contents W.contents s };
 
     ghost failures = { λ s. sink_failures s };
 
@@ -93,7 +103,10 @@ impl<W: Write> Sink for StdSink<W> {
 
     fn flush(&mut self) -> Result<(), DeviceFault> {
         match self.inner.flush() {
-            Ok(()) => Ok(()),
+            Ok(()) => {
+                self.flushed = Some(Snapshot::of(&self.inner));
+                Ok(())
+            }
             Err(_) => {
                 self.failed.tick();
                 Err(DeviceFault)

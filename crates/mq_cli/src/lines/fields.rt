@@ -4,7 +4,7 @@ ghost use Rattle.std.specs.List.{list_any, list_all};
 ghost use Rattle.std.specs.Map.{keys_of};
 ghost use Rattle.std.specs.Str.{bytes_eq};
 ghost use Rattle.serde_json.specs.View.{view};
-ghost use Rattle.mq_cli.specs.Fields.{Gives, text as text_kind, flag as flag_kind, whole, optional, required, defaulted, has_only as names_only};
+ghost use Rattle.mq_cli.specs.Fields.{Gives, text as text_kind, flag as flag_kind, unsigned, whole, optional, required, defaulted, has_only as names_only};
 
 use crate::lines::fault::LineFault;
 use serde_json::{Map, Value};
@@ -86,6 +86,19 @@ pub fn optional_number(
     match field.as_u64() {
         Some(n) if u64::from(low) <= n && n <= u64::from(high) => Ok(Some(n as u32)),
         _ => Err(LineFault::BadField),
+    }
+}
+
+/// A whole number, which must be there.
+pub fn required_number(value: &Value, name: &str) -> Result<u64, LineFault>
+    ensures { Gives (λ n. n) result (required unsigned name.now (view value.now)) }
+{
+    let Some(field) = value.get(name) else {
+        return Err(LineFault::BadField);
+    };
+    match field.as_u64() {
+        Some(n) => Ok(n),
+        None => Err(LineFault::BadField),
     }
 }
 

@@ -1,9 +1,10 @@
 //! An object that is printed as a line.
 ghost use Rattle.std.specs.Prelude.{◌≡◌, ◌++◌, ◌∷◌, [], false, OnOk, OnErr, IfOk};
+ghost use Rattle.std.specs.Option.{option_copied};
 ghost use Rattle.serde_json.specs.Data.{string, boolean, array, no_members, put};
 ghost use Rattle.serde_json.specs.View.{view, members_view};
 ghost use Rattle.serde_json.specs.Written.{members_have_float, has_float};
-ghost use Rattle.mq_cli.specs.Printed.{put_if, whole_data, numbers_data, whole_if, numbers_if, line_text};
+ghost use Rattle.mq_cli.specs.Printed.{put_if, whole_data, numbers_data, text_if, whole_if, numbers_if, line_text};
 
 use serde_json::{Map, Value};
 use std::alloc::{AllocError, Global};
@@ -42,6 +43,21 @@ impl Object {
         self.put(alloc, name, Value::String(text))
     }
 
+    pub fn text_if(
+        &mut self,
+        alloc: Global,
+        name: &str,
+        text: Option<&str>,
+    ) -> Result<(), AllocError>
+        ensures { OnOk result (members_view self.new.members.entries
+            ≡ put_if name.now (text_if (option_copied text.entry)) (members_view self.old.members.entries)) }
+    {
+        match text {
+            Some(text) => self.text(alloc, name, text),
+            None => Ok(()),
+        }
+    }
+
     pub fn number(&mut self, alloc: Global, name: &str, n: u64) -> Result<(), AllocError>
         ensures { OnOk result (members_view self.new.members.entries
             ≡ put name.now (whole_data n) (members_view self.old.members.entries)) }
@@ -62,6 +78,16 @@ impl Object {
     {
         match n {
             Some(n) => self.number(alloc, name, n),
+            None => Ok(()),
+        }
+    }
+
+    pub fn short_if(&mut self, alloc: Global, name: &str, n: Option<u32>) -> Result<(), AllocError>
+        ensures { OnOk result (members_view self.new.members.entries
+            ≡ put_if name.now (whole_if n) (members_view self.old.members.entries)) }
+    {
+        match n {
+            Some(n) => self.number(alloc, name, u64::from(n)),
             None => Ok(()),
         }
     }

@@ -4,17 +4,25 @@ ghost use Rattle.serde_json.specs.View.{view};
 ghost use Rattle.mq_router.specs.Views.{request_of};
 ghost use Rattle.mq_router.specs.Refusals.{is_valid};
 ghost use Rattle.mq_cli.specs.Fields.{Gives, or_fault};
-ghost use Rattle.mq_cli.specs.Reading.{connect_fields, disconnect_fields, subscribe_fields, unsubscribe_fields, publish_fields, acl_fields, command_of, value_of, reading, is_blank as blank};
+ghost use Rattle.mq_cli.specs.Reading.{connect_fields, disconnect_fields, subscribe_fields, unsubscribe_fields, publish_fields, acl_fields, advance_fields, stat_fields, command_of, value_of, reading, is_blank as blank};
 
 use crate::lines::fault::LineFault;
 use crate::lines::fields::{
-    has_only, is_set, number_or_zero, optional_number, optional_text, required_text, text_or_empty,
+    has_only, is_set, number_or_zero, optional_number, optional_text, required_number,
+    required_text, text_or_empty,
 };
 use mq_router::Command;
 use serde_json::Value;
 use std::alloc::Global;
 
-const LINE_LIMIT: usize = 1_048_576;
+/// How many bytes a line may have.
+pub const LINE_LIMIT: usize = 1_048_576;
+
+const MOST_QOS: u8 = 2;
+
+const MOST_HANDLING: u8 = 2;
+
+const MOST_ID: u32 = 268_435_455;
 
 #[tactic(auto, unfolding(crate::specs::Reading::connect_fields))]
 fn connect(alloc: Global, value: &Value) -> Result<Command, LineFault>
@@ -46,19 +54,28 @@ fn subscribe(alloc: Global, value: &Value) -> Result<Command, LineFault>
     ensures value { Gives request_of result (subscribe_fields (view value.now)) }
     ensures valid { IfOk result (λ c. IsTrue (is_valid (request_of c))) }
 {
-    if !has_only(value, &["do", "client", "filter", "qos", "no_local", "id"]) {
+    if !has_only(
+        value,
+        &[
+            "do", "client", "filter", "qos", "no_local", "rap", "handling", "id",
+        ],
+    ) {
         return Err(LineFault::BadField);
     }
     let client = required_text(alloc, value, "client")?;
     let filter = required_text(alloc, value, "filter")?;
-    let qos = number_or_zero(value, "qos", 2)?;
+    let qos = number_or_zero(value, "qos", MOST_QOS)?;
     let no_local = is_set(value, "no_local")?;
-    let id = optional_number(value, "id", 1, 268_435_455)?;
+    let rap = is_set(value, "rap")?;
+    let handling = number_or_zero(value, "handling", MOST_HANDLING)?;
+    let id = optional_number(value, "id", 1, MOST_ID)?;
     Ok(Command::Subscribe {
         client,
         filter,
         qos,
         no_local,
+        rap,
+        handling,
         id,
     })
 }
@@ -81,18 +98,27 @@ fn publish(alloc: Global, value: &Value) -> Result<Command, LineFault>
     ensures value { Gives request_of result (publish_fields (view value.now)) }
     ensures valid { IfOk result (λ c. IsTrue (is_valid (request_of c))) }
 {
-    if !has_only(value, &["do", "client", "topic", "payload", "qos"]) {
+    if !has_only(
+        value,
+        &[
+            "do", "client", "topic", "payload", "qos", "retain", "expiry",
+        ],
+    ) {
         return Err(LineFault::BadField);
     }
     let client = required_text(alloc, value, "client")?;
     let topic = required_text(alloc, value, "topic")?;
     let payload = text_or_empty(alloc, value, "payload")?;
-    let qos = number_or_zero(value, "qos", 2)?;
+    let qos = number_or_zero(value, "qos", MOST_QOS)?;
+    let retain = is_set(value, "retain")?;
+    let expiry = optional_number(value, "expiry", 0, u32::MAX)?;
     Ok(Command::Publish {
         client,
         topic,
         payload,
         qos,
+        retain,
+        expiry,
     })
 }
 
@@ -106,6 +132,29 @@ fn acl(alloc: Global, value: &Value) -> Result<Command, LineFault>
     }
     let text = optional_text(alloc, value, "text")?;
     Ok(Command::SetAcl { text })
+}
+
+#[tactic(auto, unfolding(crate::specs::Reading::advance_fields))]
+fn advance(value: &Value) -> Result<Command, LineFault>
+    ensures value { Gives request_of result (advance_fields (view value.now)) }
+    ensures valid { IfOk result (λ c. IsTrue (is_valid (request_of c))) }
+{
+    if !has_only(value, &["do", "seconds"]) {
+        return Err(LineFault::BadField);
+    }
+    let seconds = required_number(value, "seconds")?;
+    Ok(Command::Advance { seconds })
+}
+
+#[tactic(auto, unfolding(crate::specs::Reading::stat_fields))]
+fn stat(value: &Value) -> Result<Command, LineFault>
+    ensures value { Gives request_of result (stat_fields (view value.now)) }
+    ensures valid { IfOk result (λ c. IsTrue (is_valid (request_of c))) }
+{
+    if !has_only(value, &["do"]) {
+        return Err(LineFault::BadField);
+    }
+    Ok(Command::Stat)
 }
 
 #[tactic(auto, unfolding(crate::specs::Reading::command_of, crate::specs::Reading::fields_of))]
@@ -123,6 +172,8 @@ fn command(alloc: Global, value: &Value) -> Result<Command, LineFault>
         "unsubscribe" => unsubscribe(alloc, value),
         "publish" => publish(alloc, value),
         "acl" => acl(alloc, value),
+        "advance" => advance(value),
+        "stat" => stat(value),
         _ => Err(LineFault::BadCommand),
     }
 }

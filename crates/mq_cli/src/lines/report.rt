@@ -1,5 +1,5 @@
 //! How a refused line is told.
-ghost use Rattle.std.specs.Prelude.{◌≡◌};
+ghost use Rattle.std.specs.Prelude.{◌≡◌, option_map};
 ghost use Rattle.mq_cli.specs.Printed.{report_of, plain as plain_report, refusal_report as report_of_refusal, fault_report as report_of_fault};
 
 use crate::lines::fault::LineFault;
@@ -13,18 +13,19 @@ pub struct Reported {
     pub acl_line: Option<u64>,
 }
 
-fn plain(code: u8, name: &'static str) -> Reported
-    ensures { report_of result ≡ plain_report code name.entry.now }
+fn plain(code: u8, name: &'static str) -> Option<Reported>
+    ensures { option_map report_of result ≡ plain_report code name.entry.now }
 {
-    Reported {
+    Some(Reported {
         code,
         name,
         acl_line: None,
-    }
+    })
 }
 
-pub fn refusal_report(refusal: Refusal) -> Reported
-    ensures { report_of result ≡ report_of_refusal refusal }
+/// None for want of memory.
+pub fn refusal_report(refusal: Refusal) -> Option<Reported>
+    ensures { option_map report_of result ≡ report_of_refusal refusal }
 {
     match refusal {
         Refusal::ClientId => plain(5, "ClientId"),
@@ -32,23 +33,27 @@ pub fn refusal_report(refusal: Refusal) -> Reported
         Refusal::NotConnected => plain(7, "NotConnected"),
         Refusal::TopicName => plain(8, "TopicName"),
         Refusal::TopicFilter => plain(9, "TopicFilter"),
+        Refusal::SharedNoLocal => plain(10, "SharedNoLocal"),
         Refusal::NotAuthorized => plain(11, "NotAuthorized"),
-        Refusal::AclLine { line } => Reported {
+        Refusal::AclLine { line } => Some(Reported {
+            code: 12,
+            name: "AclLine",
             acl_line: Some(line),
-            ..plain(12, "AclLine")
-        },
-        Refusal::Memory => plain(0, ""),
+        }),
+        Refusal::ClockTooFar => plain(13, "ClockTooFar"),
+        Refusal::Memory => None,
     }
 }
 
-pub fn line_fault_report(fault: LineFault) -> Reported
-    ensures { report_of result ≡ report_of_fault fault }
+/// None for want of memory.
+pub fn line_fault_report(fault: LineFault) -> Option<Reported>
+    ensures { option_map report_of result ≡ report_of_fault fault }
 {
     match fault {
         LineFault::LineTooLong => plain(1, "LineTooLong"),
         LineFault::BadJson => plain(2, "BadJson"),
         LineFault::BadCommand => plain(3, "BadCommand"),
         LineFault::BadField => plain(4, "BadField"),
-        LineFault::Memory => plain(0, ""),
+        LineFault::Memory => None,
     }
 }

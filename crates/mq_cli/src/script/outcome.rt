@@ -16,7 +16,7 @@ pub struct Summary {
 
 impl Summary {
     /// One line more.
-    pub fn with_line(self, is_refused: bool) -> Summary
+    pub(super) fn with_line(self, is_refused: bool) -> Summary
         requires lines { self.lines + 1 < 2 ^ 64 }
         requires refused { self.refused ≤ self.lines }
         ensures { result ≡ record {
@@ -33,18 +33,15 @@ impl Summary {
 
 /// Why a run ended before its script did.
 #[derive(Clone, Copy, Debug, PartialEq, Eq, Error)]
+#[error("{:?}", self)]
 pub enum RunFault {
     /// The reader failed.
-    #[error("read fault")]
     Read,
     /// The writer failed, or took nothing.
-    #[error("write fault")]
     Write,
-    /// The script has more than 4,294,967,296 bytes.
-    #[error("script too long")]
+    /// The script has more bytes than it may have: of `run`, more than 4,294,967,296.
     TooMuch,
     /// There was no memory.
-    #[error("out of memory")]
     Memory,
 }
 
@@ -59,6 +56,9 @@ impl From<AllocError> for RunFault {
     }
 }
 
+/// The exit status where the run failed or memory ran out.
+pub const RUN_FAILED: u8 = 3;
+
 /// The exit status of the program: 0 where every line was accepted, 1 where one was refused, and 3 where the run failed.
 pub fn exit_status(outcome: &Result<Summary, RunFault>) -> u8
     ensures { result ≡ status_of outcome.now }
@@ -66,6 +66,6 @@ pub fn exit_status(outcome: &Result<Summary, RunFault>) -> u8
     match outcome {
         Ok(summary) if summary.refused == 0 => 0,
         Ok(_) => 1,
-        Err(_) => 3,
+        Err(_) => RUN_FAILED,
     }
 }

@@ -1,7 +1,8 @@
 //! Writes to a sink.
 ghost use Rattle.std.specs.Prelude.{◌≡◌, ◌+◌, OnOk, OnErr, IfErr};
-ghost use Rattle.std.specs.Io.KnownBytes.{Appends};
+ghost use Rattle.std.specs.Io.KnownBytes.{Appends, Keeps};
 ghost use Rattle.mq_cli.specs.Ending.{AppendsSome};
+ghost use Rattle.mq_cli.specs.Running.{failures_of};
 
 use crate::devices::Sink;
 use crate::script::outcome::RunFault;
@@ -9,9 +10,8 @@ use crate::script::outcome::RunFault;
 /// Writes all of a text, in as many calls as it takes.
 pub fn write_all<W: Sink>(writer: &mut W, text: &[u8]) -> Result<(), RunFault>
     ensures ok { OnOk result (Appends (W.taken writer.old) (W.taken writer.new) text.now) }
-    ensures ok_count { OnOk result (W.failures writer.new ≡ W.failures writer.old) }
     ensures err { OnErr result (AppendsSome (W.taken writer.old) (W.taken writer.new) text.now) }
-    ensures err_count { OnErr result (W.failures writer.new ≡ W.failures writer.old + 1) }
+    ensures counted { W.failures writer.new ≡ W.failures writer.old + failures_of result }
     ensures kind { IfErr result (λ e. e ≡ RunFault.Write) }
 {
     let mut at = 0;
@@ -27,4 +27,17 @@ pub fn write_all<W: Sink>(writer: &mut W, text: &[u8]) -> Result<(), RunFault>
         }
     }
     Ok(())
+}
+
+/// Hands on all that the writer has taken.
+pub fn flush<W: Sink>(writer: &mut W) -> Result<(), RunFault>
+    ensures kept { Keeps (W.taken writer.old) (W.taken writer.new) }
+    ensures flushed { OnOk result (W.flushed writer.new ≡ W.taken writer.new) }
+    ensures counted { W.failures writer.new ≡ W.failures writer.old + failures_of result }
+    ensures kind { IfErr result (λ e. e ≡ RunFault.Write) }
+{
+    match writer.flush() {
+        Ok(()) => Ok(()),
+        Err(_) => Err(RunFault::Write),
+    }
 }

@@ -1,4 +1,5 @@
 use Rattle.std.proofs.Common.{◌≡◌, ◌≤◌, ◌+◌, ◌++◌, ℕ, List, length, take, arith, length-append, length-take-le}
+use Rattle.std.proofs.lemmas.Result.{err_from_is_err_and}
 use Rattle.std.proofs.KnownBytes.{Consumes-trans}
 use Rattle.mq_cli.proofs.acl_file.read_file.Goals as goal
 
@@ -18,9 +19,11 @@ returns-then-n-limit-clause-err g c =
       ),
     )
 
-pub returns-in-Err-extend_from_slice-clause-err : goal.returns-in-Err-extend_from_slice-clause-err
-returns-in-Err-extend_from_slice-clause-err g c =
-    let bytes : List ℕ = c.reads.bytes.items in (
+pub returns-in_err-extend_from_slice-clause-err : goal.returns-in_err-extend_from_slice-clause-err
+returns-in_err-extend_from_slice-clause-err g c =
+    let bytes : List ℕ = c.reads.bytes.items in
+    let fault = err_from_is_err_and c.from_residual.result c.from_residual.ensures.1 in
+    rw (fault.1, fault.2) (
       bytes ++ take c.in-Ok.n c.read.new.buf,
       Consumes-trans _ (g.R.Source.to_come c.reads.reader) _ bytes (take c.in-Ok.n c.read.new.buf) c.reads.invariant.given c.in-Ok.ensures.bytes.0,
       let counted = c.in-Ok.ensures.counted in omega arith,

@@ -1,26 +1,64 @@
-use Rattle.std.proofs.Common.{◌∙◌, ◌==◌, ℕ, ap, map, string_bytes, cond}
+use Rattle.std.proofs.Common.{◌∙◌, ◌==◌, ℕ, List, Option, ap, subst, sym, map, string_bytes, cond}
 use Rattle.clap.specs.Words.{fault_of}
+use Rattle.mq_router.specs.World.{World}
 use Rattle.mq_cli.specs.CommandLine.{mqroute}
-use Rattle.mq_cli.specs.Program.{script_file}
-use Rattle.mq_cli.proofs.ProgramLemmas.{memory_only, none_from_map}
+use Rattle.mq_cli.specs.Program.{script_file, BeginsIn, IsScript}
+use Rattle.mq_cli.proofs.ProgramLemmas.{memory_only, none_from_map, failure_two, begins_empty, script_told}
 use Rattle.mq_cli.proofs.program.start.Goals as goal
+
+-- ## The words are not understood: there was no memory
+
+pub returns-in-Err-clause-with_files : goal.returns-in-Err-clause-with_files
+returns-in-Err-clause-with_files g c = λ before understood taken not_unread not_failed.
+    absurd (not_failed (c.report_usage.ensures.memory (memory_only (fault_of mqroute (map string_bytes c.args.words.now)) c.in-Err.fault understood c.in-Err.ensures.err)))
 
 pub returns-in-Err-clause-answered : goal.returns-in-Err-clause-answered
 returns-in-Err-clause-answered g c = λ script before understood acl file to_come taken not_failed.
     absurd (not_failed (c.report_usage.ensures.memory (memory_only (fault_of mqroute (map string_bytes c.args.words.now)) c.in-Err.fault understood c.in-Err.ensures.err)))
 
+pub returns-in-Err-clause-flushed : goal.returns-in-Err-clause-flushed
+returns-in-Err-clause-flushed g c = λ understood not_unread not_failed.
+    absurd (not_failed (c.report_usage.ensures.memory (memory_only (fault_of mqroute (map string_bytes c.args.words.now)) c.in-Err.fault understood c.in-Err.ensures.err)))
+
+-- ## The script is answered
+
+pub returns-in-Ok-run_options-clause-with_files : goal.returns-in-Ok-run_options-clause-with_files
+returns-in-Ok-run_options-clause-with_files g c = λ before understood taken not_unread not_failed.
+    let done = c.in-Ok-run_options.ensures.ok before taken in
+    let w : World = done.0 in
+    let script : List ℕ = done.2 in (
+      w,
+      subst (λ (file : Option (List ℕ)). BeginsIn file w) c.in-Ok.ensures.ok.acl_file done.1,
+      script,
+      subst (λ (file : Option (List ℕ)). IsScript (script_file file) (g.S.Source.to_come c.args.input.now) script) c.in-Ok.ensures.ok.script done.3,
+      record {
+        written = done.4.written;
+        ended = c.exit_status.ensures ∙ ap (λ (n : ℕ). cond {A = ℕ} (n == 0) 0 1) done.4.counts.refused;
+      },
+    )
+
 pub returns-in-Ok-run_options-clause-answered : goal.returns-in-Ok-run_options-clause-answered
 returns-in-Ok-run_options-clause-answered g c = λ script before understood acl file to_come taken not_failed.
-    let no_acl = none_from_map string_bytes c.in-Ok.options.acl_file _ c.in-Ok.ensures.ok.acl_file acl in
-    let no_file = ap script_file c.in-Ok.ensures.ok.script ∙ file in
-    let done = c.in-Ok-run_options.ensures.ok script before no_acl no_file to_come taken in
-    record {
-      written = done.0;
-      ended = c.exit_status.ensures ∙ ap (λ (n : ℕ). cond {A = ℕ} (n == 0) 0 1) done.1.refused;
-    }
+    let done = c.in-Ok-run_options.ensures.ok before taken in
+    let empty = begins_empty _ done.0 (c.in-Ok.ensures.ok.acl_file ∙ acl) done.1 in
+    let same = script_told _ _ done.2 script (ap script_file c.in-Ok.ensures.ok.script ∙ file) to_come done.3 in
+    rw (sym empty, sym same) (record {
+      written = done.4.written;
+      ended = c.exit_status.ensures ∙ ap (λ (n : ℕ). cond {A = ℕ} (n == 0) 0 1) done.4.counts.refused;
+    })
+
+-- ## The run fails
+
+pub returns-clause-with_files : goal.returns-clause-with_files
+returns-clause-with_files g c = λ before understood taken not_unread not_failed.
+    absurd (failure_two c.in-Err-run_options.failure (λ two. not_unread (c.report.ensures.status ∙ two)) (λ three. not_failed (c.report.ensures.status ∙ three)))
 
 pub returns-clause-answered : goal.returns-clause-answered
 returns-clause-answered g c = λ script before understood acl file to_come taken not_failed.
     let no_acl = none_from_map string_bytes c.in-Ok.options.acl_file _ c.in-Ok.ensures.ok.acl_file acl in
     let no_file = ap script_file c.in-Ok.ensures.ok.script ∙ file in
     absurd (not_failed (c.report.ensures.status ∙ c.in-Err-run_options.ensures.err no_acl no_file))
+
+pub returns-clause-flushed : goal.returns-clause-flushed
+returns-clause-flushed g c = λ understood not_unread not_failed.
+    absurd (failure_two c.in-Err-run_options.failure (λ two. not_unread (c.report.ensures.status ∙ two)) (λ three. not_failed (c.report.ensures.status ∙ three)))

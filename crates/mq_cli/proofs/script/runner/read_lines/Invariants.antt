@@ -1,7 +1,6 @@
-use Rattle.std.proofs.Common.{◌≡◌, ◌≤◌, ◌+◌, ◌-◌, [], ℕ, List, length}
+use Rattle.std.proofs.Common.{◌≡◌, ◌≤◌, ◌+◌, ◌-◌, ℕ, List, length}
 use Rattle.std.specs.Io.KnownBytes.{Consumes}
-use Rattle.mq_router.specs.World.{World}
-use Rattle.mq_cli.specs.Running.{Told}
+use Rattle.mq_cli.specs.Running.{TakesBytes}
 use Rattle.mq_cli.proofs.script.runner.read_lines.Given as goal
 
 abbrev pub invariant-reads : goal.invariant-reads
@@ -11,12 +10,10 @@ invariant-reads g l =
     record {
       within : l.total ≤ l.limit;
       lines : l.progress.summary.lines + length l.progress.line.items ≤ l.total;
-      refused : l.progress.summary.refused ≤ l.progress.summary.lines;
       reader : g.R.Source.failures l.reader ≡ g.R.Source.failures l.fn.reader;
       writer : g.W.Sink.failures l.writer ≡ g.W.Sink.failures l.fn.writer;
-      told : (w : World) → Told w [] l.fn.progress (taken l.fn.writer) (taken l.fn.writer)
-          → (given : List ℕ) × Consumes (to_come l.fn.reader) (to_come l.reader) given × (length given ≡ l.total)
-          × Told w given l.progress (taken l.fn.writer) (taken l.writer);
+      takes : (given : List ℕ) × Consumes (to_come l.fn.reader) (to_come l.reader) given × (length given ≡ l.total)
+          × TakesBytes l.fn.progress l.progress given (taken l.fn.writer) (taken l.writer);
     }
 
 abbrev pub decreases-reads : goal.decreases-reads

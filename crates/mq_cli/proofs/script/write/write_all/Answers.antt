@@ -1,5 +1,6 @@
 use Rattle.std.proofs.Common.{◌+◌, take, rules}
-use Rattle.mq_cli.proofs.WrittenLemmas.{Appends-kept, Appends-more, AppendsSome-take}
+use Rattle.std.proofs.KnownBytes.{Appends-kept}
+use Rattle.mq_cli.proofs.WrittenLemmas.{Appends-more, AppendsSome-take}
 use Rattle.mq_cli.proofs.script.write.write_all.Goals as goal
 
 pub returns-then-n-eq0-clause-err : goal.returns-then-n-eq0-clause-err

@@ -1,25 +1,16 @@
-use Rattle.std.proofs.Common.{◌++◌, ◌∷◌, [], refl, sym, append_assoc}
-use Rattle.mq_cli.specs.declared.script.progress.Progress.{Progress}
-use Rattle.mq_cli.specs.Output.{whole_lines, world_after}
+use Rattle.std.proofs.Common.{◌∷◌, [], refl}
+use Rattle.std.proofs.lemmas.Result.{err_from_is_err_and}
 use Rattle.mq_cli.proofs.OutputLemmas.{kept_number}
-use Rattle.mq_cli.proofs.RunLemmas.{Told-text, Told-feed, Stopped-feed, Stopped-memory, WritesLines-grown}
+use Rattle.mq_cli.proofs.StepLemmas.{TakesBytes-text, StopsAmong-memory, Takes-then, Takes-feed}
 use Rattle.mq_cli.proofs.script.progress.Progress.end_line.Goals as goal
 
-pub returns-in-Err-clause-err : goal.returns-in-Err-clause-err
-returns-in-Err-clause-err g c = λ w given start told.
-    WritesLines-grown start _ w given (c.args.rest.now ++ 10 ∷ []) (Stopped-memory w given c.args.self.now start _ told)
+pub returns-clause-takes : goal.returns-clause-takes
+returns-clause-takes g c =
+    Takes-then c.answer.result c.args.self.now _ c.answer.new.self c.args.rest.now (10 ∷ []) _ _ _
+    (TakesBytes-text c.args.self.now _ c.args.rest.now _ _ kept_number c.requires.rest refl refl c.in_ok-keep_front.ensures)
+    (Takes-feed c.answer.result _ c.answer.new.self _ _ c.answer.ensures.answers c.answer.ensures.lines c.answer.ensures.line)
 
-pub returns-in-Ok-answer-clause-ok : goal.returns-in-Ok-answer-clause-ok
-returns-in-Ok-answer-clause-ok g c = λ w given start told.
-    let grown : Progress = record c.args.self.now { line = c.keep_front.new.line } in
-    let text = Told-text w given c.args.rest.now 1048577 c.args.self.now grown start _ kept_number c.requires.rest told refl refl c.in-Ok.ensures in
-    rw (sym (append_assoc given c.args.rest.now (10 ∷ [])))
-    (Told-feed w (given ++ c.args.rest.now) grown c.answer.new.self start _ _ text (c.in-Ok-answer.ensures.ok (world_after w (whole_lines (given ++ c.args.rest.now))) text.stands)
-    c.in-Ok-answer.ensures.lines c.in-Ok-answer.ensures.line)
-
-pub returns-in-Err-answer-clause-err : goal.returns-in-Err-answer-clause-err
-returns-in-Err-answer-clause-err g c = λ w given start told.
-    let grown : Progress = record c.args.self.now { line = c.keep_front.new.line } in
-    let text = Told-text w given c.args.rest.now 1048577 c.args.self.now grown start _ kept_number c.requires.rest told refl refl c.in-Ok.ensures in
-    rw (sym (append_assoc given c.args.rest.now (10 ∷ [])))
-    (Stopped-feed w (given ++ c.args.rest.now) grown start _ _ c.in-Err-answer.e text (c.in-Err-answer.ensures.err (world_after w (whole_lines (given ++ c.args.rest.now))) text.stands))
+pub returns-in_err-keep_front-clause-takes : goal.returns-in_err-keep_front-clause-takes
+returns-in_err-keep_front-clause-takes g c =
+    let fault = err_from_is_err_and c.from_residual.result c.from_residual.ensures.1 in
+    rw (fault.1, fault.2) (StopsAmong-memory c.args.self.now _ _)
