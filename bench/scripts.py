@@ -1,10 +1,15 @@
 #!/usr/bin/env python3
-"""Writes a large script on standard output: scripts.py five | big BYTES | rules LINES PUBLISHES | list LINES
+"""Writes a large script on standard output: scripts.py KIND NUMBERS..
 
-five   100,000 publishes to 5 subscribers of one filter
-big    publishes that nobody receives, until the script has BYTES bytes
-rules  a script of PUBLISHES publishes for an access list of LINES lines, as `list` writes it
-list   that access list
+five                          100,000 publishes to 5 subscribers of one filter
+big BYTES                     publishes that nobody receives, until the script has BYTES bytes
+rules LINES PUBLISHES         PUBLISHES publishes for an access list of LINES lines, as `list` writes it
+list LINES                    that access list
+others OTHERS PUBLISHES       publishes to 5 subscribers beside OTHERS subscriptions that don't match
+groups GROUPS PUBLISHES       publishes to one of GROUPS shared subscriptions
+leaving FILTERS LEAVES        a client that subscribes to FILTERS filters and leaves LEAVES of them
+retained TOPICS SUBSCRIBES    subscribes of which each is sent 10 of TOPICS retained messages
+expiring TOPICS ADVANCES      advances of which each ends 10 retained messages, beside TOPICS that stay
 """
 import json
 import sys
@@ -16,11 +21,22 @@ def line(**fields):
     write(json.dumps(fields, separators=(",", ":")) + "\n")
 
 
-def five():
+def five_subscribers():
     for i in range(5):
         line(do="connect", client=f"client-{i}")
         line(do="subscribe", client=f"client-{i}", filter="site/+/temperature", qos=1)
-    for i in range(100_000):
+
+
+def five():
+    others(0, 100_000)
+
+
+def others(count, publishes):
+    five_subscribers()
+    line(do="connect", client="other")
+    for i in range(count):
+        line(do="subscribe", client="other", filter=f"other/{i % 1000}/{i}/state")
+    for i in range(publishes):
         line(do="publish", client="client-0", topic=f"site/{i % 100}/temperature", payload=f"v={i}", qos=1)
 
 
@@ -45,5 +61,42 @@ def access_list(lines):
         write(f"topic readwrite area/{i}/+\n")
 
 
-kind, numbers = sys.argv[1], [int(n) for n in sys.argv[2:]]
-{"five": five, "big": big, "rules": rules, "list": access_list}[kind](*numbers)
+def groups(count, publishes):
+    for i in range(3):
+        line(do="connect", client=f"worker-{i}")
+    for i in range(count):
+        for worker in range(3):
+            line(do="subscribe", client=f"worker-{worker}", filter=f"$share/crew/job/{i}", qos=1)
+    for i in range(publishes):
+        line(do="publish", client="worker-0", topic="job/7", payload=f"v={i}", qos=1)
+
+
+def leaving(count, leaves):
+    line(do="connect", client="client")
+    for i in range(count):
+        line(do="subscribe", client="client", filter=f"area/{i}/state")
+    for i in range(leaves):
+        line(do="unsubscribe", client="client", filter=f"area/{i * 7919 % count}/state")
+
+
+def retained(topics, subscribes):
+    line(do="connect", client="client")
+    for i in range(topics):
+        line(do="publish", client="client", topic=f"area/{i // 10}/{i % 10}", payload="on", retain=True)
+    for i in range(subscribes):
+        line(do="subscribe", client="client", filter=f"area/{i % 100}/+")
+
+
+def expiring(topics, advances):
+    line(do="connect", client="client")
+    for i in range(topics):
+        line(do="publish", client="client", topic=f"stays/{i}", payload="on", retain=True, expiry=1_000_000 + i)
+    for i in range(100_000):
+        line(do="publish", client="client", topic=f"goes/{i}", payload="on", retain=True, expiry=1 + i // 10)
+    for _ in range(advances):
+        line(do="advance", seconds=1)
+
+
+kinds = {"five": five, "big": big, "rules": rules, "list": access_list, "others": others, "groups": groups,
+         "leaving": leaving, "retained": retained, "expiring": expiring}
+kinds[sys.argv[1]](*(int(n) for n in sys.argv[2:]))

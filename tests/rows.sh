@@ -21,12 +21,14 @@ check() { # NAME WANTED_OUTPUT WANTED_STATUS, with what was written in $written 
 }
 
 tools/rows_table.py --check || exit 1
+tools/worked_scripts.py --check || exit 1
 if [ ! -x "$program" ]; then
     echo "rows: there is no $program: run 'rt ci' first"
     exit 1
 fi
 written=$(mktemp)
-trap 'rm -f "$written"' EXIT
+told=$(mktemp)
+trap 'rm -f "$written" "$told"' EXIT
 
 for script in tests/rows/*.jsonl; do
     [ -e "$script" ] || continue
@@ -39,13 +41,35 @@ for script in tests/rows/*.jsonl; do
 done
 
 # A script of one byte more than 4,294,967,296 is cut, whatever its lines are.
-told=$(mktemp)
 head -c 4294967297 /dev/zero | "$program" > "$written" 2> "$told"
 status=$?
 cat "$told" >> "$written"
 echo "mqroute: script too long" > "$told"
 check "a script that is too long" "$told" 3
-rm -f "$told"
+
+# What ends the program before its script does is told by one line on standard error.
+complaint() { # NAME TEXT STATUS, with what was told in $written and the status in $status
+    echo "mqroute: $2" > "$told"
+    check "$1" "$told" "$3"
+}
+
+"$program" $'\xff.jsonl' > "$written" 2>&1
+status=$?
+complaint "an argument that is not UTF-8" "an argument is not UTF-8" 2
+
+"$program" < tests/rows/first-look.jsonl > /dev/full 2> "$written"
+status=$?
+complaint "a full device" "write fault" 3
+
+# Each client takes memory: 200,000 don't fit into an address space of 8 MB.
+seq -f '{"do":"connect","client":"%.0f"}' 200000 | (ulimit -v 8000 && exec "$program") 2> "$written" > /dev/null
+status=$?
+complaint "an address space that is too small" "out of memory" 3
+
+# Where that can't be told either, the status is the same.
+"$program" nowhere > "$written" 2> /dev/full
+status=$?
+check "a full device for what is told" /dev/null 2
 
 for list in examples/*/run; do
     [ -e "$list" ] || continue

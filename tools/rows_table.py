@@ -1,5 +1,5 @@
 #!/usr/bin/env python3
-"""Writes crates/mq_rows/src/table.rt: the worked rows of tests/rows as one table, since a test reads no files.
+"""Writes crates/mq_rows/src/table.rt: the worked rows of tests/rows, since a test reads no files.
 
 A row that begins with an access list has it in NAME.acl. One with other arguments (NAME.args) is left out: tests/rows.sh runs
 it. A line of a script that is longer than 1,000 bytes is
@@ -11,6 +11,7 @@ import sys
 
 ROWS = pathlib.Path("tests/rows")
 TABLE = pathlib.Path("crates/mq_rows/src/table.rt")
+MOST = 6_000
 
 
 def raw(text):
@@ -23,28 +24,51 @@ def row(path):
     beside = path.with_suffix(".args").exists() and not access_list.exists()
     if beside or any(len(line) > 1000 for line in script.splitlines()):
         return ""
-    access = f"Some(\n            {raw(access_list.read_text())},\n        )" if access_list.exists() else "None"
+    access = f"Some(\n        {raw(access_list.read_text())},\n    )" if access_list.exists() else "None"
     out = path.with_suffix(".out").read_text()
     status = path.with_suffix(".status").read_text().strip()
-    return (f"    Row {{\n        name: \"{path.stem}\",\n        access_list: {access},\n        script: {raw(script)},\n        output: {raw(out)},\n"
-            f"        status: {status},\n    }},\n")
+    return (f"\npub(crate) static {constant(path)}: Row = Row {{\n    name: \"{path.stem}\",\n    access_list: {access},\n"
+            f"    script: {raw(script)},\n    output: {raw(out)},\n    status: {status},\n}};\n")
 
 
-rows = [row(path) for path in sorted(ROWS.glob("*.jsonl"))]
-text = f"""//! The worked rows. Made by tools/rows_table.py from tests/rows.
+def constant(path):
+    return path.stem.upper().replace("-", "_")
+
+
+def tables():
+    """The rows in their order, in parts of at most MOST bytes each: the proof of a test grows with its rows."""
+    found = [[]]
+    size = 0
+    for path in sorted(ROWS.glob("*.jsonl")):
+        text = row(path)
+        size += len(text)
+        if size > MOST and found[-1]:
+            found.append([])
+            size = len(text)
+        if text:
+            found[-1].append((constant(path), text))
+    return found
+
+
+def part(number, rows):
+    calls = "".join(f"    run_row(&rt, &{name})?;\n" for name, _ in rows)
+    return ("".join(text for _, text in rows)
+            + f"\n#[test]\nfn rows_{number}(rt: HostRuntime) -> Result<(), Fail> {{\n{calls}    Ok(())\n}}\n")
+
+
+text = """//! The worked rows. Made by tools/rows_table.py from tests/rows.
+use crate::rows::run_row;
+use std::test::Fail;
 
 /// A script, the access list that it begins with, what is written for it, and the exit status.
-pub(crate) struct Row {{
+pub(crate) struct Row {
     pub(crate) name: &'static str,
     pub(crate) access_list: Option<&'static str>,
     pub(crate) script: &'static str,
     pub(crate) output: &'static str,
     pub(crate) status: u8,
-}}
-
-pub(crate) static ROWS: [Row; {sum(1 for r in rows if r)}] = [
-{"".join(rows)}];
-"""
+}
+""" + "".join(part(number, rows) for number, rows in enumerate(tables(), 1))
 if "--check" in sys.argv:
     sys.exit(0 if TABLE.read_text() == text else f"{TABLE} is not what tools/rows_table.py makes of {ROWS}")
 TABLE.write_text(text)

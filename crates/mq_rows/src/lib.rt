@@ -6,6 +6,10 @@ mod access;
 #[cfg(test)]
 mod devices;
 #[cfg(test)]
+mod hostile;
+#[cfg(test)]
+mod hostile_devices;
+#[cfg(test)]
 mod lines;
 #[cfg(test)]
 mod program;

@@ -23,7 +23,13 @@ fn faulty_lines(rt: HostRuntime) -> Result<(), Fail> {
         ("{}", LineFault::BadCommand),
         ("{\"do\":7}", LineFault::BadCommand),
         ("{\"do\":\"fly\"}", LineFault::BadCommand),
-        ("{\"do\":\"advance\",\"seconds\":1}", LineFault::BadCommand),
+        ("{\"do\":\"stat\",\"client\":\"a\"}", LineFault::BadField),
+        ("{\"do\":\"advance\"}", LineFault::BadField),
+        ("{\"do\":\"advance\",\"seconds\":1.0}", LineFault::BadField),
+        (
+            "{\"do\":\"advance\",\"seconds\":18446744073709551616}",
+            LineFault::BadField,
+        ),
         ("{\"do\":\"connect\"}", LineFault::BadField),
         ("{\"do\":\"connect\",\"client\":null}", LineFault::BadField),
         (
@@ -31,7 +37,15 @@ fn faulty_lines(rt: HostRuntime) -> Result<(), Fail> {
             LineFault::BadField,
         ),
         (
-            "{\"do\":\"publish\",\"client\":\"a\",\"topic\":\"t\",\"retain\":true}",
+            "{\"do\":\"publish\",\"client\":\"a\",\"topic\":\"t\",\"retain\":1}",
+            LineFault::BadField,
+        ),
+        (
+            "{\"do\":\"publish\",\"client\":\"a\",\"topic\":\"t\",\"expiry\":4294967296}",
+            LineFault::BadField,
+        ),
+        (
+            "{\"do\":\"subscribe\",\"client\":\"a\",\"filter\":\"t\",\"handling\":3}",
             LineFault::BadField,
         ),
         (
@@ -111,7 +125,9 @@ fn printed_lines(rt: HostRuntime) -> Result<(), Fail> {
         payload: String::from_str(alloc, "a\"b\\\u{8}\u{c}\n\r\té")?,
         qos: 1,
         retain: false,
+        expiry: None,
         ids: vec![in alloc; 7, 7]?,
+        group: None,
     })?;
     let answer = Answer {
         copies,

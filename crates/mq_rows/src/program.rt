@@ -1,9 +1,9 @@
 //! The program but its `main`: its texts and exit statuses, over files of the test's folder.
-use crate::devices::{Pieces, Shelf};
+use crate::devices::{Interrupted, Pieces, Shelf, Starved};
 use mq_cli::{AclFileFault, StdSink, StdSource, arguments, read_acl, start};
 use mq_topic::TopicName;
 use std::alloc::Global;
-use std::fs;
+use std::fs::{self, Files, OpenFile};
 use std::test::Fail;
 
 const SCRIPT: &str =
@@ -22,7 +22,7 @@ struct Case {
     status: u8,
 }
 
-static CASES: [Case; 11] = [
+static CASES: [Case; 10] = [
     Case {
         arguments: "script",
         out: ALLOWED,
@@ -72,12 +72,6 @@ static CASES: [Case; 11] = [
         status: 2,
     },
     Case {
-        arguments: "--acl-file long",
-        out: "",
-        err: "mqroute: access list long is too long\n",
-        status: 2,
-    },
-    Case {
         arguments: "--acl-file bytes",
         out: "",
         err: "mqroute: access list bytes is not UTF-8\n",
@@ -109,7 +103,16 @@ struct Outcome {
 }
 
 fn started(rt: &HostRuntime, arguments: &str, input: Pieces, out: Shelf) -> Result<Outcome, Fail> {
-    let alloc = rt.alloc();
+    started_over(rt, rt.alloc(), arguments, input, out)
+}
+
+fn started_over<R: Files>(
+    rt: &R,
+    alloc: Global,
+    arguments: &str,
+    input: Pieces,
+    out: Shelf,
+) -> Result<Outcome, Fail> {
     let words = words(alloc, arguments)?;
     let mut input = StdSource::new(input);
     let mut out = StdSink::new(out);
@@ -123,12 +126,10 @@ fn started(rt: &HostRuntime, arguments: &str, input: Pieces, out: Shelf) -> Resu
 }
 
 fn write_files(rt: &HostRuntime) -> Result<(), Fail> {
-    let long = " ".repeat(rt.alloc(), 16_777_217)?;
     fs::write(rt, "script", SCRIPT)?;
     fs::write(rt, "list", "topic a\n")?;
     fs::write(rt, "faulty", "# c\n\ntopic a b")?;
     fs::write(rt, "bytes", b"\xff")?;
-    fs::write(rt, "long", long.as_str())?;
     Ok(())
 }
 
@@ -142,6 +143,22 @@ fn arguments_and_files(rt: HostRuntime) -> Result<(), Fail> {
         assert_eq!(rt; got.err.as_str(), case.err, "{}", case.arguments);
         assert_eq!(rt; got.status, case.status, "{}", case.arguments);
     }
+    Ok(())
+}
+
+// A file of one byte more than an access list may have.
+#[test]
+fn access_list_that_is_too_long(rt: HostRuntime) -> Result<(), Fail> {
+    fs::create(&rt, "long")?.set_len(16_777_217)?;
+    let got = started(
+        &rt,
+        "--acl-file long",
+        Pieces::new(b"", 9),
+        Shelf::new(rt.alloc()),
+    )?;
+    assert!(rt; got.out.is_empty());
+    assert_eq!(rt; got.err.as_str(), "mqroute: access list long is too long\n");
+    assert_eq!(rt; got.status, 2);
     Ok(())
 }
 
@@ -192,6 +209,37 @@ fn failing_streams(rt: HostRuntime) -> Result<(), Fail> {
 }
 
 #[test]
+fn files_without_memory(rt: HostRuntime) -> Result<(), Fail> {
+    let alloc = rt.alloc();
+    for arguments in ["script", "--acl-file list"] {
+        let input = Pieces::new(SCRIPT.as_bytes(), 9);
+        let got = started_over(&Starved, alloc, arguments, input, Shelf::new(alloc))?;
+        assert!(rt; got.out.is_empty(), "{arguments}");
+        assert_eq!(rt; got.err.as_str(), "mqroute: out of memory\n", "{arguments}");
+        assert_eq!(rt; got.status, 3, "{arguments}");
+    }
+    Ok(())
+}
+
+// What can't be told is passed over: the status is as if it had been told.
+#[test]
+fn a_text_that_cannot_be_told(rt: HostRuntime) -> Result<(), Fail> {
+    let alloc = rt.alloc();
+    for (arguments, wanted) in [("nowhere", 2), ("--bad", 2), (".", 3)] {
+        let words = words(alloc, arguments)?;
+        let mut full = Shelf::new(alloc);
+        full.room = 0;
+        let mut input = StdSource::new(Pieces::new(b"", 9));
+        let mut out = StdSink::new(Shelf::new(alloc));
+        let mut err = StdSink::new(full);
+        let status = start(&rt, alloc, words.as_slice(), &mut input, &mut out, &mut err);
+        assert_eq!(rt; status, wanted, "{arguments}");
+        assert!(rt; out.into_inner().bytes.is_empty(), "{arguments}");
+    }
+    Ok(())
+}
+
+#[test]
 fn access_files(rt: HostRuntime) -> Result<(), Fail> {
     let alloc = rt.alloc();
     for most in [1, 3, 100] {
@@ -205,5 +253,9 @@ fn access_files(rt: HostRuntime) -> Result<(), Fail> {
         &mut StdSource::new(Pieces::failing(b"topic a\n", 4, 2)),
     );
     assert!(rt; matches!(&failed, Err(AclFileFault::Read)));
+    // It reads no second time after a call that was interrupted.
+    let pieces = Pieces::new(b"topic a\n", 4);
+    let interrupted = read_acl(alloc, &mut StdSource::new(Interrupted::new(pieces, 1)));
+    assert!(rt; matches!(&interrupted, Err(AclFileFault::Read)));
     Ok(())
 }

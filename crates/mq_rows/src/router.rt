@@ -17,7 +17,31 @@ fn publish(alloc: Global, client: &str, topic: &str, qos: u8) -> Result<Command,
         topic: String::from_str(alloc, topic)?,
         payload: String::new(alloc),
         qos,
+        retain: false,
+        expiry: None,
     })
+}
+
+fn subscribe(alloc: Global, client: &str, filter: String) -> Result<Command, AllocError> {
+    Ok(Command::Subscribe {
+        client: String::from_str(alloc, client)?,
+        filter,
+        qos: 0,
+        no_local: false,
+        rap: false,
+        handling: 0,
+        id: None,
+    })
+}
+
+// One of a thousand filters, of which many have their first levels in common.
+fn common(alloc: Global, i: u32) -> Result<String, AllocError> {
+    let (first, second, third) = (i % 10, i / 10 % 10, i / 100);
+    match i % 3 {
+        0 => format!(in alloc; "{first}/{second}/{third}"),
+        1 => format!(in alloc; "$share/g/{first}/{second}/{third}"),
+        _ => format!(in alloc; "{first}/{second}/{third}/#"),
+    }
 }
 
 // What the router answers: its number of copies and its reason, or its refusal. None where the command isn't valid.
@@ -47,5 +71,37 @@ fn a_router_with_an_access_list(rt: HostRuntime) -> Result<(), Fail> {
     );
     assert_eq!(rt; answer(&mut router, &Command::SetAcl { text: None }), done);
     assert_eq!(rt; answer(&mut router, &publish(alloc, "c", "b", 0)?), none);
+    Ok(())
+}
+
+#[test]
+fn filters_with_common_prefixes(rt: HostRuntime) -> Result<(), Fail> {
+    let alloc = rt.alloc();
+    let done = Some(Ok((0, Outcome::Reason(0))));
+    // 387 has no divisor in common with 1,000: the second order has each filter once, too.
+    for step in [1, 387] {
+        let mut router = Router::new(alloc);
+        assert_eq!(rt; answer(&mut router, &connect(alloc, "a")?), done);
+        for i in 0..1000 {
+            let command = subscribe(alloc, "a", common(alloc, i)?)?;
+            assert_eq!(rt; answer(&mut router, &command), done);
+        }
+        let publish = publish(alloc, "a", "6/5/4", 0)?;
+        assert_eq!(rt;
+            answer(&mut router, &publish),
+            Some(Ok((1, Outcome::Reason(0))))
+        );
+        for i in 0..1000 {
+            let command = Command::Unsubscribe {
+                client: String::from_str(alloc, "a")?,
+                filter: common(alloc, i * step % 1000)?,
+            };
+            assert_eq!(rt; answer(&mut router, &command), done);
+        }
+        assert_eq!(rt;
+            answer(&mut router, &publish),
+            Some(Ok((0, Outcome::Reason(16))))
+        );
+    }
     Ok(())
 }

@@ -1,10 +1,11 @@
 //! The worked rows, from bytes to bytes, in pieces of several sizes.
 use crate::devices::{Pieces, Shelf};
-use crate::table::ROWS;
+use crate::table::Row;
 use mq_acl::Acl;
 use mq_cli::{StdSink, StdSource, exit_status, run};
 use mq_router::Router;
 use std::alloc::Global;
+use std::process::Abort;
 use std::test::Fail;
 
 // A router that begins with the access list of this text, or with none.
@@ -15,20 +16,18 @@ fn router_with(alloc: Global, access_list: Option<&str>) -> Result<Router, Fail>
     }
 }
 
-#[test]
-fn rows(rt: HostRuntime) -> Result<(), Fail> {
-    for row in &ROWS {
-        for most in [1, 7, 65_536] {
-            let mut reader = StdSource::new(Pieces::new(row.script.as_bytes(), most));
-            let mut shelf = Shelf::new(rt.alloc());
-            shelf.most = most;
-            let mut writer = StdSink::new(shelf);
-            let router = router_with(rt.alloc(), row.access_list)?;
-            let result = run(rt.alloc(), router, &mut reader, &mut writer);
-            let written = writer.into_inner().bytes;
-            assert_eq!(rt; written.as_slice(), row.output.as_bytes(), "{}", row.name);
-            assert_eq!(rt; exit_status(&result), row.status, "{}", row.name);
-        }
+/// Runs a row in pieces of several sizes, read and written.
+pub(crate) fn run_row(rt: &(impl Abort + AllocGlobal), row: &Row) -> Result<(), Fail> {
+    for most in [1, 7, 65_536] {
+        let mut reader = StdSource::new(Pieces::new(row.script.as_bytes(), most));
+        let mut shelf = Shelf::new(rt.alloc());
+        shelf.most = most;
+        let mut writer = StdSink::new(shelf);
+        let router = router_with(rt.alloc(), row.access_list)?;
+        let result = run(rt.alloc(), router, &mut reader, &mut writer);
+        let written = writer.into_inner().bytes;
+        assert_eq!(rt; written.as_slice(), row.output.as_bytes(), "{}", row.name);
+        assert_eq!(rt; exit_status(&result), row.status, "{}", row.name);
     }
     Ok(())
 }

@@ -1,5 +1,5 @@
 //! Runs whose reader or writer fails, and scripts whose lines are too long or blank.
-use crate::devices::{Pieces, Shelf};
+use crate::devices::{Interrupted, Pieces, Shelf};
 use mq_cli::{RunFault, StdSink, StdSource, Summary, exit_status, run};
 use mq_router::Router;
 use std::alloc::{AllocError, Global};
@@ -86,6 +86,31 @@ fn failing_writers(rt: HostRuntime) -> Result<(), Fail> {
     let (bytes, result) = written(rt.alloc(), CONNECT.as_bytes(), usize::MAX, shelf);
     assert_eq!(rt; bytes.as_slice(), ANSWER.as_bytes());
     assert!(rt; matches!(&result, Err(RunFault::Write)));
+    Ok(())
+}
+
+// One call each: a call that is interrupted ends the run, though the next one would go on.
+#[test]
+fn interrupted_devices(rt: HostRuntime) -> Result<(), Fail> {
+    let alloc = rt.alloc();
+    for (calls, want) in [(0, ""), (1, ""), (2, ANSWER)] {
+        let pieces = Pieces::new(CONNECT.as_bytes(), 20);
+        let mut reader = StdSource::new(Interrupted::new(pieces, calls));
+        let mut writer = StdSink::new(Shelf::new(alloc));
+        let result = run(alloc, Router::new(alloc), &mut reader, &mut writer);
+        let bytes = writer.into_inner().bytes;
+        assert_eq!(rt; bytes.as_slice(), want.as_bytes(), "{calls}");
+        assert!(rt; matches!(&result, Err(RunFault::Read)), "{calls}");
+    }
+    // The answer is one write, and the flush is the second call.
+    for (calls, want) in [(0, ""), (1, ANSWER)] {
+        let mut reader = StdSource::new(Pieces::new(CONNECT.as_bytes(), 20));
+        let mut writer = StdSink::new(Interrupted::new(Shelf::new(alloc), calls));
+        let result = run(alloc, Router::new(alloc), &mut reader, &mut writer);
+        let bytes = writer.into_inner().into_inner().bytes;
+        assert_eq!(rt; bytes.as_slice(), want.as_bytes(), "{calls}");
+        assert!(rt; matches!(&result, Err(RunFault::Write)), "{calls}");
+    }
     Ok(())
 }
 

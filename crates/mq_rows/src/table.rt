@@ -1,4 +1,6 @@
 //! The worked rows. Made by tools/rows_table.py from tests/rows.
+use crate::rows::run_row;
+use std::test::Fail;
 
 /// A script, the access list that it begins with, what is written for it, and the exit status.
 pub(crate) struct Row {
@@ -9,11 +11,10 @@ pub(crate) struct Row {
     pub(crate) status: u8,
 }
 
-pub(crate) static ROWS: [Row; 11] = [
-    Row {
-        name: "access-list-file",
-        access_list: Some(
-            r##"topic read a/#
+pub(crate) static ACCESS_LIST_FILE: Row = Row {
+    name: "access-list-file",
+    access_list: Some(
+        r##"topic read a/#
 pattern deny a/%u
 pattern read %u/#
 pattern write +/+
@@ -21,8 +22,8 @@ pattern write $SYS/#
 user b
 topic read a/#
 "##,
-        ),
-        script: r##"{"do":"connect","client":"b","user":"b"}
+    ),
+    script: r##"{"do":"connect","client":"b","user":"b"}
 {"do":"connect","client":"n"}
 {"do":"connect","client":"p","user":"+"}
 {"do":"connect","client":"s","user":"$SYS"}
@@ -40,7 +41,7 @@ topic read a/#
 {"do":"acl"}
 {"do":"publish","client":"w","topic":"q","payload":"x"}
 "##,
-        output: r##"{"line":1,"reason":0}
+    output: r##"{"line":1,"reason":0}
 {"line":2,"reason":0}
 {"line":3,"reason":0}
 {"line":4,"reason":0}
@@ -65,12 +66,13 @@ topic read a/#
 {"client":"p","line":17,"payload":"x","qos":0,"retain":false,"topic":"q"}
 {"line":17,"reason":0}
 "##,
-        status: 1,
-    },
-    Row {
-        name: "access-list-lines",
-        access_list: None,
-        script: r##"{"do":"acl","text":"topic read a b"}
+    status: 1,
+};
+
+pub(crate) static ACCESS_LIST_LINES: Row = Row {
+    name: "access-list-lines",
+    access_list: None,
+    script: r##"{"do":"acl","text":"topic read a b"}
 {"do":"acl","text":"# c\n\ntopic a b"}
 {"do":"acl","text":"topic read"}
 {"do":"acl","text":"topic read\r\npattern read x%u"}
@@ -82,7 +84,7 @@ topic read a/#
 {"do":"acl","text":""}
 {"do":"publish","client":"a","topic":"x","payload":"x"}
 "##,
-        output: r##"{"line":1,"reason":0}
+    output: r##"{"line":1,"reason":0}
 {"acl_line":3,"code":12,"line":2,"refused":"AclLine"}
 {"line":3,"reason":0}
 {"acl_line":2,"code":12,"line":4,"refused":"AclLine"}
@@ -94,12 +96,13 @@ topic read a/#
 {"line":10,"reason":0}
 {"code":11,"line":11,"refused":"NotAuthorized"}
 "##,
-        status: 1,
-    },
-    Row {
-        name: "access-list",
-        access_list: None,
-        script: r##"{"do":"acl","text":"topic read a/#\npattern deny a/%u\npattern read %u/#\npattern write +/+\npattern write $SYS/#\nuser b\ntopic read a/#\n"}
+    status: 1,
+};
+
+pub(crate) static ACCESS_LIST: Row = Row {
+    name: "access-list",
+    access_list: None,
+    script: r##"{"do":"acl","text":"topic read a/#\npattern deny a/%u\npattern read %u/#\npattern write +/+\npattern write $SYS/#\nuser b\ntopic read a/#\n"}
 {"do":"connect","client":"b","user":"b"}
 {"do":"connect","client":"n"}
 {"do":"connect","client":"p","user":"+"}
@@ -116,7 +119,7 @@ topic read a/#
 {"do":"publish","client":"b","topic":"a/b","payload":"x"}
 {"do":"publish","client":"w","topic":"q","payload":"x"}
 "##,
-        output: r##"{"line":1,"reason":0}
+    output: r##"{"line":1,"reason":0}
 {"line":2,"reason":0}
 {"line":3,"reason":0}
 {"line":4,"reason":0}
@@ -137,12 +140,40 @@ topic read a/#
 {"code":11,"line":15,"refused":"NotAuthorized"}
 {"code":11,"line":16,"refused":"NotAuthorized"}
 "##,
-        status: 1,
-    },
-    Row {
-        name: "dollar-names",
-        access_list: None,
-        script: r##"{"do":"connect","client":"a"}
+    status: 1,
+};
+
+pub(crate) static CLOCK_LIMIT: Row = Row {
+    name: "clock-limit",
+    access_list: None,
+    script: r##"{"do":"advance","seconds":1000000000000}
+{"do":"advance","seconds":1}
+{"do":"advance","seconds":0}
+{"do":"advance","seconds":18446744073709551615}
+{"do":"advance","seconds":-1}
+"##,
+    output: r##"{"line":1,"reason":0}
+{"code":13,"line":2,"refused":"ClockTooFar"}
+{"line":3,"reason":0}
+{"code":13,"line":4,"refused":"ClockTooFar"}
+{"code":4,"line":5,"refused":"BadField"}
+"##,
+    status: 1,
+};
+
+#[test]
+fn rows_1(rt: HostRuntime) -> Result<(), Fail> {
+    run_row(&rt, &ACCESS_LIST_FILE)?;
+    run_row(&rt, &ACCESS_LIST_LINES)?;
+    run_row(&rt, &ACCESS_LIST)?;
+    run_row(&rt, &CLOCK_LIMIT)?;
+    Ok(())
+}
+
+pub(crate) static DOLLAR_NAMES: Row = Row {
+    name: "dollar-names",
+    access_list: None,
+    script: r##"{"do":"connect","client":"a"}
 {"do":"subscribe","client":"a","filter":"#"}
 {"do":"subscribe","client":"a","filter":"+/x"}
 {"do":"publish","client":"a","topic":"$SYS/x","payload":"x"}
@@ -152,7 +183,7 @@ topic read a/#
 {"do":"subscribe","client":"b","filter":"a/+"}
 {"do":"publish","client":"b","topic":"a/$x","payload":"x"}
 "##,
-        output: r##"{"line":1,"reason":0}
+    output: r##"{"line":1,"reason":0}
 {"line":2,"reason":0}
 {"line":3,"reason":0}
 {"line":4,"reason":16}
@@ -165,19 +196,58 @@ topic read a/#
 {"client":"b","line":9,"payload":"x","qos":0,"retain":false,"topic":"a/$x"}
 {"line":9,"reason":0}
 "##,
-        status: 0,
-    },
-    Row {
-        name: "first-look",
-        access_list: None,
-        script: r##"{"do":"connect","client":"a"}
+    status: 0,
+};
+
+pub(crate) static EXPIRY_REPLACED: Row = Row {
+    name: "expiry-replaced",
+    access_list: None,
+    script: r##"{"do":"connect","client":"a"}
+{"do":"publish","client":"a","topic":"t","payload":"x","retain":true,"expiry":10}
+{"do":"publish","client":"a","topic":"t","payload":"new","retain":true,"expiry":30}
+{"do":"advance","seconds":10}
+{"do":"subscribe","client":"a","filter":"t"}
+{"do":"publish","client":"a","topic":"u","payload":"x","retain":true,"expiry":20}
+{"do":"publish","client":"a","topic":"v","payload":"x","retain":true}
+{"do":"advance","seconds":20}
+{"do":"subscribe","client":"a","filter":"#"}
+{"do":"advance","seconds":999999999970}
+{"do":"publish","client":"a","topic":"w","payload":"x","retain":true,"expiry":1}
+{"do":"advance","seconds":1}
+{"do":"subscribe","client":"a","filter":"w"}
+"##,
+    output: r##"{"line":1,"reason":0}
+{"line":2,"reason":16}
+{"line":3,"reason":16}
+{"line":4,"reason":0}
+{"client":"a","expiry":20,"line":5,"payload":"new","qos":0,"retain":true,"topic":"t"}
+{"line":5,"reason":0}
+{"line":6,"reason":16}
+{"line":7,"reason":16}
+{"line":8,"reason":0}
+{"client":"a","line":9,"payload":"x","qos":0,"retain":true,"topic":"v"}
+{"line":9,"reason":0}
+{"line":10,"reason":0}
+{"client":"a","expiry":1,"line":11,"payload":"x","qos":0,"retain":false,"topic":"w"}
+{"line":11,"reason":0}
+{"code":13,"line":12,"refused":"ClockTooFar"}
+{"client":"a","expiry":1,"line":13,"payload":"x","qos":0,"retain":true,"topic":"w"}
+{"line":13,"reason":0}
+"##,
+    status: 1,
+};
+
+pub(crate) static FIRST_LOOK: Row = Row {
+    name: "first-look",
+    access_list: None,
+    script: r##"{"do":"connect","client":"a"}
 {"do":"subscribe","client":"a","filter":"a/#","qos":1}
 {"do":"publish","client":"a","topic":"a","payload":"x","qos":2}
 {"do":"publish","client":"a","topic":"a/","payload":"y"}
 {"do":"publish","client":"a","topic":"a/b/c"}
 {"do":"publish","client":"a","topic":"b","payload":"z"}
 "##,
-        output: r##"{"line":1,"reason":0}
+    output: r##"{"line":1,"reason":0}
 {"line":2,"reason":1}
 {"client":"a","line":3,"payload":"x","qos":1,"retain":false,"topic":"a"}
 {"line":3,"reason":0}
@@ -187,12 +257,13 @@ topic read a/#
 {"line":5,"reason":0}
 {"line":6,"reason":16}
 "##,
-        status: 0,
-    },
-    Row {
-        name: "first-path",
-        access_list: None,
-        script: r##"{"do":"connect","client":"a"}
+    status: 0,
+};
+
+pub(crate) static FIRST_PATH: Row = Row {
+    name: "first-path",
+    access_list: None,
+    script: r##"{"do":"connect","client":"a"}
 {"do":"connect","client":"b"}
 {"do":"subscribe","client":"a","filter":"a/+","qos":2}
 {"do":"subscribe","client":"a","filter":"#"}
@@ -209,7 +280,7 @@ topic read a/#
 {"do":"fly"}
 {"do":"subscribe","client":"b","filter":"t","qos":3}
 "##,
-        output: r##"{"line":1,"reason":0}
+    output: r##"{"line":1,"reason":0}
 {"line":2,"reason":0}
 {"line":3,"reason":2}
 {"line":4,"reason":0}
@@ -231,12 +302,120 @@ topic read a/#
 {"code":3,"line":15,"refused":"BadCommand"}
 {"code":4,"line":16,"refused":"BadField"}
 "##,
-        status: 1,
-    },
-    Row {
-        name: "leaving",
-        access_list: None,
-        script: r##"{"do":"connect","client":"a"}
+    status: 1,
+};
+
+#[test]
+fn rows_2(rt: HostRuntime) -> Result<(), Fail> {
+    run_row(&rt, &DOLLAR_NAMES)?;
+    run_row(&rt, &EXPIRY_REPLACED)?;
+    run_row(&rt, &FIRST_LOOK)?;
+    run_row(&rt, &FIRST_PATH)?;
+    Ok(())
+}
+
+pub(crate) static GROUP_AND_ACCESS: Row = Row {
+    name: "group-and-access",
+    access_list: None,
+    script: r##"{"do":"acl","text":"pattern write t\nuser ua\ntopic read t"}
+{"do":"connect","client":"a","user":"ua"}
+{"do":"connect","client":"b","user":"ub"}
+{"do":"connect","client":"p"}
+{"do":"subscribe","client":"b","filter":"$share/g/t"}
+{"do":"subscribe","client":"a","filter":"$share/g/t"}
+{"do":"publish","client":"p","topic":"t","payload":"x"}
+{"do":"publish","client":"p","topic":"t","payload":"x"}
+{"do":"acl","text":"pattern write t"}
+{"do":"publish","client":"p","topic":"t","payload":"x"}
+{"do":"acl","text":"pattern readwrite t"}
+{"do":"publish","client":"p","topic":"t","payload":"x"}
+{"do":"publish","client":"p","topic":"t","payload":"x"}
+{"do":"acl","text":"pattern read t"}
+{"do":"publish","client":"p","topic":"t","payload":"x"}
+{"do":"acl"}
+{"do":"publish","client":"p","topic":"t","payload":"x"}
+"##,
+    output: r##"{"line":1,"reason":0}
+{"line":2,"reason":0}
+{"line":3,"reason":0}
+{"line":4,"reason":0}
+{"line":5,"reason":0}
+{"line":6,"reason":0}
+{"client":"a","filter":"t","line":7,"payload":"x","qos":0,"retain":false,"share":"g","topic":"t"}
+{"line":7,"reason":0}
+{"client":"a","filter":"t","line":8,"payload":"x","qos":0,"retain":false,"share":"g","topic":"t"}
+{"line":8,"reason":0}
+{"line":9,"reason":0}
+{"line":10,"reason":16}
+{"line":11,"reason":0}
+{"client":"b","filter":"t","line":12,"payload":"x","qos":0,"retain":false,"share":"g","topic":"t"}
+{"line":12,"reason":0}
+{"client":"a","filter":"t","line":13,"payload":"x","qos":0,"retain":false,"share":"g","topic":"t"}
+{"line":13,"reason":0}
+{"line":14,"reason":0}
+{"code":11,"line":15,"refused":"NotAuthorized"}
+{"line":16,"reason":0}
+{"client":"b","filter":"t","line":17,"payload":"x","qos":0,"retain":false,"share":"g","topic":"t"}
+{"line":17,"reason":0}
+"##,
+    status: 1,
+};
+
+pub(crate) static GROUP_TURNS: Row = Row {
+    name: "group-turns",
+    access_list: None,
+    script: r##"{"do":"connect","client":"a"}
+{"do":"connect","client":"b"}
+{"do":"connect","client":"c"}
+{"do":"connect","client":"p"}
+{"do":"subscribe","client":"a","filter":"$share/g/t"}
+{"do":"subscribe","client":"b","filter":"$share/g/t"}
+{"do":"subscribe","client":"c","filter":"$share/g/t"}
+{"do":"publish","client":"p","topic":"t","payload":"x"}
+{"do":"publish","client":"p","topic":"t","payload":"x"}
+{"do":"subscribe","client":"c","filter":"$share/g/t","qos":1}
+{"do":"publish","client":"p","topic":"t","payload":"x","qos":1}
+{"do":"unsubscribe","client":"a","filter":"$share/g/t"}
+{"do":"subscribe","client":"a","filter":"$share/g/t"}
+{"do":"publish","client":"p","topic":"t","payload":"x","qos":1}
+{"do":"publish","client":"p","topic":"t","payload":"x"}
+{"do":"publish","client":"p","topic":"t","payload":"x"}
+{"do":"disconnect","client":"b"}
+{"do":"publish","client":"p","topic":"t","payload":"x"}
+"##,
+    output: r##"{"line":1,"reason":0}
+{"line":2,"reason":0}
+{"line":3,"reason":0}
+{"line":4,"reason":0}
+{"line":5,"reason":0}
+{"line":6,"reason":0}
+{"line":7,"reason":0}
+{"client":"a","filter":"t","line":8,"payload":"x","qos":0,"retain":false,"share":"g","topic":"t"}
+{"line":8,"reason":0}
+{"client":"b","filter":"t","line":9,"payload":"x","qos":0,"retain":false,"share":"g","topic":"t"}
+{"line":9,"reason":0}
+{"line":10,"reason":1}
+{"client":"c","filter":"t","line":11,"payload":"x","qos":1,"retain":false,"share":"g","topic":"t"}
+{"line":11,"reason":0}
+{"line":12,"reason":0}
+{"line":13,"reason":0}
+{"client":"b","filter":"t","line":14,"payload":"x","qos":0,"retain":false,"share":"g","topic":"t"}
+{"line":14,"reason":0}
+{"client":"c","filter":"t","line":15,"payload":"x","qos":0,"retain":false,"share":"g","topic":"t"}
+{"line":15,"reason":0}
+{"client":"a","filter":"t","line":16,"payload":"x","qos":0,"retain":false,"share":"g","topic":"t"}
+{"line":16,"reason":0}
+{"line":17,"reason":0}
+{"client":"c","filter":"t","line":18,"payload":"x","qos":0,"retain":false,"share":"g","topic":"t"}
+{"line":18,"reason":0}
+"##,
+    status: 0,
+};
+
+pub(crate) static LEAVING: Row = Row {
+    name: "leaving",
+    access_list: None,
+    script: r##"{"do":"connect","client":"a"}
 {"do":"subscribe","client":"a","filter":"t","id":5}
 {"do":"subscribe","client":"a","filter":"t"}
 {"do":"publish","client":"a","topic":"t","payload":"x"}
@@ -246,7 +425,7 @@ topic read a/#
 {"do":"unsubscribe","client":"a","filter":"t#"}
 {"do":"disconnect","client":""}
 "##,
-        output: r##"{"line":1,"reason":0}
+    output: r##"{"line":1,"reason":0}
 {"line":2,"reason":0}
 {"line":3,"reason":0}
 {"client":"a","line":4,"payload":"x","qos":0,"retain":false,"topic":"t"}
@@ -257,19 +436,70 @@ topic read a/#
 {"code":9,"line":8,"refused":"TopicFilter"}
 {"code":5,"line":9,"refused":"ClientId"}
 "##,
-        status: 1,
-    },
-    Row {
-        name: "no-local-first",
-        access_list: None,
-        script: r##"{"do":"connect","client":"a"}
+    status: 1,
+};
+
+#[test]
+fn rows_3(rt: HostRuntime) -> Result<(), Fail> {
+    run_row(&rt, &GROUP_AND_ACCESS)?;
+    run_row(&rt, &GROUP_TURNS)?;
+    run_row(&rt, &LEAVING)?;
+    Ok(())
+}
+
+pub(crate) static MESSAGE_EXPIRY: Row = Row {
+    name: "message-expiry",
+    access_list: None,
+    script: r##"{"do":"connect","client":"a"}
+{"do":"publish","client":"a","topic":"t","payload":"x","retain":true,"expiry":60}
+{"do":"advance","seconds":20}
+{"do":"subscribe","client":"a","filter":"t"}
+{"do":"advance","seconds":39}
+{"do":"subscribe","client":"a","filter":"t"}
+{"do":"advance","seconds":1}
+{"do":"subscribe","client":"a","filter":"t"}
+{"do":"publish","client":"a","topic":"t","payload":"old","retain":true}
+{"do":"publish","client":"a","topic":"t","payload":"new","retain":true,"expiry":0}
+{"do":"subscribe","client":"a","filter":"t"}
+{"do":"publish","client":"a","topic":"t","payload":"k","retain":true}
+{"do":"publish","client":"a","topic":"t","payload":"","retain":true}
+{"do":"subscribe","client":"a","filter":"t"}
+"##,
+    output: r##"{"line":1,"reason":0}
+{"line":2,"reason":16}
+{"line":3,"reason":0}
+{"client":"a","expiry":40,"line":4,"payload":"x","qos":0,"retain":true,"topic":"t"}
+{"line":4,"reason":0}
+{"line":5,"reason":0}
+{"client":"a","expiry":1,"line":6,"payload":"x","qos":0,"retain":true,"topic":"t"}
+{"line":6,"reason":0}
+{"line":7,"reason":0}
+{"line":8,"reason":0}
+{"client":"a","line":9,"payload":"old","qos":0,"retain":false,"topic":"t"}
+{"line":9,"reason":0}
+{"client":"a","expiry":0,"line":10,"payload":"new","qos":0,"retain":false,"topic":"t"}
+{"line":10,"reason":0}
+{"line":11,"reason":0}
+{"client":"a","line":12,"payload":"k","qos":0,"retain":false,"topic":"t"}
+{"line":12,"reason":0}
+{"client":"a","line":13,"payload":"","qos":0,"retain":false,"topic":"t"}
+{"line":13,"reason":0}
+{"line":14,"reason":0}
+"##,
+    status: 0,
+};
+
+pub(crate) static NO_LOCAL_FIRST: Row = Row {
+    name: "no-local-first",
+    access_list: None,
+    script: r##"{"do":"connect","client":"a"}
 {"do":"subscribe","client":"a","filter":"t","no_local":true,"id":4}
 {"do":"subscribe","client":"a","filter":"#","id":6}
 {"do":"publish","client":"a","topic":"t","payload":"x"}
 {"do":"connect","client":"b"}
 {"do":"publish","client":"b","topic":"t","payload":"x"}
 "##,
-        output: r##"{"line":1,"reason":0}
+    output: r##"{"line":1,"reason":0}
 {"line":2,"reason":0}
 {"line":3,"reason":0}
 {"client":"a","ids":[6],"line":4,"payload":"x","qos":0,"retain":false,"topic":"t"}
@@ -278,30 +508,258 @@ topic read a/#
 {"client":"a","ids":[4,6],"line":6,"payload":"x","qos":0,"retain":false,"topic":"t"}
 {"line":6,"reason":0}
 "##,
-        status: 0,
-    },
-    Row {
-        name: "overlapping-identifiers-first",
-        access_list: None,
-        script: r##"{"do":"connect","client":"a"}
+    status: 0,
+};
+
+pub(crate) static NO_LOCAL: Row = Row {
+    name: "no-local",
+    access_list: None,
+    script: r##"{"do":"connect","client":"a"}
+{"do":"subscribe","client":"a","filter":"t","no_local":true,"id":4}
+{"do":"subscribe","client":"a","filter":"#","id":6}
+{"do":"publish","client":"a","topic":"t","payload":"x"}
+{"do":"connect","client":"b"}
+{"do":"publish","client":"b","topic":"t","payload":"x"}
+{"do":"publish","client":"a","topic":"t","payload":"x","retain":true}
+{"do":"subscribe","client":"a","filter":"t","no_local":true,"id":4}
+"##,
+    output: r##"{"line":1,"reason":0}
+{"line":2,"reason":0}
+{"line":3,"reason":0}
+{"client":"a","ids":[6],"line":4,"payload":"x","qos":0,"retain":false,"topic":"t"}
+{"line":4,"reason":0}
+{"line":5,"reason":0}
+{"client":"a","ids":[4,6],"line":6,"payload":"x","qos":0,"retain":false,"topic":"t"}
+{"line":6,"reason":0}
+{"client":"a","ids":[6],"line":7,"payload":"x","qos":0,"retain":false,"topic":"t"}
+{"line":7,"reason":0}
+{"line":8,"reason":0}
+"##,
+    status: 0,
+};
+
+pub(crate) static ORDER_OF_GROUPS: Row = Row {
+    name: "order-of-groups",
+    access_list: None,
+    script: r##"{"do":"connect","client":"a"}
+{"do":"subscribe","client":"a","filter":"t","id":1}
+{"do":"subscribe","client":"a","filter":"$share/g/t","id":2}
+{"do":"subscribe","client":"a","filter":"$share/g/#"}
+{"do":"subscribe","client":"a","filter":"$share/f/+","rap":true}
+{"do":"publish","client":"a","topic":"t","payload":"x","retain":true}
+"##,
+    output: r##"{"line":1,"reason":0}
+{"line":2,"reason":0}
+{"line":3,"reason":0}
+{"line":4,"reason":0}
+{"line":5,"reason":0}
+{"client":"a","ids":[1],"line":6,"payload":"x","qos":0,"retain":false,"topic":"t"}
+{"client":"a","filter":"+","line":6,"payload":"x","qos":0,"retain":true,"share":"f","topic":"t"}
+{"client":"a","filter":"#","line":6,"payload":"x","qos":0,"retain":false,"share":"g","topic":"t"}
+{"client":"a","filter":"t","ids":[2],"line":6,"payload":"x","qos":0,"retain":false,"share":"g","topic":"t"}
+{"line":6,"reason":0}
+"##,
+    status: 0,
+};
+
+pub(crate) static OVERLAPPING_IDENTIFIERS_FIRST: Row = Row {
+    name: "overlapping-identifiers-first",
+    access_list: None,
+    script: r##"{"do":"connect","client":"a"}
 {"do":"subscribe","client":"a","filter":"a/+","id":7}
 {"do":"subscribe","client":"a","filter":"a/#","qos":2,"id":7}
 {"do":"subscribe","client":"a","filter":"#","qos":1}
 {"do":"publish","client":"a","topic":"a/b","payload":"x","qos":1}
 "##,
-        output: r##"{"line":1,"reason":0}
+    output: r##"{"line":1,"reason":0}
 {"line":2,"reason":0}
 {"line":3,"reason":2}
 {"line":4,"reason":1}
 {"client":"a","ids":[7,7],"line":5,"payload":"x","qos":1,"retain":false,"topic":"a/b"}
 {"line":5,"reason":0}
 "##,
-        status: 0,
-    },
-    Row {
-        name: "session-begun-anew",
-        access_list: None,
-        script: r##"{"do":"connect","client":"a"}
+    status: 0,
+};
+
+pub(crate) static OVERLAPPING_IDENTIFIERS: Row = Row {
+    name: "overlapping-identifiers",
+    access_list: None,
+    script: r##"{"do":"connect","client":"a"}
+{"do":"subscribe","client":"a","filter":"a/+","id":7}
+{"do":"subscribe","client":"a","filter":"a/#","qos":2,"id":7}
+{"do":"subscribe","client":"a","filter":"#","qos":1}
+{"do":"publish","client":"a","topic":"a/b","payload":"x","qos":1}
+{"do":"subscribe","client":"a","filter":"#","qos":1,"rap":true}
+{"do":"publish","client":"a","topic":"a/b","payload":"x","retain":true}
+"##,
+    output: r##"{"line":1,"reason":0}
+{"line":2,"reason":0}
+{"line":3,"reason":2}
+{"line":4,"reason":1}
+{"client":"a","ids":[7,7],"line":5,"payload":"x","qos":1,"retain":false,"topic":"a/b"}
+{"line":5,"reason":0}
+{"line":6,"reason":1}
+{"client":"a","ids":[7,7],"line":7,"payload":"x","qos":0,"retain":true,"topic":"a/b"}
+{"line":7,"reason":0}
+"##,
+    status: 0,
+};
+
+#[test]
+fn rows_4(rt: HostRuntime) -> Result<(), Fail> {
+    run_row(&rt, &MESSAGE_EXPIRY)?;
+    run_row(&rt, &NO_LOCAL_FIRST)?;
+    run_row(&rt, &NO_LOCAL)?;
+    run_row(&rt, &ORDER_OF_GROUPS)?;
+    run_row(&rt, &OVERLAPPING_IDENTIFIERS_FIRST)?;
+    run_row(&rt, &OVERLAPPING_IDENTIFIERS)?;
+    Ok(())
+}
+
+pub(crate) static RETAIN_HANDLING_UNSHARED: Row = Row {
+    name: "retain-handling-unshared",
+    access_list: None,
+    script: r##"{"do":"connect","client":"a"}
+{"do":"publish","client":"a","topic":"t","payload":"x","retain":true}
+{"do":"subscribe","client":"a","filter":"t"}
+{"do":"subscribe","client":"a","filter":"t"}
+{"do":"subscribe","client":"a","filter":"+","handling":1}
+{"do":"subscribe","client":"a","filter":"+","handling":1}
+{"do":"subscribe","client":"a","filter":"#","handling":2}
+{"do":"subscribe","client":"a","filter":"#","handling":2}
+{"do":"unsubscribe","client":"a","filter":"+"}
+{"do":"subscribe","client":"a","filter":"+","handling":1}
+{"do":"unsubscribe","client":"a","filter":"x"}
+"##,
+    output: r##"{"line":1,"reason":0}
+{"line":2,"reason":16}
+{"client":"a","line":3,"payload":"x","qos":0,"retain":true,"topic":"t"}
+{"line":3,"reason":0}
+{"client":"a","line":4,"payload":"x","qos":0,"retain":true,"topic":"t"}
+{"line":4,"reason":0}
+{"client":"a","line":5,"payload":"x","qos":0,"retain":true,"topic":"t"}
+{"line":5,"reason":0}
+{"line":6,"reason":0}
+{"line":7,"reason":0}
+{"line":8,"reason":0}
+{"line":9,"reason":0}
+{"client":"a","line":10,"payload":"x","qos":0,"retain":true,"topic":"t"}
+{"line":10,"reason":0}
+{"line":11,"reason":17}
+"##,
+    status: 0,
+};
+
+pub(crate) static RETAIN_HANDLING: Row = Row {
+    name: "retain-handling",
+    access_list: None,
+    script: r##"{"do":"connect","client":"a"}
+{"do":"publish","client":"a","topic":"t","payload":"x","retain":true}
+{"do":"subscribe","client":"a","filter":"t"}
+{"do":"subscribe","client":"a","filter":"t"}
+{"do":"subscribe","client":"a","filter":"+","handling":1}
+{"do":"subscribe","client":"a","filter":"+","handling":1}
+{"do":"subscribe","client":"a","filter":"#","handling":2}
+{"do":"subscribe","client":"a","filter":"#","handling":2}
+{"do":"subscribe","client":"a","filter":"$share/g/t"}
+{"do":"subscribe","client":"a","filter":"$share/g/t"}
+{"do":"unsubscribe","client":"a","filter":"+"}
+{"do":"subscribe","client":"a","filter":"+","handling":1}
+{"do":"unsubscribe","client":"a","filter":"x"}
+"##,
+    output: r##"{"line":1,"reason":0}
+{"line":2,"reason":16}
+{"client":"a","line":3,"payload":"x","qos":0,"retain":true,"topic":"t"}
+{"line":3,"reason":0}
+{"client":"a","line":4,"payload":"x","qos":0,"retain":true,"topic":"t"}
+{"line":4,"reason":0}
+{"client":"a","line":5,"payload":"x","qos":0,"retain":true,"topic":"t"}
+{"line":5,"reason":0}
+{"line":6,"reason":0}
+{"line":7,"reason":0}
+{"line":8,"reason":0}
+{"line":9,"reason":0}
+{"line":10,"reason":0}
+{"line":11,"reason":0}
+{"client":"a","line":12,"payload":"x","qos":0,"retain":true,"topic":"t"}
+{"line":12,"reason":0}
+{"line":13,"reason":17}
+"##,
+    status: 0,
+};
+
+pub(crate) static RETAINED_AND_ACCESS: Row = Row {
+    name: "retained-and-access",
+    access_list: None,
+    script: r##"{"do":"acl","text":"pattern write #\npattern read a/#"}
+{"do":"connect","client":"a"}
+{"do":"publish","client":"a","topic":"a/b","payload":"x","qos":2,"retain":true}
+{"do":"publish","client":"a","topic":"b","payload":"x","retain":true}
+{"do":"subscribe","client":"a","filter":"#","qos":1,"id":8}
+{"do":"acl","text":"pattern write #"}
+{"do":"subscribe","client":"a","filter":"a/#"}
+{"do":"acl"}
+{"do":"subscribe","client":"a","filter":"a/#"}
+{"do":"publish","client":"a","topic":"a/b","payload":"","retain":true}
+{"do":"subscribe","client":"a","filter":"+/b"}
+{"do":"acl","text":""}
+{"do":"publish","client":"a","topic":"b","payload":"new","retain":true}
+{"do":"acl"}
+{"do":"subscribe","client":"a","filter":"b"}
+"##,
+    output: r##"{"line":1,"reason":0}
+{"line":2,"reason":0}
+{"line":3,"reason":16}
+{"line":4,"reason":16}
+{"client":"a","ids":[8],"line":5,"payload":"x","qos":1,"retain":true,"topic":"a/b"}
+{"line":5,"reason":1}
+{"line":6,"reason":0}
+{"line":7,"reason":0}
+{"line":8,"reason":0}
+{"client":"a","line":9,"payload":"x","qos":0,"retain":true,"topic":"a/b"}
+{"line":9,"reason":0}
+{"client":"a","ids":[8],"line":10,"payload":"","qos":0,"retain":false,"topic":"a/b"}
+{"line":10,"reason":0}
+{"line":11,"reason":0}
+{"line":12,"reason":0}
+{"code":11,"line":13,"refused":"NotAuthorized"}
+{"line":14,"reason":0}
+{"client":"a","line":15,"payload":"x","qos":0,"retain":true,"topic":"b"}
+{"line":15,"reason":0}
+"##,
+    status: 1,
+};
+
+pub(crate) static RETAINED_ORDER: Row = Row {
+    name: "retained-order",
+    access_list: None,
+    script: r##"{"do":"connect","client":"a"}
+{"do":"publish","client":"a","topic":"a b","payload":"x","retain":true}
+{"do":"publish","client":"a","topic":"a/b","payload":"x","retain":true}
+{"do":"publish","client":"a","topic":"a","payload":"x","retain":true}
+{"do":"publish","client":"a","topic":"/a","payload":"x","retain":true}
+{"do":"publish","client":"a","topic":"$x","payload":"x","retain":true}
+{"do":"subscribe","client":"a","filter":"#"}
+"##,
+    output: r##"{"line":1,"reason":0}
+{"line":2,"reason":16}
+{"line":3,"reason":16}
+{"line":4,"reason":16}
+{"line":5,"reason":16}
+{"line":6,"reason":16}
+{"client":"a","line":7,"payload":"x","qos":0,"retain":true,"topic":"/a"}
+{"client":"a","line":7,"payload":"x","qos":0,"retain":true,"topic":"a"}
+{"client":"a","line":7,"payload":"x","qos":0,"retain":true,"topic":"a/b"}
+{"client":"a","line":7,"payload":"x","qos":0,"retain":true,"topic":"a b"}
+{"line":7,"reason":0}
+"##,
+    status: 0,
+};
+
+pub(crate) static SESSION_BEGUN_ANEW: Row = Row {
+    name: "session-begun-anew",
+    access_list: None,
+    script: r##"{"do":"connect","client":"a"}
 {"do":"subscribe","client":"a","filter":"t"}
 {"do":"connect","client":"a"}
 {"do":"publish","client":"a","topic":"t","payload":"x"}
@@ -309,7 +767,7 @@ topic read a/#
 {"do":"disconnect","client":"a"}
 {"do":"unsubscribe","client":"a","filter":"t"}
 "##,
-        output: r##"{"line":1,"reason":0}
+    output: r##"{"line":1,"reason":0}
 {"line":2,"reason":0}
 {"line":3,"reason":0}
 {"line":4,"reason":16}
@@ -317,19 +775,30 @@ topic read a/#
 {"code":7,"line":6,"refused":"NotConnected"}
 {"code":7,"line":7,"refused":"NotConnected"}
 "##,
-        status: 1,
-    },
-    Row {
-        name: "single-level-wildcard",
-        access_list: None,
-        script: r##"{"do":"connect","client":"a"}
+    status: 1,
+};
+
+#[test]
+fn rows_5(rt: HostRuntime) -> Result<(), Fail> {
+    run_row(&rt, &RETAIN_HANDLING_UNSHARED)?;
+    run_row(&rt, &RETAIN_HANDLING)?;
+    run_row(&rt, &RETAINED_AND_ACCESS)?;
+    run_row(&rt, &RETAINED_ORDER)?;
+    run_row(&rt, &SESSION_BEGUN_ANEW)?;
+    Ok(())
+}
+
+pub(crate) static SINGLE_LEVEL_WILDCARD: Row = Row {
+    name: "single-level-wildcard",
+    access_list: None,
+    script: r##"{"do":"connect","client":"a"}
 {"do":"subscribe","client":"a","filter":"+/+","id":2}
 {"do":"subscribe","client":"a","filter":"/+","id":1}
 {"do":"subscribe","client":"a","filter":"+","id":9}
 {"do":"publish","client":"a","topic":"/finance","payload":"x"}
 {"do":"publish","client":"a","topic":"finance","payload":"x"}
 "##,
-        output: r##"{"line":1,"reason":0}
+    output: r##"{"line":1,"reason":0}
 {"line":2,"reason":0}
 {"line":3,"reason":0}
 {"line":4,"reason":0}
@@ -338,6 +807,98 @@ topic read a/#
 {"client":"a","ids":[9],"line":6,"payload":"x","qos":0,"retain":false,"topic":"finance"}
 {"line":6,"reason":0}
 "##,
-        status: 0,
-    },
-];
+    status: 0,
+};
+
+pub(crate) static STAT_COUNTS: Row = Row {
+    name: "stat-counts",
+    access_list: None,
+    script: r##"{"do":"connect","client":"a"}
+{"do":"subscribe","client":"a","filter":"a/b"}
+{"do":"subscribe","client":"a","filter":"a/c/#"}
+{"do":"subscribe","client":"a","filter":"a"}
+{"do":"subscribe","client":"a","filter":"$share/g/a/+"}
+{"do":"publish","client":"a","topic":"x/y","payload":"x","retain":true}
+{"do":"stat"}
+{"do":"unsubscribe","client":"a","filter":"a"}
+{"do":"stat"}
+{"do":"unsubscribe","client":"a","filter":"$share/g/a/+"}
+{"do":"unsubscribe","client":"a","filter":"a/c/#"}
+{"do":"stat"}
+{"do":"publish","client":"a","topic":"x/y","payload":"","retain":true}
+{"do":"disconnect","client":"a"}
+{"do":"stat"}
+"##,
+    output: r##"{"line":1,"reason":0}
+{"line":2,"reason":0}
+{"line":3,"reason":0}
+{"line":4,"reason":0}
+{"line":5,"reason":0}
+{"line":6,"reason":16}
+{"line":7,"nodes":7,"retained":1,"subscriptions":4}
+{"line":8,"reason":0}
+{"line":9,"nodes":7,"retained":1,"subscriptions":3}
+{"line":10,"reason":0}
+{"line":11,"reason":0}
+{"line":12,"nodes":4,"retained":1,"subscriptions":1}
+{"line":13,"reason":16}
+{"line":14,"reason":0}
+{"line":15,"nodes":0,"retained":0,"subscriptions":0}
+"##,
+    status: 0,
+};
+
+pub(crate) static TWO_GROUPS: Row = Row {
+    name: "two-groups",
+    access_list: None,
+    script: r##"{"do":"connect","client":"a"}
+{"do":"connect","client":"b"}
+{"do":"subscribe","client":"a","filter":"$share/g/t"}
+{"do":"subscribe","client":"b","filter":"$share/g/t"}
+{"do":"subscribe","client":"b","filter":"$share/g/+"}
+{"do":"subscribe","client":"a","filter":"$share/g/+"}
+{"do":"publish","client":"a","topic":"t","payload":"x"}
+{"do":"publish","client":"a","topic":"u","payload":"x"}
+{"do":"publish","client":"a","topic":"t","payload":"x"}
+{"do":"connect","client":"a"}
+{"do":"publish","client":"b","topic":"t","payload":"x"}
+{"do":"subscribe","client":"a","filter":"$share/g/t"}
+{"do":"publish","client":"b","topic":"t","payload":"x"}
+{"do":"publish","client":"b","topic":"t","payload":"x"}
+"##,
+    output: r##"{"line":1,"reason":0}
+{"line":2,"reason":0}
+{"line":3,"reason":0}
+{"line":4,"reason":0}
+{"line":5,"reason":0}
+{"line":6,"reason":0}
+{"client":"b","filter":"+","line":7,"payload":"x","qos":0,"retain":false,"share":"g","topic":"t"}
+{"client":"a","filter":"t","line":7,"payload":"x","qos":0,"retain":false,"share":"g","topic":"t"}
+{"line":7,"reason":0}
+{"client":"a","filter":"+","line":8,"payload":"x","qos":0,"retain":false,"share":"g","topic":"u"}
+{"line":8,"reason":0}
+{"client":"b","filter":"+","line":9,"payload":"x","qos":0,"retain":false,"share":"g","topic":"t"}
+{"client":"b","filter":"t","line":9,"payload":"x","qos":0,"retain":false,"share":"g","topic":"t"}
+{"line":9,"reason":0}
+{"line":10,"reason":0}
+{"client":"b","filter":"+","line":11,"payload":"x","qos":0,"retain":false,"share":"g","topic":"t"}
+{"client":"b","filter":"t","line":11,"payload":"x","qos":0,"retain":false,"share":"g","topic":"t"}
+{"line":11,"reason":0}
+{"line":12,"reason":0}
+{"client":"b","filter":"+","line":13,"payload":"x","qos":0,"retain":false,"share":"g","topic":"t"}
+{"client":"b","filter":"t","line":13,"payload":"x","qos":0,"retain":false,"share":"g","topic":"t"}
+{"line":13,"reason":0}
+{"client":"b","filter":"+","line":14,"payload":"x","qos":0,"retain":false,"share":"g","topic":"t"}
+{"client":"a","filter":"t","line":14,"payload":"x","qos":0,"retain":false,"share":"g","topic":"t"}
+{"line":14,"reason":0}
+"##,
+    status: 0,
+};
+
+#[test]
+fn rows_6(rt: HostRuntime) -> Result<(), Fail> {
+    run_row(&rt, &SINGLE_LEVEL_WILDCARD)?;
+    run_row(&rt, &STAT_COUNTS)?;
+    run_row(&rt, &TWO_GROUPS)?;
+    Ok(())
+}

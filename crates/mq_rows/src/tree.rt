@@ -95,6 +95,23 @@ fn looks_up_by_filter(rt: HostRuntime) -> Result<(), Fail> {
 }
 
 #[test]
+fn looks_up_by_name(rt: HostRuntime) -> Result<(), Fail> {
+    let alloc = rt.alloc();
+    let mut tree = LevelTree::new(alloc);
+    put(alloc, &mut tree, "a/+", 1)?;
+    put(alloc, &mut tree, "a/b", 2)?;
+    put(alloc, &mut tree, "+/b", 3)?;
+    put(alloc, &mut tree, "a/b/c", 4)?;
+    for_name(&rt, &tree, "a/b", &[3, 1, 2])?;
+    for_name(&rt, &tree, "a/b/c", &[4])?;
+    for_name(&rt, &tree, "c/d", &[])?;
+    put(alloc, &mut tree, "!/b", 5)?;
+    for_name(&rt, &tree, "!/b", &[5, 3])?;
+    for_name(&rt, &tree, "a/b", &[3, 1, 2])?;
+    Ok(())
+}
+
+#[test]
 fn hides_names_that_begin_with_dollar(rt: HostRuntime) -> Result<(), Fail> {
     let alloc = rt.alloc();
     let mut tree = LevelTree::new(alloc);

@@ -1,0 +1,245 @@
+//! Runs over readers and writers that fail at each of their calls in turn, and scripts cut at each byte.
+use crate::hostile_devices::{Page, Script, Spaces, Trouble};
+use crate::table::FIRST_LOOK;
+use mq_cli::{AclFileFault, RunFault, Sink, Source, Summary, read_acl, run, run_within};
+use mq_router::Router;
+use std::alloc::{AllocError, Global};
+use std::process::Abort;
+use std::test::Fail;
+
+const REFUSALS: &str = r##"{"do":"connect","client":"a"}
+{"do":"subscribe","client":"a","filter":"$share//t"}
+
+{"do":"publish","client":"a","topic":"a/+","payload":"x"}
+{"do":"publish","client":"b","topic":"t","payload":"x"}
+{"do":"connect","client":""}
+{"do":"connect"
+[]
+{"do":"fly"}
+{"do":"subscribe","client":"a","filter":"t","qos":3}
+{"do":"publish","client":"a","topic":"t","extra":1}
+{"do":"connect","client":"a","user":"\u0000"}
+{"do":"publish","client":"a","topic":"t","payload":"x"}
+"##;
+
+const REFUSED: &str = r##"{"line":1,"reason":0}
+{"code":9,"line":2,"refused":"TopicFilter"}
+{"code":8,"line":4,"refused":"TopicName"}
+{"code":7,"line":5,"refused":"NotConnected"}
+{"code":5,"line":6,"refused":"ClientId"}
+{"code":2,"line":7,"refused":"BadJson"}
+{"code":3,"line":8,"refused":"BadCommand"}
+{"code":3,"line":9,"refused":"BadCommand"}
+{"code":4,"line":10,"refused":"BadField"}
+{"code":4,"line":11,"refused":"BadField"}
+{"code":6,"line":12,"refused":"UserName"}
+{"line":13,"reason":16}
+"##;
+
+// The scripts that are tried, each with its answers.
+fn scripts() -> [(&'static str, &'static str); 2] {
+    [(FIRST_LOOK.script, FIRST_LOOK.output), (REFUSALS, REFUSED)]
+}
+
+fn ended<R: Source>(alloc: Global, reader: &mut R, writer: &mut Page) -> Result<Summary, RunFault> {
+    run(alloc, Router::new(alloc), reader, writer)
+}
+
+// The number of the script's line that a line of the output answers.
+fn line_answered(text: &str) -> Option<usize> {
+    let (_, rest) = text.split_once("\"line\":")?;
+    let (number, _) = rest.split_once(',')?;
+    number.parse().ok()
+}
+
+// How many bytes answer the first lines.
+fn answers_to(output: &str, lines: usize) -> usize {
+    let mut bytes: usize = 0;
+    for text in output.lines() {
+        if line_answered(text).is_some_and(|number| number <= lines) {
+            bytes = bytes.saturating_add(text.len()).saturating_add(1);
+        }
+    }
+    bytes
+}
+
+fn line_feeds(bytes: &[u8]) -> usize {
+    bytes.iter().filter(|byte| **byte == b'\n').count()
+}
+
+#[test]
+fn one_byte_a_call(rt: HostRuntime) -> Result<(), Fail> {
+    for (script, output) in scripts() {
+        let mut reader = Script::new(script.as_bytes(), 1);
+        let mut writer = Page::new(output.as_bytes(), 1);
+        let summary = ended(rt.alloc(), &mut reader, &mut writer)?;
+        assert_eq!(rt; summary.lines as usize, line_feeds(script.as_bytes()));
+        assert!(rt; writer.is_same);
+        assert_eq!(rt; (writer.taken, output.is_empty()), (output.len(), false));
+        // The flush comes once, and last.
+        assert_eq!(rt; (writer.flushes, writer.flushed), (1, output.len()));
+    }
+    Ok(())
+}
+
+#[test]
+fn flush_after_a_last_piece(rt: HostRuntime) -> Result<(), Fail> {
+    for (script, output) in scripts() {
+        let cut = &script.as_bytes()[..script.len().saturating_sub(1)];
+        let mut writer = Page::new(output.as_bytes(), 100);
+        ended(rt.alloc(), &mut Script::new(cut, 100), &mut writer)?;
+        assert!(rt; writer.is_same);
+        assert_eq!(rt; (writer.flushes, writer.flushed), (1, output.len()));
+    }
+    Ok(())
+}
+
+#[test]
+fn a_reader_that_fails_at_each_call(rt: HostRuntime) -> Result<(), Fail> {
+    for (script, output) in scripts() {
+        for most in [1, 7, 100] {
+            for calls in 0..=script.len().div_ceil(most) {
+                let mut reader = Script::failing(script.as_bytes(), most, calls);
+                let mut writer = Page::new(output.as_bytes(), 100);
+                let result = ended(rt.alloc(), &mut reader, &mut writer);
+                assert!(rt; matches!(&result, Err(RunFault::Read)), "{most} {calls}");
+                let given = script.len().min(most.saturating_mul(calls));
+                assert_eq!(rt; reader.given, given, "{most} {calls}");
+                let lines = line_feeds(&script.as_bytes()[..given]);
+                assert!(rt; writer.is_same, "{most} {calls}");
+                assert_eq!(rt; writer.taken, answers_to(output, lines), "{most} {calls}");
+                assert_eq!(rt; writer.flushes, 0);
+            }
+        }
+    }
+    Ok(())
+}
+
+// Each call of the writer in turn is in trouble: what came before it is written, byte by byte.
+fn trouble_at_each_call(rt: &(impl Abort + AllocGlobal), trouble: Trouble) {
+    for (script, output) in scripts() {
+        for calls in 0..output.len() {
+            let mut reader = Script::new(script.as_bytes(), 100);
+            let mut writer = Page::failing(output.as_bytes(), 1, trouble, calls);
+            let result = ended(rt.alloc(), &mut reader, &mut writer);
+            assert!(rt; matches!(&result, Err(RunFault::Write)), "{calls}");
+            assert!(rt; writer.is_same, "{calls}");
+            assert_eq!(rt; (writer.taken, writer.flushes), (calls, 0));
+        }
+    }
+}
+
+#[test]
+fn a_writer_that_fails_at_each_call(rt: HostRuntime) {
+    trouble_at_each_call(&rt, Trouble::Write);
+}
+
+#[test]
+fn a_writer_that_takes_nothing_at_each_call(rt: HostRuntime) {
+    trouble_at_each_call(&rt, Trouble::Stall);
+}
+
+#[test]
+fn a_flush_that_fails(rt: HostRuntime) -> Result<(), Fail> {
+    for (script, output) in scripts() {
+        let mut reader = Script::new(script.as_bytes(), 100);
+        let mut writer = Page::failing(output.as_bytes(), 100, Trouble::Flush, 0);
+        let result = ended(rt.alloc(), &mut reader, &mut writer);
+        assert!(rt; matches!(&result, Err(RunFault::Write)));
+        assert!(rt; writer.is_same);
+        assert_eq!(rt; (writer.taken, writer.flushes), (output.len(), 0));
+    }
+    Ok(())
+}
+
+#[test]
+fn spaces_without_end(rt: HostRuntime) -> Result<(), Fail> {
+    let alloc = rt.alloc();
+    let mut writer = Page::new(b"", 100);
+    let result = run_within(alloc, Router::new(alloc), &mut Spaces, &mut writer, 100_000);
+    assert!(rt; matches!(&result, Err(RunFault::TooMuch)));
+    assert_eq!(rt; (writer.taken, writer.flushes), (0, 0));
+    Ok(())
+}
+
+#[test]
+fn limits_in_bytes(rt: HostRuntime) -> Result<(), Fail> {
+    let alloc = rt.alloc();
+    let script = "{\"do\":\"connect\",\"client\":\"a\"}\n{\"do\":\"connect\",\"client\":\"a\"}\n";
+    let output = "{\"line\":1,\"reason\":0}\n{\"line\":2,\"reason\":0}\n";
+    for most in [1, 7, 100] {
+        for (limit, lines) in [(60, Some(2)), (59, None), (30, None), (29, None), (0, None)] {
+            let mut reader = Script::new(script.as_bytes(), most);
+            let mut writer = Page::new(output.as_bytes(), most);
+            let result = run_within(alloc, Router::new(alloc), &mut reader, &mut writer, limit);
+            match lines {
+                Some(lines) => assert_eq!(rt; result?.lines, lines),
+                None => assert!(rt; matches!(&result, Err(RunFault::TooMuch)), "{limit}"),
+            }
+            assert!(rt; writer.is_same);
+            assert_eq!(rt;
+                writer.taken,
+                answers_to(output, (limit / 30) as usize),
+                "{limit}"
+            );
+        }
+    }
+    let summary = run_within(
+        alloc,
+        Router::new(alloc),
+        &mut Script::new(b"", 1),
+        &mut Page::new(b"", 1),
+        0,
+    )?;
+    assert_eq!(rt; summary.lines, 0);
+    Ok(())
+}
+
+// The answers to the front of a script: a last piece that is no whole line is no JSON.
+fn answers_to_front(
+    alloc: Global,
+    script: &str,
+    output: &str,
+    bytes: usize,
+) -> Result<Vec<u8>, AllocError> {
+    let front = &script.as_bytes()[..bytes.min(script.len())];
+    let lines = line_feeds(front);
+    let ends = script.as_bytes().get(bytes) == Some(&b'\n');
+    let begins = front.last().is_some_and(|byte| *byte != b'\n');
+    let whole = if ends { lines.saturating_add(1) } else { lines };
+    let whole = answers_to(output, whole).min(output.len());
+    let mut answers = Vec::from_slice(alloc, &output.as_bytes()[..whole])?;
+    if begins && !ends {
+        let line = lines.saturating_add(1);
+        let refusal = format!(in alloc;
+            "{{\"code\":2,\"line\":{line},\"refused\":\"BadJson\"}}\n"
+        )?;
+        answers.extend_from_slice(refusal.as_bytes())?;
+    }
+    Ok(answers)
+}
+
+#[test]
+fn a_script_cut_at_each_byte(rt: HostRuntime) -> Result<(), Fail> {
+    for (script, output) in scripts() {
+        for bytes in 0..=script.len() {
+            let front = &script.as_bytes()[..bytes.min(script.len())];
+            let wanted = answers_to_front(rt.alloc(), script, output, bytes)?;
+            let mut writer = Page::new(wanted.as_slice(), 100);
+            ended(rt.alloc(), &mut Script::new(front, 100), &mut writer)?;
+            assert!(rt; writer.is_same, "{bytes}");
+            assert_eq!(rt; writer.taken, wanted.len(), "{bytes}");
+        }
+    }
+    Ok(())
+}
+
+#[test]
+fn an_access_list_whose_reader_fails_at_each_call(rt: HostRuntime) -> Result<(), Fail> {
+    let list = b"topic read a\nuser b\n";
+    for calls in 0..=list.len() {
+        let result = read_acl(rt.alloc(), &mut Script::failing(list, 1, calls));
+        assert!(rt; matches!(&result, Err(AclFileFault::Read)), "{calls}");
+    }
+    Ok(())
+}
