@@ -257,38 +257,38 @@ module _ (V : RattleType.RattleType) (LV : Laws'.Laws V) where
   t8 = rows (Rows.whole (lent_row [])) (Rows.any_gone (ref_ty (Syntax.named 0))) (Rows.whole (key_row [])) (Maybe.waits_if node value (lent_at []).D (ref_ty
       Syntax.erased)) (Rows.any_gone (key_ty Syntax.erased))
 
-  abbrev pub T0 : Row.Cx
-  T0 = before t0
+  abbrev pub Cx0 : Row.Cx
+  Cx0 = before t0
 
-  abbrev pub T1 : Row.Cx
-  T1 = before t1
+  abbrev pub Cx1 : Row.Cx
+  Cx1 = before t1
 
-  abbrev pub T3 : Row.Cx
-  T3 = before t2
+  abbrev pub Cx3 : Row.Cx
+  Cx3 = before t2
 
-  abbrev pub T4 : Row.Cx
-  T4 = before t3
+  abbrev pub Cx4 : Row.Cx
+  Cx4 = before t3
 
-  abbrev pub T5 : Row.Cx
-  T5 = before t4
+  abbrev pub Cx5 : Row.Cx
+  Cx5 = before t4
 
-  abbrev pub T6 : Row.Cx
-  T6 = before t5
+  abbrev pub Cx6 : Row.Cx
+  Cx6 = before t5
 
-  abbrev pub T7 : Row.Cx
-  T7 = before t6
+  abbrev pub Cx7 : Row.Cx
+  Cx7 = before t6
 
-  abbrev pub T8 : Row.Cx
-  T8 = before t7
+  abbrev pub Cx8 : Row.Cx
+  Cx8 = before t7
 
-  abbrev pub T9 : Row.Cx
-  T9 = before t8
+  abbrev pub Cx9 : Row.Cx
+  Cx9 = before t8
 
-  abbrev pub T10 : Row.Cx
-  T10 = before t1
+  abbrev pub Cx10 : Row.Cx
+  Cx10 = before t1
 
   abbrev pub O0 : Typed.Outs
-  O0 = record { next = Option'.none; exits = []; returns = Option'.some T1 }
+  O0 = record { next = Option'.none; exits = []; returns = Option'.some Cx1 }
 
   abbrev pub Pre-type : Type 1
   Pre-type = (κs : Lifetimes.Lfts 3) → (a : Kinds.Dens κs ps) → Type 0
@@ -297,32 +297,32 @@ module _ (V : RattleType.RattleType) (LV : Laws'.Laws V) where
   Post-type = (κs : Lifetimes.Lfts 3) → (a : Kinds.Dens κs ps) → Kinds.Plain 3 ps r κs
 
   module _ (the-claims : Claims) where
-    abbrev pub s1 : Typed.Mo T0 → Typed.Mo T3
-    s1 = Pass.n_ref_pass T0 1 3 0 node (ref_ty (Syntax.named 0)) (ref_ty Syntax.erased) λ x. x
+    abbrev pub s1 : Typed.Mo Cx0 → Typed.Mo Cx3
+    s1 = Pass.n_ref_pass Cx0 1 3 0 node (ref_ty (Syntax.named 0)) (ref_ty Syntax.erased) λ x. x
 
-    abbrev pub s2 : Typed.Mo T3 → Typed.Mo T4
-    s2 = LocalCopy.n_val_copy T3 2 4 (key_row []) (Rows.whole (key_row [])) (Rows.whole (key_here [])) (λ x. x) (λ x. x) λ x. x
+    abbrev pub s2 : Typed.Mo Cx3 → Typed.Mo Cx4
+    s2 = LocalCopy.n_val_copy Cx3 2 4 (key_row []) (Rows.whole (key_row [])) (Rows.whole (key_here [])) (λ x. x) (λ x. x) λ x. x
 
-    abbrev pub s3 : Typed.Mo T4 → Typed.Mo T5
-    s3 = AtSlots.n_as_by T4 4 (ValueAt.val_at 4 (λ κc. key_row κc.1.0) (Option.the_type (text_at []).row).D (λ κc v. v) (0 ∷ 1 ∷ 2 ∷ 3 ∷ []) (key_ty Syntax.erased))
+    abbrev pub s3 : Typed.Mo Cx4 → Typed.Mo Cx5
+    s3 = AtSlots.n_as_by Cx4 4 (ValueAt.val_at 4 (λ κc. key_row κc.1.0) (Option.the_type (text_at []).row).D (λ κc v. v) (0 ∷ 1 ∷ 2 ∷ 3 ∷ []) (key_ty Syntax.erased))
         λ x. x
 
-    abbrev pub s4 : Typed.Both T5 T6
+    abbrev pub s4 : Typed.Both Cx5 Cx6
     s4 = So.call_so 4 whole-0 part-0 named-0 lender-0 rest-0 r-0 (AtSlots.one_type 4 named-0) the-claims.2 (λ κs a. BorrowLft.◌⊑◌ κs.1.1.0 V.lives → the-claims.0 κs
-        a) the-claims.1 T5 (record { pos = 3; ty = ref_ty Syntax.erased; ref = λ x. x }, (record { pos = 4; ty = key_ty Syntax.erased; at = λ x. x }, tt)) 0 (0 ∷ 1 ∷
+        a) the-claims.1 Cx5 (record { pos = 3; ty = ref_ty Syntax.erased; ref = λ x. x }, (record { pos = 4; ty = key_ty Syntax.erased; at = λ x. x }, tt)) 0 (0 ∷ 1 ∷
         2 ∷ 3 ∷ []) lent_ty
 
-    abbrev pub s5 : Typed.Mo T6 → Typed.Mo T7
-    s5 = AtSlots.n_as_by T6 4 (Rows.whole (key_here [])) λ x. x
+    abbrev pub s5 : Typed.Mo Cx6 → Typed.Mo Cx7
+    s5 = AtSlots.n_as_by Cx6 4 (Rows.whole (key_here [])) λ x. x
 
-    abbrev pub s6 : Typed.Mo T7 → Typed.Mo T8
-    s6 = AtSlots.n_as_by T7 0 (Rows.whole (lent_row [])) λ x. x
+    abbrev pub s6 : Typed.Mo Cx7 → Typed.Mo Cx8
+    s6 = AtSlots.n_as_by Cx7 0 (Rows.whole (lent_row [])) λ x. x
 
-    abbrev pub s7 : Typed.Mo T8 → Typed.Mo T9
-    s7 = Scalar.n_room T8 4 (key_ty Syntax.erased)
+    abbrev pub s7 : Typed.Mo Cx8 → Typed.Mo Cx9
+    s7 = Scalar.n_room Cx8 4 (key_ty Syntax.erased)
 
-    abbrev pub s8 : Typed.Mo T9 → Typed.Mo T10
-    s8 = Home.k_owing_home T9 1 3 (ref_ty (Syntax.named 0)) (ref_ty Syntax.erased) node hands λ x. x
+    abbrev pub s8 : Typed.Mo Cx9 → Typed.Mo Cx10
+    s8 = Home.k_owing_home Cx9 1 3 (ref_ty (Syntax.named 0)) (ref_ty Syntax.erased) node hands λ x. x
 
     module _ {M : Type 1} {𝓤 : Ura.Ura M} (𝓛 : Logic'.Logic 𝓤) (𝓣 : Wp.Tables 𝓤 𝓛.H) where
       abbrev pub Known-0 : Type 1
@@ -347,40 +347,40 @@ module _ (V : RattleType.RattleType) (LV : Laws'.Laws V) where
             (Function.plain_of 𝓛 3 ps r the-Pre the-Post)
 
       module _ where
-        abbrev at0 : Typed.TF T10 O0
+        abbrev at0 : Typed.TF Cx10 O0
         at0 = Typed.at_ret O0
 
-        abbrev at1 : Typed.TF T10 O0
+        abbrev at1 : Typed.TF Cx10 O0
         at1 = λ Ψ. at0 Ψ
 
-        abbrev at2 : Typed.TF T9 O0
-        at2 = λ Ψ. Typed.pass T9 T10 s8 (at1 Ψ)
+        abbrev at2 : Typed.TF Cx9 O0
+        at2 = λ Ψ. Typed.pass Cx9 Cx10 s8 (at1 Ψ)
 
-        abbrev at3 : Typed.TF T8 O0
-        at3 = λ Ψ. Typed.pass T8 T9 s7 (at2 Ψ)
+        abbrev at3 : Typed.TF Cx8 O0
+        at3 = λ Ψ. Typed.pass Cx8 Cx9 s7 (at2 Ψ)
 
-        abbrev at4 : Typed.TF T7 O0
-        at4 = λ Ψ. Typed.pass T7 T8 s6 (at3 Ψ)
+        abbrev at4 : Typed.TF Cx7 O0
+        at4 = λ Ψ. Typed.pass Cx7 Cx8 s6 (at3 Ψ)
 
-        abbrev at5 : Typed.TF T6 O0
-        at5 = λ Ψ. Typed.pass T6 T7 s5 (at4 Ψ)
+        abbrev at5 : Typed.TF Cx6 O0
+        at5 = λ Ψ. Typed.pass Cx6 Cx7 s5 (at4 Ψ)
 
-        abbrev at6 : Typed.TF T5 O0
+        abbrev at6 : Typed.TF Cx5 O0
         at6 = λ Ψ. Typed.both s4 (at5 Ψ)
 
-        abbrev at7 : Typed.TF T4 O0
-        at7 = λ Ψ. Typed.pass T4 T5 s3 (at6 Ψ)
+        abbrev at7 : Typed.TF Cx4 O0
+        at7 = λ Ψ. Typed.pass Cx4 Cx5 s3 (at6 Ψ)
 
-        abbrev at8 : Typed.TF T3 O0
-        at8 = λ Ψ. Typed.pass T3 T4 s2 (at7 Ψ)
+        abbrev at8 : Typed.TF Cx3 O0
+        at8 = λ Ψ. Typed.pass Cx3 Cx4 s2 (at7 Ψ)
 
-        abbrev at9 : Typed.TF T0 O0
-        at9 = λ Ψ. Typed.pass T0 T3 s1 (at8 Ψ)
+        abbrev at9 : Typed.TF Cx0 O0
+        at9 = λ Ψ. Typed.pass Cx0 Cx3 s1 (at8 Ψ)
 
-        abbrev at10 : Typed.TF T0 O0
+        abbrev at10 : Typed.TF Cx0 O0
         at10 = λ Ψ. at9 Ψ
 
-        abbrev pub Φ : Typed.TF T0 O0
+        abbrev pub Φ : Typed.TF Cx0 O0
         Φ = at10
 
         module _ {M : Type 1} {𝓤 : Ura.Ura M} (𝓛 : Logic'.Logic 𝓤) (𝓣 : Wp.Tables 𝓤 𝓛.H) where
@@ -482,7 +482,7 @@ module _ (V : RattleType.RattleType) (LV : Laws'.Laws V) where
             E = Frame.EnvOf 𝓛 ((Kinds.ty_r r) ∷ (Enter.tys_p ps xs)) bs
 
             d7 : Typed.Typed 𝓛 𝓣 E G4 b4 Δ0 at7
-            d7 = Typed.g_pre_lem 𝓛 𝓣 E G4 G5 b4 Δ0 (Typed.pass T4 T5 s3) at6 (AtSlots.g_as_by 𝓛 E (λ ρ. ◌≡◌ (Row.lft ρ 1) κs.1.0) G4 4 (ValueAt.val_at 4 (λ κc. key_row
+            d7 = Typed.g_pre_lem 𝓛 𝓣 E G4 G5 b4 Δ0 (Typed.pass Cx4 Cx5 s3) at6 (AtSlots.g_as_by 𝓛 E (λ ρ. ◌≡◌ (Row.lft ρ 1) κs.1.0) G4 4 (ValueAt.val_at 4 (λ κc. key_row
                 (κc.1.0)) (Option.the_type (text_at []).row).D (λ κc v. v) (0 ∷ 1 ∷ 2 ∷ 3 ∷ []) (key_ty Syntax.erased)) (λ x. x) (Call.pin_lease 𝓛 1 G4.slots κs.1.0
                 qs.1.0 refl) (ValueAt.to_slots_Val 𝓛 4 Fml.Lft (λ κc. κc.1.0) (λ c. key_row c) (Option.the_type (text_at []).row).D (λ c v. v) (0 ∷ 1 ∷ 2 ∷ 3 ∷ [])
                 κs.1.0 (key_ty Syntax.erased) (key_here κs.1.0) refl refl (λ x. x) λ x vs. subst {A = Fml.Fml} (λ g. Logic.ent 𝓤 (Logic'.sem 𝓛 ((key_here
@@ -579,25 +579,25 @@ module _ (V : RattleType.RattleType) (LV : Laws'.Laws V) where
                     tt,
                   ),
                 )) x v i (0 ∷ 1 ∷ 2 ∷ 3 ∷ []) lent_ty refl)) (Typed.g_pre_lem 𝓛 𝓣 E G6 G7 b3 Δ0
-                (Typed.pass T6 T7 s5) at4 (AtSlots.g_as_by 𝓛 E (λ ρ. ◌≡◌ (Row.lft ρ 1) κs.1.0) G6 4 (Rows.whole (key_here κs.1.0)) (λ x. x) (Call.pin_lease 𝓛 1
+                (Typed.pass Cx6 Cx7 s5) at4 (AtSlots.g_as_by 𝓛 E (λ ρ. ◌≡◌ (Row.lft ρ 1) κs.1.0) G6 4 (Rows.whole (key_here κs.1.0)) (λ x. x) (Call.pin_lease 𝓛 1
                 G6.slots κs.1.0 qs.1.0 refl) (ValueAt.of_slots_Val 𝓛 4 Fml.Lft (λ κc. κc.1.0) (λ c. key_row c) (Option.the_type (text_at []).row).D (λ c v. v) (0 ∷
                 1 ∷ 2 ∷ 3 ∷ []) κs.1.0 (key_ty Syntax.erased) (key_here κs.1.0) refl refl (λ x. x) λ x vs. subst {A = Fml.Fml} (λ g. Logic.ent 𝓤 (Logic'.sem 𝓛
                 g) (Logic'.sem 𝓛 ((key_here κs.1.0).own_val x vs))) {x = (key_here κs.1.0).own_val x vs} {y = let c : Fml.Lft = κs.1.0 in (key_row c).own_val x
-                vs} refl (Logic.id⊢ 𝓤 (Logic'.sem 𝓛 ((key_here κs.1.0).own_val x vs))))) (Typed.g_pre_lem 𝓛 𝓣 E G7 G8 b3 Δ0 (Typed.pass T7 T8 s6) at3 (AtSlots.g_as_by
+                vs} refl (Logic.id⊢ 𝓤 (Logic'.sem 𝓛 ((key_here κs.1.0).own_val x vs))))) (Typed.g_pre_lem 𝓛 𝓣 E G7 G8 b3 Δ0 (Typed.pass Cx7 Cx8 s6) at3 (AtSlots.g_as_by
                 𝓛 E (λ ρ. ◌≡◌ (Row.lft ρ 0) κs.0) G7 0 (Rows.whole (lent_row κs.0)) (λ x. x) (Call.pin_lease 𝓛 0 G7.slots κs.0 qs.0 refl) (ValueAt.of_slots_Val 𝓛 4
                 Fml.Lft (λ κc. κc.0) (λ c. lent_row c) (lent_at []).D (λ c v. v) (0 ∷ 1 ∷ 2 ∷ 3 ∷ []) κs.0 lent_ty (lent_row κs.0) refl refl (λ x. x) λ x vs.
                 subst {A = Fml.Fml} (λ g. Logic.ent 𝓤 (Logic'.sem 𝓛 g) (Logic'.sem 𝓛 ((lent_row κs.0).own_val x vs))) {x = (lent_row κs.0).own_val x vs} {y =
                 let c : Fml.Lft = κs.0 in (lent_row c).own_val x vs} refl (Logic.id⊢ 𝓤 (Logic'.sem 𝓛 ((lent_row κs.0).own_val x vs))))) (Typed.g_pre_lem 𝓛 𝓣 E G8 G9
-                b3 Δ0 (Typed.pass T8 T9 s7) at2 (Scalar.g_room 𝓛 E G8 4 (key_ty Syntax.erased) (Local.room_whole 𝓛 (key_here κs.1.0) (key_ty Syntax.erased) refl))
-                (Typed.g_pre_lem 𝓛 𝓣 E G9 G10 b3 Δ0 (Typed.pass T9 T10 s8) at1 (Home.g_owing_home 𝓛 E G9 1 3 (ref_ty (Syntax.named 0)) (ref_ty Syntax.erased) node hands
+                b3 Δ0 (Typed.pass Cx8 Cx9 s7) at2 (Scalar.g_room 𝓛 E G8 4 (key_ty Syntax.erased) (Local.room_whole 𝓛 (key_here κs.1.0) (key_ty Syntax.erased) refl))
+                (Typed.g_pre_lem 𝓛 𝓣 E G9 G10 b3 Δ0 (Typed.pass Cx9 Cx10 s8) at1 (Home.g_owing_home 𝓛 E G9 1 3 (ref_ty (Syntax.named 0)) (ref_ty Syntax.erased) node hands
                 (λ x. x) (Reads.room_gone 𝓛 (ref_ty (Syntax.named 0))) (Reads.as_is 𝓛 (Maybe.waits_if node value (lent_at []).D (ref_ty Syntax.erased))))
                 (Typed.g_pre_lem 𝓛 𝓣 E G10 G11 b3 Δ0 (λ Ψ. Ψ) at0 (Lifetime.g_forget 𝓛 E G10 3 (Row.lease [] Fraction.full_share) refl) (Typed.t_return 𝓛 𝓣 E Δ0
                 tt)))))))
 
             d10 : Typed.Typed 𝓛 𝓣 E G0 b6 Δ0 at10
             d10 = Typed.g_pre_lem 𝓛 𝓣 E G0 G2 b6 Δ0 (λ Ψ. Ψ) at9 (Lifetime.g_static 𝓛 E G0 3 (tt, (tt, (tt, (tt, (tt, tt)))))) (Typed.s_seq 𝓛 𝓣 E G2 G3 b0 b5 Δ0
-                (Typed.pass T0 T3 s1) at8 (Pass.t_ref_pass 𝓛 E 𝓣 G2 1 3 0 node ty-3 (ref_ty (Syntax.named 0)) (ref_ty Syntax.erased) (λ x. x) (Reads.as_is 𝓛 (Rows.mref
-                node (ref_ty (Syntax.named 0)) 0)) (Reads.room_gone 𝓛 (ref_ty Syntax.erased)) refl refl λ b o. tt) (Typed.s_seq 𝓛 𝓣 E G3 G4 b1 b4 Δ0 (Typed.pass T3 T4
+                (Typed.pass Cx0 Cx3 s1) at8 (Pass.t_ref_pass 𝓛 E 𝓣 G2 1 3 0 node ty-3 (ref_ty (Syntax.named 0)) (ref_ty Syntax.erased) (λ x. x) (Reads.as_is 𝓛 (Rows.mref
+                node (ref_ty (Syntax.named 0)) 0)) (Reads.room_gone 𝓛 (ref_ty Syntax.erased)) refl refl λ b o. tt) (Typed.s_seq 𝓛 𝓣 E G3 G4 b1 b4 Δ0 (Typed.pass Cx3 Cx4
                 s2) at7 (LocalCopy.t_val_copy 𝓛 E 𝓣 (λ ρ. ◌≡◌ (Row.lft ρ 1) κs.1.0) G3 2 4 (key_row κs.1.0) (key_ty (Syntax.named 1)) (key_ty Syntax.erased)
                 (Rows.whole (key_row κs.1.0)) (Rows.whole (key_here κs.1.0)) (λ x. x) (λ x. x) (λ x. x) refl (Call.pin_lease 𝓛 1 G3.slots κs.1.0 qs.1.0 refl)
                 (Yields.Yields-copy 𝓛 (λ ρ. ◌≡◌ (Row.lft ρ 1) κs.1.0) (key_row κs.1.0) refl ((Copies.c_enum (Option.the_type (text_at κs.1.0).row) (TheLaws.the_laws
