@@ -1,15 +1,16 @@
--- A router that holds nothing stands for the world that nobody has used.
+-- A router that holds nothing stands for the world that nobody has used, within any limits.
 use Rattle.std.specs.Prelude.{[], Option}
 use Rattle.std.proofs.Common.{refl, List}
 use Rattle.std.specs.List.{IsDistinct}
 use Rattle.std.specs.List.Sorted.{IsStrictlySortedBy}
 use Rattle.mq_acl.specs.Rows.{AclRow}
-use Rattle.mq_router.specs.World.{fresh_world}
+use Rattle.mq_router.specs.World.{Limits, fresh_world, within}
 use Rattle.mq_router.specs.Counts.{filters_of}
 use Rattle.mq_router.specs.StandsFor.{State, StandsFor}
 
-abbrev pub fresh_state : Option (List AclRow) → State
-fresh_state access = record {
+abbrev pub fresh_state : Limits → Option (List AclRow) → State
+fresh_state limits access = record {
+  limits = limits;
   moment = 0;
   access = access;
   sessions = [];
@@ -20,10 +21,11 @@ fresh_state access = record {
   deadlines = [];
 }
 
-pub fresh-stands : (access : Option (List AclRow)) → StandsFor (fresh_state access) (fresh_world access)
+pub fresh-stands : (limits : Limits) (access : Option (List AclRow)) → StandsFor (fresh_state limits access) (within limits (fresh_world access))
 unfolding StandsFor fresh_world filters_of IsDistinct IsStrictlySortedBy
-fresh-stands access = (
+fresh-stands limits access = (
   record {
+    limits = refl;
     moment = refl;
     access = refl;
     sessions = refl;

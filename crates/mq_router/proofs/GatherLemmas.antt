@@ -121,15 +121,15 @@ module _ {T : Type 0} (bs : Text) (x : T) (es : List (String Global × Vec T Glo
         (all_append HasItems gap.gap.front ((bs, v) ∷ gap.gap.back) (all_front HasItems gap.gap.front gap.gap.back old)
         (ap is_empty one, all_back HasItems gap.gap.front gap.gap.back old)))
 
--- what is listed for each key of lists
-pub each_listed : {V W : Type 0} (view : List V → W) (L : Gathered V) (T : Text → W) → IsStrictlySortedBy text_cmp (keys_of L) → ((key : Text) → list_any (is_text key) (keys_of L) ≡ true → view (listed key L) ≡ T key) → AllByRecursion (λ (l : Text × List V). view l.1 ≡ T l.0) L
+-- what is shown of what is found for each key
+pub each_shown : {V W : Type 0} (show : Option V → W) (L : List (Text × V)) (T : Text → W) → IsStrictlySortedBy text_cmp (keys_of L) → ((key : Text) → list_any (is_text key) (keys_of L) ≡ true → show (lookup (is_text key) L) ≡ T key) → AllByRecursion (λ (l : Text × V). show (Some l.1) ≡ T l.0) L
 unfolding IsStrictlySortedBy
-each_listed view [] T s h = tt
-each_listed {V} {W} view (l ∷ L) T s h =
+each_shown show [] T s h = tt
+each_shown {V} {W} show (l ∷ L) T s h =
     let own : is_text l.0 l.0 ≡ true = is_text-is l.0 l.0 ∙ same_text-itself l.0 in (
-      sym (ap (λ b. view (option_map_or (λ (v : List V). v) (cond b (Some l.1) (lookup (is_text l.0) L)) [])) own) ∙ h l.0 (ap (λ b. b || list_any (is_text l.0) (keys_of L)) own),
-      each_listed view L T s.1 (λ key t.
-          sym (ap (λ b. view (option_map_or (λ (v : List V). v) (cond b (Some l.1) (lookup (is_text key) L)) [])) (away key t))
+      sym (ap (λ b. show (cond b (Some l.1) (lookup (is_text l.0) L))) own) ∙ h l.0 (ap (λ b. b || list_any (is_text l.0) (keys_of L)) own),
+      each_shown show L T s.1 (λ key t.
+          sym (ap (λ b. show (cond b (Some l.1) (lookup (is_text key) L))) (away key t))
           ∙ h key (ap (λ b. is_text key l.0 || b) t ∙ or_true (is_text key l.0))),
     )
   where
@@ -143,9 +143,16 @@ each_listed {V} {W} view (l ∷ L) T s h =
         (λ e. absurd (true≢false (sym t ∙ ap (λ (k : Text). list_any (is_text k) (keys_of L)) (key_text key l.0 e) ∙ none_of (keys_of L) s.0)))
         (λ f. f)
 
-pub unlisted : {V : Type 0} (key : Text) (L : Gathered V) → list_any (is_text key) (keys_of L) ≡ false → listed key L ≡ []
-unlisted key [] h = refl
-unlisted {V} key (l ∷ L) h =
+-- what is listed for each key of lists
+pub each_listed : {V W : Type 0} (view : List V → W) (L : Gathered V) (T : Text → W) → IsStrictlySortedBy text_cmp (keys_of L) → ((key : Text) → list_any (is_text key) (keys_of L) ≡ true → view (listed key L) ≡ T key) → AllByRecursion (λ (l : Text × List V). view l.1 ≡ T l.0) L
+each_listed {V} view L T s h = each_shown (λ o. view (option_map_or (λ (v : List V). v) o [])) L T s h
+
+pub unfound : {V : Type 0} (key : Text) (L : List (Text × V)) → list_any (is_text key) (keys_of L) ≡ false → lookup (is_text key) L ≡ None
+unfound key [] h = refl
+unfound key (l ∷ L) h =
     pick (is_text key l.0)
     (λ t. absurd (true≢false (sym (ap (λ b. b || list_any (is_text key) (keys_of L)) t) ∙ h)))
-    (λ f. ap (λ b. option_map_or (λ (v : List V). v) (cond b (Some l.1) (lookup (is_text key) L)) []) f ∙ unlisted key L (ap (λ b. b || list_any (is_text key) (keys_of L)) (sym f) ∙ h))
+    (λ f. ap (λ b. cond b (Some l.1) (lookup (is_text key) L)) f ∙ unfound key L (ap (λ b. b || list_any (is_text key) (keys_of L)) (sym f) ∙ h))
+
+pub unlisted : {V : Type 0} (key : Text) (L : Gathered V) → list_any (is_text key) (keys_of L) ≡ false → listed key L ≡ []
+unlisted {V} key L h = ap (λ o. option_map_or (λ (v : List V). v) o []) (unfound key L h)

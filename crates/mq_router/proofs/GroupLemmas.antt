@@ -9,9 +9,7 @@ use Rattle.std.specs.List.Sorted.{IsStrictlySortedBy}
 use Rattle.std.proofs.lemmas.Map.Text.{is_eq-slice_cmp}
 use Rattle.mq_topic.specs.Levels.{levels, level_order}
 use Rattle.mq_acl.specs.Rows.{AclRow}
-use Rattle.mq_acl.specs.Access.{allowed}
-use Rattle.mq_acl.specs.declared.access.Direction.TheVariants.{Reading}
-use Rattle.mq_router.specs.Sessions.{user_of}
+use Rattle.mq_router.specs.Sessions.{is_reader}
 use Rattle.mq_router.specs.Lists.{Text, same_text, in_order}
 use Rattle.mq_router.specs.World.{Session, Row, Subscription, Group, Message, group_cmp, group_of, is_in_group, same_share}
 use Rattle.mq_router.specs.Applied.{groups_among, next_in, next_members}
@@ -123,5 +121,5 @@ members-matching access sessions xs m =
     let q : Group → Bool = λ group. filter_matches group.filter m.topic in
     let few : List Subscription = filter (matching m.topic) xs in
     filter_map-alike (next_in access sessions few m.topic) (next_in access sessions xs m.topic) q
-    (λ g t. ap (find (λ x. allowed access x.client (user_of sessions x.client) m.topic Reading)) (in_matching m.topic g t xs)) (groups_among few)
+    (λ g t. ap (find (λ x. is_reader access sessions m.topic x.client)) (in_matching m.topic g t xs)) (groups_among few)
     ∙ ap (filter_map (next_in access sessions xs m.topic)) (groups-same q few xs (λ g t. any-from_filter (is_in_group g) few xs (in_matching m.topic g t xs)))

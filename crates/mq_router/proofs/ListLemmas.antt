@@ -1,5 +1,5 @@
 -- Facts on lists that the definitions and the code need.
-use Rattle.std.proofs.Common.{◌≡◌, Bool, true, false, cond, ◌||◌, not, List, [], ◌∷◌, ◌++◌, map, Option, Some, is_some, Result, Ok, Err, refl, sym, ◌∙◌, ap}
+use Rattle.std.proofs.Common.{◌≡◌, Bool, true, false, cond, ◌||◌, not, List, [], ◌∷◌, ◌++◌, map, append_assoc, Option, Some, None, is_some, Result, Ok, Err, refl, sym, ◌∙◌, ap}
 use Rattle.std.specs.declared.cmp.Ordering.{Ordering}
 use Rattle.std.specs.declared.cmp.Ordering.TheVariants.{Less, Equal, Greater}
 use Rattle.std.specs.Ordering.{is_lt, match_ordering}
@@ -112,7 +112,7 @@ all_stay : {K X : Type 0} (test : K → Bool) (es : List (K × X)) → AllByRecu
 all_stay test [] h = refl
 all_stay test (e ∷ es) h = rw (h.0, all_stay test es h.1) refl
 
-none_again : {K X : Type 0} (cmp : K → K → Ordering) (test : K → Bool) (apart : (x y : K) → test x ≡ true → cmp x y ≡ Less → test y ≡ false) (k : K) → test k ≡ true → (es : List (K × X)) → AllByRecursion (λ y. cmp k y ≡ Less) (keys_of es) → AllByRecursion (λ y. test y ≡ false) (keys_of es)
+pub none_again : {K X : Type 0} (cmp : K → K → Ordering) (test : K → Bool) (apart : (x y : K) → test x ≡ true → cmp x y ≡ Less → test y ≡ false) (k : K) → test k ≡ true → (es : List (K × X)) → AllByRecursion (λ y. cmp k y ≡ Less) (keys_of es) → AllByRecursion (λ y. test y ≡ false) (keys_of es)
 none_again cmp test apart k t [] h = tt
 none_again cmp test apart k t (e ∷ es) h = (apart k e.0 t h.0, none_again cmp test apart k t es h.1)
 
@@ -129,3 +129,31 @@ remove_entry-filter cmp test apart (e ∷ es) s =
 pub filter_map-map : {X Y Z : Type 0} (f : Y → Option Z) (g : X → Y) (xs : List X) → filter_map f (map g xs) ≡ filter_map (λ x. f (g x)) xs
 filter_map-map f g [] = refl
 filter_map-map f g (x ∷ xs) = ap (cons_option (f (g x))) (filter_map-map f g xs)
+
+pub map-same : {X Y : Type 0} (f g : X → Y) → ((x : X) → f x ≡ g x) → (xs : List X) → map f xs ≡ map g xs
+map-same f g h [] = refl
+map-same f g h (x ∷ xs) = rw (h x, map-same f g h xs) refl
+
+pub filter_map-same : {X Y : Type 0} (f g : X → Option Y) → ((x : X) → f x ≡ g x) → (xs : List X) → filter_map f xs ≡ filter_map g xs
+filter_map-same f g h [] = refl
+filter_map-same f g h (x ∷ xs) = rw (h x, filter_map-same f g h xs) refl
+
+pub filter_map-filter : {X Y : Type 0} (f : X → Option Y) (p : X → Bool) (xs : List X) → filter_map (λ x. cond (p x) (f x) None) xs ≡ filter_map f (filter p xs)
+filter_map-filter f p [] = refl
+filter_map-filter f p (x ∷ xs) =
+    elim (p x) as (λ b. cons_option (cond b (f x) None) (filter_map (λ x. cond (p x) (f x) None) xs) ≡ filter_map f (cond b (x ∷ filter p xs) (filter p xs))) [
+      | true ↦ ap (cons_option (f x)) (filter_map-filter f p xs)
+      | false ↦ filter_map-filter f p xs
+    ]
+
+-- ## What a loop has collected, and what it will of the rest
+
+pub collected-more : {X Y : Type 0} (f : X → Option Y) (ys total : List Y) (o : Option Y) (x : X) (rest : List X) → o ≡ f x → ys ++ filter_map f (x ∷ rest) ≡ total → (ys ++ cons_option o []) ++ filter_map f rest ≡ total
+collected-more f ys total o x rest says h =
+    append_assoc ys (cons_option o []) (filter_map f rest)
+    ∙ ap (λ l. ys ++ l) (one o (filter_map f rest) ∙ ap (λ p. cons_option p (filter_map f rest)) says)
+    ∙ h
+  where
+    one : {Y : Type 0} (p : Option Y) (l : List Y) → cons_option p [] ++ l ≡ cons_option p l
+    one None l = refl
+    one (Some y) l = refl

@@ -1,44 +1,34 @@
--- The copies for clients in their own name, as they are gathered.
-use Rattle.std.proofs.Common.{◌≡◌, ◌==◌, Bool, true, false, true≢false, cond, not, is_none, ◌&&◌, List, [], ◌∷◌, map, length, Option, Some, None, is_some, String, string_bytes, if◌then◌else◌, refl, sym, ◌∙◌, ap}
-use Rattle.std.specs.declared.alloc.Global.{Global}
+-- The copies for clients in their own name that are sent or begin to wait, as they are gathered.
+use Rattle.std.proofs.Common.{◌≡◌, ◌==◌, ℕ, Bool, true, false, true≢false, cond, not, is_none, ◌&&◌, List, [], ◌∷◌, map, length, Option, Some, None, is_some, if◌then◌else◌, refl, sym, ◌∙◌, ap}
 use Rattle.std.specs.declared.cmp.Ordering.TheVariants.{Less}
 use Rattle.std.specs.Cmp.Lexicographic.{nat_list_cmp_total, nat_list_eq_equiv}
-use Rattle.std.specs.String.{string_cmp}
-use Rattle.std.specs.Option.{option_and_then}
+use Rattle.std.specs.Option.{option_map, option_map_or, option_and_then}
 use Rattle.std.specs.List.{filter, filter_map, cons_option, find, list_any, AllByRecursion}
 use Rattle.std.specs.List.Sorted.{IsStrictlySortedBy}
-use Rattle.std.specs.Map.{keys_of}
+use Rattle.std.specs.Map.{lookup, keys_of}
 use Rattle.mq_acl.specs.Rows.{AclRow}
 use Rattle.mq_acl.specs.Access.{allowed}
 use Rattle.mq_acl.specs.declared.access.Direction.TheVariants.{Reading}
 use Rattle.mq_router.specs.Lists.{Text, same_text, text_cmp}
 use Rattle.mq_router.specs.World.{Session, Subscription, Message, Copy, session_cmp, has_id}
-use Rattle.mq_router.specs.Sessions.{is_connected, user_of}
+use Rattle.mq_router.specs.Sessions.{session_of, is_present, connected, user_of}
+use Rattle.mq_router.specs.Waiting.{has_room, with_qos}
+use Rattle.mq_router.specs.Begun.{Begin, begin_with, begins, begun_by}
 use Rattle.mq_router.specs.Copies.{filter_matches, takes_part, options_for, copy_by, direct_copy, direct_copies}
-use Rattle.mq_router.specs.Kept.{is_text, is_empty, options_of}
-use Rattle.mq_router.specs.Held.{session_of}
-use Rattle.mq_router.specs.Gathered.{Gathered, listed, NoneBare}
-use Rattle.mq_router.specs.Made.{gives, gives_options, copies_by}
-use Rattle.mq_router.proofs.ListLemmas.{filter-same, list_any-map, list_any-same, is_some-find}
-use Rattle.mq_router.proofs.SameLemmas.{filter-filter, some_pass}
+use Rattle.mq_router.specs.Kept.{is_text}
+use Rattle.mq_router.specs.Summaries.{Summary, summary_of, summary_for, copy_from}
+use Rattle.mq_router.specs.Made.{gives, gives_options, copies_by, begins_by}
+use Rattle.mq_router.proofs.ListLemmas.{filter-same, filter_map-same, filter_map-filter, list_any-map, list_any-same, is_some-find}
+use Rattle.mq_router.proofs.SameLemmas.{filter-filter}
 use Rattle.mq_router.proofs.SortedLemmas.{same_gathered}
-use Rattle.mq_router.proofs.BoolLemmas.{pick, left_true, right_true}
+use Rattle.mq_router.proofs.BoolLemmas.{pick, left_true, right_true, and_true}
 use Rattle.mq_router.proofs.InTurn.{same_text-itself}
 use Rattle.mq_router.proofs.Texts.{is_text-is, text-apart, key_text}
-use Rattle.mq_router.proofs.GatherLemmas.{each_listed, unlisted}
+use Rattle.mq_router.proofs.GatherLemmas.{each_shown, unfound}
+use Rattle.mq_router.proofs.SummaryLemmas.{summarized, unsummarized}
 use Rattle.mq_router.specs.World as world
-use Rattle.mq_router.specs.declared.options.Options as held
 
 -- ## Sessions in order
-
-below_ids : (k : String Global) (es : List (String Global × Option (String Global))) → AllByRecursion (λ y. string_cmp k y ≡ Less) (keys_of es) → (s : Session) → s.id ≡ string_bytes k → AllByRecursion (λ t. session_cmp s t ≡ Less) (map session_of es)
-below_ids k [] h s e = tt
-below_ids k (d ∷ es) h s e = (ap (λ (i : Text). text_cmp i (string_bytes d.0)) e ∙ h.0, below_ids k es h.1 s e)
-
-pub ordered-sessions : (es : List (String Global × Option (String Global))) → IsStrictlySortedBy string_cmp (keys_of es) → IsStrictlySortedBy session_cmp (map session_of es)
-unfolding IsStrictlySortedBy
-ordered-sessions [] s = tt
-ordered-sessions (e ∷ es) s = (below_ids e.0 es s.0 (session_of e) refl, ordered-sessions es s.1)
 
 abbrev ids : List Session → List Text
 ids ss = map (λ (s : Session). s.id) ss
@@ -65,67 +55,104 @@ found_itself (x ∷ ss) s = (ap (λ b. cond b (Some x) (find (has_id x.id) ss)) 
 
 -- ## By client
 
-module _ (access : Option (List AclRow)) (sessions : List Session) (subscriptions : List Subscription) (m : Message) where
+-- what is made for the clients of sessions that pass a test, by the options of their subscriptions
+module _ {X : Type 0} (test : Session → Bool) (make : Text → Summary → Option X) (access : Option (List AclRow)) (sessions : List Session) (subscriptions : List Subscription) (m : Message) where
   abbrev O : Text → List world.Options
   O id = options_for subscriptions m id
 
   abbrev may : Text → Option Text → Bool
   may id user = allowed access id user m.topic Reading
 
-  -- the copy for a client
-  abbrev H : Text → Option Copy
-  H id = if is_connected sessions id && not (length (O id) == 0) && may id (user_of sessions id) then Some (copy_by id None m (O id)) else None
+  abbrev passes : Text → Bool
+  passes id = option_map_or test (session_of sessions id) false
 
-  by_ids : (ss : List Session) → AllByRecursion (λ s. find (has_id s.id) sessions ≡ Some s) ss → filter_map (λ (t : Session). direct_copy access subscriptions m t.id t.user) ss ≡ filter_map H (ids ss)
+  abbrev made_for : Session → Option X
+  made_for s = cond (test s) (if not (length (O s.id) == 0) && may s.id s.user then make s.id (summary_of (O s.id)) else None) None
+
+  abbrev made_by : Text × Summary → Option X
+  made_by l = if passes l.0 && may l.0 (user_of sessions l.0) then make l.0 l.1 else None
+
+  -- by the id alone
+  abbrev H : Text → Option X
+  H id = if passes id && not (length (O id) == 0) && may id (user_of sessions id) then make id (summary_of (O id)) else None
+
+  nested : (t n y : Bool) (o : Option X) → cond t (if n && y then o else None) None ≡ (if t && n && y then o else None)
+  nested true n y o = refl
+  nested false n y o = refl
+
+  by_ids : (ss : List Session) → AllByRecursion (λ s. session_of sessions s.id ≡ Some s) ss → filter_map made_for ss ≡ filter_map H (ids ss)
   by_ids [] h = refl
   by_ids (s ∷ ss) h =
-      let there : is_connected sessions s.id ≡ true = ap is_some h.0 in
+      let there : passes s.id ≡ test s = ap (λ (o : Option Session). option_map_or test o false) h.0 in
       let user : user_of sessions s.id ≡ s.user = ap (option_and_then (λ (x : Session). x.user)) h.0 in
-      ap (λ u. cons_option (if not (length (O s.id) == 0) && may s.id u then Some (copy_by s.id None m (O s.id)) else None) (filter_map (λ (t : Session). direct_copy access subscriptions m t.id t.user) ss)) (sym user)
-      ∙ ap (λ b. cons_option (if b && not (length (O s.id) == 0) && may s.id (user_of sessions s.id) then Some (copy_by s.id None m (O s.id)) else None) (filter_map (λ (t : Session). direct_copy access subscriptions m t.id t.user) ss)) (sym there)
+      let rest : List X = filter_map made_for ss in
+      ap (λ o. cons_option o rest) (nested (test s) (not (length (O s.id) == 0)) (may s.id s.user) (make s.id (summary_of (O s.id))))
+      ∙ ap (λ u. cons_option (if test s && not (length (O s.id) == 0) && may s.id u then make s.id (summary_of (O s.id)) else None) rest) (sym user)
+      ∙ ap (λ b. cons_option (if b && not (length (O s.id) == 0) && may s.id (user_of sessions s.id) then make s.id (summary_of (O s.id)) else None) rest) (sym there)
       ∙ ap (cons_option (H s.id)) (by_ids ss h.1)
-
-  live_length : (os : List held.Options) → is_empty os ≡ false → not (length (map options_of os) == 0) ≡ true
-  live_length [] h = absurd (true≢false h)
-  live_length (o ∷ os) h = sym (some_pass (length (map options_of os)))
 
   and_third : (a b c : Bool) → b ≡ true → (a && c) ≡ (a && b && c)
   and_third a b c e = ap (λ v. v && c) (sym (and_true a)) ∙ ap (λ v. a && v && c) (sym e)
-    where
-      and_true : (x : Bool) → (x && true) ≡ x
-      and_true true = refl
-      and_true false = refl
 
-  by_keys : (L : Gathered held.Options) → AllByRecursion (λ (l : Text × List held.Options). map options_of l.1 ≡ O l.0) L → NoneBare L → copies_by access sessions m L ≡ filter_map H (keys_of L)
-  by_keys [] h live = refl
-  by_keys (l ∷ L) h live =
-      let some : not (length (O l.0) == 0) ≡ true = sym (ap (λ (os : List world.Options). not (length os == 0)) h.0) ∙ live_length l.1 live.0 in
-      ap (λ b. cons_option (if b then Some (copy_by l.0 None m (map options_of l.1)) else None) (copies_by access sessions m L)) (and_third (is_connected sessions l.0) (not (length (O l.0) == 0)) (may l.0 (user_of sessions l.0)) some)
-      ∙ ap (λ (os : List world.Options). cons_option (if is_connected sessions l.0 && not (length (O l.0) == 0) && may l.0 (user_of sessions l.0) then Some (copy_by l.0 None m os) else None) (copies_by access sessions m L)) h.0
-      ∙ ap (cons_option (H l.0)) (by_keys L h.1 live.1)
+  by_keys : (L : List (Text × Summary)) → AllByRecursion (λ (l : Text × Summary). Some l.1 ≡ summary_for (O l.0)) L → filter_map made_by L ≡ filter_map H (keys_of L)
+  by_keys [] h = refl
+  by_keys (l ∷ L) h =
+      let is = summarized (O l.0) l.1 (sym h.0) in
+      ap (λ b. cons_option (if b then make l.0 l.1 else None) (filter_map made_by L)) (and_third (passes l.0) (not (length (O l.0) == 0)) (may l.0 (user_of sessions l.0)) is.0)
+      ∙ ap (λ (s : Summary). cons_option (if passes l.0 && not (length (O l.0) == 0) && may l.0 (user_of sessions l.0) then make l.0 s else None) (filter_map made_by L)) is.1
+      ∙ ap (cons_option (H l.0)) (by_keys L h.1)
 
-  given : (b : Bool) (c : Copy) → is_some (if b then Some c else None) ≡ true → b ≡ true
-  given true c h = refl
-  given false c h = h
+  given : (b : Bool) (o : Option X) → is_some (if b then o else None) ≡ true → b ≡ true
+  given true o h = refl
+  given false o h = h
 
-  pub own-copies : (L : Gathered held.Options) → IsStrictlySortedBy session_cmp sessions → IsStrictlySortedBy text_cmp (keys_of L) → NoneBare L → ((id : Text) → map options_of (listed id L) ≡ O id) → copies_by access sessions m L ≡ direct_copies access sessions subscriptions m
-  unfolding direct_copies
-  own-copies L s t live lists =
-      by_keys L (each_listed (map options_of) L O t (λ id k. lists id)) live
+  passes-there : (o : Option Session) → option_map_or test o false ≡ true → is_some o ≡ true
+  passes-there None h = h
+  passes-there (Some s) h = refl
+
+  pub own-made : (L : List (Text × Summary)) → IsStrictlySortedBy session_cmp sessions → IsStrictlySortedBy text_cmp (keys_of L) → ((id : Text) → lookup (is_text id) L ≡ summary_for (O id)) → filter_map made_by L ≡ filter_map made_for sessions
+  own-made L s t found =
+      by_keys L (each_shown (λ (o : Option Summary). o) L (λ id. summary_for (O id)) t (λ id k. found id))
       ∙ same_gathered text_cmp nat_list_cmp_total key_text H (keys_of L) (ids sessions) t (sorted_ids sessions s)
       (λ id e.
-      let b : (is_connected sessions id && not (length (O id) == 0) && may id (user_of sessions id)) ≡ true = given _ (copy_by id None m (O id)) e in
-      let both : (is_connected sessions id && not (length (O id) == 0)) ≡ true = left_true (is_connected sessions id && not (length (O id) == 0)) (may id (user_of sessions id)) b in
-      let some : not (length (O id) == 0) ≡ true = right_true (is_connected sessions id) (not (length (O id) == 0)) both in
+      let b : (passes id && not (length (O id) == 0) && may id (user_of sessions id)) ≡ true = given _ (make id (summary_of (O id))) e in
+      let both : (passes id && not (length (O id) == 0)) ≡ true = left_true (passes id && not (length (O id) == 0)) (may id (user_of sessions id)) b in
+      let some : not (length (O id) == 0) ≡ true = right_true (passes id) (not (length (O id) == 0)) both in
       pick (list_any (is_text id) (keys_of L)) (λ k. k)
-      (λ f. absurd (true≢false (sym some ∙ ap (λ (os : List world.Options). not (length os == 0)) (sym (lists id) ∙ ap (map options_of) (unlisted id L f)))))
+      (λ f. absurd (true≢false (sym some ∙ unsummarized (O id) (sym (found id) ∙ unfound id L f))))
       ∙ sym (list_any-map (λ (x : Session). x.id) (is_text id) sessions
       ∙ list_any-same (λ (x : Session). is_text id x.id) (has_id id) (λ x. is_text-is id x.id ∙ flip id x.id) sessions
-      ∙ sym (is_some-find (has_id id) sessions) ∙ left_true (is_connected sessions id) (not (length (O id) == 0)) both))
+      ∙ sym (is_some-find (has_id id) sessions) ∙ passes-there (session_of sessions id) (left_true (passes id) (not (length (O id) == 0)) both)))
       ∙ sym (by_ids sessions (found_itself sessions s))
     where
       flip : (a b : Text) → same_text a b ≡ same_text b a
       flip a b = nat_list_eq_equiv.symm a b
+
+-- the copies that are sent
+pub own-copies : (access : Option (List AclRow)) (sessions : List Session) (subscriptions : List Subscription) (m : Message) (L : List (Text × Summary)) → IsStrictlySortedBy session_cmp sessions → IsStrictlySortedBy text_cmp (keys_of L) → ((id : Text) → lookup (is_text id) L ≡ summary_for (options_for subscriptions m id)) → copies_by access sessions m L ≡ direct_copies access (connected sessions) subscriptions m
+unfolding direct_copies
+own-copies access sessions subscriptions m L s t found =
+    own-made is_present (λ id summary. Some (copy_from id None m summary)) access sessions subscriptions m L s t found
+    ∙ filter_map-filter (λ (x : Session). direct_copy access subscriptions m x.id x.user) is_present sessions
+
+-- those that begin to wait
+pub own-begun : (limit : ℕ) (access : Option (List AclRow)) (sessions : List Session) (subscriptions : List Subscription) (m : Message) (deadline : Option ℕ) (L : List (Text × Summary)) → IsStrictlySortedBy session_cmp sessions → IsStrictlySortedBy text_cmp (keys_of L) → ((id : Text) → lookup (is_text id) L ≡ summary_for (options_for subscriptions m id)) → begins_by limit access sessions m deadline L ≡ begun_by limit access sessions subscriptions m deadline
+own-begun limit access sessions subscriptions m deadline L s t found =
+    own-made (has_room limit) begin access sessions subscriptions m L s t found
+    ∙ filter_map-same (made_for (has_room limit) begin access sessions subscriptions m) (begins limit access subscriptions m deadline) each sessions
+  where
+    begin : Text → Summary → Option Begin
+    begin id summary = option_map (begin_with id deadline) (with_qos (copy_from id None m summary))
+
+    onto : (t b : Bool) (id : Text) (copy : Copy) → cond t (if b then option_map (begin_with id deadline) (with_qos copy) else None) None ≡ option_map (begin_with id deadline) (if t then option_and_then with_qos (if b then Some copy else None) else None)
+    onto false b id copy = refl
+    onto true false id copy = refl
+    onto true true id copy = refl
+
+    each : (x : Session) → made_for (has_room limit) begin access sessions subscriptions m x ≡ begins limit access subscriptions m deadline x
+    each x =
+        let os : List world.Options = options_for subscriptions m x.id in
+        onto (has_room limit x) (not (length os == 0) && allowed access x.id x.user m.topic Reading) x.id (copy_by x.id None m os)
 
 -- ## What takes part among those that match
 

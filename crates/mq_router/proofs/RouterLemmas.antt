@@ -1,31 +1,32 @@
 -- What each command does with what the router holds.
-use Rattle.std.proofs.Common.{◌≡◌, ◌⊎◌, ◌<◌, ◌≤◌, ◌+◌, nat_lt, arith, ℕ, Bool, true, false, not, List, [], ◌∷◌, ◌++◌, Option, Some, None, Result, Err, is_some, ◌&&◌, if◌then◌else◌, refl, sym, ◌∙◌, ap, subst, inl, inr}
+use Rattle.std.proofs.Common.{◌≡◌, ◌⊎◌, ◌<◌, ◌≤◌, ◌+◌, nat_lt, arith, ℕ, Bool, true, false, not, List, [], ◌∷◌, ◌++◌, map, Option, Some, None, Result, Err, is_some, ◌&&◌, if◌then◌else◌, refl, sym, ◌∙◌, ap, subst, inl, inr}
 use Rattle.std.specs.Option.{option_map}
 use Rattle.std.specs.List.{filter, list_any}
 use Rattle.std.proofs.lemmas.Bool.Decides.{nat_tests}
 use Rattle.mq_topic.specs.Texts.{is_name, is_shared, is_subscription, share_of, share_name, filter_part}
 use Rattle.mq_acl.specs.Access.{allowed}
 use Rattle.mq_acl.specs.declared.access.Direction.TheVariants.{Writing}
-use Rattle.mq_router.specs.Lists.{Text, same_text, with_row}
-use Rattle.mq_router.specs.World.{Session, Subscription, Options, Message, Reply, Request, Connect, Disconnect, Subscribe, Unsubscribe, Publish, SetAcl, Advance, Stat, asked, session_cmp, has_id, has_key}
+use Rattle.mq_router.specs.Lists.{Text, with_row}
+use Rattle.mq_router.specs.World.{Session, Subscription, Options, Message, Copy, Reply, Request, Connect, Disconnect, Subscribe, Unsubscribe, Publish, SetAcl, Advance, Stat, asked, session_cmp, has_id, has_key}
 use Rattle.mq_router.specs.Clock.{last_moment}
-use Rattle.mq_router.specs.Sessions.{new_session, user_of}
+use Rattle.mq_router.specs.Sessions.{new_session, user_of, outlives, resumes, left_by, has_ended}
+use Rattle.mq_router.specs.Waiting.{begins_to_wait, waiting_after, resumed_copies}
 use Rattle.mq_router.specs.Refusals.{Conditions, first_refusal, client_conditions, is_client_id, is_user_name, faulty_line, refusal}
-use Rattle.mq_router.specs.Retained.{asks_for_retained, retained_copies, retained_after, unexpired}
+use Rattle.mq_router.specs.Retained.{asks_for_retained, retained_copies, retained_after, is_full, unexpired}
 use Rattle.mq_router.specs.Counts.{filters_among, topics_of}
 use Rattle.mq_router.specs.Deadlines.{Indexes}
 use Rattle.mq_router.specs.Turns.{SameInTurn}
 use Rattle.mq_router.specs.Answers.{reason, published}
 use Rattle.mq_router.specs.After.{access_of}
 use Rattle.mq_router.specs.StandsFor.{State, Refuses}
-use Rattle.mq_router.specs.Applied.{Applied, Does, world_of, joined, copies_made, copies_sent, counts_held, next_members, all_turned}
+use Rattle.mq_router.specs.Applied.{Applied, Does, world_of, joined, copies_held, members_held, copies_sent, counts_held, all_turned, without, lasts}
 use Rattle.mq_router.specs.Kept.{KeptSubscriptions, AreKeys}
 use Rattle.mq_router.specs.Stored.{KeptRetained, AreFiled}
 use Rattle.mq_router.proofs.InTurn.{same-is, same-itself}
 use Rattle.mq_router.specs.declared.answer.Answer.{Answer}
 use Rattle.mq_router.specs.declared.answer.Outcome.TheVariants.{Reason}
 use Rattle.mq_router.specs.declared.refusal.Refusal.{Refusal}
-use Rattle.mq_router.specs.declared.refusal.Refusal.TheVariants.{ClientId, UserName, TopicName, TopicFilter, SharedNoLocal, NotAuthorized, AclLine, ClockTooFar, Memory}
+use Rattle.mq_router.specs.declared.refusal.Refusal.TheVariants.{ClientId, UserName, TopicName, TopicFilter, SharedNoLocal, NotAuthorized, RetainedFull, AclLine, ClockTooFar, Memory}
 
 -- ## Refusals
 
@@ -63,33 +64,46 @@ passed-behind xs ys wanted b h e = first-passed xs ((not b, wanted) ∷ ys) h �
 
 -- ## Connect and disconnect
 
-pub connect-client : (s : State) (id : Text) (user : Option Text) → is_client_id id ≡ false → Refuses (world_of s) (Connect id user) ClientId
+pub connect-client : (s : State) (id : Text) (user : Option Text) (clean : Bool) (interval : ℕ) → is_client_id id ≡ false → Refuses (world_of s) (Connect id user clean interval) ClientId
 unfolding refusal
-connect-client s id user e = inr (hit (is_client_id id) ClientId ((not (is_user_name user), UserName) ∷ []) e)
+connect-client s id user clean interval e = inr (hit (is_client_id id) ClientId ((not (is_user_name user), UserName) ∷ []) e)
 
-pub connect-user : (s : State) (id : Text) (user : Option Text) → is_client_id id ≡ true → is_user_name user ≡ false → Refuses (world_of s) (Connect id user) UserName
+pub connect-user : (s : State) (id : Text) (user : Option Text) (clean : Bool) (interval : ℕ) → is_client_id id ≡ true → is_user_name user ≡ false → Refuses (world_of s) (Connect id user clean interval) UserName
 unfolding refusal
-connect-user s id user e u = inr (skip (is_client_id id) ClientId ((not (is_user_name user), UserName) ∷ []) e ∙ hit (is_user_name user) UserName [] u)
+connect-user s id user clean interval e u = inr (skip (is_client_id id) ClientId ((not (is_user_name user), UserName) ∷ []) e ∙ hit (is_user_name user) UserName [] u)
 
-pub connect-does : (s : State) (id : Text) (user : Option Text) (sessions : List Session) (subs : KeptSubscriptions) (reply : Reply) → is_client_id id ≡ true → is_user_name user ≡ true → reply ≡ reason 0 → sessions ≡ with_row session_cmp (new_session id user) s.sessions → subs.rows ≡ filter (λ x. not (same_text x.client id)) s.subscriptions → AreKeys subs → Does s (Connect id user) reply (record s { sessions = sessions; subscriptions = subs.rows; filter_keys = subs.keys })
+-- the subscriptions after a connect, by whether it resumes
+abbrev pub connect_rows : State → Text → Bool → List Subscription
+connect_rows s id resumed = if resumed then s.subscriptions else without id s.subscriptions
+
+pub connect-does : (s : State) (id : Text) (user : Option Text) (clean : Bool) (interval : ℕ) (sessions : List Session) (subs : KeptSubscriptions) (copies : List Copy) → is_client_id id ≡ true → is_user_name user ≡ true → copies ≡ resumed_copies s.moment s.sessions id clean → sessions ≡ with_row session_cmp (new_session id user interval) s.sessions → subs.rows ≡ connect_rows s id (resumes s.sessions id clean) → (s.filter_keys ≡ filters_among s.subscriptions → AreKeys subs) → Does s (Connect id user clean interval) (record { copies = copies; outcome = Reason 0 }) (record s { sessions = sessions; subscriptions = subs.rows; filter_keys = subs.keys })
 unfolding refusal
-connect-does s id user sessions subs reply e u r ss xs keys = record {
+connect-does s id user clean interval sessions subs copies e u r ss xs keys = record {
   accepted = skip (is_client_id id) ClientId ((not (is_user_name user), UserName) ∷ []) e ∙ skip (is_user_name user) UserName [] u;
-  reply_is = r;
-  rows = record { moment = refl; access = refl; sessions = ss; subscriptions = same-is _ _ xs; retained = refl };
-  filed = λ old. record { filter_keys = keys; topic_keys = old.topic_keys; deadlines = old.deadlines };
+  reply_is = ap (λ l. record { copies = l; outcome = Reason 0 }) r;
+  rows = record { limits = refl; moment = refl; access = refl; sessions = ss; subscriptions = same-is _ _ xs; retained = refl };
+  filed = λ old. record { filter_keys = keys old.filter_keys; topic_keys = old.topic_keys; deadlines = old.deadlines };
 }
 
 pub disconnect-client : (s : State) (id : Text) (r : Refusal) → Some r ≡ first_refusal (client_conditions s.sessions id) → Refuses (world_of s) (Disconnect id) r
 unfolding refusal
 disconnect-client s id r h = inr (sym h)
 
-pub disconnect-does : (s : State) (id : Text) (sessions : List Session) (subs : KeptSubscriptions) (reply : Reply) → None ≡ first_refusal (client_conditions s.sessions id) → reply ≡ reason 0 → sessions ≡ filter (λ session. not (has_id id session)) s.sessions → subs.rows ≡ filter (λ x. not (same_text x.client id)) s.subscriptions → AreKeys subs → Does s (Disconnect id) reply (record s { sessions = sessions; subscriptions = subs.rows; filter_keys = subs.keys })
+pub disconnect-leaves : (s : State) (id : Text) (sessions : List Session) (reply : Reply) → None ≡ first_refusal (client_conditions s.sessions id) → outlives s.sessions id ≡ true → reply ≡ reason 0 → sessions ≡ map (left_by s.moment id) s.sessions → Does s (Disconnect id) reply (record s { sessions = sessions })
 unfolding refusal
-disconnect-does s id sessions subs reply h r ss xs keys = record {
+disconnect-leaves s id sessions reply h stays r ss = record {
   accepted = sym h;
   reply_is = r;
-  rows = record { moment = refl; access = refl; sessions = ss; subscriptions = same-is _ _ xs; retained = refl };
+  rows = rw stays (record { limits = refl; moment = refl; access = refl; sessions = ss; subscriptions = same-itself s.subscriptions; retained = refl });
+  filed = λ old. record { filter_keys = old.filter_keys; topic_keys = old.topic_keys; deadlines = old.deadlines };
+}
+
+pub disconnect-does : (s : State) (id : Text) (sessions : List Session) (subs : KeptSubscriptions) (reply : Reply) → None ≡ first_refusal (client_conditions s.sessions id) → outlives s.sessions id ≡ false → reply ≡ reason 0 → sessions ≡ filter (λ session. not (has_id id session)) s.sessions → subs.rows ≡ without id s.subscriptions → AreKeys subs → Does s (Disconnect id) reply (record s { sessions = sessions; subscriptions = subs.rows; filter_keys = subs.keys })
+unfolding refusal
+disconnect-does s id sessions subs reply h ends r ss xs keys = record {
+  accepted = sym h;
+  reply_is = r;
+  rows = rw ends (record { limits = refl; moment = refl; access = refl; sessions = ss; subscriptions = same-is _ _ xs; retained = refl });
   filed = λ old. record { filter_keys = keys; topic_keys = old.topic_keys; deadlines = old.deadlines };
 }
 
@@ -121,7 +135,7 @@ subscribe-does s id text options subs reply h f e r xs keys = record {
   accepted = passed-behind (client_conditions s.sessions id) (shared_condition text options) TopicFilter (is_subscription text) h f
       ∙ ap (λ v. first_refusal ((v, SharedNoLocal) ∷ [])) (sym (ap (λ b. b && options.no_local) (shared-is text)) ∙ e);
   reply_is = r;
-  rows = record { moment = refl; access = refl; sessions = refl; subscriptions = xs; retained = refl };
+  rows = record { limits = refl; moment = refl; access = refl; sessions = refl; subscriptions = xs; retained = refl };
   filed = λ old. record { filter_keys = keys; topic_keys = old.topic_keys; deadlines = old.deadlines };
 }
 
@@ -148,14 +162,17 @@ unfolding refusal
 unsubscribe-does s id text subs reply h f r xs keys = record {
   accepted = passed-behind (client_conditions s.sessions id) [] TopicFilter (is_subscription text) h f;
   reply_is = r;
-  rows = record { moment = refl; access = refl; sessions = refl; subscriptions = same-is _ _ xs; retained = refl };
+  rows = record { limits = refl; moment = refl; access = refl; sessions = refl; subscriptions = same-is _ _ xs; retained = refl };
   filed = λ old. record { filter_keys = keys; topic_keys = old.topic_keys; deadlines = old.deadlines };
 }
 
 -- ## Publish
 
+abbrev full_condition : State → Message → Conditions
+full_condition s m = (is_full s.limits.retained s.retained m, RetainedFull) ∷ []
+
 abbrev write_condition : State → Message → Conditions
-write_condition s m = (not (allowed s.access m.publisher (user_of s.sessions m.publisher) m.topic Writing), NotAuthorized) ∷ []
+write_condition s m = (not (allowed s.access m.publisher (user_of s.sessions m.publisher) m.topic Writing), NotAuthorized) ∷ full_condition s m
 
 pub publish-client : (s : State) (m : Message) (r : Refusal) → Some r ≡ first_refusal (client_conditions s.sessions m.publisher) → Refuses (world_of s) (Publish m) r
 unfolding refusal
@@ -169,15 +186,23 @@ pub publish-write : (s : State) (m : Message) → None ≡ first_refusal (client
 unfolding refusal
 publish-write s m h n e =
     inr (passed-behind (client_conditions s.sessions m.publisher) (write_condition s m) TopicName (is_name m.topic) h n
-    ∙ hit (allowed s.access m.publisher (user_of s.sessions m.publisher) m.topic Writing) NotAuthorized [] e)
+    ∙ hit (allowed s.access m.publisher (user_of s.sessions m.publisher) m.topic Writing) NotAuthorized (full_condition s m) e)
 
-pub publish-does : (s : State) (m : Message) (subs : KeptSubscriptions) (kept : KeptRetained) (reply : Reply) → None ≡ first_refusal (client_conditions s.sessions m.publisher) → is_name m.topic ≡ true → allowed s.access m.publisher (user_of s.sessions m.publisher) m.topic Writing ≡ true → reply ≡ published (copies_made s.access s.sessions s.subscriptions m) → SameInTurn subs.rows (all_turned (next_members s.access s.sessions s.subscriptions m) s.subscriptions) → (s.filter_keys ≡ filters_among s.subscriptions → AreKeys subs) → kept.messages ≡ retained_after s.moment s.retained m → (s.topic_keys ≡ topics_of s.retained → Indexes s.deadlines s.retained → AreFiled kept) → Does s (Publish m) reply (record s { subscriptions = subs.rows; filter_keys = subs.keys; retained = kept.messages; topic_keys = kept.keys; deadlines = kept.pairs })
+pub publish-full : (s : State) (m : Message) → None ≡ first_refusal (client_conditions s.sessions m.publisher) → is_name m.topic ≡ true → allowed s.access m.publisher (user_of s.sessions m.publisher) m.topic Writing ≡ true → is_full s.limits.retained s.retained m ≡ true → Refuses (world_of s) (Publish m) RetainedFull
 unfolding refusal
-publish-does s m subs kept reply h n e r xs keys rs filed = record {
+publish-full s m h n e full =
+    inr (passed-behind (client_conditions s.sessions m.publisher) (write_condition s m) TopicName (is_name m.topic) h n
+    ∙ skip (allowed s.access m.publisher (user_of s.sessions m.publisher) m.topic Writing) NotAuthorized (full_condition s m) e
+    ∙ ap (λ b. first_refusal ((b, RetainedFull) ∷ [])) full)
+
+pub publish-does : (s : State) (m : Message) (sessions : List Session) (subs : KeptSubscriptions) (kept : KeptRetained) (reply : Reply) → None ≡ first_refusal (client_conditions s.sessions m.publisher) → is_name m.topic ≡ true → allowed s.access m.publisher (user_of s.sessions m.publisher) m.topic Writing ≡ true → is_full s.limits.retained s.retained m ≡ false → reply ≡ published (copies_held s m) (begins_to_wait s.limits.queued s.access s.sessions s.subscriptions m) → sessions ≡ map (waiting_after s.limits.queued s.access s.subscriptions s.moment m) s.sessions → SameInTurn subs.rows (all_turned (members_held s m) s.subscriptions) → (s.filter_keys ≡ filters_among s.subscriptions → AreKeys subs) → kept.messages ≡ retained_after s.moment s.retained m → (s.topic_keys ≡ topics_of s.retained → Indexes s.deadlines s.retained → AreFiled kept) → Does s (Publish m) reply (record s { sessions = sessions; subscriptions = subs.rows; filter_keys = subs.keys; retained = kept.messages; topic_keys = kept.keys; deadlines = kept.pairs })
+unfolding refusal
+publish-does s m sessions subs kept reply h n e room r ss xs keys rs filed = record {
   accepted = passed-behind (client_conditions s.sessions m.publisher) (write_condition s m) TopicName (is_name m.topic) h n
-      ∙ skip (allowed s.access m.publisher (user_of s.sessions m.publisher) m.topic Writing) NotAuthorized [] e;
+      ∙ skip (allowed s.access m.publisher (user_of s.sessions m.publisher) m.topic Writing) NotAuthorized (full_condition s m) e
+      ∙ ap (λ b. first_refusal ((b, RetainedFull) ∷ [])) room;
   reply_is = r;
-  rows = record { moment = refl; access = refl; sessions = refl; subscriptions = xs; retained = rs };
+  rows = record { limits = refl; moment = refl; access = refl; sessions = ss; subscriptions = xs; retained = rs };
   filed = λ old. (let now : AreFiled kept = filed old.topic_keys old.deadlines in record { filter_keys = keys old.filter_keys; topic_keys = now.keys; deadlines = now.pairs });
 }
 
@@ -192,7 +217,7 @@ unfolding refusal
 set_acl-does s text reply h r = record {
   accepted = ap (λ o. option_map (λ line. AclLine line) o) h;
   reply_is = r;
-  rows = record { moment = refl; access = refl; sessions = refl; subscriptions = same-itself s.subscriptions; retained = refl };
+  rows = record { limits = refl; moment = refl; access = refl; sessions = refl; subscriptions = same-itself s.subscriptions; retained = refl };
   filed = λ old. record { filter_keys = old.filter_keys; topic_keys = old.topic_keys; deadlines = old.deadlines };
 }
 
@@ -208,15 +233,22 @@ pub advance-refused : (s : State) (seconds : ℕ) → last_moment < s.moment + s
 unfolding refusal
 advance-refused s seconds h = inr (ap (λ b. first_refusal ((b, ClockTooFar) ∷ [])) (is_above last_moment (s.moment + seconds) h))
 
-pub advance-does : (s : State) (seconds moment : ℕ) (kept : KeptRetained) (reply : Reply) → moment ≤ last_moment → moment ≡ s.moment + seconds → kept.messages ≡ unexpired moment s.retained → AreFiled kept → reply ≡ reason 0 → Does s (Advance seconds) reply (record s { moment = moment; retained = kept.messages; topic_keys = kept.keys; deadlines = kept.pairs })
+pub advance-does : (s : State) (seconds moment : ℕ) (sessions : List Session) (subs : KeptSubscriptions) (kept : KeptRetained) (reply : Reply) → moment ≤ last_moment → moment ≡ s.moment + seconds → sessions ≡ filter (λ session. not (has_ended moment session)) s.sessions → subs.rows ≡ filter (lasts moment s.sessions) s.subscriptions → (s.filter_keys ≡ filters_among s.subscriptions → AreKeys subs) → kept.messages ≡ unexpired moment s.retained → AreFiled kept → reply ≡ reason 0 → Does s (Advance seconds) reply (record s { moment = moment; sessions = sessions; subscriptions = subs.rows; filter_keys = subs.keys; retained = kept.messages; topic_keys = kept.keys; deadlines = kept.pairs })
 unfolding refusal
-advance-does s seconds moment kept reply within m rs filed r =
+advance-does s seconds moment sessions subs kept reply within m ss xs keys rs filed r =
     let reached : s.moment + seconds ≤ last_moment = omega arith in
     record {
       accepted = ap (λ b. first_refusal ((b, ClockTooFar) ∷ [])) (not_above last_moment (s.moment + seconds) reached);
       reply_is = r;
-      rows = record { moment = m; access = refl; sessions = refl; subscriptions = same-itself s.subscriptions; retained = rs ∙ ap (λ n. unexpired n s.retained) m };
-      filed = λ old. record { filter_keys = old.filter_keys; topic_keys = filed.keys; deadlines = filed.pairs };
+      rows = record {
+        limits = refl;
+        moment = m;
+        access = refl;
+        sessions = ss ∙ ap (λ n. filter (λ session. not (has_ended n session)) s.sessions) m;
+        subscriptions = same-is _ _ (xs ∙ ap (λ n. filter (lasts n s.sessions) s.subscriptions) m);
+        retained = rs ∙ ap (λ n. unexpired n s.retained) m;
+      };
+      filed = λ old. record { filter_keys = keys old.filter_keys; topic_keys = filed.keys; deadlines = filed.pairs };
     }
 
 -- ## Counts
@@ -226,6 +258,6 @@ unfolding refusal
 stat-does s reply r = record {
   accepted = refl;
   reply_is = r;
-  rows = record { moment = refl; access = refl; sessions = refl; subscriptions = same-itself s.subscriptions; retained = refl };
+  rows = record { limits = refl; moment = refl; access = refl; sessions = refl; subscriptions = same-itself s.subscriptions; retained = refl };
   filed = λ old. old;
 }

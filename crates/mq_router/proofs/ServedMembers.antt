@@ -12,9 +12,7 @@ use Rattle.std.proofs.lemmas.List.Kept.{IsStrictlySortedBy-filter}
 use Rattle.std.proofs.lemmas.List.Elements.{filter-append, filter_map-append}
 use Rattle.mq_topic.specs.Levels.{levels, level_order}
 use Rattle.mq_acl.specs.Rows.{AclRow}
-use Rattle.mq_acl.specs.Access.{allowed}
-use Rattle.mq_acl.specs.declared.access.Direction.TheVariants.{Reading}
-use Rattle.mq_router.specs.Sessions.{user_of}
+use Rattle.mq_router.specs.Sessions.{is_reader}
 use Rattle.mq_router.specs.Lists.{Text, same_text, text_cmp}
 use Rattle.mq_router.specs.World.{Session, Subscription, Group, Message, group_cmp, is_in_group, same_share}
 use Rattle.mq_router.specs.Applied.{groups_among, next_members}
@@ -190,7 +188,7 @@ pairs_apart h ats T e (share ∷ shares) =
 pub served-members : (access : Option (List AclRow)) (sessions : List Session) (m : Message) (found : List At) (L : Gathered Turn) → AreAtFilters m.topic found → IsStrictlySortedBy text_cmp (keys_of L) → ((share : Text) → map turn_of (listed share L) ≡ turns_at access sessions m.topic share found) → map turn_of (flat_map (λ (l : Text × List Turn). l.1) L) ≡ next_members access sessions (rows_found found) m
 unfolding next_members
 served-members access sessions m found L at sorted lists =
-    let may : Subscription → Bool = λ x. allowed access x.client (user_of sessions x.client) m.topic Reading in
+    let may : Subscription → Bool = λ x. is_reader access sessions m.topic x.client in
     let rows : List Subscription = rows_found found in
     let h : Group → Option Subscription = next_of may rows in
     let q : Group → Bool = λ group. filter_matches group.filter m.topic in

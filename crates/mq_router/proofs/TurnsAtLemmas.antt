@@ -8,17 +8,18 @@ use Rattle.std.specs.Map.{keys_of}
 use Rattle.std.proofs.lemmas.List.{append-nil, map-append}
 use Rattle.std.proofs.lemmas.List.Elements.{filter-append}
 use Rattle.mq_acl.specs.Rows.{AclRow}
-use Rattle.mq_acl.specs.Access.{allowed}
-use Rattle.mq_acl.specs.declared.access.Direction.TheVariants.{Reading}
 use Rattle.mq_router.specs.Lists.{Text, same_text, text_cmp}
-use Rattle.mq_router.specs.World.{Session, Subscription, Group, Message, is_in_group}
-use Rattle.mq_router.specs.Sessions.{user_of}
+use Rattle.mq_router.specs.World.{Session, Subscription, Options, Group, Message, is_in_group}
+use Rattle.mq_router.specs.Sessions.{is_reader}
 use Rattle.mq_router.specs.Applied.{next_in}
 use Rattle.mq_router.specs.Kept.{Member, row, direct_rows, group_rows, options_of}
+use Rattle.mq_router.specs.Summaries.{Summary, summary_for, with_more}
 use Rattle.mq_router.specs.Held.{turn_of}
 use Rattle.mq_router.specs.Made.{gives, gives_options, turns_of}
 use Rattle.mq_router.proofs.Texts.{is_text-is, text-apart}
 use Rattle.mq_router.proofs.InTurn.{same_text-is, same_text-itself}
+use Rattle.mq_router.proofs.BoolLemmas.{and_true}
+use Rattle.mq_router.proofs.SummaryLemmas.{summary_for-append, with_more-assoc}
 use Rattle.mq_router.specs.declared.copies.Turn.{Turn}
 use Rattle.mq_router.specs.declared.options.Options as held
 
@@ -52,13 +53,13 @@ options-at m id f ds gs =
     ∙ ap (λ l. filter (gives m id) (direct_rows f ds) ++ l) (no_groups_give m id f gs) ∙ append-nil (filter (gives m id) (direct_rows f ds))))
 
 -- the options of one client, where it takes part
-abbrev pub one_gives : Message → Text → Text → held.Options → List held.Options
-one_gives m id c o = if same_text c id && not (o.no_local && same_text c m.publisher) then o ∷ [] else []
+abbrev pub one_gives : Message → Text → Text → held.Options → List Options
+one_gives m id c o = if same_text c id && not (o.no_local && same_text c m.publisher) then options_of o ∷ [] else []
 
-pub options-one : (m : Message) (id : Text) (x : Member) (ms : List Member) → gives_options m id (direct_rows [] (x ∷ ms)) ≡ map options_of (one_gives m id x.0 x.1) ++ gives_options m id (direct_rows [] ms)
+pub options-one : (m : Message) (id : Text) (x : Member) (ms : List Member) → gives_options m id (direct_rows [] (x ∷ ms)) ≡ one_gives m id x.0 x.1 ++ gives_options m id (direct_rows [] ms)
 options-one m id x ms =
     ap (λ b. map (λ (s : Subscription). s.options) (cond b (row None [] x ∷ filter (gives m id) (direct_rows [] ms)) (filter (gives m id) (direct_rows [] ms)))) same
-    ∙ (elim (same_text x.0 id && not (x.1.no_local && same_text x.0 m.publisher)) as (λ b. map (λ (s : Subscription). s.options) (cond b (row None [] x ∷ filter (gives m id) (direct_rows [] ms)) (filter (gives m id) (direct_rows [] ms))) ≡ map options_of (if b then x.1 ∷ [] else []) ++ gives_options m id (direct_rows [] ms)) [ true ↦ refl | false ↦ refl ])
+    ∙ (elim (same_text x.0 id && not (x.1.no_local && same_text x.0 m.publisher)) as (λ b. map (λ (s : Subscription). s.options) (cond b (row None [] x ∷ filter (gives m id) (direct_rows [] ms)) (filter (gives m id) (direct_rows [] ms))) ≡ (if b then options_of x.1 ∷ [] else []) ++ gives_options m id (direct_rows [] ms)) [ true ↦ refl | false ↦ refl ])
   where
     same : (same_text x.0 id && not (x.1.no_local && same_text id m.publisher)) ≡ (same_text x.0 id && not (x.1.no_local && same_text x.0 m.publisher))
     same =
@@ -71,7 +72,7 @@ options-one m id x ms =
 -- ## Turns
 
 abbrev pub able : Option (List AclRow) → List Session → Text → Text → Bool
-able access sessions name client = allowed access client (user_of sessions client) name Reading
+able access sessions name client = is_reader access sessions name client
 
 -- the first member of a group whose client may read
 abbrev pub turn_in : Option (List AclRow) → List Session → Text → Text → Text × List Member → Option Subscription
@@ -164,20 +165,17 @@ module _ (access : Option (List AclRow)) (sessions : List Session) (name f share
 
 -- ## One more
 
-pub one-able : (m : Message) (id c : Text) (o : held.Options) (b : Bool) → b ≡ false → b ≡ (o.no_local && same_text c m.publisher) → (if same_text c id then o ∷ [] else []) ≡ one_gives m id c o
+pub one-able : (m : Message) (id c : Text) (o : held.Options) (b : Bool) → b ≡ false → b ≡ (o.no_local && same_text c m.publisher) → (if same_text c id then options_of o ∷ [] else []) ≡ one_gives m id c o
 one-able m id c o b h e =
-    sym (ap (λ v. if same_text c id && not v then o ∷ [] else []) (sym e ∙ h) ∙ ap (λ v. if v then o ∷ [] else []) (and_true (same_text c id)))
-  where
-    and_true : (a : Bool) → (a && true) ≡ a
-    and_true true = refl
-    and_true false = refl
+    sym (ap (λ v. if same_text c id && not v then options_of o ∷ [] else []) (sym e ∙ h) ∙ ap (λ v. if v then options_of o ∷ [] else []) (and_true (same_text c id)))
 
-pub options-more : (m : Message) (id : Text) (old new own : List held.Options) (x : Member) (ms : List Member) → new ≡ old ++ own → own ≡ one_gives m id x.0 x.1 → map options_of new ++ gives_options m id (direct_rows [] ms) ≡ map options_of old ++ gives_options m id (direct_rows [] (x ∷ ms))
+pub options-more : (m : Message) (id : Text) (old new : Option Summary) (own : List Options) (x : Member) (ms : List Member) → new ≡ with_more old (summary_for own) → own ≡ one_gives m id x.0 x.1 → with_more new (summary_for (gives_options m id (direct_rows [] ms))) ≡ with_more old (summary_for (gives_options m id (direct_rows [] (x ∷ ms))))
 options-more m id old new own x ms e h =
-    ap (λ l. map options_of l ++ gives_options m id (direct_rows [] ms)) e
-    ∙ ap (λ l. l ++ gives_options m id (direct_rows [] ms)) (map-append options_of old own)
-    ∙ append_assoc (map options_of old) (map options_of own) (gives_options m id (direct_rows [] ms))
-    ∙ ap (λ l. map options_of old ++ l) (ap (λ l. map options_of l ++ gives_options m id (direct_rows [] ms)) h ∙ sym (options-one m id x ms))
+    let rest : List Options = gives_options m id (direct_rows [] ms) in
+    ap (λ s. with_more s (summary_for rest)) e
+    ∙ with_more-assoc old (summary_for own) (summary_for rest)
+    ∙ ap (with_more old) (sym (summary_for-append own rest))
+    ∙ ap (λ l. with_more old (summary_for l)) (ap (λ l. l ++ rest) h ∙ sym (options-one m id x ms))
 
 pub turns-more : (access : Option (List AclRow)) (sessions : List Session) (name f share text : Text) (old new : List Turn) (t : Turn) (g : Text × List Member) (gs : List (Text × List Member)) → new ≡ old ++ (if same_text text share then t ∷ [] else []) → text ≡ g.0 → turn_in access sessions name f g ≡ Some (turn_of t) → map turn_of new ++ turns_left access sessions name f share gs ≡ map turn_of old ++ turns_left access sessions name f share (g ∷ gs)
 turns-more access sessions name f share text old new t g gs e named is =

@@ -1,57 +1,58 @@
 -- What the router does by its own state, it does for each world that it stands for.
-use Rattle.std.proofs.Common.{◌≡◌, ◌<◌, ℕ, ◌+◌, ◌==◌, nat_lt, Bool, true, false, cond, ◌&&◌, ◌||◌, not, List, [], ◌∷◌, ◌++◌, map, Option, Some, None, is_none, Result, Ok, Err, length, if◌then◌else◌, refl, sym, ◌∙◌, ap, subst, inl, inr, arith}
-use Rattle.std.specs.Option.{option_map, option_map_or}
-use Rattle.std.specs.List.{filter, filter_map, cons_option, find, list_any, AllByRecursion}
-use Rattle.std.specs.List.Sorted.{IsStrictlySortedBy}
+use Rattle.std.proofs.Common.{◌≡◌, ℕ, ◌+◌, ◌==◌, nat_lt, Bool, true, false, cond, ◌&&◌, ◌||◌, not, List, [], ◌∷◌, ◌++◌, map, Option, Some, None, is_none, Result, Ok, Err, length, if◌then◌else◌, refl, sym, ◌∙◌, ap, subst, inl, inr, arith}
+use Rattle.std.specs.Option.{option_map}
+use Rattle.std.specs.List.{filter, filter_map, cons_option, find, list_any}
 use Rattle.std.proofs.lemmas.List.{length-map}
-use Rattle.std.proofs.lemmas.List.Kept.{IsStrictlySortedBy-filter}
 use Rattle.std.proofs.lemmas.Simd.{map-map}
 use Rattle.mq_topic.specs.Levels.{levels}
 use Rattle.mq_topic.specs.Texts.{is_name, is_shared, is_subscription, share_of, filter_part}
 use Rattle.mq_acl.specs.Rows.{AclRow}
 use Rattle.mq_acl.specs.Access.{allowed}
-use Rattle.mq_acl.specs.declared.access.Direction.TheVariants.{Reading, Writing}
-use Rattle.mq_router.specs.Lists.{SameElements, Text, same_text, with_row, greatest, ascending}
-use Rattle.mq_router.specs.World.{World, IsWorld, Group, Session, Subscription, Row, Options, Retained, Message, Copy, Reply, Request, Connect, Disconnect, Subscribe, Unsubscribe, Publish, SetAcl, Advance, Stat, asked, session_cmp, row_cmp, retained_cmp, has_id, has_key, same_key, is_in_group, rows_in, subscriptions_of}
-use Rattle.mq_router.specs.Clock.{last_moment, is_over}
-use Rattle.mq_router.specs.Sessions.{new_session, user_of, may, can_be_served}
+use Rattle.mq_acl.specs.declared.access.Direction.TheVariants.{Writing}
+use Rattle.mq_router.specs.Lists.{SameElements, Text, same_text, with_row}
+use Rattle.mq_router.specs.World.{World, Limits, IsWorld, Group, Session, Subscription, Row, Retained, Message, Copy, Reply, Request, Connect, Disconnect, Subscribe, Unsubscribe, Publish, SetAcl, Advance, Stat, asked, session_cmp, has_id, has_key, same_key, is_in_group, rows_in, subscriptions_of}
+use Rattle.mq_router.specs.Clock.{last_moment}
+use Rattle.mq_router.specs.Sessions.{new_session, connected, user_of, is_reader, can_be_served, outlives, resumes, left_by, has_ended}
+use Rattle.mq_router.specs.Waiting.{begins_to_wait, waiting_after, resumed_copies}
 use Rattle.mq_router.specs.Refusals.{first_refusal, client_conditions, refusal}
-use Rattle.mq_router.specs.Copies.{takes_part, options_for, copy_by, direct_copy, direct_copies, filter_matches}
+use Rattle.mq_router.specs.Copies.{direct_copies, filter_matches}
 use Rattle.mq_router.specs.Groups.{groups_of, turn_of, served, served_by}
-use Rattle.mq_router.specs.Retained.{retained_copies, retained_after, is_stored, stored, has_topic, unexpired}
+use Rattle.mq_router.specs.Retained.{retained_copies, retained_after, is_full, unexpired}
 use Rattle.mq_router.specs.Counts.{filters_of, topics_of, counts, steps}
 use Rattle.mq_router.specs.Deadlines.{Indexes, is_due}
 use Rattle.mq_router.specs.Receivers.{steps_among}
-use Rattle.mq_router.specs.Answers.{answer, reason, published}
-use Rattle.mq_router.specs.After.{after, kept_stamp}
+use Rattle.mq_router.specs.Answers.{answer, reason, published, copies_of}
+use Rattle.mq_router.specs.After.{after, without_client}
 use Rattle.mq_router.specs.Turns.{by_turn, in_turn, SameInTurn}
 use Rattle.mq_router.specs.StandsFor.{State, Holds, StandsFor, Answers, AnswersFor, CountsFor, Refuses}
-use Rattle.mq_router.specs.Applied.{Applied, CountsSteps, Does, IsFiled, world_of, reply_to, counts_held, steps_to, moved, next_in, next_members, all_turned, member_copy}
+use Rattle.mq_router.specs.Applied.{Applied, CountsSteps, Does, IsFiled, world_of, reply_to, counts_held, steps_to, moved, next_in, next_members, all_turned, member_copy, without, lasts}
 use Rattle.mq_router.specs.Views.{reply_of}
 use Rattle.mq_tree.specs.Entries.{capped}
 use Rattle.mq_tree.specs.Prefixes.{prefixes, met_by_name}
 use Rattle.mq_router.proofs.ListLemmas.{map-filter}
-use Rattle.mq_router.proofs.SameLemmas.{SameElements-filter, SameElements-map, SameElements-filter_map, length-SameElements, list_any-SameElements, greatest-SameElements, ascending-SameElements}
-use Rattle.mq_router.proofs.OrderLemmas.{session_total, row_total, retained_total, sorted-with_row, all-with_row, all_weaker, all_filtered}
-use Rattle.mq_router.proofs.InTurn.{same-is, same-then, same-filter, joined-same, all_turned-same, filter-swap}
+use Rattle.mq_router.proofs.SameLemmas.{SameElements-map, length-SameElements, list_any-SameElements}
+use Rattle.mq_router.proofs.InTurn.{same-is, same-then, same-filter, joined-same, all_turned-same}
 use Rattle.mq_router.proofs.TurnLemmas.{by_turn-filter, least-is}
-use Rattle.mq_router.proofs.JoinTurn.{AreApart, turn-elements, joins, apart-joined, apart-filter, apart-from, apart-to}
+use Rattle.mq_router.proofs.JoinTurn.{turn-elements, joins}
 use Rattle.mq_router.proofs.OneServed.{told}
-use Rattle.mq_router.proofs.ServeTurn.{serves, served-apart, restamped-sorted, restamped-below}
+use Rattle.mq_router.proofs.ServeTurn.{serves}
 use Rattle.mq_router.proofs.GroupLemmas.{groups-same, groups-told}
 use Rattle.mq_router.proofs.FiledLemmas.{filters-same}
+use Rattle.mq_router.proofs.SameCopies.{direct_copies-same, begins_to_wait-same, waiting_after-same}
+use Rattle.mq_router.proofs.NextLemmas.{gone, after-is_world}
 use Rattle.mq_router.specs.declared.answer.Answer.{Answer}
 use Rattle.mq_router.specs.declared.answer.Outcome.{Outcome}
 use Rattle.mq_router.specs.declared.answer.Outcome.TheVariants.{Reason, Counts}
 use Rattle.mq_router.specs.declared.refusal.Refusal.{Refusal}
-use Rattle.mq_router.specs.declared.refusal.Refusal.TheVariants.{TopicName, TopicFilter, SharedNoLocal, NotAuthorized, ClockTooFar}
+use Rattle.mq_router.specs.declared.refusal.Refusal.TheVariants.{TopicName, TopicFilter, SharedNoLocal, NotAuthorized, RetainedFull, ClockTooFar}
 
 -- the subscriptions in turn are those of the rows
 turn_told : (w : World) → SameElements (in_turn w) (subscriptions_of w)
 turn_told w = SameElements-map (λ (r : Row). r.subscription) (by_turn w.rows) w.rows (turn-elements w.rows)
 
--- the state has the moment, access rows, sessions and retained messages of the world, and its subscriptions in turn
+-- the state has the limits, moment, access rows, sessions and retained messages of the world, and its subscriptions in turn
 pub record HasRows (s : State) (w : World) : Type 0 where
+  pub limits : s.limits ≡ w.limits
   pub moment : s.moment ≡ w.moment
   pub access : s.access ≡ w.access
   pub sessions : s.sessions ≡ w.sessions
@@ -64,19 +65,24 @@ module _ (s : State) (w : World) (h : HasRows s w) where
 
   -- ## Refusals
 
-  abbrev publish_refusal : Option (List AclRow) → List Session → Message → Option Refusal
-  publish_refusal access sessions m =
+  abbrev publish_refusal : Option (List AclRow) → List Session → Limits → List Retained → Message → Option Refusal
+  publish_refusal access sessions limits retained m =
       first_refusal (client_conditions sessions m.publisher
-      ++ (not (is_name m.topic), TopicName) ∷ (not (allowed access m.publisher (user_of sessions m.publisher) m.topic Writing), NotAuthorized) ∷ [])
+      ++ (not (is_name m.topic), TopicName) ∷ (not (allowed access m.publisher (user_of sessions m.publisher) m.topic Writing), NotAuthorized)
+      ∷ (is_full limits.retained retained m, RetainedFull) ∷ [])
 
   pub refusal-held : (request : Request) → refusal (world_of s) request ≡ refusal w request
   unfolding refusal
-  refusal-held (Connect id user) = refl
+  refusal-held (Connect id user clean interval) = refl
   refusal-held (Disconnect id) = ap (λ ss. first_refusal (client_conditions ss id)) h.sessions
   refusal-held (Subscribe id text options) =
       ap (λ ss. first_refusal (client_conditions ss id ++ (not (is_subscription text), TopicFilter) ∷ (is_shared text && options.no_local, SharedNoLocal) ∷ [])) h.sessions
   refusal-held (Unsubscribe id text) = ap (λ ss. first_refusal (client_conditions ss id ++ (not (is_subscription text), TopicFilter) ∷ [])) h.sessions
-  refusal-held (Publish m) = ap (λ access. publish_refusal access s.sessions m) h.access ∙ ap (λ ss. publish_refusal w.access ss m) h.sessions
+  refusal-held (Publish m) =
+      ap (λ access. publish_refusal access s.sessions s.limits s.retained m) h.access
+      ∙ ap (λ ss. publish_refusal w.access ss s.limits s.retained m) h.sessions
+      ∙ ap (λ limits. publish_refusal w.access w.sessions limits s.retained m) h.limits
+      ∙ ap (λ retained. publish_refusal w.access w.sessions w.limits retained m) h.retained
   refusal-held (SetAcl text) = refl
   refusal-held (Advance seconds) = ap (λ moment. first_refusal ((nat_lt last_moment (moment + seconds), ClockTooFar) ∷ [])) h.moment
   refusal-held Stat = refl
@@ -93,9 +99,9 @@ module _ (s : State) (w : World) (h : HasRows s w) where
 
   turn-held : (topic : Text) (g : Group) → next_in s.access s.sessions s.subscriptions topic g ≡ option_map (λ (r : Row). r.subscription) (turn_of (can_be_served w topic) w.rows g)
   turn-held topic g =
-      let able : Subscription → Bool = λ x. may w x.client topic Reading in
-      ap (λ access. find (λ (x : Subscription). allowed access x.client (user_of s.sessions x.client) topic Reading) (filter (is_in_group g) s.subscriptions)) h.access
-      ∙ ap (λ ss. find (λ (x : Subscription). allowed w.access x.client (user_of ss x.client) topic Reading) (filter (is_in_group g) s.subscriptions)) h.sessions
+      let able : Subscription → Bool = λ x. can_be_served w topic x.client in
+      ap (λ access. find (λ (x : Subscription). is_reader access s.sessions topic x.client) (filter (is_in_group g) s.subscriptions)) h.access
+      ∙ ap (λ ss. find (λ (x : Subscription). is_reader w.access ss topic x.client) (filter (is_in_group g) s.subscriptions)) h.sessions
       ∙ ap (find able) (h.subscriptions.members g ∙ sym (map-filter (λ (r : Row). r.subscription) (is_in_group g) (by_turn w.rows)) ∙ ap told (sym (by_turn-filter (λ r. is_in_group g r.subscription) w.rows)))
       ∙ sym (told_find able (by_turn (rows_in g w.rows)))
       ∙ ap (option_map (λ (r : Row). r.subscription)) (sym (least-is (λ r. able r.subscription) (rows_in g w.rows)))
@@ -120,27 +126,6 @@ module _ (s : State) (w : World) (h : HasRows s w) where
 
   -- ## Answers
 
-  direct_copy-same : (access : Option (List AclRow)) (xs ys : List Subscription) (m : Message) (id : Text) (user : Option Text) → SameElements xs ys → direct_copy access xs m id user ≡ direct_copy access ys m id user
-  direct_copy-same access xs ys m id user same =
-      let part : Subscription → Bool = takes_part m id in
-      let ox : List Options = options_for xs m id in
-      let oy : List Options = options_for ys m id in
-      let options : SameElements ox oy = SameElements-map (λ (x : Subscription). x.options) (filter part xs) (filter part ys) (SameElements-filter part xs ys same) in
-      let able : Bool = allowed access id user m.topic Reading in
-      let qos : greatest (map (λ o. o.qos) ox) ≡ greatest (map (λ o. o.qos) oy) = greatest-SameElements _ _ (SameElements-map (λ (o : Options). o.qos) ox oy options) in
-      let ids : ascending (filter_map (λ o. o.identifier) ox) ≡ ascending (filter_map (λ o. o.identifier) oy) = ascending-SameElements _ _ (SameElements-filter_map (λ (o : Options). o.identifier) ox oy options) in
-      let keeps : list_any (λ o. o.retain_as_published) ox ≡ list_any (λ o. o.retain_as_published) oy = list_any-SameElements (λ (o : Options). o.retain_as_published) ox oy options in
-      let copy : copy_by id None m ox ≡ copy_by id None m oy = rw (qos, keeps, ids) refl in
-      ap (λ n. if not (n == 0) && able then Some (copy_by id None m ox) else None) (length-SameElements ox oy options)
-      ∙ ap (λ k. if not (length oy == 0) && able then Some k else None) copy
-
-  direct_copies-same : (access : Option (List AclRow)) (sessions : List Session) (xs ys : List Subscription) (m : Message) → SameElements xs ys → direct_copies access sessions xs m ≡ direct_copies access sessions ys m
-  unfolding direct_copies
-  direct_copies-same access [] xs ys m same = refl
-  direct_copies-same access (c ∷ cs) xs ys m same =
-      ap (λ o. cons_option o (direct_copies access cs xs m)) (direct_copy-same access xs ys m c.id c.user same)
-      ∙ ap (cons_option (direct_copy access ys m c.id c.user)) (direct_copies-same access cs xs ys m same)
-
   -- what a subscribe is sent, by what it depends on
   abbrev sent_by : ℕ → Option (List AclRow) → List Session → List Retained → Subscription → Bool → List Copy
   sent_by moment access sessions retained new exists =
@@ -157,9 +142,21 @@ module _ (s : State) (w : World) (h : HasRows s w) where
       ∙ ap (λ sessions. sent_by w.moment w.access sessions s.retained new exists) h.sessions
       ∙ ap (λ retained. sent_by w.moment w.access w.sessions retained new exists) h.retained
 
+  -- what a connect is answered, by what it depends on
+  abbrev resumed_reply : ℕ → List Session → Text → Bool → Reply
+  resumed_reply moment sessions id clean = record { copies = resumed_copies moment sessions id clean; outcome = Reason 0 }
+
+  waits-held : (m : Message) → begins_to_wait s.limits.queued s.access s.sessions s.subscriptions m ≡ begins_to_wait w.limits.queued w.access w.sessions (subscriptions_of w) m
+  waits-held m =
+      ap (λ (limits : Limits). begins_to_wait limits.queued s.access s.sessions s.subscriptions m) h.limits
+      ∙ ap (λ access. begins_to_wait w.limits.queued access s.sessions s.subscriptions m) h.access
+      ∙ ap (λ sessions. begins_to_wait w.limits.queued w.access sessions s.subscriptions m) h.sessions
+      ∙ begins_to_wait-same w.limits.queued w.access w.sessions s.subscriptions (subscriptions_of w) m all_told
+
   pub answer-held : counts_held s ≡ counts w → (request : Request) → reply_to s request ≡ answer w request
   unfolding answer
-  answer-held told (Connect id user) = refl
+  answer-held told (Connect id user clean interval) =
+      ap (λ moment. resumed_reply moment s.sessions id clean) h.moment ∙ ap (λ ss. resumed_reply w.moment ss id clean) h.sessions
   answer-held told (Disconnect id) = refl
   answer-held told (Subscribe id text options) =
       ap (λ copies. record { copies = copies; outcome = Reason options.qos }) (sent-held (asked id text options))
@@ -167,11 +164,13 @@ module _ (s : State) (w : World) (h : HasRows s w) where
       ap (λ b. reason (if b then 0 else 17)) (list_any-SameElements (has_key id (share_of text) (filter_part text)) s.subscriptions (subscriptions_of w) all_told)
   answer-held told (Publish m) =
       let members : List Subscription = next_members s.access s.sessions s.subscriptions m in
-      ap published (ap (λ access. direct_copies access s.sessions s.subscriptions m ++ map (member_copy m) members) h.access
-      ∙ ap (λ ss. direct_copies w.access ss s.subscriptions m ++ map (member_copy m) members) h.sessions
-      ∙ ap (λ l. l ++ map (member_copy m) members) (direct_copies-same w.access w.sessions s.subscriptions (subscriptions_of w) m all_told)
-      ∙ ap (λ l. direct_copies w.access w.sessions (subscriptions_of w) m ++ map (member_copy m) l) (served-held m)
-      ∙ ap (λ l. direct_copies w.access w.sessions (subscriptions_of w) m ++ l) (map-map (member_copy m) (λ (r : Row). r.subscription) (served_by w m)))
+      ap (λ copies. published copies (begins_to_wait s.limits.queued s.access s.sessions s.subscriptions m))
+      (ap (λ access. direct_copies access (connected s.sessions) s.subscriptions m ++ map (member_copy m) members) h.access
+      ∙ ap (λ ss. direct_copies w.access (connected ss) s.subscriptions m ++ map (member_copy m) members) h.sessions
+      ∙ ap (λ l. l ++ map (member_copy m) members) (direct_copies-same w.access (connected w.sessions) s.subscriptions (subscriptions_of w) m all_told)
+      ∙ ap (λ l. direct_copies w.access (connected w.sessions) (subscriptions_of w) m ++ map (member_copy m) l) (served-held m)
+      ∙ ap (λ l. direct_copies w.access (connected w.sessions) (subscriptions_of w) m ++ l) (map-map (member_copy m) (λ (r : Row). r.subscription) (served_by w m)))
+      ∙ ap (published (copies_of w m)) (waits-held m)
   answer-held told (SetAcl text) = refl
   answer-held told (Advance seconds) = refl
   answer-held told Stat = ap (λ outcome. record { copies = []; outcome = outcome }) told
@@ -183,25 +182,53 @@ module _ (s : State) (w : World) (h : HasRows s w) where
       same-then _ _ _ (same-filter q s.subscriptions (in_turn w) h.subscriptions)
       (same-is _ _ (sym (map-filter (λ (r : Row). r.subscription) q (by_turn w.rows)) ∙ ap told (sym (by_turn-filter (λ r. q r.subscription) w.rows))))
 
+  -- the rows after a connect, by whether it resumes
+  left_rows : (id : Text) (a b : Bool) → a ≡ b → SameInTurn (if a then s.subscriptions else without id s.subscriptions) (told (by_turn (if b then w.rows else without_client id w.rows)))
+  left_rows id a b e =
+      let P : Bool → Bool → Type 0 = λ a b. SameInTurn (if a then s.subscriptions else without id s.subscriptions) (told (by_turn (if b then w.rows else without_client id w.rows))) in
+      subst (P a) e (elim a as (λ a. P a a) [ true ↦ h.subscriptions | false ↦ kept_rows (λ x. not (same_text x.client id)) ])
+
+  -- the state after a disconnect, by whether the session stays
+  abbrev left_state : Text → Bool → State
+  left_state id stays =
+      if stays
+      then record s { sessions = map (left_by s.moment id) s.sessions }
+      else record s { sessions = filter (λ session. not (has_id id session)) s.sessions; subscriptions = without id s.subscriptions }
+
   pub moved-held : IsWorld w → (request : Request) → HasRows (moved s request) (after w request)
   unfolding after
-  moved-held is (Connect id user) = record {
+  moved-held is (Connect id user clean interval) = record {
+    limits = h.limits;
     moment = h.moment;
     access = h.access;
-    sessions = ap (with_row session_cmp (new_session id user)) h.sessions;
-    subscriptions = kept_rows (λ x. not (same_text x.client id));
+    sessions = ap (with_row session_cmp (new_session id user interval)) h.sessions;
+    subscriptions = left_rows id (resumes s.sessions id clean) (resumes w.sessions id clean) (ap (λ ss. resumes ss id clean) h.sessions);
     retained = h.retained;
   }
-  moved-held is (Disconnect id) = record {
-    moment = h.moment;
-    access = h.access;
-    sessions = ap (filter (λ session. not (has_id id session))) h.sessions;
-    subscriptions = kept_rows (λ x. not (same_text x.client id));
-    retained = h.retained;
-  }
+  moved-held is (Disconnect id) =
+      let P : Bool → Bool → Type 0 = λ a b. HasRows (left_state id a) (gone w id b) in
+      subst (P (outlives s.sessions id)) (ap (λ ss. outlives ss id) h.sessions) (elim (outlives s.sessions id) as (λ b. P b b) [
+        | true ↦ record {
+          limits = h.limits;
+          moment = h.moment;
+          access = h.access;
+          sessions = ap (λ moment. map (left_by moment id) s.sessions) h.moment ∙ ap (map (left_by w.moment id)) h.sessions;
+          subscriptions = h.subscriptions;
+          retained = h.retained;
+        }
+        | false ↦ record {
+          limits = h.limits;
+          moment = h.moment;
+          access = h.access;
+          sessions = ap (filter (λ session. not (has_id id session))) h.sessions;
+          subscriptions = kept_rows (λ x. not (same_text x.client id));
+          retained = h.retained;
+        }
+      ])
   moved-held is (Subscribe id text options) =
       let x : Subscription = asked id text options in
       record {
+        limits = h.limits;
         moment = h.moment;
         access = h.access;
         sessions = h.sessions;
@@ -209,6 +236,7 @@ module _ (s : State) (w : World) (h : HasRows s w) where
         retained = h.retained;
       }
   moved-held is (Unsubscribe id text) = record {
+    limits = h.limits;
     moment = h.moment;
     access = h.access;
     sessions = h.sessions;
@@ -216,22 +244,32 @@ module _ (s : State) (w : World) (h : HasRows s w) where
     retained = h.retained;
   }
   moved-held is (Publish m) = record {
+    limits = h.limits;
     moment = h.moment;
     access = h.access;
-    sessions = h.sessions;
+    sessions = ap (λ (limits : Limits). map (waiting_after limits.queued s.access s.subscriptions s.moment m) s.sessions) h.limits
+        ∙ ap (λ access. map (waiting_after w.limits.queued access s.subscriptions s.moment m) s.sessions) h.access
+        ∙ ap (λ moment. map (waiting_after w.limits.queued w.access s.subscriptions moment m) s.sessions) h.moment
+        ∙ ap (map (waiting_after w.limits.queued w.access s.subscriptions w.moment m)) h.sessions
+        ∙ waiting_after-same w.limits.queued w.access w.sessions s.subscriptions (subscriptions_of w) w.moment m all_told;
     subscriptions = same-then _ _ _ (all_turned-same (next_members s.access s.sessions s.subscriptions m) s.subscriptions (in_turn w) h.subscriptions)
         (same-then _ _ _ (same-is _ _ (ap (λ l. all_turned l (in_turn w)) (served-held m))) (serves w is m));
     retained = ap (λ moment. retained_after moment s.retained m) h.moment ∙ ap (λ retained. retained_after w.moment retained m) h.retained;
   }
-  moved-held is (SetAcl text) = record { moment = h.moment; access = refl; sessions = h.sessions; subscriptions = h.subscriptions; retained = h.retained }
+  moved-held is (SetAcl text) = record { limits = h.limits; moment = h.moment; access = refl; sessions = h.sessions; subscriptions = h.subscriptions; retained = h.retained }
   moved-held is (Advance seconds) = record {
+    limits = h.limits;
     moment = ap (λ moment. moment + seconds) h.moment;
     access = h.access;
-    sessions = h.sessions;
-    subscriptions = h.subscriptions;
+    sessions = ap (λ moment. filter (λ session. not (has_ended (moment + seconds) session)) s.sessions) h.moment
+        ∙ ap (filter (λ session. not (has_ended (w.moment + seconds) session))) h.sessions;
+    subscriptions = same-then _ _ _
+        (same-is _ _ (ap (λ moment. filter (lasts (moment + seconds) s.sessions) s.subscriptions) h.moment
+        ∙ ap (λ ss. filter (lasts (w.moment + seconds) ss) s.subscriptions) h.sessions))
+        (kept_rows (lasts (w.moment + seconds) w.sessions));
     retained = ap (λ moment. unexpired (moment + seconds) s.retained) h.moment ∙ ap (unexpired (w.moment + seconds)) h.retained;
   }
-  moved-held is Stat = record { moment = h.moment; access = h.access; sessions = h.sessions; subscriptions = h.subscriptions; retained = h.retained }
+  moved-held is Stat = record { limits = h.limits; moment = h.moment; access = h.access; sessions = h.sessions; subscriptions = h.subscriptions; retained = h.retained }
 
 -- ## Trees and index
 
@@ -239,6 +277,7 @@ module _ (s : State) (w : World) (h : HasRows s w) where
 filed-holds : (s : State) (w : World) → HasRows s w → IsFiled s → Holds s w
 unfolding filters_of
 filed-holds s w h filed = record {
+  limits = h.limits;
   moment = h.moment;
   access = h.access;
   sessions = h.sessions;
@@ -250,7 +289,7 @@ filed-holds s w h filed = record {
 }
 
 holds-rows : (s : State) (w : World) → Holds s w → HasRows s w
-holds-rows s w h = record { moment = h.moment; access = h.access; sessions = h.sessions; subscriptions = h.subscriptions; retained = h.retained }
+holds-rows s w h = record { limits = h.limits; moment = h.moment; access = h.access; sessions = h.sessions; subscriptions = h.subscriptions; retained = h.retained }
 
 holds-filed : (s : State) (w : World) → Holds s w → IsFiled s
 unfolding filters_of
@@ -283,7 +322,7 @@ steps_by new exists retained =
 
 steps-held : (s : State) (w : World) → Holds s w → (request : Request) → steps_to s request ≡ steps w request
 unfolding steps
-steps-held s w h (Connect id user) = refl
+steps-held s w h (Connect id user clean interval) = refl
 steps-held s w h (Disconnect id) = refl
 steps-held s w h (Subscribe id text options) =
     let new : Subscription = asked id text options in
@@ -297,78 +336,6 @@ steps-held s w h (Advance seconds) =
     ∙ ap (λ (retained : List Retained). length (filter (is_due (w.moment + seconds)) retained)) h.retained
 steps-held s w h Stat = refl
 
--- ## The next world is one
-
-stamp_below : (n : ℕ) (rows : List Row) → AllByRecursion (λ row. row.stamp < n) rows → AllByRecursion (λ row. row.stamp < n + 1) rows
-stamp_below n rows h = all_weaker (λ (row : Row). row.stamp < n) (λ row. row.stamp < n + 1) (λ row e. omega arith) rows h
-
-found_below : (p : Row → Bool) (n : ℕ) (rows : List Row) → AllByRecursion (λ row. row.stamp < n) rows → option_map_or (λ row. row.stamp) (find p rows) n < n + 1
-found_below p n [] h = omega arith
-found_below p n (row ∷ rows) h =
-    let here : row.stamp < n = h.0 in
-    elim (p row) as (λ b. option_map_or (λ (r : Row). r.stamp) (cond b (Some row) (find p rows)) n < n + 1) [
-      | true ↦ omega arith
-      | false ↦ found_below p n rows h.1
-    ]
-
--- rows of which some are kept
-fewer : (q : Row → Bool) (w : World) → IsWorld w → (sessions : List Session) → IsStrictlySortedBy session_cmp sessions → IsWorld (record w { sessions = sessions; rows = filter q w.rows; accepted = w.accepted + 1 })
-fewer q w h sessions s = record {
-  sessions = s;
-  rows = IsStrictlySortedBy-filter row_cmp q w.rows h.rows;
-  retained = h.retained;
-  stamps = all_filtered (λ row. row.stamp < w.accepted + 1) q w.rows (stamp_below w.accepted w.rows h.stamps);
-  apart = λ g. apart-to (rows_in g (filter q w.rows))
-      (subst (λ (l : List Row). AreApart l) (filter-swap q (λ r. is_in_group g r.subscription) w.rows) (apart-filter q (rows_in g w.rows) (apart-from (rows_in g w.rows) (h.apart g))));
-}
-
-sorted-after : (now : ℕ) (retained : List Retained) (m : Message) → IsStrictlySortedBy retained_cmp retained → IsStrictlySortedBy retained_cmp (retained_after now retained m)
-unfolding retained_after
-sorted-after now retained m s =
-    let new : Retained = stored now m in
-    let rest : List Retained = filter (λ kept. not (has_topic m.topic kept)) retained in
-    elim (not m.retain) as (λ r. IsStrictlySortedBy retained_cmp (if r then retained else if is_stored m then with_row retained_cmp new retained else rest)) [
-      | true ↦ s
-      | false ↦ elim (is_stored m) as (λ k. IsStrictlySortedBy retained_cmp (if k then with_row retained_cmp new retained else rest)) [
-        | true ↦ sorted-with_row retained_cmp retained_total new retained s
-        | false ↦ IsStrictlySortedBy-filter retained_cmp (λ kept. not (has_topic m.topic kept)) retained s
-      ]
-    ]
-
-pub after-is_world : (w : World) → IsWorld w → (request : Request) → IsWorld (after w request)
-unfolding after
-after-is_world w h (Connect id user) =
-    fewer (λ row. not (same_text row.subscription.client id)) w h _ (sorted-with_row session_cmp session_total (new_session id user) w.sessions h.sessions)
-after-is_world w h (Disconnect id) =
-    fewer (λ row. not (same_text row.subscription.client id)) w h _ (IsStrictlySortedBy-filter session_cmp (λ session. not (has_id id session)) w.sessions h.sessions)
-after-is_world w h (Subscribe id text options) =
-    let s : Subscription = asked id text options in
-    record {
-      sessions = h.sessions;
-      rows = sorted-with_row row_cmp row_total (record { subscription = s; stamp = kept_stamp w s }) w.rows h.rows;
-      retained = h.retained;
-      stamps = all-with_row row_cmp row_total (λ row. row.stamp < w.accepted + 1) (record { subscription = s; stamp = kept_stamp w s }) w.rows
-          (found_below (λ row. same_key s row.subscription) w.accepted w.rows h.stamps) (stamp_below w.accepted w.rows h.stamps);
-      apart = λ g. apart-to _ (apart-joined s w h g);
-    }
-after-is_world w h (Unsubscribe id text) = fewer (λ row. not (has_key id (share_of text) (filter_part text) row.subscription)) w h _ h.sessions
-after-is_world w h (Publish m) = record {
-  sessions = h.sessions;
-  rows = restamped-sorted w.accepted (served_by w m) w.rows h.rows;
-  retained = sorted-after w.moment w.retained m h.retained;
-  stamps = restamped-below w.accepted (served_by w m) w.rows h.stamps;
-  apart = served-apart w h m;
-}
-after-is_world w h (SetAcl text) = record { sessions = h.sessions; rows = h.rows; retained = h.retained; stamps = stamp_below w.accepted w.rows h.stamps; apart = h.apart }
-after-is_world w h (Advance seconds) = record {
-  sessions = h.sessions;
-  rows = h.rows;
-  retained = IsStrictlySortedBy-filter retained_cmp (λ kept. not (is_over (w.moment + seconds) kept.deadline)) w.retained h.retained;
-  stamps = stamp_below w.accepted w.rows h.stamps;
-  apart = h.apart;
-}
-after-is_world w h Stat = record { sessions = h.sessions; rows = h.rows; retained = h.retained; stamps = stamp_below w.accepted w.rows h.stamps; apart = h.apart }
-
 -- ## Each world that the router stands for
 
 done-answers : (old : State) (request : Request) (reply : Reply) (new : State) → Does old request reply new → (w : World) → StandsFor old w → Answers w request reply new
@@ -377,6 +344,7 @@ done-answers old request reply new d w h =
     let rows : HasRows old w = holds-rows old w h.0 in
     let held : HasRows (moved old request) (after w request) = moved-held old w rows h.1 request in
     let has : HasRows new (after w request) = record {
+      limits = d.rows.limits ∙ held.limits;
       moment = d.rows.moment ∙ held.moment;
       access = d.rows.access ∙ held.access;
       sessions = d.rows.sessions ∙ held.sessions;

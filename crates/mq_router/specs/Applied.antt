@@ -6,11 +6,11 @@ use Rattle.mq_topic.specs.Texts.{share_of, filter_part}
 use Rattle.mq_tree.specs.Entries.{capped}
 use Rattle.mq_tree.specs.Prefixes.{prefixes, met_by_name}
 use Rattle.mq_acl.specs.Rows.{AclRow}
-use Rattle.mq_acl.specs.Access.{allowed}
-use Rattle.mq_acl.specs.declared.access.Direction.TheVariants.{Reading}
 use Rattle.mq_router.specs.Lists.{Text, same_text, with_row, in_order}
 use Rattle.mq_router.specs.World.{World, Row, Session, Group, Subscription, Message, Copy, Request, Connect, Disconnect, Subscribe, Unsubscribe, Publish, SetAcl, Advance, Stat, Reply, asked, session_cmp, group_cmp, group_of, has_id, has_key, same_key, is_in_group}
-use Rattle.mq_router.specs.Sessions.{new_session, user_of}
+use Rattle.mq_router.specs.Sessions.{new_session, connected, user_of, is_reader, outlives, resumes, left_by, has_ended, is_among}
+use Rattle.mq_router.specs.Begun.{Begin, begun_by}
+use Rattle.mq_router.specs.Waiting.{begins_to_wait, waiting_after, resumed_copies}
 use Rattle.mq_router.specs.Refusals.{refusal}
 use Rattle.mq_router.specs.Copies.{direct_copies, filter_matches}
 use Rattle.mq_router.specs.Groups.{group_copy}
@@ -34,6 +34,7 @@ unstamped s = record { subscription = s; stamp = 0 }
 
 abbrev pub world_of : State → World
 world_of s = record {
+  limits = s.limits;
   moment = s.moment;
   access = s.access;
   sessions = s.sessions;
@@ -64,10 +65,10 @@ all_turned (s ∷ ss) xs = all_turned ss (put_last (same_key s) xs)
 unfoldable pub groups_among : List Subscription → List Group
 groups_among subscriptions = in_order group_cmp (filter_map group_of subscriptions)
 
--- of a group the first member whose client may read the topic
+-- of a group the first member whose client is connected and may read the topic
 abbrev pub next_in : Option (List AclRow) → List Session → List Subscription → Text → Group → Option Subscription
 next_in access sessions subscriptions topic group =
-    find (λ s. allowed access s.client (user_of sessions s.client) topic Reading) (filter (is_in_group group) subscriptions)
+    find (λ s. is_reader access sessions topic s.client) (filter (is_in_group group) subscriptions)
 
 unfoldable pub next_members : Option (List AclRow) → List Session → List Subscription → Message → List Subscription
 next_members access sessions subscriptions m =
@@ -81,7 +82,18 @@ member_copy m s = group_copy m (unstamped s)
 
 abbrev pub copies_made : Option (List AclRow) → List Session → List Subscription → Message → List Copy
 copies_made access sessions subscriptions m =
-    direct_copies access sessions subscriptions m ++ map (member_copy m) (next_members access sessions subscriptions m)
+    direct_copies access (connected sessions) subscriptions m ++ map (member_copy m) (next_members access sessions subscriptions m)
+
+-- those of a state
+abbrev pub copies_held : State → Message → List Copy
+copies_held s m = copies_made s.access s.sessions s.subscriptions m
+
+abbrev pub members_held : State → Message → List Subscription
+members_held s m = next_members s.access s.sessions s.subscriptions m
+
+-- what begins to wait, until this deadline or for ever
+abbrev pub begun_held : State → Message → Option ℕ → List Begin
+begun_held s m deadline = begun_by s.limits.queued s.access s.sessions s.subscriptions m deadline
 
 abbrev pub copies_sent : State → Subscription → List Copy
 copies_sent s new =
@@ -97,43 +109,61 @@ counts_held s =
     (capped (length s.subscriptions))
 
 abbrev pub reply_to : State → Request → Reply
-reply_to s (Connect id user) = reason 0
+reply_to s (Connect id user clean interval) =
+    record { copies = resumed_copies s.moment s.sessions id clean; outcome = Reason 0 }
 reply_to s (Disconnect id) = reason 0
 reply_to s (Subscribe id text options) =
     record { copies = copies_sent s (asked id text options); outcome = Reason options.qos }
 reply_to s (Unsubscribe id text) =
     reason (if list_any (has_key id (share_of text) (filter_part text)) s.subscriptions then 0 else 17)
-reply_to s (Publish m) = published (copies_made s.access s.sessions s.subscriptions m)
+reply_to s (Publish m) =
+    published (copies_made s.access s.sessions s.subscriptions m)
+    (begins_to_wait s.limits.queued s.access s.sessions s.subscriptions m)
 reply_to s (SetAcl text) = reason 0
 reply_to s (Advance seconds) = reason 0
 reply_to s Stat = record { copies = []; outcome = counts_held s }
 
+-- the subscriptions without those of a client
+abbrev pub without : Text → List Subscription → List Subscription
+without id subscriptions = filter (λ x. not (same_text x.client id)) subscriptions
+
+-- the subscription is of no session that has ended
+abbrev pub lasts : ℕ → List Session → Subscription → Bool
+lasts moment sessions s = not (is_among (filter (has_ended moment) sessions) s.client)
+
 -- the rows that change; the trees and the index are told apart, by `IsFiled`
 abbrev pub moved : State → Request → State
-moved s (Connect id user) = record s {
-  sessions = with_row session_cmp (new_session id user) s.sessions;
-  subscriptions = filter (λ x. not (same_text x.client id)) s.subscriptions;
+moved s (Connect id user clean interval) = record s {
+  sessions = with_row session_cmp (new_session id user interval) s.sessions;
+  subscriptions = if resumes s.sessions id clean then s.subscriptions else without id s.subscriptions;
 }
-moved s (Disconnect id) = record s {
-  sessions = filter (λ session. not (has_id id session)) s.sessions;
-  subscriptions = filter (λ x. not (same_text x.client id)) s.subscriptions;
-}
+moved s (Disconnect id) =
+    if outlives s.sessions id
+    then record s { sessions = map (left_by s.moment id) s.sessions }
+    else record s {
+      sessions = filter (λ session. not (has_id id session)) s.sessions;
+      subscriptions = without id s.subscriptions;
+    }
 moved s (Subscribe id text options) = record s { subscriptions = joined (asked id text options) s.subscriptions }
 moved s (Unsubscribe id text) =
     record s { subscriptions = filter (λ x. not (has_key id (share_of text) (filter_part text) x)) s.subscriptions }
 moved s (Publish m) = record s {
+  sessions = map (waiting_after s.limits.queued s.access s.subscriptions s.moment m) s.sessions;
   subscriptions = all_turned (next_members s.access s.sessions s.subscriptions m) s.subscriptions;
   retained = retained_after s.moment s.retained m;
 }
 moved s (SetAcl text) = record s { access = access_of text }
 moved s (Advance seconds) = record s {
   moment = s.moment + seconds;
+  sessions = filter (λ session. not (has_ended (s.moment + seconds) session)) s.sessions;
+  subscriptions = filter (lasts (s.moment + seconds) s.sessions) s.subscriptions;
   retained = unexpired (s.moment + seconds) s.retained;
 }
 moved s Stat = s
 
--- the same moment, access rows, sessions and retained messages, and the same subscriptions in turn
+-- the same limits, moment, access rows, sessions and retained messages, and the same subscriptions in turn
 pub record SameRows (s t : State) : Type 0 where
+  pub limits : s.limits ≡ t.limits
   pub moment : s.moment ≡ t.moment
   pub access : s.access ≡ t.access
   pub sessions : s.sessions ≡ t.sessions
@@ -163,7 +193,7 @@ abbrev pub steps_sent : State → Subscription → ℕ
 steps_sent s new = if asks_for_retained s.subscriptions new then steps_among new.filter s.retained else 0
 
 abbrev pub steps_to : State → Request → ℕ
-steps_to s (Connect id user) = 0
+steps_to s (Connect id user clean interval) = 0
 steps_to s (Disconnect id) = 0
 steps_to s (Subscribe id text options) = steps_sent s (asked id text options)
 steps_to s (Unsubscribe id text) = 0

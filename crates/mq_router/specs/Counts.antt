@@ -34,7 +34,7 @@ counts w =
 -- a publish enters the prefixes of filters that match one of the topic; a subscribe that asks for retained messages the
 -- prefixes of topics that one of its filter matches; an advance takes out the retained messages whose deadline comes
 unfoldable pub steps : World → Request → ℕ
-steps w (Connect id user) = 0
+steps w (Connect id user clean interval) = 0
 steps w (Disconnect id) = 0
 steps w (Subscribe id text options) =
     let s = asked id text options in

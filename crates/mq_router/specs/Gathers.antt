@@ -2,18 +2,20 @@
 use Rattle.std.specs.Prelude.{◌≡◌, List, [], ◌∷◌, ◌++◌, map, String, Vec, Option, if◌then◌else◌}
 use Rattle.std.specs.declared.alloc.Global.{Global}
 use denote.Ref.{Bor}
+use Rattle.std.specs.Map.{lookup}
 use Rattle.mq_acl.specs.Rows.{AclRow}
 use Rattle.mq_router.specs.Lists.{Text, same_text}
-use Rattle.mq_router.specs.World.{Session, Subscription, Message, Copy}
+use Rattle.mq_router.specs.World.{Session, Subscription, Options, Message, Copy}
 use Rattle.mq_router.specs.Applied.{next_in}
 use Rattle.mq_router.specs.Views.{copy_of}
-use Rattle.mq_router.specs.Kept.{At, options_of}
+use Rattle.mq_router.specs.Kept.{At, is_text}
+use Rattle.mq_router.specs.KeptViews.{texts}
+use Rattle.mq_router.specs.Summaries.{Summary, summary_for, with_more}
 use Rattle.mq_router.specs.Gathered.{listed, lists_in}
 use Rattle.mq_router.specs.Made.{gives_options, turns_of, turns_at}
 use Rattle.mq_router.specs.Held.{turn_of}
 use Rattle.mq_router.specs.declared.answer.Delivery.{Delivery}
 use Rattle.mq_router.specs.declared.copies.Turn.{Turn}
-use Rattle.mq_router.specs.declared.options.Options.{Options}
 
 abbrev pub Lists : Type 0 → Type 0
 Lists T = List (String Global × Vec T Global)
@@ -23,10 +25,22 @@ abbrev pub Gathers : {T : Type 0} → Text → T → Lists T → Lists T → Typ
 Gathers text value old new =
     (key : Text) → listed key (lists_in new) ≡ listed key (lists_in old) ++ (if same_text text key then value ∷ [] else [])
 
--- each client's options of its subscriptions that take part join its list
-abbrev pub GathersOptions : Message → List Subscription → Lists Options → Lists Options → Type 0
+abbrev pub Summaries : Type 0
+Summaries = List (String Global × Summary)
+
+-- what is gathered for a client
+abbrev pub summed : Text → Summaries → Option Summary
+summed id summaries = lookup (is_text id) (texts summaries)
+
+-- these options of a client join its summary
+abbrev pub GathersOne : Text → Options → Summaries → Summaries → Type 0
+GathersOne client options old new =
+    (id : Text) → summed id new ≡ with_more (summed id old) (summary_for (if same_text client id then options ∷ [] else []))
+
+-- each client's options of its subscriptions that take part join its summary
+abbrev pub GathersOptions : Message → List Subscription → Summaries → Summaries → Type 0
 GathersOptions m rows old new =
-    (id : Text) → map options_of (listed id (lists_in new)) ≡ map options_of (listed id (lists_in old)) ++ gives_options m id rows
+    (id : Text) → summed id new ≡ with_more (summed id old) (summary_for (gives_options m id rows))
 
 -- the turns that are listed for a share name
 abbrev pub turns_listed : Text → Lists Turn → List Subscription

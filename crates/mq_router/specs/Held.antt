@@ -1,24 +1,54 @@
 -- What the router's own values show.
-use Rattle.std.specs.Prelude.{List, map, Option, Some, String, string_bytes}
+use Rattle.std.specs.Prelude.{List, [], map, Some, String, string_bytes}
 use Rattle.std.specs.Option.{option_map}
 use Rattle.std.specs.declared.alloc.Global.{Global}
 use Rattle.mq_router.specs.Lists.{Text}
 use Rattle.mq_router.specs.World as world
+use Rattle.mq_router.specs.Views.{copy_of, limits_of}
+use Rattle.mq_router.specs.Begun.{Begin}
 use Rattle.mq_router.specs.StandsFor.{State}
 use Rattle.mq_router.specs.Kept.{options_of, AreListed, KeptSubscriptions, kept_at}
 use Rattle.mq_router.specs.KeptViews.{texts}
 use Rattle.mq_router.specs.declared.copies.Message.{Message}
 use Rattle.mq_router.specs.declared.copies.Turn.{Turn}
+use Rattle.mq_router.specs.declared.session.Session.{Session}
+use Rattle.mq_router.specs.declared.session.Waiting.{Waiting}
+use Rattle.mq_router.specs.declared.session.Presence.{Presence}
+use Rattle.mq_router.specs.declared.session.Presence.TheVariants.{Connected, Away}
+use Rattle.mq_router.specs.declared.begun.Begun.{Begun}
 use Rattle.mq_router.specs.declared.sessions.Sessions.TheInside as in_sessions
 use Rattle.mq_router.specs.declared.subscriptions.Subscriptions.TheInside as in_subscriptions
 use Rattle.mq_router.specs.declared.router.Router.TheInside as in_router
 use Rattle.mq_router.specs.declared.router.Properties.{Properties}
 
-abbrev pub session_of : String Global × Option (String Global) → world.Session
-session_of entry = record { id = string_bytes entry.0; user = option_map string_bytes entry.1 }
+abbrev pub waiting_of : Waiting → world.Waiting
+waiting_of w = record { copy = copy_of w.copy; deadline = w.deadline }
+
+abbrev pub presence_of : Presence → world.Presence
+presence_of Connected = world.Connected
+presence_of (Away end) = world.Away end
+
+abbrev pub session_at : Text → Session → world.Session
+session_at id s = record {
+  id = id;
+  user = option_map string_bytes s.user;
+  interval = s.interval;
+  presence = presence_of s.presence;
+  waiting = map waiting_of s.waiting;
+}
+
+-- whoever's it is
+abbrev pub shown : Session → world.Session
+shown s = session_at [] s
+
+abbrev pub session_in : String Global × Session → world.Session
+session_in entry = session_at (string_bytes entry.0) entry.1
 
 abbrev pub sessions_of : in_sessions.Inside → List world.Session
-sessions_of inside = map session_of inside.users.entries
+sessions_of inside = map session_in inside.by_id.entries
+
+abbrev pub begin_of : Begun → Begin
+begin_of b = (string_bytes b.client, map waiting_of b.copies)
 
 abbrev pub subscriptions_of : in_subscriptions.Inside → KeptSubscriptions
 subscriptions_of inside = kept_at inside.tree
@@ -56,6 +86,7 @@ turn_of t = record {
 
 abbrev pub state_of : in_router.Inside → State
 state_of inside = record {
+  limits = limits_of inside.limits;
   moment = inside.clock.moment;
   access = inside.access;
   sessions = inside.sessions;

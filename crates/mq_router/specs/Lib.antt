@@ -3,6 +3,10 @@ pub mod World
 pub mod Clock
 pub mod Sessions
 pub mod Copies
+pub mod Waiting
+pub mod Begun
+pub mod Near
+pub mod Ends
 pub mod Groups
 pub mod Retained
 pub mod Counts
@@ -17,6 +21,8 @@ pub mod Applied
 pub mod Kept
 pub mod KeptViews
 pub mod OwnViews
+pub mod Summaries
+pub mod Ways
 pub mod Gathered
 pub mod Made
 pub mod Due

@@ -1,5 +1,6 @@
 -- How the copies of a message are made from what is found for its topic.
-use Rattle.std.specs.Prelude.{List, [], ◌∷◌, map, ◌&&◌, not, is_none, Bool, Option, Some, None, if◌then◌else◌}
+use Rattle.std.specs.Prelude.{ℕ, List, [], ◌∷◌, map, ◌&&◌, not, is_none, Bool, Option, Some, None, if◌then◌else◌}
+use Rattle.std.specs.Option.{option_map}
 use Rattle.std.specs.List.{filter, filter_map, flat_map}
 use Rattle.mq_acl.specs.Rows.{AclRow}
 use Rattle.mq_acl.specs.Access.{allowed}
@@ -7,12 +8,12 @@ use Rattle.mq_acl.specs.declared.access.Direction.TheVariants.{Reading}
 use Rattle.mq_router.specs.Lists.{Text, same_text}
 use Rattle.mq_router.specs.World.{Session, Subscription, Options, Message, Copy}
 use Rattle.mq_router.specs.World as world
-use Rattle.mq_router.specs.Sessions.{is_connected, user_of}
-use Rattle.mq_router.specs.Copies.{copy_by}
-use Rattle.mq_router.specs.Kept.{At, options_of}
-use Rattle.mq_router.specs.Gathered.{Gathered}
+use Rattle.mq_router.specs.Sessions.{is_reader, user_of}
+use Rattle.mq_router.specs.Summaries.{Summary, copy_from}
+use Rattle.mq_router.specs.Waiting.{with_qos}
+use Rattle.mq_router.specs.Begun.{Begin, room_for, begin_with}
+use Rattle.mq_router.specs.Kept.{At}
 use Rattle.mq_router.specs.Applied.{next_in}
-use Rattle.mq_router.specs.declared.options.Options as held
 
 abbrev pub rows_found : List At → List Subscription
 rows_found found = flat_map (λ (a : At). a.rows) found
@@ -25,14 +26,21 @@ abbrev pub gives_options : Message → Text → List Subscription → List world
 gives_options m id rows = map (λ s. s.options) (filter (gives m id) rows)
 
 -- the copy for a connected client that may read the topic
-abbrev pub copy_for : Option (List AclRow) → List Session → Message → Text × List held.Options → Option Copy
-copy_for access sessions m l =
-    if is_connected sessions l.0 && allowed access l.0 (user_of sessions l.0) m.topic Reading
-    then Some (copy_by l.0 None m (map options_of l.1))
+abbrev pub copy_for : Option (List AclRow) → List Session → Message → Text × Summary → Option Copy
+copy_for access sessions m l = if is_reader access sessions m.topic l.0 then Some (copy_from l.0 None m l.1) else None
+
+abbrev pub copies_by : Option (List AclRow) → List Session → Message → List (Text × Summary) → List Copy
+copies_by access sessions m summaries = filter_map (copy_for access sessions m) summaries
+
+-- what begins to wait for a client that is away and may read the topic
+abbrev pub begin_for : ℕ → Option (List AclRow) → List Session → Message → Option ℕ → Text × Summary → Option Begin
+begin_for limit access sessions m deadline l =
+    if room_for limit sessions l.0 && allowed access l.0 (user_of sessions l.0) m.topic Reading
+    then option_map (begin_with l.0 deadline) (with_qos (copy_from l.0 None m l.1))
     else None
 
-abbrev pub copies_by : Option (List AclRow) → List Session → Message → Gathered held.Options → List Copy
-copies_by access sessions m lists = filter_map (copy_for access sessions m) lists
+abbrev pub begins_by : ℕ → Option (List AclRow) → List Session → Message → Option ℕ → List (Text × Summary) → List Begin
+begins_by limit access sessions m deadline summaries = filter_map (begin_for limit access sessions m deadline) summaries
 
 -- none, or this one
 abbrev pub turns_of : Option Subscription → List Subscription

@@ -10,8 +10,9 @@ use Rattle.mq_router.specs.Lists.{Text}
 use Rattle.mq_router.specs.World.{World, Session, Message, Request, Connect, Disconnect, Subscribe, Unsubscribe, Publish, SetAcl, Advance, Stat, are_valid}
 use Rattle.mq_router.specs.Clock.{last_moment}
 use Rattle.mq_router.specs.Sessions.{is_connected, may}
+use Rattle.mq_router.specs.Retained.{is_full}
 use Rattle.mq_router.specs.declared.refusal.Refusal.{Refusal}
-use Rattle.mq_router.specs.declared.refusal.Refusal.TheVariants.{ClientId, UserName, NotConnected, TopicName, TopicFilter, SharedNoLocal, NotAuthorized, AclLine, ClockTooFar}
+use Rattle.mq_router.specs.declared.refusal.Refusal.TheVariants.{ClientId, UserName, NotConnected, TopicName, TopicFilter, SharedNoLocal, NotAuthorized, RetainedFull, AclLine, ClockTooFar}
 
 -- a list of conditions, each with the refusal that it leads to
 abbrev pub Conditions : Type 0
@@ -37,7 +38,8 @@ client_conditions sessions id = (not (is_client_id id), ClientId) ∷ (not (is_c
 -- the conditions on a published message
 abbrev pub message_conditions : World → Message → Conditions
 message_conditions w m =
-    (not (is_name m.topic), TopicName) ∷ (not (may w m.publisher m.topic Writing), NotAuthorized) ∷ []
+    (not (is_name m.topic), TopicName) ∷ (not (may w m.publisher m.topic Writing), NotAuthorized)
+    ∷ (is_full w.limits.retained w.retained m, RetainedFull) ∷ []
 
 abbrev pub fault_line : Result (List AclRow) AclFault → Option ℕ
 fault_line (Ok rows) = None
@@ -53,7 +55,7 @@ acl_refusal text = option_map (λ line. AclLine line) (faulty_line text)
 
 -- a shared subscription has no No Local (MQTT 5.0, section 3.8.3.1)
 unfoldable pub refusal : World → Request → Option Refusal
-refusal w (Connect id user) =
+refusal w (Connect id user clean interval) =
     first_refusal ((not (is_client_id id), ClientId) ∷ (not (is_user_name user), UserName) ∷ [])
 refusal w (Disconnect id) = first_refusal (client_conditions w.sessions id)
 refusal w (Subscribe id text options) =
@@ -69,7 +71,7 @@ refusal w Stat = None
 -- ## Which commands are valid, and which never want memory
 
 abbrev pub is_valid : Request → Bool
-is_valid (Connect id user) = true
+is_valid (Connect id user clean interval) = true
 is_valid (Disconnect id) = true
 is_valid (Subscribe id text options) = are_valid options
 is_valid (Unsubscribe id text) = true

@@ -1,7 +1,7 @@
 -- Which worlds a router stands for, and how it answers for each of them.
 use Rattle.std.specs.Prelude.{◌≡◌, ℕ, ◌+◌, List, Option, Some, None, Result, MatchResult, ◌⊎◌}
 use Rattle.mq_acl.specs.Rows.{AclRow}
-use Rattle.mq_router.specs.World.{World, Session, Subscription, Retained, Request, Reply, IsWorld}
+use Rattle.mq_router.specs.World.{World, Limits, Session, Subscription, Retained, Request, Reply, IsWorld}
 use Rattle.mq_router.specs.Turns.{SameInTurn, in_turn}
 use Rattle.mq_router.specs.Counts.{filters_of, topics_of, steps}
 use Rattle.mq_router.specs.Deadlines.{Pair, Indexes}
@@ -16,6 +16,7 @@ use Rattle.mq_router.specs.declared.refusal.Refusal.TheVariants.{Memory}
 -- what a router holds: no stamps, and no count of commands. The members of each group stand in their turn; `filter_keys`
 -- and `topic_keys` are the keys of its two trees, and `deadlines` the pairs of its index, each a deadline and a topic
 pub record State : Type 0 where
+  pub limits : Limits
   pub moment : ℕ
   pub access : Option (List AclRow)
   pub sessions : List Session
@@ -28,6 +29,7 @@ pub record State : Type 0 where
 -- what the world has: its subscriptions in any order, but the members of each group in the order of their stamps; and in
 -- the trees and the index its filters, topics and deadlines, no others
 pub record Holds (s : State) (w : World) : Type 0 where
+  pub limits : s.limits ≡ w.limits
   pub moment : s.moment ≡ w.moment
   pub access : s.access ≡ w.access
   pub sessions : s.sessions ≡ w.sessions

@@ -1,8 +1,8 @@
 -- What the tree of retained messages and the index of their deadlines show.
-use Rattle.std.specs.Prelude.{◌≡◌, ℕ, ◌+◌, ◌^◌, ◌<◌, Bool, ◌&&◌, not, List, map, string_bytes, Option, IfSome}
+use Rattle.std.specs.Prelude.{◌≡◌, ℕ, ◌+◌, ◌^◌, ◌<◌, Bool, ◌&&◌, not, List, length, map, string_bytes, Option, IfSome}
 use Rattle.std.specs.List.{AllByRecursion}
 use Rattle.mq_topic.specs.Levels.{levels}
-use Rattle.mq_tree.specs.Entries.{Entries, AreInOrder}
+use Rattle.mq_tree.specs.Entries.{Entries, AreInOrder, capped}
 use Rattle.mq_acl.specs.Rows.{AclRow}
 use Rattle.mq_acl.specs.Access.{allowed}
 use Rattle.mq_acl.specs.declared.access.Direction.TheVariants.{Reading}
@@ -34,6 +34,11 @@ pub record IsSound (tree : Entries Stored) (pairs : List Pair) : Type 0 where
   pub ordered : AreInOrder tree
   pub placed : IsPlaced tree
   pub indexed : Indexes pairs (retained_in tree)
+
+-- the keys stand in order, and the number is theirs
+pub record AreCounted (count : ℕ) (tree : Entries Stored) : Type 0 where
+  pub ordered : AreInOrder tree
+  pub number : count ≡ capped (length tree)
 
 -- each deadline can be reached from the moment by an expiry interval
 abbrev pub AreNear : ℕ → List Retained → Type 0

@@ -12,6 +12,7 @@ use crate::gathered::gather;
 use crate::group::Group;
 use crate::options::Options;
 use crate::readers::Readers;
+use crate::summary::{Summary, add_options};
 use mq_topic::{TopicFilter, TopicName};
 use mq_tree::Counted;
 use std::alloc::{AllocError, Global};
@@ -110,16 +111,14 @@ impl AtFilter {
         &self,
         alloc: Global,
         message: &Message,
-        gathered: &mut BTreeMap<String, Vec<Options>>,
+        gathered: &mut BTreeMap<String, Summary>,
     ) -> Result<(), AllocError>
-        requires { NoneBare (lists_in gathered.old.entries) }
-        ensures listed { OnOk result (GathersOptions (message_of message.now) self.now.rows gathered.old.entries gathered.new.entries) }
-        ensures live { OnOk result (NoneBare (lists_in gathered.new.entries)) }
+        ensures { OnOk result (GathersOptions (message_of message.now) self.now.rows gathered.old.entries gathered.new.entries) }
     {
         for (client, options) in &self.direct {
             let client = client.as_str();
             if !is_held_back(*options, client, message) {
-                gather(gathered, alloc, client, *options)?;
+                add_options(gathered, alloc, client, *options)?;
             }
         }
         Ok(())

@@ -1,6 +1,7 @@
 //! The router's clock.
 ghost use Rattle.std.specs.Prelude.{◌≡◌, ◌≤◌, ◌<◌, ◌+◌, ◌-◌, ◌^◌, IfSome, IfNone};
-ghost use Rattle.mq_router.specs.Clock.{last_moment, deadline_of};
+ghost use Rattle.mq_router.specs.Clock.{last_moment, deadline_of, time_left};
+ghost use Rattle.mq_router.specs.Sessions.{session_end};
 
 /// The moment, in seconds from the start: at most 1,000,000,000,000.
 #[derive(Clone, Copy, Debug)]
@@ -42,8 +43,29 @@ impl Clock {
         }
     }
 
-    /// What is left until a deadline.
-    pub(crate) fn left(self, deadline: u64) -> u32
+    /// The end of a session whose connection ends now: the greatest interval stands for ever.
+    pub(crate) fn session_end(self, interval: u32) -> Option<u64>
+        ensures { result ≡ session_end self.moment interval }
+    {
+        if interval == u32::MAX {
+            return None;
+        }
+        Some(self.moment + interval as u64)
+    }
+
+    /// What is left until a deadline, if there is one.
+    pub(crate) fn time_left(self, deadline: Option<u64>) -> Option<u32>
+        requires { IfSome deadline (λ d. d < self.moment + 2 ^ 32) }
+        ensures { result ≡ time_left self.moment deadline }
+    {
+        match deadline {
+            None => None,
+            Some(deadline) => Some(self.left(deadline)),
+        }
+    }
+
+    // What is left until a deadline.
+    fn left(self, deadline: u64) -> u32
         requires { deadline < self.moment + 2 ^ 32 }
         ensures { result ≡ deadline - self.moment }
     {

@@ -6,12 +6,20 @@ ghost use Rattle.mq_router.specs.Views.{request_of};
 /// A command of a script. Its texts may be any texts: the router tests them.
 #[derive(Debug, Drop)]
 pub enum Command {
-    /// A client connects, with a user name or without one. A session that it has is ended (MQTT 5.0, section 3.1.4).
+    /// A client connects, with a user name or without one (MQTT 5.0, section 3.1.4). If it is connected, this acts first as
+    /// its disconnect.
     Connect {
         client: String,
         user: Option<String>,
+        /// Clean Start: whether a session that is there is discarded with all it has, or is resumed (MQTT 5.0, section
+        /// 3.1.2.4).
+        clean: bool,
+        /// The Session Expiry Interval: for how many seconds the session outlives its connection, 4,294,967,295 for ever
+        /// (MQTT 5.0, section 3.1.2.11.2).
+        session_expiry: u32,
     },
-    /// A client's session and its subscriptions end (MQTT 5.0, section 3.14).
+    /// A client leaves (MQTT 5.0, section 3.14). Its session ends if its Session Expiry Interval is 0; else the client is
+    /// away until the interval is over.
     Disconnect {
         client: String,
     },
@@ -51,7 +59,7 @@ pub enum Command {
     SetAcl {
         text: Option<String>,
     },
-    /// The clock moves.
+    /// The clock moves. Retained messages whose deadline comes go, and sessions of clients that are away whose end comes.
     Advance {
         seconds: u64,
     },

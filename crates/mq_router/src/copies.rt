@@ -1,28 +1,30 @@
 //! The copies of a message.
-ghost use Rattle.std.specs.Prelude.{◌≡◌, ◌&&◌, ◌+◌, IfOk, length, map, List};
+ghost use Rattle.std.specs.Prelude.{◌≡◌, ◌+◌, IfOk, length, map, string_bytes, List};
 ghost use Rattle.std.specs.Option.{option_copied, option_map};
-ghost use Rattle.std.specs.List.{filter_map, list_any};
 ghost use Rattle.mq_topic.specs.Levels.{levels};
 ghost use Rattle.mq_tree.specs.Prefixes.{prefixes, met_by_name};
 ghost use Rattle.mq_acl.specs.Access.{allowed};
 ghost use Rattle.mq_acl.specs.declared.access.Direction.TheVariants.{Reading, Writing};
-ghost use Rattle.mq_router.specs.Lists.{Text, ascending, greatest};
-ghost use Rattle.mq_router.specs.Copies.{copy_by};
+ghost use Rattle.mq_router.specs.Lists.{Text};
+ghost use Rattle.mq_router.specs.Summaries.{copy_from};
 ghost use Rattle.mq_router.specs.Views.{copy_of, group_of};
-ghost use Rattle.mq_router.specs.Kept.{options_of};
-ghost use Rattle.mq_router.specs.Held.{message_of, turn_of};
+ghost use Rattle.mq_router.specs.Held.{message_of, turn_of, begin_of};
+ghost use Rattle.mq_router.specs.Begun.{begun_by};
 
 use crate::answer::Delivery;
 use crate::at_filter::AtFilter;
-use crate::gathered::gather;
+use crate::begun::Begun;
+use crate::direct::{Direct, direct_copies};
 use crate::options::Options;
 use crate::readers::Readers;
 use crate::subscriptions::Subscriptions;
+use crate::summary::Summary;
+use crate::waiting::Queueing;
 use mq_acl::Acl;
 use mq_topic::{LevelText, TopicFilter, TopicName};
 use mq_tree::Steps;
 use std::alloc::{AllocError, Global};
-use std::collections::BTreeMap;
+use std::collections::{BTreeMap, LinkedList};
 
 /// A message that is published.
 #[derive(Clone, Copy, Debug)]
@@ -65,60 +67,24 @@ pub(crate) fn may_write(
     }
 }
 
-fn greatest_qos(options: &[Options]) -> u8
-    ensures { result ≡ greatest (map (λ o. o.qos) options.now) }
-{
-    let mut greatest = 0;
-    for o in options {
-        greatest = o.qos.max(greatest);
-    }
-    greatest
-}
-
-fn any_as_published(options: &[Options]) -> bool
-    ensures { result ≡ list_any (λ o. o.rap) options.now }
-{
-    options.iter().any(|o| o.rap)
-}
-
-// Whether the copy has RETAIN.
-fn keeps_retain(message: &Message, options: &[Options]) -> bool
-    ensures { result ≡ (message.now.retain && list_any (λ o. o.rap) options.now) }
-{
-    message.retain && any_as_published(options)
-}
-
-fn identifiers(alloc: Global, options: &[Options]) -> Result<Vec<u32>, AllocError>
-    ensures { IfOk result (λ ids. ids.items ≡ ascending (filter_map (λ o. o.id) options.now)) }
-{
-    let mut ids = unsorted_identifiers(alloc, options)?;
-    ids.sort()?;
-    Ok(ids)
-}
-
-fn unsorted_identifiers(alloc: Global, options: &[Options]) -> Result<Vec<u32>, AllocError>
-    ensures { IfOk result (λ ids. ids.items ≡ filter_map (λ o. o.id) options.now) }
-{
-    options.iter().filter_map(|o| o.id).collect(alloc)
-}
-
-fn copy_by(
+/// The copy for a client, or for it in a group, by subscriptions with this summary.
+pub(crate) fn copy_from(
     alloc: Global,
-    client: &str,
+    client: String,
     group: Option<(String, String)>,
     message: &Message,
-    options: &[Options],
+    summary: Summary,
 ) -> Result<Delivery, AllocError>
-    ensures { IfOk result (λ d. copy_of d ≡ copy_by client.now (option_map group_of group) (message_of message.now) (map options_of options.now)) }
+    ensures { IfOk result (λ d. copy_of d ≡ copy_from (string_bytes client) (option_map group_of group) (message_of message.now) summary) }
 {
     Ok(Delivery {
-        client: String::from_str(alloc, client)?,
+        client,
         topic: String::from_str(alloc, message.topic.text())?,
         payload: String::from_str(alloc, message.payload)?,
-        qos: message.qos.min(greatest_qos(options)),
-        retain: keeps_retain(message, options),
+        qos: message.qos.min(summary.qos()),
+        retain: message.retain && summary.retains_as_published(),
         expiry: message.expiry,
-        ids: identifiers(alloc, options)?,
+        ids: summary.into_ids(),
         group,
     })
 }
@@ -132,23 +98,28 @@ pub(crate) struct Turn {
     pub(crate) options: Options,
 }
 
-/// The copies of a message, and the members of groups that it serves.
+/// The copies of a message that are sent, those that begin to wait, and the members of groups that it serves.
 #[derive(Debug, Drop)]
 pub(crate) struct Made {
     pub(crate) copies: Vec<Delivery>,
+    pub(crate) begun: LinkedList<Begun>,
     pub(crate) served: Vec<Turn>,
 }
 
-/// All copies of a message: those for clients themselves by client id, then those for groups by share name and filter.
+/// All copies of a message: those for clients themselves by client id, and those for groups by share name and filter.
 pub(crate) fn make_copies(
     alloc: Global,
     readers: &Readers,
     subscriptions: &Subscriptions,
     message: &Message,
+    queueing: Queueing,
     steps: &mut Steps,
 ) -> Result<Made, AllocError>
     ensures copies { IfOk result (λ m. copies_in m.copies
         ≡ copies_made readers.now.access.now readers.now.sessions.now subscriptions.now.rows (message_of message.now)) }
+    ensures begun { IfOk result (λ m. map begin_of m.begun
+        ≡ begun_by queueing.limit readers.now.access.now readers.now.sessions.now subscriptions.now.rows (message_of message.now)
+        queueing.deadline) }
     ensures served { IfOk result (λ m. turns_in m.served
         ≡ next_members readers.now.access.now readers.now.sessions.now subscriptions.now.rows (message_of message.now)) }
     ensures count { OnOk result (steps.new ≡ steps.old
@@ -156,13 +127,17 @@ pub(crate) fn make_copies(
 {
     let found = subscriptions.candidates(message.topic, steps)?;
     let gathered = gather_options(alloc, found.as_slice(), message)?;
-    // Learns that the clients are in order, those with options and those that are connected.
+    // Learns that the clients are in order, those with options and those with a session.
     let _clients = gathered.len();
-    let _connected = readers.sessions.len();
-    let mut copies = direct_copies(alloc, readers, &gathered, message)?;
+    let _sessions = readers.sessions.len();
+    let Direct { mut copies, begun } = direct_copies(alloc, readers, gathered, message, queueing)?;
     let served = members_served(alloc, readers, found.as_slice(), message)?;
     add_group_copies(alloc, served.as_slice(), message, &mut copies)?;
-    Ok(Made { copies, served })
+    Ok(Made {
+        copies,
+        begun,
+        served,
+    })
 }
 
 ghost use Rattle.std.specs.Prelude.{◌++◌, OnOk, []};
@@ -171,42 +146,21 @@ ghost use Rattle.mq_router.specs.Kept.{AreAtFilters};
 ghost use Rattle.mq_router.specs.Gathered.{lists_in, NoneBare};
 ghost use Rattle.mq_router.specs.Gathers.{GathersOptions, TurnsListed, seen, copies_in, turns_in};
 ghost use Rattle.mq_router.specs.Applied.{copies_made, next_members, member_copy};
-ghost use Rattle.mq_router.specs.Made.{rows_found, copies_by};
+ghost use Rattle.mq_router.specs.Made.{rows_found};
 
-// By client the options of its subscriptions that take part.
+// By client what the options of its subscriptions that take part come to.
 fn gather_options(
     alloc: Global,
     found: &[&AtFilter],
     message: &Message,
-) -> Result<BTreeMap<String, Vec<Options>>, AllocError>
-    ensures listed { IfOk result (λ g. GathersOptions (message_of message.now) (rows_found (seen found.now)) [] g.entries) }
-    ensures live { IfOk result (λ g. NoneBare (lists_in g.entries)) }
+) -> Result<BTreeMap<String, Summary>, AllocError>
+    ensures { IfOk result (λ g. GathersOptions (message_of message.now) (rows_found (seen found.now)) [] g.entries) }
 {
     let mut gathered = BTreeMap::new(alloc);
     for at in found {
         at.gather_options(alloc, message, &mut gathered)?;
     }
     Ok(gathered)
-}
-
-// The copies for the clients with options here, by client id.
-fn direct_copies(
-    alloc: Global,
-    readers: &Readers,
-    gathered: &BTreeMap<String, Vec<Options>>,
-    message: &Message,
-) -> Result<Vec<Delivery>, AllocError>
-    ensures { IfOk result (λ copies. copies_in copies
-        ≡ copies_by readers.now.access.now readers.now.sessions.now (message_of message.now) (lists_in gathered.now.entries)) }
-{
-    let mut copies = Vec::new(alloc);
-    for (client, options) in gathered {
-        let client = client.as_str();
-        if readers.sessions.contains(client) && readers.may_read(client, message.topic) {
-            copies.push(copy_by(alloc, client, None, message, options.as_slice())?)?;
-        }
-    }
-    Ok(copies)
 }
 
 // The members that are served, by share name and filter.
@@ -268,8 +222,9 @@ fn add_group_copies(
             turn.share.clone()?,
             String::from_str(alloc, turn.filter.text())?,
         );
-        let options = [turn.options];
-        copies.push(copy_by(alloc, turn.client.as_str(), Some(group), message, &options)?)?;
+        let summary = Summary::of(alloc, turn.options)?;
+        let client = turn.client.clone()?;
+        copies.push(copy_from(alloc, client, Some(group), message, summary)?)?;
     }
     Ok(())
 }

@@ -2,9 +2,7 @@
 ghost use Rattle.std.specs.Prelude.{◌≡◌, [], length, not, OnOk, OnErr, string_bytes};
 ghost use Rattle.std.specs.Option.{option_map};
 ghost use Rattle.std.specs.List.{filter, find, list_any};
-ghost use Rattle.mq_acl.specs.Access.{allowed};
-ghost use Rattle.mq_acl.specs.declared.access.Direction.TheVariants.{Reading};
-ghost use Rattle.mq_router.specs.Sessions.{user_of};
+ghost use Rattle.mq_router.specs.Sessions.{is_reader};
 ghost use Rattle.mq_router.specs.Kept.{has_client, is_empty};
 ghost use Rattle.mq_router.specs.Applied.{with_one, put_last};
 
@@ -87,14 +85,14 @@ impl Group {
         }
     }
 
-    /// The first member whose client may read the topic.
+    /// The first member whose client is connected and may read the topic.
     pub(crate) fn next(&self, readers: &Readers, name: &TopicName) -> Option<(&str, Options)>
         ensures { option_map (λ m. (m.0.now, m.1)) result
-            ≡ find (λ m. allowed readers.now.access.now m.0 (user_of readers.now.sessions.now m.0) name.now Reading) self.now }
+            ≡ find (λ m. is_reader readers.now.access.now readers.now.sessions.now name.now m.0) self.now }
     {
         for (client, options) in &self.members {
             let client = client.as_str();
-            if readers.may_read(client, name) {
+            if readers.is_reader(client, name) {
                 return Some((client, *options));
             }
         }

@@ -4,13 +4,16 @@
 
 mod answer;
 mod at_filter;
+mod begun;
 mod checks;
 mod clock;
 mod command;
 mod copies;
 mod deadlines;
+mod direct;
 mod gathered;
 mod group;
+mod limits;
 mod options;
 mod own;
 mod readers;
@@ -18,11 +21,15 @@ mod refusal;
 mod replies;
 mod retained;
 mod router;
+mod session;
 mod sessions;
 mod subscriptions;
+mod summary;
 mod turns;
+mod waiting;
 
 pub use answer::{Answer, Delivery, Outcome};
 pub use command::Command;
+pub use limits::Limits;
 pub use refusal::Refusal;
 pub use router::Router;

@@ -1,15 +1,18 @@
-//! Who may read what.
-ghost use Rattle.std.specs.Prelude.{◌≡◌};
+//! Who is connected, who is away with room, and who may read what.
+ghost use Rattle.std.specs.Prelude.{◌≡◌, ◌&&◌};
 ghost use Rattle.mq_acl.specs.Access.{allowed};
 ghost use Rattle.mq_acl.specs.declared.access.Direction.TheVariants.{Reading};
-ghost use Rattle.mq_router.specs.Sessions.{user_of};
+ghost use Rattle.mq_router.specs.Sessions.{user_of, is_reader};
+ghost use Rattle.mq_router.specs.Begun.{room_for};
+ghost use Rattle.mq_router.specs.Ways.{is_sent, waits};
 
 use crate::copies::may_read;
+use crate::session::Way;
 use crate::sessions::Sessions;
 use mq_acl::Acl;
 use mq_topic::TopicName;
 
-/// The clients that are connected, under an access list or none.
+/// The clients with a session, under an access list or none.
 #[derive(Clone, Copy)]
 pub(crate) struct Readers<'a> {
     pub(crate) access: &'a Option<Acl>,
@@ -17,10 +20,29 @@ pub(crate) struct Readers<'a> {
 }
 
 impl Readers<'_> {
-    /// Whether the client may read the topic, by the user name of its session.
-    pub(crate) fn may_read(&self, client: &str, name: &TopicName) -> bool
-        ensures { result ≡ allowed self.now.access.now client.now (user_of self.now.sessions.now client.now) name.now Reading }
+    /// Where a copy of a message of this topic goes for the client, which may read it or gets none. One look-up.
+    pub(crate) fn way(&self, client: &str, name: &TopicName, limit: u32) -> Way
+        ensures sent { is_sent result ≡ is_reader self.now.access.now self.now.sessions.now name.now client.now }
+        ensures waits { waits result ≡ (room_for limit self.now.sessions.now client.now
+            && allowed self.now.access.now client.now (user_of self.now.sessions.now client.now) name.now Reading) }
     {
-        may_read(self.access, client, self.sessions.user(client), name)
+        let Some(session) = self.sessions.get(client) else {
+            return Way::Nowhere;
+        };
+        if may_read(self.access, client, session.user.as_deref(), name) {
+            session.way(limit)
+        } else {
+            Way::Nowhere
+        }
+    }
+
+    /// Whether the client is connected and may read the topic.
+    pub(crate) fn is_reader(&self, client: &str, name: &TopicName) -> bool
+        ensures { result ≡ is_reader self.now.access.now self.now.sessions.now name.now client.now }
+    {
+        let Some(session) = self.sessions.get(client) else {
+            return false;
+        };
+        session.is_present() && may_read(self.access, client, session.user.as_deref(), name)
     }
 }

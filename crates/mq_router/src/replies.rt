@@ -1,5 +1,5 @@
 //! Answers of commands.
-ghost use Rattle.std.specs.Prelude.{◌≡◌, map, if◌then◌else◌};
+ghost use Rattle.std.specs.Prelude.{◌≡◌, ◌&&◌, not, map, if◌then◌else◌};
 ghost use Rattle.mq_router.specs.Answers.{reason, published};
 ghost use Rattle.mq_router.specs.Views.{reply_of, copy_of};
 
@@ -22,10 +22,20 @@ pub(crate) fn reason_to_leave(existed: bool) -> u8
     if existed { 0 } else { 17 }
 }
 
-pub(crate) fn published(copies: Vec<Delivery>) -> Answer
-    ensures { reply_of result ≡ published (map copy_of copies.items) }
+// The reason of a publish, by whether a copy is sent and whether one begins to wait.
+fn reason_to_publish(sent: bool, waits: bool) -> u8
+    ensures { result ≡ (if not sent && not waits then 16 else 0) }
 {
-    let code = if copies.is_empty() { 16 } else { 0 };
+    if sent {
+        return 0;
+    }
+    if waits { 0 } else { 16 }
+}
+
+pub(crate) fn published(copies: Vec<Delivery>, waits: bool) -> Answer
+    ensures { reply_of result ≡ published (map copy_of copies.items) waits }
+{
+    let code = reason_to_publish(!copies.is_empty(), waits);
     Answer {
         copies,
         outcome: Outcome::Reason(code),

@@ -3,11 +3,12 @@ ghost use Rattle.std.specs.Prelude.{◌≡◌, ◌+◌, [], length, OnOk, OnErr,
 ghost use Rattle.std.specs.List.{filter};
 ghost use Rattle.mq_tree.specs.Entries.{capped};
 ghost use Rattle.mq_tree.specs.Prefixes.{prefixes};
-ghost use Rattle.mq_router.specs.Retained.{retained_after, unexpired};
+ghost use Rattle.mq_router.specs.Retained.{retained_after, unexpired, is_full};
 ghost use Rattle.mq_router.specs.Deadlines.{is_due};
 ghost use Rattle.mq_router.specs.Stored.{AreFiled, AreNear};
 
 mod edits;
+mod messages;
 mod sending;
 mod stored;
 
@@ -15,20 +16,20 @@ use crate::answer::Delivery;
 use crate::clock::Clock;
 use crate::copies::Message;
 use crate::deadlines::Deadlines;
-use edits::{expire, forget, is_stored, store};
-use mq_tree::{LevelTree, Steps};
+use edits::{expire, forget, has_message, is_stored, store};
+use messages::Messages;
+use mq_tree::Steps;
 use sending::copies_of;
 pub(crate) use sending::{Receiver, asks_for_retained};
 use std::alloc::{AllocError, Global};
 use std::marker::Model;
-use stored::Stored;
 
 /// One message for a topic, each with a deadline or none. It is seen as the list of the messages by topic in level order,
 /// with the keys of the tree and the pairs of the index.
 #[derive(Drop)]
 pub(crate) struct Retained {
     alloc: Global,
-    tree: LevelTree<Stored>,
+    tree: Messages,
     deadlines: Deadlines,
 }
 
@@ -54,7 +55,7 @@ impl Retained {
     {
         Retained {
             alloc,
-            tree: LevelTree::new(alloc),
+            tree: Messages::new(alloc),
             deadlines: Deadlines::new(alloc),
         }
     }
@@ -97,6 +98,19 @@ impl Retained {
         ensures count { steps.new ≡ steps.old + length (filter (is_due moment) self.old.messages) }
     {
         expire(&mut self.tree, &mut self.deadlines, moment, steps);
+    }
+
+    /// Whether the message would be stored for another topic, where as many are stored as may be. It takes no memory.
+    pub(crate) fn is_full(&self, limit: Option<u32>, message: &Message) -> bool
+        ensures { result ≡ is_full limit self.now.messages (message_of message.now) }
+    {
+        let Some(most) = limit else {
+            return false;
+        };
+        if !is_stored(message) || has_message(&self.tree, message.topic) {
+            return false;
+        }
+        self.len() >= most as u64
     }
 
     /// The copies that a client is sent, by topic in level order.

@@ -1,15 +1,16 @@
-ghost use Rattle.std.specs.Prelude.{◌≡◌, ◌≢◌, ◌+◌, [], IsTrue, Some, IfOk, OnOk, OnErr, IfErr};
+ghost use Rattle.std.specs.Prelude.{◌≡◌, ◌≢◌, ◌+◌, [], IsTrue, IfOk, OnOk, OnErr, IfErr, map};
 ghost use Rattle.std.specs.Option.{option_copied};
 ghost use Rattle.mq_router.specs.Refusals.{is_valid, takes_no_memory, client_conditions, first_refusal};
-ghost use Rattle.mq_router.specs.World.{fresh_world, empty_world};
 ghost use Rattle.mq_router.specs.World as world;
-ghost use Rattle.mq_router.specs.StandsFor.{StandsFor, AnswersFor, CountsFor};
-ghost use Rattle.mq_router.specs.Applied.{Applied, CountsSteps, refused_by, copies_sent, steps_sent, counts_held};
+ghost use Rattle.mq_router.specs.StandsFor.{AnswersFor, CountsFor};
+ghost use Rattle.mq_router.specs.Applied.{Applied, CountsSteps, refused_by, copies_sent, steps_sent, steps_to, counts_held, copies_held, begun_held, members_held};
 ghost use Rattle.mq_router.specs.Views.{request_of, reply_of};
 ghost use Rattle.mq_router.specs.Kept.{options_of};
 ghost use Rattle.mq_router.specs.Asked.{wanted_row};
-ghost use Rattle.mq_router.specs.Gathers.{copies_in};
-ghost use Rattle.mq_router.specs.Held.{published_message};
+ghost use Rattle.mq_router.specs.Gathers.{copies_in, turns_in};
+ghost use Rattle.mq_router.specs.Held.{published_message, message_of, begin_of};
+
+mod fresh;
 
 use crate::answer::{Answer, Delivery, Outcome};
 use crate::checks::{
@@ -17,7 +18,8 @@ use crate::checks::{
 };
 use crate::clock::Clock;
 use crate::command::Command;
-use crate::copies::{Message, make_copies, may_write};
+use crate::copies::{Made, Message, make_copies, may_write};
+use crate::limits::Limits;
 use crate::options::Options;
 use crate::readers::Readers;
 use crate::refusal::Refusal;
@@ -26,17 +28,19 @@ use crate::retained::{Receiver, Retained, asks_for_retained};
 use crate::sessions::Sessions;
 use crate::subscriptions::Subscriptions;
 use crate::turns::serve_all;
+use crate::waiting::Queueing;
 use mq_acl::Acl;
 use mq_topic::SubFilter;
 use mq_tree::Steps;
 use std::alloc::{AllocError, Global};
 use std::marker::Model;
 
-/// A clock, sessions, subscriptions, retained messages and an access list, or none. It keeps the allocator that it was made
-/// with.
+/// A clock, sessions, subscriptions, retained messages and an access list, or none, within limits. It keeps the allocator
+/// that it was made with.
 #[derive(Drop)]
 pub struct Router {
     alloc: Global,
+    limits: Limits,
     clock: Clock,
     access: Option<Acl>,
     sessions: Sessions,
@@ -59,41 +63,14 @@ impl Model for Router {
 
     ghost use Rattle.mq_router.specs.Held.{state_of};
     ghost use Rattle.mq_router.specs.Stored.{AreNear};
+    ghost use Rattle.mq_router.specs.Near.{AllReached};
 
     ghost view = { state_of };
 
-    ghost invariant = { λ a. AreNear a.clock.moment a.retained.messages };
+    ghost invariant = { λ a. AreNear a.clock.moment a.retained.messages × AllReached a.clock.moment a.sessions };
 }
 
 impl Router {
-    /// A router without sessions and without an access list: everything is allowed. It takes no memory.
-    pub fn new(alloc: Global) -> Router
-        ensures { StandsFor result empty_world }
-    {
-        Router {
-            alloc,
-            clock: Clock::start(),
-            access: None,
-            sessions: Sessions::new(alloc),
-            subscriptions: Subscriptions::new(alloc),
-            retained: Retained::new(alloc),
-        }
-    }
-
-    /// A router without sessions, with an access list. It takes no memory.
-    pub fn with_acl(alloc: Global, acl: Acl) -> Router
-        ensures { StandsFor result (fresh_world (Some acl)) }
-    {
-        Router {
-            alloc,
-            clock: Clock::start(),
-            access: Some(acl),
-            sessions: Sessions::new(alloc),
-            subscriptions: Subscriptions::new(alloc),
-            retained: Retained::new(alloc),
-        }
-    }
-
     /// Answers a command as each world does that the router stands for, or refuses it. A refusal leaves the router as
     /// it is, want of memory too.
     pub fn apply(&mut self, command: &Command) -> Result<Answer, Refusal>
@@ -117,7 +94,12 @@ impl Router {
         ensures no_memory { IsTrue (takes_no_memory (request_of command.now)) → IfErr result (λ refusal. refusal ≢ Refusal.Memory) }
     {
         match command {
-            Command::Connect { client, user } => self.connect(client.as_str(), user.as_deref()),
+            Command::Connect {
+                client,
+                user,
+                clean,
+                session_expiry,
+            } => self.connect(client.as_str(), user.as_deref(), *clean, *session_expiry),
             Command::Disconnect { client } => self.disconnect(client.as_str()),
             Command::Subscribe {
                 client,
@@ -174,14 +156,21 @@ impl Router {
         if !is_client_id(client) {
             return Err(Refusal::ClientId);
         }
-        if !self.sessions.contains(client) {
+        if !self.sessions.is_connected(client) {
             return Err(Refusal::NotConnected);
         }
         Ok(())
     }
 
-    fn connect(&mut self, client: &str, user: Option<&str>) -> Result<Answer, Refusal>
-        ensures applied { Applied self.old (world.Connect client.now (option_copied user.entry)) result self.new }
+    // What the answer needs comes first: the new session takes the place of the older one and of the copies that wait there.
+    fn connect(
+        &mut self,
+        client: &str,
+        user: Option<&str>,
+        clean: bool,
+        session_expiry: u32,
+    ) -> Result<Answer, Refusal>
+        ensures applied { Applied self.old (world.Connect client.now (option_copied user.entry) clean session_expiry) result self.new }
         ensures err { OnErr result (self.new ≡ self.old) }
     {
         if !is_client_id(client) {
@@ -192,9 +181,20 @@ impl Router {
         }
         let id = String::from_str(self.alloc, client)?;
         let user = copied(self.alloc, user)?;
-        self.sessions.put(id, user)?;
+        let resumes = self.sessions.resumes(client, clean);
+        let copies = self
+            .sessions
+            .resumed_copies(self.alloc, self.clock, client, clean)?;
+        self.sessions.put(self.alloc, id, user, session_expiry)?;
+        let answer = Answer {
+            copies,
+            outcome: Outcome::Reason(0),
+        };
+        if resumes {
+            return Ok(answer);
+        }
         self.subscriptions.remove_client(client);
-        Ok(with_reason(self.alloc, 0))
+        Ok(answer)
     }
 
     fn disconnect(&mut self, client: &str) -> Result<Answer, Refusal>
@@ -203,6 +203,10 @@ impl Router {
         ensures no_memory { IfErr result (λ refusal. refusal ≢ Refusal.Memory) }
     {
         self.check_client(client)?;
+        if self.sessions.outlives(client) {
+            self.sessions.leave(client, self.clock);
+            return Ok(with_reason(self.alloc, 0));
+        }
         self.sessions.remove(client);
         self.subscriptions.remove_client(client);
         Ok(with_reason(self.alloc, 0))
@@ -269,8 +273,8 @@ impl Router {
         Ok(with_reason(self.alloc, reason_to_leave(existed)))
     }
 
-    // All copies are made before anything changes; then the message is stored, or nothing changes; the turns, which cannot
-    // fail, come last.
+    // All copies are made before anything changes; then the message is stored, or nothing changes; the turns and the copies
+    // that begin to wait, which cannot fail, come last.
     fn publish(
         &mut self,
         client: &str,
@@ -297,14 +301,47 @@ impl Router {
             retain: properties.retain,
             expiry: properties.expiry,
         };
+        if self.retained.is_full(self.limits.retained, &message) {
+            return Err(Refusal::RetainedFull);
+        }
+        let deadline = self.clock.deadline(properties.expiry);
+        let made = self.make_copies(&message, deadline, steps)?;
+        self.retained.publish(self.clock, &message)?;
+        serve_all(&mut self.subscriptions, made.served.as_slice());
+        let waits = !made.begun.is_empty();
+        self.sessions.join_all(self.limits.queued, made.begun);
+        Ok(published(made.copies, waits))
+    }
+
+    // The copies that a publish sends, and those that begin to wait, until the deadline or for ever.
+    fn make_copies(
+        &self,
+        message: &Message,
+        deadline: Option<u64>,
+        steps: &mut Steps,
+    ) -> Result<Made, AllocError>
+        ensures copies { IfOk result (λ m. copies_in m.copies ≡ copies_held self.now (message_of message.now)) }
+        ensures begun { IfOk result (λ m. map begin_of m.begun ≡ begun_held self.now (message_of message.now) deadline) }
+        ensures served { IfOk result (λ m. turns_in m.served ≡ members_held self.now (message_of message.now)) }
+        ensures count { OnOk result (steps.new ≡ steps.old + steps_to self.now (world.Publish (message_of message.now))) }
+    {
         let readers = Readers {
             access: &self.access,
             sessions: &self.sessions,
         };
-        let made = make_copies(self.alloc, &readers, &self.subscriptions, &message, steps)?;
-        self.retained.publish(self.clock, &message)?;
-        serve_all(&mut self.subscriptions, made.served.as_slice());
-        Ok(published(made.copies))
+        let queueing = Queueing {
+            limit: self.limits.queued,
+            deadline,
+        };
+        let made = make_copies(
+            self.alloc,
+            &readers,
+            &self.subscriptions,
+            message,
+            queueing,
+            steps,
+        )?;
+        Ok(made)
     }
 
     fn set_acl(&mut self, text: Option<&str>) -> Result<Answer, Refusal>
@@ -326,6 +363,9 @@ impl Router {
             return Err(Refusal::ClockTooFar);
         };
         self.clock = clock;
+        self.sessions
+            .remove_subscriptions(&mut self.subscriptions, clock.moment);
+        self.sessions.end(clock.moment);
         self.retained.advance(clock.moment, steps);
         Ok(with_reason(self.alloc, 0))
     }

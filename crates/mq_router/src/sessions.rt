@@ -1,20 +1,39 @@
-//! The clients that are connected.
-ghost use Rattle.std.specs.Prelude.{◌≡◌, [], not, OnOk, OnErr, length, map, string_bytes};
+//! The sessions of the clients, of those that are connected and of those that are away.
+ghost use Rattle.std.specs.Prelude.{◌≡◌, [], length, not, OnOk, OnErr, IfOk, map, string_bytes};
 ghost use Rattle.std.specs.Option.{option_copied, option_map};
 ghost use Rattle.std.specs.List.{filter};
 ghost use Rattle.std.specs.List.Sorted.{IsStrictlySortedBy};
 ghost use Rattle.mq_router.specs.Lists.{with_row};
 ghost use Rattle.mq_router.specs.World.{has_id, session_cmp};
-ghost use Rattle.mq_router.specs.Sessions.{is_connected, user_of, new_session};
+ghost use Rattle.mq_router.specs.Sessions.{new_session, session_of, is_connected, user_of, outlives, resumes, left_by, has_ended};
+ghost use Rattle.mq_router.specs.Waiting.{resumed_copies};
+ghost use Rattle.mq_router.specs.Begun.{queued_one, queued_all};
+ghost use Rattle.mq_router.specs.Near.{AllReached};
+ghost use Rattle.mq_router.specs.Kept.{AreKeys};
+ghost use Rattle.mq_router.specs.Applied.{lasts};
+ghost use Rattle.mq_router.specs.Views.{copy_of};
 
+mod edits;
+mod first_end;
+mod found;
+
+use crate::answer::Delivery;
+use crate::begun::Begun;
+use crate::clock::Clock;
+use crate::session::Session;
+use crate::subscriptions::Subscriptions;
+use edits::{end, join, leave, remove_ended};
+use first_end::{earlier, first_end, is_over};
+use found::{find, is_connected, learn_order, outlives, user_in, waited_copies};
 use std::alloc::{AllocError, Global};
-use std::collections::BTreeMap;
+use std::collections::{BTreeMap, LinkedList};
 use std::marker::Model;
 
-/// The clients that are connected, by id, each with its user name or none.
+/// The sessions, by client id, and a moment before which none of them ends, if any ends.
 #[derive(Debug, Drop)]
 pub(crate) struct Sessions {
-    users: BTreeMap<String, Option<String>>,
+    by_id: BTreeMap<String, Session>,
+    first_end: Option<u64>,
 }
 
 impl Model for Sessions {
@@ -24,62 +43,157 @@ impl Model for Sessions {
     ghost Value = { List Session };
 
     ghost use Rattle.mq_router.specs.Held.{sessions_of};
+    ghost use Rattle.mq_router.specs.Ends.{AllEndFrom};
 
     ghost view = { sessions_of };
+
+    ghost invariant = { λ a. AllEndFrom a.first_end (sessions_of a) };
 }
 
 impl Sessions {
+    ghost use Rattle.mq_router.specs.Held.{begin_of, session_at};
+
     pub(crate) fn new(alloc: Global) -> Self
         ensures { result ≡ [] }
     {
         Sessions {
-            users: BTreeMap::new(alloc),
+            by_id: BTreeMap::new(alloc),
+            first_end: None,
         }
     }
 
-    /// How many clients are connected.
+    /// How many clients have a session.
     pub(crate) fn len(&self) -> usize
         ensures len { result ≡ length self.now }
         ensures ordered { IsStrictlySortedBy session_cmp self.now }
     {
-        self.users.len()
+        learn_order(&self.by_id);
+        self.by_id.len()
     }
 
-    pub(crate) fn contains(&self, id: &str) -> bool
+    pub(crate) fn is_connected(&self, id: &str) -> bool
         ensures { result ≡ is_connected self.now id.now }
     {
-        self.users.contains_key(id)
+        is_connected(&self.by_id, id)
     }
 
-    /// The user name of a connected client, if it has one.
+    /// The user name of a client with a session, if it has one.
     pub(crate) fn user(&self, id: &str) -> Option<&str>
         ensures { option_copied result ≡ user_of self.now id.now }
     {
-        user_in(&self.users, id)
+        user_in(&self.by_id, id)
     }
 
-    /// Adds a session, in place of an older one of the client.
-    pub(crate) fn put(&mut self, id: String, user: Option<String>) -> Result<(), AllocError>
-        ensures ok { OnOk result (self.new ≡ with_row session_cmp (new_session (string_bytes id) (option_map string_bytes user)) self.old) }
+    /// Whether the client has a session that stays when its connection ends.
+    pub(crate) fn outlives(&self, id: &str) -> bool
+        ensures { result ≡ outlives self.now id.now }
+    {
+        outlives(&self.by_id, id)
+    }
+
+    /// The session of a client, if it has one.
+    pub(crate) fn get(&self, id: &str) -> Option<&Session>
+        ensures { option_map (λ session. session_at id.now session.now) result ≡ session_of self.now id.now }
+    {
+        find(&self.by_id, id)
+    }
+
+    /// Whether a client that connects resumes its session.
+    pub(crate) fn resumes(&self, id: &str, clean: bool) -> bool
+        ensures { result ≡ resumes self.now id.now clean }
+    {
+        !clean && self.outlives(id)
+    }
+
+    /// The copies that waited for a client that connects, if it resumes its session.
+    #[tactic(auto, unfolding(crate::specs::Waiting::resumed_copies))]
+    pub(crate) fn resumed_copies(
+        &self,
+        alloc: Global,
+        clock: Clock,
+        id: &str,
+        clean: bool,
+    ) -> Result<Vec<Delivery>, AllocError>
+        requires { AllReached clock.moment self.now }
+        ensures { IfOk result (λ copies. map copy_of copies.items ≡ resumed_copies clock.moment self.now id.now clean) }
+    {
+        if !self.resumes(id, clean) {
+            return Ok(Vec::new(alloc));
+        }
+        waited_copies(alloc, clock, &self.by_id, id)
+    }
+
+    /// Adds the session of a client that connects, in place of an older one.
+    pub(crate) fn put(
+        &mut self,
+        alloc: Global,
+        id: String,
+        user: Option<String>,
+        interval: u32,
+    ) -> Result<(), AllocError>
+        ensures ok { OnOk result (self.new
+            ≡ with_row session_cmp (new_session (string_bytes id) (option_map string_bytes user) interval) self.old) }
         ensures err { OnErr result (self.new ≡ self.old) }
     {
-        self.users.insert(id, user)?;
+        let session = Session::new(alloc, user, interval);
+        self.by_id.insert(id, session)?;
         Ok(())
+    }
+
+    /// The connection of a client ends, and its session stays. It takes no memory.
+    pub(crate) fn leave(&mut self, id: &str, clock: Clock)
+        ensures { self.new ≡ map (left_by clock.moment id.now) self.old }
+    {
+        let end = leave(&mut self.by_id, id, clock);
+        self.first_end = earlier(self.first_end, end);
     }
 
     pub(crate) fn remove(&mut self, id: &str)
         ensures { self.new ≡ filter (λ session. not (has_id id.now session)) self.old }
     {
         // Learns that the keys are in order.
-        let _count = self.users.len();
-        let _ = self.users.remove(id);
+        let _count = self.by_id.len();
+        let _ = self.by_id.remove(id);
     }
-}
 
-ghost use Rattle.mq_router.specs.Held.{session_of};
+    /// Ends the sessions that are due; where none is, it looks at none. It takes no memory.
+    pub(crate) fn end(&mut self, moment: u64)
+        ensures { self.new ≡ filter (λ session. not (has_ended moment session)) self.old }
+    {
+        if !is_over(moment, self.first_end) {
+            return;
+        }
+        end(&mut self.by_id, moment);
+        self.first_end = first_end(&self.by_id);
+    }
 
-fn user_in<'a>(users: &'a BTreeMap<String, Option<String>>, id: &str) -> Option<&'a str>
-    ensures { option_copied result ≡ user_of (map session_of users.now.entries) id.now }
-{
-    users.get(id)?.as_deref()
+    // One more copy waits for a client.
+    fn join(&mut self, limit: u32, begun: Begun)
+        ensures { self.new ≡ queued_one limit (begin_of begun) self.old }
+    {
+        join(&mut self.by_id, limit, begun);
+    }
+
+    /// The copies begin to wait, each where fewer wait than may. It takes no memory.
+    pub(crate) fn join_all(&mut self, limit: u32, all: LinkedList<Begun>)
+        ensures new { self.new ≡ queued_all limit (map begin_of all) self.old }
+        ensures ordered { IsStrictlySortedBy session_cmp self.old }
+    {
+        learn_order(&self.by_id);
+        for begun in all {
+            self.join(limit, begun);
+        }
+    }
+
+    /// Takes out the subscriptions of the sessions that have ended at this moment; where none has, it looks at none. It takes
+    /// no memory.
+    pub(crate) fn remove_subscriptions(&self, subscriptions: &mut Subscriptions, moment: u64)
+        ensures rows { subscriptions.new.rows ≡ filter (lasts moment self.now) subscriptions.old.rows }
+        ensures keys { AreKeys subscriptions.old → AreKeys subscriptions.new }
+    {
+        if !is_over(moment, self.first_end) {
+            return;
+        }
+        remove_ended(&self.by_id, subscriptions, moment);
+    }
 }

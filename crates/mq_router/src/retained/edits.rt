@@ -1,7 +1,7 @@
 //! Edits of the tree and of the index of deadlines together. Where a call fails, both hold what they held.
 ghost use Rattle.std.specs.Prelude.{◌≡◌, ◌+◌, length, not, OnOk, OnErr, IfOk, nat_eq, None, if◌then◌else◌};
 ghost use Rattle.std.specs.Option.{option_map, option_eq};
-ghost use Rattle.std.specs.List.{filter};
+ghost use Rattle.std.specs.List.{filter, list_any};
 ghost use Rattle.mq_router.specs.Lists.{with_row};
 ghost use Rattle.mq_router.specs.World.{retained_cmp};
 ghost use Rattle.mq_router.specs.Retained.{is_stored, has_topic, unexpired};
@@ -12,9 +12,10 @@ ghost use Rattle.mq_router.specs.Stored.{retained_in, stored_until, IsPlaced, Is
 
 use crate::copies::Message;
 use crate::deadlines::{Deadlines, Due};
+use crate::retained::messages::Messages;
 use crate::retained::stored::Stored;
 use mq_topic::TopicName;
-use mq_tree::{LevelTree, Steps};
+use mq_tree::Steps;
 use std::alloc::{AllocError, Global};
 
 /// Whether a message that is published is stored.
@@ -26,7 +27,15 @@ pub(crate) fn is_stored(message: &Message) -> bool
         && !message.expiry.is_some_and(|seconds| seconds == 0)
 }
 
-fn deadline_at(tree: &LevelTree<Stored>, topic: &TopicName) -> Option<u64>
+/// Whether a message is stored for the topic.
+pub(crate) fn has_message(tree: &Messages, topic: &TopicName) -> bool
+    requires { IsPlaced tree.now }
+    ensures { result ≡ list_any (has_topic topic.now) (retained_in tree.now) }
+{
+    tree.get(topic).is_some()
+}
+
+fn deadline_at(tree: &Messages, topic: &TopicName) -> Option<u64>
     requires { IsPlaced tree.now }
     ensures { result ≡ deadline_at topic.now (retained_in tree.now) }
 {
@@ -52,7 +61,7 @@ fn replaced(
 /// that is refused the topic had none, and the new deadline is removed again.
 pub(crate) fn store(
     alloc: Global,
-    tree: &mut LevelTree<Stored>,
+    tree: &mut Messages,
     deadlines: &mut Deadlines,
     message: &Message,
     deadline: Option<u64>,
@@ -82,7 +91,7 @@ pub(crate) fn store(
 /// Removes the message of a topic, if there is one.
 pub(crate) fn forget(
     alloc: Global,
-    tree: &mut LevelTree<Stored>,
+    tree: &mut Messages,
     deadlines: &mut Deadlines,
     topic: &TopicName,
 ) -> Result<(), AllocError>
@@ -99,12 +108,7 @@ pub(crate) fn forget(
 }
 
 /// Removes the messages that are due, each at one step.
-pub(crate) fn expire(
-    tree: &mut LevelTree<Stored>,
-    deadlines: &mut Deadlines,
-    moment: u64,
-    steps: &mut Steps,
-)
+pub(crate) fn expire(tree: &mut Messages, deadlines: &mut Deadlines, moment: u64, steps: &mut Steps)
     requires { IsSound tree.old deadlines.old }
     ensures sound { IsSound tree.new deadlines.new }
     ensures rest { retained_in tree.new ≡ unexpired moment (retained_in tree.old) }

@@ -57,18 +57,6 @@ fn may_get(receiver: &Receiver, stored: &Stored) -> bool
         && !(receiver.options.no_local && stored.publisher.as_str() == client)
 }
 
-fn left(clock: Clock, deadline: Option<u64>) -> Option<u32>
-    requires { IfSome deadline (λ d. d < clock.moment + 2 ^ 32) }
-    ensures { result ≡ time_left clock.moment deadline }
-{
-    match deadline {
-        None => None,
-        Some(deadline) => Some(clock.left(deadline)),
-    }
-}
-
-ghost use Rattle.mq_router.specs.Clock.{time_left};
-
 fn identifiers(alloc: Global, id: Option<u32>) -> Result<Vec<u32>, AllocError>
     ensures { IfOk result (λ ids. ids.items ≡ option_to_list id) }
 {
@@ -93,7 +81,7 @@ fn retained_copy(
         payload: stored.payload.clone()?,
         qos: stored.qos.min(receiver.options.qos),
         retain: true,
-        expiry: left(receiver.clock, stored.deadline),
+        expiry: receiver.clock.time_left(stored.deadline),
         ids: identifiers(alloc, receiver.options.id)?,
         group: None,
     })

@@ -1,13 +1,16 @@
 use Rattle.std.proofs.Common.{◌∙◌, ◌++◌, sym, ap, map, List}
 use Rattle.std.proofs.lemmas.Simd.{map-map}
 use Rattle.mq_router.specs.World.{Subscription}
+use Rattle.mq_router.specs.Sessions.{connected}
 use Rattle.mq_router.specs.Applied.{next_members, member_copy}
 use Rattle.mq_router.specs.Copies.{direct_copies}
 use Rattle.mq_router.specs.Made.{rows_found, gives_options}
-use Rattle.mq_router.specs.Gathered.{lists_in}
+use Rattle.mq_router.specs.KeptViews.{texts}
+use Rattle.mq_router.specs.Summaries.{summary_for}
 use Rattle.mq_router.specs.Held.{message_of, turn_of}
-use Rattle.mq_router.proofs.Texts.{ordered-lists}
-use Rattle.mq_router.proofs.OwnCopies.{own-copies, options-matching}
+use Rattle.mq_router.proofs.Texts.{ordered-texts}
+use Rattle.mq_router.proofs.SummaryLemmas.{none-more}
+use Rattle.mq_router.proofs.OwnCopies.{own-copies, own-begun, options-matching}
 use Rattle.mq_router.proofs.GroupLemmas.{members-matching}
 use Rattle.mq_router.proofs.copies.make_copies.Goals as goal
 
@@ -20,6 +23,18 @@ returns-clause-served c =
     ∙ ap members c.in_ok-found.ensures.rows
     ∙ members-matching c.args.readers.now.access.now c.args.readers.now.sessions.now c.args.subscriptions.now.rows m
 
+pub returns-clause-begun : goal.returns-clause-begun
+returns-clause-begun c =
+    let m = message_of c.args.message.now in
+    let A = c.args.readers.now.access.now in
+    let S = c.args.readers.now.sessions.now in
+    let subs = c.args.subscriptions.now.rows in
+    c.in_ok-copies.ensures.begun
+    ∙ own-begun c.args.queueing.limit A S subs m c.args.queueing.deadline (texts c.in_ok-gathered.gathered.entries) c.len-sessions.ensures.ordered (ordered-texts c.in_ok-gathered.gathered.entries c.len-clients.ensures.ordered)
+    (λ id. c.in_ok-gathered.ensures id ∙ none-more (summary_for (gives_options m id (rows_found (map (λ a. a.now) c.as_slice.result.now))))
+    ∙ ap summary_for (ap (λ l. gives_options m id (rows_found (map (λ a. a.now) l))) c.as_slice.ensures.value
+    ∙ ap (gives_options m id) c.in_ok-found.ensures.rows ∙ options-matching m id subs))
+
 pub returns-clause-copies : goal.returns-clause-copies
 returns-clause-copies c =
     let m = message_of c.args.message.now in
@@ -27,14 +42,14 @@ returns-clause-copies c =
     let S = c.args.readers.now.sessions.now in
     let subs = c.args.subscriptions.now.rows in
     let members : List Subscription → List Subscription = λ xs. next_members A S xs m in
-    let own = own-copies A S subs m (lists_in c.in_ok-gathered.gathered.entries) c.len-connected.ensures.ordered (ordered-lists c.in_ok-gathered.gathered.entries c.len-clients.ensures.ordered) c.in_ok-gathered.ensures.live
-    (λ id. c.in_ok-gathered.ensures.listed id
-    ∙ ap (λ l. gives_options m id (rows_found (map (λ a. a.now) l))) c.as_slice.ensures.value
-    ∙ ap (gives_options m id) c.in_ok-found.ensures.rows ∙ options-matching m id subs) in
+    let own = own-copies A S subs m (texts c.in_ok-gathered.gathered.entries) c.len-sessions.ensures.ordered (ordered-texts c.in_ok-gathered.gathered.entries c.len-clients.ensures.ordered)
+    (λ id. c.in_ok-gathered.ensures id ∙ none-more (summary_for (gives_options m id (rows_found (map (λ a. a.now) c.as_slice.result.now))))
+    ∙ ap summary_for (ap (λ l. gives_options m id (rows_found (map (λ a. a.now) l))) c.as_slice.ensures.value
+    ∙ ap (gives_options m id) c.in_ok-found.ensures.rows ∙ options-matching m id subs)) in
     c.in_ok-add_group_copies.ensures
-    ∙ ap (λ l. l ++ map (λ t. member_copy m (turn_of t)) c.as_slice-3.result.now) (c.in_ok-copies.ensures ∙ own)
-    ∙ ap (λ l. direct_copies A S subs m ++ map (λ t. member_copy m (turn_of t)) l) c.as_slice-3.ensures.value
-    ∙ ap (λ l. direct_copies A S subs m ++ l) (sym (map-map (member_copy m) turn_of c.in_ok-served.served.items)
+    ∙ ap (λ l. l ++ map (λ t. member_copy m (turn_of t)) c.as_slice-3.result.now) (c.in_ok-copies.ensures.copies ∙ own)
+    ∙ ap (λ l. direct_copies A (connected S) subs m ++ map (λ t. member_copy m (turn_of t)) l) c.as_slice-3.ensures.value
+    ∙ ap (λ l. direct_copies A (connected S) subs m ++ l) (sym (map-map (member_copy m) turn_of c.in_ok-served.served.items)
     ∙ ap (map (member_copy m)) (c.in_ok-served.ensures
     ∙ ap (λ l. members (rows_found (map (λ a. a.now) l))) c.as_slice-2.ensures.value
     ∙ ap members c.in_ok-found.ensures.rows

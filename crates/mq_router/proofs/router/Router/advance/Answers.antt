@@ -1,12 +1,15 @@
-use Rattle.std.proofs.Common.{◌≤◌, sym, subst, arith}
+use Rattle.std.proofs.Common.{◌≤◌, not, sym, subst, arith}
 use Rattle.mq_router.specs.World.{Advance}
 use Rattle.mq_router.specs.StandsFor.{State, Refuses}
 use Rattle.mq_router.specs.Applied.{Does, world_of}
 use Rattle.mq_router.specs.Stored.{AreNear}
+use Rattle.mq_router.specs.Near.{AllReached}
+use Rattle.mq_router.specs.Sessions.{has_ended}
 use Rattle.mq_router.specs.Views.{reply_of}
 use Rattle.mq_router.specs.Held.{state_of}
 use Rattle.mq_router.proofs.RouterLemmas.{advance-refused, advance-does}
 use Rattle.mq_router.proofs.NearLemmas.{near-later}
+use Rattle.mq_router.proofs.ReachedLemmas.{reached-later}
 use Rattle.mq_router.specs.declared.refusal.Refusal.TheVariants.{ClockTooFar}
 use Rattle.mq_router.proofs.router.Router.advance.Goals as goal
 
@@ -17,14 +20,19 @@ returns-in_default-clause-applied c =
 
 pub invariant_of-self : goal.invariant_of-self
 invariant_of-self c =
-    let later : c.self.inside.clock.moment ≤ c.in-Some.clock.moment = omega (arith, c.in-Some.ensures.some) in
-    subst (λ retained. AreNear c.in-Some.clock.moment retained) (sym c.advance.ensures.rest)
-    (near-later c.self.inside.clock.moment c.in-Some.clock.moment _ c.self.inside.retained.messages later c.self.invariant)
+    let later : c.self.inside.clock.moment ≤ c.in-Some.clock.moment = omega (arith, c.in-Some.ensures.some) in (
+      subst (λ retained. AreNear c.in-Some.clock.moment retained) (sym c.advance.ensures.rest)
+          (near-later c.self.inside.clock.moment c.in-Some.clock.moment _ c.self.inside.retained.messages later c.self.invariant.0),
+      subst (AllReached c.in-Some.clock.moment) (sym c.end.ensures)
+          (reached-later c.self.inside.clock.moment c.in-Some.clock.moment (λ session. not (has_ended c.in-Some.clock.moment session)) c.self.inside.sessions later c.self.invariant.1),
+    )
 
 pub returns-clause-applied : goal.returns-clause-applied
 returns-clause-applied c =
     let s : State = state_of c.self.inside in
     let kept = c.advance.new.self in
-    let new : State = record s { moment = c.in-Some.clock.moment; retained = kept.messages; topic_keys = kept.keys; deadlines = kept.pairs } in
+    let subs = c.remove_subscriptions.new.subscriptions in
+    let new : State = record s { moment = c.in-Some.clock.moment; sessions = c.end.new.self; subscriptions = subs.rows; filter_keys = subs.keys; retained = kept.messages; topic_keys = kept.keys; deadlines = kept.pairs } in
     subst (λ (v : State). Does v (Advance c.args.seconds) (reply_of c.with_reason.result) new) c.self.view_is
-    (advance-does s c.args.seconds c.in-Some.clock.moment kept _ c.in-Some.clock.within c.in-Some.ensures.some c.advance.ensures.rest c.advance.ensures.filed c.with_reason.ensures)
+    (advance-does s c.args.seconds c.in-Some.clock.moment c.end.new.self subs kept _ c.in-Some.clock.within c.in-Some.ensures.some c.end.ensures c.remove_subscriptions.ensures.rows c.remove_subscriptions.ensures.keys
+    c.advance.ensures.rest c.advance.ensures.filed c.with_reason.ensures)

@@ -9,9 +9,11 @@ use Rattle.mq_router.proofs.router.Router.apply_counted.Goals as goal
 
 pub returns-in-Connect : goal.returns-in-Connect
 returns-in-Connect c =
-    let is : Connect c.as_str.result.now (option_copied c.as_deref.result) ≡ request_of c.args.command.now =
-    ap (λ id. Connect id (option_copied c.as_deref.result)) c.as_str.ensures.value
-    ∙ ap (λ user. Connect (string_bytes c.in-Connect.client) user) c.as_deref.ensures.value
+    let clean = c.in-Connect.clean in
+    let interval = c.in-Connect.session_expiry in
+    let is : Connect c.as_str.result.now (option_copied c.as_deref.result) clean interval ≡ request_of c.args.command.now =
+    ap (λ id. Connect id (option_copied c.as_deref.result) clean interval) c.as_str.ensures.value
+    ∙ ap (λ user. Connect (string_bytes c.in-Connect.client) user clean interval) c.as_deref.ensures.value
     ∙ ap request_of (sym c.in-Connect.is) in
     record {
       answered = applied_answers _ _ _ _ _ is c.connect.ensures.applied;

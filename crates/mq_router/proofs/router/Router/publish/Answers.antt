@@ -1,20 +1,28 @@
-use Rattle.std.proofs.Common.{◌≡◌, ◌∙◌, sym, ap, subst, map, Err, None, List}
-use Rattle.mq_router.specs.Held.{turn_of, state_of, published_message}
+use Rattle.std.proofs.Common.{◌≡◌, ◌∙◌, ◌==◌, ◌<◌, ◌+◌, ◌^◌, ℕ, sym, ap, subst, map, not, length, Err, Option, None, List}
+use Rattle.mq_router.specs.Held.{turn_of, begin_of, state_of, published_message}
 use Rattle.mq_router.specs.Lists.{Text}
 use Rattle.mq_router.specs.World.{Publish, Message, Subscription}
 use Rattle.mq_router.specs.Refusals.{first_refusal, client_conditions}
 use Rattle.mq_router.specs.Sessions.{user_of}
-use Rattle.mq_router.specs.Retained.{retained_after}
+use Rattle.mq_router.specs.Retained.{retained_after, is_full}
+use Rattle.mq_router.specs.Clock.{deadline_of}
+use Rattle.mq_router.specs.Waiting.{waiting_after, begins_to_wait}
+use Rattle.mq_router.specs.Begun.{Begin, begun_by, queued_all}
+use Rattle.mq_router.specs.Near.{AllReached}
+use Rattle.std.specs.Option.{IfSome}
 use Rattle.mq_router.specs.Answers.{published}
 use Rattle.mq_router.specs.StandsFor.{State, Refuses}
-use Rattle.mq_router.specs.Applied.{Does, world_of, copies_made, next_members, all_turned}
+use Rattle.mq_router.specs.Applied.{Does, world_of, copies_held, begun_held, members_held, all_turned}
 use Rattle.mq_router.specs.Views.{reply_of}
 use Rattle.mq_router.proofs.InTurn.{same-is, same-then}
-use Rattle.mq_router.proofs.RouterLemmas.{refused-applied, publish-client, publish-name, publish-write, publish-does}
+use Rattle.mq_router.proofs.RouterLemmas.{refused-applied, publish-client, publish-name, publish-write, publish-full, publish-does}
+use Rattle.mq_router.proofs.BegunLemmas.{queued-is, waits-is}
+use Rattle.mq_router.proofs.ReachedLemmas.{reached-after}
+use Rattle.std.proofs.lemmas.List.{length-map}
 use Rattle.std.proofs.lemmas.Result.{err_from_is_err_and}
 use Rattle.mq_acl.specs.Access.{allowed}
 use Rattle.mq_acl.specs.declared.access.Direction.TheVariants.{Writing}
-use Rattle.mq_router.specs.declared.refusal.Refusal.TheVariants.{NotAuthorized}
+use Rattle.mq_router.specs.declared.refusal.Refusal.TheVariants.{NotAuthorized, RetainedFull}
 use Rattle.mq_router.proofs.router.Router.publish.Goals as goal
 
 pub returns-in_err-check_client-clause-applied : goal.returns-in_err-check_client-clause-applied
@@ -41,6 +49,32 @@ returns-then-not-may_write-clause-applied c =
     (ap (λ t. allowed s.access m.publisher (user_of s.sessions m.publisher) t Writing) (sym c.in_ok-name.ensures.ok.0)
     ∙ ap (λ u. allowed s.access m.publisher u c.in_ok-name.name Writing) (sym c.user.ensures) ∙ sym c.may_write.ensures ∙ c.if-not-may_write.true))
 
+pub returns-then-is_full-clause-applied : goal.returns-then-is_full-clause-applied
+returns-then-is_full-clause-applied c =
+    let m : Message = published_message c.args.client.now c.args.topic.now c.args.payload.now c.args.properties in
+    let s : State = state_of c.self.inside in
+    let by : Text → Message = λ t. record m { topic = t } in
+    let name = c.in_ok-name.ensures.ok.0 in
+    let tested : None ≡ first_refusal (client_conditions s.sessions m.publisher) = c.in_ok-check_client.ensures ∙ ap (λ (v : State). first_refusal (client_conditions v.sessions m.publisher)) (sym c.self.view_is) in
+    subst (λ (v : State). Refuses (world_of v) (Publish m) RetainedFull) c.self.view_is
+    (publish-full s m tested c.in_ok-name.ensures.ok.1
+    (ap (λ t. allowed s.access m.publisher (user_of s.sessions m.publisher) t Writing) (sym name)
+    ∙ ap (λ u. allowed s.access m.publisher u c.in_ok-name.name Writing) (sym c.user.ensures) ∙ sym c.may_write.ensures ∙ c.if-not-may_write.false)
+    (ap (λ t. is_full s.limits.retained s.retained (by t)) (sym name) ∙ sym c.is_full.ensures ∙ c.if-is_full.true))
+
+pub invariant_of-self-2 : goal.invariant_of-self-2
+invariant_of-self-2 c =
+    let s : State = state_of c.self.inside in
+    let m : Message = record (published_message c.args.client.now c.args.topic.now c.args.payload.now c.args.properties) { topic = c.in_ok-name.name } in
+    let limit = s.limits.queued in
+    let near : IfSome (deadline_of s.moment m.expiry) (λ d. d < s.moment + 2 ^ 32) = subst (λ deadline. IfSome deadline (λ d. d < s.moment + 2 ^ 32)) c.deadline-deadline.ensures.value c.deadline-deadline.ensures.near in
+    let waiting : c.join_all.new.self ≡ map (waiting_after limit s.access s.subscriptions s.moment m) s.sessions =
+    c.join_all.ensures.new ∙ ap (λ bs. queued_all limit bs s.sessions) (c.in_ok-made.ensures.begun ∙ ap (λ (v : State). begun_held v m c.deadline-deadline.result) (sym c.self.view_is) ∙ ap (begun_held s m) c.deadline-deadline.ensures.value)
+    ∙ queued-is limit s.access s.subscriptions s.moment m s.sessions c.join_all.ensures.ordered in (
+      c.in_ok-publish.ensures.near c.self.invariant.0,
+      subst (AllReached s.moment) (sym waiting) (reached-after limit s.access s.subscriptions s.moment m s.sessions near c.self.invariant.1),
+    )
+
 pub returns-clause-applied : goal.returns-clause-applied
 returns-clause-applied c =
     let m : Message = published_message c.args.client.now c.args.topic.now c.args.payload.now c.args.properties in
@@ -48,16 +82,28 @@ returns-clause-applied c =
     let tested : None ≡ first_refusal (client_conditions s.sessions m.publisher) = c.in_ok-check_client.ensures ∙ ap (λ (v : State). first_refusal (client_conditions v.sessions m.publisher)) (sym c.self.view_is) in
     let subs = c.serve_all.new.subscriptions in
     let kept = c.publish.new.self in
-    let new : State = record s { subscriptions = subs.rows; filter_keys = subs.keys; retained = kept.messages; topic_keys = kept.keys; deadlines = kept.pairs } in
+    let new : State = record s { sessions = c.join_all.new.self; subscriptions = subs.rows; filter_keys = subs.keys; retained = kept.messages; topic_keys = kept.keys; deadlines = kept.pairs } in
+    let limit = s.limits.queued in
     let turned : List Subscription → List Subscription = λ ss. all_turned ss s.subscriptions in
     let by : Text → Message = λ t. record m { topic = t } in
-    let named = c.in_ok-name.ensures.ok.0 in
+    let name = c.in_ok-name.ensures.ok.0 in
+    let deadline : Option ℕ = deadline_of s.moment m.expiry in
+    let begun : map begin_of c.in_ok-made.made.begun ≡ begun_by limit s.access s.sessions s.subscriptions m deadline =
+    c.in_ok-made.ensures.begun ∙ ap (λ (v : State). begun_held v (by c.in_ok-name.name) c.deadline-deadline.result) (sym c.self.view_is) ∙ ap (λ t. begun_held s (by t) c.deadline-deadline.result) name ∙ ap (begun_held s m) c.deadline-deadline.ensures.value in
+    let waits : not c.is_empty-waits.result ≡ begins_to_wait limit s.access s.sessions s.subscriptions m =
+    ap not c.is_empty-waits.ensures ∙ ap (λ n. not (n == 0)) (sym (length-map c.in_ok-made.made.begun begin_of))
+    ∙ ap (λ (bs : List Begin). not (length bs == 0)) begun ∙ waits-is limit s.access s.subscriptions m deadline s.sessions in
+    let waiting : c.join_all.new.self ≡ map (waiting_after limit s.access s.subscriptions s.moment m) s.sessions =
+    c.join_all.ensures.new ∙ ap (λ bs. queued_all limit bs s.sessions) begun
+    ∙ queued-is limit s.access s.subscriptions s.moment m s.sessions c.join_all.ensures.ordered in
     subst (λ (v : State). Does v (Publish m) (reply_of c.published.result) new) c.self.view_is
-    (publish-does s m subs kept _ tested c.in_ok-name.ensures.ok.1
-    (ap (λ t. allowed s.access m.publisher (user_of s.sessions m.publisher) t Writing) (sym named)
+    (publish-does s m c.join_all.new.self subs kept _ tested c.in_ok-name.ensures.ok.1
+    (ap (λ t. allowed s.access m.publisher (user_of s.sessions m.publisher) t Writing) (sym name)
     ∙ ap (λ u. allowed s.access m.publisher u c.in_ok-name.name Writing) (sym c.user.ensures) ∙ sym c.may_write.ensures ∙ c.if-not-may_write.false)
-    (c.published.ensures ∙ ap published (c.in_ok-made.ensures.copies ∙ ap (λ t. copies_made s.access s.sessions s.subscriptions (by t)) named))
-    (same-then _ _ _ c.serve_all.ensures.rows (same-is _ _ (ap (λ l. turned (map turn_of l)) c.as_slice.ensures.value ∙ ap turned (c.in_ok-made.ensures.served ∙ ap (λ t. next_members s.access s.sessions s.subscriptions (by t)) named))))
+    (ap (λ t. is_full s.limits.retained s.retained (by t)) (sym name) ∙ sym c.is_full.ensures ∙ c.if-is_full.false)
+    (c.published.ensures ∙ ap (λ l. published l (not c.is_empty-waits.result)) (c.in_ok-made.ensures.copies ∙ ap (λ (v : State). copies_held v (by c.in_ok-name.name)) (sym c.self.view_is) ∙ ap (λ t. copies_held s (by t)) name) ∙ ap (published (copies_held s m)) waits)
+    waiting
+    (same-then _ _ _ c.serve_all.ensures.rows (same-is _ _ (ap (λ l. turned (map turn_of l)) c.as_slice.ensures.value ∙ ap turned (c.in_ok-made.ensures.served ∙ ap (λ (v : State). members_held v (by c.in_ok-name.name)) (sym c.self.view_is) ∙ ap (λ t. members_held s (by t)) name))))
     c.serve_all.ensures.keys
-    (c.in_ok-publish.ensures.ok ∙ ap (λ t. retained_after s.moment s.retained (by t)) named)
+    (c.in_ok-publish.ensures.ok ∙ ap (λ t. retained_after s.moment s.retained (by t)) name)
     (λ keys pairs. c.in_ok-publish.ensures.filed (record { keys = keys; pairs = pairs })))

@@ -1,7 +1,17 @@
-use Rattle.std.proofs.Common.{◌∙◌, ap, map}
-use Rattle.mq_router.specs.Held.{session_of}
+use Rattle.std.proofs.Common.{◌∙◌, ap, sym, subst, map, not}
+use Rattle.mq_router.specs.World.{has_id}
+use Rattle.mq_router.specs.Ends.{EndsFrom, AllEndFrom}
+use Rattle.mq_router.proofs.OrderLemmas.{all_filtered}
+use Rattle.mq_router.specs.Held.{session_in}
 use Rattle.mq_router.proofs.SessionLemmas.{removed-is}
 use Rattle.mq_router.proofs.sessions.Sessions.remove.Goals as goal
 
 pub returns : goal.returns
-returns c = rw (← c.self.view_is) (ap (map session_of) c.remove.ensures.entries ∙ removed-is c.args.id.now c.self.inside.users.entries c.len-count.ensures.ordered)
+returns c = rw (← c.self.view_is) (ap (map session_in) c.remove.ensures.entries ∙ removed-is c.args.id.now c.self.inside.by_id.entries c.len-count.ensures.ordered)
+
+pub invariant_of-self : goal.invariant_of-self
+invariant_of-self c =
+    let first = c.self.inside.first_end in
+    let es = c.self.inside.by_id.entries in
+    subst (AllEndFrom first) (sym (ap (map session_in) c.remove.ensures.entries ∙ removed-is c.args.id.now es c.len-count.ensures.ordered))
+    (all_filtered (EndsFrom first) (λ session. not (has_id c.args.id.now session)) (map session_in es) c.self.invariant)

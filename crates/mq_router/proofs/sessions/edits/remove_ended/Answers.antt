@@ -1,0 +1,32 @@
+use Rattle.std.proofs.Common.{◌∙◌, sym, ap, map}
+use Rattle.std.specs.List.{filter}
+use Rattle.std.specs.Map.Iter.{deref_pair}
+use Rattle.std.proofs.lemmas.Map.Iter.{rest_more, rest_all}
+use Rattle.mq_router.specs.World.{Session}
+use Rattle.mq_router.specs.Applied.{lasts, without}
+use Rattle.mq_router.specs.Held.{session_in}
+use Rattle.mq_router.proofs.EndLemmas.{end-more, end-none}
+use Rattle.mq_router.proofs.sessions.edits.remove_ended.Goals as goal
+
+pub loop-id-preserved-then-has_ended : goal.loop-id-preserved-then-has_ended
+loop-id-preserved-then-has_ended c =
+    let moment = c.args.moment in
+    let x : Session = session_in (c.in-Some.id.now, c.in-Some.session.now) in
+    let rest = map session_in c.next.new.self in
+    let rows = c.loop-id.subscriptions.rows in
+    let left = rest_more deref_pair _ _ _ (c.in-Some.id, c.in-Some.session) c.in-Some.is c.next.ensures.steps in
+    record {
+      rows = ap (filter (lasts moment rest)) (c.remove_client.ensures.rows ∙ ap (λ id. without id rows) c.as_str.ensures.value)
+          ∙ end-more moment x rest rows (sym c.has_ended.ensures ∙ c.if-has_ended.true)
+          ∙ ap (λ es. filter (lasts moment (map session_in es)) rows) (sym left)
+          ∙ c.loop-id.invariant.rows;
+      keys = λ old. c.remove_client.ensures.keys;
+    }
+
+pub returns-clause-rows : goal.returns-clause-rows
+returns-clause-rows c =
+    let rows = c.loop-id.subscriptions.rows in
+    let done = rest_all deref_pair _ _ _ c.in-None.is c.next.ensures.steps in
+    sym (end-none c.args.moment rows)
+    ∙ ap (λ es. filter (lasts c.args.moment (map session_in es)) rows) (sym done)
+    ∙ c.loop-id.invariant.rows

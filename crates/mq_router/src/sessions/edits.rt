@@ -1,0 +1,60 @@
+//! Edits of one session, or of those that end. They take no memory.
+ghost use Rattle.std.specs.Prelude.{◌≡◌, map, not};
+ghost use Rattle.std.specs.List.{filter};
+ghost use Rattle.mq_router.specs.Sessions.{left_by, has_ended};
+ghost use Rattle.mq_router.specs.Begun.{queued_one};
+ghost use Rattle.mq_router.specs.Ends.{EndLater};
+ghost use Rattle.mq_router.specs.Held.{session_in, begin_of};
+
+use crate::begun::Begun;
+use crate::clock::Clock;
+use crate::session::Session;
+use crate::subscriptions::Subscriptions;
+use std::collections::BTreeMap;
+
+/// A connection ends. Gives the end of the session, if it ends.
+pub(crate) fn leave(sessions: &mut BTreeMap<String, Session>, id: &str, clock: Clock) -> Option<u64>
+    ensures left { map session_in sessions.new.entries ≡ map (left_by clock.moment id.now) (map session_in sessions.old.entries) }
+    ensures ends { EndLater result (map session_in sessions.old.entries) (map session_in sessions.new.entries) }
+{
+    match sessions.get_mut(id) {
+        None => None,
+        Some(session) => {
+            session.leave(clock);
+            session.end()
+        }
+    }
+}
+
+pub(crate) fn join(sessions: &mut BTreeMap<String, Session>, limit: u32, begun: Begun)
+    ensures { map session_in sessions.new.entries ≡ queued_one limit (begin_of begun) (map session_in sessions.old.entries) }
+{
+    if let Some(session) = sessions.get_mut(begun.client.as_str()) {
+        session.queue(limit, begun.copies);
+    }
+}
+
+pub(crate) fn end(sessions: &mut BTreeMap<String, Session>, moment: u64)
+    ensures { map session_in sessions.new.entries ≡ filter (λ session. not (has_ended moment session)) (map session_in sessions.old.entries) }
+{
+    sessions.retain(|_, session| !session.has_ended(moment));
+}
+
+ghost use Rattle.mq_router.specs.Kept.{AreKeys};
+ghost use Rattle.mq_router.specs.Applied.{lasts};
+
+/// Takes out the subscriptions of the sessions that have ended, and walks no other's.
+pub(crate) fn remove_ended(
+    sessions: &BTreeMap<String, Session>,
+    subscriptions: &mut Subscriptions,
+    moment: u64,
+)
+    ensures rows { subscriptions.new.rows ≡ filter (lasts moment (map session_in sessions.now.entries)) subscriptions.old.rows }
+    ensures keys { AreKeys subscriptions.old → AreKeys subscriptions.new }
+{
+    for (id, session) in sessions {
+        if session.has_ended(moment) {
+            subscriptions.remove_client(id.as_str());
+        }
+    }
+}

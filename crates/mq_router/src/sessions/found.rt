@@ -1,0 +1,76 @@
+//! Look-ups among the sessions.
+ghost use Rattle.std.specs.Prelude.{◌≡◌, IfOk, map};
+ghost use Rattle.std.specs.Option.{option_copied, option_map};
+ghost use Rattle.std.specs.List.{filter_map};
+ghost use Rattle.std.specs.List.Sorted.{IsStrictlySortedBy};
+ghost use Rattle.mq_router.specs.World.{session_cmp};
+ghost use Rattle.mq_router.specs.Sessions.{session_of, is_connected, user_of, outlives};
+ghost use Rattle.mq_router.specs.Waiting.{waiting_for, resumed_copy};
+ghost use Rattle.mq_router.specs.Near.{AllReached};
+ghost use Rattle.mq_router.specs.Views.{copy_of};
+ghost use Rattle.mq_router.specs.Held.{session_at, session_in};
+
+use crate::answer::Delivery;
+use crate::clock::Clock;
+use crate::session::Session;
+use crate::waiting::resumed_copies;
+use std::alloc::{AllocError, Global};
+use std::collections::BTreeMap;
+
+/// Learns that the map's keys are in order.
+pub(crate) fn learn_order(sessions: &BTreeMap<String, Session>)
+    ensures { IsStrictlySortedBy session_cmp (map session_in sessions.now.entries) }
+{
+    let _count = sessions.len();
+}
+
+/// The session of a client.
+pub(crate) fn find<'a>(sessions: &'a BTreeMap<String, Session>, id: &str) -> Option<&'a Session>
+    ensures { option_map (λ session. session_at id.now session.now) result ≡ session_of (map session_in sessions.now.entries) id.now }
+{
+    sessions.get(id)
+}
+
+pub(crate) fn is_connected(sessions: &BTreeMap<String, Session>, id: &str) -> bool
+    ensures { result ≡ is_connected (map session_in sessions.now.entries) id.now }
+{
+    match sessions.get(id) {
+        None => false,
+        Some(session) => session.is_present(),
+    }
+}
+
+pub(crate) fn user_in<'a>(sessions: &'a BTreeMap<String, Session>, id: &str) -> Option<&'a str>
+    ensures { option_copied result ≡ user_of (map session_in sessions.now.entries) id.now }
+{
+    match sessions.get(id) {
+        None => None,
+        Some(session) => session.user.as_deref(),
+    }
+}
+
+pub(crate) fn outlives(sessions: &BTreeMap<String, Session>, id: &str) -> bool
+    ensures { result ≡ outlives (map session_in sessions.now.entries) id.now }
+{
+    match sessions.get(id) {
+        None => false,
+        Some(session) => session.outlives_connection(),
+    }
+}
+
+/// The copies that wait for a client, with what is left of their intervals.
+pub(crate) fn waited_copies(
+    alloc: Global,
+    clock: Clock,
+    sessions: &BTreeMap<String, Session>,
+    id: &str,
+) -> Result<Vec<Delivery>, AllocError>
+    requires { AllReached clock.moment (map session_in sessions.now.entries) }
+    ensures { IfOk result (λ copies. map copy_of copies.items
+        ≡ filter_map (resumed_copy clock.moment) (waiting_for (map session_in sessions.now.entries) id.now)) }
+{
+    match sessions.get(id) {
+        None => Ok(Vec::new(alloc)),
+        Some(session) => resumed_copies(alloc, clock, &session.waiting),
+    }
+}

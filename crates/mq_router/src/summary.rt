@@ -1,0 +1,119 @@
+//! What the options of a client's subscriptions come to for its copy.
+ghost use Rattle.std.specs.Prelude.{◌≡◌, [], ◌∷◌, ◌++◌, None, IfOk, OnOk};
+ghost use Rattle.std.specs.Option.{option_to_list};
+ghost use Rattle.std.specs.Map.{lookup};
+ghost use Rattle.mq_router.specs.Kept.{is_text, options_of};
+ghost use Rattle.mq_router.specs.KeptViews.{texts};
+ghost use Rattle.mq_router.specs.Gathers.{GathersOne};
+
+use crate::options::Options;
+use std::alloc::{AllocError, Global};
+use std::collections::BTreeMap;
+use std::marker::Model;
+
+/// The greatest QoS, whether some ask for Retain As Published, and the identifiers.
+#[derive(Debug, Drop)]
+pub(crate) struct Summary {
+    qos: u8,
+    rap: bool,
+    ids: Vec<u32>,
+}
+
+impl Model for Summary {
+    ghost use Rattle.mq_router.specs.Summaries as specs;
+
+    ghost Value = { specs.Summary };
+
+    ghost view = { specs.summary_in };
+}
+
+impl Summary {
+    ghost use Rattle.mq_router.specs.Lists.{ascending};
+    ghost use Rattle.mq_router.specs.Summaries.{summary_of, together};
+
+    /// That of one subscription.
+    pub(crate) fn of(alloc: Global, options: Options) -> Result<Summary, AllocError>
+        ensures { IfOk result (λ summary. summary ≡ summary_of (options_of options ∷ [])) }
+    {
+        let mut ids = Vec::new(alloc);
+        push_id(&mut ids, options.id)?;
+        Ok(Summary {
+            qos: options.qos,
+            rap: options.rap,
+            ids,
+        })
+    }
+
+    /// One more subscription.
+    pub(crate) fn add(&mut self, options: Options) -> Result<(), AllocError>
+        ensures { OnOk result (self.new ≡ together self.old (summary_of (options_of options ∷ []))) }
+    {
+        push_id(&mut self.ids, options.id)?;
+        self.qos = self.qos.max(options.qos);
+        self.rap = self.rap || options.rap;
+        Ok(())
+    }
+
+    pub(crate) fn qos(&self) -> u8
+        ensures { result ≡ self.now.qos }
+    {
+        self.qos
+    }
+
+    pub(crate) fn retains_as_published(&self) -> bool
+        ensures { result ≡ self.now.retain_as_published }
+    {
+        self.rap
+    }
+
+    /// The identifiers, ascending, equal ones repeated. It takes no memory.
+    pub(crate) fn into_ids(self) -> Vec<u32>
+        ensures { result.items ≡ ascending self.identifiers }
+    {
+        let mut ids = self.ids;
+        ids.sort_unstable();
+        ids
+    }
+}
+
+fn push_id(ids: &mut Vec<u32>, id: Option<u32>) -> Result<(), AllocError>
+    ensures { OnOk result (ids.new.items ≡ ids.old.items ++ option_to_list id) }
+{
+    if let Some(id) = id {
+        ids.push(id)?;
+    }
+    Ok(())
+}
+
+/// Adds the options of a subscription to what is gathered for its client.
+pub(crate) fn add_options(
+    gathered: &mut BTreeMap<String, Summary>,
+    alloc: Global,
+    client: &str,
+    options: Options,
+) -> Result<(), AllocError>
+    ensures { OnOk result (GathersOne client.now (options_of options) gathered.old.entries gathered.new.entries) }
+{
+    let _count = gathered.len();
+    match gathered.get_mut(client) {
+        Some(summary) => summary.add(options),
+        None => begin(gathered, alloc, client, options),
+    }
+}
+
+// The first one of the client, made aside.
+fn begin(
+    gathered: &mut BTreeMap<String, Summary>,
+    alloc: Global,
+    client: &str,
+    options: Options,
+) -> Result<(), AllocError>
+    requires { lookup (is_text client.now) (texts gathered.old.entries) ≡ None }
+    ensures { OnOk result (GathersOne client.now (options_of options) gathered.old.entries gathered.new.entries) }
+{
+    let _count = gathered.len();
+    let name = String::from_str(alloc, client)?;
+    let summary = Summary::of(alloc, options)?;
+    gathered.insert(name, summary)?;
+    Ok(())
+}
