@@ -1,5 +1,7 @@
 pub mod NameLemmas
 pub mod FloatLemmas
+pub mod EntryLemmas
+pub mod KeptLemmas
 pub mod TextLemmas
 pub mod WrittenLemmas
 pub mod PieceLemmas
@@ -8,4 +10,5 @@ pub mod RunLemmas
 pub mod StepLemmas
 pub mod HeadlineLemmas
 pub mod AclFileLemmas
+pub mod NumberLemmas
 pub mod ProgramLemmas

@@ -1,7 +1,7 @@
 -- The pieces of a script that grows.
-use Rattle.std.proofs.Common.{◌≡◌, ◌≤◌, ◌<◌, ℕ, suc, List, [], ◌∷◌, ◌++◌, Bool, true, false, cond, length, length-take, take, drop, drop-cons, take-append-drop, get_or, Option, Some, None, refl, sym, ap, ◌∙◌, arith, append_assoc, append-nil, nat_lt}
-use Rattle.std.specs.Prelude.{unwrap_or, position}
-use Rattle.std.specs.List.{onto_first, last_or, position_or_len}
+use Rattle.std.proofs.Common.{◌≡◌, ◌≤◌, ◌<◌, ℕ, suc, List, [], ◌∷◌, ◌++◌, Bool, true, false, cond, ◌||◌, ◌+◌, length, length-take, length-drop, drop-drop, take, drop, drop-cons, take-append-drop, get_or, Option, Some, None, refl, sym, ap, ◌∙◌, arith, append_assoc, append-nil, nat_lt}
+use Rattle.std.specs.Prelude.{unwrap_or, position, option_map}
+use Rattle.std.specs.List.{onto_first, last_or, list_any, position_or_len}
 use Rattle.std.proofs.lemmas.Bool.Decides.{nat_tests, Decides-eqb}
 use Rattle.std.proofs.lemmas.List.{get_or-take}
 use Rattle.std.proofs.lemmas.List.Splits.{slice_split_none}
@@ -123,3 +123,41 @@ feed_found xs n e =
           let below : k < n = let e = length-take n xs in omega arith in
           rw get_or-take ((position-Some is_feed xs n d e).2 k below)),
     )
+
+-- ## The search goes on behind bytes without a line feed
+
+none_here : (t u : Bool) → (t || u) ≡ false → t ≡ false
+none_here false u e = refl
+none_here true u e = e
+
+none_later : (t u : Bool) → (t || u) ≡ false → u ≡ false
+none_later false u e = e
+none_later true u e = absurd (let bad : true ≡ false = e in cc)
+
+pub position_or_len-later : {X : Type 0} (p : X → Bool) (xs ys : List X) → list_any p xs ≡ false → position_or_len p (xs ++ ys) ≡ length xs + position_or_len p ys
+position_or_len-later p [] ys e = omega arith
+position_or_len-later p (x ∷ xs) ys e =
+    let here = none_here (p x) (list_any p xs) e in
+    let later = position_or_len-later p xs ys (none_later (p x) (list_any p xs) e) in
+    rw (here, later) (omega arith)
+
+shifted : (s t : Bool) (i a b : ℕ) → nat_lt a b ≡ s → nat_lt (i + a) (i + b) ≡ t → cond t (Some (i + a)) None ≡ option_map (λ (n : ℕ). i + n) (cond s (Some a) None)
+shifted true true i a b p q = refl
+shifted false false i a b p q = refl
+shifted true false i a b p q = absurd (grind (arith, nat_tests))
+shifted false true i a b p q = absurd (grind (arith, nat_tests))
+
+pub position-later : {X : Type 0} (p : X → Bool) (xs : List X) (i : ℕ) → i ≤ length xs → position_or_len p xs ≡ i + position_or_len p (drop i xs) → position p xs ≡ option_map (λ (n : ℕ). i + n) (position p (drop i xs))
+position-later p xs i within e =
+    let whole : length xs ≡ i + length (drop i xs) = simp length-drop (omega arith) in
+    rw (e, whole) (shifted _ _ i (position_or_len p (drop i xs)) (length (drop i xs)) refl refl)
+
+-- a chunk without a line feed is passed
+pub chunk_passed : {X : Type 0} (p : X → Bool) (xs : List X) (i k : ℕ) → i + k ≤ length xs → list_any p (take k (drop i xs)) ≡ false → position_or_len p xs ≡ i + position_or_len p (drop i xs) → position_or_len p xs ≡ i + k + position_or_len p (drop (i + k) xs)
+chunk_passed p xs i k within none e =
+    let whole : take k (drop i xs) ++ drop k (drop i xs) ≡ drop i xs = take-append-drop k (drop i xs) in
+    let len : length (take k (drop i xs)) ≡ k = (let a = length-take k (drop i xs) in let b = length-drop i xs in omega arith) in
+    let same : drop k (drop i xs) ≡ drop (i + k) xs = drop-drop k i xs in
+    let rest : position_or_len p (drop i xs) ≡ k + position_or_len p (drop (i + k) xs) =
+    rw (whole, len, same) at (position_or_len-later p (take k (drop i xs)) (drop k (drop i xs)) none) in
+    omega arith

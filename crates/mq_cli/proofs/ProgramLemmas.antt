@@ -1,9 +1,9 @@
 -- What the program's options and faults say.
-use Rattle.std.proofs.Common.{◌≡◌, ◌∙◌, [], ℕ, List, Option, Some, None, Result, Ok, Err, refl, subst}
+use Rattle.std.proofs.Common.{◌≡◌, ◌∙◌, [], ℕ, List, Option, Some, None, Result, Ok, Err, refl, ap, subst}
 use Rattle.std.specs.Prelude.{IfOk, option_map}
 use Rattle.clap.specs.Words.{Kinds, IsAmong}
 use Rattle.clap.specs.declared.error.ErrorKind.TheVariants.{DisplayHelp}
-use Rattle.mq_router.specs.World.{World, empty_world}
+use Rattle.mq_router.specs.World.{World, Limits, fresh_world, empty_world, within}
 use Rattle.mq_cli.specs.declared.command_line.UsageFault.{UsageFault}
 use Rattle.mq_cli.specs.declared.command_line.UsageFault.TheVariants.{Help, Usage, Memory}
 use Rattle.mq_cli.specs.declared.program.Failure.{Failure}
@@ -35,20 +35,20 @@ failure_two (failure.Script file) two three = two refl
 
 -- ## The world and the script of a run
 
-pub begins_empty : (file : Option (List ℕ)) (w : World) → file ≡ None → BeginsIn file w → w ≡ empty_world
-begins_empty None w e begins = begins
-begins_empty (Some x) w e begins = absurd (let bad : Some x ≡ None = e in cc)
+pub begins_empty : (file : Option (List ℕ)) (limits : Limits) (w : World) → file ≡ None → BeginsIn file limits w → w ≡ within limits empty_world
+begins_empty None limits w e begins = begins.2 ∙ ap (λ access. within limits (fresh_world access)) begins.1
+begins_empty (Some x) limits w e begins = absurd (let bad : Some x ≡ None = e in cc)
 
 pub script_told : (file to_come : Option (List ℕ)) (script bytes : List ℕ) → file ≡ None → to_come ≡ Some bytes → IsScript file to_come script → script ≡ bytes
 script_told None None script bytes e f is = absurd (let bad : None ≡ Some bytes = f in cc)
 script_told None (Some xs) script bytes e f is = let same : xs ≡ bytes = let g : Some xs ≡ Some bytes = f in cc in is ∙ same
 script_told (Some x) to_come script bytes e f is = absurd (let bad : Some x ≡ None = e in cc)
 
-pub IfOk-begun : {T E : Type 0} (result : Result T E) (file : Option (List ℕ)) (w : World) (Q : List ℕ → Type 0) (P : World → List ℕ → T → Type 0)
-    → BeginsIn file w → IfOk result (λ x. (script : List ℕ) × Q script × P w script x)
-    → IfOk result (λ x. (v : World) × BeginsIn file v × (script : List ℕ) × Q script × P v script x)
-IfOk-begun (Ok x) file w Q P begins h = (w, begins, h.0, h.1, h.2)
-IfOk-begun (Err e) file w Q P begins h = tt
+pub IfOk-begun : {T E : Type 0} (result : Result T E) (file : Option (List ℕ)) (limits : Limits) (w : World) (Q : List ℕ → Type 0) (P : World → List ℕ → T → Type 0)
+    → BeginsIn file limits w → IfOk result (λ x. (script : List ℕ) × Q script × P w script x)
+    → IfOk result (λ x. (v : World) × BeginsIn file limits v × (script : List ℕ) × Q script × P v script x)
+IfOk-begun (Ok x) file limits w Q P begins h = (w, begins, h.0, h.1, h.2)
+IfOk-begun (Err e) file limits w Q P begins h = tt
 
 pub IfOk-file : {T E : Type 0} (result : Result T E) (name : List ℕ) (file to_come : Option (List ℕ)) (P : List ℕ → T → Type 0)
     → Some name ≡ file → IfOk result (λ x. (script : List ℕ) × P script x) → IfOk result (λ x. (script : List ℕ) × IsScript file to_come script × P script x)

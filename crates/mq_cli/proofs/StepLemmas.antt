@@ -1,13 +1,16 @@
 -- What the calls of a run make of it.
-use Rattle.std.proofs.Common.{◌≡◌, ℕ, ◌+◌, ◌-◌, List, [], ◌∷◌, ◌++◌, length, take, Option, Result, Ok, Err, subst, append_assoc, append-nil}
-use Rattle.std.specs.Prelude.{OnOk, IfErr}
+use Rattle.std.proofs.Common.{◌≡◌, ℕ, ◌+◌, ◌-◌, List, [], ◌∷◌, ◌++◌, length, take, Bool, cond, Option, Result, Ok, Err, ap, ◌∙◌, subst, append_assoc, append-nil}
+use Rattle.std.specs.Prelude.{OnOk, OnErr, IfErr}
 use Rattle.std.proofs.KnownBytes.{Appends-kept}
-use Rattle.std.specs.Io.KnownBytes.{Keeps}
+use Rattle.std.specs.Io.KnownBytes.{Appends, Keeps}
+use Rattle.mq_router.specs.World.{World}
+use Rattle.mq_router.specs.StandsFor.{StandsFor}
 use Rattle.mq_cli.specs.declared.script.outcome.RunFault.{RunFault}
 use Rattle.mq_cli.specs.declared.script.outcome.RunFault.TheVariants as fault
 use Rattle.mq_cli.specs.declared.script.progress.Progress.{Progress}
 use Rattle.mq_cli.specs.Output.{pieces, whole_lines, world_after}
-use Rattle.mq_cli.specs.Running.{kept, Told, Stopped, Answers, AnswersLine, StopsAtLine, TakesBytes, StopsAmong, Takes, EndsLines, StopsLast, Ends}
+use Rattle.mq_cli.specs.Ending.{AppendsSome}
+use Rattle.mq_cli.specs.Running.{kept, IsTold, Told, Stopped, Answers, AnswersLine, StopsAtLine, TakesBytes, StopsAmong, Takes, EndsLines, StopsLast, Ends}
 use Rattle.mq_cli.proofs.RunLemmas.{Told-text, Told-feed, Stopped-feed, Stopped-grown, Stopped-memory, WritesLines-grown, Finished-empty, Finished-piece, StoppedLast-piece, AppendsSome-all}
 
 -- ## Bytes that are taken
@@ -42,6 +45,27 @@ StopsAmong-grown p xs ys e a b s = λ w given start told.
 pub StopsAmong-memory : (p : Progress) (xs : List ℕ) (a : Option (List ℕ)) → StopsAmong p xs fault.Memory a a
 unfolding StopsAmong
 StopsAmong-memory p xs a = λ w given start told. WritesLines-grown start a w given xs (Stopped-memory w given p start a told)
+
+-- ## A line
+
+-- its answer is put together, and then written
+pub Answers-written : {T : Type 0} (result : Result T RunFault) (p q : Progress) (refused : Bool) (text : List ℕ) (a b : Option (List ℕ))
+    → ((w : World) → StandsFor p.router w → IsTold (p.summary.lines + 1) w p.line.items refused q.router [] text)
+    → q.summary.refused ≡ p.summary.refused + cond refused 1 0
+    → OnOk result (Appends a b text) → OnErr result (AppendsSome a b text) → IfErr result (λ e. e ≡ fault.Write) → Answers p q result a b
+unfolding AnswersLine StopsAtLine
+Answers-written (Ok x) p q refused text a b told count ok err kind = λ w stands.
+    let line = told w stands in
+    record {
+      stands = line.stands;
+      refused = count ∙ ap (λ (r : Bool). p.summary.refused + cond r 1 0) line.refused;
+      written = subst (λ (t : List ℕ). Appends a b t) line.text ok;
+    }
+Answers-written (Err fault.Write) p q refused text a b told count ok err kind = λ w stands.
+    subst (λ (t : List ℕ). AppendsSome a b t) (told w stands).text err
+Answers-written (Err fault.Read) p q refused text a b told count ok err kind = absurd (let bad : fault.Read ≡ fault.Write = kind in cc)
+Answers-written (Err fault.TooMuch) p q refused text a b told count ok err kind = absurd (let bad : fault.TooMuch ≡ fault.Write = kind in cc)
+Answers-written (Err fault.Memory) p q refused text a b told count ok err kind = absurd (let bad : fault.Memory ≡ fault.Write = kind in cc)
 
 -- ## Both
 

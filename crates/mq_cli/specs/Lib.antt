@@ -4,6 +4,7 @@ pub mod Wrapped
 pub mod Fields
 pub mod Reading
 pub mod Printed
+pub mod Kept
 pub mod Output
 pub mod Ending
 pub mod Running

@@ -97,6 +97,7 @@ refusal_report refused.SharedNoLocal = plain 10 (codes "SharedNoLocal")
 refusal_report refused.NotAuthorized = plain 11 (codes "NotAuthorized")
 refusal_report (refused.AclLine line) = Some (record { code = 12; name = codes "AclLine"; acl_line = Some line })
 refusal_report refused.ClockTooFar = plain 13 (codes "ClockTooFar")
+refusal_report refused.RetainedFull = plain 14 (codes "RetainedFull")
 refusal_report refused.Memory = None
 
 -- nor here

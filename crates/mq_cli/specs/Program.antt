@@ -1,8 +1,9 @@
 -- What the program does.
-use Rattle.std.specs.Prelude.{◌≡◌, ℕ, ◌==◌, List, [], ◌++◌, if◌then◌else◌, Option, Some, None, Ok, codes, ⊤}
+use Rattle.std.specs.Prelude.{◌≡◌, ℕ, ◌==◌, List, [], ◌++◌, if◌then◌else◌, Option, Some, None, Ok, unwrap_or, codes, ⊤}
 use Rattle.std.specs.Str.{bytes_eq}
 use Rattle.mq_acl.specs.Rows.{AclRow}
-use Rattle.mq_router.specs.World.{World, fresh_world, empty_world}
+use Rattle.mq_router.specs.World.{World, Limits, default_limits, fresh_world, within}
+use Rattle.mq_cli.specs.CommandLine.{number_given}
 use Rattle.mq_cli.specs.declared.script.outcome.Summary.{Summary}
 use Rattle.mq_cli.specs.Output.{all_lines, refused_from, output, Summarizes}
 use Rattle.mq_cli.specs.AclFile.{IsAnswerTo}
@@ -26,10 +27,22 @@ failure_status (failure.AclUtf8 file) = 2
 failure_status (failure.AclLine file line kind) = 2
 failure_status (failure.Script file) = 2
 
--- the world that a run begins in: where a file of an access list is named, with the rows of some text without a fault
-abbrev pub BeginsIn : (acl_file : Option (List ℕ)) → World → Type 0
-BeginsIn None w = w ≡ empty_world
-BeginsIn (Some file) w = (text : List ℕ) × (rows : List AclRow) × IsAnswerTo text (Ok rows) × (w ≡ fresh_world (Some rows))
+-- the limits of two options
+abbrev pub limits_by : (retained queued : Option ℕ) → Limits
+limits_by retained queued = record { retained = retained; queued = unwrap_or queued default_limits.queued }
+
+-- the limits in the words
+abbrev pub limits_given : List (List ℕ) → Limits
+limits_given words = limits_by (number_given (codes "max-retained") words) (number_given (codes "max-queued") words)
+
+-- the access list that a run begins with: where a file of one is named, the rows of some text without a fault
+abbrev pub BeginsWith : (acl_file : Option (List ℕ)) → Option (List AclRow) → Type 0
+BeginsWith None access = access ≡ None
+BeginsWith (Some file) access = (text : List ℕ) × (rows : List AclRow) × IsAnswerTo text (Ok rows) × (access ≡ Some rows)
+
+-- the world that a run begins in
+abbrev pub BeginsIn : (acl_file : Option (List ℕ)) → Limits → World → Type 0
+BeginsIn acl_file limits w = (access : Option (List AclRow)) × BeginsWith acl_file access × (w ≡ within limits (fresh_world access))
 
 -- the script: where no file is named, all that the input tells
 abbrev pub IsScript : (file to_come : Option (List ℕ)) → List ℕ → Type 0

@@ -1,5 +1,5 @@
 -- What a line of a script says.
-use Rattle.std.specs.Prelude.{ℕ, ◌==◌, ◌||◌, List, [], ◌∷◌, length, Bool, false, nat_lt, if◌then◌else◌, Option, Some, None, option_and_then, Result, Ok, Err, codes}
+use Rattle.std.specs.Prelude.{ℕ, ◌==◌, ◌||◌, List, [], ◌∷◌, length, Bool, true, false, nat_lt, if◌then◌else◌, Option, Some, None, option_and_then, Result, Ok, Err, codes}
 use Rattle.std.specs.List.{list_all}
 use Rattle.std.specs.Str.{bytes_eq, is_utf8}
 use Rattle.serde_json.specs.Data.{Data}
@@ -12,11 +12,16 @@ use Rattle.mq_cli.specs.declared.lines.fault.LineFault.TheVariants.{LineTooLong,
 
 -- ## The fields of each command
 
+abbrev pub connect_names : List (List ℕ)
+connect_names = codes "do" ∷ codes "client" ∷ codes "user" ∷ codes "clean" ∷ codes "session_expiry" ∷ []
+
 unfoldable pub connect_fields : Data → Result Request LineFault
-connect_fields d = if has_only (codes "do" ∷ codes "client" ∷ codes "user" ∷ []) d then (do
+connect_fields d = if has_only connect_names d then (do
   client ← required text (codes "client") d
   user ← optional text (codes "user") d
-  Ok (Connect client user)) else Err BadField
+  clean ← defaulted true flag (codes "clean") d
+  interval ← defaulted 0 (whole 0 4294967295) (codes "session_expiry") d
+  Ok (Connect client user clean interval)) else Err BadField
 
 unfoldable pub disconnect_fields : Data → Result Request LineFault
 disconnect_fields d = if has_only (codes "do" ∷ codes "client" ∷ []) d then (do

@@ -1,16 +1,20 @@
 //! The command line.
-ghost use Rattle.std.specs.Prelude.{◌≡◌, [], map, option_map, string_bytes, IfOk, OnOk, IfErr};
-ghost use Rattle.clap.specs.Words.{app_of, rows_of, found_of, matches_of, fault_of, FailsBy};
-ghost use Rattle.mq_cli.specs.CommandLine.{mqroute, AreGiven, IsFaultOf};
+ghost use Rattle.std.specs.Prelude.{◌≡◌, [], false, map, option_map, string_bytes, IfOk, OnOk, IfErr};
+ghost use Rattle.clap.specs.Words.{app_of, rule_of, rows_of, found_of, matches_of, fault_of, FailsBy};
+ghost use Rattle.mq_cli.specs.CommandLine.{mqroute, acl_file, number_option, script, AreGiven, IsFaultOf};
 
 use clap::error::ErrorKind;
-use clap::{Arg, ArgMatches, Command, Error};
+use clap::{Arg, ArgMatches, Command, Error, value_parser};
 use std::alloc::{AllocError, Global};
 
 const ABOUT: &str = "Answers a script of MQTT 5.0 routing commands, line by line";
 
 const ACL_FILE_HELP: &str =
     "Begin with the access list in FILE, in the form of mosquitto.conf(5)'s acl_file";
+
+const MAX_RETAINED_HELP: &str = "Refuse a message that would be one more than N retained ones";
+
+const MAX_QUEUED_HELP: &str = "Let up to N copies wait for a client that is away, in place of 1000";
 
 const SCRIPT_HELP: &str = "The script; absent or -, standard input";
 
@@ -21,7 +25,7 @@ Each line of a script is a JSON object, such as
   {\"do\":\"publish\",\"client\":\"a\",\"topic\":\"t/1\",\"payload\":\"x\"}
 
 The commands and their fields, those in brackets optional:
-  connect      client [user]
+  connect      client [user] [clean] [session_expiry]
   disconnect   client
   subscribe    client filter [qos] [no_local] [rap] [handling] [id]
   unsubscribe  client filter
@@ -31,7 +35,9 @@ The commands and their fields, those in brackets optional:
   stat
 
 A filter $share/NAME/FILTER is a shared subscription: the clients that share
-FILTER under NAME take turns.
+FILTER under NAME take turns. A client that connects with a session_expiry
+finds its subscriptions, and the copies that wait for it, when it comes back
+within these seconds with \"clean\":false.
 
 An accepted line is answered by a line for each copy of its message and a
 closing line, a refused line by one line that says why.
@@ -50,6 +56,10 @@ Example:
 pub struct Options {
     /// The file of the access list.
     pub acl_file: Option<String>,
+    /// How many messages may be retained; without it, any number.
+    pub max_retained: Option<u32>,
+    /// How many copies may wait for a client that is away; without it, 1,000.
+    pub max_queued: Option<u32>,
     /// The file of the script.
     pub script: Option<String>,
 }
@@ -76,19 +86,45 @@ impl From<AllocError> for UsageFault {
     }
 }
 
-/// `mqroute [--acl-file FILE] [SCRIPT]`.
+// `--acl-file FILE`
+fn acl_file_option<'a>(alloc: Global) -> Arg<'a>
+    ensures { (rule_of result ≡ acl_file) × (result.global ≡ false) }
+{
+    Arg::new(alloc, "acl-file")
+        .long("acl-file")
+        .value_name("FILE")
+        .help(ACL_FILE_HELP)
+}
+
+// `--NAME N`
+fn number_option<'a>(alloc: Global, name: &'a str, help: &'a str) -> Arg<'a>
+    ensures { (rule_of result ≡ number_option name.entry.now) × (result.global ≡ false) }
+{
+    Arg::new(alloc, name)
+        .long(name)
+        .value_name("N")
+        .value_parser(value_parser!(u32))
+        .help(help)
+}
+
+// `SCRIPT`
+fn script_argument<'a>(alloc: Global) -> Arg<'a>
+    ensures { (rule_of result ≡ script) × (result.global ≡ false) }
+{
+    Arg::new(alloc, "script")
+        .value_name("SCRIPT")
+        .help(SCRIPT_HELP)
+}
+
+/// `mqroute [--acl-file FILE] [--max-retained N] [--max-queued N] [SCRIPT]`.
 fn command<'a>(alloc: Global) -> Result<Command<'a>, AllocError>
     ensures { IfOk result (λ c. app_of c ≡ mqroute) }
 {
-    let acl_file = Arg::new(alloc, "acl-file")
-        .long("acl-file")
-        .value_name("FILE")
-        .help(ACL_FILE_HELP);
-    let script = Arg::new(alloc, "script")
-        .value_name("SCRIPT")
-        .help(SCRIPT_HELP);
     let empty = Command::new(alloc, "mqroute");
-    let whole = empty.arg(acl_file)?.arg(script)?;
+    let listed = empty.arg(acl_file_option(alloc))?;
+    let bounded = listed.arg(number_option(alloc, "max-retained", MAX_RETAINED_HELP))?;
+    let limited = bounded.arg(number_option(alloc, "max-queued", MAX_QUEUED_HELP))?;
+    let whole = limited.arg(script_argument(alloc))?;
     Ok(whole.about(ABOUT).after_help(AFTER_HELP))
 }
 
@@ -119,7 +155,12 @@ pub fn arguments(alloc: Global, words: &[String]) -> Result<Options, UsageFault>
         Ok(matches) => {
             let acl_file = copied(alloc, matches.get_str("acl-file"))?;
             let script = copied(alloc, matches.get_str("script"))?;
-            Ok(Options { acl_file, script })
+            Ok(Options {
+                acl_file,
+                max_retained: matches.get_one("max-retained"),
+                max_queued: matches.get_one("max-queued"),
+                script,
+            })
         }
         Err(e) => match e.kind() {
             ErrorKind::DisplayHelp => Err(UsageFault::Help(e.to_string(alloc)?)),

@@ -4,9 +4,11 @@ mod fault;
 mod fields;
 mod object;
 mod print;
+mod printer;
 mod read;
 mod report;
 
 pub use fault::LineFault;
 pub use print::{print_answer, print_line_fault, print_refusal};
+pub use printer::Printer;
 pub use read::{LINE_LIMIT, read_line};

@@ -1,18 +1,19 @@
 //! All of the program but its `main`.
-ghost use Rattle.std.specs.Prelude.{◌≡◌, ◌≢◌, ◌≤◌, [], ℕ, List, Some, None, Ok, OnOk, IfOk, IfErr, map, option_map, string_bytes, codes};
+ghost use Rattle.std.specs.Prelude.{◌≡◌, ◌≢◌, ◌≤◌, [], ℕ, List, Some, None, Ok, OnOk, IfOk, IsOk, IfErr, map, option_map, string_bytes, codes};
 ghost use Rattle.clap.specs.Words.{fault_of};
-ghost use Rattle.mq_router.specs.World.{World, empty_world};
+ghost use Rattle.mq_router.specs.World.{World, empty_world, within};
+ghost use Rattle.mq_router.specs.Views.{limits_of};
 ghost use Rattle.mq_router.specs.StandsFor.{StandsFor};
 ghost use Rattle.mq_cli.specs.AclFile.{IsAnswerTo};
 ghost use Rattle.mq_cli.specs.CommandLine.{mqroute, given};
-ghost use Rattle.mq_cli.specs.Program.{script_file, failure_status, BeginsIn, IsScript, AnswersScript, AnswersAll};
+ghost use Rattle.mq_cli.specs.Program.{script_file, failure_status, limits_by, limits_given, BeginsWith, BeginsIn, IsScript, AnswersScript, AnswersAll};
 
 use crate::acl_file::{AclFileFault, read_acl};
 use crate::command_line::{Options, UsageFault, arguments};
 use crate::devices::{Sink, Source, StdSource};
 use crate::script::{RUN_FAILED, RunFault, Summary, exit_status, flush, run, write_all};
 use mq_acl::{Acl, AclFault, AclKind};
-use mq_router::Router;
+use mq_router::{Limits, Router};
 use std::alloc::Global;
 use std::rt::Files;
 use std::{fs, io};
@@ -95,6 +96,31 @@ fn acl_in<'a, R: Files>(rt: &R, alloc: Global, file: &'a str) -> Result<Acl, Fai
     }
 }
 
+/// The access list in the file that the options name, if they name one.
+fn access_list<'a, R: Files>(
+    rt: &R,
+    alloc: Global,
+    options: &'a Options,
+) -> Result<Option<Acl>, Failure<'a>>
+    ensures ok { IfOk result (λ access. BeginsWith (option_map string_bytes options.now.acl_file) access) }
+    ensures none { options.now.acl_file ≡ None → IsOk result }
+{
+    match &options.acl_file {
+        Some(file) => Ok(Some(acl_in(rt, alloc, file.as_str())?)),
+        None => Ok(None),
+    }
+}
+
+/// The limits that the options set.
+fn limits(options: &Options) -> Limits
+    ensures { limits_of result ≡ limits_by options.now.max_retained options.now.max_queued }
+{
+    Limits {
+        retained: options.max_retained,
+        queued: options.max_queued.unwrap_or(Limits::new().queued),
+    }
+}
+
 /// The file of the script. A script that is no file is read from the input.
 fn script_of(options: &Options) -> Option<&str>
     ensures { option_map (λ t. t.now) result ≡ script_file (option_map string_bytes options.now.script) }
@@ -164,7 +190,7 @@ fn run_with<'a, R: Files, S: Source, W: Sink>(
     }
 }
 
-/// Runs the script that the options ask for, with their access list.
+/// Runs the script that the options ask for, with their access list and limits.
 fn run_options<'a, R: Files, S: Source, W: Sink>(
     rt: &R,
     alloc: Global,
@@ -173,18 +199,16 @@ fn run_options<'a, R: Files, S: Source, W: Sink>(
     out: &mut W,
 ) -> Result<Summary, Failure<'a>>
     ensures ok { (before : List ℕ) → W.taken out.old ≡ Some before → IfOk result (λ summary.
-        (w : World) × BeginsIn (option_map string_bytes options.now.acl_file) w
+        (w : World) × BeginsIn (option_map string_bytes options.now.acl_file) (limits_by options.now.max_retained options.now.max_queued) w
         × (script : List ℕ) × IsScript (script_file (option_map string_bytes options.now.script)) (S.to_come input.old) script
         × AnswersScript w script before (W.taken out.new) summary) }
     ensures err { options.now.acl_file ≡ None → script_file (option_map string_bytes options.now.script) ≡ None
         → IfErr result (λ failure. failure_status failure ≡ 3) }
     ensures flushed { OnOk result (W.flushed out.new ≡ W.taken out.new) }
 {
-    let Some(file) = &options.acl_file else {
-        return run_with(rt, alloc, Router::new(alloc), options, input, out);
-    };
-    let acl = acl_in(rt, alloc, file.as_str())?;
-    run_with(rt, alloc, Router::with_acl(alloc, acl), options, input, out)
+    let access = access_list(rt, alloc, options)?;
+    let router = Router::with_limits(alloc, access, limits(options));
+    run_with(rt, alloc, router, options, input, out)
 }
 
 /// Writes all of a text at once.
@@ -241,18 +265,18 @@ pub fn start<R: Files, S: Source, W: Sink, E: Sink>(
     ensures bound { result ≤ 3 }
 
     // Where the words are understood and name no file, and input and output tell their bytes, all of the input is
-    // answered, unless the run failed.
+    // answered, under the limits in the words, unless the run failed.
     ensures answered { (script before : List ℕ) → let given_words = map string_bytes words.now in
         fault_of mqroute given_words ≡ [] → given (codes "acl-file") given_words ≡ None
         → script_file (given (codes "script") given_words) ≡ None
         → S.to_come input.old ≡ Some script → W.taken out.old ≡ Some before
-        → result ≢ 3 → AnswersAll empty_world script before (W.taken out.new) result }
+        → result ≢ 3 → AnswersAll (within (limits_given given_words) empty_world) script before (W.taken out.new) result }
 
     // Where they may name files, a status of 0 or 1 says the same of some script, which is the input's where no file is
-    // named, and of the world that the access list makes.
+    // named, and of the world that the access list and the limits make.
     ensures with_files { (before : List ℕ) → let given_words = map string_bytes words.now in
         fault_of mqroute given_words ≡ [] → W.taken out.old ≡ Some before → result ≢ 2 → result ≢ 3
-        → (w : World) × BeginsIn (given (codes "acl-file") given_words) w
+        → (w : World) × BeginsIn (given (codes "acl-file") given_words) (limits_given given_words) w
         × (script : List ℕ) × IsScript (script_file (given (codes "script") given_words)) (S.to_come input.old) script
         × AnswersAll w script before (W.taken out.new) result }
 

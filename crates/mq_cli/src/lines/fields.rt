@@ -43,17 +43,24 @@ pub fn text_or_empty(alloc: Global, value: &Value, name: &str) -> Result<String,
     }
 }
 
-/// True or false, and false where it is absent.
-pub fn is_set(value: &Value, name: &str) -> Result<bool, LineFault>
-    ensures { Gives (λ b. b) result (defaulted false flag_kind name.now (view value.now)) }
+/// True or false, and `absent` where it is absent.
+pub fn flag_or(value: &Value, name: &str, absent: bool) -> Result<bool, LineFault>
+    ensures { Gives (λ b. b) result (defaulted absent flag_kind name.now (view value.now)) }
 {
     let Some(field) = value.get(name) else {
-        return Ok(false);
+        return Ok(absent);
     };
     match field.as_bool() {
         Some(flag) => Ok(flag),
         None => Err(LineFault::BadField),
     }
+}
+
+/// True or false, and false where it is absent.
+pub fn is_set(value: &Value, name: &str) -> Result<bool, LineFault>
+    ensures { Gives (λ b. b) result (defaulted false flag_kind name.now (view value.now)) }
+{
+    flag_or(value, name, false)
 }
 
 /// A whole number up to `high`, and 0 where it is absent.

@@ -1,13 +1,15 @@
 //! An object that is printed as a line.
-ghost use Rattle.std.specs.Prelude.{◌≡◌, ◌++◌, ◌∷◌, [], false, OnOk, OnErr, IfOk};
+ghost use Rattle.std.specs.Prelude.{◌≡◌, ◌++◌, ◌∷◌, [], false, OnOk, OnErr, IfOk, IfSome};
 ghost use Rattle.std.specs.Option.{option_copied};
 ghost use Rattle.serde_json.specs.Data.{string, boolean, array, no_members, put};
+ghost use Rattle.serde_json.specs.Find.{as_object};
 ghost use Rattle.serde_json.specs.View.{view, members_view};
 ghost use Rattle.serde_json.specs.Written.{members_have_float, has_float};
 ghost use Rattle.mq_cli.specs.Printed.{put_if, whole_data, numbers_data, text_if, whole_if, numbers_if, line_text};
 
 use serde_json::{Map, Value};
 use std::alloc::{AllocError, Global};
+use std::mem;
 
 /// Members of which none is a float.
 #[derive(Drop)]
@@ -25,11 +27,23 @@ impl Object {
         }
     }
 
+    /// Takes the object out, and leaves one without members.
+    pub fn take(&mut self, alloc: Global) -> Object
+        ensures taken { result ≡ self.old }
+        ensures left { members_view self.new.members.entries ≡ no_members }
+    {
+        mem::replace(self, Object::new(alloc))
+    }
+
     fn put(&mut self, alloc: Global, name: &str, value: Value) -> Result<(), AllocError>
         requires { has_float (view value) ≡ false }
         ensures { OnOk result (members_view self.new.members.entries
             ≡ put name.now (view value) (members_view self.old.members.entries)) }
     {
+        if let Some(slot) = self.members.get_mut(name) {
+            *slot = value;
+            return Ok(());
+        }
         let name = String::from_str(alloc, name)?;
         self.members.insert(name, value)?;
         Ok(())
@@ -39,6 +53,9 @@ impl Object {
         ensures { OnOk result (members_view self.new.members.entries
             ≡ put name.now (string text.now) (members_view self.old.members.entries)) }
     {
+        if let Some(slot) = self.members.get_mut(name) {
+            return set_text(alloc, slot, text);
+        }
         let text = String::from_str(alloc, text)?;
         self.put(alloc, name, Value::String(text))
     }
@@ -108,16 +125,46 @@ impl Object {
         self.put(alloc, name, list)
     }
 
-    /// Adds the line. An error leaves the text as it is.
-    pub fn print(self, alloc: Global, out: &mut Vec<u8>) -> Result<(), AllocError>
-        ensures ok { OnOk result (out.new.items ≡ out.old.items ++ line_text (members_view self.members.entries)) }
+    /// Adds the line. An error leaves the text as it is. The members stay.
+    pub fn print(&mut self, alloc: Global, out: &mut Vec<u8>) -> Result<(), AllocError>
+        ensures ok { OnOk result (out.new.items ≡ out.old.items ++ line_text (members_view self.old.members.entries)) }
         ensures err { OnErr result (out.new.items ≡ out.old.items) }
+        ensures same { members_view self.new.members.entries ≡ members_view self.old.members.entries }
     {
-        let Object { members } = self;
-        let mut line = Value::Object(members).to_string(alloc)?;
-        line.push('\n')?;
-        out.extend_from_slice(line.as_bytes())
+        let value = Value::Object(mem::replace(&mut self.members, Map::new(alloc)));
+        let written = value.to_vec(alloc);
+        self.members = members_of(alloc, value);
+        let mut line = written?;
+        line.push(b'\n')?;
+        out.extend_from_slice(line.as_slice())
     }
+}
+
+fn members_of(alloc: Global, value: Value) -> Map<String, Value>
+    ensures { IfSome (as_object (view value)) (λ ms. members_view result.entries ≡ ms) }
+{
+    match value {
+        Value::Object(members) => members,
+        other => {
+            drop(other);
+            Map::new(alloc)
+        }
+    }
+}
+
+// A text that is there is written over, and its memory used again.
+fn set_text(alloc: Global, slot: &mut Value, text: &str) -> Result<(), AllocError>
+    requires { has_float (view slot.old) ≡ false }
+    ensures ok { OnOk result (view slot.new ≡ string text.now) }
+    ensures no_float { has_float (view slot.new) ≡ false }
+{
+    if let Value::String(held) = slot {
+        held.clear();
+        held.push_str(text)?;
+        return Ok(());
+    }
+    *slot = Value::String(String::from_str(alloc, text)?);
+    Ok(())
 }
 
 fn numbers_value(alloc: Global, numbers: &[u32]) -> Result<Value, AllocError>

@@ -8,7 +8,7 @@ ghost use Rattle.mq_cli.specs.Reading.{connect_fields, disconnect_fields, subscr
 
 use crate::lines::fault::LineFault;
 use crate::lines::fields::{
-    has_only, is_set, number_or_zero, optional_number, optional_text, required_number,
+    flag_or, has_only, is_set, number_or_zero, optional_number, optional_text, required_number,
     required_text, text_or_empty,
 };
 use mq_router::Command;
@@ -29,12 +29,19 @@ fn connect(alloc: Global, value: &Value) -> Result<Command, LineFault>
     ensures value { Gives request_of result (connect_fields (view value.now)) }
     ensures valid { IfOk result (λ c. IsTrue (is_valid (request_of c))) }
 {
-    if !has_only(value, &["do", "client", "user"]) {
+    if !has_only(value, &["do", "client", "user", "clean", "session_expiry"]) {
         return Err(LineFault::BadField);
     }
     let client = required_text(alloc, value, "client")?;
     let user = optional_text(alloc, value, "user")?;
-    Ok(Command::Connect { client, user })
+    let clean = flag_or(value, "clean", true)?;
+    let session_expiry = optional_number(value, "session_expiry", 0, u32::MAX)?;
+    Ok(Command::Connect {
+        client,
+        user,
+        clean,
+        session_expiry: session_expiry.unwrap_or(0),
+    })
 }
 
 #[tactic(auto, unfolding(crate::specs::Reading::disconnect_fields))]

@@ -41,6 +41,7 @@ pub fn refusal_report(refusal: Refusal) -> Option<Reported>
             acl_line: Some(line),
         }),
         Refusal::ClockTooFar => plain(13, "ClockTooFar"),
+        Refusal::RetainedFull => plain(14, "RetainedFull"),
         Refusal::Memory => None,
     }
 }

@@ -4,7 +4,7 @@ ghost use Rattle.mq_router.specs.World.{World};
 ghost use Rattle.mq_router.specs.StandsFor.{StandsFor};
 ghost use Rattle.mq_cli.specs.Running.{IsTold};
 
-use crate::lines::{LineFault, print_answer, print_line_fault, print_refusal, read_line};
+use crate::lines::{LineFault, Printer, read_line};
 use mq_router::{Refusal, Router};
 use std::alloc::{AllocError, Global};
 
@@ -12,6 +12,7 @@ use std::alloc::{AllocError, Global};
 #[tactic(auto, unfolding(crate::specs::Output::text_of, crate::specs::Output::is_refused, crate::specs::Running::world_then, mq_router::specs::After::next))]
 pub fn answer_line(
     alloc: Global,
+    printer: &mut Printer,
     router: &mut Router,
     number: u64,
     line: &[u8],
@@ -25,18 +26,18 @@ pub fn answer_line(
         Ok(None) => Ok(false),
         Ok(Some(command)) => match router.apply(&command) {
             Ok(answer) => {
-                print_answer(alloc, number, &answer, out)?;
+                printer.answer(alloc, number, &answer, out)?;
                 Ok(false)
             }
             Err(Refusal::Memory) => Err(AllocError),
             Err(refusal) => {
-                print_refusal(alloc, number, &refusal, out)?;
+                printer.refusal(alloc, number, &refusal, out)?;
                 Ok(true)
             }
         },
         Err(LineFault::Memory) => Err(AllocError),
         Err(fault) => {
-            print_line_fault(alloc, number, &fault, out)?;
+            printer.line_fault(alloc, number, &fault, out)?;
             Ok(true)
         }
     }

@@ -5,7 +5,7 @@ ghost use Rattle.mq_router.specs.StandsFor.{StandsFor};
 ghost use Rattle.mq_cli.specs.Output.{pieces};
 
 use crate::devices::Sink;
-use crate::lines::LINE_LIMIT;
+use crate::lines::{LINE_LIMIT, Printer};
 use crate::script::answer::answer_line;
 use crate::script::keep::{keep_front, split_line};
 use crate::script::outcome::{RunFault, Summary};
@@ -20,6 +20,7 @@ const KEPT: usize = LINE_LIMIT + 1;
 #[derive(Drop)]
 pub struct Progress {
     alloc: Global,
+    printer: Printer,
     router: Router,
     /// The lines that are answered.
     pub summary: Summary,
@@ -40,6 +41,7 @@ impl Progress {
     {
         Progress {
             alloc,
+            printer: Printer::new(alloc),
             router,
             summary: Summary {
                 lines: 0,
@@ -63,6 +65,7 @@ impl Progress {
         self.text.clear();
         let is_refused = answer_line(
             self.alloc,
+            &mut self.printer,
             &mut self.router,
             summary.lines + 1,
             self.line.as_slice(),

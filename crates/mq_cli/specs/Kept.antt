@@ -1,0 +1,43 @@
+-- The names of an object that is printed again and again.
+use Rattle.std.specs.Prelude.{◌≡◌, ◌≢◌, ℕ, List, [], ◌∷◌, Bool, true, false, is_some, codes}
+use Rattle.serde_json.specs.Data.{Members, no_members, member}
+use Rattle.mq_router.specs.World.{Copy}
+use Rattle.mq_cli.specs.Printed.{numbers_if}
+
+abbrev pub names_of : Members → List (List ℕ)
+names_of no_members = []
+names_of (member k d ms) = k ∷ names_of ms
+
+-- an object of such lines: it has their names with whatever values, or none yet
+abbrev pub IsFor : List (List ℕ) → Members → Type 0
+IsFor names ms = names_of ms ≢ [] → names_of ms ≡ names
+
+abbrev pub name_if : Bool → List ℕ → List (List ℕ) → List (List ℕ)
+name_if false k ks = ks
+name_if true k ks = k ∷ ks
+
+-- which members a copy's line has that others lack
+pub record Parts : Type 0 where
+  pub ids : Bool
+  pub expiry : Bool
+  pub group : Bool
+
+unfoldable pub copy_names : Parts → List (List ℕ)
+copy_names p =
+    codes "client" ∷ name_if p.expiry (codes "expiry") (
+    name_if p.group (codes "filter") (
+    name_if p.ids (codes "ids") (
+    codes "line" ∷ codes "payload" ∷ codes "qos" ∷ codes "retain" ∷ name_if p.group (codes "share") (
+    codes "topic" ∷ []))))
+
+abbrev pub parts : (ids expiry group : Bool) → Parts
+parts ids expiry group = record { ids = ids; expiry = expiry; group = group }
+
+abbrev pub parts_of : Copy → Parts
+parts_of c = parts (is_some (numbers_if c.identifiers)) (is_some c.expiry) (is_some c.group)
+
+unfoldable pub reason_names : List (List ℕ)
+reason_names = codes "line" ∷ codes "reason" ∷ []
+
+unfoldable pub report_names : (acl_line : Bool) → List (List ℕ)
+report_names acl_line = name_if acl_line (codes "acl_line") (codes "code" ∷ codes "line" ∷ codes "refused" ∷ [])
