@@ -1,0 +1,188 @@
+//! Tries the calls of the topics, the access lists, the command line and the tree.
+use crate::calls::{Asked, Call};
+use crate::put::{Put, tree_of};
+use crate::tally::Tally;
+use crate::texts::{COMMAND_LINES, FILTERS, LISTS, NAMES, SUBSCRIPTIONS};
+use mq_topic::{LevelText, SubFilter, TopicFilter, TopicName};
+use mq_tree::LevelTree;
+use std::alloc::{AllocError, Global};
+
+pub fn try_calls(alloc: Global, tally: &mut Tally) -> Result<(), AllocError> {
+    try_names(alloc, tally)?;
+    try_filters(alloc, tally)?;
+    try_subscriptions(alloc, tally)?;
+    try_lists(alloc, tally)?;
+    try_command_lines(alloc, tally)?;
+    try_tree(alloc, tally)
+}
+
+fn try_call(
+    alloc: Global,
+    name: &str,
+    text: &str,
+    call: Call,
+    tally: &mut Tally,
+) -> Result<(), AllocError> {
+    let subject = format!(in alloc; "{text:?}")?;
+    tally.add(name, subject.as_str(), &Asked::new(alloc, call)?)
+}
+
+fn try_names(alloc: Global, tally: &mut Tally) -> Result<(), AllocError> {
+    for text in NAMES {
+        try_call(
+            alloc,
+            "TopicName::parse",
+            text,
+            Call::ParseName(text),
+            tally,
+        )?;
+        if let Ok(name) = TopicName::parse(alloc, text) {
+            try_call(
+                alloc,
+                "TopicName::clone",
+                text,
+                Call::CloneName(&name),
+                tally,
+            )?;
+        }
+    }
+    Ok(())
+}
+
+fn try_filters(alloc: Global, tally: &mut Tally) -> Result<(), AllocError> {
+    for text in FILTERS {
+        try_call(
+            alloc,
+            "TopicFilter::parse",
+            text,
+            Call::ParseFilter(text),
+            tally,
+        )?;
+        if let Ok(filter) = TopicFilter::parse(alloc, text) {
+            try_call(
+                alloc,
+                "TopicFilter::clone",
+                text,
+                Call::CloneFilter(&filter),
+                tally,
+            )?;
+        }
+    }
+    Ok(())
+}
+
+fn try_subscriptions(alloc: Global, tally: &mut Tally) -> Result<(), AllocError> {
+    for text in SUBSCRIPTIONS {
+        try_call(
+            alloc,
+            "SubFilter::parse",
+            text,
+            Call::ParseSubscription(text),
+            tally,
+        )?;
+        if let Ok(wanted) = SubFilter::parse(alloc, text) {
+            try_call(
+                alloc,
+                "SubFilter::clone",
+                text,
+                Call::CloneSubscription(&wanted),
+                tally,
+            )?;
+        }
+    }
+    Ok(())
+}
+
+fn try_lists(alloc: Global, tally: &mut Tally) -> Result<(), AllocError> {
+    for text in LISTS {
+        try_call(alloc, "Acl::read", text, Call::ReadList(text), tally)?;
+        try_call(
+            alloc,
+            "read_acl",
+            text,
+            Call::ReadListFile(text.as_bytes()),
+            tally,
+        )?;
+    }
+    Ok(())
+}
+
+fn try_command_lines(alloc: Global, tally: &mut Tally) -> Result<(), AllocError> {
+    for text in COMMAND_LINES {
+        let mut words = Vec::new(alloc);
+        for word in text.split_whitespace() {
+            words.push(String::from_str(alloc, word)?)?;
+        }
+        try_call(
+            alloc,
+            "arguments",
+            text,
+            Call::ReadWords(words.as_slice()),
+            tally,
+        )?;
+    }
+    Ok(())
+}
+
+// The filters, and beside one another so many more that a map of the tree splits.
+fn keys(alloc: Global) -> Result<Vec<TopicFilter>, AllocError> {
+    let mut keys = Vec::new(alloc);
+    for text in FILTERS {
+        if let Ok(key) = TopicFilter::parse(alloc, text) {
+            keys.push(key)?;
+        }
+    }
+    for number in 0..16 {
+        let text = format!(in alloc; "s/{number}")?;
+        if let Ok(key) = TopicFilter::parse(alloc, text.as_str()) {
+            keys.push(key)?;
+        }
+    }
+    Ok(keys)
+}
+
+fn try_tree(alloc: Global, tally: &mut Tally) -> Result<(), AllocError> {
+    let Ok(all) = TopicFilter::parse(alloc, "#") else {
+        return Err(AllocError);
+    };
+    let keys = keys(alloc)?;
+    for place in 0..keys.len() {
+        let (before, rest) = keys.as_slice().split_at(place);
+        let Some((key, _)) = rest.split_first() else {
+            continue;
+        };
+        let put = Put {
+            keys: before,
+            key,
+            all: &all,
+        };
+        tally.add("put", key.text(), &put)?;
+        let again = Put {
+            keys: keys.as_slice(),
+            key,
+            all: &all,
+        };
+        tally.add("put again", key.text(), &again)?;
+    }
+    try_look_ups(alloc, &tree_of(alloc, keys.as_slice())?, tally)
+}
+
+fn try_look_ups(alloc: Global, tree: &LevelTree<u32>, tally: &mut Tally) -> Result<(), AllocError> {
+    for text in NAMES {
+        if let Ok(name) = TopicName::parse(alloc, text) {
+            try_call(alloc, "for_name", text, Call::ForName(tree, &name), tally)?;
+        }
+    }
+    for text in FILTERS {
+        if let Ok(filter) = TopicFilter::parse(alloc, text) {
+            try_call(
+                alloc,
+                "for_filter",
+                text,
+                Call::ForFilter(tree, &filter),
+                tally,
+            )?;
+        }
+    }
+    Ok(())
+}

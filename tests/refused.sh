@@ -1,0 +1,102 @@
+#!/usr/bin/env bash
+# Refuses each growth in turn, by a preloaded malloc (tests/refused.c): the nth growth fails, for each n, until none is
+# met. First in the calls that mq_refused makes, without a script and over each worked row; then in the built program,
+# over some command lines. '-v' shows how many growths were refused in each trial.
+set -uo pipefail
+cd "$(dirname "$0")/.."
+refused=$PWD/crates/mq_refused/out/mq_refused
+program=$PWD/crates/mqroute/out/mqroute
+verbose=${1-}
+passed=0
+failed=0
+
+say() { # WHETHER_RIGHT TEXT
+    if [ "$1" = 0 ]; then
+        passed=$((passed + 1))
+    else
+        failed=$((failed + 1))
+        echo "refused: $2"
+    fi
+}
+
+if [ ! -x "$refused" ] || [ ! -x "$program" ]; then
+    echo "refused: there is no $refused or no $program: run 'rt ci' first"
+    exit 1
+fi
+work=$(mktemp -d)
+trap 'rm -rf "$work"' EXIT
+kit=$(dirname "$(dirname "$(readlink -f "$(command -v rt)")")")
+"$kit/toolchain/bin/clang" -O2 -shared -fPIC -nostdlib -fuse-ld=lld -o "$work/refused.so" tests/refused.c || exit 1
+
+# A line for each trial: its call, what it is about, and how many growths were refused or what was wrong.
+try_calls() { # NAME ARGUMENTS..
+    local name=$1
+    shift
+    LD_PRELOAD=$work/refused.so "$refused" "$@" > "$work/told"
+    local status=$?
+    [ "$verbose" = -v ] && sed "s|^|$name: |" "$work/told"
+    cat "$work/told" >> "$work/all"
+    say "$status" "$name: status $status; $(grep -a WRONG "$work/told" | head -5 | paste -s -d ';')"
+}
+
+try_calls calls
+for script in tests/rows/*.jsonl; do
+    # Each command is tried over the whole script: one of a thousand lines would take minutes.
+    [ "$(wc -l < "$script")" -lt 100 ] || continue
+    row=${script%.jsonl}
+    args=()
+    [ -e "$row.args" ] && mapfile -t args < "$row.args"
+    try_calls "$row" "$row.out" ${args[@]+"${args[@]}"} "$script"
+done
+
+# Each kind of call met a refusal somewhere, so that none is tried in vain.
+for call in TopicName::parse TopicName::clone TopicFilter::parse TopicFilter::clone SubFilter::parse SubFilter::clone \
+    Acl::read read_acl read_line arguments put for_name for_filter apply print run; do
+    grep -aEq "^$call .*: [1-9][0-9]*$" "$work/all"
+    say $? "$call: nothing was refused"
+done
+
+# What was written is all that is wanted, or a front of it that ends at a line's end.
+is_front() {
+    cmp -s -n "$(wc -c < "$work/out")" "$work/out" "$work/wanted" && [ -z "$(tail -c 1 "$work/out")" ]
+}
+
+# Whether the program says that memory ran out. Its status is 3 then, or 2 where only the complaint about something else
+# wanted memory.
+is_told() { # STATUS WANTED_STATUS
+    [ "$(cat "$work/err")" = "mqroute: out of memory" ] && { [ "$1" = 3 ] || [ "$1$2" = 22 ]; }
+}
+
+# Where a growth of the program is refused, it says so, or does without and all is as it should be.
+try_program() { # INPUT ARGUMENTS..
+    local input=$1 nth=0 wrong= wanted status
+    shift
+    "$program" "$@" < "$input" > "$work/wanted" 2> "$work/wanted_err"
+    wanted=$?
+    while [ "$nth" -lt 10000 ]; do
+        nth=$((nth + 1))
+        rm -f "$work/met"
+        MQ_REFUSE=$nth MQ_REFUSED=$work/met LD_PRELOAD=$work/refused.so \
+            "$program" "$@" < "$input" > "$work/out" 2> "$work/err"
+        status=$?
+        if [ "$status" = "$wanted" ] && cmp -s "$work/out" "$work/wanted" && cmp -s "$work/err" "$work/wanted_err"; then
+            [ -e "$work/met" ] || break
+        elif [ ! -e "$work/met" ] || ! is_told "$status" "$wanted" || ! is_front; then
+            wrong="$wrong $nth"
+        fi
+    done
+    echo "mqroute $* < $input: $((nth - 1))" >> "$work/all"
+    [ "$verbose" = -v ] && tail -n 1 "$work/all"
+    [ -z "$wrong" ] && [ "$nth" -gt 1 ] && [ "$nth" -lt 10000 ]
+    say $? "mqroute $* < $input: wrong where one of these growths is refused:$wrong"
+}
+
+try_program tests/rows/first-look.jsonl
+try_program /dev/null --acl-file tests/rows/access-list-file.acl tests/rows/first-look.jsonl
+try_program /dev/null --help
+try_program /dev/null --unknown
+try_program /dev/null nowhere.jsonl
+
+sed -n 's/.*: \([0-9]*\)$/\1/p' "$work/all" | awk '{ sum += $1 } END { print NR " trials, " sum " growths refused" }'
+echo "$passed passed, $failed failed"
+[ "$failed" = 0 ] && [ "$passed" != 0 ]
