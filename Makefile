@@ -1,5 +1,6 @@
 # run: proves and builds mqroute and what it stands on, and runs it on a sample script.
-# test: the gate: every proof from nothing, the must-fail edits, the tests, and then the worked rows as a user runs them.
+# test: the gate: every proof from nothing, the must-fail edits, the tests, then the worked rows as a user runs them, and each
+# growth of memory refused in turn.
 # bench: measures the built program (bench/README.md).
 # install: puts the built program, its man page and the tools beside real brokers below PREFIX.
 .PHONY: run test bench install
@@ -13,6 +14,7 @@ run:
 test:
 	rt ci
 	tests/rows.sh
+	tests/refused.sh
 	tests/readme.py
 	python3 -m unittest discover -s brokers/tests
 

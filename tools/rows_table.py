@@ -1,10 +1,10 @@
 #!/usr/bin/env python3
 """Writes crates/mq_rows/src/table.rt: the worked rows of tests/rows, since a test reads no files.
 
-A row that begins with an access list has it in NAME.acl. One with other arguments (NAME.args) is left out: tests/rows.sh runs
-it. A line of a script that is longer than 1,000 bytes is
-left out with its row too; such lines are built in code. Run from the repository's top, whenever a row joins:
-tools/rows_table.py; with the argument --check it writes nothing and fails where the table is out of date.
+A row that begins with an access list has it in NAME.acl. One with other arguments (NAME.args), with a line of more than
+1,000 bytes or with more than 20,000 bytes in all is left out: tests/rows.sh runs it. Run from the repository's top,
+whenever a row joins: tools/rows_table.py; with the argument --check it writes nothing and fails where the table is out
+of date.
 """
 import pathlib
 import sys
@@ -12,6 +12,8 @@ import sys
 ROWS = pathlib.Path("tests/rows")
 TABLE = pathlib.Path("crates/mq_rows/src/table.rt")
 MOST = 6_000
+LONGEST_LINE = 1_000
+LONGEST_ROW = 20_000
 
 
 def raw(text):
@@ -21,11 +23,12 @@ def raw(text):
 def row(path):
     script = path.read_text()
     access_list = path.with_suffix(".acl")
+    out = path.with_suffix(".out").read_text()
     beside = path.with_suffix(".args").exists() and not access_list.exists()
-    if beside or any(len(line) > 1000 for line in script.splitlines()):
+    long = len(script) + len(out) > LONGEST_ROW or any(len(line) > LONGEST_LINE for line in script.splitlines())
+    if beside or long:
         return ""
     access = f"Some(\n        {raw(access_list.read_text())},\n    )" if access_list.exists() else "None"
-    out = path.with_suffix(".out").read_text()
     status = path.with_suffix(".status").read_text().strip()
     return (f"\npub(crate) static {constant(path)}: Row = Row {{\n    name: \"{path.stem}\",\n    access_list: {access},\n"
             f"    script: {raw(script)},\n    output: {raw(out)},\n    status: {status},\n}};\n")

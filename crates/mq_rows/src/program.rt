@@ -166,9 +166,15 @@ fn access_list_that_is_too_long(rt: HostRuntime) -> Result<(), Fail> {
 fn options(rt: HostRuntime) -> Result<(), Fail> {
     let none = arguments(rt.alloc(), words(rt.alloc(), "")?.as_slice())?;
     assert!(rt; none.acl_file.is_none() && none.script.is_none());
+    assert!(rt; none.max_retained.is_none() && none.max_queued.is_none());
     let both = arguments(rt.alloc(), words(rt.alloc(), "--acl-file f s")?.as_slice())?;
     assert_eq!(rt; both.acl_file.as_deref(), Some("f"));
     assert_eq!(rt; both.script.as_deref(), Some("s"));
+    let limits = words(rt.alloc(), "--max-retained 5 --max-queued 0 s")?;
+    let limited = arguments(rt.alloc(), limits.as_slice())?;
+    assert_eq!(rt; limited.max_retained, Some(5));
+    assert_eq!(rt; limited.max_queued, Some(0));
+    assert_eq!(rt; limited.script.as_deref(), Some("s"));
     Ok(())
 }
 
@@ -184,7 +190,14 @@ fn help(rt: HostRuntime) -> Result<(), Fail> {
 
 #[test]
 fn usage(rt: HostRuntime) -> Result<(), Fail> {
-    for arguments in ["--bad", "a b", "--acl-file"] {
+    for arguments in [
+        "--bad",
+        "a b",
+        "--acl-file",
+        "--max-retained x",
+        "--max-retained 4294967296",
+        "--max-queued=-1",
+    ] {
         let got = started(&rt, arguments, Pieces::new(b"", 9), Shelf::new(rt.alloc()))?;
         assert!(rt; got.out.is_empty(), "{arguments}");
         assert!(rt; got.err.starts_with("error: "), "{arguments}");

@@ -8,6 +8,8 @@ fn connect(alloc: Global, client: &str) -> Result<Command, AllocError> {
     Ok(Command::Connect {
         client: String::from_str(alloc, client)?,
         user: None,
+        clean: true,
+        session_expiry: 0,
     })
 }
 

@@ -143,6 +143,72 @@ pub(crate) static ACCESS_LIST: Row = Row {
     status: 1,
 };
 
+#[test]
+fn rows_1(rt: HostRuntime) -> Result<(), Fail> {
+    run_row(&rt, &ACCESS_LIST_FILE)?;
+    run_row(&rt, &ACCESS_LIST_LINES)?;
+    run_row(&rt, &ACCESS_LIST)?;
+    Ok(())
+}
+
+pub(crate) static AWAY_SESSION: Row = Row {
+    name: "away-session",
+    access_list: None,
+    script: r##"{"do":"connect","client":"a","session_expiry":100}
+{"do":"connect","client":"p"}
+{"do":"subscribe","client":"a","filter":"t","qos":1,"id":4}
+{"do":"subscribe","client":"a","filter":"$share/g/t"}
+{"do":"disconnect","client":"a"}
+{"do":"publish","client":"p","topic":"t","payload":"m1","qos":1,"expiry":60}
+{"do":"publish","client":"p","topic":"t","payload":"m0"}
+{"do":"publish","client":"p","topic":"t","payload":"m2","qos":2}
+{"do":"publish","client":"p","topic":"t","payload":"m3","qos":1,"expiry":5}
+{"do":"advance","seconds":20}
+{"do":"connect","client":"a","clean":false}
+{"do":"publish","client":"p","topic":"t","payload":"x"}
+{"do":"disconnect","client":"a"}
+{"do":"publish","client":"p","topic":"t","payload":"x","qos":1}
+{"do":"connect","client":"a","session_expiry":10}
+{"do":"subscribe","client":"a","filter":"t","qos":1}
+{"do":"disconnect","client":"a"}
+{"do":"advance","seconds":9}
+{"do":"publish","client":"p","topic":"t","payload":"x","qos":1}
+{"do":"publish","client":"a","topic":"t","payload":"x"}
+{"do":"advance","seconds":1}
+{"do":"connect","client":"a","clean":false}
+{"do":"stat"}
+"##,
+    output: r##"{"line":1,"reason":0}
+{"line":2,"reason":0}
+{"line":3,"reason":1}
+{"line":4,"reason":0}
+{"line":5,"reason":0}
+{"line":6,"reason":0}
+{"line":7,"reason":16}
+{"line":8,"reason":0}
+{"line":9,"reason":0}
+{"line":10,"reason":0}
+{"client":"a","expiry":40,"ids":[4],"line":11,"payload":"m1","qos":1,"retain":false,"topic":"t"}
+{"client":"a","ids":[4],"line":11,"payload":"m2","qos":1,"retain":false,"topic":"t"}
+{"line":11,"reason":0}
+{"client":"a","ids":[4],"line":12,"payload":"x","qos":0,"retain":false,"topic":"t"}
+{"client":"a","filter":"t","line":12,"payload":"x","qos":0,"retain":false,"share":"g","topic":"t"}
+{"line":12,"reason":0}
+{"line":13,"reason":0}
+{"line":14,"reason":16}
+{"line":15,"reason":0}
+{"line":16,"reason":1}
+{"line":17,"reason":0}
+{"line":18,"reason":0}
+{"line":19,"reason":0}
+{"code":7,"line":20,"refused":"NotConnected"}
+{"line":21,"reason":0}
+{"line":22,"reason":0}
+{"line":23,"nodes":0,"retained":0,"subscriptions":0}
+"##,
+    status: 1,
+};
+
 pub(crate) static CLOCK_LIMIT: Row = Row {
     name: "clock-limit",
     access_list: None,
@@ -160,15 +226,6 @@ pub(crate) static CLOCK_LIMIT: Row = Row {
 "##,
     status: 1,
 };
-
-#[test]
-fn rows_1(rt: HostRuntime) -> Result<(), Fail> {
-    run_row(&rt, &ACCESS_LIST_FILE)?;
-    run_row(&rt, &ACCESS_LIST_LINES)?;
-    run_row(&rt, &ACCESS_LIST)?;
-    run_row(&rt, &CLOCK_LIMIT)?;
-    Ok(())
-}
 
 pub(crate) static DOLLAR_NAMES: Row = Row {
     name: "dollar-names",
@@ -236,6 +293,15 @@ pub(crate) static EXPIRY_REPLACED: Row = Row {
 "##,
     status: 1,
 };
+
+#[test]
+fn rows_2(rt: HostRuntime) -> Result<(), Fail> {
+    run_row(&rt, &AWAY_SESSION)?;
+    run_row(&rt, &CLOCK_LIMIT)?;
+    run_row(&rt, &DOLLAR_NAMES)?;
+    run_row(&rt, &EXPIRY_REPLACED)?;
+    Ok(())
+}
 
 pub(crate) static FIRST_LOOK: Row = Row {
     name: "first-look",
@@ -305,15 +371,6 @@ pub(crate) static FIRST_PATH: Row = Row {
     status: 1,
 };
 
-#[test]
-fn rows_2(rt: HostRuntime) -> Result<(), Fail> {
-    run_row(&rt, &DOLLAR_NAMES)?;
-    run_row(&rt, &EXPIRY_REPLACED)?;
-    run_row(&rt, &FIRST_LOOK)?;
-    run_row(&rt, &FIRST_PATH)?;
-    Ok(())
-}
-
 pub(crate) static GROUP_AND_ACCESS: Row = Row {
     name: "group-and-access",
     access_list: None,
@@ -360,6 +417,14 @@ pub(crate) static GROUP_AND_ACCESS: Row = Row {
 "##,
     status: 1,
 };
+
+#[test]
+fn rows_3(rt: HostRuntime) -> Result<(), Fail> {
+    run_row(&rt, &FIRST_LOOK)?;
+    run_row(&rt, &FIRST_PATH)?;
+    run_row(&rt, &GROUP_AND_ACCESS)?;
+    Ok(())
+}
 
 pub(crate) static GROUP_TURNS: Row = Row {
     name: "group-turns",
@@ -439,11 +504,52 @@ pub(crate) static LEAVING: Row = Row {
     status: 1,
 };
 
+pub(crate) static MEMORY_REFUSED: Row = Row {
+    name: "memory-refused",
+    access_list: None,
+    script: r##"{"do":"connect","client":"a"}
+{"do":"subscribe","client":"a","filter":"t","id":1}
+{"do":"subscribe","client":"a","filter":"$share/g/+"}
+{"do":"connect","client":"b"}
+{"do":"subscribe","client":"b","filter":"$share/g/+"}
+{"do":"publish","client":"a","topic":"t","payload":"old","retain":true,"expiry":10}
+{"do":"publish","client":"a","topic":"t","payload":"new","retain":true,"expiry":10}
+{"do":"publish","client":"a","topic":"u","payload":"x","retain":true}
+{"do":"subscribe","client":"b","filter":"#"}
+{"do":"acl","text":"topic read t"}
+{"do":"unsubscribe","client":"a","filter":"t"}
+{"do":"advance","seconds":10}
+{"do":"stat"}
+"##,
+    output: r##"{"line":1,"reason":0}
+{"line":2,"reason":0}
+{"line":3,"reason":0}
+{"line":4,"reason":0}
+{"line":5,"reason":0}
+{"client":"a","expiry":10,"ids":[1],"line":6,"payload":"old","qos":0,"retain":false,"topic":"t"}
+{"client":"a","expiry":10,"filter":"+","line":6,"payload":"old","qos":0,"retain":false,"share":"g","topic":"t"}
+{"line":6,"reason":0}
+{"client":"a","expiry":10,"ids":[1],"line":7,"payload":"new","qos":0,"retain":false,"topic":"t"}
+{"client":"b","expiry":10,"filter":"+","line":7,"payload":"new","qos":0,"retain":false,"share":"g","topic":"t"}
+{"line":7,"reason":0}
+{"client":"a","filter":"+","line":8,"payload":"x","qos":0,"retain":false,"share":"g","topic":"u"}
+{"line":8,"reason":0}
+{"client":"b","expiry":10,"line":9,"payload":"new","qos":0,"retain":true,"topic":"t"}
+{"client":"b","line":9,"payload":"x","qos":0,"retain":true,"topic":"u"}
+{"line":9,"reason":0}
+{"line":10,"reason":0}
+{"line":11,"reason":0}
+{"line":12,"reason":0}
+{"line":13,"nodes":3,"retained":1,"subscriptions":3}
+"##,
+    status: 0,
+};
+
 #[test]
-fn rows_3(rt: HostRuntime) -> Result<(), Fail> {
-    run_row(&rt, &GROUP_AND_ACCESS)?;
+fn rows_4(rt: HostRuntime) -> Result<(), Fail> {
     run_row(&rt, &GROUP_TURNS)?;
     run_row(&rt, &LEAVING)?;
+    run_row(&rt, &MEMORY_REFUSED)?;
     Ok(())
 }
 
@@ -606,7 +712,7 @@ pub(crate) static OVERLAPPING_IDENTIFIERS: Row = Row {
 };
 
 #[test]
-fn rows_4(rt: HostRuntime) -> Result<(), Fail> {
+fn rows_5(rt: HostRuntime) -> Result<(), Fail> {
     run_row(&rt, &MESSAGE_EXPIRY)?;
     run_row(&rt, &NO_LOCAL_FIRST)?;
     run_row(&rt, &NO_LOCAL)?;
@@ -779,7 +885,7 @@ pub(crate) static SESSION_BEGUN_ANEW: Row = Row {
 };
 
 #[test]
-fn rows_5(rt: HostRuntime) -> Result<(), Fail> {
+fn rows_6(rt: HostRuntime) -> Result<(), Fail> {
     run_row(&rt, &RETAIN_HANDLING_UNSHARED)?;
     run_row(&rt, &RETAIN_HANDLING)?;
     run_row(&rt, &RETAINED_AND_ACCESS)?;
@@ -787,6 +893,32 @@ fn rows_5(rt: HostRuntime) -> Result<(), Fail> {
     run_row(&rt, &SESSION_BEGUN_ANEW)?;
     Ok(())
 }
+
+pub(crate) static SESSION_TAKEN_OVER: Row = Row {
+    name: "session-taken-over",
+    access_list: None,
+    script: r##"{"do":"connect","client":"a","session_expiry":4294967295}
+{"do":"subscribe","client":"a","filter":"t","qos":1}
+{"do":"connect","client":"a","clean":false,"session_expiry":5}
+{"do":"publish","client":"a","topic":"t","payload":"x"}
+{"do":"connect","client":"a","clean":false}
+{"do":"publish","client":"a","topic":"t","payload":"x"}
+{"do":"connect","client":"a","clean":false}
+{"do":"publish","client":"a","topic":"t","payload":"x"}
+"##,
+    output: r##"{"line":1,"reason":0}
+{"line":2,"reason":1}
+{"line":3,"reason":0}
+{"client":"a","line":4,"payload":"x","qos":0,"retain":false,"topic":"t"}
+{"line":4,"reason":0}
+{"line":5,"reason":0}
+{"client":"a","line":6,"payload":"x","qos":0,"retain":false,"topic":"t"}
+{"line":6,"reason":0}
+{"line":7,"reason":0}
+{"line":8,"reason":16}
+"##,
+    status: 0,
+};
 
 pub(crate) static SINGLE_LEVEL_WILDCARD: Row = Row {
     name: "single-level-wildcard",
@@ -896,7 +1028,8 @@ pub(crate) static TWO_GROUPS: Row = Row {
 };
 
 #[test]
-fn rows_6(rt: HostRuntime) -> Result<(), Fail> {
+fn rows_7(rt: HostRuntime) -> Result<(), Fail> {
+    run_row(&rt, &SESSION_TAKEN_OVER)?;
     run_row(&rt, &SINGLE_LEVEL_WILDCARD)?;
     run_row(&rt, &STAT_COUNTS)?;
     run_row(&rt, &TWO_GROUPS)?;
