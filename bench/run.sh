@@ -8,19 +8,33 @@ scratch=$(mktemp -d)
 trap 'rm -rf "$scratch"' EXIT
 TIMEFORMAT=%U
 
-seconds() { # SCRIPT ARGUMENTS..: user seconds, best of three
-    local script=$1
-    shift
-    for _ in 1 2 3; do
+# The same job in ordinary Rust, built from Debian's crates.
+yardstick=
+registry=/usr/share/cargo/registry
+if command -v cargo > /dev/null && compgen -G "$registry/serde_json-1*" > /dev/null && compgen -G "$registry/indexmap-1*" > /dev/null; then
+    cp -r bench/yardstick "$scratch/yardstick"
+    mkdir "$scratch/yardstick/.cargo"
+    printf '[source.crates-io]\nreplace-with = "debian"\n[source.debian]\ndirectory = "%s"\n' "$registry" \
+        > "$scratch/yardstick/.cargo/config.toml"
+    (cd "$scratch/yardstick" && cargo build --release --offline --quiet)
+    yardstick=$scratch/yardstick/target/release/yardstick
+else
+    echo "The yardstick wants cargo, librust-serde-json-dev and librust-indexmap-dev: the program alone is measured."
+fi
+
+seconds() { # PROGRAM SCRIPT ARGUMENTS..: user seconds, best of five
+    local program=$1 script=$2
+    shift 2
+    for _ in 1 2 3 4 5; do
         { time "$program" "$@" < "$script" > /dev/null; } 2>&1 || true
     done | sort -n | head -1
 }
 
 # A program that waits for more of its script, on $feed. What the kernel tells of it then is its own: what a parent is told
 # of a child begins with the parent's memory.
-begin() { # ARGUMENTS..
+begin() { # PROGRAM ARGUMENTS..
     mkfifo "$scratch/pipe"
-    "$program" "$@" < "$scratch/pipe" > /dev/null &
+    "$@" < "$scratch/pipe" > /dev/null &
     pid=$!
     exec {feed}> "$scratch/pipe"
 }
@@ -44,21 +58,25 @@ ticks() { # user time so far
     awk '{ print $14 }' "/proc/$pid/stat"
 }
 
-peak() { # SCRIPT ARGUMENTS..: peak memory in KB
-    local script=$1
-    shift
-    begin "$@"
+peak() { # PROGRAM SCRIPT ARGUMENTS..: peak memory in KB
+    local program=$1 script=$2
+    shift 2
+    begin "$program" "$@"
     give "$script"
     awk '/VmHWM/ { print $2 }' "/proc/$pid/status"
     finish
 }
 
 whole() { # LABEL SCRIPT ARGUMENTS..
-    local label=$1 lines took
+    local label=$1 lines took compared
     shift
     lines=$(wc -l < "$1")
-    took=$(seconds "$@")
-    echo "$label: $took s user, $(python3 -c "print(int($lines / max($took, 0.001)))") lines a second, peak $(peak "$@") KB"
+    took=$(seconds "$program" "$@")
+    echo "$label: $took s user, $(python3 -c "print(int($lines / max($took, 0.001)))") lines a second, peak $(peak "$program" "$@") KB"
+    if [ -n "$yardstick" ]; then
+        compared=$(seconds "$yardstick" "$@")
+        echo "    the yardstick: $compared s user, peak $(peak "$yardstick" "$@") KB; ratio $(python3 -c "print(f'{$took / max($compared, 0.001):.2f}')")"
+    fi
 }
 
 # What one more command costs: the user time of COUNT of them, after a script without.
@@ -66,7 +84,7 @@ each() { # LABEL COUNT KIND SIZE
     local start
     python3 bench/scripts.py "$3" "$4" 0 > "$scratch/before"
     python3 bench/scripts.py "$3" "$4" "$2" | tail -n +$(($(wc -l < "$scratch/before") + 1)) > "$scratch/more"
-    begin
+    begin "$program"
     give "$scratch/before"
     start=$(ticks)
     give "$scratch/more"
@@ -76,6 +94,14 @@ each() { # LABEL COUNT KIND SIZE
 
 python3 bench/scripts.py five > "$scratch/five"
 whole "100,000 publishes to 5 subscribers of one filter" "$scratch/five"
+python3 bench/scripts.py overlapping 100000 > "$scratch/overlapping"
+whole "100,000 publishes to 5 subscribers of three filters with identifiers" "$scratch/overlapping"
+python3 bench/scripts.py groups 10 100000 > "$scratch/groups"
+whole "100,000 publishes to a group" "$scratch/groups"
+python3 bench/scripts.py lasting 100000 10000 > "$scratch/lasting"
+whole "100,000 retained topics, 10,000 subscribers, 10,000 advances" "$scratch/lasting"
+python3 bench/scripts.py resuming 1000 1000 > "$scratch/resuming"
+whole "1,000 clients for which 1,000 copies wait, and that come back" "$scratch/resuming"
 python3 bench/scripts.py big 20000000 > "$scratch/small"
 whole "a script of 20 MB" "$scratch/small"
 python3 bench/scripts.py big 200000000 > "$scratch/big"
@@ -90,6 +116,12 @@ for topics in 1000 100000; do
 done
 for others in 100 10000 1000000; do
     each "a publish to 5 subscribers beside $others other subscriptions" 300000 others "$others"
+done
+for away in 100 100000; do
+    each "a publish to 5 subscribers, two of them away, beside $away clients that are away" 300000 sessions "$away"
+done
+for away in 10 1000; do
+    each "the return of one of $away clients for which 1,000 copies wait" 10 resuming "$away"
 done
 for groups in 10 10000; do
     each "a publish to one of $groups groups" 300000 groups "$groups"

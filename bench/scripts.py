@@ -6,10 +6,15 @@ big BYTES                     publishes that nobody receives, until the script h
 rules LINES PUBLISHES         PUBLISHES publishes for an access list of LINES lines, as `list` writes it
 list LINES                    that access list
 others OTHERS PUBLISHES       publishes to 5 subscribers beside OTHERS subscriptions that don't match
+overlapping PUBLISHES         publishes to 5 subscribers, each by three filters with identifiers
 groups GROUPS PUBLISHES       publishes to one of GROUPS shared subscriptions
 leaving FILTERS LEAVES        a client that subscribes to FILTERS filters and leaves LEAVES of them
 retained TOPICS SUBSCRIBES    subscribes of which each is sent 10 of TOPICS retained messages
 expiring TOPICS ADVANCES      advances of which each ends 10 retained messages, beside TOPICS that stay
+lasting TOPICS CLIENTS        CLIENTS clients that are each sent 10 of TOPICS retained messages, and as many advances,
+                              which end all those messages
+sessions AWAY PUBLISHES       publishes to 5 subscribers, of which two are away, beside AWAY clients that are away
+resuming AWAY RESUMES         clients of AWAY, for each of which 1,000 copies wait, that come back
 """
 import json
 import sys
@@ -61,6 +66,15 @@ def access_list(lines):
         write(f"topic readwrite area/{i}/+\n")
 
 
+def overlapping(publishes):
+    for i in range(5):
+        line(do="connect", client=f"client-{i}")
+        for id, filter in enumerate(["site/+/temperature", "site/#", "+/+/temperature"], 1):
+            line(do="subscribe", client=f"client-{i}", filter=filter, qos=1, id=id)
+    for i in range(publishes):
+        line(do="publish", client="client-0", topic=f"site/{i % 100}/temperature", payload=f"v={i}", qos=1)
+
+
 def groups(count, publishes):
     for i in range(3):
         line(do="connect", client=f"worker-{i}")
@@ -97,6 +111,44 @@ def expiring(topics, advances):
         line(do="advance", seconds=1)
 
 
-kinds = {"five": five, "big": big, "rules": rules, "list": access_list, "others": others, "groups": groups,
+def lasting(topics, clients):
+    line(do="connect", client="sensor")
+    for i in range(topics):
+        line(do="publish", client="sensor", topic=f"area/{i // 10}/{i % 10}", payload="on", retain=True, expiry=1 + i % clients)
+    for i in range(clients):
+        line(do="connect", client=f"client-{i}")
+        line(do="subscribe", client=f"client-{i}", filter=f"area/{i % (topics // 10)}/+")
+    for _ in range(clients):
+        line(do="advance", seconds=1)
+
+
+def sessions(away, publishes):
+    five_subscribers()
+    for i in range(2):
+        line(do="connect", client=f"client-{i + 1}", clean=False, session_expiry=3600)
+        line(do="subscribe", client=f"client-{i + 1}", filter="site/+/temperature", qos=1)
+        line(do="disconnect", client=f"client-{i + 1}")
+    for i in range(away):
+        line(do="connect", client=f"away-{i}", session_expiry=3600)
+        line(do="subscribe", client=f"away-{i}", filter=f"other/{i % 1000}/{i}/state", qos=1)
+        line(do="disconnect", client=f"away-{i}")
+    for i in range(publishes):
+        line(do="publish", client="client-0", topic=f"site/{i % 100}/temperature", payload=f"v={i}", qos=1)
+
+
+def resuming(away, resumes):
+    line(do="connect", client="sensor")
+    for i in range(away):
+        line(do="connect", client=f"away-{i}", session_expiry=3600)
+        line(do="subscribe", client=f"away-{i}", filter="alarm/#", qos=1)
+        line(do="disconnect", client=f"away-{i}")
+    for i in range(1000):
+        line(do="publish", client="sensor", topic="alarm/fire", payload=f"v={i}", qos=1)
+    for i in range(resumes):
+        line(do="connect", client=f"away-{i}", clean=False, session_expiry=3600)
+
+
+kinds = {"overlapping": overlapping, "lasting": lasting, "sessions": sessions, "resuming": resuming,
+         "five": five, "big": big, "rules": rules, "list": access_list, "others": others, "groups": groups,
          "leaving": leaving, "retained": retained, "expiring": expiring}
 kinds[sys.argv[1]](*(int(n) for n in sys.argv[2:]))
