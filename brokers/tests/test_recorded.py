@@ -1,6 +1,6 @@
-"""The recorded logs under the built mqroute, the broker's own lines against its copies, and the README's numbers.
+"""The recorded logs under the built mqroute, the broker's own lines against its copies, and the READMEs' numbers.
 
-The program is $MQROUTE, or the one that `make run` builds. What wants a request that isn't built yet is skipped.
+The program is $MQROUTE, or the one that `make run` builds; without one the tests that want it are skipped.
 """
 import io
 import os
@@ -16,11 +16,7 @@ HERE = Path(__file__).parent.parent
 RECORDED = HERE / "recorded"
 PROGRAM = Path(os.environ.get("MQROUTE", HERE.parent / "crates/mqroute/out/mqroute"))
 SESSIONS = ["--session-expiry", "3600"]  # as record_clients.py asks for
-PROBES = {  # a line that a program without these refuses
-    "retained messages": '{"do":"publish","client":"a","topic":"x","retain":true}',
-    "groups": '{"do":"subscribe","client":"a","filter":"$share/g/x"}',
-    "sessions": '{"do":"connect","client":"b","clean":false}',
-}
+wants_program = unittest.skipUnless(PROGRAM.exists(), f"there is no {PROGRAM}")
 
 
 def mqroute(script: bytes, *words: str) -> bytes:
@@ -35,14 +31,10 @@ def tool(name: str, *words: str | Path) -> tuple[int, str]:
     return done.returncode, done.stdout
 
 
-def wants(*features: str):
-    """Skips where there is no program, or one without a feature."""
-    if not PROGRAM.exists():
-        return unittest.skip(f"there is no {PROGRAM}")
-    for feature in features:
-        if b"refused" in mqroute(b'{"do":"connect","client":"a"}\n' + PROBES[feature].encode()):
-            return unittest.skip(f"{PROGRAM} has no {feature} yet")
-    return lambda test: test
+def walk_through(text: str) -> list[tuple[str, str]]:
+    """The commands in a document's blocks, each with what it prints."""
+    blocks = re.findall(r"```\n(\$ .*?)```", text, re.S)
+    return re.findall(r"^\$ (.*)\n((?:(?!\$ ).*\n)*)", "".join(blocks), re.M)
 
 
 class Recorded(unittest.TestCase):
@@ -64,11 +56,11 @@ class Recorded(unittest.TestCase):
         self.convert("plain")
         self.convert("sessions", *SESSIONS)
 
-    @wants("retained messages")
+    @wants_program
     def test_plain(self):
         self.differ("plain")
 
-    @wants("retained messages", "groups", "sessions")
+    @wants_program
     def test_sessions(self):
         self.differ("sessions", *SESSIONS)
 
@@ -84,22 +76,16 @@ class Recorded(unittest.TestCase):
 
 
 class Scripts(unittest.TestCase):
-    @wants()
+    @wants_program
     def test_outputs(self):
-        """Each script of differences/ that the program can run gives the output that the broker was compared with."""
-        ran = 0
+        """Each script of differences/ gives the output that the broker was compared with."""
         for script in sorted((HERE / "differences").glob("*.jsonl")):
             words = ["--acl-file", script.with_suffix(".acl")] if script.with_suffix(".acl").exists() else []
             if script.with_suffix(".options").exists():
                 words += script.with_suffix(".options").read_text().split()
             done = subprocess.run([PROGRAM, *words, script], capture_output=True)
-            if done.returncode == 2 or re.search(rb'"(BadField|BadCommand|TopicFilter)"', done.stdout):
-                continue  # waits for a request that isn't built yet
             with self.subTest(script.stem):
                 self.assertEqual(done.stdout, script.with_suffix(".out").read_bytes())
-            ran += 1
-        self.assertGreater(ran, 0)
-
 
     def test_each_is_told_of(self):
         """docs/BROKERS.md names each script, and stands the ones that differ in its table."""
@@ -111,20 +97,31 @@ class Scripts(unittest.TestCase):
 
 
 class Readme(unittest.TestCase):
-    @wants("retained messages")
-    def test_walk_through(self):
-        """Runs the README's commands in order, and compares what they print."""
-        text = (HERE / "README.md").read_text(encoding="utf-8")
-        blocks = re.findall(r"```\n(\$ .*?)```", text.split("## Walk-through")[1].split("\n## ")[0], re.S)
-        self.assertGreater(len(blocks), 2)
+    def check(self, commands: list[tuple[str, str]]) -> None:
+        """Runs commands in order in the folder of the recorded logs, and compares what they print."""
         with tempfile.TemporaryDirectory() as folder:
             tools = Path(folder, "brokers")
             shutil.copytree(HERE, tools, ignore=shutil.ignore_patterns("__pycache__"))
             Path(folder, "mqroute").symlink_to(PROGRAM)
-            for command, printed in re.findall(r"^\$ (.*)\n((?:(?!\$ ).*\n)*)", "".join(blocks), re.M):
-                done = subprocess.run(command, shell=True, cwd=tools / "recorded", text=True, encoding="utf-8", stdout=subprocess.PIPE,
-                                      stderr=subprocess.STDOUT, env=os.environ | {"PATH": f"{folder}:{os.environ['PATH']}"})
+            around = os.environ | {"PATH": f"{folder}:{os.environ['PATH']}"}
+            for command, printed in commands:
+                done = subprocess.run(command, shell=True, cwd=tools / "recorded", text=True, encoding="utf-8",
+                                      stdout=subprocess.PIPE, stderr=subprocess.STDOUT, env=around)
                 self.assertEqual(done.stdout, printed, command)
+
+    @wants_program
+    def test_walk_through(self):
+        text = (HERE / "README.md").read_text(encoding="utf-8")
+        commands = walk_through(text.split("## Walk-through")[1].split("\n## ")[0])
+        self.assertGreater(len(commands), 4)
+        self.check(commands)
+
+    @wants_program
+    def test_first_page(self):
+        text = (HERE.parent / "README.md").read_text(encoding="utf-8")
+        commands = walk_through(text.split("## Yesterday's log")[1].split("\n## ")[0])
+        self.assertGreater(len(commands), 3)
+        self.check(commands)
 
 
 if __name__ == "__main__":
