@@ -1,13 +1,11 @@
 //! The copies of a message.
-ghost use Rattle.std.specs.Prelude.{◌≡◌, ◌+◌, IfOk, length, map, string_bytes, List};
-ghost use Rattle.std.specs.Option.{option_copied, option_map};
+ghost use Rattle.std.specs.Prelude.{◌≡◌, ◌+◌, IfOk, length, map, List};
+ghost use Rattle.std.specs.Option.{option_copied};
 ghost use Rattle.mq_topic.specs.Levels.{levels};
 ghost use Rattle.mq_tree.specs.Prefixes.{prefixes, met_by_name};
 ghost use Rattle.mq_acl.specs.Access.{allowed};
 ghost use Rattle.mq_acl.specs.declared.access.Direction.TheVariants.{Reading, Writing};
 ghost use Rattle.mq_router.specs.Lists.{Text};
-ghost use Rattle.mq_router.specs.Summaries.{copy_from};
-ghost use Rattle.mq_router.specs.Views.{copy_of, group_of};
 ghost use Rattle.mq_router.specs.Held.{message_of, turn_of, begin_of};
 ghost use Rattle.mq_router.specs.Begun.{begun_by};
 
@@ -16,6 +14,7 @@ use crate::at_filter::AtFilter;
 use crate::begun::Begun;
 use crate::direct::{Direct, direct_copies};
 use crate::options::Options;
+use crate::outgoing::Outgoing;
 use crate::readers::Readers;
 use crate::subscriptions::Subscriptions;
 use crate::summary::Summary;
@@ -67,28 +66,6 @@ pub(crate) fn may_write(
     }
 }
 
-/// The copy for a client, or for it in a group, by subscriptions with this summary.
-pub(crate) fn copy_from(
-    alloc: Global,
-    client: String,
-    group: Option<(String, String)>,
-    message: &Message,
-    summary: Summary,
-) -> Result<Delivery, AllocError>
-    ensures { IfOk result (λ d. copy_of d ≡ copy_from (string_bytes client) (option_map group_of group) (message_of message.now) summary) }
-{
-    Ok(Delivery {
-        client,
-        topic: String::from_str(alloc, message.topic.text())?,
-        payload: String::from_str(alloc, message.payload)?,
-        qos: message.qos.min(summary.qos()),
-        retain: message.retain && summary.retains_as_published(),
-        expiry: message.expiry,
-        ids: summary.into_ids(),
-        group,
-    })
-}
-
 /// A member of a group that a publish serves.
 #[derive(Debug, Drop)]
 pub(crate) struct Turn {
@@ -130,14 +107,8 @@ pub(crate) fn make_copies(
     // Learns that the clients are in order, those with options and those with a session.
     let _clients = gathered.len();
     let _sessions = readers.sessions.len();
-    let Direct { mut copies, begun } = direct_copies(alloc, readers, gathered, message, queueing)?;
     let served = members_served(alloc, readers, found.as_slice(), message)?;
-    add_group_copies(alloc, served.as_slice(), message, &mut copies)?;
-    Ok(Made {
-        copies,
-        begun,
-        served,
-    })
+    made_for(alloc, readers, gathered, served, message, queueing)
 }
 
 ghost use Rattle.std.specs.Prelude.{◌++◌, OnOk, []};
@@ -146,7 +117,8 @@ ghost use Rattle.mq_router.specs.Kept.{AreAtFilters};
 ghost use Rattle.mq_router.specs.Gathered.{lists_in, NoneBare};
 ghost use Rattle.mq_router.specs.Gathers.{GathersOptions, TurnsListed, seen, copies_in, turns_in};
 ghost use Rattle.mq_router.specs.Applied.{copies_made, next_members, member_copy};
-ghost use Rattle.mq_router.specs.Made.{rows_found};
+ghost use Rattle.mq_router.specs.KeptViews.{texts};
+ghost use Rattle.mq_router.specs.Made.{rows_found, copies_by, begins_by};
 
 // By client what the options of its subscriptions that take part come to.
 fn gather_options(
@@ -209,13 +181,50 @@ fn flattened(alloc: Global, by_share: BTreeMap<String, Vec<Turn>>) -> Result<Vec
     Ok(served)
 }
 
+// The copies for these clients and members, with texts that all of them share. Where there is no one no texts are made.
+fn made_for(
+    alloc: Global,
+    readers: &Readers,
+    gathered: BTreeMap<String, Summary>,
+    served: Vec<Turn>,
+    message: &Message,
+    queueing: Queueing,
+) -> Result<Made, AllocError>
+    ensures copies { IfOk result (λ m. copies_in m.copies
+        ≡ copies_by readers.now.access.now readers.now.sessions.now (message_of message.now) (texts gathered.entries)
+        ++ map (member_copy (message_of message.now)) (turns_in served)) }
+    ensures begun { IfOk result (λ m. map begin_of m.begun
+        ≡ begins_by queueing.limit readers.now.access.now readers.now.sessions.now (message_of message.now) queueing.deadline
+        (texts gathered.entries)) }
+    ensures served { IfOk result (λ m. m.served ≡ served) }
+{
+    if gathered.is_empty() && served.is_empty() {
+        return Ok(Made {
+            copies: Vec::new(alloc),
+            begun: LinkedList::new(alloc),
+            served,
+        });
+    }
+    let outgoing = Outgoing::new(alloc, message)?;
+    let Direct { mut copies, begun } = direct_copies(
+        alloc, readers, gathered, &outgoing, queueing,
+    )?;
+    add_group_copies(alloc, served.as_slice(), &outgoing, &mut copies)?;
+    Ok(Made {
+        copies,
+        begun,
+        served,
+    })
+}
+
 fn add_group_copies(
     alloc: Global,
     served: &[Turn],
-    message: &Message,
+    outgoing: &Outgoing,
     copies: &mut Vec<Delivery>,
 ) -> Result<(), AllocError>
-    ensures { OnOk result (copies_in copies.new ≡ copies_in copies.old ++ map (λ t. member_copy (message_of message.now) (turn_of t)) served.now) }
+    ensures { OnOk result (copies_in copies.new
+        ≡ copies_in copies.old ++ map (λ t. member_copy (message_of outgoing.now.message) (turn_of t)) served.now) }
 {
     for turn in served {
         let group = (
@@ -224,7 +233,7 @@ fn add_group_copies(
         );
         let summary = Summary::of(alloc, turn.options)?;
         let client = turn.client.clone()?;
-        copies.push(copy_from(alloc, client, Some(group), message, summary)?)?;
+        copies.push(outgoing.copy(client, Some(group), summary)?)?;
     }
     Ok(())
 }

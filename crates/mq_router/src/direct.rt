@@ -7,7 +7,7 @@ ghost use Rattle.mq_router.specs.Held.{message_of, begin_of};
 
 use crate::answer::Delivery;
 use crate::begun::Begun;
-use crate::copies::{Message, copy_from};
+use crate::outgoing::Outgoing;
 use crate::readers::Readers;
 use crate::session::Way;
 use crate::summary::Summary;
@@ -28,22 +28,22 @@ pub(crate) fn direct_copies(
     alloc: Global,
     readers: &Readers,
     gathered: BTreeMap<String, Summary>,
-    message: &Message,
+    outgoing: &Outgoing,
     queueing: Queueing,
 ) -> Result<Direct, AllocError>
     ensures copies { IfOk result (λ d. copies_in d.copies
-        ≡ copies_by readers.now.access.now readers.now.sessions.now (message_of message.now) (texts gathered.entries)) }
+        ≡ copies_by readers.now.access.now readers.now.sessions.now (message_of outgoing.now.message) (texts gathered.entries)) }
     ensures begun { IfOk result (λ d. map begin_of d.begun
-        ≡ begins_by queueing.limit readers.now.access.now readers.now.sessions.now (message_of message.now) queueing.deadline
+        ≡ begins_by queueing.limit readers.now.access.now readers.now.sessions.now (message_of outgoing.now.message) queueing.deadline
         (texts gathered.entries)) }
 {
     let mut copies = Vec::new(alloc);
     let mut begun = LinkedList::new(alloc);
     for (client, summary) in gathered {
-        match readers.way(client.as_str(), message.topic, queueing.limit) {
-            Way::Sent => copies.push(copy_from(alloc, client, None, message, summary)?)?,
+        match readers.way(client.as_str(), outgoing.message.topic, queueing.limit) {
+            Way::Sent => copies.push(outgoing.copy(client, None, summary)?)?,
             Way::Waits => {
-                let copy = copy_from(alloc, client, None, message, summary)?;
+                let copy = outgoing.copy(client, None, summary)?;
                 if let Some(one) = begin(alloc, copy, queueing.deadline)? {
                     begun.push_back(one)?;
                 }

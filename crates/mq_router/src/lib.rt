@@ -15,6 +15,7 @@ mod gathered;
 mod group;
 mod limits;
 mod options;
+mod outgoing;
 mod own;
 mod readers;
 mod refusal;

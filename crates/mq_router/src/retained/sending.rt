@@ -16,6 +16,7 @@ use crate::subscriptions::Subscriptions;
 use mq_acl::Acl;
 use mq_topic::{LevelText, SubFilter, TopicFilter};
 use std::alloc::{AllocError, Global};
+use std::rc::RcStr;
 
 /// A client that subscribes, with its user name or none, under an access list at a moment.
 #[derive(Clone, Copy)]
@@ -77,8 +78,8 @@ fn retained_copy(
 {
     Ok(Delivery {
         client: String::from_str(alloc, receiver.client)?,
-        topic: String::from_str(alloc, stored.topic.text())?,
-        payload: stored.payload.clone()?,
+        topic: RcStr::from_str(alloc, stored.topic.text())?,
+        payload: RcStr::from_str(alloc, stored.payload.as_str())?,
         qos: stored.qos.min(receiver.options.qos),
         retain: true,
         expiry: receiver.clock.time_left(stored.deadline),

@@ -1,5 +1,5 @@
-use Rattle.std.proofs.Common.{◌∙◌, ◌++◌, sym, ap, map, List}
-use Rattle.std.proofs.lemmas.Simd.{map-map}
+use Rattle.std.proofs.Common.{◌∙◌, ◌++◌, ap, map, List}
+use Rattle.std.proofs.lemmas.Result.{IfOk-weaker}
 use Rattle.mq_router.specs.World.{Subscription}
 use Rattle.mq_router.specs.Sessions.{connected}
 use Rattle.mq_router.specs.Applied.{next_members, member_copy}
@@ -7,7 +7,8 @@ use Rattle.mq_router.specs.Copies.{direct_copies}
 use Rattle.mq_router.specs.Made.{rows_found, gives_options}
 use Rattle.mq_router.specs.KeptViews.{texts}
 use Rattle.mq_router.specs.Summaries.{summary_for}
-use Rattle.mq_router.specs.Held.{message_of, turn_of}
+use Rattle.mq_router.specs.Held.{message_of}
+use Rattle.mq_router.specs.Gathers.{turns_in}
 use Rattle.mq_router.proofs.Texts.{ordered-texts}
 use Rattle.mq_router.proofs.SummaryLemmas.{none-more}
 use Rattle.mq_router.proofs.OwnCopies.{own-copies, own-begun, options-matching}
@@ -18,10 +19,13 @@ pub returns-clause-served : goal.returns-clause-served
 returns-clause-served c =
     let m = message_of c.args.message.now in
     let members : List Subscription → List Subscription = λ xs. next_members c.args.readers.now.access.now c.args.readers.now.sessions.now xs m in
-    c.in_ok-served.ensures
+    IfOk-weaker c.made_for.result _ _
+    (λ made e. ap turns_in e
+    ∙ c.in_ok-served.ensures
     ∙ ap (λ l. members (rows_found (map (λ a. a.now) l))) c.as_slice-2.ensures.value
     ∙ ap members c.in_ok-found.ensures.rows
-    ∙ members-matching c.args.readers.now.access.now c.args.readers.now.sessions.now c.args.subscriptions.now.rows m
+    ∙ members-matching c.args.readers.now.access.now c.args.readers.now.sessions.now c.args.subscriptions.now.rows m)
+    c.made_for.ensures.served
 
 pub returns-clause-begun : goal.returns-clause-begun
 returns-clause-begun c =
@@ -29,11 +33,13 @@ returns-clause-begun c =
     let A = c.args.readers.now.access.now in
     let S = c.args.readers.now.sessions.now in
     let subs = c.args.subscriptions.now.rows in
-    c.in_ok-copies.ensures.begun
+    IfOk-weaker c.made_for.result _ _
+    (λ made e. e
     ∙ own-begun c.args.queueing.limit A S subs m c.args.queueing.deadline (texts c.in_ok-gathered.gathered.entries) c.len-sessions.ensures.ordered (ordered-texts c.in_ok-gathered.gathered.entries c.len-clients.ensures.ordered)
     (λ id. c.in_ok-gathered.ensures id ∙ none-more (summary_for (gives_options m id (rows_found (map (λ a. a.now) c.as_slice.result.now))))
     ∙ ap summary_for (ap (λ l. gives_options m id (rows_found (map (λ a. a.now) l))) c.as_slice.ensures.value
-    ∙ ap (gives_options m id) c.in_ok-found.ensures.rows ∙ options-matching m id subs))
+    ∙ ap (gives_options m id) c.in_ok-found.ensures.rows ∙ options-matching m id subs)))
+    c.made_for.ensures.begun
 
 pub returns-clause-copies : goal.returns-clause-copies
 returns-clause-copies c =
@@ -46,11 +52,11 @@ returns-clause-copies c =
     (λ id. c.in_ok-gathered.ensures id ∙ none-more (summary_for (gives_options m id (rows_found (map (λ a. a.now) c.as_slice.result.now))))
     ∙ ap summary_for (ap (λ l. gives_options m id (rows_found (map (λ a. a.now) l))) c.as_slice.ensures.value
     ∙ ap (gives_options m id) c.in_ok-found.ensures.rows ∙ options-matching m id subs)) in
-    c.in_ok-add_group_copies.ensures
-    ∙ ap (λ l. l ++ map (λ t. member_copy m (turn_of t)) c.as_slice-3.result.now) (c.in_ok-copies.ensures.copies ∙ own)
-    ∙ ap (λ l. direct_copies A (connected S) subs m ++ map (λ t. member_copy m (turn_of t)) l) c.as_slice-3.ensures.value
-    ∙ ap (λ l. direct_copies A (connected S) subs m ++ l) (sym (map-map (member_copy m) turn_of c.in_ok-served.served.items)
-    ∙ ap (map (member_copy m)) (c.in_ok-served.ensures
+    IfOk-weaker c.made_for.result _ _
+    (λ made e. e
+    ∙ ap (λ l. l ++ map (member_copy m) (turns_in c.in_ok-served.served)) own
+    ∙ ap (λ l. direct_copies A (connected S) subs m ++ map (member_copy m) l) (c.in_ok-served.ensures
     ∙ ap (λ l. members (rows_found (map (λ a. a.now) l))) c.as_slice-2.ensures.value
     ∙ ap members c.in_ok-found.ensures.rows
     ∙ members-matching A S subs m))
+    c.made_for.ensures.copies
