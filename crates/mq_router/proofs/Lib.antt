@@ -20,6 +20,7 @@ pub mod SortedLemmas
 pub mod GroupLemmas
 pub mod ServedMembers
 pub mod OwnCopies
+pub mod NothingLemmas
 pub mod BegunLemmas
 pub mod ReachedLemmas
 pub mod EndLemmas

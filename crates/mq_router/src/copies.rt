@@ -83,6 +83,21 @@ pub(crate) struct Made {
     pub(crate) served: Vec<Turn>,
 }
 
+impl Made {
+    // What is made of a message that nobody gets.
+    fn nothing(alloc: Global) -> Made
+        ensures copies { copies_in result.copies ≡ [] }
+        ensures begun { result.begun ≡ [] }
+        ensures served { turns_in result.served ≡ [] }
+    {
+        Made {
+            copies: Vec::new(alloc),
+            begun: LinkedList::new(alloc),
+            served: Vec::new(alloc),
+        }
+    }
+}
+
 /// All copies of a message: those for clients themselves by client id, and those for groups by share name and filter.
 pub(crate) fn make_copies(
     alloc: Global,
@@ -102,12 +117,16 @@ pub(crate) fn make_copies(
     ensures count { OnOk result (steps.new ≡ steps.old
         + length (met_by_name (levels message.now.topic.now) (prefixes subscriptions.now.keys))) }
 {
-    let found = subscriptions.candidates(message.topic, steps)?;
-    let gathered = gather_options(alloc, found.as_slice(), message)?;
+    let candidates = subscriptions.candidates(message.topic, steps)?;
+    let found = candidates.as_slice();
+    if found.is_empty() {
+        return Ok(Made::nothing(alloc));
+    }
+    let gathered = gather_options(alloc, found, message)?;
     // Learns that the clients are in order, those with options and those with a session.
     let _clients = gathered.len();
     let _sessions = readers.sessions.len();
-    let served = members_served(alloc, readers, found.as_slice(), message)?;
+    let served = members_served(alloc, readers, found, message)?;
     made_for(alloc, readers, gathered, served, message, queueing)
 }
 
@@ -200,9 +219,8 @@ fn made_for(
 {
     if gathered.is_empty() && served.is_empty() {
         return Ok(Made {
-            copies: Vec::new(alloc),
-            begun: LinkedList::new(alloc),
             served,
+            ..Made::nothing(alloc)
         });
     }
     let outgoing = Outgoing::new(alloc, message)?;
