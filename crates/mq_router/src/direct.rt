@@ -37,7 +37,7 @@ pub(crate) fn direct_copies(
         ≡ begins_by queueing.limit readers.now.access.now readers.now.sessions.now (message_of outgoing.now.message) queueing.deadline
         (texts gathered.entries)) }
 {
-    let mut copies = Vec::new(alloc);
+    let mut copies = Vec::with_capacity(alloc, gathered.len())?;
     let mut begun = LinkedList::new(alloc);
     for (client, summary) in gathered {
         match readers.way(client.as_str(), outgoing.message.topic, queueing.limit) {
