@@ -6,6 +6,7 @@ ghost use Rattle.mq_tree.specs.Prefixes.{prefixes, met_by_name};
 ghost use Rattle.mq_acl.specs.Access.{allowed};
 ghost use Rattle.mq_acl.specs.declared.access.Direction.TheVariants.{Reading, Writing};
 ghost use Rattle.mq_router.specs.Lists.{Text};
+ghost use Rattle.mq_router.specs.Sessions.{user_of};
 ghost use Rattle.mq_router.specs.Held.{message_of, turn_of, begin_of};
 ghost use Rattle.mq_router.specs.Begun.{begun_by};
 
@@ -16,6 +17,7 @@ use crate::direct::{Direct, direct_copies};
 use crate::options::Options;
 use crate::outgoing::Outgoing;
 use crate::readers::Readers;
+use crate::sessions::Sessions;
 use crate::subscriptions::Subscriptions;
 use crate::summary::Summary;
 use crate::waiting::Queueing;
@@ -51,18 +53,19 @@ pub(crate) fn may_read(
     }
 }
 
+/// Whether the client may publish under the name. Its user name is looked up only where there is an access list.
 #[tactic(auto, unfolding(mq_acl::specs::Access::allowed))]
-pub(crate) fn may_write(
+pub(crate) fn may_publish(
     access: &Option<Acl>,
+    sessions: &Sessions,
     client: &str,
-    user: Option<&str>,
     name: &TopicName,
 ) -> bool
-    ensures { result ≡ allowed access.now client.now (option_copied user.entry) name.now Writing }
+    ensures { result ≡ allowed access.now client.now (user_of sessions.now client.now) name.now Writing }
 {
     match access {
         None => true,
-        Some(acl) => acl.may_write(client, user, name),
+        Some(acl) => acl.may_write(client, sessions.user(client), name),
     }
 }
 

@@ -18,7 +18,7 @@ use crate::checks::{
 };
 use crate::clock::Clock;
 use crate::command::Command;
-use crate::copies::{Made, Message, make_copies, may_write};
+use crate::copies::{Made, Message, make_copies, may_publish};
 use crate::limits::Limits;
 use crate::options::Options;
 use crate::readers::Readers;
@@ -290,7 +290,7 @@ impl Router {
     {
         self.check_client(client)?;
         let name = parse_name(self.alloc, topic)?;
-        if !may_write(&self.access, client, self.sessions.user(client), &name) {
+        if !may_publish(&self.access, &self.sessions, client, &name) {
             return Err(Refusal::NotAuthorized);
         }
         let message = Message {

@@ -39,15 +39,14 @@ returns-in_err-name-clause-applied c =
     refused-applied c.args.self.now (Publish m) c.from_residual-in_err-name.result c.in_err-name.field-0.0 c.args.self.now (p.1 ∙ ap (λ e. Err e) p.2)
     (publish-name c.args.self.now m _ c.in_ok-check_client.ensures c.in_err-name.ensures.err)
 
-pub returns-then-not-may_write-clause-applied : goal.returns-then-not-may_write-clause-applied
-returns-then-not-may_write-clause-applied c =
+pub returns-then-not-may_publish-clause-applied : goal.returns-then-not-may_publish-clause-applied
+returns-then-not-may_publish-clause-applied c =
     let m : Message = published_message c.args.client.now c.args.topic.now c.args.payload.now c.args.properties in
     let s : State = state_of c.self.inside in
     let tested : None ≡ first_refusal (client_conditions s.sessions m.publisher) = c.in_ok-check_client.ensures ∙ ap (λ (v : State). first_refusal (client_conditions v.sessions m.publisher)) (sym c.self.view_is) in
     subst (λ (v : State). Refuses (world_of v) (Publish m) NotAuthorized) c.self.view_is
     (publish-write s m tested c.in_ok-name.ensures.ok.1
-    (ap (λ t. allowed s.access m.publisher (user_of s.sessions m.publisher) t Writing) (sym c.in_ok-name.ensures.ok.0)
-    ∙ ap (λ u. allowed s.access m.publisher u c.in_ok-name.name Writing) (sym c.user.ensures) ∙ sym c.may_write.ensures ∙ c.if-not-may_write.true))
+    (ap (λ t. allowed s.access m.publisher (user_of s.sessions m.publisher) t Writing) (sym c.in_ok-name.ensures.ok.0) ∙ sym c.may_publish.ensures ∙ c.if-not-may_publish.true))
 
 pub returns-then-is_full-clause-applied : goal.returns-then-is_full-clause-applied
 returns-then-is_full-clause-applied c =
@@ -58,8 +57,7 @@ returns-then-is_full-clause-applied c =
     let tested : None ≡ first_refusal (client_conditions s.sessions m.publisher) = c.in_ok-check_client.ensures ∙ ap (λ (v : State). first_refusal (client_conditions v.sessions m.publisher)) (sym c.self.view_is) in
     subst (λ (v : State). Refuses (world_of v) (Publish m) RetainedFull) c.self.view_is
     (publish-full s m tested c.in_ok-name.ensures.ok.1
-    (ap (λ t. allowed s.access m.publisher (user_of s.sessions m.publisher) t Writing) (sym name)
-    ∙ ap (λ u. allowed s.access m.publisher u c.in_ok-name.name Writing) (sym c.user.ensures) ∙ sym c.may_write.ensures ∙ c.if-not-may_write.false)
+    (ap (λ t. allowed s.access m.publisher (user_of s.sessions m.publisher) t Writing) (sym name) ∙ sym c.may_publish.ensures ∙ c.if-not-may_publish.false)
     (ap (λ t. is_full s.limits.retained s.retained (by t)) (sym name) ∙ sym c.is_full.ensures ∙ c.if-is_full.true))
 
 pub invariant_of-self-2 : goal.invariant_of-self-2
@@ -98,8 +96,7 @@ returns-clause-applied c =
     ∙ queued-is limit s.access s.subscriptions s.moment m s.sessions c.join_all.ensures.ordered in
     subst (λ (v : State). Does v (Publish m) (reply_of c.published.result) new) c.self.view_is
     (publish-does s m c.join_all.new.self subs kept _ tested c.in_ok-name.ensures.ok.1
-    (ap (λ t. allowed s.access m.publisher (user_of s.sessions m.publisher) t Writing) (sym name)
-    ∙ ap (λ u. allowed s.access m.publisher u c.in_ok-name.name Writing) (sym c.user.ensures) ∙ sym c.may_write.ensures ∙ c.if-not-may_write.false)
+    (ap (λ t. allowed s.access m.publisher (user_of s.sessions m.publisher) t Writing) (sym name) ∙ sym c.may_publish.ensures ∙ c.if-not-may_publish.false)
     (ap (λ t. is_full s.limits.retained s.retained (by t)) (sym name) ∙ sym c.is_full.ensures ∙ c.if-is_full.false)
     (c.published.ensures ∙ ap (λ l. published l (not c.is_empty-waits.result)) (c.in_ok-made.ensures.copies ∙ ap (λ (v : State). copies_held v (by c.in_ok-name.name)) (sym c.self.view_is) ∙ ap (λ t. copies_held s (by t)) name) ∙ ap (published (copies_held s m)) waits)
     waiting
