@@ -16,7 +16,7 @@ const MAX_BYTES: usize = 65_535;
 fn has_nul(text: &str) -> bool
     ensures { result ≡ contains_byte 0 text.now }
 {
-    text.bytes().any(|b| b == 0)
+    text.as_bytes().contains(&0)
 }
 
 pub(crate) fn is_client_id(id: &str) -> bool
