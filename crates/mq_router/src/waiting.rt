@@ -83,7 +83,7 @@ pub(crate) fn resumed_copies(
     requires { AreReached clock.moment (map waiting_of all.now) }
     ensures { IfOk result (λ copies. map copy_of copies.items ≡ filter_map (resumed_copy clock.moment) (map waiting_of all.now)) }
 {
-    let mut copies = Vec::new(alloc);
+    let mut copies = Vec::with_capacity(alloc, all.len())?;
     for waiting in all {
         match resumed_copy(clock, waiting)? {
             None => {}
