@@ -17,7 +17,7 @@ pub fn split_first(text: &str) -> (&str, Option<&str>)
 pub(crate) fn count(text: &str) -> usize
     ensures { result ≡ length (levels text.now) }
 {
-    text.split('/').count()
+    text.bytes().filter(|byte| *byte == b'/').count() + 1
 }
 
 pub(crate) fn level_at(text: &str, i: usize) -> Option<&str>
@@ -29,5 +29,5 @@ pub(crate) fn level_at(text: &str, i: usize) -> Option<&str>
 pub(crate) fn has_byte(text: &str, byte: u8) -> bool
     ensures { result ≡ contains_byte byte text.now }
 {
-    text.bytes().any(|b| b == byte)
+    text.as_bytes().contains(&byte)
 }
