@@ -1,12 +1,9 @@
 -- What is put into an object without floats has none.
-use Rattle.std.proofs.Common.{◌≡◌, ℕ, List, [], ◌∷◌, Bool, true, false, ◌||◌, Ordering, Less, Equal, Greater, Result, Ok, Err, OnOk, OnErr, Some, None, String, Global, cond, refl, sym, ap, ◌∙◌, nat_cmp}
+use Rattle.std.proofs.Common.{◌≡◌, ℕ, List, [], ◌∷◌, Bool, true, false, ◌||◌, Ordering, Less, Equal, Greater, Result, Ok, Err, OnOk, OnErr, refl, nat_cmp}
 use Rattle.std.specs.Cmp.Lexicographic.{slice_cmp}
 use Rattle.std.specs.Ordering.{match_ordering}
 use Rattle.serde_json.specs.Data.{Data, Members, no_members, member, put}
 use Rattle.serde_json.specs.Written.{has_float, items_have_float, members_have_float}
-use Rattle.std.specs.Map.{lookup}
-use Rattle.serde_json.specs.View.{view, members_view}
-use Rattle.serde_json.specs.declared.value.Value.{Value}
 use Rattle.mq_cli.specs.Printed.{numbers_data}
 
 pub on_either : {A E P Q R : Type 0} (r : Result A E) → OnOk r P → OnErr r Q → (P → R) → (Q → R) → R
@@ -21,7 +18,7 @@ right_none : (a b : Bool) → (a || b) ≡ false → b ≡ false
 right_none false b h = h
 right_none true b h = absurd (let bad : true ≡ false = h in cc)
 
-both_none : (a b : Bool) → a ≡ false → b ≡ false → (a || b) ≡ false
+pub both_none : (a b : Bool) → a ≡ false → b ≡ false → (a || b) ≡ false
 both_none a b p q = rw (p, q)
 
 chosen_none : (o : Ordering) (a b c : Members) → members_have_float a ≡ false → members_have_float b ≡ false → members_have_float c ≡ false → members_have_float (match_ordering o a b c) ≡ false
@@ -40,11 +37,3 @@ put_none k d (member l e ms) p q =
 pub numbers_none : (ns : List ℕ) → items_have_float (numbers_data ns) ≡ false
 numbers_none [] = refl
 numbers_none (n ∷ ns) = numbers_none ns
-
-pub found_float : (test : String Global → Bool) (es : List (String Global × Value)) (v : Value) → members_have_float (members_view es) ≡ false → lookup test es ≡ Some v → has_float (view v) ≡ false
-found_float test [] v none found = absurd (let bad : None ≡ Some v = found in cc)
-found_float test (e ∷ es) v none found = by_test (test e.0) found (found_float test es v (right_none (has_float (view e.1)) (members_have_float (members_view es)) none))
-  where
-    by_test : (t : Bool) → cond t (Some e.1) (lookup test es) ≡ Some v → (lookup test es ≡ Some v → has_float (view v) ≡ false) → has_float (view v) ≡ false
-    by_test true found later = (let same : e.1 ≡ v = cc in ap (λ x. has_float (view x)) (sym same) ∙ left_none (has_float (view e.1)) (members_have_float (members_view es)) none)
-    by_test false found later = later found

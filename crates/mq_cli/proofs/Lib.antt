@@ -2,6 +2,7 @@ pub mod NameLemmas
 pub mod FloatLemmas
 pub mod EntryLemmas
 pub mod KeptLemmas
+pub mod RefillLemmas
 pub mod TextLemmas
 pub mod WrittenLemmas
 pub mod PieceLemmas

@@ -1,5 +1,6 @@
 //! The lines of a script, and the lines that answer them.
 
+mod datum;
 mod fault;
 mod fields;
 mod object;

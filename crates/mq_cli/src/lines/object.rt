@@ -1,12 +1,14 @@
 //! An object that is printed as a line.
-ghost use Rattle.std.specs.Prelude.{◌≡◌, ◌++◌, ◌∷◌, [], false, OnOk, OnErr, IfOk, IfSome};
+ghost use Rattle.std.specs.Prelude.{◌≡◌, ◌↔◌, ◌++◌, ◌∷◌, [], false, map, length, drop, IsTrue, OnOk, OnErr, IfSome};
 ghost use Rattle.std.specs.Option.{option_copied};
-ghost use Rattle.serde_json.specs.Data.{string, boolean, array, no_members, put};
+ghost use Rattle.serde_json.specs.Data.{string, boolean, no_members, put};
 ghost use Rattle.serde_json.specs.Find.{as_object};
 ghost use Rattle.serde_json.specs.View.{view, members_view};
 ghost use Rattle.serde_json.specs.Written.{members_have_float, has_float};
-ghost use Rattle.mq_cli.specs.Printed.{put_if, whole_data, numbers_data, text_if, whole_if, numbers_if, line_text};
+ghost use Rattle.mq_cli.specs.Kept.{names_of, values_of, data_of, WritesNext};
+ghost use Rattle.mq_cli.specs.Printed.{put_if, whole_data, text_if, whole_if, numbers_if, line_text};
 
+use crate::lines::datum::{Datum, numbers_value};
 use serde_json::{Map, Value};
 use std::alloc::{AllocError, Global};
 use std::mem;
@@ -35,15 +37,49 @@ impl Object {
         mem::replace(self, Object::new(alloc))
     }
 
+    pub fn is_empty(&self) -> bool
+        ensures { IsTrue result ↔ (names_of (members_view self.now.members.entries) ≡ []) }
+    {
+        self.members.is_empty()
+    }
+
+    /// Writes a row of data over the values, in the order of the names. For want of memory it leaves fewer members.
+    pub fn refill(&mut self, alloc: Global, row: &[Datum]) -> Result<(), AllocError>
+        requires { length (names_of (members_view self.old.members.entries)) ≡ length row.now }
+        ensures names { OnOk result (names_of (members_view self.new.members.entries)
+            ≡ names_of (members_view self.old.members.entries)) }
+        ensures values { OnOk result (values_of (members_view self.new.members.entries) ≡ map data_of row.now) }
+    {
+        let mut next = 0;
+        self.members.retain(
+            move |_, slot|
+                ensures { WritesNext (map data_of (drop next.entry row.entry.now)) result (view slot.new)
+                    (map data_of (drop next.exit row.exit.now)) }
+            {
+                let Some(datum) = row.get(next) else {
+                    return false;
+                };
+                if datum.write(alloc, slot).is_err() {
+                    next = row.len();
+                    return false;
+                }
+                next += 1;
+                true
+            },
+        );
+        // a member that was not written is gone
+        if self.members.len() == row.len() {
+            Ok(())
+        } else {
+            Err(AllocError)
+        }
+    }
+
     fn put(&mut self, alloc: Global, name: &str, value: Value) -> Result<(), AllocError>
         requires { has_float (view value) ≡ false }
         ensures { OnOk result (members_view self.new.members.entries
             ≡ put name.now (view value) (members_view self.old.members.entries)) }
     {
-        if let Some(slot) = self.members.get_mut(name) {
-            *slot = value;
-            return Ok(());
-        }
         let name = String::from_str(alloc, name)?;
         self.members.insert(name, value)?;
         Ok(())
@@ -53,9 +89,6 @@ impl Object {
         ensures { OnOk result (members_view self.new.members.entries
             ≡ put name.now (string text.now) (members_view self.old.members.entries)) }
     {
-        if let Some(slot) = self.members.get_mut(name) {
-            return set_text(alloc, slot, text);
-        }
         let text = String::from_str(alloc, text)?;
         self.put(alloc, name, Value::String(text))
     }
@@ -150,29 +183,4 @@ fn members_of(alloc: Global, value: Value) -> Map<String, Value>
             Map::new(alloc)
         }
     }
-}
-
-// A text that is there is written over, and its memory used again.
-fn set_text(alloc: Global, slot: &mut Value, text: &str) -> Result<(), AllocError>
-    requires { has_float (view slot.old) ≡ false }
-    ensures ok { OnOk result (view slot.new ≡ string text.now) }
-    ensures no_float { has_float (view slot.new) ≡ false }
-{
-    if let Value::String(held) = slot {
-        held.clear();
-        held.push_str(text)?;
-        return Ok(());
-    }
-    *slot = Value::String(String::from_str(alloc, text)?);
-    Ok(())
-}
-
-fn numbers_value(alloc: Global, numbers: &[u32]) -> Result<Value, AllocError>
-    ensures { IfOk result (λ v. view v ≡ array (numbers_data numbers.now)) }
-{
-    let mut list = Vec::new(alloc);
-    for n in numbers {
-        list.push(Value::from(u64::from(*n)))?;
-    }
-    Ok(Value::Array(list))
 }

@@ -8,6 +8,7 @@ ghost use Rattle.mq_router.specs.declared.answer.Outcome.TheVariants.{Reason, Co
 ghost use Rattle.mq_cli.specs.Printed.{copy_members, copy_text, answer_text, line_text, closing_members, report_members, report_text, report_of, refusal_text, fault_text};
 ghost use Rattle.mq_cli.specs.Kept.{IsFor, copy_names, parts, parts_of, reason_names, report_names};
 
+use crate::lines::datum::Datum;
 use crate::lines::fault::LineFault;
 use crate::lines::object::Object;
 use crate::lines::report::{Reported, line_fault_report, refusal_report};
@@ -33,7 +34,7 @@ fn filter_of(delivery: &Delivery) -> Option<&str>
 }
 
 #[tactic(auto, unfolding(crate::specs::Printed::copy_members))]
-fn set_copy(
+fn put_copy(
     alloc: Global,
     object: &mut Object,
     line: u64,
@@ -55,6 +56,54 @@ fn set_copy(
     Ok(())
 }
 
+// Members that are there are written over in one walk, in the order of their names.
+#[tactic(auto, unfolding(crate::specs::Kept::copy_names))]
+fn set_copy(
+    alloc: Global,
+    object: &mut Object,
+    line: u64,
+    delivery: &Delivery,
+) -> Result<(), AllocError>
+    requires { IsFor (copy_names (parts_of (copy_of delivery.now))) (members_view object.old.members.entries) }
+    ensures { OnOk result (members_view object.new.members.entries ≡ copy_members line (copy_of delivery.now)) }
+{
+    if object.is_empty() {
+        return put_copy(alloc, object, line, delivery);
+    }
+    let client = Datum::Text(delivery.client.as_str());
+    let number = Datum::Number(line);
+    let payload = Datum::Text(delivery.payload.as_str());
+    let qos = Datum::Number(u64::from(delivery.qos));
+    let retain = Datum::Flag(delivery.retain);
+    let topic = Datum::Text(delivery.topic.as_str());
+    let ids = delivery.ids.as_slice();
+    match (ids.is_empty(), delivery.expiry, &delivery.group) {
+        (true, None, None) => {
+            object.refill(alloc, &[client, number, payload, qos, retain, topic])
+        }
+        (false, None, None) => {
+            let ids = Datum::Numbers(ids);
+            object.refill(alloc, &[client, ids, number, payload, qos, retain, topic])
+        }
+        (true, Some(seconds), None) => {
+            let expiry = Datum::Number(u64::from(seconds));
+            object.refill(
+                alloc,
+                &[client, expiry, number, payload, qos, retain, topic],
+            )
+        }
+        (true, None, Some((share, filter))) => {
+            let share = Datum::Text(share.as_str());
+            let filter = Datum::Text(filter.as_str());
+            object.refill(
+                alloc,
+                &[client, filter, number, payload, qos, retain, share, topic],
+            )
+        }
+        _ => put_copy(alloc, object, line, delivery),
+    }
+}
+
 fn print_copy(
     alloc: Global,
     kept: &mut Object,
@@ -74,14 +123,18 @@ fn print_copy(
     Ok(())
 }
 
-#[tactic(auto, unfolding(crate::specs::Printed::closing_members))]
+#[tactic(auto, unfolding(crate::specs::Printed::closing_members, crate::specs::Kept::reason_names))]
 fn set_reason(alloc: Global, object: &mut Object, line: u64, reason: u8) -> Result<(), AllocError>
     requires { IsFor reason_names (members_view object.old.members.entries) }
     ensures { OnOk result (members_view object.new.members.entries ≡ closing_members line (Reason reason)) }
 {
-    object.number(alloc, "line", line)?;
-    object.number(alloc, "reason", u64::from(reason))?;
-    Ok(())
+    let code = u64::from(reason);
+    if object.is_empty() {
+        object.number(alloc, "line", line)?;
+        object.number(alloc, "reason", code)?;
+        return Ok(());
+    }
+    object.refill(alloc, &[Datum::Number(line), Datum::Number(code)])
 }
 
 fn print_reason(
@@ -123,7 +176,7 @@ fn print_counts(
     object.print(alloc, out)
 }
 
-fn set_report(
+fn put_report(
     alloc: Global,
     object: &mut Object,
     line: u64,
@@ -137,6 +190,25 @@ fn set_report(
     object.text(alloc, "refused", report.name)?;
     object.number_if(alloc, "acl_line", report.acl_line)?;
     Ok(())
+}
+
+fn set_report(
+    alloc: Global,
+    object: &mut Object,
+    line: u64,
+    report: Reported,
+) -> Result<(), AllocError>
+    requires { IsFor (report_names (is_some report.acl_line)) (members_view object.old.members.entries) }
+    ensures { OnOk result (members_view object.new.members.entries ≡ report_members line (report_of report)) }
+{
+    if report.acl_line.is_some() || object.is_empty() {
+        return put_report(alloc, object, line, report);
+    }
+    let code = Datum::Number(u64::from(report.code));
+    object.refill(
+        alloc,
+        &[code, Datum::Number(line), Datum::Text(report.name)],
+    )
 }
 
 fn print_report(

@@ -1,30 +1,76 @@
-use Rattle.std.proofs.Common.{◌≡◌, ◌∙◌}
-use Rattle.serde_json.specs.View.{members_view}
+use Rattle.std.proofs.Common.{sym}
 use Rattle.mq_router.specs.Views.{copy_of}
-use Rattle.mq_cli.proofs.KeptLemmas.{set_copy, copy_again}
+use Rattle.mq_cli.proofs.KeptLemmas.{copy_refilled, no_numbers, some_numbers}
 use Rattle.mq_cli.proofs.lines.printer.set_copy.Goals as goal
 
-pub returns : goal.returns
-returns c =
-    let old = members_view c.args.object.now.members.entries in
-    let set : members_view c.text_if-2.new.self.members.entries ≡ set_copy c.args.line (copy_of c.args.delivery.now) old =
-    rw (
-      c.in_ok-text_if-2.ensures,
-      c.share_of.ensures,
-      c.in_ok-text_if.ensures,
-      c.filter_of.ensures,
-      c.in_ok-short_if.ensures,
-      c.in_ok-numbers_if.ensures,
-      c.as_slice.ensures.value,
-      c.in_ok-text-3.ensures,
-      c.as_str-3.ensures.value,
-      c.in_ok-flag.ensures,
-      c.in_ok-number-2.ensures,
-      c.from.ensures,
-      c.in_ok-text-2.ensures,
-      c.as_str-2.ensures.value,
-      c.in_ok-number.ensures,
-      c.in_ok-text.ensures,
+pub returns-in-true-None-None : goal.returns-in-true-None-None
+returns-in-true-None-None c =
+    let copy = copy_of c.args.delivery.now in
+    let arm = c.in-true-None-None in
+    let done = c.refill in
+    let ids = no_numbers copy.identifiers (rw (← c.as_slice-ids.ensures.value) (sym arm.ensures)) in
+    copy_refilled done.result c.args.line copy _ _ _ _ c.requires c.is_empty.ensures c.if-is_empty.false done.ensures.names done.ensures.values
+    (rw (
       c.as_str.ensures.value,
-    ) in
-    set ∙ copy_again c.args.line (copy_of c.args.delivery.now) old c.requires
+      c.as_str-2.ensures.value,
+      c.from.ensures,
+      c.as_str-3.ensures.value,
+      arm.is-1,
+      arm.is-2,
+      ids,
+    ))
+
+pub returns-in-false-None-None : goal.returns-in-false-None-None
+returns-in-false-None-None c =
+    let copy = copy_of c.args.delivery.now in
+    let arm = c.in-false-None-None in
+    let done = c.refill-in-false-None-None in
+    let ids = some_numbers copy.identifiers (rw (← c.as_slice-ids.ensures.value) (sym arm.ensures)) in
+    copy_refilled done.result c.args.line copy _ _ _ _ c.requires c.is_empty.ensures c.if-is_empty.false done.ensures.names done.ensures.values
+    (rw (
+      c.as_str.ensures.value,
+      c.as_str-2.ensures.value,
+      c.from.ensures,
+      c.as_str-3.ensures.value,
+      c.as_slice-ids.ensures.value,
+      arm.is-1,
+      arm.is-2,
+      ids,
+    ))
+
+pub returns-in-true-Some-None : goal.returns-in-true-Some-None
+returns-in-true-Some-None c =
+    let copy = copy_of c.args.delivery.now in
+    let arm = c.in-true-Some-None in
+    let done = c.refill-in-true-Some-None in
+    let ids = no_numbers copy.identifiers (rw (← c.as_slice-ids.ensures.value) (sym arm.ensures)) in
+    copy_refilled done.result c.args.line copy _ _ _ _ c.requires c.is_empty.ensures c.if-is_empty.false done.ensures.names done.ensures.values
+    (rw (
+      c.as_str.ensures.value,
+      c.as_str-2.ensures.value,
+      c.from.ensures,
+      c.as_str-3.ensures.value,
+      c.from-in-true-Some-None.ensures,
+      arm.is-1,
+      arm.is-2,
+      ids,
+    ))
+
+pub returns-in-true-None-Some : goal.returns-in-true-None-Some
+returns-in-true-None-Some c =
+    let copy = copy_of c.args.delivery.now in
+    let arm = c.in-true-None-Some in
+    let done = c.refill-in-true-None-Some in
+    let ids = no_numbers copy.identifiers (rw (← c.as_slice-ids.ensures.value) (sym arm.ensures)) in
+    copy_refilled done.result c.args.line copy _ _ _ _ c.requires c.is_empty.ensures c.if-is_empty.false done.ensures.names done.ensures.values
+    (rw (
+      c.as_str.ensures.value,
+      c.as_str-2.ensures.value,
+      c.from.ensures,
+      c.as_str-3.ensures.value,
+      c.as_str-in-true-None-Some.ensures.value,
+      c.as_str-in-true-None-Some-2.ensures.value,
+      arm.is-1,
+      arm.is-2,
+      ids,
+    ))

@@ -1,12 +1,15 @@
-use Rattle.std.proofs.Common.{◌≡◌, ◌∙◌}
-use Rattle.serde_json.specs.View.{members_view}
+use Rattle.std.proofs.Common.{sym, ◌∙◌}
 use Rattle.mq_cli.specs.Printed.{report_of}
-use Rattle.mq_cli.proofs.KeptLemmas.{set_report, report_again}
+use Rattle.mq_cli.proofs.KeptLemmas.{report_count, report_refilled}
 use Rattle.mq_cli.proofs.lines.printer.set_report.Goals as goal
+
+pub refill-requires : goal.refill-requires
+refill-requires c =
+    let none = sym c.is_some.ensures ∙ c.if-is_some.false in
+    report_count c.args.report.acl_line _ c.is_empty.result c.requires c.is_empty.ensures c.if-is_empty.false none
 
 pub returns : goal.returns
 returns c =
-    let old = members_view c.args.object.now.members.entries in
-    let set : members_view c.number_if.new.self.members.entries ≡ set_report c.args.line (report_of c.args.report) old =
-    rw (c.in_ok-number_if.ensures, c.in_ok-text.ensures, c.in_ok-number-2.ensures, c.in_ok-number.ensures, c.from.ensures) in
-    set ∙ report_again c.args.line (report_of c.args.report) old c.requires
+    let none = sym c.is_some.ensures ∙ c.if-is_some.false in
+    report_refilled c.refill.result c.args.line (report_of c.args.report) _ _ _ c.requires c.is_empty.ensures c.if-is_empty.false none
+    c.refill.ensures.names (rw c.from.ensures at c.refill.ensures.values)
