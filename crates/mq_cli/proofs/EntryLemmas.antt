@@ -1,7 +1,7 @@
 -- The members of a value, and the text of a line.
-use Rattle.std.proofs.Common.{◌≡◌, ℕ, List, ◌++◌, Result, Ok, Err, OnOk, if◌then◌else◌, IfSome, BTreeMap, String, Global, false, ap, ◌∙◌}
+use Rattle.std.proofs.Common.{◌≡◌, ℕ, List, ◌++◌, Result, Ok, Err, OnOk, if◌then◌else◌, unwrap_or, BTreeMap, String, Global, false, ap, ◌∙◌}
 use Rattle.std.specs.Result.{is_ok}
-use Rattle.serde_json.specs.Data.{object}
+use Rattle.serde_json.specs.Data.{object, no_members}
 use Rattle.serde_json.specs.Find.{as_object}
 use Rattle.serde_json.specs.View.{view, members_view}
 use Rattle.serde_json.specs.Written.{has_float, members_have_float, compact_text}
@@ -9,7 +9,8 @@ use Rattle.serde_json.specs.declared.value.Value.{Value, Object}
 use Rattle.serde_json.proofs.Views.{view-Object}
 
 -- what was taken out of an object is its members
-pub kept : (m n : BTreeMap (String Global) Value) → IfSome (as_object (view (Object m))) (λ ms. members_view n.entries ≡ ms) → members_view n.entries ≡ members_view m.entries
+pub kept : (m n : BTreeMap (String Global) Value) → members_view n.entries ≡ unwrap_or (as_object (view (Object m))) no_members
+    → members_view n.entries ≡ members_view m.entries
 kept m n same = rw (view-Object m) at same
 
 pub no_float_inside : (m : BTreeMap (String Global) Value) → members_have_float (members_view m.entries) ≡ false → has_float (view (Object m)) ≡ false

@@ -1,4 +1,5 @@
 pub mod NameLemmas
+pub mod TakenLemmas
 pub mod FloatLemmas
 pub mod EntryLemmas
 pub mod KeptLemmas

@@ -3,7 +3,7 @@ use Rattle.std.specs.Prelude.{ℕ, ◌≡◌, ◌&&◌, List, Bool, true, false,
 use Rattle.std.specs.List.{list_any}
 use Rattle.std.specs.Str.{bytes_eq}
 use Rattle.serde_json.specs.Data.{Data, Members, no_members, member}
-use Rattle.serde_json.specs.Find.{get, as_object, as_str, as_bool, as_number, as_u64}
+use Rattle.serde_json.specs.Find.{get, get_member, as_object, as_str, as_bool, as_number, as_u64}
 use Rattle.mq_cli.specs.declared.lines.fault.LineFault.{LineFault}
 use Rattle.mq_cli.specs.declared.lines.fault.LineFault.TheVariants.{LineTooLong, BadJson, BadCommand, BadField, Memory}
 
@@ -53,6 +53,11 @@ required kind k d = optional kind k d >>= or_fault BadField
 -- where it is absent it is a
 abbrev pub defaulted : {A : Type 0} → A → (Data → Option A) → List ℕ → Data → Result A LineFault
 defaulted a kind k d = optional kind k d >>= λ o. Ok (unwrap_or o a)
+
+-- ---- what is left once the value under k was taken: each other name has what it had
+
+abbrev pub HasOthers : List ℕ → Members → Members → Type 0
+HasOthers k old new = (l : List ℕ) → bytes_eq l k ≡ false → get_member l new ≡ get_member l old
 
 -- ---- the names of all fields
 

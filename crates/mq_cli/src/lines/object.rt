@@ -1,5 +1,5 @@
 //! An object that is printed as a line.
-ghost use Rattle.std.specs.Prelude.{◌≡◌, ◌↔◌, ◌++◌, ◌∷◌, [], false, map, length, drop, IsTrue, OnOk, OnErr, IfSome};
+ghost use Rattle.std.specs.Prelude.{◌≡◌, ◌↔◌, ◌++◌, ◌∷◌, [], false, map, length, drop, IsTrue, OnOk, OnErr, unwrap_or};
 ghost use Rattle.std.specs.Option.{option_copied};
 ghost use Rattle.serde_json.specs.Data.{string, boolean, no_members, put};
 ghost use Rattle.serde_json.specs.Find.{as_object};
@@ -173,8 +173,9 @@ impl Object {
     }
 }
 
-fn members_of(alloc: Global, value: Value) -> Map<String, Value>
-    ensures { IfSome (as_object (view value)) (λ ms. members_view result.entries ≡ ms) }
+/// The members of a value, of which one that is no object has none.
+pub fn members_of(alloc: Global, value: Value) -> Map<String, Value>
+    ensures { members_view result.entries ≡ unwrap_or (as_object (view value)) no_members }
 {
     match value {
         Value::Object(members) => members,

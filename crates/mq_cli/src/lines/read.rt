@@ -1,6 +1,7 @@
 //! From a line to a command.
 ghost use Rattle.std.specs.Prelude.{◌≡◌, IfOk, IfSome, IsTrue, option_map};
-ghost use Rattle.serde_json.specs.View.{view};
+ghost use Rattle.serde_json.specs.Data.{object};
+ghost use Rattle.serde_json.specs.View.{view, members_view};
 ghost use Rattle.mq_router.specs.Views.{request_of};
 ghost use Rattle.mq_router.specs.Refusals.{is_valid};
 ghost use Rattle.mq_cli.specs.Fields.{Gives, or_fault};
@@ -8,11 +9,12 @@ ghost use Rattle.mq_cli.specs.Reading.{connect_fields, disconnect_fields, subscr
 
 use crate::lines::fault::LineFault;
 use crate::lines::fields::{
-    flag_or, has_only, is_set, number_or_zero, optional_number, optional_text, required_number,
-    required_text, text_or_empty,
+    field, flag_or, has_only, is_set, number_or_zero, optional_number, optional_text,
+    required_number, required_text, text_or_empty,
 };
+use crate::lines::object::members_of;
 use mq_router::Command;
-use serde_json::Value;
+use serde_json::{Map, Value};
 use std::alloc::Global;
 
 /// How many bytes a line may have.
@@ -25,17 +27,20 @@ const MOST_HANDLING: u8 = 2;
 const MOST_ID: u32 = 268_435_455;
 
 #[tactic(auto, unfolding(crate::specs::Reading::connect_fields))]
-fn connect(alloc: Global, value: &Value) -> Result<Command, LineFault>
-    ensures value { Gives request_of result (connect_fields (view value.now)) }
+fn connect(alloc: Global, members: &mut Map<String, Value>) -> Result<Command, LineFault>
+    ensures value { Gives request_of result (connect_fields (object (members_view members.old.entries))) }
     ensures valid { IfOk result (λ c. IsTrue (is_valid (request_of c))) }
 {
-    if !has_only(value, &["do", "client", "user", "clean", "session_expiry"]) {
+    if !has_only(
+        members,
+        &["do", "client", "user", "clean", "session_expiry"],
+    ) {
         return Err(LineFault::BadField);
     }
-    let client = required_text(alloc, value, "client")?;
-    let user = optional_text(alloc, value, "user")?;
-    let clean = flag_or(value, "clean", true)?;
-    let session_expiry = optional_number(value, "session_expiry", 0, u32::MAX)?;
+    let client = required_text(alloc, members, "client")?;
+    let user = optional_text(alloc, members, "user")?;
+    let clean = flag_or(members, "clean", true)?;
+    let session_expiry = optional_number(members, "session_expiry", 0, u32::MAX)?;
     Ok(Command::Connect {
         client,
         user,
@@ -45,37 +50,37 @@ fn connect(alloc: Global, value: &Value) -> Result<Command, LineFault>
 }
 
 #[tactic(auto, unfolding(crate::specs::Reading::disconnect_fields))]
-fn disconnect(alloc: Global, value: &Value) -> Result<Command, LineFault>
-    ensures value { Gives request_of result (disconnect_fields (view value.now)) }
+fn disconnect(alloc: Global, members: &mut Map<String, Value>) -> Result<Command, LineFault>
+    ensures value { Gives request_of result (disconnect_fields (object (members_view members.old.entries))) }
     ensures valid { IfOk result (λ c. IsTrue (is_valid (request_of c))) }
 {
-    if !has_only(value, &["do", "client"]) {
+    if !has_only(members, &["do", "client"]) {
         return Err(LineFault::BadField);
     }
-    let client = required_text(alloc, value, "client")?;
+    let client = required_text(alloc, members, "client")?;
     Ok(Command::Disconnect { client })
 }
 
 #[tactic(auto, unfolding(crate::specs::Reading::subscribe_fields))]
-fn subscribe(alloc: Global, value: &Value) -> Result<Command, LineFault>
-    ensures value { Gives request_of result (subscribe_fields (view value.now)) }
+fn subscribe(alloc: Global, members: &mut Map<String, Value>) -> Result<Command, LineFault>
+    ensures value { Gives request_of result (subscribe_fields (object (members_view members.old.entries))) }
     ensures valid { IfOk result (λ c. IsTrue (is_valid (request_of c))) }
 {
     if !has_only(
-        value,
+        members,
         &[
             "do", "client", "filter", "qos", "no_local", "rap", "handling", "id",
         ],
     ) {
         return Err(LineFault::BadField);
     }
-    let client = required_text(alloc, value, "client")?;
-    let filter = required_text(alloc, value, "filter")?;
-    let qos = number_or_zero(value, "qos", MOST_QOS)?;
-    let no_local = is_set(value, "no_local")?;
-    let rap = is_set(value, "rap")?;
-    let handling = number_or_zero(value, "handling", MOST_HANDLING)?;
-    let id = optional_number(value, "id", 1, MOST_ID)?;
+    let client = required_text(alloc, members, "client")?;
+    let filter = required_text(alloc, members, "filter")?;
+    let qos = number_or_zero(members, "qos", MOST_QOS)?;
+    let no_local = is_set(members, "no_local")?;
+    let rap = is_set(members, "rap")?;
+    let handling = number_or_zero(members, "handling", MOST_HANDLING)?;
+    let id = optional_number(members, "id", 1, MOST_ID)?;
     Ok(Command::Subscribe {
         client,
         filter,
@@ -88,37 +93,37 @@ fn subscribe(alloc: Global, value: &Value) -> Result<Command, LineFault>
 }
 
 #[tactic(auto, unfolding(crate::specs::Reading::unsubscribe_fields))]
-fn unsubscribe(alloc: Global, value: &Value) -> Result<Command, LineFault>
-    ensures value { Gives request_of result (unsubscribe_fields (view value.now)) }
+fn unsubscribe(alloc: Global, members: &mut Map<String, Value>) -> Result<Command, LineFault>
+    ensures value { Gives request_of result (unsubscribe_fields (object (members_view members.old.entries))) }
     ensures valid { IfOk result (λ c. IsTrue (is_valid (request_of c))) }
 {
-    if !has_only(value, &["do", "client", "filter"]) {
+    if !has_only(members, &["do", "client", "filter"]) {
         return Err(LineFault::BadField);
     }
-    let client = required_text(alloc, value, "client")?;
-    let filter = required_text(alloc, value, "filter")?;
+    let client = required_text(alloc, members, "client")?;
+    let filter = required_text(alloc, members, "filter")?;
     Ok(Command::Unsubscribe { client, filter })
 }
 
 #[tactic(auto, unfolding(crate::specs::Reading::publish_fields))]
-fn publish(alloc: Global, value: &Value) -> Result<Command, LineFault>
-    ensures value { Gives request_of result (publish_fields (view value.now)) }
+fn publish(alloc: Global, members: &mut Map<String, Value>) -> Result<Command, LineFault>
+    ensures value { Gives request_of result (publish_fields (object (members_view members.old.entries))) }
     ensures valid { IfOk result (λ c. IsTrue (is_valid (request_of c))) }
 {
     if !has_only(
-        value,
+        members,
         &[
             "do", "client", "topic", "payload", "qos", "retain", "expiry",
         ],
     ) {
         return Err(LineFault::BadField);
     }
-    let client = required_text(alloc, value, "client")?;
-    let topic = required_text(alloc, value, "topic")?;
-    let payload = text_or_empty(alloc, value, "payload")?;
-    let qos = number_or_zero(value, "qos", MOST_QOS)?;
-    let retain = is_set(value, "retain")?;
-    let expiry = optional_number(value, "expiry", 0, u32::MAX)?;
+    let client = required_text(alloc, members, "client")?;
+    let topic = required_text(alloc, members, "topic")?;
+    let payload = text_or_empty(alloc, members, "payload")?;
+    let qos = number_or_zero(members, "qos", MOST_QOS)?;
+    let retain = is_set(members, "retain")?;
+    let expiry = optional_number(members, "expiry", 0, u32::MAX)?;
     Ok(Command::Publish {
         client,
         topic,
@@ -130,59 +135,68 @@ fn publish(alloc: Global, value: &Value) -> Result<Command, LineFault>
 }
 
 #[tactic(auto, unfolding(crate::specs::Reading::acl_fields))]
-fn acl(alloc: Global, value: &Value) -> Result<Command, LineFault>
-    ensures value { Gives request_of result (acl_fields (view value.now)) }
+fn acl(alloc: Global, members: &mut Map<String, Value>) -> Result<Command, LineFault>
+    ensures value { Gives request_of result (acl_fields (object (members_view members.old.entries))) }
     ensures valid { IfOk result (λ c. IsTrue (is_valid (request_of c))) }
 {
-    if !has_only(value, &["do", "text"]) {
+    if !has_only(members, &["do", "text"]) {
         return Err(LineFault::BadField);
     }
-    let text = optional_text(alloc, value, "text")?;
+    let text = optional_text(alloc, members, "text")?;
     Ok(Command::SetAcl { text })
 }
 
 #[tactic(auto, unfolding(crate::specs::Reading::advance_fields))]
-fn advance(value: &Value) -> Result<Command, LineFault>
-    ensures value { Gives request_of result (advance_fields (view value.now)) }
+fn advance(members: &Map<String, Value>) -> Result<Command, LineFault>
+    ensures value { Gives request_of result (advance_fields (object (members_view members.now.entries))) }
     ensures valid { IfOk result (λ c. IsTrue (is_valid (request_of c))) }
 {
-    if !has_only(value, &["do", "seconds"]) {
+    if !has_only(members, &["do", "seconds"]) {
         return Err(LineFault::BadField);
     }
-    let seconds = required_number(value, "seconds")?;
+    let seconds = required_number(members, "seconds")?;
     Ok(Command::Advance { seconds })
 }
 
 #[tactic(auto, unfolding(crate::specs::Reading::stat_fields))]
-fn stat(value: &Value) -> Result<Command, LineFault>
-    ensures value { Gives request_of result (stat_fields (view value.now)) }
+fn stat(members: &Map<String, Value>) -> Result<Command, LineFault>
+    ensures value { Gives request_of result (stat_fields (object (members_view members.now.entries))) }
     ensures valid { IfOk result (λ c. IsTrue (is_valid (request_of c))) }
 {
-    if !has_only(value, &["do"]) {
+    if !has_only(members, &["do"]) {
         return Err(LineFault::BadField);
     }
     Ok(Command::Stat)
 }
 
 #[tactic(auto, unfolding(crate::specs::Reading::command_of, crate::specs::Reading::fields_of))]
-fn command(alloc: Global, value: &Value) -> Result<Command, LineFault>
-    ensures value { Gives request_of result (command_of (view value.now)) }
+fn command_in(alloc: Global, members: &mut Map<String, Value>) -> Result<Command, LineFault>
+    ensures value { Gives request_of result (command_of (object (members_view members.old.entries))) }
     ensures valid { IfOk result (λ c. IsTrue (is_valid (request_of c))) }
 {
-    let Some(word) = value.get("do").and_then(Value::as_str) else {
+    let Some(word) = field(members, "do").and_then(Value::as_str) else {
         return Err(LineFault::BadCommand);
     };
     match word {
-        "connect" => connect(alloc, value),
-        "disconnect" => disconnect(alloc, value),
-        "subscribe" => subscribe(alloc, value),
-        "unsubscribe" => unsubscribe(alloc, value),
-        "publish" => publish(alloc, value),
-        "acl" => acl(alloc, value),
-        "advance" => advance(value),
-        "stat" => stat(value),
+        "connect" => connect(alloc, members),
+        "disconnect" => disconnect(alloc, members),
+        "subscribe" => subscribe(alloc, members),
+        "unsubscribe" => unsubscribe(alloc, members),
+        "publish" => publish(alloc, members),
+        "acl" => acl(alloc, members),
+        "advance" => advance(members),
+        "stat" => stat(members),
         _ => Err(LineFault::BadCommand),
     }
+}
+
+// A value that is no object has no members, and so no word.
+fn command(alloc: Global, value: Value) -> Result<Command, LineFault>
+    ensures value { Gives request_of result (command_of (view value)) }
+    ensures valid { IfOk result (λ c. IsTrue (is_valid (request_of c))) }
+{
+    let mut members = members_of(alloc, value);
+    command_in(alloc, &mut members)
 }
 
 fn is_blank(line: &[u8]) -> bool
@@ -221,5 +235,5 @@ pub fn read_line(alloc: Global, line: &[u8]) -> Result<Option<Command>, LineFaul
         return Ok(None);
     }
     let value = value(alloc, line)?;
-    Ok(Some(command(alloc, &value)?))
+    Ok(Some(command(alloc, value)?))
 }

@@ -1,0 +1,58 @@
+-- A value that is found, and what writing over it leaves to other names.
+use Rattle.std.proofs.Common.{◌≡◌, ℕ, List, [], ◌∷◌, Bool, true, false, cond, Option, Some, None, Bor, String, Global, Ordering, string_bytes, nat_cmp, bytes_eq, true≢false, refl, sym, ap, ◌∙◌}
+use Rattle.std.proofs.lemmas.Map.Text.{is_eq-slice_cmp}
+use Rattle.std.proofs.lemmas.Slice.Eq.{bytes_eq-Decides}
+use Rattle.std.specs.Cmp.Lexicographic.{slice_cmp}
+use Rattle.std.specs.Map.{set_value, lookup}
+use Rattle.std.specs.Ordering.{match_ordering}
+use Rattle.std.specs.BTreeMap.{is_at}
+use Rattle.std.specs.Option.{option_map, option_copied, unwrap_or}
+use Rattle.serde_json.specs.Data.{Data, no_members, object, null, boolean, number, string, array}
+use Rattle.serde_json.specs.Find.{get_member, as_object}
+use Rattle.serde_json.specs.View.{view, members_view}
+use Rattle.serde_json.specs.declared.value.Value.{Value}
+use Rattle.serde_json.proofs.Views.{member_later, view-lookup}
+use Rattle.mq_cli.specs.Fields.{HasOthers}
+use Rattle.mq_cli.specs.Reading.{command_of}
+
+abbrev Entry : Type 0
+Entry = String Global × Value
+
+abbrev pub beside : List ℕ → String Global → Ordering
+beside name key = slice_cmp nat_cmp name (string_bytes key)
+
+apart : (l k : List ℕ) → bytes_eq l k ≡ false → l ≡ k → ⊥
+apart l k other same = true≢false (sym ((bytes_eq-Decides l k).1 same) ∙ other)
+
+pub set_others : (name : List ℕ) (es : List Entry) (v : Value)
+    → HasOthers name (members_view es) (members_view (set_value (is_at (beside name)) es v))
+set_others name [] v l other = refl
+set_others name (e ∷ es) v l other = by_test (is_at (beside name) e.0) refl (set_others name es v l other)
+  where
+    by_test : (t : Bool) → is_at (beside name) e.0 ≡ t
+        → get_member l (members_view (set_value (is_at (beside name)) es v)) ≡ get_member l (members_view es)
+        → get_member l (members_view (cond t ((e.0, v) ∷ es) (e ∷ set_value (is_at (beside name)) es v))) ≡ get_member l (members_view (e ∷ es))
+    by_test true is later =
+        let key = string_bytes e.0 in
+        let same : name ≡ key = (bytes_eq-Decides name key).0 (sym (is_eq-slice_cmp name key) ∙ is) in
+        let far = λ (h : l ≡ string_bytes e.0). apart l name other (h ∙ sym same) in
+        member_later l (e.0, v) es far ∙ sym (member_later l e es far)
+    by_test false is later = ap (λ r. match_ordering (slice_cmp nat_cmp l (string_bytes e.0)) r (Some (view e.1)) r) later
+
+pub seen : (o : Option (Bor Value)) → option_map (λ v. view v.now) o ≡ option_map view (option_copied o)
+seen None = refl
+seen (Some v) = refl
+
+pub found : (name : List ℕ) (es : List Entry) (o : Option Value) → o ≡ lookup (is_at (beside name)) es
+    → get_member name (members_view es) ≡ option_map view o
+found name es o is = sym (view-lookup name es) ∙ ap (option_map view) (sym is)
+
+-- a value that is no object has no word
+pub command_of-members : (d : Data) → command_of (object (unwrap_or (as_object d) no_members)) ≡ command_of d
+unfolding command_of
+command_of-members null = refl
+command_of-members (boolean b) = refl
+command_of-members (number n) = refl
+command_of-members (string s) = refl
+command_of-members (array ds) = refl
+command_of-members (object ms) = refl
