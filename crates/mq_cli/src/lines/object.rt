@@ -67,7 +67,7 @@ impl Object {
                 true
             },
         );
-        // a member that was not written is gone
+        // A member that was not written is gone.
         if self.members.len() == row.len() {
             Ok(())
         } else {
