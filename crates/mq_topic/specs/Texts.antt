@@ -60,26 +60,30 @@ share_fits share filter = nat_lt 0 (length share) && is_plain share && nat_lt 0 
 abbrev pub is_subscription : List ℕ → Bool
 is_subscription text = is_text text && (not (is_shared text) || share_fits (share_name text) (filter_part text)) && is_filter (filter_part text)
 
--- the first fault of a text, where its wildcards fit or not, and with so many levels
-abbrev pub first_fault : List ℕ → Bool → ℕ → Option TopicFault
-first_fault text fit count =
+-- more than 200 levels
+abbrev pub is_deep : List ℕ → Bool
+is_deep text = nat_lt 200 (length (levels text))
+
+-- the first fault of a text, where its wildcards fit or not, and with too many levels or not
+abbrev pub first_fault : List ℕ → Bool → Bool → Option TopicFault
+first_fault text fit deep =
     if length text == 0 then Some Empty
     else (if nat_lt 65535 (length text) then Some TooLong
     else (if contains_byte 0 text then Some Nul
     else (if not fit then Some Wildcard
-    else (if nat_lt 200 count then Some Levels
+    else (if deep then Some Levels
     else None))))
 
 abbrev pub name_fault : List ℕ → Option TopicFault
-name_fault text = first_fault text (is_plain text) (length (levels text))
+name_fault text = first_fault text (is_plain text) (is_deep text)
 
 abbrev pub filter_fault : List ℕ → Option TopicFault
-filter_fault text = first_fault text (wildcards_fit (levels text)) (length (levels text))
+filter_fault text = first_fault text (wildcards_fit (levels text)) (is_deep text)
 
 -- of a shared text the wildcards and the levels of the filter part count
 abbrev pub subscription_fault : List ℕ → Option TopicFault
 subscription_fault text =
-    option_or (first_fault text (wildcards_fit (levels (filter_part text))) (length (levels (filter_part text))))
+    option_or (first_fault text (wildcards_fit (levels (filter_part text))) (is_deep (filter_part text)))
     (if is_shared text && not (share_fits (share_name text) (filter_part text)) then Some Share else None)
 
 abbrev pub is_memory : TopicFault → Bool

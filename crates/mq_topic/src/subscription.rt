@@ -4,8 +4,7 @@ ghost use Rattle.mq_topic.specs.Texts.{subscription_fault, told, accepts, is_mem
 
 use crate::fault::TopicFault;
 use crate::filter::TopicFilter;
-use crate::levels::count;
-use crate::validity::{first_fault, is_plain, wildcards_fit};
+use crate::validity::{first_fault, is_deep, is_plain, wildcards_fit};
 use std::alloc::{AllocError, Global};
 
 /// What a subscription text asks for: a topic filter, or `$share/NAME/FILTER`, a filter that is shared under a
@@ -83,7 +82,7 @@ fn subscription_fault(text: &str) -> Option<TopicFault>
     ensures valid { is_none result ≡ is_subscription text.now }
 {
     let (share, filter) = parts(text);
-    if let Some(fault) = first_fault(text, wildcards_fit(filter), count(filter)) {
+    if let Some(fault) = first_fault(text, wildcards_fit(filter), is_deep(filter)) {
         return Some(fault);
     }
     match share {
