@@ -1,10 +1,11 @@
-ghost use Rattle.std.specs.Prelude.{◌≡◌, IfOk, IfErr, IsTrue, string_bytes};
+ghost use Rattle.std.specs.Prelude.{◌≡◌, IfOk, IfErr, IsTrue};
 ghost use Rattle.mq_topic.specs.Texts.{filter_fault, told, accepts, is_filter};
 
 use crate::fault::TopicFault;
 use crate::level_text::LevelText;
 use crate::validity::filter_fault;
 use std::alloc::{AllocError, Global};
+use std::cmp::Ordering;
 use std::marker::Model;
 
 /// A topic filter: 1 to 65,535 bytes without U+0000, at most 200 levels, each wildcard a whole level and `#`
@@ -51,14 +52,6 @@ impl TopicFilter {
         })
     }
 
-    /// The text alone. It takes no memory.
-    pub fn into_text(self) -> String
-        ensures { string_bytes result ≡ self }
-    {
-        let TopicFilter { text } = self;
-        text
-    }
-
     /// Another filter with the same text.
     pub fn clone(&self) -> Result<TopicFilter, AllocError>
         ensures { IfOk result (λ copy. copy ≡ self.now) }
@@ -74,5 +67,50 @@ impl LevelText for TopicFilter {
 
     fn text(&self) -> &str {
         self.text.as_str()
+    }
+}
+
+ghost use Rattle.std.specs.Prelude.{Some, nat_eq};
+ghost use Rattle.std.specs.Ordering.{nat_cmp};
+ghost use Rattle.std.specs.Cmp;
+ghost use Rattle.std.specs.Cmp.Lexicographic.{pointwise, slice_cmp, nat_list_eq_equiv, nat_list_cmp_total, texts_ties, texts_po};
+ghost use Rattle.std.proofs.Common.{refl};
+
+impl PartialEq for TopicFilter {
+    ghost eq = { pointwise nat_eq };
+
+    ghost laws = { Cmp.partial_equiv_from_equiv nat_list_eq_equiv };
+
+    fn eq(&self, other: &Self) -> bool {
+        self.text() == other.text()
+    }
+}
+
+impl Eq for TopicFilter {
+    ghost laws = { nat_list_eq_equiv };
+}
+
+impl PartialOrd for TopicFilter {
+    ghost partial_cmp = { λ x y. Some (slice_cmp nat_cmp x y) };
+
+    ghost laws = { texts_po };
+
+    fn partial_cmp(&self, other: &Self) -> Option<Ordering> {
+        Some(self.cmp(other))
+    }
+}
+
+/// By the bytes of the texts.
+impl Ord for TopicFilter {
+    ghost cmp = { slice_cmp nat_cmp };
+
+    ghost total = { nat_list_cmp_total };
+
+    ghost matches_partial_cmp = { λ x y. refl };
+
+    ghost matches_eq = { texts_ties };
+
+    fn cmp(&self, other: &Self) -> Ordering {
+        self.text().cmp(other.text())
     }
 }

@@ -5,6 +5,7 @@ use crate::fault::TopicFault;
 use crate::level_text::LevelText;
 use crate::validity::name_fault;
 use std::alloc::{AllocError, Global};
+use std::cmp::Ordering;
 use std::marker::Model;
 
 /// A topic name: 1 to 65,535 bytes without U+0000, `+` and `#`, at most 200 levels (MQTT 5.0, sections 4.7.1
@@ -61,5 +62,50 @@ impl LevelText for TopicName {
         ensures name { IsTrue (is_name self.now) }
     {
         self.text.as_str()
+    }
+}
+
+ghost use Rattle.std.specs.Prelude.{Some, nat_eq};
+ghost use Rattle.std.specs.Ordering.{nat_cmp};
+ghost use Rattle.std.specs.Cmp;
+ghost use Rattle.std.specs.Cmp.Lexicographic.{pointwise, slice_cmp, nat_list_eq_equiv, nat_list_cmp_total, texts_ties, texts_po};
+ghost use Rattle.std.proofs.Common.{refl};
+
+impl PartialEq for TopicName {
+    ghost eq = { pointwise nat_eq };
+
+    ghost laws = { Cmp.partial_equiv_from_equiv nat_list_eq_equiv };
+
+    fn eq(&self, other: &Self) -> bool {
+        self.text() == other.text()
+    }
+}
+
+impl Eq for TopicName {
+    ghost laws = { nat_list_eq_equiv };
+}
+
+impl PartialOrd for TopicName {
+    ghost partial_cmp = { λ x y. Some (slice_cmp nat_cmp x y) };
+
+    ghost laws = { texts_po };
+
+    fn partial_cmp(&self, other: &Self) -> Option<Ordering> {
+        Some(self.cmp(other))
+    }
+}
+
+/// By the bytes of the texts.
+impl Ord for TopicName {
+    ghost cmp = { slice_cmp nat_cmp };
+
+    ghost total = { nat_list_cmp_total };
+
+    ghost matches_partial_cmp = { λ x y. refl };
+
+    ghost matches_eq = { texts_ties };
+
+    fn cmp(&self, other: &Self) -> Ordering {
+        self.text().cmp(other.text())
     }
 }

@@ -9,7 +9,7 @@ use std::alloc::{AllocError, Global};
 
 /// What a subscription text asks for: a topic filter, or `$share/NAME/FILTER`, a filter that is shared under a
 /// name (MQTT 5.0, section 4.8.2).
-#[derive(Debug, Drop)]
+#[derive(Debug, Drop, PartialEq, Eq, PartialOrd, Ord)]
 pub struct SubFilter {
     /// The share name, of a shared filter.
     pub share: Option<String>,
