@@ -17,6 +17,8 @@ pub mod GatherLemmas
 pub mod SummaryLemmas
 pub mod TurnsAtLemmas
 pub mod SortedLemmas
+pub mod AscendingLemmas
+pub mod ClientLemmas
 pub mod GroupLemmas
 pub mod ServedMembers
 pub mod OwnCopies

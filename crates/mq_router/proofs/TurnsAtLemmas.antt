@@ -1,5 +1,5 @@
--- What one filter gives to a message: the options of clients in their own name, and the members in turn.
-use Rattle.std.proofs.Common.{◌≡◌, Bool, true, false, true≢false, cond, ◌&&◌, not, List, [], ◌∷◌, ◌++◌, map, Option, Some, None, if◌then◌else◌, refl, sym, ◌∙◌, ap, append_assoc}
+-- The members in turn at one filter.
+use Rattle.std.proofs.Common.{◌≡◌, Bool, true, false, true≢false, cond, ◌&&◌, List, [], ◌∷◌, ◌++◌, map, Option, Some, if◌then◌else◌, refl, sym, ◌∙◌, ap, append_assoc}
 use Rattle.std.specs.Option.{option_map}
 use Rattle.std.specs.List.{filter, flat_map, find, AllByRecursion}
 use Rattle.std.specs.List.Sorted.{IsStrictlySortedBy}
@@ -9,67 +9,16 @@ use Rattle.std.proofs.lemmas.List.{append-nil, map-append}
 use Rattle.std.proofs.lemmas.List.Elements.{filter-append}
 use Rattle.mq_acl.specs.Rows.{AclRow}
 use Rattle.mq_router.specs.Lists.{Text, same_text, text_cmp}
-use Rattle.mq_router.specs.World.{Session, Subscription, Options, Group, Message, is_in_group}
+use Rattle.mq_router.specs.World.{Session, Subscription, Group, is_in_group}
 use Rattle.mq_router.specs.Sessions.{is_reader}
 use Rattle.mq_router.specs.Applied.{next_in}
-use Rattle.mq_router.specs.Kept.{Member, row, direct_rows, group_rows, options_of}
-use Rattle.mq_router.specs.Summaries.{Summary, summary_for, with_more}
+use Rattle.mq_router.specs.Kept.{Member, row, direct_rows, group_rows}
 use Rattle.mq_router.specs.Held.{turn_of}
-use Rattle.mq_router.specs.Made.{gives, gives_options, turns_of}
+use Rattle.mq_router.specs.Made.{turns_of}
 use Rattle.mq_router.proofs.Texts.{is_text-is, text-apart}
 use Rattle.mq_router.proofs.InTurn.{same_text-is, same_text-itself}
-use Rattle.mq_router.proofs.BoolLemmas.{and_true}
-use Rattle.mq_router.proofs.SummaryLemmas.{summary_for-append, with_more-assoc}
 use Rattle.mq_router.specs.declared.copies.Turn.{Turn}
 use Rattle.mq_router.specs.declared.options.Options as held
-
--- ## Options
-
--- the member of a group gives nothing in its own name
-no_group_gives : (m : Message) (id f share : Text) (ms : List Member) → filter (gives m id) (map (row (Some share) f) ms) ≡ []
-no_group_gives m id f share [] = refl
-no_group_gives m id f share (x ∷ ms) = no_group_gives m id f share ms
-
-no_groups_give : (m : Message) (id f : Text) (gs : List (Text × List Member)) → filter (gives m id) (group_rows f gs) ≡ []
-no_groups_give m id f [] = refl
-no_groups_give m id f (g ∷ gs) =
-    filter-append (gives m id) (map (row (Some g.0) f) g.1) (group_rows f gs)
-    ∙ ap (λ l. l ++ filter (gives m id) (group_rows f gs)) (no_group_gives m id f g.0 g.1) ∙ no_groups_give m id f gs
-
--- by whichever filter
-by_any : (m : Message) (id f : Text) (ms : List Member) → gives_options m id (direct_rows [] ms) ≡ gives_options m id (direct_rows f ms)
-by_any m id f [] = refl
-by_any m id f (x ∷ ms) =
-    let rest = by_any m id f ms in
-    elim (gives m id (row None [] x)) as (λ b. map (λ (s : Subscription). s.options) (cond b (row None [] x ∷ filter (gives m id) (direct_rows [] ms)) (filter (gives m id) (direct_rows [] ms))) ≡ map (λ (s : Subscription). s.options) (cond b (row None f x ∷ filter (gives m id) (direct_rows f ms)) (filter (gives m id) (direct_rows f ms)))) [
-      | true ↦ ap (λ l. options_of x.1 ∷ l) rest
-      | false ↦ rest
-    ]
-
-pub options-at : (m : Message) (id f : Text) (ds : List Member) (gs : List (Text × List Member)) → gives_options m id (direct_rows [] ds) ≡ gives_options m id (direct_rows f ds ++ group_rows f gs)
-options-at m id f ds gs =
-    by_any m id f ds
-    ∙ sym (ap (map (λ (s : Subscription). s.options)) (filter-append (gives m id) (direct_rows f ds) (group_rows f gs)
-    ∙ ap (λ l. filter (gives m id) (direct_rows f ds) ++ l) (no_groups_give m id f gs) ∙ append-nil (filter (gives m id) (direct_rows f ds))))
-
--- the options of one client, where it takes part
-abbrev pub one_gives : Message → Text → Text → held.Options → List Options
-one_gives m id c o = if same_text c id && not (o.no_local && same_text c m.publisher) then options_of o ∷ [] else []
-
-pub options-one : (m : Message) (id : Text) (x : Member) (ms : List Member) → gives_options m id (direct_rows [] (x ∷ ms)) ≡ one_gives m id x.0 x.1 ++ gives_options m id (direct_rows [] ms)
-options-one m id x ms =
-    ap (λ b. map (λ (s : Subscription). s.options) (cond b (row None [] x ∷ filter (gives m id) (direct_rows [] ms)) (filter (gives m id) (direct_rows [] ms)))) same
-    ∙ (elim (same_text x.0 id && not (x.1.no_local && same_text x.0 m.publisher)) as (λ b. map (λ (s : Subscription). s.options) (cond b (row None [] x ∷ filter (gives m id) (direct_rows [] ms)) (filter (gives m id) (direct_rows [] ms))) ≡ (if b then options_of x.1 ∷ [] else []) ++ gives_options m id (direct_rows [] ms)) [ true ↦ refl | false ↦ refl ])
-  where
-    same : (same_text x.0 id && not (x.1.no_local && same_text id m.publisher)) ≡ (same_text x.0 id && not (x.1.no_local && same_text x.0 m.publisher))
-    same =
-        let P : Bool → Type 0 = λ b. same_text x.0 id ≡ b → (b && not (x.1.no_local && same_text id m.publisher)) ≡ (b && not (x.1.no_local && same_text x.0 m.publisher)) in
-        (elim (same_text x.0 id) as P [
-          | true ↦ λ t. ap (λ (k : Text). not (x.1.no_local && same_text k m.publisher)) (sym (same_text-is x.0 id t))
-          | false ↦ λ t. refl
-        ]) refl
-
--- ## Turns
 
 abbrev pub able : Option (List AclRow) → List Session → Text → Text → Bool
 able access sessions name client = is_reader access sessions name client
@@ -164,18 +113,6 @@ module _ (access : Option (List AclRow)) (sessions : List Session) (name f share
       ∙ ap (λ l. turns_of (find may l)) (sym (filter-append (is_in_group here) (direct_rows f ds) (group_rows f gs) ∙ ap (λ l. l ++ filter (is_in_group here) (group_rows f gs)) (no_direct ds)))
 
 -- ## One more
-
-pub one-able : (m : Message) (id c : Text) (o : held.Options) (b : Bool) → b ≡ false → b ≡ (o.no_local && same_text c m.publisher) → (if same_text c id then options_of o ∷ [] else []) ≡ one_gives m id c o
-one-able m id c o b h e =
-    sym (ap (λ v. if same_text c id && not v then options_of o ∷ [] else []) (sym e ∙ h) ∙ ap (λ v. if v then options_of o ∷ [] else []) (and_true (same_text c id)))
-
-pub options-more : (m : Message) (id : Text) (old new : Option Summary) (own : List Options) (x : Member) (ms : List Member) → new ≡ with_more old (summary_for own) → own ≡ one_gives m id x.0 x.1 → with_more new (summary_for (gives_options m id (direct_rows [] ms))) ≡ with_more old (summary_for (gives_options m id (direct_rows [] (x ∷ ms))))
-options-more m id old new own x ms e h =
-    let rest : List Options = gives_options m id (direct_rows [] ms) in
-    ap (λ s. with_more s (summary_for rest)) e
-    ∙ with_more-assoc old (summary_for own) (summary_for rest)
-    ∙ ap (with_more old) (sym (summary_for-append own rest))
-    ∙ ap (λ l. with_more old (summary_for l)) (ap (λ l. l ++ rest) h ∙ sym (options-one m id x ms))
 
 pub turns-more : (access : Option (List AclRow)) (sessions : List Session) (name f share text : Text) (old new : List Turn) (t : Turn) (g : Text × List Member) (gs : List (Text × List Member)) → new ≡ old ++ (if same_text text share then t ∷ [] else []) → text ≡ g.0 → turn_in access sessions name f g ≡ Some (turn_of t) → map turn_of new ++ turns_left access sessions name f share gs ≡ map turn_of old ++ turns_left access sessions name f share (g ∷ gs)
 turns-more access sessions name f share text old new t g gs e named is =

@@ -1,21 +1,22 @@
 -- Words of the contracts: what is gathered from filters, and what is made of it.
-use Rattle.std.specs.Prelude.{◌≡◌, List, [], ◌∷◌, ◌++◌, map, String, Vec, Option, if◌then◌else◌}
+use Rattle.std.specs.Prelude.{◌≡◌, ⊤, false, List, [], ◌∷◌, ◌++◌, map, String, Vec, Option, if◌then◌else◌}
+use Rattle.std.specs.Ordering.{is_lt}
+use Rattle.std.specs.List.{filter, AllByRecursion}
 use Rattle.std.specs.declared.alloc.Global.{Global}
 use denote.Ref.{Bor}
-use Rattle.std.specs.Map.{lookup}
 use Rattle.mq_acl.specs.Rows.{AclRow}
-use Rattle.mq_router.specs.Lists.{Text, same_text}
-use Rattle.mq_router.specs.World.{Session, Subscription, Options, Message, Copy}
+use Rattle.mq_router.specs.Lists.{Text, same_text, text_cmp, in_order}
+use Rattle.mq_router.specs.World.{Session, Subscription, Options, Copy}
 use Rattle.mq_router.specs.Applied.{next_in}
 use Rattle.mq_router.specs.Views.{copy_of}
-use Rattle.mq_router.specs.Kept.{At, is_text}
-use Rattle.mq_router.specs.KeptViews.{texts}
-use Rattle.mq_router.specs.Summaries.{Summary, summary_for, with_more}
+use Rattle.mq_router.specs.Kept.{At, options_of}
+use Rattle.mq_router.specs.Summaries.{Summary, summary_of}
 use Rattle.mq_router.specs.Gathered.{listed, lists_in}
-use Rattle.mq_router.specs.Made.{gives_options, turns_of, turns_at}
+use Rattle.mq_router.specs.Made.{turns_of, turns_at}
 use Rattle.mq_router.specs.Held.{turn_of}
 use Rattle.mq_router.specs.declared.answer.Delivery.{Delivery}
 use Rattle.mq_router.specs.declared.copies.Turn.{Turn}
+use Rattle.mq_router.specs.declared.matches.Match.{Match}
 
 abbrev pub Lists : Type 0 → Type 0
 Lists T = List (String Global × Vec T Global)
@@ -25,22 +26,28 @@ abbrev pub Gathers : {T : Type 0} → Text → T → Lists T → Lists T → Typ
 Gathers text value old new =
     (key : Text) → listed key (lists_in new) ≡ listed key (lists_in old) ++ (if same_text text key then value ∷ [] else [])
 
-abbrev pub Summaries : Type 0
-Summaries = List (String Global × Summary)
+-- subscriptions, each by its client and what it asks for
+abbrev pub matched : List Match → List (Text × Options)
+matched ms = map (λ m. (m.client.now, options_of m.options)) ms
 
--- what is gathered for a client
-abbrev pub summed : Text → Summaries → Option Summary
-summed id summaries = lookup (is_text id) (texts summaries)
+abbrev pub clients_of : List (Text × Options) → List Text
+clients_of xs = map (λ x. x.0) xs
 
--- these options of a client join its summary
-abbrev pub GathersOne : Text → Options → Summaries → Summaries → Type 0
-GathersOne client options old new =
-    (id : Text) → summed id new ≡ with_more (summed id old) (summary_for (if same_text client id then options ∷ [] else []))
+-- what those of a client ask for
+abbrev pub options_among : Text → List (Text × Options) → List Options
+options_among id xs = map (λ x. x.1) (filter (λ x. same_text x.0 id) xs)
 
--- each client's options of its subscriptions that take part join its summary
-abbrev pub GathersOptions : Message → List Subscription → Summaries → Summaries → Type 0
-GathersOptions m rows old new =
-    (id : Text) → summed id new ≡ with_more (summed id old) (summary_for (gives_options m id rows))
+-- no text is less than one before it
+abbrev pub AreAscending : List Text → Type 0
+AreAscending [] = ⊤
+AreAscending (t ∷ ts) = AllByRecursion (λ u. is_lt (text_cmp u t) ≡ false) ts × AreAscending ts
+
+abbrev pub AreByClient : List (Text × Options) → Type 0
+AreByClient xs = AreAscending (clients_of xs)
+
+-- for each client, in order, what its options come to
+abbrev pub by_client : List (Text × Options) → List (Text × Summary)
+by_client xs = map (λ id. (id, summary_of (options_among id xs))) (in_order text_cmp (clients_of xs))
 
 -- the turns that are listed for a share name
 abbrev pub turns_listed : Text → Lists Turn → List Subscription

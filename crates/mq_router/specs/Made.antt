@@ -25,6 +25,13 @@ gives m id s = is_none s.share && same_text s.client id && not (s.options.no_loc
 abbrev pub gives_options : Message → Text → List Subscription → List world.Options
 gives_options m id rows = map (λ s. s.options) (filter (gives m id) rows)
 
+-- those in a client's own name that take part, whoever's they are
+abbrev pub is_own_match : Message → Subscription → Bool
+is_own_match m s = is_none s.share && not (s.options.no_local && same_text s.client m.publisher)
+
+abbrev pub own_matches : Message → List Subscription → List (Text × world.Options)
+own_matches m rows = map (λ s. (s.client, s.options)) (filter (is_own_match m) rows)
+
 -- the copy for a connected client that may read the topic
 abbrev pub copy_for : Option (List AclRow) → List Session → Message → Text × Summary → Option Copy
 copy_for access sessions m l = if is_reader access sessions m.topic l.0 then Some (copy_from l.0 None m l.1) else None

@@ -1,6 +1,5 @@
 -- What the options of a client's subscriptions come to for its copy.
 use Rattle.std.specs.Prelude.{ℕ, Bool, List, [], ◌∷◌, ◌++◌, map, max, min, ◌&&◌, ◌||◌, Option, Some, None}
-use Rattle.std.specs.Option.{option_map_or}
 use Rattle.std.specs.List.{filter_map, list_any}
 use Rattle.mq_router.specs.Lists.{Text, greatest, ascending}
 use Rattle.mq_router.specs.World.{Options, Group, Message, Copy}
@@ -31,9 +30,6 @@ together a b = record {
   retain_as_published = a.retain_as_published || b.retain_as_published;
   identifiers = a.identifiers ++ b.identifiers;
 }
-
-abbrev pub with_more : Option Summary → Option Summary → Option Summary
-with_more old more = option_map_or (λ b. Some (option_map_or (λ a. together a b) old b)) more old
 
 -- the copy for a client, or for it in a group, by subscriptions with options of this summary
 abbrev pub copy_from : Text → Option Group → Message → Summary → Copy

@@ -10,9 +10,9 @@ ghost use Rattle.mq_router.specs.Kept.{is_empty, AreHere};
 use crate::copies::{Message, Turn};
 use crate::gathered::gather;
 use crate::group::Group;
+use crate::matches::Match;
 use crate::options::Options;
 use crate::readers::Readers;
-use crate::summary::{Summary, add_options};
 use mq_topic::{TopicFilter, TopicName};
 use mq_tree::Counted;
 use std::alloc::{AllocError, Global};
@@ -106,19 +106,22 @@ impl AtFilter {
         serve_group(&mut self.groups, share, client);
     }
 
-    /// Gathers by client the options of the subscriptions that take part in a message that the filter matches.
-    pub(crate) fn gather_options(
-        &self,
-        alloc: Global,
+    /// Adds the subscriptions of clients in their own name that take part in a message that the filter matches.
+    pub(crate) fn gather_matches<'a>(
+        &'a self,
         message: &Message,
-        gathered: &mut BTreeMap<String, Summary>,
+        matches: &mut Vec<Match<'a>>,
     ) -> Result<(), AllocError>
-        ensures { OnOk result (GathersOptions (message_of message.now) self.now.rows gathered.old.entries gathered.new.entries) }
+        ensures { OnOk result (matched matches.new.items ≡ matched matches.old.items ++ own_matches (message_of message.now) self.now.rows) }
     {
+        matches.reserve(self.direct.len())?;
         for (client, options) in &self.direct {
             let client = client.as_str();
             if !is_held_back(*options, client, message) {
-                add_options(gathered, alloc, client, *options)?;
+                matches.push(Match {
+                    client,
+                    options: *options,
+                })?;
             }
         }
         Ok(())
@@ -152,7 +155,7 @@ impl AtFilter {
     }
 }
 
-ghost use Rattle.std.specs.Prelude.{length};
+ghost use Rattle.std.specs.Prelude.{length, ◌++◌};
 ghost use Rattle.std.specs.List.{sum_by};
 ghost use Rattle.std.specs.Map.{values_of};
 ghost use Rattle.mq_tree.specs.Entries.{capped};
@@ -179,7 +182,8 @@ fn member_count(groups: &BTreeMap<String, Group>) -> u64
 
 ghost use Rattle.mq_router.specs.Gathered.{lists_in, NoneBare};
 ghost use Rattle.mq_router.specs.Held.{message_of};
-ghost use Rattle.mq_router.specs.Gathers.{GathersOptions, GathersTurns};
+ghost use Rattle.mq_router.specs.Made.{own_matches};
+ghost use Rattle.mq_router.specs.Gathers.{matched, GathersTurns};
 ghost use Rattle.mq_router.specs.AtWords.{JoinsAt, DirectJoins, GroupJoins, DirectLeaves, GroupLeaves, GroupTurns};
 ghost use Rattle.mq_router.specs.Kept.{direct_rows, group_rows, NoneEmpty};
 ghost use Rattle.mq_router.specs.KeptViews.{texts};

@@ -14,6 +14,7 @@ use crate::answer::Delivery;
 use crate::at_filter::AtFilter;
 use crate::begun::Begun;
 use crate::direct::{Direct, direct_copies};
+use crate::matches::{Match, sort_by_client};
 use crate::options::Options;
 use crate::outgoing::Outgoing;
 use crate::readers::Readers;
@@ -125,36 +126,44 @@ pub(crate) fn make_copies(
     if found.is_empty() {
         return Ok(Made::nothing(alloc));
     }
-    let gathered = gather_options(alloc, found, message)?;
-    // Learns that the clients are in order, those with options and those with a session.
-    let _clients = gathered.len();
+    let matches = matches_by_client(alloc, found, message)?;
+    // Learns that the sessions are in order.
     let _sessions = readers.sessions.len();
     let served = members_served(alloc, readers, found, message)?;
-    made_for(alloc, readers, gathered, served, message, queueing)
+    made_for(
+        alloc,
+        readers,
+        matches.as_slice(),
+        served,
+        message,
+        queueing,
+    )
 }
 
 ghost use Rattle.std.specs.Prelude.{◌++◌, OnOk, []};
 ghost use Rattle.std.specs.List.{flat_map};
 ghost use Rattle.mq_router.specs.Kept.{AreAtFilters};
 ghost use Rattle.mq_router.specs.Gathered.{lists_in, NoneBare};
-ghost use Rattle.mq_router.specs.Gathers.{GathersOptions, TurnsListed, seen, copies_in, turns_in};
+ghost use Rattle.mq_router.specs.Gathers.{TurnsListed, seen, copies_in, turns_in, matched, options_among, by_client, AreByClient};
 ghost use Rattle.mq_router.specs.Applied.{copies_made, next_members, member_copy};
-ghost use Rattle.mq_router.specs.KeptViews.{texts};
-ghost use Rattle.mq_router.specs.Made.{rows_found, copies_by, begins_by};
+ghost use Rattle.mq_router.specs.Made.{rows_found, own_matches, copies_by, begins_by};
 
-// By client what the options of its subscriptions that take part come to.
-fn gather_options(
+// The subscriptions of clients in their own name that take part, by client, and by filter for each client.
+fn matches_by_client<'a>(
     alloc: Global,
-    found: &[&AtFilter],
+    found: &[&'a AtFilter],
     message: &Message,
-) -> Result<BTreeMap<String, Summary>, AllocError>
-    ensures { IfOk result (λ g. GathersOptions (message_of message.now) (rows_found (seen found.now)) [] g.entries) }
+) -> Result<Vec<Match<'a>>, AllocError>
+    ensures sorted { IfOk result (λ ms. AreByClient (matched ms.items)) }
+    ensures options { IfOk result (λ ms. (id : Text) → options_among id (matched ms.items)
+        ≡ options_among id (own_matches (message_of message.now) (rows_found (seen found.now)))) }
 {
-    let mut gathered = BTreeMap::new(alloc);
+    let mut matches = Vec::new(alloc);
     for at in found {
-        at.gather_options(alloc, message, &mut gathered)?;
+        at.gather_matches(message, &mut matches)?;
     }
-    Ok(gathered)
+    sort_by_client(&mut matches)?;
+    Ok(matches)
 }
 
 // The members that are served, by share name and filter.
@@ -207,29 +216,28 @@ fn flattened(alloc: Global, by_share: BTreeMap<String, Vec<Turn>>) -> Result<Vec
 fn made_for(
     alloc: Global,
     readers: &Readers,
-    gathered: BTreeMap<String, Summary>,
+    matches: &[Match],
     served: Vec<Turn>,
     message: &Message,
     queueing: Queueing,
 ) -> Result<Made, AllocError>
+    requires { AreByClient (matched matches.now) }
     ensures copies { IfOk result (λ m. copies_in m.copies
-        ≡ copies_by readers.now.access.now readers.now.sessions.now (message_of message.now) (texts gathered.entries)
+        ≡ copies_by readers.now.access.now readers.now.sessions.now (message_of message.now) (by_client (matched matches.now))
         ++ map (member_copy (message_of message.now)) (turns_in served)) }
     ensures begun { IfOk result (λ m. map begin_of m.begun
         ≡ begins_by queueing.limit readers.now.access.now readers.now.sessions.now (message_of message.now) queueing.deadline
-        (texts gathered.entries)) }
+        (by_client (matched matches.now))) }
     ensures served { IfOk result (λ m. m.served ≡ served) }
 {
-    if gathered.is_empty() && served.is_empty() {
+    if matches.is_empty() && served.is_empty() {
         return Ok(Made {
             served,
             ..Made::nothing(alloc)
         });
     }
     let outgoing = Outgoing::new(alloc, message)?;
-    let Direct { mut copies, begun } = direct_copies(
-        alloc, readers, gathered, &outgoing, queueing,
-    )?;
+    let Direct { mut copies, begun } = direct_copies(alloc, readers, matches, &outgoing, queueing)?;
     add_group_copies(alloc, served.as_slice(), &outgoing, &mut copies)?;
     Ok(Made {
         copies,

@@ -1,19 +1,22 @@
 //! The copies of a message for clients in their own name: those that are sent, and those that begin to wait.
-ghost use Rattle.std.specs.Prelude.{◌≡◌, IfOk, map};
-ghost use Rattle.mq_router.specs.KeptViews.{texts};
-ghost use Rattle.mq_router.specs.Gathers.{copies_in};
+ghost use Rattle.std.specs.Prelude.{◌≡◌, IfOk, None, map};
+ghost use Rattle.mq_router.specs.Kept.{options_of};
+ghost use Rattle.mq_router.specs.Gathers.{copies_in, matched, by_client, AreByClient};
 ghost use Rattle.mq_router.specs.Made.{copies_by, begins_by};
+ghost use Rattle.mq_router.specs.Summaries.{summary_of, copy_from};
+ghost use Rattle.mq_router.specs.Views.{copy_of};
 ghost use Rattle.mq_router.specs.Held.{message_of, begin_of};
 
 use crate::answer::Delivery;
 use crate::begun::Begun;
+use crate::matches::Match;
 use crate::outgoing::Outgoing;
 use crate::readers::Readers;
 use crate::session::Way;
 use crate::summary::Summary;
 use crate::waiting::{Queueing, begin};
 use std::alloc::{AllocError, Global};
-use std::collections::{BTreeMap, LinkedList};
+use std::collections::LinkedList;
 
 /// The copies that are sent, and those that begin to wait.
 #[derive(Debug, Drop)]
@@ -22,28 +25,32 @@ pub(crate) struct Direct {
     pub(crate) begun: LinkedList<Begun>,
 }
 
-/// The copies for the clients with a summary here that may read the topic, by client id: for those that are connected, and
-/// for those that are away and have room. A client's text becomes that of its copy.
+/// The copies for the clients that may read the topic, by client id: for those that are connected, and for those that are
+/// away and have room.
 pub(crate) fn direct_copies(
     alloc: Global,
     readers: &Readers,
-    gathered: BTreeMap<String, Summary>,
+    matches: &[Match],
     outgoing: &Outgoing,
     queueing: Queueing,
 ) -> Result<Direct, AllocError>
+    requires { AreByClient (matched matches.now) }
     ensures copies { IfOk result (λ d. copies_in d.copies
-        ≡ copies_by readers.now.access.now readers.now.sessions.now (message_of outgoing.now.message) (texts gathered.entries)) }
+        ≡ copies_by readers.now.access.now readers.now.sessions.now (message_of outgoing.now.message) (by_client (matched matches.now))) }
     ensures begun { IfOk result (λ d. map begin_of d.begun
         ≡ begins_by queueing.limit readers.now.access.now readers.now.sessions.now (message_of outgoing.now.message) queueing.deadline
-        (texts gathered.entries)) }
+        (by_client (matched matches.now))) }
 {
-    let mut copies = Vec::with_capacity(alloc, gathered.len())?;
+    // A client gets a copy if it has a session.
+    let most = matches.len().min(readers.sessions.len());
+    let mut copies = Vec::with_capacity(alloc, most)?;
     let mut begun = LinkedList::new(alloc);
-    for (client, summary) in gathered {
-        match readers.way(client.as_str(), outgoing.message.topic, queueing.limit) {
-            Way::Sent => copies.push(outgoing.copy(client, None, summary)?)?,
+    for own in matches.chunk_by(|a, b| a.client == b.client) {
+        let client = own[0].client;
+        match readers.way(client, outgoing.message.topic, queueing.limit) {
+            Way::Sent => copies.push(own_copy(alloc, client, own, outgoing)?)?,
             Way::Waits => {
-                let copy = outgoing.copy(client, None, summary)?;
+                let copy = own_copy(alloc, client, own, outgoing)?;
                 if let Some(one) = begin(alloc, copy, queueing.deadline)? {
                     begun.push_back(one)?;
                 }
@@ -52,4 +59,28 @@ pub(crate) fn direct_copies(
         }
     }
     Ok(Direct { copies, begun })
+}
+
+// The copy for a client, by its subscriptions.
+fn own_copy(
+    alloc: Global,
+    client: &str,
+    own: &[Match],
+    outgoing: &Outgoing,
+) -> Result<Delivery, AllocError>
+    ensures { IfOk result (λ d. copy_of d
+        ≡ copy_from client.now None (message_of outgoing.now.message) (summary_of (map (λ x. options_of x.options) own.now))) }
+{
+    let name = String::from_str(alloc, client)?;
+    outgoing.copy(name, None, summarize(alloc, own)?)
+}
+
+fn summarize(alloc: Global, own: &[Match]) -> Result<Summary, AllocError>
+    ensures { IfOk result (λ summary. summary ≡ summary_of (map (λ x. options_of x.options) own.now)) }
+{
+    let mut summary = Summary::new(alloc);
+    for one in own {
+        summary.add(one.options)?;
+    }
+    Ok(summary)
 }

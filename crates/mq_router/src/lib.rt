@@ -14,6 +14,7 @@ mod direct;
 mod gathered;
 mod group;
 mod limits;
+mod matches;
 mod options;
 mod outgoing;
 mod own;

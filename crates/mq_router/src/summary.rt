@@ -1,14 +1,10 @@
 //! What the options of a client's subscriptions come to for its copy.
-ghost use Rattle.std.specs.Prelude.{◌≡◌, [], ◌∷◌, ◌++◌, None, IfOk, OnOk};
+ghost use Rattle.std.specs.Prelude.{◌≡◌, [], ◌∷◌, ◌++◌, IfOk, OnOk};
 ghost use Rattle.std.specs.Option.{option_to_list};
-ghost use Rattle.std.specs.Map.{lookup};
-ghost use Rattle.mq_router.specs.Kept.{is_text, options_of};
-ghost use Rattle.mq_router.specs.KeptViews.{texts};
-ghost use Rattle.mq_router.specs.Gathers.{GathersOne};
+ghost use Rattle.mq_router.specs.Kept.{options_of};
 
 use crate::options::Options;
 use std::alloc::{AllocError, Global};
-use std::collections::BTreeMap;
 use std::marker::Model;
 
 /// The greatest QoS, whether some ask for Retain As Published, and the identifiers.
@@ -30,6 +26,17 @@ impl Model for Summary {
 impl Summary {
     ghost use Rattle.mq_router.specs.Lists.{ascending};
     ghost use Rattle.mq_router.specs.Summaries.{summary_of, together};
+
+    /// That of no subscription.
+    pub(crate) fn new(alloc: Global) -> Summary
+        ensures { result ≡ summary_of [] }
+    {
+        Summary {
+            qos: 0,
+            rap: false,
+            ids: Vec::new(alloc),
+        }
+    }
 
     /// That of one subscription.
     pub(crate) fn of(alloc: Global, options: Options) -> Result<Summary, AllocError>
@@ -82,38 +89,5 @@ fn push_id(ids: &mut Vec<u32>, id: Option<u32>) -> Result<(), AllocError>
     if let Some(id) = id {
         ids.push(id)?;
     }
-    Ok(())
-}
-
-/// Adds the options of a subscription to what is gathered for its client.
-pub(crate) fn add_options(
-    gathered: &mut BTreeMap<String, Summary>,
-    alloc: Global,
-    client: &str,
-    options: Options,
-) -> Result<(), AllocError>
-    ensures { OnOk result (GathersOne client.now (options_of options) gathered.old.entries gathered.new.entries) }
-{
-    let _count = gathered.len();
-    match gathered.get_mut(client) {
-        Some(summary) => summary.add(options),
-        None => begin(gathered, alloc, client, options),
-    }
-}
-
-// The first one of the client, made aside.
-fn begin(
-    gathered: &mut BTreeMap<String, Summary>,
-    alloc: Global,
-    client: &str,
-    options: Options,
-) -> Result<(), AllocError>
-    requires { lookup (is_text client.now) (texts gathered.old.entries) ≡ None }
-    ensures { OnOk result (GathersOne client.now (options_of options) gathered.old.entries gathered.new.entries) }
-{
-    let _count = gathered.len();
-    let name = String::from_str(alloc, client)?;
-    let summary = Summary::of(alloc, options)?;
-    gathered.insert(name, summary)?;
     Ok(())
 }

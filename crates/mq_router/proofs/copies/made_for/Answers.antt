@@ -3,13 +3,13 @@ use Rattle.std.proofs.lemmas.Simd.{map-map}
 use Rattle.mq_router.specs.World.{Message, Copy}
 use Rattle.mq_router.specs.Applied.{member_copy}
 use Rattle.mq_router.specs.Made.{copies_by}
-use Rattle.mq_router.specs.KeptViews.{texts}
+use Rattle.mq_router.specs.Gathers.{matched, by_client}
 use Rattle.mq_router.specs.Held.{message_of, turn_of}
 use Rattle.mq_router.proofs.copies.made_for.Goals as goal
 
 pub returns-clause-copies : goal.returns-clause-copies
 returns-clause-copies c =
-    let own : Message → List Copy = λ m. copies_by c.args.readers.now.access.now c.args.readers.now.sessions.now m (texts c.args.gathered.entries) in
+    let own : Message → List Copy = λ m. copies_by c.args.readers.now.access.now c.args.readers.now.sessions.now m (by_client (matched c.args.matches.now)) in
     let m = message_of c.args.message.now in
     let sent = message_of c.in_ok-outgoing.outgoing.message in
     c.in_ok-add_group_copies.ensures

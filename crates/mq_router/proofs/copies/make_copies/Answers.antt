@@ -6,12 +6,10 @@ use Rattle.mq_router.specs.Sessions.{connected}
 use Rattle.mq_router.specs.Applied.{next_members, member_copy}
 use Rattle.mq_router.specs.Copies.{filter_matches, direct_copies}
 use Rattle.mq_router.specs.Made.{rows_found, gives_options}
-use Rattle.mq_router.specs.KeptViews.{texts}
 use Rattle.mq_router.specs.Summaries.{summary_for}
 use Rattle.mq_router.specs.Held.{message_of, begin_of}
-use Rattle.mq_router.specs.Gathers.{turns_in}
-use Rattle.mq_router.proofs.Texts.{ordered-texts}
-use Rattle.mq_router.proofs.SummaryLemmas.{none-more}
+use Rattle.mq_router.specs.Gathers.{turns_in, matched, options_among, by_client}
+use Rattle.mq_router.proofs.ClientLemmas.{sorted-by_client, lookup-by_client, options-own}
 use Rattle.mq_router.proofs.OwnCopies.{own-copies, own-begun, options-matching}
 use Rattle.mq_router.proofs.GroupLemmas.{members-matching}
 use Rattle.mq_router.proofs.NothingLemmas.{empty-is, no-copies, no-begun, no-members}
@@ -64,11 +62,13 @@ returns-clause-begun c =
     let A = c.args.readers.now.access.now in
     let S = c.args.readers.now.sessions.now in
     let subs = c.args.subscriptions.now.rows in
+    let ms = matched c.as_slice.result.now in
     IfOk-weaker c.made_for.result _ _
     (λ made e. e
-    ∙ own-begun c.args.queueing.limit A S subs m c.args.queueing.deadline (texts c.in_ok-gathered.gathered.entries) c.len-sessions.ensures.ordered (ordered-texts c.in_ok-gathered.gathered.entries c.len-clients.ensures.ordered)
-    (λ id. c.in_ok-gathered.ensures id ∙ none-more (summary_for (gives_options m id (rows_found (map (λ a. a.now) c.as_slice-found.result.now))))
-    ∙ ap summary_for (ap (λ l. gives_options m id (rows_found (map (λ a. a.now) l))) c.as_slice-found.ensures.value
+    ∙ own-begun c.args.queueing.limit A S subs m c.args.queueing.deadline (by_client ms) c.len-sessions.ensures.ordered (sorted-by_client ms)
+    (λ id. lookup-by_client id ms
+    ∙ ap summary_for (ap (λ l. options_among id (matched l)) c.as_slice.ensures.value ∙ c.in_ok-matches.ensures.options id ∙ options-own m id (rows_found (map (λ a. a.now) c.as_slice-found.result.now))
+    ∙ ap (λ l. gives_options m id (rows_found (map (λ a. a.now) l))) c.as_slice-found.ensures.value
     ∙ ap (gives_options m id) c.in_ok-candidates.ensures.rows ∙ options-matching m id subs)))
     c.made_for.ensures.begun
 
@@ -79,9 +79,11 @@ returns-clause-copies c =
     let S = c.args.readers.now.sessions.now in
     let subs = c.args.subscriptions.now.rows in
     let members : List Subscription → List Subscription = λ xs. next_members A S xs m in
-    let own = own-copies A S subs m (texts c.in_ok-gathered.gathered.entries) c.len-sessions.ensures.ordered (ordered-texts c.in_ok-gathered.gathered.entries c.len-clients.ensures.ordered)
-    (λ id. c.in_ok-gathered.ensures id ∙ none-more (summary_for (gives_options m id (rows_found (map (λ a. a.now) c.as_slice-found.result.now))))
-    ∙ ap summary_for (ap (λ l. gives_options m id (rows_found (map (λ a. a.now) l))) c.as_slice-found.ensures.value
+    let ms = matched c.as_slice.result.now in
+    let own = own-copies A S subs m (by_client ms) c.len-sessions.ensures.ordered (sorted-by_client ms)
+    (λ id. lookup-by_client id ms
+    ∙ ap summary_for (ap (λ l. options_among id (matched l)) c.as_slice.ensures.value ∙ c.in_ok-matches.ensures.options id ∙ options-own m id (rows_found (map (λ a. a.now) c.as_slice-found.result.now))
+    ∙ ap (λ l. gives_options m id (rows_found (map (λ a. a.now) l))) c.as_slice-found.ensures.value
     ∙ ap (gives_options m id) c.in_ok-candidates.ensures.rows ∙ options-matching m id subs)) in
     IfOk-weaker c.made_for.result _ _
     (λ made e. e

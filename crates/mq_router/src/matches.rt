@@ -1,0 +1,22 @@
+//! The subscriptions of clients in their own name that take part in a message.
+ghost use Rattle.std.specs.Prelude.{◌≡◌, OnOk};
+ghost use Rattle.mq_router.specs.Lists.{Text};
+ghost use Rattle.mq_router.specs.Gathers.{matched, options_among, AreByClient};
+
+use crate::options::Options;
+use std::alloc::AllocError;
+
+/// A client's subscription in its own name that takes part in a message.
+#[derive(Clone, Copy, Debug)]
+pub(crate) struct Match<'a> {
+    pub(crate) client: &'a str,
+    pub(crate) options: Options,
+}
+
+/// Sorts them by client; those of one client keep their order.
+pub(crate) fn sort_by_client(matches: &mut Vec<Match>) -> Result<(), AllocError>
+    ensures sorted { OnOk result (AreByClient (matched matches.new.items)) }
+    ensures stable { (id : Text) → options_among id (matched matches.new.items) ≡ options_among id (matched matches.old.items) }
+{
+    matches.sort_by(|a, b| a.client.cmp(b.client))
+}
