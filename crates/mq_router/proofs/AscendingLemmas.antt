@@ -4,17 +4,17 @@ use Rattle.std.specs.declared.cmp.Ordering.{Ordering}
 use Rattle.std.specs.declared.cmp.Ordering.TheVariants.{Less, Equal, Greater}
 use Rattle.std.specs.Ordering.{is_eq, is_lt, ordering_reverse}
 use Rattle.std.specs.Cmp.Lexicographic.{nat_list_cmp_total}
-use Rattle.std.specs.List.{filter, list_any, AllByRecursion, AllAdjacentBelow, IsChunkByPrefix}
+use Rattle.std.specs.List.{filter, flat_map, list_any, AllByRecursion, AllAdjacentBelow, IsChunkByPrefix}
 use Rattle.std.specs.List.Sorted.{IsSortedBy, IsStableBy, IsStrictlySortedBy}
 use Rattle.std.proofs.lemmas.List.Sorted.{sorted_far, ranks_by}
 use Rattle.mq_router.specs.Lists.{Text, same_text, text_cmp, in_order}
 use Rattle.mq_router.specs.Kept.{is_text}
 use Rattle.mq_router.specs.Gathers.{AreAscending}
-use Rattle.mq_router.proofs.BoolLemmas.{pick}
+use Rattle.mq_router.proofs.BoolLemmas.{pick, or_true}
 use Rattle.mq_router.proofs.ListLemmas.{filter-same, any-append}
 use Rattle.mq_router.proofs.OrderLemmas.{all_weaker, all-with_row, text_flip}
 use Rattle.mq_router.proofs.SortedLemmas.{same_sorted, sorted-in_order, any-in_order}
-use Rattle.mq_router.proofs.InTurn.{same_text-is}
+use Rattle.mq_router.proofs.InTurn.{same_text-is, same_text-itself}
 use Rattle.mq_router.proofs.Texts.{is_text-is, key_text}
 
 -- what is no less than a text, and another, is greater
@@ -142,3 +142,71 @@ module _ {X : Type 0} (key : X → Text) where
           filter-same (λ y. same_text (key y) t) (λ y. not (lt x y) && not (lt y x)) alike ys
           ∙ stable x
           ∙ sym (filter-same (λ y. same_text (key y) t) (λ y. not (lt x y) && not (lt y x)) alike xs)
+
+  -- ### By each key
+
+  abbrev of_key : List X → Text → List X
+  of_key xs t = filter (λ x. same_text (key x) t) xs
+
+  not_of : (x : X) (t : Text) (xs : List X) → text_cmp t (key x) ≡ Less → of_key (x ∷ xs) t ≡ of_key xs t
+  not_of x t xs less = ap (λ b. cond b (x ∷ of_key xs t) (of_key xs t)) (text_flip (key x) t ∙ sym (is_text-is t (key x)) ∙ ap is_eq less)
+
+  none_of : (t : Text) (xs : List X) → AllByRecursion (λ u. text_cmp t u ≡ Less) (map key xs) → of_key xs t ≡ []
+  none_of t [] h = refl
+  none_of t (x ∷ xs) h = not_of x t xs h.0 ∙ none_of t xs h.1
+
+  pub by_no_key : (ts : List Text) → flat_map (of_key []) ts ≡ []
+  by_no_key [] = refl
+  by_no_key (t ∷ ts) = by_no_key ts
+
+  behind_first : (x : X) (xs : List X) (ts : List Text) → AllByRecursion (λ u. text_cmp (key x) u ≡ Less) ts → flat_map (of_key (x ∷ xs)) ts ≡ flat_map (of_key xs) ts
+  behind_first x xs [] h = refl
+  behind_first x xs (t ∷ ts) h =
+      ap (λ b. cond b (x ∷ of_key xs t) (of_key xs t) ++ flat_map (of_key (x ∷ xs)) ts) (sym (is_text-is (key x) t) ∙ ap is_eq h.0)
+      ∙ ap (λ l. of_key xs t ++ l) (behind_first x xs ts h.1)
+
+  first_by_key : (x : X) (xs : List X) (ts : List Text) → AllByRecursion (λ u. is_lt (text_cmp u (key x)) ≡ false) (map key xs) → IsStrictlySortedBy text_cmp ts → list_any (is_text (key x)) ts ≡ true → flat_map (of_key (x ∷ xs)) ts ≡ x ∷ flat_map (of_key xs) ts
+  unfolding IsStrictlySortedBy
+  first_by_key x xs [] up s there = absurd (true≢false (sym there))
+  first_by_key x xs (t ∷ ts) up s there =
+      pick (is_text (key x) t)
+      (λ e. (let one : key x ≡ t = key_text (key x) t e in
+      ap (λ b. cond b (x ∷ of_key xs t) (of_key xs t) ++ flat_map (of_key (x ∷ xs)) ts) (sym (is_text-is (key x) t) ∙ e)
+      ∙ ap (λ l. (x ∷ of_key xs t) ++ l) (behind_first x xs ts (subst (λ (c : Text). AllByRecursion (λ u. text_cmp c u ≡ Less) ts) (sym one) s.0))))
+      (λ f. (let later : list_any (is_text (key x)) ts ≡ true = ap (λ b. b || list_any (is_text (key x)) ts) (sym f) ∙ there in
+      let less : text_cmp t (key x) ≡ Less = below t (key x) ts s.0 later in
+      ap (λ l. l ++ flat_map (of_key (x ∷ xs)) ts) (not_of x t xs less ∙ none_of t xs (all_far t (key x) less (map key xs) up))
+      ∙ first_by_key x xs ts up s.1 later
+      ∙ ap (λ l. x ∷ l ++ flat_map (of_key xs) ts) (sym (none_of t xs (all_far t (key x) less (map key xs) up)))))
+    where
+      below : (t c : Text) (us : List Text) → AllByRecursion (λ u. text_cmp t u ≡ Less) us → list_any (is_text c) us ≡ true → text_cmp t c ≡ Less
+      below t c [] h k = absurd (true≢false (sym k))
+      below t c (u ∷ us) h k =
+          pick (is_text c u)
+          (λ e. ap (text_cmp t) (key_text c u e) ∙ h.0)
+          (λ f. below t c us h.1 (ap (λ b. b || list_any (is_text c) us) (sym f) ∙ k))
+
+  -- a list in order of its keys is what it has of each, one after the other
+  by_each : (xs : List X) (ts : List Text) → AreAscending (map key xs) → IsStrictlySortedBy text_cmp ts → AllByRecursion (λ u. list_any (is_text u) ts ≡ true) (map key xs) → flat_map (of_key xs) ts ≡ xs
+  by_each [] ts up s there = by_no_key ts
+  by_each (x ∷ xs) ts up s there = first_by_key x xs ts up.0 s there.0 ∙ ap (λ l. x ∷ l) (by_each xs ts up.1 s there.1)
+
+  pub by_each_key : (xs : List X) → AreAscending (map key xs) → flat_map (of_key xs) (in_order text_cmp (map key xs)) ≡ xs
+  by_each_key xs up =
+      by_each xs (in_order text_cmp (map key xs)) up (sorted-in_order text_cmp nat_list_cmp_total (map key xs))
+      (all_there (map key xs) (in_order text_cmp (map key xs)) (λ u k. any-in_order text_cmp nat_list_cmp_total key_text u (map key xs) ∙ k))
+    where
+      all_there : (us ts : List Text) → ((u : Text) → list_any (is_text u) us ≡ true → list_any (is_text u) ts ≡ true) → AllByRecursion (λ u. list_any (is_text u) ts ≡ true) us
+      all_there [] ts h = tt
+      all_there (u ∷ us) ts h = (
+        h u (ap (λ b. b || list_any (is_text u) us) (is_text-is u u ∙ same_text-itself u)),
+        all_there us ts (λ v k. h v (ap (λ b. is_text v u || b) k ∙ or_true (is_text v u))),
+      )
+
+  pub none_there : (t : Text) (xs : List X) → list_any (is_text t) (map key xs) ≡ false → of_key xs t ≡ []
+  none_there t [] h = refl
+  none_there t (x ∷ xs) h =
+      pick (is_text t (key x))
+      (λ e. absurd (true≢false (sym (ap (λ b. b || list_any (is_text t) (map key xs)) e) ∙ h)))
+      (λ f. ap (λ b. cond b (x ∷ of_key xs t) (of_key xs t)) (text_flip (key x) t ∙ sym (is_text-is t (key x)) ∙ f)
+      ∙ none_there t xs (ap (λ b. b || list_any (is_text t) (map key xs)) (sym f) ∙ h))

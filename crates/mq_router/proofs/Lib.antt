@@ -13,7 +13,6 @@ pub mod TreeLemmas
 pub mod ListedLemmas
 pub mod AnyLemmas
 pub mod OwnLemmas
-pub mod GatherLemmas
 pub mod SummaryLemmas
 pub mod TurnsAtLemmas
 pub mod SortedLemmas

@@ -1,5 +1,5 @@
 -- The copies for clients in their own name that are sent or begin to wait, as they are gathered.
-use Rattle.std.proofs.Common.{◌≡◌, ◌==◌, ℕ, Bool, true, false, true≢false, cond, not, is_none, ◌&&◌, List, [], ◌∷◌, map, length, Option, Some, None, is_some, if◌then◌else◌, refl, sym, ◌∙◌, ap}
+use Rattle.std.proofs.Common.{◌≡◌, ◌==◌, ℕ, Bool, true, false, true≢false, cond, not, is_none, ◌&&◌, ◌||◌, List, [], ◌∷◌, map, length, Option, Some, None, is_some, if◌then◌else◌, refl, sym, ◌∙◌, ap}
 use Rattle.std.specs.declared.cmp.Ordering.TheVariants.{Less}
 use Rattle.std.specs.Cmp.Lexicographic.{nat_list_cmp_total, nat_list_eq_equiv}
 use Rattle.std.specs.Option.{option_map, option_map_or, option_and_then}
@@ -21,10 +21,9 @@ use Rattle.mq_router.specs.Made.{gives, gives_options, copies_by, begins_by}
 use Rattle.mq_router.proofs.ListLemmas.{filter-same, filter_map-same, filter_map-filter, list_any-map, list_any-same, is_some-find}
 use Rattle.mq_router.proofs.SameLemmas.{filter-filter}
 use Rattle.mq_router.proofs.SortedLemmas.{same_gathered}
-use Rattle.mq_router.proofs.BoolLemmas.{pick, left_true, right_true, and_true}
+use Rattle.mq_router.proofs.BoolLemmas.{pick, left_true, right_true, and_true, or_true}
 use Rattle.mq_router.proofs.InTurn.{same_text-itself}
 use Rattle.mq_router.proofs.Texts.{is_text-is, text-apart, key_text}
-use Rattle.mq_router.proofs.GatherLemmas.{each_shown, unfound}
 use Rattle.mq_router.proofs.SummaryLemmas.{summarized, unsummarized}
 use Rattle.mq_router.specs.World as world
 
@@ -52,6 +51,37 @@ found_itself (x ∷ ss) s = (ap (λ b. cond b (Some x) (find (has_id x.id) ss)) 
     others [] h k = tt
     others (t ∷ ts) h k =
         (ap (λ b. cond b (Some x) (find (has_id t.id) ss)) (sym (is_text-is x.id t.id) ∙ text-apart x.id x.id t.id (is_text-is x.id x.id ∙ same_text-itself x.id) h.0) ∙ k.0, others ts h.1 k.1)
+
+-- ## What is found by a text
+
+-- what is shown of what is found for each key
+each_shown : {V W : Type 0} (show : Option V → W) (L : List (Text × V)) (T : Text → W) → IsStrictlySortedBy text_cmp (keys_of L) → ((key : Text) → list_any (is_text key) (keys_of L) ≡ true → show (lookup (is_text key) L) ≡ T key) → AllByRecursion (λ (l : Text × V). show (Some l.1) ≡ T l.0) L
+unfolding IsStrictlySortedBy
+each_shown show [] T s h = tt
+each_shown {V} {W} show (l ∷ L) T s h =
+    let own : is_text l.0 l.0 ≡ true = is_text-is l.0 l.0 ∙ same_text-itself l.0 in (
+      sym (ap (λ b. show (cond b (Some l.1) (lookup (is_text l.0) L))) own) ∙ h l.0 (ap (λ b. b || list_any (is_text l.0) (keys_of L)) own),
+      each_shown show L T s.1 (λ key t.
+          sym (ap (λ b. show (cond b (Some l.1) (lookup (is_text key) L))) (away key t))
+          ∙ h key (ap (λ b. is_text key l.0 || b) t ∙ or_true (is_text key l.0))),
+    )
+  where
+    none_of : (ks : List Text) → AllByRecursion (λ y. text_cmp l.0 y ≡ Less) ks → list_any (is_text l.0) ks ≡ false
+    none_of [] k = refl
+    none_of (x ∷ ks) k = ap (λ b. b || list_any (is_text l.0) ks) (text-apart l.0 l.0 x (is_text-is l.0 l.0 ∙ same_text-itself l.0) k.0) ∙ none_of ks k.1
+
+    away : (key : Text) → list_any (is_text key) (keys_of L) ≡ true → is_text key l.0 ≡ false
+    away key t =
+        pick (is_text key l.0)
+        (λ e. absurd (true≢false (sym t ∙ ap (λ (k : Text). list_any (is_text k) (keys_of L)) (key_text key l.0 e) ∙ none_of (keys_of L) s.0)))
+        (λ f. f)
+
+unfound : {V : Type 0} (key : Text) (L : List (Text × V)) → list_any (is_text key) (keys_of L) ≡ false → lookup (is_text key) L ≡ None
+unfound key [] h = refl
+unfound key (l ∷ L) h =
+    pick (is_text key l.0)
+    (λ t. absurd (true≢false (sym (ap (λ b. b || list_any (is_text key) (keys_of L)) t) ∙ h)))
+    (λ f. ap (λ b. cond b (Some l.1) (lookup (is_text key) L)) f ∙ unfound key L (ap (λ b. b || list_any (is_text key) (keys_of L)) (sym f) ∙ h))
 
 -- ## By client
 

@@ -1,33 +1,32 @@
 -- The members that are served, as they are gathered by share name.
-use Rattle.std.proofs.Common.{◌≡◌, Bool, true, false, true≢false, cond, not, ◌&&◌, ◌||◌, List, [], ◌∷◌, ◌++◌, map, Option, Some, None, is_some, refl, sym, ◌∙◌, ap}
+use Rattle.std.proofs.Common.{◌≡◌, Bool, true, false, true≢false, cond, not, ◌&&◌, ◌||◌, List, [], ◌∷◌, ◌++◌, map, Option, Some, None, is_some, string_bytes, refl, sym, ◌∙◌, ap}
 use Rattle.std.specs.declared.cmp.Ordering.TheVariants.{Less}
 use Rattle.std.specs.Ordering.{is_eq, ordering_then}
 use Rattle.std.specs.Cmp.{tied_itself}
 use Rattle.std.specs.Cmp.Lexicographic.{nat_list_cmp_total}
 use Rattle.std.specs.List.{filter, filter_map, cons_option, find, flat_map, list_any, AllByRecursion}
 use Rattle.std.specs.List.Sorted.{IsStrictlySortedBy}
-use Rattle.std.specs.Map.{keys_of}
 use Rattle.std.proofs.lemmas.List.{map-append, append-nil}
 use Rattle.std.proofs.lemmas.List.Kept.{IsStrictlySortedBy-filter}
 use Rattle.std.proofs.lemmas.List.Elements.{filter-append, filter_map-append}
 use Rattle.mq_topic.specs.Levels.{levels, level_order}
 use Rattle.mq_acl.specs.Rows.{AclRow}
 use Rattle.mq_router.specs.Sessions.{is_reader}
-use Rattle.mq_router.specs.Lists.{Text, same_text, text_cmp}
+use Rattle.mq_router.specs.Lists.{Text, same_text, text_cmp, in_order}
 use Rattle.mq_router.specs.World.{Session, Subscription, Group, Message, group_cmp, is_in_group, same_share}
 use Rattle.mq_router.specs.Applied.{groups_among, next_members}
 use Rattle.mq_router.specs.Copies.{filter_matches}
 use Rattle.mq_router.specs.Kept.{At, AreHere, AreAtFilters, is_text, is_empty}
-use Rattle.mq_router.specs.Gathered.{Gathered, listed}
+use Rattle.mq_router.specs.Gathers.{AreAscending, shares_of, turns_listed}
 use Rattle.mq_router.specs.Held.{turn_of}
 use Rattle.mq_router.specs.Made.{rows_found, turns_of, turns_at}
 use Rattle.mq_router.proofs.ListLemmas.{list_any-map, list_any-same, any-append}
 use Rattle.mq_router.proofs.OrderLemmas.{group_total, level_equal, all_append, text_flip}
-use Rattle.mq_router.proofs.SortedLemmas.{ties, same_gathered, any-filter, sorted-append}
+use Rattle.mq_router.proofs.SortedLemmas.{sorted-in_order, any-in_order, ties, same_gathered, any-filter, sorted-append}
 use Rattle.mq_router.proofs.BoolLemmas.{pick, or_true}
 use Rattle.mq_router.proofs.InTurn.{same_text-is, same_text-itself}
-use Rattle.mq_router.proofs.Texts.{is_text-is}
-use Rattle.mq_router.proofs.GatherLemmas.{each_listed, unlisted}
+use Rattle.mq_router.proofs.Texts.{is_text-is, key_text}
+use Rattle.mq_router.proofs.AscendingLemmas.{by_each_key, none_there}
 use Rattle.mq_router.proofs.GroupLemmas.{group_tie, group_tied, groups-sorted, groups-any, told, any-from_filter}
 use Rattle.mq_router.specs.declared.copies.Turn.{Turn}
 
@@ -145,11 +144,11 @@ some_member p q xs h = any-told (filter q xs) refl
     any-told [] e = absurd (true≢false (sym (sym (ap (λ l. is_some (find p l)) e) ∙ h)))
     any-told (y ∷ l) e = told q xs ∙ ap (λ l. not (is_empty l)) e
 
-turns_of_each : (L : Gathered Turn) (T : Text → List Subscription) → AllByRecursion (λ (l : Text × List Turn). map turn_of l.1 ≡ T l.0) L → map turn_of (flat_map (λ (l : Text × List Turn). l.1) L) ≡ flat_map T (keys_of L)
-turns_of_each [] T h = refl
-turns_of_each (l ∷ L) T h =
-    map-append turn_of l.1 (flat_map (λ (k : Text × List Turn). k.1) L)
-    ∙ ap (λ xs. xs ++ map turn_of (flat_map (λ (k : Text × List Turn). k.1) L)) h.0 ∙ ap (λ xs. T l.0 ++ xs) (turns_of_each L T h.1)
+turns_of_each : (turns : List Turn) (T : Text → List Subscription) → ((share : Text) → turns_listed share turns ≡ T share) → (shares : List Text) → map turn_of (flat_map (λ share. filter (λ t. same_text (string_bytes t.share) share) turns) shares) ≡ flat_map T shares
+turns_of_each turns T h [] = refl
+turns_of_each turns T h (share ∷ shares) =
+    map-append turn_of (filter (λ t. same_text (string_bytes t.share) share) turns) (flat_map (λ share. filter (λ t. same_text (string_bytes t.share) share) turns) shares)
+    ∙ ap (λ xs. xs ++ map turn_of (flat_map (λ share. filter (λ t. same_text (string_bytes t.share) share) turns) shares)) (h share) ∙ ap (λ xs. T share ++ xs) (turns_of_each turns T h shares)
 
 module _ (may : Subscription → Bool) where
   abbrev next_of : List Subscription → Group → Option Subscription
@@ -185,29 +184,33 @@ pairs_apart h ats T e (share ∷ shares) =
     ap (λ l. l ++ flat_map T shares) (e share) ∙ ap (λ l. filter_map h (pairs ats share) ++ l) (pairs_apart h ats T e shares)
     ∙ sym (filter_map-append h (pairs ats share) (all_pairs ats shares))
 
-pub served-members : (access : Option (List AclRow)) (sessions : List Session) (m : Message) (found : List At) (L : Gathered Turn) → AreAtFilters m.topic found → IsStrictlySortedBy text_cmp (keys_of L) → ((share : Text) → map turn_of (listed share L) ≡ turns_at access sessions m.topic share found) → map turn_of (flat_map (λ (l : Text × List Turn). l.1) L) ≡ next_members access sessions (rows_found found) m
+pub served-members : (access : Option (List AclRow)) (sessions : List Session) (m : Message) (found : List At) (served : List Turn) → AreAtFilters m.topic found → AreAscending (shares_of served) → ((share : Text) → turns_listed share served ≡ turns_at access sessions m.topic share found) → map turn_of served ≡ next_members access sessions (rows_found found) m
 unfolding next_members
-served-members access sessions m found L at sorted lists =
+served-members access sessions m found served at up listed =
     let may : Subscription → Bool = λ x. is_reader access sessions m.topic x.client in
     let rows : List Subscription = rows_found found in
     let h : Group → Option Subscription = next_of may rows in
     let q : Group → Bool = λ group. filter_matches group.filter m.topic in
     let groups : List Group = groups_among rows in
+    let shares : List Text = in_order text_cmp (shares_of served) in
+    let sorted : IsStrictlySortedBy text_cmp shares = sorted-in_order text_cmp nat_list_cmp_total (shares_of served) in
     let T : Text → List Subscription = λ share. turns_at access sessions m.topic share found in
     let turns : (share : Text) → T share ≡ filter_map h (pairs found share) = λ share. turns_pairs may share found at.ordered at.here in
-    turns_of_each L T (each_listed (map turn_of) L T sorted (λ share t. lists share))
-    ∙ pairs_apart h found T turns (keys_of L)
-    ∙ same_gathered group_cmp group_total group_tied h (all_pairs found (keys_of L)) (filter q groups)
-    (sorted_all found (keys_of L) at.ordered sorted)
+    ap (map turn_of) (sym (by_each_key (λ (t : Turn). string_bytes t.share) served up))
+    ∙ turns_of_each served T listed shares
+    ∙ pairs_apart h found T turns shares
+    ∙ same_gathered group_cmp group_total group_tied h (all_pairs found shares) (filter q groups)
+    (sorted_all found shares at.ordered sorted)
     (IsStrictlySortedBy-filter group_cmp q groups (groups-sorted rows))
     (λ g e.
     let member : list_any (is_in_group g) rows ≡ true = some_member may (is_in_group g) rows e in
     let there : list_any (λ (a : At). same_text g.filter a.filter) found ≡ true = member_found g found at.here member in
-    let shared : list_any (is_text g.share) (keys_of L) ≡ true =
-    pick (list_any (is_text g.share) (keys_of L)) (λ t. t)
+    let shared : list_any (is_text g.share) shares ≡ true =
+    pick (list_any (is_text g.share) shares) (λ t. t)
     (λ f. absurd (some_gives h g e (pairs found g.share)
     (sym (ap (list_any (ties group_cmp group_total g)) (append-nil (pairs found g.share))) ∙ in_pairs g found (g.share ∷ []) there (ap (λ b. b || false) (is_text-is g.share g.share ∙ same_text-itself g.share)))
-    (sym (turns g.share) ∙ sym (lists g.share) ∙ ap (map turn_of) (unlisted g.share L f)))) in
-    in_pairs g found (keys_of L) there shared
+    (sym (turns g.share) ∙ sym (listed g.share)
+    ∙ ap (map turn_of) (none_there (λ (t : Turn). string_bytes t.share) g.share served (sym (any-in_order text_cmp nat_list_cmp_total key_text g.share (shares_of served)) ∙ f))))) in
+    in_pairs g found shares there shared
     ∙ sym (any-filter group_cmp group_total group_tied q g groups
     ∙ ap (λ b. b && q g) (groups-any g rows ∙ member) ∙ found_matches m.topic g found at.match there))

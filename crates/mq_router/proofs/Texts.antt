@@ -1,5 +1,5 @@
 -- Maps by text, seen through the bytes of their keys.
-use Rattle.std.proofs.Common.{◌≡◌, true, false, cond, List, [], ◌∷◌, Some, String, string_bytes, Vec, refl, sym, ap, ◌∙◌}
+use Rattle.std.proofs.Common.{◌≡◌, true, false, cond, List, [], ◌∷◌, Some, String, string_bytes, refl, sym, ap, ◌∙◌}
 use Rattle.std.specs.declared.alloc.Global.{Global}
 use Rattle.std.specs.declared.cmp.Ordering.TheVariants.{Less, Equal, Greater}
 use Rattle.std.specs.Ordering.{is_eq, match_ordering}
@@ -14,7 +14,6 @@ use Rattle.std.proofs.lemmas.Slice.Eq.{bytes_eq-Decides}
 use Rattle.mq_router.specs.Lists.{Text, same_text, text_cmp}
 use Rattle.mq_router.specs.Kept.{is_text}
 use Rattle.mq_router.specs.KeptViews.{texts}
-use Rattle.mq_router.specs.Gathered.{lists_in}
 use Rattle.mq_router.proofs.OrderLemmas.{equal_from}
 use Rattle.mq_router.proofs.SessionLemmas.{finds}
 
@@ -68,12 +67,3 @@ module _ {X : Type 0} where
   unfolding IsStrictlySortedBy
   ordered-texts [] s = tt
   ordered-texts (e ∷ es) s = (below-texts e.0 es s.0, ordered-texts es s.1)
-
-below-lists : {T : Type 0} (k : String Global) (es : List (String Global × Vec T Global)) → AllByRecursion (λ y. string_cmp k y ≡ Less) (keys_of es) → AllByRecursion (λ y. text_cmp (string_bytes k) y ≡ Less) (keys_of (lists_in es))
-below-lists k [] s = tt
-below-lists k (e ∷ es) s = (s.0, below-lists k es s.1)
-
-pub ordered-lists : {T : Type 0} (es : List (String Global × Vec T Global)) → IsStrictlySortedBy string_cmp (keys_of es) → IsStrictlySortedBy text_cmp (keys_of (lists_in es))
-unfolding IsStrictlySortedBy
-ordered-lists [] s = tt
-ordered-lists (e ∷ es) s = (below-lists e.0 es s.0, ordered-lists es s.1)

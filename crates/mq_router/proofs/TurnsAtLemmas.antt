@@ -1,5 +1,5 @@
 -- The members in turn at one filter.
-use Rattle.std.proofs.Common.{◌≡◌, Bool, true, false, true≢false, cond, ◌&&◌, List, [], ◌∷◌, ◌++◌, map, Option, Some, if◌then◌else◌, refl, sym, ◌∙◌, ap, append_assoc}
+use Rattle.std.proofs.Common.{◌≡◌, Bool, true, false, true≢false, cond, ◌&&◌, List, [], ◌∷◌, ◌++◌, map, Option, Some, string_bytes, if◌then◌else◌, refl, sym, ◌∙◌, ap, append_assoc}
 use Rattle.std.specs.Option.{option_map}
 use Rattle.std.specs.List.{filter, flat_map, find, AllByRecursion}
 use Rattle.std.specs.List.Sorted.{IsStrictlySortedBy}
@@ -14,6 +14,7 @@ use Rattle.mq_router.specs.Sessions.{is_reader}
 use Rattle.mq_router.specs.Applied.{next_in}
 use Rattle.mq_router.specs.Kept.{Member, row, direct_rows, group_rows}
 use Rattle.mq_router.specs.Held.{turn_of}
+use Rattle.mq_router.specs.Gathers.{turns_listed}
 use Rattle.mq_router.specs.Made.{turns_of}
 use Rattle.mq_router.proofs.Texts.{is_text-is, text-apart}
 use Rattle.mq_router.proofs.InTurn.{same_text-is, same_text-itself}
@@ -114,14 +115,15 @@ module _ (access : Option (List AclRow)) (sessions : List Session) (name f share
 
 -- ## One more
 
-pub turns-more : (access : Option (List AclRow)) (sessions : List Session) (name f share text : Text) (old new : List Turn) (t : Turn) (g : Text × List Member) (gs : List (Text × List Member)) → new ≡ old ++ (if same_text text share then t ∷ [] else []) → text ≡ g.0 → turn_in access sessions name f g ≡ Some (turn_of t) → map turn_of new ++ turns_left access sessions name f share gs ≡ map turn_of old ++ turns_left access sessions name f share (g ∷ gs)
-turns-more access sessions name f share text old new t g gs e named is =
+pub turns-more : (access : Option (List AclRow)) (sessions : List Session) (name f share : Text) (old new : List Turn) (t : Turn) (g : Text × List Member) (gs : List (Text × List Member)) → new ≡ old ++ t ∷ [] → string_bytes t.share ≡ g.0 → turn_in access sessions name f g ≡ Some (turn_of t) → turns_listed share new ++ turns_left access sessions name f share gs ≡ turns_listed share old ++ turns_left access sessions name f share (g ∷ gs)
+turns-more access sessions name f share old new t g gs e named is =
     let rest : List Subscription = turns_left access sessions name f share gs in
+    let here : Turn → Bool = λ x. same_text (string_bytes x.share) share in
     let own : Bool → List Turn = λ b. if b then t ∷ [] else [] in
-    ap (λ l. map turn_of l ++ rest) (e ∙ ap (λ (k : Text). old ++ own (same_text k share)) named)
-    ∙ ap (λ l. l ++ rest) (map-append turn_of old (own (same_text g.0 share)))
-    ∙ append_assoc (map turn_of old) (map turn_of (own (same_text g.0 share))) rest
-    ∙ ap (λ l. map turn_of old ++ (l ++ rest))
+    ap (λ l. map turn_of l ++ rest) (ap (filter here) e ∙ filter-append here old (t ∷ []) ∙ ap (λ (k : Text). filter here old ++ own (same_text k share)) named)
+    ∙ ap (λ l. l ++ rest) (map-append turn_of (filter here old) (own (same_text g.0 share)))
+    ∙ append_assoc (turns_listed share old) (map turn_of (own (same_text g.0 share))) rest
+    ∙ ap (λ l. turns_listed share old ++ (l ++ rest))
     ((elim (same_text g.0 share) as (λ b. map turn_of (own b) ≡ (if b then turns_of (Some (turn_of t)) else [])) [ true ↦ refl | false ↦ refl ])
     ∙ ap (λ o. if same_text g.0 share then turns_of o else []) (sym is))
 

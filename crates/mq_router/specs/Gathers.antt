@@ -1,5 +1,5 @@
 -- Words of the contracts: what is gathered from filters, and what is made of it.
-use Rattle.std.specs.Prelude.{◌≡◌, ⊤, false, List, [], ◌∷◌, ◌++◌, map, String, Vec, Option, if◌then◌else◌}
+use Rattle.std.specs.Prelude.{◌≡◌, ⊤, false, List, [], ◌∷◌, ◌++◌, map, string_bytes, Vec, Option}
 use Rattle.std.specs.Ordering.{is_lt}
 use Rattle.std.specs.List.{filter, AllByRecursion}
 use Rattle.std.specs.declared.alloc.Global.{Global}
@@ -11,20 +11,11 @@ use Rattle.mq_router.specs.Applied.{next_in}
 use Rattle.mq_router.specs.Views.{copy_of}
 use Rattle.mq_router.specs.Kept.{At, options_of}
 use Rattle.mq_router.specs.Summaries.{Summary, summary_of}
-use Rattle.mq_router.specs.Gathered.{listed, lists_in}
-use Rattle.mq_router.specs.Made.{turns_of, turns_at}
+use Rattle.mq_router.specs.Made.{turns_of}
 use Rattle.mq_router.specs.Held.{turn_of}
 use Rattle.mq_router.specs.declared.answer.Delivery.{Delivery}
 use Rattle.mq_router.specs.declared.copies.Turn.{Turn}
 use Rattle.mq_router.specs.declared.matches.Match.{Match}
-
-abbrev pub Lists : Type 0 → Type 0
-Lists T = List (String Global × Vec T Global)
-
--- the value goes last in the list of its text
-abbrev pub Gathers : {T : Type 0} → Text → T → Lists T → Lists T → Type 0
-Gathers text value old new =
-    (key : Text) → listed key (lists_in new) ≡ listed key (lists_in old) ++ (if same_text text key then value ∷ [] else [])
 
 -- subscriptions, each by its client and what it asks for
 abbrev pub matched : List Match → List (Text × Options)
@@ -49,17 +40,15 @@ AreByClient xs = AreAscending (clients_of xs)
 abbrev pub by_client : List (Text × Options) → List (Text × Summary)
 by_client xs = map (λ id. (id, summary_of (options_among id xs))) (in_order text_cmp (clients_of xs))
 
--- the turns that are listed for a share name
-abbrev pub turns_listed : Text → Lists Turn → List Subscription
-turns_listed share lists = map turn_of (listed share (lists_in lists))
+abbrev pub shares_of : List Turn → List Text
+shares_of turns = map (λ t. string_bytes t.share) turns
 
--- for each share name the members in turn of its groups at the filters that are found
-abbrev pub TurnsListed : Option (List AclRow) → List Session → Text → List At → Lists Turn → Type 0
-TurnsListed access sessions topic found lists =
-    (share : Text) → turns_listed share lists ≡ turns_at access sessions topic share found
+-- the members of those of a share name
+abbrev pub turns_listed : Text → List Turn → List Subscription
+turns_listed share turns = map turn_of (filter (λ t. same_text (string_bytes t.share) share) turns)
 
--- the member in turn of each group at a filter joins the list of its share name
-abbrev pub GathersTurns : Option (List AclRow) → List Session → Text → At → Lists Turn → Lists Turn → Type 0
+-- the member in turn of each group at a filter comes behind those of its share name
+abbrev pub GathersTurns : Option (List AclRow) → List Session → Text → At → List Turn → List Turn → Type 0
 GathersTurns access sessions topic at old new =
     (share : Text) → turns_listed share new
     ≡ turns_listed share old ++ turns_of (next_in access sessions at.rows topic (record { share = share; filter = at.filter }))

@@ -23,7 +23,6 @@ pub mod KeptViews
 pub mod OwnViews
 pub mod Summaries
 pub mod Ways
-pub mod Gathered
 pub mod Made
 pub mod Due
 pub mod Stored

@@ -8,7 +8,6 @@ ghost use Rattle.mq_router.specs.Applied.{put_last};
 ghost use Rattle.mq_router.specs.Kept.{is_empty, AreHere};
 
 use crate::copies::{Message, Turn};
-use crate::gathered::gather;
 use crate::group::Group;
 use crate::matches::Match;
 use crate::options::Options;
@@ -127,28 +126,25 @@ impl AtFilter {
         Ok(())
     }
 
-    /// Gathers by share name the member of each group that is served.
+    /// Adds the member of each group that is served.
     pub(crate) fn gather_turns(
         &self,
         alloc: Global,
         readers: &Readers,
         name: &TopicName,
-        gathered: &mut BTreeMap<String, Vec<Turn>>,
+        turns: &mut Vec<Turn>,
     ) -> Result<(), AllocError>
-        requires { NoneBare (lists_in gathered.old.entries) }
-        ensures listed { OnOk result (GathersTurns readers.now.access.now readers.now.sessions.now name.now self.now
-            gathered.old.entries gathered.new.entries) }
-        ensures live { OnOk result (NoneBare (lists_in gathered.new.entries)) }
+        ensures { OnOk result (GathersTurns readers.now.access.now readers.now.sessions.now name.now self.now
+            turns.old.items turns.new.items) }
     {
         for (share, group) in &self.groups {
             if let Some((client, options)) = group.next(readers, name) {
-                let turn = Turn {
+                turns.push(Turn {
                     share: share.clone()?,
                     filter: self.filter.clone()?,
                     client: String::from_str(alloc, client)?,
                     options,
-                };
-                gather(gathered, alloc, share.as_str(), turn)?;
+                })?;
             }
         }
         Ok(())
@@ -180,7 +176,6 @@ fn member_count(groups: &BTreeMap<String, Group>) -> u64
     total
 }
 
-ghost use Rattle.mq_router.specs.Gathered.{lists_in, NoneBare};
 ghost use Rattle.mq_router.specs.Held.{message_of};
 ghost use Rattle.mq_router.specs.Made.{own_matches};
 ghost use Rattle.mq_router.specs.Gathers.{matched, GathersTurns};

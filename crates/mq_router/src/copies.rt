@@ -1,5 +1,5 @@
 //! The copies of a message.
-ghost use Rattle.std.specs.Prelude.{◌≡◌, ◌+◌, IfOk, length, map, List};
+ghost use Rattle.std.specs.Prelude.{◌≡◌, ◌+◌, IfOk, length, map};
 ghost use Rattle.std.specs.Option.{option_copied};
 ghost use Rattle.mq_topic.specs.Levels.{levels};
 ghost use Rattle.mq_tree.specs.Prefixes.{prefixes, met_by_name};
@@ -21,12 +21,13 @@ use crate::readers::Readers;
 use crate::sessions::Sessions;
 use crate::subscriptions::Subscriptions;
 use crate::summary::Summary;
+use crate::turns::sort_by_share;
 use crate::waiting::Queueing;
 use mq_acl::Acl;
 use mq_topic::{LevelText, TopicFilter, TopicName};
 use mq_tree::Steps;
 use std::alloc::{AllocError, Global};
-use std::collections::{BTreeMap, LinkedList};
+use std::collections::LinkedList;
 
 /// A message that is published.
 #[derive(Clone, Copy, Debug)]
@@ -141,10 +142,8 @@ pub(crate) fn make_copies(
 }
 
 ghost use Rattle.std.specs.Prelude.{◌++◌, OnOk, []};
-ghost use Rattle.std.specs.List.{flat_map};
 ghost use Rattle.mq_router.specs.Kept.{AreAtFilters};
-ghost use Rattle.mq_router.specs.Gathered.{lists_in, NoneBare};
-ghost use Rattle.mq_router.specs.Gathers.{TurnsListed, seen, copies_in, turns_in, matched, options_among, by_client, AreByClient};
+ghost use Rattle.mq_router.specs.Gathers.{seen, copies_in, turns_in, matched, options_among, by_client, AreByClient};
 ghost use Rattle.mq_router.specs.Applied.{copies_made, next_members, member_copy};
 ghost use Rattle.mq_router.specs.Made.{rows_found, own_matches, copies_by, begins_by};
 
@@ -177,38 +176,11 @@ fn members_served(
     ensures { IfOk result (λ served. turns_in served
         ≡ next_members readers.now.access.now readers.now.sessions.now (rows_found (seen found.now)) (message_of message.now)) }
 {
-    let by_share = turns_by_share(alloc, readers, found, message)?;
-    // Learns that the share names are in order.
-    let _count = by_share.len();
-    flattened(alloc, by_share)
-}
-
-// By share name the members in turn of its groups.
-fn turns_by_share(
-    alloc: Global,
-    readers: &Readers,
-    found: &[&AtFilter],
-    message: &Message,
-) -> Result<BTreeMap<String, Vec<Turn>>, AllocError>
-    ensures listed { IfOk result (λ g. TurnsListed readers.now.access.now readers.now.sessions.now message.now.topic.now
-        (seen found.now) g.entries) }
-    ensures live { IfOk result (λ g. NoneBare (lists_in g.entries)) }
-{
-    let mut by_share = BTreeMap::new(alloc);
-    for at in found {
-        at.gather_turns(alloc, readers, message.topic, &mut by_share)?;
-    }
-    Ok(by_share)
-}
-
-// The turns of all lists, one list after the other.
-fn flattened(alloc: Global, by_share: BTreeMap<String, Vec<Turn>>) -> Result<Vec<Turn>, AllocError>
-    ensures { IfOk result (λ turns. turns.items ≡ flat_map (λ (l : Text × List Turn). l.1) (lists_in by_share.entries)) }
-{
     let mut served = Vec::new(alloc);
-    for (_, mut turns) in by_share {
-        served.append(&mut turns)?;
+    for at in found {
+        at.gather_turns(alloc, readers, message.topic, &mut served)?;
     }
+    sort_by_share(&mut served)?;
     Ok(served)
 }
 

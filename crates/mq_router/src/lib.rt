@@ -11,7 +11,6 @@ mod command;
 mod copies;
 mod deadlines;
 mod direct;
-mod gathered;
 mod group;
 mod limits;
 mod matches;

@@ -1,12 +1,23 @@
 //! Turns in groups.
-ghost use Rattle.std.specs.Prelude.{map};
+ghost use Rattle.std.specs.Prelude.{◌≡◌, OnOk, map};
+ghost use Rattle.mq_router.specs.Lists.{Text};
 ghost use Rattle.mq_router.specs.Turns.{SameInTurn};
 ghost use Rattle.mq_router.specs.Applied.{all_turned};
 ghost use Rattle.mq_router.specs.Kept.{AreKeys};
 ghost use Rattle.mq_router.specs.Held.{turn_of};
+ghost use Rattle.mq_router.specs.Gathers.{shares_of, turns_listed, AreAscending};
 
 use crate::copies::Turn;
 use crate::subscriptions::Subscriptions;
+use std::alloc::AllocError;
+
+/// Sorts them by share name; those of one share name keep their order.
+pub(crate) fn sort_by_share(turns: &mut Vec<Turn>) -> Result<(), AllocError>
+    ensures sorted { OnOk result (AreAscending (shares_of turns.new.items)) }
+    ensures stable { (share : Text) → turns_listed share turns.new.items ≡ turns_listed share turns.old.items }
+{
+    turns.sort_by(|a, b| a.share.cmp(&b.share))
+}
 
 /// Each member that was served goes last in its group. It takes no memory.
 pub(crate) fn serve_all(subscriptions: &mut Subscriptions, served: &[Turn])
