@@ -8,6 +8,7 @@ use Rattle.std.specs.Result.{OnOk, OnErr}
 use Rattle.std.specs.List.{find, filter, list_any, filter_map, cons_option, AllByRecursion}
 use Rattle.std.specs.List.Sorted.{IsStrictlySortedBy}
 use Rattle.std.specs.Map.{lookup, remove_entry, keys_of}
+use Rattle.std.specs.Set.{remove_key}
 use Rattle.std.specs.BTreeMap.{insert_entry}
 use Rattle.mq_router.specs.Lists.{with_row}
 use Rattle.mq_router.proofs.BoolLemmas.{or_assoc}
@@ -124,6 +125,25 @@ remove_entry-filter cmp test apart (e ∷ es) s =
     (elim (test e.0) as P [
       | true ↦ λ h. sym (all_stay test es (none_again cmp test apart e.0 h es s.0))
       | false ↦ λ h. ap (λ l. e ∷ l) (remove_entry-filter cmp test apart es s.1)
+    ]) refl
+
+keys_stay : {K : Type 0} (test : K → Bool) (ks : List K) → AllByRecursion (λ k. test k ≡ false) ks → filter (λ k. not (test k)) ks ≡ ks
+keys_stay test [] h = refl
+keys_stay test (k ∷ ks) h = rw (h.0, keys_stay test ks h.1) refl
+
+keys_again : {K : Type 0} (cmp : K → K → Ordering) (test : K → Bool) (apart : (x y : K) → test x ≡ true → cmp x y ≡ Less → test y ≡ false) (k : K) → test k ≡ true → (ks : List K) → AllByRecursion (λ y. cmp k y ≡ Less) ks → AllByRecursion (λ y. test y ≡ false) ks
+keys_again cmp test apart k t [] h = tt
+keys_again cmp test apart k t (x ∷ xs) h = (apart k x t h.0, keys_again cmp test apart k t xs h.1)
+
+-- the same of a set
+pub remove_key-filter : {K : Type 0} (cmp : K → K → Ordering) (test : K → Bool) (apart : (x y : K) → test x ≡ true → cmp x y ≡ Less → test y ≡ false) (ks : List K) → IsStrictlySortedBy cmp ks → remove_key test ks ≡ filter (λ k. not (test k)) ks
+unfolding IsStrictlySortedBy
+remove_key-filter cmp test apart [] s = refl
+remove_key-filter cmp test apart (k ∷ ks) s =
+    let P : Bool → Type 0 = λ b. test k ≡ b → cond b ks (k ∷ remove_key test ks) ≡ cond (not b) (k ∷ filter (λ x. not (test x)) ks) (filter (λ x. not (test x)) ks) in
+    (elim (test k) as P [
+      | true ↦ λ h. sym (keys_stay test ks (keys_again cmp test apart k h ks s.0))
+      | false ↦ λ h. ap (λ l. k ∷ l) (remove_key-filter cmp test apart ks s.1)
     ]) refl
 
 pub filter_map-map : {X Y Z : Type 0} (f : Y → Option Z) (g : X → Y) (xs : List X) → filter_map f (map g xs) ≡ filter_map (λ x. f (g x)) xs

@@ -1,51 +1,22 @@
 //! The subscriptions of one client, beside the tree of all.
-ghost use Rattle.std.specs.Prelude.{◌≡◌, ◌&&◌, ◌||◌, [], not, OnOk, OnErr, IfOk};
+ghost use Rattle.std.specs.Prelude.{◌≡◌, ◌&&◌, ◌||◌, [], not, OnOk, OnErr};
 ghost use Rattle.std.specs.List.{filter};
 ghost use Rattle.mq_router.specs.Lists.{same_text};
 ghost use Rattle.mq_router.specs.World.{Subscription};
 ghost use Rattle.mq_router.specs.Kept.{all_rows, is_empty, is_own, is_in_list, wanted_key, AreKept};
-ghost use Rattle.mq_router.specs.OwnViews.{key_of};
 
 use crate::at_filter::AtFilter;
 use crate::subscriptions::leave_in;
-use mq_topic::{LevelText, SubFilter};
+use mq_topic::SubFilter;
 use mq_tree::LevelTree;
 use std::alloc::{AllocError, Global};
-use std::collections::BTreeMap;
+use std::collections::BTreeSet;
 use std::marker::Model;
-
-/// What a client's subscription is known by: its share name or none, and the text of its filter.
-#[derive(Debug, Drop, PartialEq, Eq, PartialOrd, Ord)]
-pub(crate) struct Key {
-    share: Option<String>,
-    filter: String,
-}
-
-impl Key {
-    pub(crate) fn of(alloc: Global, wanted: &SubFilter) -> Result<Key, AllocError>
-        ensures { IfOk result (λ key. key_of key ≡ wanted_key wanted.now) }
-    {
-        Ok(Key {
-            share: wanted.share.clone()?,
-            filter: String::from_str(alloc, wanted.filter.text())?,
-        })
-    }
-
-    /// The key that takes the texts over. It takes no memory.
-    pub(crate) fn from_filter(wanted: SubFilter) -> Key
-        ensures { key_of result ≡ wanted_key wanted }
-    {
-        Key {
-            share: wanted.share,
-            filter: wanted.filter.into_text(),
-        }
-    }
-}
 
 /// A client's subscriptions, by share name and filter.
 #[derive(Debug, Drop)]
 pub(crate) struct Own {
-    filters: BTreeMap<Key, SubFilter>,
+    filters: BTreeSet<SubFilter>,
 }
 
 impl Model for Own {
@@ -54,11 +25,9 @@ impl Model for Own {
 
     ghost Value = { List OwnKey };
 
-    ghost use Rattle.mq_router.specs.OwnViews.{own_of, NamesItsFilter};
+    ghost use Rattle.mq_router.specs.OwnViews.{own_of};
 
     ghost view = { own_of };
-
-    ghost invariant = { NamesItsFilter };
 }
 
 impl Own {
@@ -66,7 +35,7 @@ impl Own {
         ensures { result ≡ [] }
     {
         Own {
-            filters: BTreeMap::new(alloc),
+            filters: BTreeSet::new(alloc),
         }
     }
 
@@ -76,22 +45,21 @@ impl Own {
         self.filters.is_empty()
     }
 
-    pub(crate) fn add(&mut self, alloc: Global, wanted: &SubFilter) -> Result<(), AllocError>
+    pub(crate) fn add(&mut self, wanted: &SubFilter) -> Result<(), AllocError>
         ensures ok { OnOk result ((s : Subscription) → is_in_list self.new s ≡ (is_own s (wanted_key wanted.now) || is_in_list self.old s)) }
         ensures err { OnErr result (self.new ≡ self.old) }
     {
-        let key = Key::of(alloc, wanted)?;
         let wanted = wanted.clone()?;
-        self.filters.insert(key, wanted)?;
+        self.filters.insert(wanted)?;
         Ok(())
     }
 
-    pub(crate) fn remove(&mut self, key: &Key)
-        ensures { (s : Subscription) → is_in_list self.new s ≡ (not (is_own s (key_of key.now)) && is_in_list self.old s) }
+    pub(crate) fn remove(&mut self, wanted: &SubFilter)
+        ensures { (s : Subscription) → is_in_list self.new s ≡ (not (is_own s (wanted_key wanted.now)) && is_in_list self.old s) }
     {
         // Learns that the keys are in order.
         let _count = self.filters.len();
-        let _ = self.filters.remove(key);
+        let _ = self.filters.remove(wanted);
     }
 
     /// Takes all of them out of the tree. It takes no memory.
@@ -100,7 +68,7 @@ impl Own {
         ensures rows { all_rows tree.new ≡ filter (λ s. not (same_text s.client client.now && is_in_list self.now s)) (all_rows tree.old) }
         ensures kept { AreKept tree.new }
     {
-        for (_, wanted) in &self.filters {
+        for wanted in &self.filters {
             leave_in(tree, client, wanted);
         }
     }

@@ -72,12 +72,7 @@ impl Retained {
             return Ok(());
         }
         if !is_stored(message) {
-            forget(
-                self.alloc,
-                &mut self.tree,
-                &mut self.deadlines,
-                message.topic,
-            )?;
+            forget(&mut self.tree, &mut self.deadlines, message.topic)?;
             return Ok(());
         }
         let deadline = clock.deadline(message.expiry);

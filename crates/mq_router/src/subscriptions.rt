@@ -16,7 +16,7 @@ ghost use Rattle.mq_router.specs.Kept.{row, At, AreKeys};
 
 use crate::at_filter::AtFilter;
 use crate::options::Options;
-use crate::own::{Key, Own};
+use crate::own::Own;
 use mq_topic::{SubFilter, TopicFilter, TopicName};
 use mq_tree::{LevelTree, Steps};
 use std::alloc::{AllocError, Global};
@@ -82,8 +82,8 @@ impl Subscriptions {
     }
 
     /// Takes a subscription out. It takes no memory.
-    pub(crate) fn remove(&mut self, client: &str, wanted: SubFilter)
-        ensures rows { self.new.rows ≡ filter (λ s. not (has_wanted client.now wanted s)) self.old.rows }
+    pub(crate) fn remove(&mut self, client: &str, wanted: &SubFilter)
+        ensures rows { self.new.rows ≡ filter (λ s. not (has_wanted client.now wanted.now s)) self.old.rows }
         ensures keys { AreKeys self.new }
     {
         take_out(&mut self.tree, &mut self.lists, client, wanted);
@@ -222,7 +222,6 @@ fn serve_in(tree: &mut LevelTree<AtFilter>, share: &str, wanted: &TopicFilter, c
 ghost use Rattle.std.specs.Prelude.{◌&&◌, ◌||◌};
 ghost use Rattle.std.specs.List.{AllByRecursion};
 ghost use Rattle.mq_router.specs.Kept.{AreListed, is_empty, is_text, OwnKey};
-ghost use Rattle.mq_router.specs.OwnViews.{key_of};
 
 // Where there is no memory, nothing is left beside the tree that leads to no subscription.
 fn put_in(
@@ -242,12 +241,11 @@ fn put_in(
         join_in(tree, alloc, client, wanted, options)?;
         return Ok(());
     }
-    let key = Key::of(alloc, wanted)?;
     list_add(lists, alloc, client, wanted)?;
     match join_in(tree, alloc, client, wanted, options) {
         Ok(()) => Ok(()),
         Err(fault) => {
-            list_remove(lists, client, &key);
+            list_remove(lists, client, wanted);
             Err(fault)
         }
     }
@@ -257,14 +255,14 @@ fn take_out(
     tree: &mut LevelTree<AtFilter>,
     lists: &mut BTreeMap<String, Own>,
     client: &str,
-    wanted: SubFilter,
+    wanted: &SubFilter,
 )
     requires { AreListed tree.old (texts lists.old.entries) }
-    ensures rows { all_rows tree.new ≡ filter (λ s. not (has_wanted client.now wanted s)) (all_rows tree.old) }
+    ensures rows { all_rows tree.new ≡ filter (λ s. not (has_wanted client.now wanted.now s)) (all_rows tree.old) }
     ensures listed { AreListed tree.new (texts lists.new.entries) }
 {
-    leave_in(tree, client, &wanted);
-    list_remove(lists, client, &Key::from_filter(wanted));
+    leave_in(tree, client, wanted);
+    list_remove(lists, client, wanted);
 }
 
 fn take_all(tree: &mut LevelTree<AtFilter>, lists: &mut BTreeMap<String, Own>, client: &str)
@@ -294,7 +292,7 @@ fn list_add(
 {
     match lists.get_mut(client) {
         Some(own) => {
-            own.add(alloc, wanted)?;
+            own.add(wanted)?;
             Ok(())
         }
         None => list_begin(lists, alloc, client, wanted),
@@ -317,22 +315,22 @@ fn list_begin(
     let _count = lists.len();
     let client = String::from_str(alloc, client)?;
     let mut own = Own::new(alloc);
-    own.add(alloc, wanted)?;
+    own.add(wanted)?;
     lists.insert(client, own)?;
     Ok(())
 }
 
-// Takes a key out, and with its last one the client.
-fn list_remove(lists: &mut BTreeMap<String, Own>, client: &str, key: &Key)
+// Takes a subscription out, and with its last one the client.
+fn list_remove(lists: &mut BTreeMap<String, Own>, client: &str, wanted: &SubFilter)
     requires { NoneEmptied lists.old.entries }
-    ensures rest { ListsLess client.now (key_of key.now) lists.old.entries lists.new.entries }
+    ensures rest { ListsLess client.now (wanted_key wanted.now) lists.old.entries lists.new.entries }
     ensures live { NoneEmptied lists.new.entries }
 {
     let _count = lists.len();
     let Some(own) = lists.get_mut(client) else {
         return;
     };
-    own.remove(key);
+    own.remove(wanted);
     if own.is_empty() {
         let _ = lists.remove(client);
     }

@@ -44,7 +44,6 @@ fn deadline_at(tree: &Messages, topic: &TopicName) -> Option<u64>
 
 // The pair of the older message, unless it is the pair of the new one.
 fn replaced(
-    alloc: Global,
     older: Option<u64>,
     new: Option<u64>,
     topic: &TopicName,
@@ -54,7 +53,7 @@ fn replaced(
     if older == new {
         return Ok(None);
     }
-    Due::of(alloc, older, topic)
+    Due::of(older, topic)
 }
 
 /// Stores a message, in place of an older one of its topic. What takes memory comes first, but for the tree's entry: where
@@ -72,10 +71,10 @@ pub(crate) fn store(
     ensures err { OnErr result ((tree.new ≡ tree.old) × SamePairs deadlines.new deadlines.old) }
 {
     let stored = Stored::from_message(alloc, message, deadline)?;
-    let new = Due::of(alloc, deadline, message.topic)?;
+    let new = Due::of(deadline, message.topic)?;
     let older = deadline_at(tree, message.topic);
-    let older = replaced(alloc, older, deadline, message.topic)?;
-    deadlines.put(alloc, deadline, message.topic)?;
+    let older = replaced(older, deadline, message.topic)?;
+    deadlines.put(deadline, message.topic)?;
     match tree.put(message.topic, stored) {
         Err(fault) => {
             deadlines.remove(&new);
@@ -90,7 +89,6 @@ pub(crate) fn store(
 
 /// Removes the message of a topic, if there is one.
 pub(crate) fn forget(
-    alloc: Global,
     tree: &mut Messages,
     deadlines: &mut Deadlines,
     topic: &TopicName,
@@ -101,7 +99,7 @@ pub(crate) fn forget(
     ensures err { OnErr result ((tree.new ≡ tree.old) × SamePairs deadlines.new deadlines.old) }
 {
     let deadline = deadline_at(tree, topic);
-    let older = Due::of(alloc, deadline, topic)?;
+    let older = Due::of(deadline, topic)?;
     let _ = tree.take(topic);
     deadlines.remove(&older);
     Ok(())

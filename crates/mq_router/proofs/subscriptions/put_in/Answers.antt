@@ -1,7 +1,7 @@
-use Rattle.std.proofs.Common.{◌∙◌, ◌&&◌, sym, ap, not, string_bytes}
+use Rattle.std.proofs.Common.{◌∙◌, sym, string_bytes}
 use Rattle.std.specs.Option.{option_map}
-use Rattle.mq_router.specs.World.{Subscription, has_key}
-use Rattle.mq_router.specs.Kept.{OwnKey, row, wanted_key, is_listed}
+use Rattle.mq_router.specs.World.{Subscription}
+use Rattle.mq_router.specs.Kept.{row, wanted_key}
 use Rattle.mq_router.specs.KeptViews.{texts}
 use Rattle.mq_router.proofs.AnyLemmas.{listed-joined, listed-again, listed-undone}
 use Rattle.mq_router.proofs.subscriptions.put_in.Goals as goal
@@ -19,11 +19,10 @@ returns-in-Ok-clause-listed c =
     listed-joined x c.args.tree.now c.join_in-2.new.tree (texts c.args.lists.now.entries) (texts c.list_add.new.lists.entries) c.requires c.join_in-2.ensures.kept c.in-Ok.ensures.ok
     c.in_ok-list_add.ensures.ok c.list_add.ensures.live
 
-pub returns-clause-listed : goal.returns-clause-listed
-returns-clause-listed c =
+pub returns-in-Err-clause-listed : goal.returns-in-Err-clause-listed
+returns-in-Err-clause-listed c =
     let client = c.args.client.now in
     let added = texts c.list_add.new.lists.entries in
     listed-undone client (wanted_key c.args.wanted.now) c.args.tree.now c.join_in-2.new.tree (texts c.args.lists.now.entries) added (texts c.list_remove.new.lists.entries)
     c.requires c.in-Err.ensures.err (sym c.contains_in.ensures ∙ c.if-contains_in.false) c.in_ok-list_add.ensures.ok
-    (λ s. c.list_remove.ensures.rest s ∙ ap (λ (k : OwnKey). not (has_key client k.0 k.1 s) && is_listed added s) c.in_ok-key.ensures)
-    c.list_remove.ensures.live
+    c.list_remove.ensures.rest c.list_remove.ensures.live
