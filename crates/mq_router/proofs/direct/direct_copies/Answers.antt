@@ -18,8 +18,14 @@ loop-own-preserved c =
     let A = c.args.readers.now.access.now in
     let S = c.args.readers.now.sessions.now in
     let held = c.loop-own.invariant in
-    let first = next-client _ c.loop-own.own-iterator c.next.new.self c.next.result c.in-Some.own _ c.in-Some.is c.next.ensures.steps (answers_always _ _ _ (λ f a r g h. search rules)) held.sorted in
-    let step = nowhere-first c.args.queueing.limit A S m c.args.queueing.deadline _ c.way.result c.way.ensures.sent c.way.ensures.waits (map copy_of c.loop-own.copies.items) (map begin_of c.loop-own.begun) (by_client (matched (chunk_by_rest c.next.new.self))) (by_client (matched (chunk_by_rest c.loop-own.own-iterator))) first.1 c.in-Nowhere.is in
+    let first =
+    next-client _ c.loop-own.own-iterator c.next.new.self c.next.result c.in-Some.own _ c.in-Some.is c.next.ensures.steps
+    (answers_always _ _ _ (λ f a r g h. search rules)) held.sorted in
+    let step =
+    nowhere-first c.args.queueing.limit A S m c.args.queueing.deadline _ c.way.result c.way.ensures.sent c.way.ensures.waits
+    (map copy_of c.loop-own.copies.items) (map begin_of c.loop-own.begun)
+    (by_client (matched (chunk_by_rest c.next.new.self))) (by_client (matched (chunk_by_rest c.loop-own.own-iterator))) first.1
+    c.in-Nowhere.is in
     record { sorted = first.0; copies = step.0 ∙ held.copies; begun = step.1 ∙ held.begun }
 
 pub loop-own-preserved-in_default : goal.loop-own-preserved-in_default
@@ -28,8 +34,14 @@ loop-own-preserved-in_default c =
     let A = c.args.readers.now.access.now in
     let S = c.args.readers.now.sessions.now in
     let held = c.loop-own.invariant in
-    let first = next-client _ c.loop-own.own-iterator c.next.new.self c.next.result c.in-Some.own _ c.in-Some.is c.next.ensures.steps (answers_always _ _ _ (λ f a r g h. search rules)) held.sorted in
-    let step = waits-first c.args.queueing.limit A S m c.args.queueing.deadline _ c.way.result c.way.ensures.sent c.way.ensures.waits (map copy_of c.loop-own.copies.items) (map begin_of c.loop-own.begun) (by_client (matched (chunk_by_rest c.next.new.self))) (by_client (matched (chunk_by_rest c.loop-own.own-iterator))) first.1 c.in-Waits.is (option_map begin_of c.in_ok-one-in-Waits.field-0)
+    let first =
+    next-client _ c.loop-own.own-iterator c.next.new.self c.next.result c.in-Some.own _ c.in-Some.is c.next.ensures.steps
+    (answers_always _ _ _ (λ f a r g h. search rules)) held.sorted in
+    let step =
+    waits-first c.args.queueing.limit A S m c.args.queueing.deadline _ c.way.result c.way.ensures.sent c.way.ensures.waits
+    (map copy_of c.loop-own.copies.items) (map begin_of c.loop-own.begun)
+    (by_client (matched (chunk_by_rest c.next.new.self))) (by_client (matched (chunk_by_rest c.loop-own.own-iterator))) first.1
+    c.in-Waits.is (option_map begin_of c.in_ok-one-in-Waits.field-0)
     (c.in_ok-one-in-Waits.ensures ∙ ap (λ k. option_map (begin_with k.client c.args.queueing.deadline) (with_qos k)) c.in_ok-copy-in-Waits.ensures) in
     let left = begins_by c.args.queueing.limit A S m c.args.queueing.deadline (by_client (matched (chunk_by_rest c.next.new.self))) in
     record {
@@ -46,9 +58,15 @@ loop-own-preserved-in_ok-push-in-Sent c =
     let A = c.args.readers.now.access.now in
     let S = c.args.readers.now.sessions.now in
     let held = c.loop-own.invariant in
-    let first = next-client _ c.loop-own.own-iterator c.next.new.self c.next.result c.in-Some.own _ c.in-Some.is c.next.ensures.steps (answers_always _ _ _ (λ f a r g h. search rules)) held.sorted in
+    let first =
+    next-client _ c.loop-own.own-iterator c.next.new.self c.next.result c.in-Some.own _ c.in-Some.is c.next.ensures.steps
+    (answers_always _ _ _ (λ f a r g h. search rules)) held.sorted in
     let copy = c.in_ok-own_copy-in-Sent.field-0 in
-    let step = sent-first c.args.queueing.limit A S m c.args.queueing.deadline _ c.way.result c.way.ensures.sent c.way.ensures.waits (map copy_of c.loop-own.copies.items) (map begin_of c.loop-own.begun) (by_client (matched (chunk_by_rest c.next.new.self))) (by_client (matched (chunk_by_rest c.loop-own.own-iterator))) first.1 c.in-Sent.is (copy_of copy) c.in_ok-own_copy-in-Sent.ensures in
+    let step =
+    sent-first c.args.queueing.limit A S m c.args.queueing.deadline _ c.way.result c.way.ensures.sent c.way.ensures.waits
+    (map copy_of c.loop-own.copies.items) (map begin_of c.loop-own.begun)
+    (by_client (matched (chunk_by_rest c.next.new.self))) (by_client (matched (chunk_by_rest c.loop-own.own-iterator))) first.1
+    c.in-Sent.is (copy_of copy) c.in_ok-own_copy-in-Sent.ensures in
     let left = copies_by A S m (by_client (matched (chunk_by_rest c.next.new.self))) in
     record {
       sorted = first.0;
@@ -64,9 +82,15 @@ loop-own-preserved-in_ok-push_back-in-Waits c =
     let A = c.args.readers.now.access.now in
     let S = c.args.readers.now.sessions.now in
     let held = c.loop-own.invariant in
-    let first = next-client _ c.loop-own.own-iterator c.next.new.self c.next.result c.in-Some.own _ c.in-Some.is c.next.ensures.steps (answers_always _ _ _ (λ f a r g h. search rules)) held.sorted in
+    let first =
+    next-client _ c.loop-own.own-iterator c.next.new.self c.next.result c.in-Some.own _ c.in-Some.is c.next.ensures.steps
+    (answers_always _ _ _ (λ f a r g h. search rules)) held.sorted in
     let one = c.in-Some-2.one in
-    let step = waits-first c.args.queueing.limit A S m c.args.queueing.deadline _ c.way.result c.way.ensures.sent c.way.ensures.waits (map copy_of c.loop-own.copies.items) (map begin_of c.loop-own.begun) (by_client (matched (chunk_by_rest c.next.new.self))) (by_client (matched (chunk_by_rest c.loop-own.own-iterator))) first.1 c.in-Waits.is (option_map begin_of c.in_ok-one-in-Waits.field-0)
+    let step =
+    waits-first c.args.queueing.limit A S m c.args.queueing.deadline _ c.way.result c.way.ensures.sent c.way.ensures.waits
+    (map copy_of c.loop-own.copies.items) (map begin_of c.loop-own.begun)
+    (by_client (matched (chunk_by_rest c.next.new.self))) (by_client (matched (chunk_by_rest c.loop-own.own-iterator))) first.1
+    c.in-Waits.is (option_map begin_of c.in_ok-one-in-Waits.field-0)
     (c.in_ok-one-in-Waits.ensures ∙ ap (λ k. option_map (begin_with k.client c.args.queueing.deadline) (with_qos k)) c.in_ok-copy-in-Waits.ensures) in
     let left = begins_by c.args.queueing.limit A S m c.args.queueing.deadline (by_client (matched (chunk_by_rest c.next.new.self))) in
     record {
