@@ -1,4 +1,5 @@
-pub mod NameLemmas
+pub mod AheadLemmas
+pub mod WalkLemmas
 pub mod TakenLemmas
 pub mod FloatLemmas
 pub mod EntryLemmas

@@ -1,4 +1,4 @@
--- A value that is found, and what writing over it leaves to other names.
+-- A value that is found.
 use Rattle.std.proofs.Common.{◌≡◌, ℕ, List, [], ◌∷◌, Bool, true, false, cond, Option, Some, None, Bor, String, Global, Ordering, string_bytes, nat_cmp, bytes_eq, true≢false, refl, sym, ap, ◌∙◌}
 use Rattle.std.proofs.lemmas.Map.Text.{is_eq-slice_cmp}
 use Rattle.std.proofs.lemmas.Slice.Eq.{bytes_eq-Decides}
@@ -12,7 +12,6 @@ use Rattle.serde_json.specs.Find.{get_member, as_object}
 use Rattle.serde_json.specs.View.{view, members_view}
 use Rattle.serde_json.specs.declared.value.Value.{Value}
 use Rattle.serde_json.proofs.Views.{member_later, view-lookup}
-use Rattle.mq_cli.specs.Fields.{HasOthers}
 use Rattle.mq_cli.specs.Reading.{command_of}
 
 abbrev Entry : Type 0
@@ -20,24 +19,6 @@ Entry = String Global × Value
 
 abbrev pub beside : List ℕ → String Global → Ordering
 beside name key = slice_cmp nat_cmp name (string_bytes key)
-
-apart : (l k : List ℕ) → bytes_eq l k ≡ false → l ≡ k → ⊥
-apart l k other same = true≢false (sym ((bytes_eq-Decides l k).1 same) ∙ other)
-
-pub set_others : (name : List ℕ) (es : List Entry) (v : Value)
-    → HasOthers name (members_view es) (members_view (set_value (is_at (beside name)) es v))
-set_others name [] v l other = refl
-set_others name (e ∷ es) v l other = by_test (is_at (beside name) e.0) refl (set_others name es v l other)
-  where
-    by_test : (t : Bool) → is_at (beside name) e.0 ≡ t
-        → get_member l (members_view (set_value (is_at (beside name)) es v)) ≡ get_member l (members_view es)
-        → get_member l (members_view (cond t ((e.0, v) ∷ es) (e ∷ set_value (is_at (beside name)) es v))) ≡ get_member l (members_view (e ∷ es))
-    by_test true is later =
-        let key = string_bytes e.0 in
-        let same : name ≡ key = (bytes_eq-Decides name key).0 (sym (is_eq-slice_cmp name key) ∙ is) in
-        let far = λ (h : l ≡ string_bytes e.0). apart l name other (h ∙ sym same) in
-        member_later l (e.0, v) es far ∙ sym (member_later l e es far)
-    by_test false is later = ap (λ r. match_ordering (slice_cmp nat_cmp l (string_bytes e.0)) r (Some (view e.1)) r) later
 
 pub seen : (o : Option (Bor Value)) → option_map (λ v. view v.now) o ≡ option_map view (option_copied o)
 seen None = refl

@@ -54,11 +54,6 @@ required kind k d = optional kind k d >>= or_fault BadField
 abbrev pub defaulted : {A : Type 0} → A → (Data → Option A) → List ℕ → Data → Result A LineFault
 defaulted a kind k d = optional kind k d >>= λ o. Ok (unwrap_or o a)
 
--- ---- what is left once the value under k was taken: each other name has what it had
-
-abbrev pub HasOthers : List ℕ → Members → Members → Type 0
-HasOthers k old new = (l : List ℕ) → bytes_eq l k ≡ false → get_member l new ≡ get_member l old
-
 -- ---- the names of all fields
 
 abbrev pub is_among : List (List ℕ) → List ℕ → Bool

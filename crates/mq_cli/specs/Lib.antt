@@ -2,6 +2,7 @@ pub mod Trails
 pub mod Failures
 pub mod Wrapped
 pub mod Fields
+pub mod Ahead
 pub mod Reading
 pub mod Printed
 pub mod Kept

@@ -4,14 +4,13 @@ ghost use Rattle.serde_json.specs.Data.{object};
 ghost use Rattle.serde_json.specs.View.{view, members_view};
 ghost use Rattle.mq_router.specs.Views.{request_of};
 ghost use Rattle.mq_router.specs.Refusals.{is_valid};
+ghost use Rattle.mq_cli.specs.Ahead.{Ascends, members_left};
 ghost use Rattle.mq_cli.specs.Fields.{Gives, or_fault};
+ghost use Rattle.mq_cli.specs.Kept.{names_of};
 ghost use Rattle.mq_cli.specs.Reading.{connect_fields, disconnect_fields, subscribe_fields, unsubscribe_fields, publish_fields, acl_fields, advance_fields, stat_fields, command_of, value_of, reading, is_blank as blank};
 
 use crate::lines::fault::LineFault;
-use crate::lines::fields::{
-    field, flag_or, has_only, is_set, number_or_zero, optional_number, optional_text,
-    required_number, required_text, text_or_empty,
-};
+use crate::lines::fields::{Fields, field};
 use crate::lines::object::members_of;
 use mq_router::Command;
 use serde_json::{Map, Value};
@@ -26,21 +25,18 @@ const MOST_HANDLING: u8 = 2;
 
 const MOST_ID: u32 = 268_435_455;
 
-#[tactic(auto, unfolding(crate::specs::Reading::connect_fields))]
-fn connect(alloc: Global, members: &mut Map<String, Value>) -> Result<Command, LineFault>
-    ensures value { Gives request_of result (connect_fields (object (members_view members.old.entries))) }
+#[tactic(auto, using(crate::proofs::WalkLemmas::connect_walked))]
+fn connect(fields: &mut Fields) -> Result<Command, LineFault>
+    requires { Ascends (names_of (members_left fields.old)) }
+    ensures value { Gives request_of result (connect_fields (object (members_left fields.old))) }
     ensures valid { IfOk result (λ c. IsTrue (is_valid (request_of c))) }
 {
-    if !has_only(
-        members,
-        &["do", "client", "user", "clean", "session_expiry"],
-    ) {
-        return Err(LineFault::BadField);
-    }
-    let client = required_text(alloc, members, "client")?;
-    let user = optional_text(alloc, members, "user")?;
-    let clean = flag_or(members, "clean", true)?;
-    let session_expiry = optional_number(members, "session_expiry", 0, u32::MAX)?;
+    let clean = fields.flag_or("clean", true)?;
+    let client = fields.required_text("client")?;
+    fields.skip("do");
+    let session_expiry = fields.optional_number("session_expiry", 0, u32::MAX)?;
+    let user = fields.optional_text("user")?;
+    fields.end()?;
     Ok(Command::Connect {
         client,
         user,
@@ -49,38 +45,33 @@ fn connect(alloc: Global, members: &mut Map<String, Value>) -> Result<Command, L
     })
 }
 
-#[tactic(auto, unfolding(crate::specs::Reading::disconnect_fields))]
-fn disconnect(alloc: Global, members: &mut Map<String, Value>) -> Result<Command, LineFault>
-    ensures value { Gives request_of result (disconnect_fields (object (members_view members.old.entries))) }
+#[tactic(auto, using(crate::proofs::WalkLemmas::disconnect_walked))]
+fn disconnect(fields: &mut Fields) -> Result<Command, LineFault>
+    requires { Ascends (names_of (members_left fields.old)) }
+    ensures value { Gives request_of result (disconnect_fields (object (members_left fields.old))) }
     ensures valid { IfOk result (λ c. IsTrue (is_valid (request_of c))) }
 {
-    if !has_only(members, &["do", "client"]) {
-        return Err(LineFault::BadField);
-    }
-    let client = required_text(alloc, members, "client")?;
+    let client = fields.required_text("client")?;
+    fields.skip("do");
+    fields.end()?;
     Ok(Command::Disconnect { client })
 }
 
-#[tactic(auto, unfolding(crate::specs::Reading::subscribe_fields))]
-fn subscribe(alloc: Global, members: &mut Map<String, Value>) -> Result<Command, LineFault>
-    ensures value { Gives request_of result (subscribe_fields (object (members_view members.old.entries))) }
+#[tactic(auto, using(crate::proofs::WalkLemmas::subscribe_walked))]
+fn subscribe(fields: &mut Fields) -> Result<Command, LineFault>
+    requires { Ascends (names_of (members_left fields.old)) }
+    ensures value { Gives request_of result (subscribe_fields (object (members_left fields.old))) }
     ensures valid { IfOk result (λ c. IsTrue (is_valid (request_of c))) }
 {
-    if !has_only(
-        members,
-        &[
-            "do", "client", "filter", "qos", "no_local", "rap", "handling", "id",
-        ],
-    ) {
-        return Err(LineFault::BadField);
-    }
-    let client = required_text(alloc, members, "client")?;
-    let filter = required_text(alloc, members, "filter")?;
-    let qos = number_or_zero(members, "qos", MOST_QOS)?;
-    let no_local = is_set(members, "no_local")?;
-    let rap = is_set(members, "rap")?;
-    let handling = number_or_zero(members, "handling", MOST_HANDLING)?;
-    let id = optional_number(members, "id", 1, MOST_ID)?;
+    let client = fields.required_text("client")?;
+    fields.skip("do");
+    let filter = fields.required_text("filter")?;
+    let handling = fields.number_or_zero("handling", MOST_HANDLING)?;
+    let id = fields.optional_number("id", 1, MOST_ID)?;
+    let no_local = fields.is_set("no_local")?;
+    let qos = fields.number_or_zero("qos", MOST_QOS)?;
+    let rap = fields.is_set("rap")?;
+    fields.end()?;
     Ok(Command::Subscribe {
         client,
         filter,
@@ -92,38 +83,33 @@ fn subscribe(alloc: Global, members: &mut Map<String, Value>) -> Result<Command,
     })
 }
 
-#[tactic(auto, unfolding(crate::specs::Reading::unsubscribe_fields))]
-fn unsubscribe(alloc: Global, members: &mut Map<String, Value>) -> Result<Command, LineFault>
-    ensures value { Gives request_of result (unsubscribe_fields (object (members_view members.old.entries))) }
+#[tactic(auto, using(crate::proofs::WalkLemmas::unsubscribe_walked))]
+fn unsubscribe(fields: &mut Fields) -> Result<Command, LineFault>
+    requires { Ascends (names_of (members_left fields.old)) }
+    ensures value { Gives request_of result (unsubscribe_fields (object (members_left fields.old))) }
     ensures valid { IfOk result (λ c. IsTrue (is_valid (request_of c))) }
 {
-    if !has_only(members, &["do", "client", "filter"]) {
-        return Err(LineFault::BadField);
-    }
-    let client = required_text(alloc, members, "client")?;
-    let filter = required_text(alloc, members, "filter")?;
+    let client = fields.required_text("client")?;
+    fields.skip("do");
+    let filter = fields.required_text("filter")?;
+    fields.end()?;
     Ok(Command::Unsubscribe { client, filter })
 }
 
-#[tactic(auto, unfolding(crate::specs::Reading::publish_fields))]
-fn publish(alloc: Global, members: &mut Map<String, Value>) -> Result<Command, LineFault>
-    ensures value { Gives request_of result (publish_fields (object (members_view members.old.entries))) }
+#[tactic(auto, using(crate::proofs::WalkLemmas::publish_walked))]
+fn publish(alloc: Global, fields: &mut Fields) -> Result<Command, LineFault>
+    requires { Ascends (names_of (members_left fields.old)) }
+    ensures value { Gives request_of result (publish_fields (object (members_left fields.old))) }
     ensures valid { IfOk result (λ c. IsTrue (is_valid (request_of c))) }
 {
-    if !has_only(
-        members,
-        &[
-            "do", "client", "topic", "payload", "qos", "retain", "expiry",
-        ],
-    ) {
-        return Err(LineFault::BadField);
-    }
-    let client = required_text(alloc, members, "client")?;
-    let topic = required_text(alloc, members, "topic")?;
-    let payload = text_or_empty(alloc, members, "payload")?;
-    let qos = number_or_zero(members, "qos", MOST_QOS)?;
-    let retain = is_set(members, "retain")?;
-    let expiry = optional_number(members, "expiry", 0, u32::MAX)?;
+    let client = fields.required_text("client")?;
+    fields.skip("do");
+    let expiry = fields.optional_number("expiry", 0, u32::MAX)?;
+    let payload = fields.text_or_empty(alloc, "payload")?;
+    let qos = fields.number_or_zero("qos", MOST_QOS)?;
+    let retain = fields.is_set("retain")?;
+    let topic = fields.required_text("topic")?;
+    fields.end()?;
     Ok(Command::Publish {
         client,
         topic,
@@ -134,58 +120,58 @@ fn publish(alloc: Global, members: &mut Map<String, Value>) -> Result<Command, L
     })
 }
 
-#[tactic(auto, unfolding(crate::specs::Reading::acl_fields))]
-fn acl(alloc: Global, members: &mut Map<String, Value>) -> Result<Command, LineFault>
-    ensures value { Gives request_of result (acl_fields (object (members_view members.old.entries))) }
+#[tactic(auto, using(crate::proofs::WalkLemmas::acl_walked))]
+fn acl(fields: &mut Fields) -> Result<Command, LineFault>
+    requires { Ascends (names_of (members_left fields.old)) }
+    ensures value { Gives request_of result (acl_fields (object (members_left fields.old))) }
     ensures valid { IfOk result (λ c. IsTrue (is_valid (request_of c))) }
 {
-    if !has_only(members, &["do", "text"]) {
-        return Err(LineFault::BadField);
-    }
-    let text = optional_text(alloc, members, "text")?;
+    fields.skip("do");
+    let text = fields.optional_text("text")?;
+    fields.end()?;
     Ok(Command::SetAcl { text })
 }
 
-#[tactic(auto, unfolding(crate::specs::Reading::advance_fields))]
-fn advance(members: &Map<String, Value>) -> Result<Command, LineFault>
-    ensures value { Gives request_of result (advance_fields (object (members_view members.now.entries))) }
+#[tactic(auto, using(crate::proofs::WalkLemmas::advance_walked))]
+fn advance(fields: &mut Fields) -> Result<Command, LineFault>
+    requires { Ascends (names_of (members_left fields.old)) }
+    ensures value { Gives request_of result (advance_fields (object (members_left fields.old))) }
     ensures valid { IfOk result (λ c. IsTrue (is_valid (request_of c))) }
 {
-    if !has_only(members, &["do", "seconds"]) {
-        return Err(LineFault::BadField);
-    }
-    let seconds = required_number(members, "seconds")?;
+    fields.skip("do");
+    let seconds = fields.required_number("seconds")?;
+    fields.end()?;
     Ok(Command::Advance { seconds })
 }
 
-#[tactic(auto, unfolding(crate::specs::Reading::stat_fields))]
-fn stat(members: &Map<String, Value>) -> Result<Command, LineFault>
-    ensures value { Gives request_of result (stat_fields (object (members_view members.now.entries))) }
+#[tactic(auto, using(crate::proofs::WalkLemmas::stat_walked))]
+fn stat(fields: &mut Fields) -> Result<Command, LineFault>
+    requires { Ascends (names_of (members_left fields.old)) }
+    ensures value { Gives request_of result (stat_fields (object (members_left fields.old))) }
     ensures valid { IfOk result (λ c. IsTrue (is_valid (request_of c))) }
 {
-    if !has_only(members, &["do"]) {
-        return Err(LineFault::BadField);
-    }
+    fields.skip("do");
+    fields.end()?;
     Ok(Command::Stat)
 }
 
 #[tactic(auto, unfolding(crate::specs::Reading::command_of, crate::specs::Reading::fields_of))]
-fn command_in(alloc: Global, members: &mut Map<String, Value>) -> Result<Command, LineFault>
-    ensures value { Gives request_of result (command_of (object (members_view members.old.entries))) }
+fn command_in(alloc: Global, members: Map<String, Value>) -> Result<Command, LineFault>
+    ensures value { Gives request_of result (command_of (object (members_view members.entries))) }
     ensures valid { IfOk result (λ c. IsTrue (is_valid (request_of c))) }
 {
-    let Some(word) = field(members, "do").and_then(Value::as_str) else {
+    let Some(word) = field(&members, "do").and_then(Value::as_str) else {
         return Err(LineFault::BadCommand);
     };
     match word {
-        "connect" => connect(alloc, members),
-        "disconnect" => disconnect(alloc, members),
-        "subscribe" => subscribe(alloc, members),
-        "unsubscribe" => unsubscribe(alloc, members),
-        "publish" => publish(alloc, members),
-        "acl" => acl(alloc, members),
-        "advance" => advance(members),
-        "stat" => stat(members),
+        "connect" => connect(&mut Fields::of(members)),
+        "disconnect" => disconnect(&mut Fields::of(members)),
+        "subscribe" => subscribe(&mut Fields::of(members)),
+        "unsubscribe" => unsubscribe(&mut Fields::of(members)),
+        "publish" => publish(alloc, &mut Fields::of(members)),
+        "acl" => acl(&mut Fields::of(members)),
+        "advance" => advance(&mut Fields::of(members)),
+        "stat" => stat(&mut Fields::of(members)),
         _ => Err(LineFault::BadCommand),
     }
 }
@@ -195,8 +181,8 @@ fn command(alloc: Global, value: Value) -> Result<Command, LineFault>
     ensures value { Gives request_of result (command_of (view value)) }
     ensures valid { IfOk result (λ c. IsTrue (is_valid (request_of c))) }
 {
-    let mut members = members_of(alloc, value);
-    command_in(alloc, &mut members)
+    let members = members_of(alloc, value);
+    command_in(alloc, members)
 }
 
 fn is_blank(line: &[u8]) -> bool

@@ -1,0 +1,8 @@
+use Rattle.std.proofs.Common.{arith}
+use Rattle.std.proofs.lemmas.Grind.{common_steps}
+use Rattle.mq_cli.specs.Ahead.{members_left}
+use Rattle.mq_cli.proofs.WalkLemmas.{unsubscribe_walked}
+use Rattle.mq_cli.proofs.lines.read.unsubscribe.Goals as goal
+
+pub returns-in_err-filter-clause-value : goal.returns-in_err-filter-clause-value
+returns-in_err-filter-clause-value c = rw (unsubscribe_walked (members_left c.args.fields.now) c.requires) (grind (arith, common_steps))
