@@ -3,6 +3,7 @@ use Rattle.std.proofs.Common.{◌≡◌, ℕ, List, [], ◌∷◌, Bool, true, f
 use Rattle.std.proofs.lemmas.Cmp.{nat_list_cmp_total}
 use Rattle.std.proofs.lemmas.Map.Text.{is_eq-slice_cmp}
 use Rattle.std.proofs.lemmas.Slice.Eq.{bytes_eq-Decides}
+use Rattle.std.specs.Borrow.{Bor, MutBor}
 use Rattle.std.specs.Prelude.{MatchOption, Result, Ok, Err, if◌then◌else◌}
 use Rattle.std.specs.Cmp.Lexicographic.{slice_cmp}
 use Rattle.std.specs.List.{AllByRecursion, list_all}
@@ -30,10 +31,6 @@ pub ascends_keys : (es : List (String Global × Value)) → IsStrictlySortedBy s
 unfolding IsStrictlySortedBy
 ascends_keys [] h = tt
 ascends_keys (e ∷ es) h = (above_keys e.0 es h.0, ascends_keys es h.1)
-
-pub next_and_rest : (es rest : List (String Global × Value)) (o : Option (String Global × Value)) → MatchOption o ((es ≡ []) × (rest ≡ [])) (λ e. es ≡ e ∷ rest) → with_next o rest ≡ es
-next_and_rest es rest None h = sym h.0
-next_and_rest es rest (Some e) h = sym h
 
 apart : (n k : List ℕ) → text_cmp n k ≡ Less → bytes_eq n k ≡ false
 apart n k h = sym (is_eq-slice_cmp n k) ∙ ap is_eq h

@@ -1,4 +1,5 @@
 -- An object that is read member by member, in the order of its names.
+use Rattle.std.specs.Borrow.{Bor, MutBor}
 use Rattle.std.specs.Prelude.{◌≡◌, ℕ, List, [], ◌∷◌, cond, Option, None, Some, Result, Ok, Err, ⊤}
 use Rattle.std.specs.Cmp.Lexicographic.{slice_cmp}
 use Rattle.std.specs.List.{AllByRecursion}
@@ -20,14 +21,14 @@ abbrev pub Ascends : List (List ℕ) → Type 0
 Ascends [] = ⊤
 Ascends (n ∷ names) = Above n names × Ascends names
 
--- an entry that was taken out, and those after it; where there was none, none is left
-abbrev pub with_next : {E : Type 0} → Option E → List E → List E
+-- the entry that was lent last, and those that are still to be; where none was, none is left
+abbrev pub with_next : {K X : Type 0} → Option (Bor K × MutBor X) → List (K × X) → List (K × X)
 with_next None es = []
-with_next (Some e) es = e ∷ es
+with_next (Some p) es = (p.0.now, p.1.now) ∷ es
 
 -- the members that fields have left
 abbrev pub members_left : Fields → Members
-members_left f = members_view (with_next f.next f.rest)
+members_left f = members_view (with_next f.next f.rest.0)
 
 -- the object of the next member alone
 abbrev pub ahead : Members → Data

@@ -9,7 +9,7 @@ ghost use Rattle.mq_cli.specs.Ahead.{Ascends, ahead, past, end as ending, member
 use crate::lines::fault::LineFault;
 use serde_json::{Map, Value};
 use std::alloc::Global;
-use std::collections::btree_map::IntoIter;
+use std::collections::btree_map::IterMut;
 use std::mem;
 
 /// The value under a name, if there is one.
@@ -22,24 +22,24 @@ pub fn field<'a>(members: &'a Map<String, Value>, name: &str) -> Option<&'a Valu
 /// The members of an object that are left. Each name asked for is compared with the next member alone, so a name that
 /// isn't asked for in its place stays, and what comes after it seems absent.
 #[derive(Drop)]
-pub struct Fields {
-    next: Option<(String, Value)>,
-    rest: IntoIter<String, Value>,
+pub struct Fields<'a> {
+    next: Option<(&'a String, &'a mut Value)>,
+    rest: IterMut<'a, String, Value>,
 }
 
-impl Fields {
-    pub fn of(members: Map<String, Value>) -> Fields
-        ensures all { members_left result ≡ members_view members.entries }
-        ensures ordered { Ascends (names_of (members_left result)) }
+impl<'a> Fields<'a> {
+    pub fn of(members: &'a mut Map<String, Value>) -> Fields<'a>
+        ensures all { members_left result ≡ members_view members.old.entries }
+        ensures ordered { Ascends (names_of (members_view members.old.entries)) }
     {
-        let mut rest = members.into_iter();
+        let mut rest = members.iter_mut();
         let next = rest.next();
         Fields { next, rest }
     }
 
     // The value under the name, if the next member has it.
-    fn take(&mut self, name: &str) -> Option<Value>
-        ensures value { option_map view result ≡ get name.now (ahead (members_left self.old)) }
+    fn take(&mut self, name: &str) -> Option<&'a mut Value>
+        ensures value { option_map (λ v. view v.now) result ≡ get name.now (ahead (members_left self.old)) }
         ensures left { members_left self.new ≡ past name.now (members_left self.old) }
     {
         let Some((key, _)) = &self.next else {
@@ -59,7 +59,7 @@ impl Fields {
     pub fn skip(&mut self, name: &str)
         ensures { members_left self.new ≡ past name.now (members_left self.old) }
     {
-        drop(self.take(name));
+        let _known = self.take(name);
     }
 
     /// A text, if it is there.
@@ -67,10 +67,12 @@ impl Fields {
         ensures value { Gives (option_map string_bytes) result (optional text_kind name.now (ahead (members_left self.old))) }
         ensures left { members_left self.new ≡ past name.now (members_left self.old) }
     {
-        match self.take(name) {
-            None => Ok(None),
-            Some(Value::String(text)) => Ok(Some(text)),
-            Some(_) => Err(LineFault::BadField),
+        let Some(field) = self.take(name) else {
+            return Ok(None);
+        };
+        match field.take() {
+            Value::String(text) => Ok(Some(text)),
+            _ => Err(LineFault::BadField),
         }
     }
 

@@ -4,9 +4,7 @@ ghost use Rattle.serde_json.specs.Data.{object};
 ghost use Rattle.serde_json.specs.View.{view, members_view};
 ghost use Rattle.mq_router.specs.Views.{request_of};
 ghost use Rattle.mq_router.specs.Refusals.{is_valid};
-ghost use Rattle.mq_cli.specs.Ahead.{Ascends, members_left};
 ghost use Rattle.mq_cli.specs.Fields.{Gives, or_fault};
-ghost use Rattle.mq_cli.specs.Kept.{names_of};
 ghost use Rattle.mq_cli.specs.Reading.{connect_fields, disconnect_fields, subscribe_fields, unsubscribe_fields, publish_fields, acl_fields, advance_fields, stat_fields, command_of, value_of, reading, is_blank as blank};
 
 use crate::lines::fault::LineFault;
@@ -26,11 +24,11 @@ const MOST_HANDLING: u8 = 2;
 const MOST_ID: u32 = 268_435_455;
 
 #[tactic(auto, using(crate::proofs::WalkLemmas::connect_walked))]
-fn connect(fields: &mut Fields) -> Result<Command, LineFault>
-    requires { Ascends (names_of (members_left fields.old)) }
-    ensures value { Gives request_of result (connect_fields (object (members_left fields.old))) }
+fn connect(members: &mut Map<String, Value>) -> Result<Command, LineFault>
+    ensures value { Gives request_of result (connect_fields (object (members_view members.old.entries))) }
     ensures valid { IfOk result (λ c. IsTrue (is_valid (request_of c))) }
 {
+    let mut fields = Fields::of(members);
     let clean = fields.flag_or("clean", true)?;
     let client = fields.required_text("client")?;
     fields.skip("do");
@@ -46,11 +44,11 @@ fn connect(fields: &mut Fields) -> Result<Command, LineFault>
 }
 
 #[tactic(auto, using(crate::proofs::WalkLemmas::disconnect_walked))]
-fn disconnect(fields: &mut Fields) -> Result<Command, LineFault>
-    requires { Ascends (names_of (members_left fields.old)) }
-    ensures value { Gives request_of result (disconnect_fields (object (members_left fields.old))) }
+fn disconnect(members: &mut Map<String, Value>) -> Result<Command, LineFault>
+    ensures value { Gives request_of result (disconnect_fields (object (members_view members.old.entries))) }
     ensures valid { IfOk result (λ c. IsTrue (is_valid (request_of c))) }
 {
+    let mut fields = Fields::of(members);
     let client = fields.required_text("client")?;
     fields.skip("do");
     fields.end()?;
@@ -58,11 +56,11 @@ fn disconnect(fields: &mut Fields) -> Result<Command, LineFault>
 }
 
 #[tactic(auto, using(crate::proofs::WalkLemmas::subscribe_walked))]
-fn subscribe(fields: &mut Fields) -> Result<Command, LineFault>
-    requires { Ascends (names_of (members_left fields.old)) }
-    ensures value { Gives request_of result (subscribe_fields (object (members_left fields.old))) }
+fn subscribe(members: &mut Map<String, Value>) -> Result<Command, LineFault>
+    ensures value { Gives request_of result (subscribe_fields (object (members_view members.old.entries))) }
     ensures valid { IfOk result (λ c. IsTrue (is_valid (request_of c))) }
 {
+    let mut fields = Fields::of(members);
     let client = fields.required_text("client")?;
     fields.skip("do");
     let filter = fields.required_text("filter")?;
@@ -84,11 +82,11 @@ fn subscribe(fields: &mut Fields) -> Result<Command, LineFault>
 }
 
 #[tactic(auto, using(crate::proofs::WalkLemmas::unsubscribe_walked))]
-fn unsubscribe(fields: &mut Fields) -> Result<Command, LineFault>
-    requires { Ascends (names_of (members_left fields.old)) }
-    ensures value { Gives request_of result (unsubscribe_fields (object (members_left fields.old))) }
+fn unsubscribe(members: &mut Map<String, Value>) -> Result<Command, LineFault>
+    ensures value { Gives request_of result (unsubscribe_fields (object (members_view members.old.entries))) }
     ensures valid { IfOk result (λ c. IsTrue (is_valid (request_of c))) }
 {
+    let mut fields = Fields::of(members);
     let client = fields.required_text("client")?;
     fields.skip("do");
     let filter = fields.required_text("filter")?;
@@ -97,11 +95,11 @@ fn unsubscribe(fields: &mut Fields) -> Result<Command, LineFault>
 }
 
 #[tactic(auto, using(crate::proofs::WalkLemmas::publish_walked))]
-fn publish(alloc: Global, fields: &mut Fields) -> Result<Command, LineFault>
-    requires { Ascends (names_of (members_left fields.old)) }
-    ensures value { Gives request_of result (publish_fields (object (members_left fields.old))) }
+fn publish(alloc: Global, members: &mut Map<String, Value>) -> Result<Command, LineFault>
+    ensures value { Gives request_of result (publish_fields (object (members_view members.old.entries))) }
     ensures valid { IfOk result (λ c. IsTrue (is_valid (request_of c))) }
 {
+    let mut fields = Fields::of(members);
     let client = fields.required_text("client")?;
     fields.skip("do");
     let expiry = fields.optional_number("expiry", 0, u32::MAX)?;
@@ -121,11 +119,11 @@ fn publish(alloc: Global, fields: &mut Fields) -> Result<Command, LineFault>
 }
 
 #[tactic(auto, using(crate::proofs::WalkLemmas::acl_walked))]
-fn acl(fields: &mut Fields) -> Result<Command, LineFault>
-    requires { Ascends (names_of (members_left fields.old)) }
-    ensures value { Gives request_of result (acl_fields (object (members_left fields.old))) }
+fn acl(members: &mut Map<String, Value>) -> Result<Command, LineFault>
+    ensures value { Gives request_of result (acl_fields (object (members_view members.old.entries))) }
     ensures valid { IfOk result (λ c. IsTrue (is_valid (request_of c))) }
 {
+    let mut fields = Fields::of(members);
     fields.skip("do");
     let text = fields.optional_text("text")?;
     fields.end()?;
@@ -133,11 +131,11 @@ fn acl(fields: &mut Fields) -> Result<Command, LineFault>
 }
 
 #[tactic(auto, using(crate::proofs::WalkLemmas::advance_walked))]
-fn advance(fields: &mut Fields) -> Result<Command, LineFault>
-    requires { Ascends (names_of (members_left fields.old)) }
-    ensures value { Gives request_of result (advance_fields (object (members_left fields.old))) }
+fn advance(members: &mut Map<String, Value>) -> Result<Command, LineFault>
+    ensures value { Gives request_of result (advance_fields (object (members_view members.old.entries))) }
     ensures valid { IfOk result (λ c. IsTrue (is_valid (request_of c))) }
 {
+    let mut fields = Fields::of(members);
     fields.skip("do");
     let seconds = fields.required_number("seconds")?;
     fields.end()?;
@@ -145,33 +143,33 @@ fn advance(fields: &mut Fields) -> Result<Command, LineFault>
 }
 
 #[tactic(auto, using(crate::proofs::WalkLemmas::stat_walked))]
-fn stat(fields: &mut Fields) -> Result<Command, LineFault>
-    requires { Ascends (names_of (members_left fields.old)) }
-    ensures value { Gives request_of result (stat_fields (object (members_left fields.old))) }
+fn stat(members: &mut Map<String, Value>) -> Result<Command, LineFault>
+    ensures value { Gives request_of result (stat_fields (object (members_view members.old.entries))) }
     ensures valid { IfOk result (λ c. IsTrue (is_valid (request_of c))) }
 {
+    let mut fields = Fields::of(members);
     fields.skip("do");
     fields.end()?;
     Ok(Command::Stat)
 }
 
 #[tactic(auto, unfolding(crate::specs::Reading::command_of, crate::specs::Reading::fields_of))]
-fn command_in(alloc: Global, members: Map<String, Value>) -> Result<Command, LineFault>
-    ensures value { Gives request_of result (command_of (object (members_view members.entries))) }
+fn command_in(alloc: Global, members: &mut Map<String, Value>) -> Result<Command, LineFault>
+    ensures value { Gives request_of result (command_of (object (members_view members.old.entries))) }
     ensures valid { IfOk result (λ c. IsTrue (is_valid (request_of c))) }
 {
-    let Some(word) = field(&members, "do").and_then(Value::as_str) else {
+    let Some(word) = field(members, "do").and_then(Value::as_str) else {
         return Err(LineFault::BadCommand);
     };
     match word {
-        "connect" => connect(&mut Fields::of(members)),
-        "disconnect" => disconnect(&mut Fields::of(members)),
-        "subscribe" => subscribe(&mut Fields::of(members)),
-        "unsubscribe" => unsubscribe(&mut Fields::of(members)),
-        "publish" => publish(alloc, &mut Fields::of(members)),
-        "acl" => acl(&mut Fields::of(members)),
-        "advance" => advance(&mut Fields::of(members)),
-        "stat" => stat(&mut Fields::of(members)),
+        "connect" => connect(members),
+        "disconnect" => disconnect(members),
+        "subscribe" => subscribe(members),
+        "unsubscribe" => unsubscribe(members),
+        "publish" => publish(alloc, members),
+        "acl" => acl(members),
+        "advance" => advance(members),
+        "stat" => stat(members),
         _ => Err(LineFault::BadCommand),
     }
 }
@@ -181,8 +179,8 @@ fn command(alloc: Global, value: Value) -> Result<Command, LineFault>
     ensures value { Gives request_of result (command_of (view value)) }
     ensures valid { IfOk result (λ c. IsTrue (is_valid (request_of c))) }
 {
-    let members = members_of(alloc, value);
-    command_in(alloc, members)
+    let mut members = members_of(alloc, value);
+    command_in(alloc, &mut members)
 }
 
 fn is_blank(line: &[u8]) -> bool
