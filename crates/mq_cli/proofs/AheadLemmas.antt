@@ -23,7 +23,8 @@ use Rattle.mq_cli.specs.declared.lines.fault.LineFault.TheVariants.{BadField}
 abbrev text_cmp : List ℕ → List ℕ → Ordering
 text_cmp = slice_cmp nat_cmp
 
-above_keys : (k : String Global) (es : List (String Global × Value)) → AllByRecursion (λ l. string_cmp k l ≡ Less) (keys_of es) → Above (string_bytes k) (names_of (members_view es))
+above_keys : (k : String Global) (es : List (String Global × Value)) → AllByRecursion (λ l. string_cmp k l ≡ Less) (keys_of es)
+    → Above (string_bytes k) (names_of (members_view es))
 above_keys k [] h = tt
 above_keys k (e ∷ es) h = (h.0, above_keys k es h.1)
 
@@ -71,7 +72,8 @@ pub keeps_all : (names : List (List ℕ)) (ms : Members) → Keeps names ms ms
 keeps_all [] ms = tt
 keeps_all (n ∷ names) ms = (refl, keeps_all names ms)
 
-keeps_later : (k : List ℕ) (d : Data) (names : List (List ℕ)) (all ms : Members) → Above k names → Keeps names all (member k d ms) → Keeps names all ms
+keeps_later : (k : List ℕ) (d : Data) (names : List (List ℕ)) (all ms : Members) → Above k names → Keeps names all (member k d ms)
+    → Keeps names all ms
 keeps_later k d [] all ms above keeps = tt
 keeps_later k d (n ∷ names) all ms above keeps =
     let below : text_cmp n k ≡ Greater = nat_list_cmp_total.antisymm n k ∙ ap ordering_reverse above.0 in
@@ -91,7 +93,8 @@ first : (a b : Bool) → a && b ≡ true → a ≡ true
 first true b h = refl
 first false b h = h
 
-pub agree : (names : List (List ℕ)) (all ms : Members) → Ascends names → Ascends (names_of ms) → all_among names ms ≡ true → Keeps names all ms → Agree names all ms
+pub agree : (names : List (List ℕ)) (all ms : Members) → Ascends names → Ascends (names_of ms) → all_among names ms ≡ true
+    → Keeps names all ms → Agree names all ms
 agree [] all no_members up sorted among keeps = refl
 agree [] all (member k d ms) up sorted among keeps = absurd (true≢false (sym among))
 agree (n ∷ names) all no_members up sorted among keeps = (keeps.0, agree names all no_members up.1 tt refl keeps.1)
@@ -100,7 +103,8 @@ agree (n ∷ names) all (member k d ms) up sorted among keeps = by_test (bytes_e
     Later : Type 0
     Later = (rest : Members) → Ascends (names_of rest) → all_among names rest ≡ true → Keeps names all rest → Agree names all rest
 
-    by_test : (t : Bool) → bytes_eq n k ≡ t → Later → (get n (object (member k d no_members)) ≡ get_member n all) × Agree names all (cond t ms (member k d ms))
+    by_test : (t : Bool) → bytes_eq n k ≡ t → Later
+        → (get n (object (member k d no_members)) ≡ get_member n all) × Agree names all (cond t ms (member k d ms))
     by_test true is later =
         let here : text_cmp n k ≡ Equal = tied _ (is_eq-slice_cmp n k ∙ is) in
         let found : get_member n (member k d ms) ≡ Some d = rw here in
@@ -179,15 +183,18 @@ ascends : (names : List (List ℕ)) → ascending names ≡ true → Ascends nam
 ascends [] h = tt
 ascends (n ∷ names) h = (all_less n names (first _ _ h), ascends names (second _ _ h))
 
-among_wider : (names others : List (List ℕ)) (k : List ℕ) → list_all (is_among others) names ≡ true → is_among names k ≡ true → is_among others k ≡ true
+among_wider : (names others : List (List ℕ)) (k : List ℕ) → list_all (is_among others) names ≡ true → is_among names k ≡ true
+    → is_among others k ≡ true
 among_wider [] others k wide h = absurd (true≢false (sym h))
 among_wider (n ∷ names) others k wide h = by_test (bytes_eq n k) refl h (among_wider names others k (second _ _ wide))
   where
-    by_test : (t : Bool) → bytes_eq n k ≡ t → t || is_among names k ≡ true → (is_among names k ≡ true → is_among others k ≡ true) → is_among others k ≡ true
+    by_test : (t : Bool) → bytes_eq n k ≡ t → t || is_among names k ≡ true → (is_among names k ≡ true → is_among others k ≡ true)
+        → is_among others k ≡ true
     by_test true is h later = subst (λ m. is_among others m ≡ true) (same n k is) (first _ _ wide)
     by_test false is h later = later h
 
-all_wider : (names others : List (List ℕ)) (ms : Members) → list_all (is_among others) names ≡ true → all_among names ms ≡ true → all_among others ms ≡ true
+all_wider : (names others : List (List ℕ)) (ms : Members) → list_all (is_among others) names ≡ true → all_among names ms ≡ true
+    → all_among others ms ≡ true
 all_wider names others no_members wide h = refl
 all_wider names others (member k d ms) wide h =
     both (is_among others k) _ (among_wider names others k wide (first _ _ h)) (all_wider names others ms wide (second _ _ h))
@@ -200,12 +207,14 @@ all_wider names others (member k d ms) wide h =
 abbrev pub is_order_of : List (List ℕ) → List (List ℕ) → Bool
 is_order_of order names = ascending order && (list_all (is_among order) names && list_all (is_among names) order)
 
-pub walked : {A : Type 0} (names order : List (List ℕ)) (ms : Members) (chain steps : Result A LineFault) → is_order_of order names ≡ true → Ascends (names_of ms)
+pub walked : {A : Type 0} (names order : List (List ℕ)) (ms : Members) (chain steps : Result A LineFault)
+    → is_order_of order names ≡ true → Ascends (names_of ms)
     → (Agree order ms ms → chain ≡ steps) → (end (left order ms) ≡ Err BadField → steps ≡ Err BadField)
     → (if has_only names (object ms) then chain else Err BadField) ≡ steps
 walked {A} names order ms chain steps is sorted agrees faulty = by_test (all_among names ms) (all_among order ms) refl refl
   where
     by_test : (t u : Bool) → all_among names ms ≡ t → all_among order ms ≡ u → (if t then chain else Err BadField) ≡ steps
-    by_test true u among among' = agrees (agree order ms ms (ascends order (first _ _ is)) sorted (all_wider names order ms (first _ _ (second (ascending order) _ is)) among) (keeps_all order ms))
+    by_test true u among among' = agrees (agree order ms ms (ascends order (first _ _ is)) sorted (all_wider names order ms (first _ _
+        (second (ascending order) _ is)) among) (keeps_all order ms))
     by_test false true among among' = absurd (true≢false (sym (all_wider order names ms (second _ _ (second (ascending order) _ is)) among') ∙ among))
     by_test false false among among' = sym (faulty (not_ended order ms among'))

@@ -41,7 +41,8 @@ sound_required kind n d = sound_then (optional kind n d) (or_fault BadField) (so
 sound_defaulted : {A : Type 0} (a : A) (kind : Data → Option A) (n : List ℕ) (d : Data) → Sound (defaulted a kind n d)
 sound_defaulted a kind n d = sound_then (optional kind n d) _ (sound_optional kind n d) (λ o. tt)
 
-faulty : {A B : Type 0} (r : Result A LineFault) (f : A → Result B LineFault) (e : LineFault) → Sound r → e ≡ BadField → ((x : A) → f x ≡ Err e) → (r >>= f) ≡ Err e
+faulty : {A B : Type 0} (r : Result A LineFault) (f : A → Result B LineFault) (e : LineFault) → Sound r → e ≡ BadField → ((x : A)
+    → f x ≡ Err e) → (r >>= f) ≡ Err e
 faulty (Ok x) f e p q h = h x
 faulty (Err d) f e p q h = ap Err (p ∙ sym q)
 
@@ -62,7 +63,8 @@ connect_walk ms = do
   ended ← end (left connect_order ms)
   Ok (Connect client user clean session_expiry)
 
-connect_reordered : {A B C D Y : Type 0} (clean : Result A LineFault) (client : Result B LineFault) (session_expiry : Result C LineFault) (user : Result D LineFault)
+connect_reordered : {A B C D Y : Type 0} (clean : Result A LineFault) (client : Result B LineFault) (session_expiry : Result C LineFault)
+    (user : Result D LineFault)
     (f : A → B → C → D → Y)
     → Sound clean → Sound client → Sound session_expiry → Sound user
     → (client >>= λ x1. user >>= λ x3. clean >>= λ x0. session_expiry >>= λ x2. Ok (f x0 x1 x2 x3))
@@ -75,7 +77,10 @@ connect_reordered (Ok x0) (Ok x1) (Ok x2) user f h0 h1 h2 h3 = refl
 pub connect_walked : (ms : Members) → Ascends (names_of ms) → connect_fields (object ms) ≡ connect_walk ms
 unfolding connect_fields
 connect_walked ms sorted = walked connect_names connect_order ms _ (connect_walk ms) refl sorted
-    (λ a. rw (a.0, a.1.0, a.1.1.1.0, a.1.1.1.1.0, a.1.1.1.1.1) (connect_reordered _ _ _ _ _ (sound_defaulted true flag (codes "clean") (object ms)) (sound_required text (codes "client") (object ms)) (sound_defaulted 0 (whole 0 4294967295) (codes "session_expiry") (object ms)) (sound_optional text (codes "user") (object ms))))
+    (λ a. rw (a.0, a.1.0, a.1.1.1.0, a.1.1.1.1.0,
+        a.1.1.1.1.1) (connect_reordered _ _ _ _ _ (sound_defaulted true flag (codes "clean") (object ms)) (sound_required text
+        (codes "client") (object ms)) (sound_defaulted 0 (whole 0 4294967295) (codes "session_expiry") (object ms)) (sound_optional text
+        (codes "user") (object ms))))
     (λ e. search (faulty, faulty_now, sound_required, sound_optional, sound_defaulted) depth 12)
 
 abbrev disconnect_order : List (List ℕ)
@@ -102,9 +107,12 @@ subscribe_walk ms = do
   filter ← required text (codes "filter") (ahead (left (codes "client" ∷ codes "do" ∷ []) ms))
   handling ← defaulted 0 (whole 0 2) (codes "handling") (ahead (left (codes "client" ∷ codes "do" ∷ codes "filter" ∷ []) ms))
   id ← optional (whole 1 268435455) (codes "id") (ahead (left (codes "client" ∷ codes "do" ∷ codes "filter" ∷ codes "handling" ∷ []) ms))
-  no_local ← defaulted false flag (codes "no_local") (ahead (left (codes "client" ∷ codes "do" ∷ codes "filter" ∷ codes "handling" ∷ codes "id" ∷ []) ms))
-  qos ← defaulted 0 (whole 0 2) (codes "qos") (ahead (left (codes "client" ∷ codes "do" ∷ codes "filter" ∷ codes "handling" ∷ codes "id" ∷ codes "no_local" ∷ []) ms))
-  rap ← defaulted false flag (codes "rap") (ahead (left (codes "client" ∷ codes "do" ∷ codes "filter" ∷ codes "handling" ∷ codes "id" ∷ codes "no_local" ∷ codes "qos" ∷ []) ms))
+  no_local ← defaulted false flag (codes "no_local")
+      (ahead (left (codes "client" ∷ codes "do" ∷ codes "filter" ∷ codes "handling" ∷ codes "id" ∷ []) ms))
+  qos ← defaulted 0 (whole 0 2) (codes "qos")
+      (ahead (left (codes "client" ∷ codes "do" ∷ codes "filter" ∷ codes "handling" ∷ codes "id" ∷ codes "no_local" ∷ []) ms))
+  rap ← defaulted false flag (codes "rap")
+      (ahead (left (codes "client" ∷ codes "do" ∷ codes "filter" ∷ codes "handling" ∷ codes "id" ∷ codes "no_local" ∷ codes "qos" ∷ []) ms))
   ended ← end (left subscribe_order ms)
   Ok (Subscribe client filter (record {
     qos = qos;
@@ -114,11 +122,14 @@ subscribe_walk ms = do
     identifier = id;
   }))
 
-subscribe_reordered : {A B C D E F G Y : Type 0} (client : Result A LineFault) (filter : Result B LineFault) (handling : Result C LineFault) (id : Result D LineFault) (no_local : Result E LineFault) (qos : Result F LineFault) (rap : Result G LineFault)
+subscribe_reordered : {A B C D E F G Y : Type 0} (client : Result A LineFault) (filter : Result B LineFault)
+    (handling : Result C LineFault) (id : Result D LineFault) (no_local : Result E LineFault) (qos : Result F LineFault)
+    (rap : Result G LineFault)
     (f : A → B → C → D → E → F → G → Y)
     → Sound client → Sound filter → Sound handling → Sound id → Sound no_local → Sound qos → Sound rap
     → (client >>= λ x0. filter >>= λ x1. qos >>= λ x5. no_local >>= λ x4. rap >>= λ x6. handling >>= λ x2. id >>= λ x3. Ok (f x0 x1 x2 x3 x4 x5 x6))
-        ≡ (client >>= λ x0. filter >>= λ x1. handling >>= λ x2. id >>= λ x3. no_local >>= λ x4. qos >>= λ x5. rap >>= λ x6. Ok (f x0 x1 x2 x3 x4 x5 x6))
+        ≡ (client >>= λ x0. filter >>= λ x1. handling >>= λ x2. id >>= λ x3. no_local >>= λ x4. qos >>= λ x5. rap >>= λ x6. Ok
+            (f x0 x1 x2 x3 x4 x5 x6))
 subscribe_reordered (Err e) filter handling id no_local qos rap f h0 h1 h2 h3 h4 h5 h6 = refl
 subscribe_reordered (Ok x0) (Err e) handling id no_local qos rap f h0 h1 h2 h3 h4 h5 h6 = refl
 subscribe_reordered (Ok x0) (Ok x1) (Err e) id no_local qos rap f h0 h1 h2 h3 h4 h5 h6 = search (rules, faulty)
@@ -129,7 +140,11 @@ subscribe_reordered (Ok x0) (Ok x1) (Ok x2) (Ok x3) (Ok x4) qos rap f h0 h1 h2 h
 pub subscribe_walked : (ms : Members) → Ascends (names_of ms) → subscribe_fields (object ms) ≡ subscribe_walk ms
 unfolding subscribe_fields
 subscribe_walked ms sorted = walked subscribe_names subscribe_order ms _ (subscribe_walk ms) refl sorted
-    (λ a. rw (a.0, a.1.1.0, a.1.1.1.0, a.1.1.1.1.0, a.1.1.1.1.1.0, a.1.1.1.1.1.1.0, a.1.1.1.1.1.1.1.0, a.1.1.1.1.1.1.1.1) (subscribe_reordered _ _ _ _ _ _ _ _ (sound_required text (codes "client") (object ms)) (sound_required text (codes "filter") (object ms)) (sound_defaulted 0 (whole 0 2) (codes "handling") (object ms)) (sound_optional (whole 1 268435455) (codes "id") (object ms)) (sound_defaulted false flag (codes "no_local") (object ms)) (sound_defaulted 0 (whole 0 2) (codes "qos") (object ms)) (sound_defaulted false flag (codes "rap") (object ms))))
+    (λ a. rw (a.0, a.1.1.0, a.1.1.1.0, a.1.1.1.1.0, a.1.1.1.1.1.0, a.1.1.1.1.1.1.0, a.1.1.1.1.1.1.1.0,
+        a.1.1.1.1.1.1.1.1) (subscribe_reordered _ _ _ _ _ _ _ _ (sound_required text (codes "client") (object ms)) (sound_required text
+        (codes "filter") (object ms)) (sound_defaulted 0 (whole 0 2) (codes "handling") (object ms)) (sound_optional (whole 1 268435455)
+        (codes "id") (object ms)) (sound_defaulted false flag (codes "no_local") (object ms)) (sound_defaulted 0 (whole 0 2) (codes "qos")
+        (object ms)) (sound_defaulted false flag (codes "rap") (object ms))))
     (λ e. search (faulty, faulty_now, sound_required, sound_optional, sound_defaulted) depth 12)
 
 abbrev unsubscribe_order : List (List ℕ)
@@ -158,7 +173,8 @@ publish_walk ms = do
   payload ← defaulted [] text (codes "payload") (ahead (left (codes "client" ∷ codes "do" ∷ codes "expiry" ∷ []) ms))
   qos ← defaulted 0 (whole 0 2) (codes "qos") (ahead (left (codes "client" ∷ codes "do" ∷ codes "expiry" ∷ codes "payload" ∷ []) ms))
   retain ← defaulted false flag (codes "retain") (ahead (left (codes "client" ∷ codes "do" ∷ codes "expiry" ∷ codes "payload" ∷ codes "qos" ∷ []) ms))
-  topic ← required text (codes "topic") (ahead (left (codes "client" ∷ codes "do" ∷ codes "expiry" ∷ codes "payload" ∷ codes "qos" ∷ codes "retain" ∷ []) ms))
+  topic ← required text (codes "topic") (ahead (left (codes "client" ∷ codes "do" ∷ codes "expiry" ∷ codes "payload" ∷ codes "qos"
+      ∷ codes "retain" ∷ []) ms))
   ended ← end (left publish_order ms)
   Ok (Publish (record {
     publisher = client;
@@ -169,7 +185,8 @@ publish_walk ms = do
     expiry = expiry;
   }))
 
-publish_reordered : {A B C D E F Y : Type 0} (client : Result A LineFault) (expiry : Result B LineFault) (payload : Result C LineFault) (qos : Result D LineFault) (retain : Result E LineFault) (topic : Result F LineFault)
+publish_reordered : {A B C D E F Y : Type 0} (client : Result A LineFault) (expiry : Result B LineFault) (payload : Result C LineFault)
+    (qos : Result D LineFault) (retain : Result E LineFault) (topic : Result F LineFault)
     (f : A → B → C → D → E → F → Y)
     → Sound client → Sound expiry → Sound payload → Sound qos → Sound retain → Sound topic
     → (client >>= λ x0. topic >>= λ x5. payload >>= λ x2. qos >>= λ x3. retain >>= λ x4. expiry >>= λ x1. Ok (f x0 x1 x2 x3 x4 x5))
@@ -184,7 +201,11 @@ publish_reordered (Ok x0) (Ok x1) (Ok x2) (Ok x3) (Ok x4) topic f h0 h1 h2 h3 h4
 pub publish_walked : (ms : Members) → Ascends (names_of ms) → publish_fields (object ms) ≡ publish_walk ms
 unfolding publish_fields
 publish_walked ms sorted = walked publish_names publish_order ms _ (publish_walk ms) refl sorted
-    (λ a. rw (a.0, a.1.1.0, a.1.1.1.0, a.1.1.1.1.0, a.1.1.1.1.1.0, a.1.1.1.1.1.1.0, a.1.1.1.1.1.1.1) (publish_reordered _ _ _ _ _ _ _ (sound_required text (codes "client") (object ms)) (sound_optional (whole 0 4294967295) (codes "expiry") (object ms)) (sound_defaulted [] text (codes "payload") (object ms)) (sound_defaulted 0 (whole 0 2) (codes "qos") (object ms)) (sound_defaulted false flag (codes "retain") (object ms)) (sound_required text (codes "topic") (object ms))))
+    (λ a. rw (a.0, a.1.1.0, a.1.1.1.0, a.1.1.1.1.0, a.1.1.1.1.1.0, a.1.1.1.1.1.1.0,
+        a.1.1.1.1.1.1.1) (publish_reordered _ _ _ _ _ _ _ (sound_required text (codes "client") (object ms)) (sound_optional
+        (whole 0 4294967295) (codes "expiry") (object ms)) (sound_defaulted [] text (codes "payload") (object ms)) (sound_defaulted 0
+        (whole 0 2) (codes "qos") (object ms)) (sound_defaulted false flag (codes "retain") (object ms)) (sound_required text
+        (codes "topic") (object ms))))
     (λ e. search (faulty, faulty_now, sound_required, sound_optional, sound_defaulted) depth 12)
 
 abbrev acl_order : List (List ℕ)

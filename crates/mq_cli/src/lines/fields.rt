@@ -59,7 +59,7 @@ impl<'a> Fields<'a> {
     pub fn skip(&mut self, name: &str)
         ensures { members_left self.new ≡ past name.now (members_left self.old) }
     {
-        let _known = self.take(name);
+        self.take(name);
     }
 
     /// A text, if it is there.
