@@ -1,10 +1,9 @@
 -- An object whose names ascend, walked by names that ascend: each name that belongs is found where it is asked for.
-use Rattle.std.proofs.Common.{◌≡◌, ℕ, List, [], ◌∷◌, Bool, true, false, ◌&&◌, ◌||◌, cond, Option, Some, None, Ordering, Less, Equal, Greater, String, Global, string_bytes, string_cmp, nat_cmp, is_eq, bytes_eq, true≢false, refl, sym, ap, ◌∙◌, subst}
+use Rattle.std.proofs.Common.{◌≡◌, ℕ, List, [], ◌∷◌, Bool, true, false, ◌&&◌, ◌||◌, cond, Some, None, Ordering, Less, Equal, Greater, String, Global, string_bytes, string_cmp, nat_cmp, is_eq, bytes_eq, true≢false, refl, sym, ap, ◌∙◌, subst}
 use Rattle.std.proofs.lemmas.Cmp.{nat_list_cmp_total}
 use Rattle.std.proofs.lemmas.Map.Text.{is_eq-slice_cmp}
 use Rattle.std.proofs.lemmas.Slice.Eq.{bytes_eq-Decides}
-use Rattle.std.specs.Borrow.{Bor, MutBor}
-use Rattle.std.specs.Prelude.{MatchOption, Result, Ok, Err, if◌then◌else◌}
+use Rattle.std.specs.Prelude.{Result, Err, if◌then◌else◌}
 use Rattle.std.specs.Cmp.Lexicographic.{slice_cmp}
 use Rattle.std.specs.List.{AllByRecursion, list_all}
 use Rattle.std.specs.List.Sorted.{IsStrictlySortedBy}
@@ -16,7 +15,7 @@ use Rattle.serde_json.specs.View.{members_view}
 use Rattle.serde_json.specs.declared.value.Value.{Value}
 use Rattle.mq_cli.specs.Kept.{names_of}
 use Rattle.mq_cli.specs.Fields.{is_among, all_among, has_only}
-use Rattle.mq_cli.specs.Ahead.{Above, Ascends, with_next, ahead, past, end}
+use Rattle.mq_cli.specs.Ahead.{Above, Ascends, ahead, past, end}
 use Rattle.mq_cli.specs.declared.lines.fault.LineFault.{LineFault}
 use Rattle.mq_cli.specs.declared.lines.fault.LineFault.TheVariants.{BadField}
 
@@ -110,16 +109,18 @@ agree (n ∷ names) all (member k d ms) up sorted among keeps = by_test (bytes_e
         let found : get_member n (member k d ms) ≡ Some d = rw here in
         let alone : get n (object (member k d no_members)) ≡ Some d = rw here in
         let above : Above n (names_of ms) = subst (λ m. Above m (names_of ms)) (sym (same n k is)) sorted.0 in
-        let beyond : Above k names = subst (λ m. Above m names) (same n k is) up.0 in
-        (alone ∙ sym found ∙ keeps.0,
-         later ms sorted.1 (sym (unneeded n names ms above) ∙ second _ _ among) (keeps_later k d names all ms beyond keeps.1))
+        let beyond : Above k names = subst (λ m. Above m names) (same n k is) up.0 in (
+          alone ∙ sym found ∙ keeps.0,
+          later ms sorted.1 (sym (unneeded n names ms above) ∙ second _ _ among) (keeps_later k d names all ms beyond keeps.1),
+        )
     by_test false is later =
         let belongs : is_among names k ≡ true = ap (λ t. t || is_among names k) (sym is) ∙ first _ _ among in
         let below : text_cmp n k ≡ Less = among_above n k names up.0 belongs in
         let above : Above n (k ∷ names_of ms) = (below, above_later n k (names_of ms) below sorted.0) in
-        let alone : get n (object (member k d no_members)) ≡ None = rw below in
-        (alone ∙ sym (unfound n (member k d ms) above) ∙ keeps.0,
-         later (member k d ms) sorted (sym (unneeded n names (member k d ms) above) ∙ among) keeps.1)
+        let alone : get n (object (member k d no_members)) ≡ None = rw below in (
+          alone ∙ sym (unfound n (member k d ms) above) ∙ keeps.0,
+          later (member k d ms) sorted (sym (unneeded n names (member k d ms) above) ∙ among) keeps.1,
+        )
 
 -- the next member alone has no name but its own
 pub other_ahead : (n k : List ℕ) (d : Data) (ms : Members) → bytes_eq n k ≡ false → get n (ahead (member k d ms)) ≡ None

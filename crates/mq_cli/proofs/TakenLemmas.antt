@@ -1,17 +1,14 @@
 -- A value that is found.
-use Rattle.std.proofs.Common.{◌≡◌, ℕ, List, [], ◌∷◌, Bool, true, false, cond, Option, Some, None, Bor, String, Global, Ordering, string_bytes, nat_cmp, bytes_eq, true≢false, refl, sym, ap, ◌∙◌}
-use Rattle.std.proofs.lemmas.Map.Text.{is_eq-slice_cmp}
-use Rattle.std.proofs.lemmas.Slice.Eq.{bytes_eq-Decides}
+use Rattle.std.proofs.Common.{◌≡◌, ℕ, List, Option, Some, None, Bor, String, Global, Ordering, string_bytes, nat_cmp, refl, sym, ap, ◌∙◌}
 use Rattle.std.specs.Cmp.Lexicographic.{slice_cmp}
-use Rattle.std.specs.Map.{set_value, lookup}
-use Rattle.std.specs.Ordering.{match_ordering}
+use Rattle.std.specs.Map.{lookup}
 use Rattle.std.specs.BTreeMap.{is_at}
 use Rattle.std.specs.Option.{option_map, option_copied, unwrap_or}
 use Rattle.serde_json.specs.Data.{Data, no_members, object, null, boolean, number, string, array}
 use Rattle.serde_json.specs.Find.{get_member, as_object}
 use Rattle.serde_json.specs.View.{view, members_view}
 use Rattle.serde_json.specs.declared.value.Value.{Value}
-use Rattle.serde_json.proofs.Views.{member_later, view-lookup}
+use Rattle.serde_json.proofs.Views.{view-lookup}
 use Rattle.mq_cli.specs.Reading.{command_of}
 
 abbrev Entry : Type 0

@@ -1,18 +1,16 @@
 -- Each command's fields, read in the order of their names.
-use Rattle.std.proofs.Common.{◌≡◌, ℕ, List, [], ◌∷◌, Bool, true, false, ◌&&◌, ◌||◌, Option, Some, None, option_map, bytes_eq, true≢false, refl, rules, sym, ap, ◌∙◌}
-use Rattle.std.specs.Prelude.{Result, Ok, Err, if◌then◌else◌, codes, ⊤}
-use Rattle.std.specs.List.{list_all}
-use Rattle.std.proofs.lemmas.Slice.Eq.{bytes_eq-Decides}
-use Rattle.serde_json.specs.Data.{Data, object, Members, no_members, member}
+use Rattle.std.proofs.Common.{◌≡◌, ℕ, List, [], ◌∷◌, true, false, Option, Some, None, option_map, refl, rules, sym, ap, ◌∙◌}
+use Rattle.std.specs.Prelude.{Result, Ok, Err, codes}
+use Rattle.serde_json.specs.Data.{Data, object, Members}
 use Rattle.serde_json.specs.Find.{get}
 use Rattle.mq_cli.specs.Kept.{names_of}
 use Rattle.mq_router.specs.World.{Request, Connect, Disconnect, Subscribe, Unsubscribe, Publish, SetAcl, Advance, Stat}
-use Rattle.mq_cli.specs.Fields.{◌>>=◌, text, flag, unsigned, whole, of_kind, optional, required, defaulted, is_among, all_among, has_only, or_fault}
+use Rattle.mq_cli.specs.Fields.{◌>>=◌, text, flag, unsigned, whole, of_kind, optional, required, defaulted, or_fault}
 use Rattle.mq_cli.specs.Reading.{connect_names, connect_fields, disconnect_fields, subscribe_names, subscribe_fields, unsubscribe_fields, publish_names, publish_fields, acl_fields, advance_fields, stat_fields}
-use Rattle.mq_cli.specs.Ahead.{Ascends, ahead, past, end}
+use Rattle.mq_cli.specs.Ahead.{Ascends, ahead, end}
 use Rattle.mq_cli.specs.declared.lines.fault.LineFault.{LineFault}
 use Rattle.mq_cli.specs.declared.lines.fault.LineFault.TheVariants.{BadField}
-use Rattle.mq_cli.proofs.AheadLemmas.{Agree, left, walked}
+use Rattle.mq_cli.proofs.AheadLemmas.{left, walked}
 
 -- ---- all faults of fields are one, so they may be read in any order
 
@@ -68,7 +66,7 @@ connect_reordered : {A B C D Y : Type 0} (clean : Result A LineFault) (client : 
     (f : A → B → C → D → Y)
     → Sound clean → Sound client → Sound session_expiry → Sound user
     → (client >>= λ x1. user >>= λ x3. clean >>= λ x0. session_expiry >>= λ x2. Ok (f x0 x1 x2 x3))
-        ≡ (clean >>= λ x0. client >>= λ x1. session_expiry >>= λ x2. user >>= λ x3. Ok (f x0 x1 x2 x3))
+    ≡ (clean >>= λ x0. client >>= λ x1. session_expiry >>= λ x2. user >>= λ x3. Ok (f x0 x1 x2 x3))
 connect_reordered (Err e) client session_expiry user f h0 h1 h2 h3 = search (rules, faulty)
 connect_reordered (Ok x0) (Err e) session_expiry user f h0 h1 h2 h3 = refl
 connect_reordered (Ok x0) (Ok x1) (Err e) user f h0 h1 h2 h3 = search (rules, faulty)
@@ -77,10 +75,15 @@ connect_reordered (Ok x0) (Ok x1) (Ok x2) user f h0 h1 h2 h3 = refl
 pub connect_walked : (ms : Members) → Ascends (names_of ms) → connect_fields (object ms) ≡ connect_walk ms
 unfolding connect_fields
 connect_walked ms sorted = walked connect_names connect_order ms _ (connect_walk ms) refl sorted
-    (λ a. rw (a.0, a.1.0, a.1.1.1.0, a.1.1.1.1.0,
-        a.1.1.1.1.1) (connect_reordered _ _ _ _ _ (sound_defaulted true flag (codes "clean") (object ms)) (sound_required text
-        (codes "client") (object ms)) (sound_defaulted 0 (whole 0 4294967295) (codes "session_expiry") (object ms)) (sound_optional text
-        (codes "user") (object ms))))
+    (λ a. rw (
+      a.0,
+      a.1.0,
+      a.1.1.1.0,
+      a.1.1.1.1.0,
+      a.1.1.1.1.1,
+    ) (connect_reordered _ _ _ _ _ (sound_defaulted true flag (codes "clean") (object ms)) (sound_required text
+    (codes "client") (object ms)) (sound_defaulted 0 (whole 0 4294967295) (codes "session_expiry") (object ms)) (sound_optional text
+    (codes "user") (object ms))))
     (λ e. search (faulty, faulty_now, sound_required, sound_optional, sound_defaulted) depth 12)
 
 abbrev disconnect_order : List (List ℕ)
@@ -128,8 +131,8 @@ subscribe_reordered : {A B C D E F G Y : Type 0} (client : Result A LineFault) (
     (f : A → B → C → D → E → F → G → Y)
     → Sound client → Sound filter → Sound handling → Sound id → Sound no_local → Sound qos → Sound rap
     → (client >>= λ x0. filter >>= λ x1. qos >>= λ x5. no_local >>= λ x4. rap >>= λ x6. handling >>= λ x2. id >>= λ x3. Ok (f x0 x1 x2 x3 x4 x5 x6))
-        ≡ (client >>= λ x0. filter >>= λ x1. handling >>= λ x2. id >>= λ x3. no_local >>= λ x4. qos >>= λ x5. rap >>= λ x6. Ok
-            (f x0 x1 x2 x3 x4 x5 x6))
+    ≡ (client >>= λ x0. filter >>= λ x1. handling >>= λ x2. id >>= λ x3. no_local >>= λ x4. qos >>= λ x5. rap >>= λ x6. Ok
+    (f x0 x1 x2 x3 x4 x5 x6))
 subscribe_reordered (Err e) filter handling id no_local qos rap f h0 h1 h2 h3 h4 h5 h6 = refl
 subscribe_reordered (Ok x0) (Err e) handling id no_local qos rap f h0 h1 h2 h3 h4 h5 h6 = refl
 subscribe_reordered (Ok x0) (Ok x1) (Err e) id no_local qos rap f h0 h1 h2 h3 h4 h5 h6 = search (rules, faulty)
@@ -140,11 +143,19 @@ subscribe_reordered (Ok x0) (Ok x1) (Ok x2) (Ok x3) (Ok x4) qos rap f h0 h1 h2 h
 pub subscribe_walked : (ms : Members) → Ascends (names_of ms) → subscribe_fields (object ms) ≡ subscribe_walk ms
 unfolding subscribe_fields
 subscribe_walked ms sorted = walked subscribe_names subscribe_order ms _ (subscribe_walk ms) refl sorted
-    (λ a. rw (a.0, a.1.1.0, a.1.1.1.0, a.1.1.1.1.0, a.1.1.1.1.1.0, a.1.1.1.1.1.1.0, a.1.1.1.1.1.1.1.0,
-        a.1.1.1.1.1.1.1.1) (subscribe_reordered _ _ _ _ _ _ _ _ (sound_required text (codes "client") (object ms)) (sound_required text
-        (codes "filter") (object ms)) (sound_defaulted 0 (whole 0 2) (codes "handling") (object ms)) (sound_optional (whole 1 268435455)
-        (codes "id") (object ms)) (sound_defaulted false flag (codes "no_local") (object ms)) (sound_defaulted 0 (whole 0 2) (codes "qos")
-        (object ms)) (sound_defaulted false flag (codes "rap") (object ms))))
+    (λ a. rw (
+      a.0,
+      a.1.1.0,
+      a.1.1.1.0,
+      a.1.1.1.1.0,
+      a.1.1.1.1.1.0,
+      a.1.1.1.1.1.1.0,
+      a.1.1.1.1.1.1.1.0,
+      a.1.1.1.1.1.1.1.1,
+    ) (subscribe_reordered _ _ _ _ _ _ _ _ (sound_required text (codes "client") (object ms)) (sound_required text
+    (codes "filter") (object ms)) (sound_defaulted 0 (whole 0 2) (codes "handling") (object ms)) (sound_optional (whole 1 268435455)
+    (codes "id") (object ms)) (sound_defaulted false flag (codes "no_local") (object ms)) (sound_defaulted 0 (whole 0 2) (codes "qos")
+    (object ms)) (sound_defaulted false flag (codes "rap") (object ms))))
     (λ e. search (faulty, faulty_now, sound_required, sound_optional, sound_defaulted) depth 12)
 
 abbrev unsubscribe_order : List (List ℕ)
@@ -190,7 +201,7 @@ publish_reordered : {A B C D E F Y : Type 0} (client : Result A LineFault) (expi
     (f : A → B → C → D → E → F → Y)
     → Sound client → Sound expiry → Sound payload → Sound qos → Sound retain → Sound topic
     → (client >>= λ x0. topic >>= λ x5. payload >>= λ x2. qos >>= λ x3. retain >>= λ x4. expiry >>= λ x1. Ok (f x0 x1 x2 x3 x4 x5))
-        ≡ (client >>= λ x0. expiry >>= λ x1. payload >>= λ x2. qos >>= λ x3. retain >>= λ x4. topic >>= λ x5. Ok (f x0 x1 x2 x3 x4 x5))
+    ≡ (client >>= λ x0. expiry >>= λ x1. payload >>= λ x2. qos >>= λ x3. retain >>= λ x4. topic >>= λ x5. Ok (f x0 x1 x2 x3 x4 x5))
 publish_reordered (Err e) expiry payload qos retain topic f h0 h1 h2 h3 h4 h5 = refl
 publish_reordered (Ok x0) (Err e) payload qos retain topic f h0 h1 h2 h3 h4 h5 = search (rules, faulty)
 publish_reordered (Ok x0) (Ok x1) (Err e) qos retain topic f h0 h1 h2 h3 h4 h5 = search (rules, faulty)
@@ -201,11 +212,18 @@ publish_reordered (Ok x0) (Ok x1) (Ok x2) (Ok x3) (Ok x4) topic f h0 h1 h2 h3 h4
 pub publish_walked : (ms : Members) → Ascends (names_of ms) → publish_fields (object ms) ≡ publish_walk ms
 unfolding publish_fields
 publish_walked ms sorted = walked publish_names publish_order ms _ (publish_walk ms) refl sorted
-    (λ a. rw (a.0, a.1.1.0, a.1.1.1.0, a.1.1.1.1.0, a.1.1.1.1.1.0, a.1.1.1.1.1.1.0,
-        a.1.1.1.1.1.1.1) (publish_reordered _ _ _ _ _ _ _ (sound_required text (codes "client") (object ms)) (sound_optional
-        (whole 0 4294967295) (codes "expiry") (object ms)) (sound_defaulted [] text (codes "payload") (object ms)) (sound_defaulted 0
-        (whole 0 2) (codes "qos") (object ms)) (sound_defaulted false flag (codes "retain") (object ms)) (sound_required text
-        (codes "topic") (object ms))))
+    (λ a. rw (
+      a.0,
+      a.1.1.0,
+      a.1.1.1.0,
+      a.1.1.1.1.0,
+      a.1.1.1.1.1.0,
+      a.1.1.1.1.1.1.0,
+      a.1.1.1.1.1.1.1,
+    ) (publish_reordered _ _ _ _ _ _ _ (sound_required text (codes "client") (object ms)) (sound_optional
+    (whole 0 4294967295) (codes "expiry") (object ms)) (sound_defaulted [] text (codes "payload") (object ms)) (sound_defaulted 0
+    (whole 0 2) (codes "qos") (object ms)) (sound_defaulted false flag (codes "retain") (object ms)) (sound_required text
+    (codes "topic") (object ms))))
     (λ e. search (faulty, faulty_now, sound_required, sound_optional, sound_defaulted) depth 12)
 
 abbrev acl_order : List (List ℕ)

@@ -3,7 +3,7 @@ use Rattle.std.specs.Prelude.{ℕ, ◌≡◌, ◌&&◌, List, Bool, true, false,
 use Rattle.std.specs.List.{list_any}
 use Rattle.std.specs.Str.{bytes_eq}
 use Rattle.serde_json.specs.Data.{Data, Members, no_members, member}
-use Rattle.serde_json.specs.Find.{get, get_member, as_object, as_str, as_bool, as_number, as_u64}
+use Rattle.serde_json.specs.Find.{get, as_object, as_str, as_bool, as_number, as_u64}
 use Rattle.mq_cli.specs.declared.lines.fault.LineFault.{LineFault}
 use Rattle.mq_cli.specs.declared.lines.fault.LineFault.TheVariants.{LineTooLong, BadJson, BadCommand, BadField, Memory}
 

@@ -12,17 +12,37 @@ returns-in_err-client-clause-value c =
 pub returns-in_err-filter-clause-value : goal.returns-in_err-filter-clause-value
 returns-in_err-filter-clause-value c =
     let walk = unsubscribe_walked (members_view c.args.members.now.entries) c.of-fields.ensures.ordered in
-    rw (walk, sym c.of-fields.ensures.all, sym c.required_text.ensures.left, sym c.skip.ensures,
-    c.in_ok-client.ensures.value) (grind (arith, common_steps))
+    rw (
+      walk,
+      sym c.of-fields.ensures.all,
+      sym c.required_text.ensures.left,
+      sym c.skip.ensures,
+      c.in_ok-client.ensures.value,
+    ) (grind (arith, common_steps))
 
 pub returns-in_err-end-clause-value : goal.returns-in_err-end-clause-value
 returns-in_err-end-clause-value c =
     let walk = unsubscribe_walked (members_view c.args.members.now.entries) c.of-fields.ensures.ordered in
-    rw (walk, sym c.of-fields.ensures.all, sym c.required_text.ensures.left, sym c.skip.ensures, sym c.required_text-2.ensures.left,
-    c.in_ok-client.ensures.value, c.in_ok-filter.ensures.value) (grind (arith, common_steps))
+    rw (
+      walk,
+      sym c.of-fields.ensures.all,
+      sym c.required_text.ensures.left,
+      sym c.skip.ensures,
+      sym c.required_text-2.ensures.left,
+      c.in_ok-client.ensures.value,
+      c.in_ok-filter.ensures.value,
+    ) (grind (arith, common_steps))
 
 pub returns-clause-value : goal.returns-clause-value
 returns-clause-value c =
     let walk = unsubscribe_walked (members_view c.args.members.now.entries) c.of-fields.ensures.ordered in
-    rw (walk, sym c.of-fields.ensures.all, sym c.required_text.ensures.left, sym c.skip.ensures, sym c.required_text-2.ensures.left,
-    c.in_ok-client.ensures.value, c.in_ok-filter.ensures.value, c.in_ok-end.ensures)
+    rw (
+      walk,
+      sym c.of-fields.ensures.all,
+      sym c.required_text.ensures.left,
+      sym c.skip.ensures,
+      sym c.required_text-2.ensures.left,
+      c.in_ok-client.ensures.value,
+      c.in_ok-filter.ensures.value,
+      c.in_ok-end.ensures,
+    )
