@@ -23,7 +23,6 @@ const MOST_HANDLING: u8 = 2;
 
 const MOST_ID: u32 = 268_435_455;
 
-#[tactic(auto, using(crate::proofs::WalkLemmas::connect_walked))]
 fn connect(members: &mut Map<String, Value>) -> Result<Command, LineFault>
     ensures value { Gives request_of result (connect_fields (object (members_view members.old.entries))) }
     ensures valid { IfOk result (λ c. IsTrue (is_valid (request_of c))) }
@@ -43,7 +42,6 @@ fn connect(members: &mut Map<String, Value>) -> Result<Command, LineFault>
     })
 }
 
-#[tactic(auto, using(crate::proofs::WalkLemmas::disconnect_walked))]
 fn disconnect(members: &mut Map<String, Value>) -> Result<Command, LineFault>
     ensures value { Gives request_of result (disconnect_fields (object (members_view members.old.entries))) }
     ensures valid { IfOk result (λ c. IsTrue (is_valid (request_of c))) }
@@ -55,7 +53,6 @@ fn disconnect(members: &mut Map<String, Value>) -> Result<Command, LineFault>
     Ok(Command::Disconnect { client })
 }
 
-#[tactic(auto, using(crate::proofs::WalkLemmas::subscribe_walked))]
 fn subscribe(members: &mut Map<String, Value>) -> Result<Command, LineFault>
     ensures value { Gives request_of result (subscribe_fields (object (members_view members.old.entries))) }
     ensures valid { IfOk result (λ c. IsTrue (is_valid (request_of c))) }
@@ -81,7 +78,6 @@ fn subscribe(members: &mut Map<String, Value>) -> Result<Command, LineFault>
     })
 }
 
-#[tactic(auto, using(crate::proofs::WalkLemmas::unsubscribe_walked))]
 fn unsubscribe(members: &mut Map<String, Value>) -> Result<Command, LineFault>
     ensures value { Gives request_of result (unsubscribe_fields (object (members_view members.old.entries))) }
     ensures valid { IfOk result (λ c. IsTrue (is_valid (request_of c))) }
@@ -94,7 +90,6 @@ fn unsubscribe(members: &mut Map<String, Value>) -> Result<Command, LineFault>
     Ok(Command::Unsubscribe { client, filter })
 }
 
-#[tactic(auto, using(crate::proofs::WalkLemmas::publish_walked))]
 fn publish(alloc: Global, members: &mut Map<String, Value>) -> Result<Command, LineFault>
     ensures value { Gives request_of result (publish_fields (object (members_view members.old.entries))) }
     ensures valid { IfOk result (λ c. IsTrue (is_valid (request_of c))) }
