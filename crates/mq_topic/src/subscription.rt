@@ -51,7 +51,8 @@ impl SubFilter {
 
     /// Another one with the same share name and filter.
     pub fn clone(&self) -> Result<SubFilter, AllocError>
-        ensures { IfOk result (λ copy. (option_map string_bytes copy.share ≡ option_map string_bytes self.now.share) × (copy.filter ≡ self.now.filter)) }
+        ensures { IfOk result (λ copy. (option_map string_bytes copy.share ≡ option_map string_bytes self.now.share)
+            × (copy.filter ≡ self.now.filter)) }
     {
         Ok(SubFilter {
             share: self.share.clone()?,

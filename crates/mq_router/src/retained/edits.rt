@@ -67,7 +67,8 @@ pub(crate) fn store(
 ) -> Result<(), AllocError>
     requires { IsSound tree.old deadlines.old }
     ensures sound { IsSound tree.new deadlines.new }
-    ensures ok { OnOk result (retained_in tree.new ≡ with_row retained_cmp (stored_until deadline (message_of message.now)) (retained_in tree.old)) }
+    ensures ok { OnOk result (retained_in tree.new
+        ≡ with_row retained_cmp (stored_until deadline (message_of message.now)) (retained_in tree.old)) }
     ensures err { OnErr result ((tree.new ≡ tree.old) × SamePairs deadlines.new deadlines.old) }
 {
     let stored = Stored::from_message(alloc, message, deadline)?;
