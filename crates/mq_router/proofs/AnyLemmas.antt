@@ -1,7 +1,8 @@
 -- Whether a subscription with a key is there, after one joined or left: so the lists of clients still list what is there.
-use Rattle.std.proofs.Common.{◌≡◌, Bool, true, false, true≢false, cond, ◌&&◌, ◌||◌, not, List, [], ◌∷◌, map, Option, Some, None, String, if◌then◌else◌, refl, sym, ◌∙◌, ap, subst}
+use Rattle.std.proofs.Common.{◌≡◌, Bool, true, false, true≢false, cond, ◌&&◌, ◌||◌, not, List, [], ◌∷◌, map, Option, Some, None, if◌then◌else◌, refl, sym, ◌∙◌, ap, subst}
 use Rattle.std.specs.List.{filter, list_any, AllByRecursion}
 use Rattle.std.proofs.lemmas.Map.Views.{any-filter_same}
+use Rattle.mq_router.specs.Keys.{Key, key_cmp}
 use Rattle.mq_router.specs.Lists.{Text, same_text}
 use Rattle.mq_router.specs.World.{Subscription, same_share, has_key, same_key}
 use Rattle.mq_router.specs.Turns.{SameInTurn}
@@ -20,8 +21,6 @@ use Rattle.mq_router.proofs.SessionLemmas.{finds}
 use Rattle.mq_router.proofs.Splits.{set_same}
 use Rattle.mq_router.proofs.Texts.{is_text-is, lookup-texts}
 use Rattle.mq_router.proofs.ListedLemmas.{leaves, found_in, list-out, live-out}
-use Rattle.std.specs.declared.alloc.Global.{Global}
-use Rattle.std.specs.String.{string_cmp}
 use Rattle.std.specs.List.Sorted.{IsStrictlySortedBy}
 use Rattle.std.specs.Map.{lookup, set_value, remove_entry, keys_of}
 
@@ -153,7 +152,7 @@ listed-turned x old new lists h kept same = record {
 -- ## A client's session ends
 
 abbrev Held : Type 0
-Held = List (String Global × List OwnKey)
+Held = List (Key × List OwnKey)
 
 any_more : {X : Type 0} (p : X → Bool) (x : X) (xs : List X) → list_any p xs ≡ true → list_any p (x ∷ xs) ≡ true
 any_more p x xs h = elim (p x) as (λ b. (b || list_any p xs) ≡ true) [ true ↦ refl | false ↦ h ]
@@ -204,7 +203,7 @@ others : (a b o : Bool) → a ≡ b → (if a then false else o) ≡ (not b && o
 others true b o e = ap (λ v. not v && o) e
 others false b o e = ap (λ v. not v && o) e
 
-pub listed-gone : (c : Text) (ls : Held) → IsStrictlySortedBy string_cmp (keys_of ls) → (v : List OwnKey) (out : Held) → lookup (finds c) ls ≡ Some v → out ≡ remove_entry (finds c) ls → (old new : AtEntries) → AreListed old (texts ls) → AreKept new → all_rows new ≡ filter (λ s. not (same_text s.client c)) (all_rows old) → AreListed new (texts out)
+pub listed-gone : (c : Text) (ls : Held) → IsStrictlySortedBy key_cmp (keys_of ls) → (v : List OwnKey) (out : Held) → lookup (finds c) ls ≡ Some v → out ≡ remove_entry (finds c) ls → (old new : AtEntries) → AreListed old (texts ls) → AreKept new → all_rows new ≡ filter (λ s. not (same_text s.client c)) (all_rows old) → AreListed new (texts out)
 listed-gone c ls sorted v out found gone old new h kept rows =
     let same : ls ≡ set_value (finds c) ls v = sym (set_same (finds c) ls v found) in
     record {

@@ -1,12 +1,12 @@
 -- The subscriptions at one filter, where one joins, leaves or is served.
-use Rattle.std.proofs.Common.{◌≡◌, Bool, true, false, cond, ◌&&◌, ◌||◌, not, List, [], ◌∷◌, ◌++◌, map, Option, Some, None, is_some, length, suc, IsTrue, ◌↔◌, String, string_bytes, if◌then◌else◌, refl, sym, ◌∙◌, ap, subst, true≢false}
-use Rattle.std.specs.declared.alloc.Global.{Global}
+use Rattle.std.proofs.Common.{◌≡◌, Bool, true, false, cond, ◌&&◌, ◌||◌, not, List, [], ◌∷◌, ◌++◌, map, Option, Some, None, is_some, length, suc, IsTrue, ◌↔◌, if◌then◌else◌, refl, sym, ◌∙◌, ap, subst, true≢false}
+use Rattle.std.specs.Rc.{rc_str_bytes}
 use Rattle.std.specs.Cmp.Lexicographic.{nat_list_eq_equiv, nat_list_cmp_total}
-use Rattle.std.specs.String.{string_cmp}
 use Rattle.std.specs.List.{filter, flat_map, list_any, AllByRecursion}
 use Rattle.std.specs.List.Sorted.{IsStrictlySortedBy}
 use Rattle.std.specs.Map.{lookup, set_value, remove_entry, keys_of}
 use Rattle.std.specs.BTreeMap.{insert_entry}
+use Rattle.mq_router.specs.Keys.{Key, key_cmp}
 use Rattle.mq_router.specs.Lists.{Text, same_text, text_cmp}
 use Rattle.mq_router.specs.World.{Subscription, same_share, has_key, same_key}
 use Rattle.mq_router.specs.Turns.{SameInTurn}
@@ -84,14 +84,14 @@ empty_is [] h = refl
 empty_is (x ∷ xs) h = absurd (true≢false (sym h))
 
 -- a group that is found has a member
-pub found_live : (bs : Text) (es : List (String Global × List Member)) → NoneEmpty (texts es) → (v : List Member) → lookup (finds bs) es ≡ Some v → is_empty v ≡ false
+pub found_live : (bs : Text) (es : List (Key × List Member)) → NoneEmpty (texts es) → (v : List Member) → lookup (finds bs) es ≡ Some v → is_empty v ≡ false
 found_live bs [] live v h = (let no : ◌≡◌ {A = Option (List Member)} None (Some v) = h in cc)
 found_live bs (e ∷ es) live v h =
     let P : Bool → Type 0 = λ b. cond b (Some e.1) (lookup (finds bs) es) ≡ Some v → is_empty v ≡ false in
     (elim (finds bs e.0) as P [ true ↦ λ g. ap is_empty (sym (some_same g)) ∙ live.0 | false ↦ λ g. found_live bs es live.1 v g ]) h
 
-module _ (bs : Text) (es : List (String Global × List Member)) (live : NoneEmpty (texts es)) where
-  module _ (sorted : IsStrictlySortedBy string_cmp (keys_of es)) (v w : List Member) (new : List (String Global × List Member)) (found : lookup (finds bs) es ≡ Some v) (set : new ≡ set_value (finds bs) es w) where
+module _ (bs : Text) (es : List (Key × List Member)) (live : NoneEmpty (texts es)) where
+  module _ (sorted : IsStrictlySortedBy key_cmp (keys_of es)) (v w : List Member) (new : List (Key × List Member)) (found : lookup (finds bs) es ≡ Some v) (set : new ≡ set_value (finds bs) es w) where
     cut : Split (is_text bs) (texts es) v
     cut = split text_cmp (is_text bs) (text-apart bs) (texts es) v (ordered-texts es sorted) (lookup-texts bs es ∙ found)
 
@@ -140,12 +140,12 @@ module _ (bs : Text) (es : List (String Global × List Member)) (live : NoneEmpt
       pub group-left : w ≡ filter (λ m. not (has_client c m)) v → group_rows f (texts new) ≡ filter (λ x. not (has_key c (Some bs) f x)) (group_rows f (texts es))
       group-left h = ap (group_rows f) set_is ∙ cut-left (rows_of f) IsLive (is_text bs) s0 (group_unlike f bs s0 refl) (texts es) live v cut w (left_here h)
 
-      pub group-gone : (out : List (String Global × List Member)) → out ≡ remove_entry (finds bs) new → is_empty w ≡ true → w ≡ filter (λ m. not (has_client c m)) v → group_rows f (texts out) ≡ filter (λ x. not (has_key c (Some bs) f x)) (group_rows f (texts es))
+      pub group-gone : (out : List (Key × List Member)) → out ≡ remove_entry (finds bs) new → is_empty w ≡ true → w ≡ filter (λ m. not (has_client c m)) v → group_rows f (texts out) ≡ filter (λ x. not (has_key c (Some bs) f x)) (group_rows f (texts es))
       group-gone out o e h =
           ap (λ l. group_rows f (texts l)) o ∙ ap (group_rows f) (remove_entry-texts bs new) ∙ ap (λ l. group_rows f (remove_entry (is_text bs) l)) set_is
           ∙ cut-out (rows_of f) IsLive (is_text bs) s0 (group_unlike f bs s0 refl) (texts es) live v cut w (ap (map (row (Some cut.key) f)) (empty_is w e)) (left_here h)
 
-    pub gone-live : (out : List (String Global × List Member)) → out ≡ remove_entry (finds bs) new → NoneEmpty (texts out)
+    pub gone-live : (out : List (Key × List Member)) → out ≡ remove_entry (finds bs) new → NoneEmpty (texts out)
     gone-live out o =
         subst (λ (l : List (Text × List Member)). NoneEmpty l) (sym (ap texts o ∙ remove_entry-texts bs new ∙ ap (remove_entry (is_text bs)) set_is))
         (live-out (rows_of []) IsLive (is_text bs) (record { client = []; share = Some bs; filter = []; options = nothing }) (group_unlike [] bs (record { client = []; share = Some bs; filter = []; options = nothing }) refl) (texts es) live v cut w)
@@ -165,7 +165,7 @@ module _ (bs : Text) (es : List (String Global × List Member)) (live : NoneEmpt
       let s : Subscription = record { client = c; share = Some bs; filter = f; options = nothing } in
       absent-turned (rows_of f) IsLive (is_text bs) s (group_unlike f bs s refl) (texts es) live (none_passes (is_text bs) (texts es) (lookup-texts bs es ∙ none))
 
-  module _ (name : String Global) (named : string_bytes name ≡ bs) (none : lookup (is_text bs) (texts es) ≡ None) (one : List Member) (new : List (String Global × List Member)) (put : new ≡ insert_entry string_cmp es name one) where
+  module _ (name : Key) (named : rc_str_bytes name ≡ bs) (none : lookup (is_text bs) (texts es) ≡ None) (one : List Member) (new : List (Key × List Member)) (put : new ≡ insert_entry key_cmp es name one) where
     gap : Put text_cmp bs (texts es)
     gap = put_gap text_cmp bs (texts es) none
 
@@ -202,7 +202,7 @@ rows-flat f (m ∷ ms) = ap (λ l. row None f m ∷ l) (rows-flat f ms)
 own_unlike : (f bs : Text) (s : Subscription) → s.share ≡ None → s.client ≡ bs → (m : Member) → Any m → is_text bs m.0 ≡ false → AllByRecursion (Unlike s) (one_row f m)
 own_unlike f bs s own client m live h = (unlike-own s (row None f m) own (ap (same_text m.0) client ∙ other_text bs m.0 h), tt)
 
-module _ (f bs : Text) (o : held.Options) (es : List (String Global × held.Options)) (sorted : IsStrictlySortedBy string_cmp (keys_of es)) where
+module _ (f bs : Text) (o : held.Options) (es : List (Key × held.Options)) (sorted : IsStrictlySortedBy key_cmp (keys_of es)) where
   abbrev mine : Subscription
   mine = row None f (bs, o)
 
@@ -224,7 +224,7 @@ module _ (f bs : Text) (o : held.Options) (es : List (String Global × held.Opti
   added : lookup (is_text bs) (texts es) ≡ None → SameInTurn (flat_map (one_row f) (insert_entry text_cmp (texts es) bs o)) (joined mine (flat_map (one_row f) (texts es)))
   added none = put-joined (one_row f) Any text_cmp bs mine (own_unlike f bs mine refl refl) (texts es) (all_any (texts es)) (put_gap text_cmp bs (texts es) none) o (same-itself (mine ∷ []))
 
-  pub direct-joined : (name : String Global) (new : List (String Global × held.Options)) → string_bytes name ≡ bs → new ≡ insert_entry string_cmp es name o → SameInTurn (direct_rows f (texts new)) (joined mine (direct_rows f (texts es)))
+  pub direct-joined : (name : Key) (new : List (Key × held.Options)) → rc_str_bytes name ≡ bs → new ≡ insert_entry key_cmp es name o → SameInTurn (direct_rows f (texts new)) (joined mine (direct_rows f (texts es)))
   direct-joined name new named put =
       let put_is : texts new ≡ insert_entry text_cmp (texts es) bs o = ap texts put ∙ insert_entry-texts es name o ∙ ap (λ k. insert_entry text_cmp (texts es) k o) named in
       let P : Option held.Options → Type 0 = λ r. lookup (is_text bs) (texts es) ≡ r → SameInTurn (flat_map (one_row f) (insert_entry text_cmp (texts es) bs o)) (joined mine (flat_map (one_row f) (texts es))) in
@@ -232,10 +232,10 @@ module _ (f bs : Text) (o : held.Options) (es : List (String Global × held.Opti
       subst (λ (l : List Subscription). SameInTurn l (joined mine (direct_rows f (texts es)))) (sym (ap (direct_rows f) put_is ∙ rows-flat f (insert_entry text_cmp (texts es) bs o)))
       (subst (λ (l : List Subscription). SameInTurn (flat_map (one_row f) (insert_entry text_cmp (texts es) bs o)) (joined mine l)) (sym (rows-flat f (texts es))) flat)
 
-pub direct-left : (f bs : Text) (es new : List (String Global × held.Options)) → IsStrictlySortedBy string_cmp (keys_of es) → new ≡ remove_entry (finds bs) es → direct_rows f (texts new) ≡ filter (λ x. not (has_key bs None f x)) (direct_rows f (texts es))
+pub direct-left : (f bs : Text) (es new : List (Key × held.Options)) → IsStrictlySortedBy key_cmp (keys_of es) → new ≡ remove_entry (finds bs) es → direct_rows f (texts new) ≡ filter (λ x. not (has_key bs None f x)) (direct_rows f (texts es))
 direct-left f bs es new sorted out =
-    ap (λ l. direct_rows f (texts l)) (out ∙ map_remove_entry-filter string_cmp (finds bs) (apart bs) es sorted ∙ filter-same (λ e. not (finds bs e.0)) (λ e. not (has_key bs None f (row None f (string_bytes e.0, e.1)))) (λ e. ap not (finds-is bs e.0 ∙ sym (own_key None f bs (string_bytes e.0, e.1)))) es)
-    ∙ ap (direct_rows f) (map-filter (λ (e : String Global × held.Options). (string_bytes e.0, e.1)) (λ m. not (has_key bs None f (row None f m))) es)
+    ap (λ l. direct_rows f (texts l)) (out ∙ map_remove_entry-filter key_cmp (finds bs) (apart bs) es sorted ∙ filter-same (λ e. not (finds bs e.0)) (λ e. not (has_key bs None f (row None f (rc_str_bytes e.0, e.1)))) (λ e. ap not (finds-is bs e.0 ∙ sym (own_key None f bs (rc_str_bytes e.0, e.1)))) es)
+    ∙ ap (direct_rows f) (map-filter (λ (e : Key × held.Options). (rc_str_bytes e.0, e.1)) (λ m. not (has_key bs None f (row None f m))) es)
     ∙ map-filter (row None f) (λ x. not (has_key bs None f x)) (texts es)
 
 -- ## Both
@@ -296,11 +296,11 @@ here-is f d gs = all_append (λ s. s.filter ≡ f) (direct_rows f d) (group_rows
     of_groups [] = tt
     of_groups (g ∷ hs) = all_append (λ s. s.filter ≡ f) (rows_of f g) (group_rows f hs) (of (Some g.0) g.1) (of_groups hs)
 
-pub direct-any : (f bs : Text) (es : List (String Global × held.Options)) → is_some (lookup (finds bs) es) ≡ list_any (has_key bs None f) (direct_rows f (texts es))
+pub direct-any : (f bs : Text) (es : List (Key × held.Options)) → is_some (lookup (finds bs) es) ≡ list_any (has_key bs None f) (direct_rows f (texts es))
 direct-any f bs es =
     is_some-lookup (finds bs) es
-    ∙ list_any-same (λ e. finds bs e.0) (λ e. has_key bs None f (row None f (string_bytes e.0, e.1))) (λ e. finds-is bs e.0 ∙ sym (own_key None f bs (string_bytes e.0, e.1))) es
-    ∙ sym (list_any-map (λ (e : String Global × held.Options). (string_bytes e.0, e.1)) (λ m. has_key bs None f (row None f m)) es)
+    ∙ list_any-same (λ e. finds bs e.0) (λ e. has_key bs None f (row None f (rc_str_bytes e.0, e.1))) (λ e. finds-is bs e.0 ∙ sym (own_key None f bs (rc_str_bytes e.0, e.1))) es
+    ∙ sym (list_any-map (λ (e : Key × held.Options). (rc_str_bytes e.0, e.1)) (λ m. has_key bs None f (row None f m)) es)
     ∙ sym (list_any-map (row None f) (has_key bs None f) (texts es))
 
 pub at-any-own : (f c : Text) (d : List Member) (gs : List (Text × List Member)) → list_any (has_key c None f) (direct_rows f d) ≡ list_any (has_key c None f) (direct_rows f d ++ group_rows f gs)
@@ -320,7 +320,7 @@ at-any-shared f c share d gs =
     ∙ ap (λ b. b || list_any (same_key s) (group_rows f gs)) (any-none (same_key s) (direct_rows f d) (none_same s _ (all_own f s share refl d))))
 
 -- nothing is here where both maps are empty
-pub bare-is : (f : Text) (d : List (String Global × held.Options)) (gs : List (String Global × List Member)) → NoneEmpty (texts gs) → (b : Bool) → (IsTrue b ↔ (length gs ≡ 0)) → length d ≡ 0 → b ≡ is_empty (direct_rows f (texts d) ++ group_rows f (texts gs))
+pub bare-is : (f : Text) (d : List (Key × held.Options)) (gs : List (Key × List Member)) → NoneEmpty (texts gs) → (b : Bool) → (IsTrue b ↔ (length gs ≡ 0)) → length d ≡ 0 → b ≡ is_empty (direct_rows f (texts d) ++ group_rows f (texts gs))
 bare-is f [] [] live b h e = h.1 refl
 bare-is f [] ((k, m ∷ ms) ∷ gs) live b h e = false_from b (λ t. (let no : suc (length gs) ≡ 0 = h.0 t in cc))
   where
@@ -330,6 +330,6 @@ bare-is f [] ((k, m ∷ ms) ∷ gs) live b h e = false_from b (λ t. (let no : s
 bare-is f [] ((k, []) ∷ gs) live b h e = absurd (true≢false live.0)
 bare-is f (m ∷ d) gs live b h e = absurd (let no : suc (length d) ≡ 0 = e in cc)
 
-pub not_bare : (f : Text) (d : List (String Global × held.Options)) (gs : List (Text × List Member)) → (length d ≡ 0 → ⊥) → false ≡ is_empty (direct_rows f (texts d) ++ group_rows f gs)
+pub not_bare : (f : Text) (d : List (Key × held.Options)) (gs : List (Text × List Member)) → (length d ≡ 0 → ⊥) → false ≡ is_empty (direct_rows f (texts d) ++ group_rows f gs)
 not_bare f [] gs h = absurd (h refl)
 not_bare f (m ∷ d) gs h = refl

@@ -2,6 +2,7 @@
 use Rattle.std.proofs.Common.{◌≡◌, ℕ, ◌+◌, ◌<◌, Bool, true, false, cond, not, is_none, ◌&&◌, ◌||◌, List, [], ◌∷◌, ◌++◌, map, length, take, get_or, append_assoc, if◌then◌else◌, Option, Some, None, refl, sym, ◌∙◌, ap, subst, arith}
 use Rattle.std.specs.declared.cmp.Ordering.TheVariants.{Less}
 use Rattle.std.specs.Ordering.{is_eq}
+use Rattle.std.specs.Rc.{rc_str_bytes}
 use Rattle.std.specs.Cmp.Lexicographic.{nat_list_cmp_total}
 use Rattle.std.specs.List.{filter, cons_option, list_any, AllByRecursion, IsChunkByPrefix}
 use Rattle.std.specs.List.Sorted.{IsSortedBy, IsStableBy, IsStrictlySortedBy}
@@ -43,15 +44,15 @@ use Rattle.mq_router.proofs.AscendingLemmas.{lt, same, ascending-sorted, first-r
 
 -- ## Sorted by client
 
-pub sorted-matches : (ms : List Match) → IsSortedBy (lt (λ (x : Match). x.client.now)) ms → AreByClient (matched ms)
-sorted-matches ms s = subst AreAscending (sym (map-map (λ (x : Text × Options). x.0) (λ (x : Match). (x.client.now, options_of x.options)) ms)) (ascending-sorted (λ (x : Match). x.client.now) ms s)
+pub sorted-matches : (ms : List Match) → IsSortedBy (lt (λ (x : Match). rc_str_bytes x.client.now)) ms → AreByClient (matched ms)
+sorted-matches ms s = subst AreAscending (sym (map-map (λ (x : Text × Options). x.0) (λ (x : Match). (rc_str_bytes x.client.now, options_of x.options)) ms)) (ascending-sorted (λ (x : Match). rc_str_bytes x.client.now) ms s)
 
-pub stable-matches : (xs ys : List Match) → IsStableBy (lt (λ (x : Match). x.client.now)) xs ys → (id : Text) → options_among id (matched ys) ≡ options_among id (matched xs)
+pub stable-matches : (xs ys : List Match) → IsStableBy (lt (λ (x : Match). rc_str_bytes x.client.now)) xs ys → (id : Text) → options_among id (matched ys) ≡ options_among id (matched xs)
 stable-matches xs ys stable id =
-    let pair : Match → Text × Options = λ x. (x.client.now, options_of x.options) in
+    let pair : Match → Text × Options = λ x. (rc_str_bytes x.client.now, options_of x.options) in
     ap (map (λ (x : Text × Options). x.1))
     (sym (map-filter pair (λ x. same_text x.0 id) ys)
-    ∙ ap (map pair) (stable-kept (λ (x : Match). x.client.now) xs ys stable id)
+    ∙ ap (map pair) (stable-kept (λ (x : Match). rc_str_bytes x.client.now) xs ys stable id)
     ∙ map-filter pair (λ x. same_text x.0 id) xs)
 
 -- ## By client
@@ -214,30 +215,30 @@ summary-more xs i d old new h start sum =
     sum ∙ ap (λ s. together s (summary_of (o ∷ []))) start ∙ sym (summary_of-append before (o ∷ [])) ∙ ap summary_of more
 
 -- the subscriptions of the first client, in order: what they come to, and the others
-pub next-client : {F : Type 0} (g : Mut F (Bor Match × (Bor Match × Unit {0})) Bool) (s t : ChunkBy Match F) (r : Option (Bor (List Match))) (own : Bor (List Match)) (d : Match) → r ≡ Some own → chunk_by_steps g s r t → ComputesOnPairs g (same (λ (x : Match). x.client.now)) (chunk_by_callee s) → AreByClient (matched (chunk_by_rest s))
-    → AreByClient (matched (chunk_by_rest t)) × (by_client (matched (chunk_by_rest s)) ≡ ((get_or own.now 0 d).client.now, summary_of (map (λ x. options_of x.options) own.now)) ∷ by_client (matched (chunk_by_rest t)))
+pub next-client : {F : Type 0} (g : Mut F (Bor Match × (Bor Match × Unit {0})) Bool) (s t : ChunkBy Match F) (r : Option (Bor (List Match))) (own : Bor (List Match)) (d : Match) → r ≡ Some own → chunk_by_steps g s r t → ComputesOnPairs g (same (λ (x : Match). rc_str_bytes x.client.now)) (chunk_by_callee s) → AreByClient (matched (chunk_by_rest s))
+    → AreByClient (matched (chunk_by_rest t)) × (by_client (matched (chunk_by_rest s)) ≡ (rc_str_bytes (get_or own.now 0 d).client.now, summary_of (map (λ x. options_of x.options) own.now)) ∷ by_client (matched (chunk_by_rest t)))
 next-client g s t r own d is steps computes up =
     let step = subst (λ (o : Option (Bor (List Match))). chunk_by_steps g s o t) is steps in
-    cut own.now (chunk_by_rest t) (chunk_by_rest s) step.0 step.1 (step.2 (same (λ (x : Match). x.client.now)) computes).1 up
+    cut own.now (chunk_by_rest t) (chunk_by_rest s) step.0 step.1 (step.2 (same (λ (x : Match). rc_str_bytes x.client.now)) computes).1 up
   where
     pair : Match → Text × Options
-    pair x = (x.client.now, options_of x.options)
+    pair x = (rc_str_bytes x.client.now, options_of x.options)
 
-    clients : (xs : List Match) → clients_of (matched xs) ≡ map (λ x. x.client.now) xs
+    clients : (xs : List Match) → clients_of (matched xs) ≡ map (λ x. rc_str_bytes x.client.now) xs
     clients xs = map-map (λ (x : Text × Options). x.0) pair xs
 
     behind : (xs ys : List Text) → AreAscending (xs ++ ys) → AreAscending ys
     behind [] ys h = h
     behind (x ∷ xs) ys h = behind xs ys h.1
 
-    cut : (own rest all : List Match) → all ≡ own ++ rest → 0 < length own → IsChunkByPrefix (same (λ (x : Match). x.client.now)) all (length own) → AreByClient (matched all)
-        → AreByClient (matched rest) × (by_client (matched all) ≡ ((get_or own 0 d).client.now, summary_of (map (λ x. options_of x.options) own)) ∷ by_client (matched rest))
+    cut : (own rest all : List Match) → all ≡ own ++ rest → 0 < length own → IsChunkByPrefix (same (λ (x : Match). rc_str_bytes x.client.now)) all (length own) → AreByClient (matched all)
+        → AreByClient (matched rest) × (by_client (matched all) ≡ (rc_str_bytes (get_or own 0 d).client.now, summary_of (map (λ x. options_of x.options) own)) ∷ by_client (matched rest))
     cut [] rest all e p prefix up = absurd (omega arith)
     cut (x ∷ own) rest all e p prefix up =
-        let c : Text = x.client.now in
-        let up_keys : AreAscending (map (λ (x : Match). x.client.now) (x ∷ own ++ rest)) = subst AreAscending (clients all ∙ ap (map (λ (x : Match). x.client.now)) e) up in
-        let parts = first-run (λ (x : Match). x.client.now) x own rest (subst (λ (l : List Match). IsChunkByPrefix (same (λ (x : Match). x.client.now)) l (length (x ∷ own))) e prefix) up_keys in (
-          subst AreAscending (sym (clients rest)) (behind (map (λ (x : Match). x.client.now) (x ∷ own)) (map (λ (x : Match). x.client.now) rest) (subst AreAscending (map-append (λ (x : Match). x.client.now) (x ∷ own) rest) up_keys)),
+        let c : Text = rc_str_bytes x.client.now in
+        let up_keys : AreAscending (map (λ (x : Match). rc_str_bytes x.client.now) (x ∷ own ++ rest)) = subst AreAscending (clients all ∙ ap (map (λ (x : Match). rc_str_bytes x.client.now)) e) up in
+        let parts = first-run (λ (x : Match). rc_str_bytes x.client.now) x own rest (subst (λ (l : List Match). IsChunkByPrefix (same (λ (x : Match). rc_str_bytes x.client.now)) l (length (x ∷ own))) e prefix) up_keys in (
+          subst AreAscending (sym (clients rest)) (behind (map (λ (x : Match). rc_str_bytes x.client.now) (x ∷ own)) (map (λ (x : Match). rc_str_bytes x.client.now) rest) (subst AreAscending (map-append (λ (x : Match). rc_str_bytes x.client.now) (x ∷ own) rest) up_keys)),
           ap (λ l. by_client (matched l)) e
               ∙ ap by_client (map-append pair (x ∷ own) rest)
               ∙ first-client c (pair x) (matched own) (matched rest)

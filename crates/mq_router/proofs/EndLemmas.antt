@@ -1,8 +1,8 @@
 -- Sessions that end, and their subscriptions, taken out one client after the other.
-use Rattle.std.proofs.Common.{◌≡◌, ℕ, Bool, true, false, true≢false, ◌&&◌, ◌||◌, cond, not, List, [], ◌∷◌, map, Option, String, if◌then◌else◌, refl, sym, ◌∙◌, ap}
-use Rattle.std.specs.declared.alloc.Global.{Global}
+use Rattle.std.proofs.Common.{◌≡◌, ℕ, Bool, true, false, true≢false, ◌&&◌, ◌||◌, cond, not, List, [], ◌∷◌, map, Option, if◌then◌else◌, refl, sym, ◌∙◌, ap}
 use Rattle.std.specs.List.{filter, list_any, AllByRecursion}
 use Rattle.std.specs.Map.{set_value}
+use Rattle.mq_router.specs.Keys.{Key}
 use Rattle.mq_router.specs.Lists.{same_text}
 use Rattle.mq_router.specs.World.{Session, Subscription, has_id}
 use Rattle.mq_router.specs.Clock.{is_over}
@@ -53,7 +53,7 @@ all-last moment first sessions rows h e =
 
 -- ## Edits
 
-pub ends-set : (first : Option ℕ) (test : String Global → Bool) (v : held.Session) (es : List (String Global × held.Session)) → EndsFrom first (shown v) → AllEndFrom first (map session_in es) → AllEndFrom first (map session_in (set_value test es v))
+pub ends-set : (first : Option ℕ) (test : Key → Bool) (v : held.Session) (es : List (Key × held.Session)) → EndsFrom first (shown v) → AllEndFrom first (map session_in es) → AllEndFrom first (map session_in (set_value test es v))
 ends-set first test v [] here h = tt
 ends-set first test v (e ∷ es) here h =
     elim (test e.0) as (λ b. AllEndFrom first (map session_in (cond b ((e.0, v) ∷ es) (e ∷ set_value test es v)))) [

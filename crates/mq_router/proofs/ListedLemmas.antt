@@ -1,12 +1,12 @@
 -- What each client has, listed beside the tree.
-use Rattle.std.proofs.Common.{◌≡◌, Bool, true, false, true≢false, cond, ◌&&◌, ◌||◌, not, List, [], ◌∷◌, ◌++◌, Option, Some, None, String, string_bytes, if◌then◌else◌, refl, sym, ◌∙◌, ap, subst}
-use Rattle.std.specs.declared.alloc.Global.{Global}
-use Rattle.std.specs.String.{string_cmp}
+use Rattle.std.proofs.Common.{◌≡◌, Bool, true, false, true≢false, cond, ◌&&◌, ◌||◌, not, List, [], ◌∷◌, ◌++◌, Option, Some, None, if◌then◌else◌, refl, sym, ◌∙◌, ap, subst}
+use Rattle.std.specs.Rc.{rc_str_bytes}
 use Rattle.std.specs.Option.{option_map_or}
 use Rattle.std.specs.List.{filter, AllByRecursion}
 use Rattle.std.specs.List.Sorted.{IsStrictlySortedBy}
 use Rattle.std.specs.Map.{lookup, set_value, remove_entry, keys_of}
 use Rattle.std.specs.BTreeMap.{insert_entry}
+use Rattle.mq_router.specs.Keys.{Key, key_cmp}
 use Rattle.mq_router.specs.Lists.{Text, same_text, text_cmp}
 use Rattle.mq_router.specs.World.{Subscription, same_share, has_key}
 use Rattle.mq_router.specs.Kept.{OwnKey, is_text, is_own, is_in_list, is_listed, is_empty}
@@ -63,11 +63,11 @@ none_found : {X : Type 0} (test : Text → Bool) (es : List (Text × X)) → All
 none_found test [] h = refl
 none_found test (e ∷ es) h = ap (λ b. cond b (Some e.1) (lookup test es)) h.0 ∙ none_found test es h.1
 
-module _ (bs : Text) (ls : List (String Global × List OwnKey)) where
+module _ (bs : Text) (ls : List (Key × List OwnKey)) where
   abbrev mine : Subscription → Bool
   mine s = is_text s.client bs
 
-  module _ (sorted : IsStrictlySortedBy string_cmp (keys_of ls)) (v w : List OwnKey) (new : List (String Global × List OwnKey)) (found : lookup (finds bs) ls ≡ Some v) (set : new ≡ set_value (finds bs) ls w) where
+  module _ (sorted : IsStrictlySortedBy key_cmp (keys_of ls)) (v w : List OwnKey) (new : List (Key × List OwnKey)) (found : lookup (finds bs) ls ≡ Some v) (set : new ≡ set_value (finds bs) ls w) where
     cut : Split (is_text bs) (texts ls) v
     cut = split text_cmp (is_text bs) (text-apart bs) (texts ls) v (ordered-texts ls sorted) (lookup-texts bs ls ∙ found)
 
@@ -96,7 +96,7 @@ module _ (bs : Text) (ls : List (String Global × List OwnKey)) where
         (λ f. ap (found_in s) (lookup-front (is_text s.client) cut.front cut.back cut.key w v (ap (is_text s.client) key ∙ f)) ∙ sym (ap (λ l. found_in s (lookup (is_text s.client) l)) cut.is)
         ∙ sym (ap (λ b. if b then is_in_list w s else is_listed (texts ls) s) f))
 
-    pub list-out : (out : List (String Global × List OwnKey)) → out ≡ remove_entry (finds bs) new → (s : Subscription) → is_listed (texts out) s ≡ (if mine s then false else is_listed (texts ls) s)
+    pub list-out : (out : List (Key × List OwnKey)) → out ≡ remove_entry (finds bs) new → (s : Subscription) → is_listed (texts out) s ≡ (if mine s then false else is_listed (texts ls) s)
     list-out out gone s =
         ap (λ l. found_in s (lookup (is_text s.client) l)) (ap texts (gone ∙ ap (remove_entry (finds bs)) set) ∙ remove_entry-texts bs (set_value (finds bs) ls w) ∙ ap (remove_entry (is_text bs)) (set_value-texts bs ls w) ∙ cut.out w)
         ∙ pick (mine s)
@@ -107,7 +107,7 @@ module _ (bs : Text) (ls : List (String Global × List OwnKey)) where
         (λ f. ap (found_in s) (sym (lookup-more (is_text s.client) cut.front cut.back cut.key v (ap (is_text s.client) key ∙ f))) ∙ sym (ap (λ l. found_in s (lookup (is_text s.client) l)) cut.is)
         ∙ sym (ap (λ b. if b then false else is_listed (texts ls) s) f))
 
-  module _ (name : String Global) (named : string_bytes name ≡ bs) (none : lookup (is_text bs) (texts ls) ≡ None) (w : List OwnKey) (new : List (String Global × List OwnKey)) (put : new ≡ insert_entry string_cmp ls name w) where
+  module _ (name : Key) (named : rc_str_bytes name ≡ bs) (none : lookup (is_text bs) (texts ls) ≡ None) (w : List OwnKey) (new : List (Key × List OwnKey)) (put : new ≡ insert_entry key_cmp ls name w) where
     gap : Put text_cmp bs (texts ls)
     gap = put_gap text_cmp bs (texts ls) none
 
@@ -147,7 +147,7 @@ Adds bs k old new = (s : Subscription) → is_listed new s ≡ (has_key bs k.0 k
 abbrev Drops : Text → OwnKey → Lists → Lists → Type 0
 Drops bs k old new = (s : Subscription) → is_listed new s ≡ (not (has_key bs k.0 k.1 s) && is_listed old s)
 
-module _ (bs : Text) (k : OwnKey) (ls : List (String Global × List OwnKey)) (sorted : IsStrictlySortedBy string_cmp (keys_of ls)) (v w : List OwnKey) (new : List (String Global × List OwnKey)) (found : lookup (finds bs) ls ≡ Some v) (set : new ≡ set_value (finds bs) ls w) where
+module _ (bs : Text) (k : OwnKey) (ls : List (Key × List OwnKey)) (sorted : IsStrictlySortedBy key_cmp (keys_of ls)) (v w : List OwnKey) (new : List (Key × List OwnKey)) (found : lookup (finds bs) ls ≡ Some v) (set : new ≡ set_value (finds bs) ls w) where
   pub added-there : ((s : Subscription) → is_in_list w s ≡ (is_own s k || is_in_list v s)) → Adds bs k (texts ls) (texts new)
   added-there adds s =
       list-set bs ls sorted v w new found set s
@@ -162,7 +162,7 @@ module _ (bs : Text) (k : OwnKey) (ls : List (String Global × List OwnKey)) (so
       ∙ drop_case (is_text s.client bs) (is_own s k) (is_in_list v s) (is_listed (texts ls) s) (list-had bs ls sorted v w new found set s)
       ∙ ap (λ b. not b && is_listed (texts ls) s) (key_by bs k s)
 
-  pub dropped-last : (out : List (String Global × List OwnKey)) → out ≡ remove_entry (finds bs) new → is_empty w ≡ true → ((s : Subscription) → is_in_list w s ≡ (not (is_own s k) && is_in_list v s)) → Drops bs k (texts ls) (texts out)
+  pub dropped-last : (out : List (Key × List OwnKey)) → out ≡ remove_entry (finds bs) new → is_empty w ≡ true → ((s : Subscription) → is_in_list w s ≡ (not (is_own s k) && is_in_list v s)) → Drops bs k (texts ls) (texts out)
   dropped-last out gone bare drops s =
       list-out bs ls sorted v w new found set out gone s
       ∙ ap (λ b. if is_text s.client bs then b else is_listed (texts ls) s) (nothing_in w bare ∙ drops s)
@@ -173,7 +173,7 @@ module _ (bs : Text) (k : OwnKey) (ls : List (String Global × List OwnKey)) (so
       nothing_in [] h = refl
       nothing_in (x ∷ l) h = absurd (true≢false (sym h))
 
-pub added-first : (bs : Text) (k : OwnKey) (ls : List (String Global × List OwnKey)) (name : String Global) → string_bytes name ≡ bs → lookup (is_text bs) (texts ls) ≡ None → (w : List OwnKey) (new : List (String Global × List OwnKey)) → new ≡ insert_entry string_cmp ls name w → ((s : Subscription) → is_in_list w s ≡ (is_own s k || false)) → Adds bs k (texts ls) (texts new)
+pub added-first : (bs : Text) (k : OwnKey) (ls : List (Key × List OwnKey)) (name : Key) → rc_str_bytes name ≡ bs → lookup (is_text bs) (texts ls) ≡ None → (w : List OwnKey) (new : List (Key × List OwnKey)) → new ≡ insert_entry key_cmp ls name w → ((s : Subscription) → is_in_list w s ≡ (is_own s k || false)) → Adds bs k (texts ls) (texts new)
 added-first bs k ls name named none w new put adds s =
     list-begun bs ls name named none w new put s
     ∙ ap (λ b. if is_text s.client bs then b else is_listed (texts ls) s) (adds s)
@@ -181,7 +181,7 @@ added-first bs k ls name named none w new put adds s =
     ∙ ap (λ b. b || is_listed (texts ls) s) (key_by bs k s)
 
 -- where the client has nothing, it has no such key
-pub dropped-absent : (bs : Text) (k : OwnKey) (ls : List (String Global × List OwnKey)) → lookup (finds bs) ls ≡ None → Drops bs k (texts ls) (texts ls)
+pub dropped-absent : (bs : Text) (k : OwnKey) (ls : List (Key × List OwnKey)) → lookup (finds bs) ls ≡ None → Drops bs k (texts ls) (texts ls)
 dropped-absent bs k ls none s =
     pick (has_key bs k.0 k.1 s)
     (λ t. (let client : s.client ≡ bs = same_text-is s.client bs (left_true _ _ (left_true (same_text s.client bs && same_share s.share k.0) (same_text s.filter k.1) t)) in
@@ -224,13 +224,13 @@ insert-live bs (e ∷ es) w h a =
       | Greater ↦ (a.0, insert-live bs es w h a.1)
     ]
 
-pub live-set : (bs : Text) (ls : List (String Global × List OwnKey)) (w : List OwnKey) (new : List (String Global × List OwnKey)) → new ≡ set_value (finds bs) ls w → is_empty w ≡ false → AreLive (texts ls) → AreLive (texts new)
+pub live-set : (bs : Text) (ls : List (Key × List OwnKey)) (w : List OwnKey) (new : List (Key × List OwnKey)) → new ≡ set_value (finds bs) ls w → is_empty w ≡ false → AreLive (texts ls) → AreLive (texts new)
 live-set bs ls w new set h a = subst (λ (l : Lists). AreLive l) (sym (ap texts set ∙ set_value-texts bs ls w)) (set-live (is_text bs) (texts ls) w h a)
 
-pub live-out : (bs : Text) (ls : List (String Global × List OwnKey)) (w : List OwnKey) (new out : List (String Global × List OwnKey)) → new ≡ set_value (finds bs) ls w → out ≡ remove_entry (finds bs) new → AreLive (texts ls) → AreLive (texts out)
+pub live-out : (bs : Text) (ls : List (Key × List OwnKey)) (w : List OwnKey) (new out : List (Key × List OwnKey)) → new ≡ set_value (finds bs) ls w → out ≡ remove_entry (finds bs) new → AreLive (texts ls) → AreLive (texts out)
 live-out bs ls w new out set gone a =
     subst (λ (l : Lists). AreLive l) (sym (ap texts (gone ∙ ap (remove_entry (finds bs)) set) ∙ remove_entry-texts bs (set_value (finds bs) ls w) ∙ ap (remove_entry (is_text bs)) (set_value-texts bs ls w)))
     (out-live (is_text bs) (texts ls) w a)
 
-pub live-begun : (ls : List (String Global × List OwnKey)) (name : String Global) (w : List OwnKey) (new : List (String Global × List OwnKey)) → new ≡ insert_entry string_cmp ls name w → is_empty w ≡ false → AreLive (texts ls) → AreLive (texts new)
-live-begun ls name w new put h a = subst (λ (l : Lists). AreLive l) (sym (ap texts put ∙ insert_entry-texts ls name w)) (insert-live (string_bytes name) (texts ls) w h a)
+pub live-begun : (ls : List (Key × List OwnKey)) (name : Key) (w : List OwnKey) (new : List (Key × List OwnKey)) → new ≡ insert_entry key_cmp ls name w → is_empty w ≡ false → AreLive (texts ls) → AreLive (texts new)
+live-begun ls name w new put h a = subst (λ (l : Lists). AreLive l) (sym (ap texts put ∙ insert_entry-texts ls name w)) (insert-live (rc_str_bytes name) (texts ls) w h a)

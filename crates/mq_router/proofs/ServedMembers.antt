@@ -1,5 +1,6 @@
 -- The members that are served, as they are gathered by share name.
-use Rattle.std.proofs.Common.{◌≡◌, Bool, true, false, true≢false, cond, not, ◌&&◌, ◌||◌, List, [], ◌∷◌, ◌++◌, map, Option, Some, None, is_some, string_bytes, refl, sym, ◌∙◌, ap}
+use Rattle.std.proofs.Common.{◌≡◌, Bool, true, false, true≢false, cond, not, ◌&&◌, ◌||◌, List, [], ◌∷◌, ◌++◌, map, Option, Some, None, is_some, refl, sym, ◌∙◌, ap}
+use Rattle.std.specs.Rc.{rc_str_bytes}
 use Rattle.std.specs.declared.cmp.Ordering.TheVariants.{Less}
 use Rattle.std.specs.Ordering.{is_eq, ordering_then}
 use Rattle.std.specs.Cmp.{tied_itself}
@@ -144,11 +145,11 @@ some_member p q xs h = any-told (filter q xs) refl
     any-told [] e = absurd (true≢false (sym (sym (ap (λ l. is_some (find p l)) e) ∙ h)))
     any-told (y ∷ l) e = told q xs ∙ ap (λ l. not (is_empty l)) e
 
-turns_of_each : (turns : List Turn) (T : Text → List Subscription) → ((share : Text) → turns_listed share turns ≡ T share) → (shares : List Text) → map turn_of (flat_map (λ share. filter (λ t. same_text (string_bytes t.share) share) turns) shares) ≡ flat_map T shares
+turns_of_each : (turns : List Turn) (T : Text → List Subscription) → ((share : Text) → turns_listed share turns ≡ T share) → (shares : List Text) → map turn_of (flat_map (λ share. filter (λ t. same_text (rc_str_bytes t.share) share) turns) shares) ≡ flat_map T shares
 turns_of_each turns T h [] = refl
 turns_of_each turns T h (share ∷ shares) =
-    map-append turn_of (filter (λ t. same_text (string_bytes t.share) share) turns) (flat_map (λ share. filter (λ t. same_text (string_bytes t.share) share) turns) shares)
-    ∙ ap (λ xs. xs ++ map turn_of (flat_map (λ share. filter (λ t. same_text (string_bytes t.share) share) turns) shares)) (h share) ∙ ap (λ xs. T share ++ xs) (turns_of_each turns T h shares)
+    map-append turn_of (filter (λ t. same_text (rc_str_bytes t.share) share) turns) (flat_map (λ share. filter (λ t. same_text (rc_str_bytes t.share) share) turns) shares)
+    ∙ ap (λ xs. xs ++ map turn_of (flat_map (λ share. filter (λ t. same_text (rc_str_bytes t.share) share) turns) shares)) (h share) ∙ ap (λ xs. T share ++ xs) (turns_of_each turns T h shares)
 
 module _ (may : Subscription → Bool) where
   abbrev next_of : List Subscription → Group → Option Subscription
@@ -196,7 +197,7 @@ served-members access sessions m found served at up listed =
     let sorted : IsStrictlySortedBy text_cmp shares = sorted-in_order text_cmp nat_list_cmp_total (shares_of served) in
     let T : Text → List Subscription = λ share. turns_at access sessions m.topic share found in
     let turns : (share : Text) → T share ≡ filter_map h (pairs found share) = λ share. turns_pairs may share found at.ordered at.here in
-    ap (map turn_of) (sym (by_each_key (λ (t : Turn). string_bytes t.share) served up))
+    ap (map turn_of) (sym (by_each_key (λ (t : Turn). rc_str_bytes t.share) served up))
     ∙ turns_of_each served T listed shares
     ∙ pairs_apart h found T turns shares
     ∙ same_gathered group_cmp group_total group_tied h (all_pairs found shares) (filter q groups)
@@ -210,7 +211,7 @@ served-members access sessions m found served at up listed =
     (λ f. absurd (some_gives h g e (pairs found g.share)
     (sym (ap (list_any (ties group_cmp group_total g)) (append-nil (pairs found g.share))) ∙ in_pairs g found (g.share ∷ []) there (ap (λ b. b || false) (is_text-is g.share g.share ∙ same_text-itself g.share)))
     (sym (turns g.share) ∙ sym (listed g.share)
-    ∙ ap (map turn_of) (none_there (λ (t : Turn). string_bytes t.share) g.share served (sym (any-in_order text_cmp nat_list_cmp_total key_text g.share (shares_of served)) ∙ f))))) in
+    ∙ ap (map turn_of) (none_there (λ (t : Turn). rc_str_bytes t.share) g.share served (sym (any-in_order text_cmp nat_list_cmp_total key_text g.share (shares_of served)) ∙ f))))) in
     in_pairs g found shares there shared
     ∙ sym (any-filter group_cmp group_total group_tied q g groups
     ∙ ap (λ b. b && q g) (groups-any g rows ∙ member) ∙ found_matches m.topic g found at.match there))

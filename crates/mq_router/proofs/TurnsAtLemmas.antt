@@ -1,5 +1,6 @@
 -- The members in turn at one filter.
-use Rattle.std.proofs.Common.{◌≡◌, Bool, true, false, true≢false, cond, ◌&&◌, List, [], ◌∷◌, ◌++◌, map, Option, Some, string_bytes, if◌then◌else◌, refl, sym, ◌∙◌, ap, append_assoc}
+use Rattle.std.proofs.Common.{◌≡◌, Bool, true, false, true≢false, cond, ◌&&◌, List, [], ◌∷◌, ◌++◌, map, Option, Some, if◌then◌else◌, refl, sym, ◌∙◌, ap, append_assoc}
+use Rattle.std.specs.Rc.{rc_str_bytes}
 use Rattle.std.specs.Option.{option_map}
 use Rattle.std.specs.List.{filter, flat_map, find, AllByRecursion}
 use Rattle.std.specs.List.Sorted.{IsStrictlySortedBy}
@@ -115,10 +116,10 @@ module _ (access : Option (List AclRow)) (sessions : List Session) (name f share
 
 -- ## One more
 
-pub turns-more : (access : Option (List AclRow)) (sessions : List Session) (name f share : Text) (old new : List Turn) (t : Turn) (g : Text × List Member) (gs : List (Text × List Member)) → new ≡ old ++ t ∷ [] → string_bytes t.share ≡ g.0 → turn_in access sessions name f g ≡ Some (turn_of t) → turns_listed share new ++ turns_left access sessions name f share gs ≡ turns_listed share old ++ turns_left access sessions name f share (g ∷ gs)
+pub turns-more : (access : Option (List AclRow)) (sessions : List Session) (name f share : Text) (old new : List Turn) (t : Turn) (g : Text × List Member) (gs : List (Text × List Member)) → new ≡ old ++ t ∷ [] → rc_str_bytes t.share ≡ g.0 → turn_in access sessions name f g ≡ Some (turn_of t) → turns_listed share new ++ turns_left access sessions name f share gs ≡ turns_listed share old ++ turns_left access sessions name f share (g ∷ gs)
 turns-more access sessions name f share old new t g gs e named is =
     let rest : List Subscription = turns_left access sessions name f share gs in
-    let here : Turn → Bool = λ x. same_text (string_bytes x.share) share in
+    let here : Turn → Bool = λ x. same_text (rc_str_bytes x.share) share in
     let own : Bool → List Turn = λ b. if b then t ∷ [] else [] in
     ap (λ l. map turn_of l ++ rest) (ap (filter here) e ∙ filter-append here old (t ∷ []) ∙ ap (λ (k : Text). filter here old ++ own (same_text k share)) named)
     ∙ ap (λ l. l ++ rest) (map-append turn_of (filter here old) (own (same_text g.0 share)))

@@ -1,10 +1,10 @@
 -- Words of the contracts: what a client asks for, and what stands in its list.
-use Rattle.std.specs.Prelude.{◌≡◌, Bool, true, false, ◌&&◌, ◌||◌, not, List, String, string_bytes}
+use Rattle.std.specs.Prelude.{◌≡◌, Bool, true, false, ◌&&◌, ◌||◌, not, List, string_bytes}
 use Rattle.std.specs.Option.{option_map}
 use Rattle.std.specs.List.{AllByRecursion}
-use Rattle.std.specs.declared.alloc.Global.{Global}
 use Rattle.mq_topic.specs.Texts.{is_subscription, share_of, filter_part}
 use Rattle.mq_topic.specs.declared.subscription.SubFilter.{SubFilter}
+use Rattle.mq_router.specs.Keys.{Key}
 use Rattle.mq_router.specs.Lists.{Text}
 use Rattle.mq_router.specs.World.{Subscription, has_key}
 use Rattle.mq_router.specs.Kept.{OwnKey, row, is_empty, is_listed}
@@ -24,7 +24,7 @@ abbrev pub has_wanted : Text → SubFilter → Subscription → Bool
 has_wanted client wanted s = has_key client (option_map string_bytes wanted.share) wanted.filter s
 
 abbrev pub OwnLists : Type 0
-OwnLists = List (String Global × List OwnKey)
+OwnLists = List (Key × List OwnKey)
 
 -- the lists have the key too, or no longer
 abbrev pub ListsMore : Text → SubFilter → OwnLists → OwnLists → Type 0

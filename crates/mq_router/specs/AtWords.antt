@@ -1,7 +1,7 @@
 -- Words of the contracts: what changes at one filter, whatever its text is.
-use Rattle.std.specs.Prelude.{◌≡◌, not, List, Option, Some, None, String}
+use Rattle.std.specs.Prelude.{◌≡◌, not, List, Option, Some, None}
 use Rattle.std.specs.List.{filter}
-use Rattle.std.specs.declared.alloc.Global.{Global}
+use Rattle.mq_router.specs.Keys.{Key}
 use Rattle.mq_router.specs.Lists.{Text}
 use Rattle.mq_router.specs.World.{Subscription, has_key}
 use Rattle.mq_router.specs.Turns.{SameInTurn}
@@ -11,10 +11,10 @@ use Rattle.mq_router.specs.KeptViews.{texts}
 use Rattle.mq_router.specs.declared.options.Options.{Options}
 
 abbrev pub Directs : Type 0
-Directs = List (String Global × Options)
+Directs = List (Key × Options)
 
 abbrev pub Groups : Type 0
-Groups = List (String Global × List Member)
+Groups = List (Key × List Member)
 
 -- the subscription takes the place of the one with its key, or goes last
 abbrev pub Joins : Subscription → List Subscription → List Subscription → Type 0

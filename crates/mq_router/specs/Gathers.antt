@@ -1,5 +1,6 @@
 -- Words of the contracts: what is gathered from filters, and what is made of it.
-use Rattle.std.specs.Prelude.{◌≡◌, ⊤, false, List, [], ◌∷◌, ◌++◌, map, string_bytes, Vec, Option}
+use Rattle.std.specs.Prelude.{◌≡◌, ⊤, false, List, [], ◌∷◌, ◌++◌, map, Vec, Option}
+use Rattle.std.specs.Rc.{rc_str_bytes}
 use Rattle.std.specs.Ordering.{is_lt}
 use Rattle.std.specs.List.{filter, AllByRecursion}
 use Rattle.std.specs.declared.alloc.Global.{Global}
@@ -19,7 +20,7 @@ use Rattle.mq_router.specs.declared.matches.Match.{Match}
 
 -- subscriptions, each by its client and what it asks for
 abbrev pub matched : List Match → List (Text × Options)
-matched ms = map (λ m. (m.client.now, options_of m.options)) ms
+matched ms = map (λ m. (rc_str_bytes m.client.now, options_of m.options)) ms
 
 abbrev pub clients_of : List (Text × Options) → List Text
 clients_of xs = map (λ x. x.0) xs
@@ -41,11 +42,11 @@ abbrev pub by_client : List (Text × Options) → List (Text × Summary)
 by_client xs = map (λ id. (id, summary_of (options_among id xs))) (in_order text_cmp (clients_of xs))
 
 abbrev pub shares_of : List Turn → List Text
-shares_of turns = map (λ t. string_bytes t.share) turns
+shares_of turns = map (λ t. rc_str_bytes t.share) turns
 
 -- the members of those of a share name
 abbrev pub turns_listed : Text → List Turn → List Subscription
-turns_listed share turns = map turn_of (filter (λ t. same_text (string_bytes t.share) share) turns)
+turns_listed share turns = map turn_of (filter (λ t. same_text (rc_str_bytes t.share) share) turns)
 
 -- the member in turn of each group at a filter comes behind those of its share name
 abbrev pub GathersTurns : Option (List AclRow) → List Session → Text → At → List Turn → List Turn → Type 0

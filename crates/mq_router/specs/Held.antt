@@ -1,8 +1,9 @@
 -- What the router's own values show.
-use Rattle.std.specs.Prelude.{List, [], map, Some, String, string_bytes}
+use Rattle.std.specs.Prelude.{List, [], map, Some, string_bytes}
 use Rattle.std.specs.Option.{option_map}
-use Rattle.std.specs.declared.alloc.Global.{Global}
+use Rattle.std.specs.Rc.{rc_str_bytes}
 use Rattle.mq_router.specs.Lists.{Text}
+use Rattle.mq_router.specs.Keys.{Key}
 use Rattle.mq_router.specs.World as world
 use Rattle.mq_router.specs.Views.{copy_of, limits_of}
 use Rattle.mq_router.specs.Begun.{Begin}
@@ -41,14 +42,14 @@ session_at id s = record {
 abbrev pub shown : Session → world.Session
 shown s = session_at [] s
 
-abbrev pub session_in : String Global × Session → world.Session
-session_in entry = session_at (string_bytes entry.0) entry.1
+abbrev pub session_in : Key × Session → world.Session
+session_in entry = session_at (rc_str_bytes entry.0) entry.1
 
 abbrev pub sessions_of : in_sessions.Inside → List world.Session
 sessions_of inside = map session_in inside.by_id.entries
 
 abbrev pub begin_of : Begun → Begin
-begin_of b = (string_bytes b.client, map waiting_of b.copies)
+begin_of b = (rc_str_bytes b.client, map waiting_of b.copies)
 
 abbrev pub subscriptions_of : in_subscriptions.Inside → KeptSubscriptions
 subscriptions_of inside = kept_at inside.tree
@@ -78,9 +79,9 @@ published_message client topic payload properties = record {
 
 abbrev pub turn_of : Turn → world.Subscription
 turn_of t = record {
-  client = string_bytes t.client;
-  share = Some (string_bytes t.share);
-  filter = t.filter;
+  client = rc_str_bytes t.client;
+  share = Some (rc_str_bytes t.share);
+  filter = t.filter.value;
   options = options_of t.options;
 }
 

@@ -1,4 +1,5 @@
 pub mod Lists
+pub mod Keys
 pub mod World
 pub mod Clock
 pub mod Sessions

@@ -2,6 +2,7 @@
 use Rattle.std.specs.Prelude.{ℕ, List, None, length, map}
 use Rattle.std.specs.Option.{option_copied}
 use Rattle.std.specs.List.{filter}
+use Rattle.std.specs.Rc.{rc_str_bytes}
 use Rattle.mq_topic.specs.Levels.{levels}
 use Rattle.mq_tree.specs.Prefixes.{prefixes, met_by_filter}
 use Rattle.mq_router.specs.Lists.{Text}
@@ -13,7 +14,7 @@ use Rattle.mq_router.specs.Stored.{may_get}
 use Rattle.mq_router.specs.declared.retained.sending.Receiver.{Receiver}
 
 abbrev pub subscription_for : Receiver → Subscription
-subscription_for r = row None r.filter.now (r.client.now, r.options)
+subscription_for r = row None r.filter.now (rc_str_bytes r.client.now, r.options)
 
 -- of these messages, which match
 abbrev pub copies_among : Receiver → List Retained → List Copy

@@ -1,7 +1,8 @@
 //! What is kept at one filter.
-ghost use Rattle.std.specs.Prelude.{◌≡◌, ◌&&◌, [], not, Some, None, OnOk, OnErr, string_bytes};
+ghost use Rattle.std.specs.Prelude.{◌≡◌, ◌&&◌, [], not, Some, None, OnOk, OnErr};
 ghost use Rattle.std.specs.Option.{option_copied};
 ghost use Rattle.std.specs.List.{filter, list_any};
+ghost use Rattle.std.specs.Rc.{rc_str_bytes};
 ghost use Rattle.mq_router.specs.World.{has_key};
 ghost use Rattle.mq_router.specs.Turns.{SameInTurn};
 ghost use Rattle.mq_router.specs.Applied.{put_last};
@@ -17,13 +18,14 @@ use mq_tree::Counted;
 use std::alloc::{AllocError, Global};
 use std::collections::BTreeMap;
 use std::marker::Model;
+use std::rc::{Rc, RcStr};
 
 /// The subscriptions to one filter: those of clients in their own name, and the groups by share name.
 #[derive(Debug, Drop)]
 pub(crate) struct AtFilter {
-    filter: TopicFilter,
-    direct: BTreeMap<String, Options>,
-    groups: BTreeMap<String, Group>,
+    filter: Rc<TopicFilter>,
+    direct: BTreeMap<RcStr, Options>,
+    groups: BTreeMap<RcStr, Group>,
 }
 
 impl Model for AtFilter {
@@ -39,8 +41,8 @@ impl Model for AtFilter {
 }
 
 impl AtFilter {
-    pub(crate) fn new(alloc: Global, filter: TopicFilter) -> AtFilter
-        ensures { result ≡ record { filter = filter; rows = [] } }
+    pub(crate) fn new(alloc: Global, filter: Rc<TopicFilter>) -> AtFilter
+        ensures { result ≡ record { filter = filter.value; rows = [] } }
     {
         AtFilter {
             filter,
@@ -70,10 +72,10 @@ impl AtFilter {
         &mut self,
         alloc: Global,
         share: Option<&str>,
-        client: String,
+        client: RcStr,
         options: Options,
     ) -> Result<(), AllocError>
-        ensures ok { OnOk result (JoinsAt (option_copied share.entry) (string_bytes client, options) self.old self.new.rows) }
+        ensures ok { OnOk result (JoinsAt (option_copied share.entry) (rc_str_bytes client, options) self.old self.new.rows) }
         ensures filter { self.new.filter ≡ self.old.filter }
         ensures here { AreHere self.new }
         ensures err { OnErr result (self.new ≡ self.old) }
@@ -115,8 +117,7 @@ impl AtFilter {
     {
         matches.reserve(self.direct.len())?;
         for (client, options) in &self.direct {
-            let client = client.as_str();
-            if !is_held_back(*options, client, message) {
+            if !is_held_back(*options, client.as_str(), message) {
                 matches.push(Match {
                     client,
                     options: *options,
@@ -129,7 +130,6 @@ impl AtFilter {
     /// Adds the member of each group that is served.
     pub(crate) fn gather_turns(
         &self,
-        alloc: Global,
         readers: &Readers,
         name: &TopicName,
         turns: &mut Vec<Turn>,
@@ -142,7 +142,7 @@ impl AtFilter {
                 turns.push(Turn {
                     share: share.clone()?,
                     filter: self.filter.clone()?,
-                    client: String::from_str(alloc, client)?,
+                    client: client.clone()?,
                     options,
                 })?;
             }
@@ -166,7 +166,7 @@ impl Counted for AtFilter {
 }
 
 // How many members all groups have, at most `u64::MAX`.
-fn member_count(groups: &BTreeMap<String, Group>) -> u64
+fn member_count(groups: &BTreeMap<RcStr, Group>) -> u64
     ensures { result ≡ capped (sum_by length (values_of groups.now.entries)) }
 {
     let mut total = 0u64;
@@ -191,13 +191,13 @@ fn is_held_back(options: Options, client: &str, message: &Message) -> bool
     options.no_local && client == message.publisher
 }
 
-fn has_direct(direct: &BTreeMap<String, Options>, client: &str) -> bool
+fn has_direct(direct: &BTreeMap<RcStr, Options>, client: &str) -> bool
     ensures { (f : Text) → result ≡ list_any (has_key client.now None f) (direct_rows f (texts direct.now.entries)) }
 {
     direct.contains_key(client)
 }
 
-fn has_member(groups: &BTreeMap<String, Group>, share: &str, client: &str) -> bool
+fn has_member(groups: &BTreeMap<RcStr, Group>, share: &str, client: &str) -> bool
     requires { NoneEmpty (texts groups.now.entries) }
     ensures { (f : Text) → result ≡ list_any (has_key client.now (Some share.now) f) (group_rows f (texts groups.now.entries)) }
 {
@@ -209,11 +209,11 @@ fn has_member(groups: &BTreeMap<String, Group>, share: &str, client: &str) -> bo
 }
 
 fn join_direct(
-    direct: &mut BTreeMap<String, Options>,
-    client: String,
+    direct: &mut BTreeMap<RcStr, Options>,
+    client: RcStr,
     options: Options,
 ) -> Result<(), AllocError>
-    ensures ok { OnOk result (DirectJoins (string_bytes client, options) direct.old.entries direct.new.entries) }
+    ensures ok { OnOk result (DirectJoins (rc_str_bytes client, options) direct.old.entries direct.new.entries) }
     ensures err { OnErr result (direct.new.entries ≡ direct.old.entries) }
 {
     let _count = direct.len();
@@ -222,14 +222,14 @@ fn join_direct(
 }
 
 fn join_group(
-    groups: &mut BTreeMap<String, Group>,
+    groups: &mut BTreeMap<RcStr, Group>,
     alloc: Global,
     share: &str,
-    client: String,
+    client: RcStr,
     options: Options,
 ) -> Result<(), AllocError>
     requires { NoneEmpty (texts groups.old.entries) }
-    ensures ok { OnOk result (GroupJoins share.now (string_bytes client, options) groups.old.entries groups.new.entries) }
+    ensures ok { OnOk result (GroupJoins share.now (rc_str_bytes client, options) groups.old.entries groups.new.entries) }
     ensures err { OnErr result (groups.new.entries ≡ groups.old.entries) }
     ensures live { NoneEmpty (texts groups.new.entries) }
 {
@@ -244,20 +244,20 @@ fn join_group(
 
 // A group of one member, made aside.
 fn add_group(
-    groups: &mut BTreeMap<String, Group>,
+    groups: &mut BTreeMap<RcStr, Group>,
     alloc: Global,
     share: &str,
-    client: String,
+    client: RcStr,
     options: Options,
 ) -> Result<(), AllocError>
     requires live { NoneEmpty (texts groups.old.entries) }
     requires absent { lookup (is_text share.now) (texts groups.old.entries) ≡ None }
-    ensures ok { OnOk result (GroupJoins share.now (string_bytes client, options) groups.old.entries groups.new.entries) }
+    ensures ok { OnOk result (GroupJoins share.now (rc_str_bytes client, options) groups.old.entries groups.new.entries) }
     ensures err { OnErr result (groups.new.entries ≡ groups.old.entries) }
     ensures live { NoneEmpty (texts groups.new.entries) }
 {
     let _count = groups.len();
-    let name = String::from_str(alloc, share)?;
+    let name = RcStr::from_str(alloc, share)?;
     let mut group = Group::new(alloc);
     group.join(client, options)?;
     groups.insert(name, group)?;
@@ -267,14 +267,14 @@ fn add_group(
 ghost use Rattle.std.specs.Map.{lookup};
 ghost use Rattle.mq_router.specs.Kept.{is_text};
 
-fn leave_direct(direct: &mut BTreeMap<String, Options>, client: &str)
+fn leave_direct(direct: &mut BTreeMap<RcStr, Options>, client: &str)
     ensures { DirectLeaves client.now direct.old.entries direct.new.entries }
 {
     let _count = direct.len();
     let _ = direct.remove(client);
 }
 
-fn leave_group(groups: &mut BTreeMap<String, Group>, share: &str, client: &str)
+fn leave_group(groups: &mut BTreeMap<RcStr, Group>, share: &str, client: &str)
     requires { NoneEmpty (texts groups.old.entries) }
     ensures rows { GroupLeaves share.now client.now groups.old.entries groups.new.entries }
     ensures live { NoneEmpty (texts groups.new.entries) }
@@ -289,7 +289,7 @@ fn leave_group(groups: &mut BTreeMap<String, Group>, share: &str, client: &str)
     }
 }
 
-fn serve_group(groups: &mut BTreeMap<String, Group>, share: &str, client: &str)
+fn serve_group(groups: &mut BTreeMap<RcStr, Group>, share: &str, client: &str)
     requires { NoneEmpty (texts groups.old.entries) }
     ensures turned { GroupTurns share.now client.now groups.old.entries groups.new.entries }
     ensures live { NoneEmpty (texts groups.new.entries) }

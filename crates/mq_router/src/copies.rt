@@ -24,10 +24,11 @@ use crate::summary::Summary;
 use crate::turns::sort_by_share;
 use crate::waiting::Queueing;
 use mq_acl::Acl;
-use mq_topic::{LevelText, TopicFilter, TopicName};
+use mq_topic::{TopicFilter, TopicName};
 use mq_tree::Steps;
 use std::alloc::{AllocError, Global};
 use std::collections::LinkedList;
+use std::rc::{Rc, RcStr};
 
 /// A message that is published.
 #[derive(Clone, Copy, Debug)]
@@ -74,9 +75,9 @@ pub(crate) fn may_publish(
 /// A member of a group that a publish serves.
 #[derive(Debug, Drop)]
 pub(crate) struct Turn {
-    pub(crate) share: String,
-    pub(crate) filter: TopicFilter,
-    pub(crate) client: String,
+    pub(crate) share: RcStr,
+    pub(crate) filter: Rc<TopicFilter>,
+    pub(crate) client: RcStr,
     pub(crate) options: Options,
 }
 
@@ -178,7 +179,7 @@ fn members_served(
 {
     let mut served = Vec::new(alloc);
     for at in found {
-        at.gather_turns(alloc, readers, message.topic, &mut served)?;
+        at.gather_turns(readers, message.topic, &mut served)?;
     }
     sort_by_share(&mut served)?;
     Ok(served)
@@ -228,10 +229,7 @@ fn add_group_copies(
         ≡ copies_in copies.old ++ map (λ t. member_copy (message_of outgoing.now.message) (turn_of t)) served.now) }
 {
     for turn in served {
-        let group = (
-            turn.share.clone()?,
-            String::from_str(alloc, turn.filter.text())?,
-        );
+        let group = (turn.share.clone()?, turn.filter.clone()?);
         let summary = Summary::of(alloc, turn.options)?;
         let client = turn.client.clone()?;
         copies.push(outgoing.copy(client, Some(group), summary)?)?;

@@ -1,5 +1,6 @@
 //! The copies of a message for clients in their own name: those that are sent, and those that begin to wait.
 ghost use Rattle.std.specs.Prelude.{◌≡◌, IfOk, None, map};
+ghost use Rattle.std.specs.Rc.{rc_str_bytes};
 ghost use Rattle.mq_router.specs.Kept.{options_of};
 ghost use Rattle.mq_router.specs.Gathers.{copies_in, matched, by_client, AreByClient};
 ghost use Rattle.mq_router.specs.Made.{copies_by, begins_by};
@@ -17,6 +18,7 @@ use crate::summary::Summary;
 use crate::waiting::{Queueing, begin};
 use std::alloc::{AllocError, Global};
 use std::collections::LinkedList;
+use std::rc::RcStr;
 
 /// The copies that are sent, and those that begin to wait.
 #[derive(Debug, Drop)]
@@ -64,15 +66,14 @@ pub(crate) fn direct_copies(
 // The copy for a client, by its subscriptions.
 fn own_copy(
     alloc: Global,
-    client: &str,
+    client: &RcStr,
     own: &[Match],
     outgoing: &Outgoing,
 ) -> Result<Delivery, AllocError>
     ensures { IfOk result (λ d. copy_of d
-        ≡ copy_from client.now None (message_of outgoing.now.message) (summary_of (map (λ x. options_of x.options) own.now))) }
+        ≡ copy_from (rc_str_bytes client.now) None (message_of outgoing.now.message) (summary_of (map (λ x. options_of x.options) own.now))) }
 {
-    let name = String::from_str(alloc, client)?;
-    outgoing.copy(name, None, summarize(alloc, own)?)
+    outgoing.copy(client.clone()?, None, summarize(alloc, own)?)
 }
 
 fn summarize(alloc: Global, own: &[Match]) -> Result<Summary, AllocError>

@@ -1,6 +1,7 @@
 //! The members of a group, in their turn.
-ghost use Rattle.std.specs.Prelude.{◌≡◌, [], length, not, OnOk, OnErr, string_bytes};
+ghost use Rattle.std.specs.Prelude.{◌≡◌, [], length, not, OnOk, OnErr};
 ghost use Rattle.std.specs.Option.{option_map};
+ghost use Rattle.std.specs.Rc.{rc_str_bytes};
 ghost use Rattle.std.specs.List.{filter, find, list_any};
 ghost use Rattle.mq_router.specs.Sessions.{is_reader};
 ghost use Rattle.mq_router.specs.Kept.{has_client, is_empty};
@@ -12,11 +13,12 @@ use indexmap::IndexMap;
 use mq_topic::TopicName;
 use std::alloc::{AllocError, Global};
 use std::marker::Model;
+use std::rc::RcStr;
 
 /// The members of a group, the one that joined or was served longest ago first.
 #[derive(Debug, Drop)]
 pub(crate) struct Group {
-    members: IndexMap<String, Options>,
+    members: IndexMap<RcStr, Options>,
 }
 
 impl Model for Group {
@@ -58,8 +60,8 @@ impl Group {
     }
 
     /// A member keeps its place, and a new one goes last.
-    pub(crate) fn join(&mut self, client: String, options: Options) -> Result<(), AllocError>
-        ensures ok { OnOk result (self.new ≡ with_one (has_client (string_bytes client)) (string_bytes client, options) self.old) }
+    pub(crate) fn join(&mut self, client: RcStr, options: Options) -> Result<(), AllocError>
+        ensures ok { OnOk result (self.new ≡ with_one (has_client (rc_str_bytes client)) (rc_str_bytes client, options) self.old) }
         ensures err { OnErr result (self.new ≡ self.old) }
     {
         let _count = self.members.len();
@@ -86,13 +88,12 @@ impl Group {
     }
 
     /// The first member whose client is connected and may read the topic.
-    pub(crate) fn next(&self, readers: &Readers, name: &TopicName) -> Option<(&str, Options)>
-        ensures { option_map (λ m. (m.0.now, m.1)) result
+    pub(crate) fn next(&self, readers: &Readers, name: &TopicName) -> Option<(&RcStr, Options)>
+        ensures { option_map (λ m. (rc_str_bytes m.0.now, m.1)) result
             ≡ find (λ m. is_reader readers.now.access.now readers.now.sessions.now name.now m.0) self.now }
     {
         for (client, options) in &self.members {
-            let client = client.as_str();
-            if readers.is_reader(client, name) {
+            if readers.is_reader(client.as_str(), name) {
                 return Some((client, *options));
             }
         }

@@ -5,11 +5,12 @@ ghost use Rattle.mq_router.specs.Gathers.{matched, options_among, AreByClient};
 
 use crate::options::Options;
 use std::alloc::AllocError;
+use std::rc::RcStr;
 
 /// A client's subscription in its own name that takes part in a message.
 #[derive(Clone, Copy, Debug)]
 pub(crate) struct Match<'a> {
-    pub(crate) client: &'a str,
+    pub(crate) client: &'a RcStr,
     pub(crate) options: Options,
 }
 

@@ -5,9 +5,9 @@ ghost use Rattle.std.specs.Rc.{rc_str_bytes};
 use crate::answer::Delivery;
 use crate::copies::Message;
 use crate::summary::Summary;
-use mq_topic::LevelText;
+use mq_topic::{LevelText, TopicFilter};
 use std::alloc::{AllocError, Global};
-use std::rc::RcStr;
+use std::rc::{Rc, RcStr};
 
 /// A message with its texts as its copies hold them: they are made once, and each copy shares them.
 #[derive(Debug, Drop)]
@@ -20,7 +20,7 @@ pub(crate) struct Outgoing<'a> {
 }
 
 impl<'a> Outgoing<'a> {
-    ghost use Rattle.std.specs.Prelude.{IfOk, string_bytes};
+    ghost use Rattle.std.specs.Prelude.{IfOk};
     ghost use Rattle.std.specs.Option.{option_map};
     ghost use Rattle.mq_router.specs.Summaries.{copy_from};
     ghost use Rattle.mq_router.specs.Views.{copy_of, group_of};
@@ -39,12 +39,12 @@ impl<'a> Outgoing<'a> {
     /// The copy for a client, or for it in a group, by subscriptions with this summary.
     pub(crate) fn copy(
         &self,
-        client: String,
-        group: Option<(String, String)>,
+        client: RcStr,
+        group: Option<(RcStr, Rc<TopicFilter>)>,
         summary: Summary,
     ) -> Result<Delivery, AllocError>
         ensures { IfOk result (λ d. copy_of d
-            ≡ copy_from (string_bytes client) (option_map group_of group) (message_of self.now.message) summary) }
+            ≡ copy_from (rc_str_bytes client) (option_map group_of group) (message_of self.now.message) summary) }
     {
         let message = &self.message;
         Ok(Delivery {

@@ -1,5 +1,6 @@
 //! Who is connected, who is away with room, and who may read what.
 ghost use Rattle.std.specs.Prelude.{◌≡◌, ◌&&◌};
+ghost use Rattle.std.specs.Rc.{rc_str_bytes};
 ghost use Rattle.mq_acl.specs.Access.{allowed};
 ghost use Rattle.mq_acl.specs.declared.access.Direction.TheVariants.{Reading};
 ghost use Rattle.mq_router.specs.Sessions.{user_of, is_reader};
@@ -11,6 +12,7 @@ use crate::session::Way;
 use crate::sessions::Sessions;
 use mq_acl::Acl;
 use mq_topic::TopicName;
+use std::rc::RcStr;
 
 /// The clients with a session, under an access list or none.
 #[derive(Clone, Copy)]
@@ -21,11 +23,12 @@ pub(crate) struct Readers<'a> {
 
 impl Readers<'_> {
     /// Where a copy of a message of this topic goes for the client, which may read it or gets none. One look-up.
-    pub(crate) fn way(&self, client: &str, name: &TopicName, limit: u32) -> Way
-        ensures sent { is_sent result ≡ is_reader self.now.access.now self.now.sessions.now name.now client.now }
-        ensures waits { waits result ≡ (room_for limit self.now.sessions.now client.now
-            && allowed self.now.access.now client.now (user_of self.now.sessions.now client.now) name.now Reading) }
+    pub(crate) fn way(&self, client: &RcStr, name: &TopicName, limit: u32) -> Way
+        ensures sent { is_sent result ≡ is_reader self.now.access.now self.now.sessions.now name.now (rc_str_bytes client.now) }
+        ensures waits { waits result ≡ (room_for limit self.now.sessions.now (rc_str_bytes client.now)
+            && allowed self.now.access.now (rc_str_bytes client.now) (user_of self.now.sessions.now (rc_str_bytes client.now)) name.now Reading) }
     {
+        let client = client.as_str();
         let Some(session) = self.sessions.get(client) else {
             return Way::Nowhere;
         };

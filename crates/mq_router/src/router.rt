@@ -34,6 +34,7 @@ use mq_topic::SubFilter;
 use mq_tree::Steps;
 use std::alloc::{AllocError, Global};
 use std::marker::Model;
+use std::rc::RcStr;
 
 /// A clock, sessions, subscriptions, retained messages and an access list, or none, within limits. It keeps the allocator
 /// that it was made with.
@@ -179,7 +180,7 @@ impl Router {
         if !is_user_name(user) {
             return Err(Refusal::UserName);
         }
-        let id = String::from_str(self.alloc, client)?;
+        let id = RcStr::from_str(self.alloc, client)?;
         let user = copied(self.alloc, user)?;
         let resumes = self.sessions.resumes(client, clean);
         let copies = self
@@ -250,11 +251,12 @@ impl Router {
         if !asks_for_retained(&self.subscriptions, client, wanted, options) {
             return Ok(Vec::new(self.alloc));
         }
+        let id = self.sessions.id(self.alloc, client)?;
         let receiver = Receiver {
             access: &self.access,
             clock: self.clock,
             user: self.sessions.user(client),
-            client,
+            client: &id,
             filter: &wanted.filter,
             options,
         };

@@ -2,6 +2,7 @@
 ghost use Rattle.std.specs.Prelude.{◌≡◌, [], length, not, OnOk, OnErr, IfOk, map, string_bytes};
 ghost use Rattle.std.specs.Option.{option_copied, option_map};
 ghost use Rattle.std.specs.List.{filter};
+ghost use Rattle.std.specs.Rc.{rc_str_bytes};
 ghost use Rattle.std.specs.List.Sorted.{IsStrictlySortedBy};
 ghost use Rattle.mq_router.specs.Lists.{with_row};
 ghost use Rattle.mq_router.specs.World.{has_id, session_cmp};
@@ -28,11 +29,12 @@ use found::{find, is_connected, learn_order, outlives, user_in, waited_copies};
 use std::alloc::{AllocError, Global};
 use std::collections::{BTreeMap, LinkedList};
 use std::marker::Model;
+use std::rc::RcStr;
 
 /// The sessions, by client id, and a moment before which none of them ends, if any ends.
 #[derive(Debug, Drop)]
 pub(crate) struct Sessions {
-    by_id: BTreeMap<String, Session>,
+    by_id: BTreeMap<RcStr, Session>,
     first_end: Option<u64>,
 }
 
@@ -98,6 +100,16 @@ impl Sessions {
         find(&self.by_id, id)
     }
 
+    /// The id of a client as its session keeps it, or a new text where there is no session.
+    pub(crate) fn id(&self, alloc: Global, id: &str) -> Result<RcStr, AllocError>
+        ensures { IfOk result (λ key. rc_str_bytes key ≡ id.now) }
+    {
+        match self.by_id.get_key_value(id) {
+            Some((key, _)) => key.clone(),
+            None => RcStr::from_str(alloc, id),
+        }
+    }
+
     /// Whether a client that connects resumes its session.
     pub(crate) fn resumes(&self, id: &str, clean: bool) -> bool
         ensures { result ≡ resumes self.now id.now clean }
@@ -127,12 +139,12 @@ impl Sessions {
     pub(crate) fn put(
         &mut self,
         alloc: Global,
-        id: String,
+        id: RcStr,
         user: Option<String>,
         interval: u32,
     ) -> Result<(), AllocError>
         ensures ok { OnOk result (self.new
-            ≡ with_row session_cmp (new_session (string_bytes id) (option_map string_bytes user) interval) self.old) }
+            ≡ with_row session_cmp (new_session (rc_str_bytes id) (option_map string_bytes user) interval) self.old) }
         ensures err { OnErr result (self.new ≡ self.old) }
     {
         let session = Session::new(alloc, user, interval);

@@ -1,6 +1,7 @@
 //! The subscriptions of all clients.
-ghost use Rattle.std.specs.Prelude.{◌≡◌, ◌+◌, [], length, not, OnOk, OnErr, IfOk, map, string_bytes};
+ghost use Rattle.std.specs.Prelude.{◌≡◌, ◌+◌, [], length, not, OnOk, OnErr, IfOk, map};
 ghost use Rattle.std.specs.Option.{option_map};
+ghost use Rattle.std.specs.Rc.{rc_str_bytes};
 ghost use Rattle.std.specs.List.{filter, list_any, flat_map};
 ghost use Rattle.mq_tree.specs.Entries.{capped};
 ghost use Rattle.mq_tree.specs.Prefixes.{prefixes, met_by_name};
@@ -22,13 +23,14 @@ use mq_tree::{LevelTree, Steps};
 use std::alloc::{AllocError, Global};
 use std::collections::BTreeMap;
 use std::marker::Model;
+use std::rc::{Rc, RcStr};
 
 /// The subscriptions, by their filters, and for each client that has any its own, so that its end walks no other's.
 #[derive(Drop)]
 pub(crate) struct Subscriptions {
     alloc: Global,
     tree: LevelTree<AtFilter>,
-    lists: BTreeMap<String, Own>,
+    lists: BTreeMap<RcStr, Own>,
 }
 
 impl Model for Subscriptions {
@@ -163,7 +165,7 @@ fn join_in(
     ensures err { OnErr result (tree.new ≡ tree.old) }
     ensures kept { AreKept tree.new }
 {
-    let client = String::from_str(alloc, client)?;
+    let client = RcStr::from_str(alloc, client)?;
     match tree.get_mut(&wanted.filter) {
         Some(at) => {
             at.join(alloc, wanted.share.as_deref(), client, options)?;
@@ -177,17 +179,18 @@ fn join_in(
 fn add_in(
     tree: &mut LevelTree<AtFilter>,
     alloc: Global,
-    client: String,
+    client: RcStr,
     wanted: &SubFilter,
     options: Options,
 ) -> Result<(), AllocError>
     requires kept { AreKept tree.old }
     requires absent { lookup (is_key (levels wanted.now.filter)) tree.old ≡ None }
-    ensures ok { OnOk result (SameInTurn (all_rows tree.new) (joined (wanted_row (string_bytes client) wanted.now options) (all_rows tree.old))) }
+    ensures ok { OnOk result (SameInTurn (all_rows tree.new) (joined (wanted_row (rc_str_bytes client) wanted.now options) (all_rows tree.old))) }
     ensures err { OnErr result (tree.new ≡ tree.old) }
     ensures kept { AreKept tree.new }
 {
-    let mut at = AtFilter::new(alloc, wanted.filter.clone()?);
+    let filter = Rc::new(alloc, wanted.filter.clone()?)?;
+    let mut at = AtFilter::new(alloc, filter);
     at.join(alloc, wanted.share.as_deref(), client, options)?;
     tree.put(&wanted.filter, at)?;
     Ok(())
@@ -226,7 +229,7 @@ ghost use Rattle.mq_router.specs.Kept.{AreListed, is_empty, is_text, OwnKey};
 // Where there is no memory, nothing is left beside the tree that leads to no subscription.
 fn put_in(
     tree: &mut LevelTree<AtFilter>,
-    lists: &mut BTreeMap<String, Own>,
+    lists: &mut BTreeMap<RcStr, Own>,
     alloc: Global,
     client: &str,
     wanted: &SubFilter,
@@ -253,7 +256,7 @@ fn put_in(
 
 fn take_out(
     tree: &mut LevelTree<AtFilter>,
-    lists: &mut BTreeMap<String, Own>,
+    lists: &mut BTreeMap<RcStr, Own>,
     client: &str,
     wanted: &SubFilter,
 )
@@ -265,7 +268,7 @@ fn take_out(
     list_remove(lists, client, wanted);
 }
 
-fn take_all(tree: &mut LevelTree<AtFilter>, lists: &mut BTreeMap<String, Own>, client: &str)
+fn take_all(tree: &mut LevelTree<AtFilter>, lists: &mut BTreeMap<RcStr, Own>, client: &str)
     requires { AreListed tree.old (texts lists.old.entries) }
     ensures rows { all_rows tree.new ≡ filter (λ s. not (same_text s.client client.now)) (all_rows tree.old) }
     ensures listed { AreListed tree.new (texts lists.new.entries) }
@@ -280,7 +283,7 @@ fn take_all(tree: &mut LevelTree<AtFilter>, lists: &mut BTreeMap<String, Own>, c
 ghost use Rattle.mq_router.specs.Kept.{wanted_key};
 
 fn list_add(
-    lists: &mut BTreeMap<String, Own>,
+    lists: &mut BTreeMap<RcStr, Own>,
     alloc: Global,
     client: &str,
     wanted: &SubFilter,
@@ -301,7 +304,7 @@ fn list_add(
 
 // A client's first one, made aside.
 fn list_begin(
-    lists: &mut BTreeMap<String, Own>,
+    lists: &mut BTreeMap<RcStr, Own>,
     alloc: Global,
     client: &str,
     wanted: &SubFilter,
@@ -313,7 +316,7 @@ fn list_begin(
     ensures live { NoneEmptied lists.new.entries }
 {
     let _count = lists.len();
-    let client = String::from_str(alloc, client)?;
+    let client = RcStr::from_str(alloc, client)?;
     let mut own = Own::new(alloc);
     own.add(wanted)?;
     lists.insert(client, own)?;
@@ -321,7 +324,7 @@ fn list_begin(
 }
 
 // Takes a subscription out, and with its last one the client.
-fn list_remove(lists: &mut BTreeMap<String, Own>, client: &str, wanted: &SubFilter)
+fn list_remove(lists: &mut BTreeMap<RcStr, Own>, client: &str, wanted: &SubFilter)
     requires { NoneEmptied lists.old.entries }
     ensures rest { ListsLess client.now (wanted_key wanted.now) lists.old.entries lists.new.entries }
     ensures live { NoneEmptied lists.new.entries }

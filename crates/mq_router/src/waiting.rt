@@ -1,6 +1,7 @@
 //! The copies that begin to wait for clients that are away, and those that a client gets that comes back.
-ghost use Rattle.std.specs.Prelude.{◌≡◌, [], ◌∷◌, IfOk, map, string_bytes};
+ghost use Rattle.std.specs.Prelude.{◌≡◌, [], ◌∷◌, IfOk, map};
 ghost use Rattle.std.specs.Option.{option_map};
+ghost use Rattle.std.specs.Rc.{rc_str_bytes};
 ghost use Rattle.std.specs.List.{filter_map};
 ghost use Rattle.mq_router.specs.Waiting.{resumed_copy, with_qos};
 ghost use Rattle.mq_router.specs.Begun.{begin_with};
@@ -37,7 +38,7 @@ pub(crate) fn begin(
     deadline: Option<u64>,
 ) -> Result<Option<Begun>, AllocError>
     ensures { IfOk result (λ begun. option_map begin_of begun
-        ≡ option_map (begin_with (string_bytes copy.client) deadline) (with_qos (copy_of copy))) }
+        ≡ option_map (begin_with (rc_str_bytes copy.client) deadline) (with_qos (copy_of copy))) }
 {
     if copy.qos == 0 {
         return Ok(None);

@@ -24,7 +24,7 @@ pub(crate) struct Receiver<'a> {
     pub(crate) access: &'a Option<Acl>,
     pub(crate) clock: Clock,
     pub(crate) user: Option<&'a str>,
-    pub(crate) client: &'a str,
+    pub(crate) client: &'a RcStr,
     pub(crate) filter: &'a TopicFilter,
     pub(crate) options: Options,
 }
@@ -53,7 +53,7 @@ ghost use Rattle.mq_router.specs.Receivers.{subscription_for, copies_among};
 fn may_get(receiver: &Receiver, stored: &Stored) -> bool
     ensures { result ≡ may_get receiver.now.access.now (option_copied receiver.now.user) (subscription_for receiver.now) (message_in stored.now) }
 {
-    let client = receiver.client;
+    let client = receiver.client.as_str();
     may_read(receiver.access, client, receiver.user, &stored.topic)
         && !(receiver.options.no_local && stored.publisher.as_str() == client)
 }
@@ -77,7 +77,7 @@ fn retained_copy(
     ensures { IfOk result (λ d. copy_of d ≡ retained_copy receiver.now.clock.moment (subscription_for receiver.now) (message_in stored.now)) }
 {
     Ok(Delivery {
-        client: String::from_str(alloc, receiver.client)?,
+        client: receiver.client.clone()?,
         topic: RcStr::from_str(alloc, stored.topic.text())?,
         payload: RcStr::from_str(alloc, stored.payload.as_str())?,
         qos: stored.qos.min(receiver.options.qos),

@@ -11,9 +11,10 @@ use crate::clock::Clock;
 use crate::session::Session;
 use crate::subscriptions::Subscriptions;
 use std::collections::BTreeMap;
+use std::rc::RcStr;
 
 /// A connection ends. Gives the end of the session, if it ends.
-pub(crate) fn leave(sessions: &mut BTreeMap<String, Session>, id: &str, clock: Clock) -> Option<u64>
+pub(crate) fn leave(sessions: &mut BTreeMap<RcStr, Session>, id: &str, clock: Clock) -> Option<u64>
     ensures left { map session_in sessions.new.entries ≡ map (left_by clock.moment id.now) (map session_in sessions.old.entries) }
     ensures ends { EndLater result (map session_in sessions.old.entries) (map session_in sessions.new.entries) }
 {
@@ -26,7 +27,7 @@ pub(crate) fn leave(sessions: &mut BTreeMap<String, Session>, id: &str, clock: C
     }
 }
 
-pub(crate) fn join(sessions: &mut BTreeMap<String, Session>, limit: u32, begun: Begun)
+pub(crate) fn join(sessions: &mut BTreeMap<RcStr, Session>, limit: u32, begun: Begun)
     ensures { map session_in sessions.new.entries ≡ queued_one limit (begin_of begun) (map session_in sessions.old.entries) }
 {
     if let Some(session) = sessions.get_mut(begun.client.as_str()) {
@@ -34,7 +35,7 @@ pub(crate) fn join(sessions: &mut BTreeMap<String, Session>, limit: u32, begun: 
     }
 }
 
-pub(crate) fn end(sessions: &mut BTreeMap<String, Session>, moment: u64)
+pub(crate) fn end(sessions: &mut BTreeMap<RcStr, Session>, moment: u64)
     ensures { map session_in sessions.new.entries ≡ filter (λ session. not (has_ended moment session)) (map session_in sessions.old.entries) }
 {
     sessions.retain(|_, session| !session.has_ended(moment));
@@ -45,7 +46,7 @@ ghost use Rattle.mq_router.specs.Applied.{lasts};
 
 /// Takes out the subscriptions of the sessions that have ended, and walks no other's.
 pub(crate) fn remove_ended(
-    sessions: &BTreeMap<String, Session>,
+    sessions: &BTreeMap<RcStr, Session>,
     subscriptions: &mut Subscriptions,
     moment: u64,
 )

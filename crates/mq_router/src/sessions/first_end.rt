@@ -6,6 +6,7 @@ ghost use Rattle.mq_router.specs.Held.{session_in};
 
 use crate::session::Session;
 use std::collections::BTreeMap;
+use std::rc::RcStr;
 
 /// Whether the moment has come.
 pub(crate) fn is_over(moment: u64, first: Option<u64>) -> bool
@@ -36,7 +37,7 @@ fn earlier_than(a: u64, b: Option<u64>) -> u64
 }
 
 /// The earliest end among the sessions, if one ends.
-pub(crate) fn first_end(sessions: &BTreeMap<String, Session>) -> Option<u64>
+pub(crate) fn first_end(sessions: &BTreeMap<RcStr, Session>) -> Option<u64>
     ensures { AllEndFrom result (map session_in sessions.now.entries) }
 {
     let mut first = None;

@@ -16,22 +16,23 @@ use crate::session::Session;
 use crate::waiting::resumed_copies;
 use std::alloc::{AllocError, Global};
 use std::collections::BTreeMap;
+use std::rc::RcStr;
 
 /// Learns that the map's keys are in order.
-pub(crate) fn learn_order(sessions: &BTreeMap<String, Session>)
+pub(crate) fn learn_order(sessions: &BTreeMap<RcStr, Session>)
     ensures { IsStrictlySortedBy session_cmp (map session_in sessions.now.entries) }
 {
     let _count = sessions.len();
 }
 
 /// The session of a client.
-pub(crate) fn find<'a>(sessions: &'a BTreeMap<String, Session>, id: &str) -> Option<&'a Session>
+pub(crate) fn find<'a>(sessions: &'a BTreeMap<RcStr, Session>, id: &str) -> Option<&'a Session>
     ensures { option_map (λ session. session_at id.now session.now) result ≡ session_of (map session_in sessions.now.entries) id.now }
 {
     sessions.get(id)
 }
 
-pub(crate) fn is_connected(sessions: &BTreeMap<String, Session>, id: &str) -> bool
+pub(crate) fn is_connected(sessions: &BTreeMap<RcStr, Session>, id: &str) -> bool
     ensures { result ≡ is_connected (map session_in sessions.now.entries) id.now }
 {
     match sessions.get(id) {
@@ -40,7 +41,7 @@ pub(crate) fn is_connected(sessions: &BTreeMap<String, Session>, id: &str) -> bo
     }
 }
 
-pub(crate) fn user_in<'a>(sessions: &'a BTreeMap<String, Session>, id: &str) -> Option<&'a str>
+pub(crate) fn user_in<'a>(sessions: &'a BTreeMap<RcStr, Session>, id: &str) -> Option<&'a str>
     ensures { option_copied result ≡ user_of (map session_in sessions.now.entries) id.now }
 {
     match sessions.get(id) {
@@ -49,7 +50,7 @@ pub(crate) fn user_in<'a>(sessions: &'a BTreeMap<String, Session>, id: &str) -> 
     }
 }
 
-pub(crate) fn outlives(sessions: &BTreeMap<String, Session>, id: &str) -> bool
+pub(crate) fn outlives(sessions: &BTreeMap<RcStr, Session>, id: &str) -> bool
     ensures { result ≡ outlives (map session_in sessions.now.entries) id.now }
 {
     match sessions.get(id) {
@@ -62,7 +63,7 @@ pub(crate) fn outlives(sessions: &BTreeMap<String, Session>, id: &str) -> bool
 pub(crate) fn waited_copies(
     alloc: Global,
     clock: Clock,
-    sessions: &BTreeMap<String, Session>,
+    sessions: &BTreeMap<RcStr, Session>,
     id: &str,
 ) -> Result<Vec<Delivery>, AllocError>
     requires { AllReached clock.moment (map session_in sessions.now.entries) }

@@ -1,7 +1,8 @@
-use Rattle.std.proofs.Common.{◌≡◌, ◌∙◌, sym, ap, subst, false, List, String, Global}
+use Rattle.std.proofs.Common.{◌≡◌, ◌∙◌, sym, ap, subst, false, List, Global}
 use Rattle.std.specs.Option.{option_copied_mut}
 use Rattle.std.specs.List.{AllByRecursion}
 use Rattle.std.specs.Map.{lookup, set_value}
+use Rattle.mq_router.specs.Keys.{Key}
 use Rattle.mq_router.specs.Kept.{is_text, wanted_key, is_empty, OwnKey}
 use Rattle.mq_router.specs.KeptViews.{texts}
 use Rattle.mq_router.proofs.ListLemmas.{on_err}
@@ -41,4 +42,4 @@ returns-in_err-add-in-Some-clause-live c =
     let ls = c.args.lists.now.entries in
     let found = sym c.get_mut.ensures.value ∙ ap option_copied_mut c.in-Some.is in
     let same = (c.get_mut.follows.holds c.add.new.self).0 ∙ ap (set_value test ls) c.in_err-add-in-Some.ensures.err ∙ set_same test ls c.in-Some.own.now found in
-    subst (λ (es : List (String Global × List OwnKey)). AllByRecursion (λ l. is_empty l.1 ≡ false) (texts es)) (sym same) c.requires
+    subst (λ (es : List (Key × List OwnKey)). AllByRecursion (λ l. is_empty l.1 ≡ false) (texts es)) (sym same) c.requires

@@ -1,4 +1,5 @@
-use Rattle.std.proofs.Common.{◌+◌, ◌∙◌, ◌∷◌, sym, ap, map, drop, string_bytes, Some, List}
+use Rattle.std.proofs.Common.{◌+◌, ◌∙◌, ◌∷◌, sym, ap, map, drop, Some, List}
+use Rattle.std.specs.Rc.{rc_str_bytes}
 use Rattle.std.proofs.lemmas.List.{drop_more, drop_all}
 use Rattle.mq_router.specs.Lists.{Text}
 use Rattle.mq_router.specs.World.{Subscription, has_key}
@@ -16,10 +17,10 @@ loop-turn-preserved c =
     let t = c.turn-item.result in
     let subs : List Subscription = c.loop-turn.subscriptions.rows in
     let served = c.args.served.now in
-    let last : Text → Text → List Subscription = λ client share. put_last (has_key client (Some share) t.filter) subs in
+    let last : Text → Text → Text → List Subscription = λ client share f. put_last (has_key client (Some share) f) subs in
     let rows = same-then _ _ _
-    (all_turned-same (map turn_of (drop (i + 1) served)) c.serve.new.self.rows (put_last (has_key (string_bytes t.client) (Some (string_bytes t.share)) t.filter) subs)
-    (same-then _ _ _ c.serve.ensures.rows (same-is _ _ (ap (λ client. last client c.as_str.result.now) c.as_str-in-loop-turn.ensures.value ∙ ap (λ share. last (string_bytes t.client) share) c.as_str.ensures.value))))
+    (all_turned-same (map turn_of (drop (i + 1) served)) c.serve.new.self.rows (put_last (has_key (rc_str_bytes t.client) (Some (rc_str_bytes t.share)) t.filter.value) subs)
+    (same-then _ _ _ c.serve.ensures.rows (same-is _ _ (ap (λ client. last client c.as_str.result.now c.deref.result.now) c.as_str-in-loop-turn.ensures.value ∙ ap (λ share. last (rc_str_bytes t.client) share c.deref.result.now) c.as_str.ensures.value ∙ ap (last (rc_str_bytes t.client) (rc_str_bytes t.share)) c.deref.ensures))))
     (same-then _ _ _ (same-is _ _ (ap (λ l. all_turned (map turn_of l) subs) (ap (λ x. x ∷ drop (i + 1) served) c.turn-item.is ∙ sym (drop_more served i t c.loop-turn-test.true)))) c.loop-turn.invariant.rows) in
     record { rows = rows; keys = λ old. c.serve.ensures.keys }
 

@@ -13,4 +13,4 @@ loop-client-init c =
     let start = matched c.reserve.new.self.items in
     ap (λ es. start ++ own_matches m (direct_rows [] (texts es))) c.into_iter-client-iterator.ensures.into_iter_gives.0
     ∙ ap (λ l. start ++ l) (subst (λ (a : At). own_matches m (direct_rows [] (texts c.self.inside.direct.entries)) ≡ own_matches m a.rows) c.self.view_is
-    (matches-at m c.self.inside.filter (texts c.self.inside.direct.entries) (texts c.self.inside.groups.entries)))
+    (matches-at m c.self.inside.filter.value (texts c.self.inside.direct.entries) (texts c.self.inside.groups.entries)))

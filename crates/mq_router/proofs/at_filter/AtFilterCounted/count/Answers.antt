@@ -8,5 +8,5 @@ use Rattle.mq_router.proofs.at_filter.AtFilterCounted.count.Goals as goal
 pub returns : goal.returns
 returns c =
     let number : length c.args.self.now.rows ≡ length c.self.inside.direct.entries + sum_by length (values_of c.self.inside.groups.entries) =
-    sym (ap (λ (a : At). length a.rows) c.self.view_is) ∙ at-number c.self.inside.filter c.self.inside.direct.entries c.self.inside.groups.entries in
+    sym (ap (λ (a : At). length a.rows) c.self.view_is) ∙ at-number c.self.inside.filter.value c.self.inside.direct.entries c.self.inside.groups.entries in
     omega (arith, number, c.saturating_add.ensures, c.member_count.ensures, c.len.ensures.len)

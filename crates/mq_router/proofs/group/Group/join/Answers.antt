@@ -1,5 +1,6 @@
-use Rattle.std.proofs.Common.{◌∙◌, ap, string_bytes}
+use Rattle.std.proofs.Common.{◌∙◌, ap}
 use Rattle.mq_router.specs.Kept.{has_client}
+use Rattle.std.specs.Rc.{rc_str_bytes}
 use Rattle.mq_router.specs.KeptViews.{texts}
 use Rattle.mq_router.specs.Applied.{with_one}
 use Rattle.mq_router.proofs.Members.{joined-texts}
@@ -8,4 +9,4 @@ use Rattle.mq_router.proofs.group.Group.join.Goals as goal
 pub returns-clause-ok : goal.returns-clause-ok
 returns-clause-ok c =
     ap texts c.in_ok-insert.ensures.entries ∙ joined-texts c.self.inside.members.entries c.args.client c.args.options c.len-count.ensures.unique
-    ∙ ap (with_one (has_client (string_bytes c.args.client)) (string_bytes c.args.client, c.args.options)) c.self.view_is
+    ∙ ap (with_one (has_client (rc_str_bytes c.args.client)) (rc_str_bytes c.args.client, c.args.options)) c.self.view_is

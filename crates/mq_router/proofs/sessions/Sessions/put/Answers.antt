@@ -1,5 +1,6 @@
-use Rattle.std.proofs.Common.{◌≡◌, ◌∙◌, ap, sym, subst, map, true, false, string_bytes}
+use Rattle.std.proofs.Common.{◌≡◌, ◌∙◌, ap, sym, subst, map, true, false}
 use Rattle.mq_router.specs.Lists.{with_row}
+use Rattle.std.specs.Rc.{rc_str_bytes}
 use Rattle.mq_router.specs.World as world
 use Rattle.mq_router.specs.World.{session_cmp}
 use Rattle.mq_router.specs.Ends.{EndsFrom, AllEndFrom}
@@ -12,7 +13,7 @@ pub returns-clause-ok : goal.returns-clause-ok
 returns-clause-ok c =
     let es = c.self.inside.by_id.entries in
     rw (← c.self.view_is) (ap (map session_in) c.in_ok-insert.ensures.entries ∙ put-is c.args.id c.new-session.result es c.in_ok-insert.ensures.was_ordered
-    ∙ ap (λ (x : world.Session). with_row session_cmp (record x { id = string_bytes c.args.id }) (map session_in es)) c.new-session.ensures)
+    ∙ ap (λ (x : world.Session). with_row session_cmp (record x { id = rc_str_bytes c.args.id }) (map session_in es)) c.new-session.ensures)
 
 -- a client that connects doesn't end
 pub invariant_of-self-2 : goal.invariant_of-self-2
