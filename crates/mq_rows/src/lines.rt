@@ -103,7 +103,7 @@ fn printed_lines(rt: HostRuntime) -> Result<(), Fail> {
     let alloc = rt.alloc();
     let mut copies = Vec::new(alloc);
     copies.push(Delivery {
-        client: String::from_str(alloc, "b")?,
+        client: RcStr::from_str(alloc, "b")?,
         topic: RcStr::from_str(alloc, "t/\u{1}")?,
         payload: RcStr::from_str(alloc, "a\"b\\\u{8}\u{c}\n\r\té")?,
         qos: 1,

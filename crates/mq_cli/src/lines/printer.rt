@@ -13,6 +13,7 @@ use crate::lines::fault::LineFault;
 use crate::lines::object::Object;
 use crate::lines::report::{Reported, line_fault_report, refusal_report};
 use mq_router::{Answer, Delivery, Outcome, Refusal};
+use mq_topic::LevelText;
 use std::alloc::{AllocError, Global};
 
 fn share_of(delivery: &Delivery) -> Option<&str>
@@ -28,7 +29,7 @@ fn filter_of(delivery: &Delivery) -> Option<&str>
     ensures { option_copied result ≡ option_map (λ group. group.filter) (copy_of delivery.now).group }
 {
     match &delivery.group {
-        Some((_, filter)) => Some(filter.as_str()),
+        Some((_, filter)) => Some(filter.text()),
         None => None,
     }
 }
@@ -94,7 +95,7 @@ fn set_copy(
         }
         (true, None, Some((share, filter))) => {
             let share = Datum::Text(share.as_str());
-            let filter = Datum::Text(filter.as_str());
+            let filter = Datum::Text(filter.text());
             object.refill(
                 alloc,
                 &[client, filter, number, payload, qos, retain, share, topic],
