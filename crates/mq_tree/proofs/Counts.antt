@@ -1,13 +1,12 @@
 -- How many keys and nodes a node has, and what its values hold together.
 use Rattle.std.proofs.Common.{true≢false, ◌≡◌, ◌≢◌, ℕ, ◌+◌, ◌≤◌, Bool, true, false, ◌↔◌, eqb, List, [], ◌∷◌, ◌++◌, length, Option, Some, None, is_some, refl, sym, ap, ap₂, ◌∙◌, suc, arith, length-append}
 use mir.Val.{bool_byte}
-use Rattle.std.specs.declared.string.String.{String}
 use Rattle.std.specs.List.{sum_by}
 use Rattle.std.specs.Map.{keys_of, values_of}
 use Rattle.std.proofs.lemmas.Bool.Decides.{nat_tests}
 use Rattle.std.proofs.lemmas.List.Sums.{sum_by-cons, sum_by-append}
 use Rattle.mq_tree.specs.Entries.{Entries, capped}
-use Rattle.mq_tree.specs.Nodes.{NodeView, Children, under, below, own, entries_of, children_of, AreChildren}
+use Rattle.mq_tree.specs.Nodes.{NodeView, Branches, Children, under, below, own, entries_of, entries_in, children_of, AreChildren}
 use Rattle.mq_tree.specs.Below.{tallied}
 use Rattle.mq_tree.specs.Prefixes.{prefixes}
 use Rattle.mq_tree.proofs.Blocks.{prefixes_own, length-blocks}
@@ -41,11 +40,11 @@ bare b (child ∷ children) h f =
       | false ↦ λ g. nonzero _ (some_below (child ∷ children) h (omega arith))
     ] f.0
 
-length-children : {Y V : Type 0} (nodes : List (String Y × NodeView V)) → length (children_of nodes) ≡ length nodes
+length-children : {Y V : Type 0} (nodes : Branches Y V) → length (children_of nodes) ≡ length nodes
 length-children [] = refl
 length-children (node ∷ nodes) = ap suc (length-children nodes)
 
-pub bare_from_none : {Y V : Type 0} (b : Bool) (value : Option V) (nodes : List (String Y × NodeView V)) (now : NodeView V) → is_some value ≡ false → ◌≡◌ {A = NodeView V} (value, children_of nodes) now → AreChildren (children_of nodes) → ((b ≡ true) ↔ (length nodes ≡ 0)) → b ≡ eqb (length (entries_of now)) 0
+pub bare_from_none : {Y V : Type 0} (b : Bool) (value : Option V) (nodes : Branches Y V) (now : NodeView V) → is_some value ≡ false → ◌≡◌ {A = NodeView V} (value, children_of nodes) now → AreChildren (children_of nodes) → ((b ≡ true) ↔ (length nodes ≡ 0)) → b ≡ eqb (length (entries_of now)) 0
 bare_from_none b None nodes now e is h f = rw (← is) (bare b (children_of nodes) h (λ t. length-children nodes ∙ f.0 t, λ n. f.1 (sym (length-children nodes) ∙ n)))
 bare_from_none b (Some v) nodes now e is h f = absurd (true≢false e)
 
@@ -55,24 +54,24 @@ length-own None children n e = omega (arith, length-below children)
 length-own (Some v) children n e = omega (arith, length-below children)
 
 -- ---- over a map's nodes
-sum_by-children : {Y V : Type 0} (f : Entries V → ℕ) (nodes : List (String Y × NodeView V)) → sum_by f (values_of (children_of nodes)) ≡ sum_by (λ node. f (entries_of node)) (values_of nodes)
+sum_by-children : {Y V : Type 0} (f : Entries V → ℕ) (nodes : Branches Y V) → sum_by f (values_of (children_of nodes)) ≡ sum_by (λ node. f (entries_in node)) (values_of nodes)
 sum_by-children f [] = refl
-sum_by-children f (node ∷ nodes) = sum_by-cons f (entries_of node.1) (values_of (children_of nodes)) ∙ ap (λ n. f (entries_of node.1) + n) (sum_by-children f nodes) ∙ sym (sum_by-cons (λ x. f (entries_of x)) node.1 (values_of nodes))
+sum_by-children f (node ∷ nodes) = sum_by-cons f (entries_in node.1) (values_of (children_of nodes)) ∙ ap (λ n. f (entries_in node.1) + n) (sum_by-children f nodes) ∙ sym (sum_by-cons (λ x. f (entries_in x)) node.1 (values_of nodes))
 
-pub length-node : {Y V : Type 0} (value : Option V) (nodes : List (String Y × NodeView V)) (now : NodeView V) (n : ℕ) → ◌≡◌ {A = NodeView V} (value, children_of nodes) now → n ≡ bool_byte (is_some value)
-    → n + sum_by (λ node. length (entries_of node)) (values_of nodes) ≡ length (entries_of now)
+pub length-node : {Y V : Type 0} (value : Option V) (nodes : Branches Y V) (now : NodeView V) (n : ℕ) → ◌≡◌ {A = NodeView V} (value, children_of nodes) now → n ≡ bool_byte (is_some value)
+    → n + sum_by (λ node. length (entries_in node)) (values_of nodes) ≡ length (entries_of now)
 length-node value nodes now n is e = ap (λ s. n + s) (sym (sum_by-children length nodes)) ∙ length-own value (children_of nodes) n e ∙ ap (λ node. length (entries_of node)) is
 
 -- how many nodes a child and those below it are
 abbrev pub nodes_of : {V : Type 0} → Entries V → ℕ
 nodes_of es = length (prefixes (keys_of es)) + 1
 
-tallied_nodes : {Y V : Type 0} (nodes : List (String Y × NodeView V)) → tallied (λ child. length (prefixes (keys_of child.1))) (children_of nodes) ≡ sum_by (λ node. nodes_of (entries_of node)) (values_of nodes)
+tallied_nodes : {Y V : Type 0} (nodes : Branches Y V) → tallied (λ child. length (prefixes (keys_of child.1))) (children_of nodes) ≡ sum_by (λ node. nodes_of (entries_in node)) (values_of nodes)
 tallied_nodes [] = refl
-tallied_nodes (node ∷ nodes) = omega (arith, tallied_nodes nodes, sum_by-cons (λ x. nodes_of (entries_of x)) node.1 (values_of nodes))
+tallied_nodes (node ∷ nodes) = omega (arith, tallied_nodes nodes, sum_by-cons (λ x. nodes_of (entries_in x)) node.1 (values_of nodes))
 
-pub prefixes_node : {Y V : Type 0} (value : Option V) (nodes : List (String Y × NodeView V)) (now : NodeView V) → ◌≡◌ {A = NodeView V} (value, children_of nodes) now → AreChildren (children_of nodes)
-    → sum_by (λ node. nodes_of (entries_of node)) (values_of nodes) ≡ length (prefixes (keys_of (entries_of now)))
+pub prefixes_node : {Y V : Type 0} (value : Option V) (nodes : Branches Y V) (now : NodeView V) → ◌≡◌ {A = NodeView V} (value, children_of nodes) now → AreChildren (children_of nodes)
+    → sum_by (λ node. nodes_of (entries_in node)) (values_of nodes) ≡ length (prefixes (keys_of (entries_of now)))
 prefixes_node value nodes now is are =
     sym (tallied_nodes nodes) ∙ sym (length-blocks (children_of nodes)) ∙ ap length (sym (prefixes_own value (children_of nodes) are)) ∙ ap (λ node. length (prefixes (keys_of (entries_of node)))) is
 
@@ -92,13 +91,13 @@ held-below f (child ∷ children) =
     sum_by-append (λ e. f e.1) (under child.0 child.1) (below children)
     ∙ ap₂ (λ a b. a + b) (held-under f child.0 child.1) (held-below f children) ∙ sym (sum_by-cons (held f) child.1 (values_of children))
 
-pub held-node : {Y V : Type 0} (f : V → ℕ) (value : Option V) (nodes : List (String Y × NodeView V)) (now : NodeView V) (n : ℕ) → ◌≡◌ {A = NodeView V} (value, children_of nodes) now → n ≡ capped (held f (own value))
-    → capped (n + sum_by (λ node. held f (entries_of node)) (values_of nodes)) ≡ capped (held f (entries_of now))
+pub held-node : {Y V : Type 0} (f : V → ℕ) (value : Option V) (nodes : Branches Y V) (now : NodeView V) (n : ℕ) → ◌≡◌ {A = NodeView V} (value, children_of nodes) now → n ≡ capped (held f (own value))
+    → capped (n + sum_by (λ node. held f (entries_in node)) (values_of nodes)) ≡ capped (held f (entries_of now))
 held-node f value nodes now n is e =
-    let rest : held f (below (children_of nodes)) ≡ sum_by (λ node. held f (entries_of node)) (values_of nodes) =
+    let rest : held f (below (children_of nodes)) ≡ sum_by (λ node. held f (entries_in node)) (values_of nodes) =
     held-below f (children_of nodes) ∙ sum_by-children (held f) nodes in
     let whole : held f (own value ++ below (children_of nodes)) ≡ held f (own value) + held f (below (children_of nodes)) =
     sum_by-append (λ e. f e.1) (own value) (below (children_of nodes)) in
-    let both : capped (n + sum_by (λ node. held f (entries_of node)) (values_of nodes)) ≡ capped (held f (own value ++ below (children_of nodes))) =
+    let both : capped (n + sum_by (λ node. held f (entries_in node)) (values_of nodes)) ≡ capped (held f (own value ++ below (children_of nodes))) =
     omega (arith, e, rest, whole) in
     both ∙ ap (λ node. capped (held f (entries_of node))) is

@@ -1,12 +1,12 @@
 -- What becomes of a node once a value that it lent comes back.
 use Rattle.std.proofs.Common.{◌≡◌, ◌≢◌, ℕ, Bool, true, false, cond, List, [], ◌∷◌, ◌++◌, Option, Some, None, OnSome, Equal, Greater, MutBor, inl, inr, refl, sym, ap, ◌∙◌, subst}
-use Rattle.std.specs.declared.string.String.{String}
+use Rattle.std.specs.Global.{Box}
 use Rattle.std.specs.Cmp.Lexicographic.{slice_cmp}
 use Rattle.std.specs.Ordering.{nat_cmp}
 use Rattle.std.specs.Map.{lookup, set_value}
 use Rattle.std.specs.Option.{option_copied_mut}
 use Rattle.mq_tree.specs.Entries.{Entries, is_key}
-use Rattle.mq_tree.specs.Nodes.{NodeView, Children, is_level, under, below, own, entries_of, children_of, NoneDead}
+use Rattle.mq_tree.specs.Nodes.{NodeView, Branches, Children, is_level, under, below, own, entries_of, entries_in, children_of, NoneDead}
 use Rattle.mq_tree.proofs.Edits.{IsEdit, LaterKeys, later_lookup, edit_below}
 use Rattle.mq_tree.proofs.Maps.{is_text, set_children}
 use Rattle.mq_tree.specs.LendingNode.{PutsAtMost}
@@ -61,18 +61,18 @@ pub on_some_weaker : {T P Q : Type 0} (r : Option T) → (P → Q) → OnSome r 
 on_some_weaker None f p = tt
 on_some_weaker (Some x) f p = f p
 
-module _ {Y V : Type 0} (key : List (List ℕ)) (l : List ℕ) (rest : List (List ℕ)) (value : Option V) (nodes : List (String Y × NodeView V)) (now : NodeView V) (at : At key l rest value nodes now) where
-  pub lent_kept : (node new : NodeView V) (w : V) (fin : List (String Y × NodeView V)) → Some node ≡ lookup (is_text l) nodes → entries_of new ≡ set_value (is_key rest) (entries_of node) w → fin ≡ set_value (is_text l) nodes new
+module _ {Y V : Type 0} (key : List (List ℕ)) (l : List ℕ) (rest : List (List ℕ)) (value : Option V) (nodes : Branches Y V) (now : NodeView V) (at : At key l rest value nodes now) where
+  pub lent_kept : (node new : Box (NodeView V)) (w : V) (fin : Branches Y V) → Some node ≡ lookup (is_text l) nodes → entries_in new ≡ set_value (is_key rest) (entries_in node) w → fin ≡ set_value (is_text l) nodes new
       → own value ++ below (children_of fin) ≡ set_value (is_key key) (entries_of now) w
   lent_kept node new w fin f n e =
-      rw (at.key_is, ← entries_is key l rest value nodes now at, e, set_children l nodes new, n) (ap (λ xs. own value ++ xs) (edit_below l (λ xs. set_value (is_key rest) xs w) (λ xs. set_value (is_key (l ∷ rest)) xs w) (children_of nodes) (entries_of node) (set_edits l rest w) at.are (child_is key l rest value nodes now at (Some node) f))
+      rw (at.key_is, ← entries_is key l rest value nodes now at, e, set_children l nodes new, n) (ap (λ xs. own value ++ xs) (edit_below l (λ xs. set_value (is_key rest) xs w) (λ xs. set_value (is_key (l ∷ rest)) xs w) (children_of nodes) (entries_in node) (set_edits l rest w) at.are (child_is key l rest value nodes now at (Some node) f))
       ∙ sym (set-own l rest w value (below (children_of nodes))))
 
-  pub lent_some : (node new : NodeView V) (fin : List (String Y × NodeView V)) → Some node ≡ lookup (is_text l) nodes → entries_of new ≢ [] → fin ≡ set_value (is_text l) nodes new → own value ++ below (children_of fin) ≢ []
+  pub lent_some : (node new : Box (NodeView V)) (fin : Branches Y V) → Some node ≡ lookup (is_text l) nodes → entries_in new ≢ [] → fin ≡ set_value (is_text l) nodes new → own value ++ below (children_of fin) ≢ []
   lent_some node new fin f n e =
-      some_own value (below (children_of fin)) (subst (λ xs. below xs ≢ []) (sym (ap children_of e ∙ set_children l nodes new)) (some_set (is_level l) (children_of nodes) (entries_of node) (entries_of new) at.are.live (child_is key l rest value nodes now at (Some node) f) n))
+      some_own value (below (children_of fin)) (subst (λ xs. below xs ≢ []) (sym (ap children_of e ∙ set_children l nodes new)) (some_set (is_level l) (children_of nodes) (entries_in node) (entries_in new) at.are.live (child_is key l rest value nodes now at (Some node) f) n))
 
-  pub lent_put : (node new : NodeView V) (w : V) (fin : List (String Y × NodeView V)) → Some node ≡ lookup (is_text l) nodes → PutsAtMost rest w (entries_of node) (entries_of new) → fin ≡ set_value (is_text l) nodes new
+  pub lent_put : (node new : Box (NodeView V)) (w : V) (fin : Branches Y V) → Some node ≡ lookup (is_text l) nodes → PutsAtMost rest w (entries_in node) (entries_in new) → fin ≡ set_value (is_text l) nodes new
       → PutsAtMost key w (entries_of now) (own value ++ below (children_of fin))
   lent_put node new w fin f (inl e) h = inl (put_kept key l rest value nodes now at node new w fin f e h)
   lent_put node new w fin f (inr e) h = inr (put_same key l rest value nodes now at node new fin f e h)

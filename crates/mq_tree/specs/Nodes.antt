@@ -2,6 +2,7 @@
 use Rattle.std.specs.Prelude.{◌≢◌, ℕ, ◌+◌, Bool, List, [], ◌∷◌, ◌++◌, length, map, Option, Some, None}
 use Rattle.std.specs.declared.string.String.{String}
 use Rattle.std.specs.String.{string_bytes}
+use Rattle.std.specs.Global.{Box}
 use Rattle.std.specs.Ordering.{nat_cmp}
 use Rattle.std.specs.Cmp.Lexicographic.{slice_cmp}
 use Rattle.std.specs.BTreeMap.{insert_entry, is_at}
@@ -36,9 +37,17 @@ own (Some v) = ([], v) ∷ []
 abbrev pub entries_of : {V : Type 0} → NodeView V → Entries V
 entries_of node = own node.0 ++ below node.1
 
--- the children that a map from levels to nodes holds
-abbrev pub children_of : {Y V : Type 0} → List (String Y × NodeView V) → Children V
-children_of nodes = map (λ node. (string_bytes node.0, entries_of node.1)) nodes
+-- the entries of a node in a box
+abbrev pub entries_in : {V : Type 0} → Box (NodeView V) → Entries V
+entries_in node = entries_of node.value
+
+-- what a map from levels to nodes holds, each node in a box of its own
+abbrev pub Branches : Type 0 → Type 0 → Type 0
+Branches Y V = List (String Y × Box (NodeView V))
+
+-- the children that it holds
+abbrev pub children_of : {Y V : Type 0} → Branches Y V → Children V
+children_of nodes = map (λ node. (string_bytes node.0, entries_in node.1)) nodes
 
 -- the children once a branch that leads to v alone is hung in at a level
 abbrev pub with_branch : {V : Type 0} → Children V → List ℕ → List (List ℕ) → V → Children V

@@ -19,10 +19,11 @@ use std::collections::btree_map::Iter;
 use std::marker::Model;
 
 /// The value of the key that ends here, if it is stored, and the nodes one level further down by their levels.
+/// Each of these has a box of its own: a leaf of the map has room for 15 values, however few it holds.
 #[derive(Drop)]
 pub(crate) struct Node<V> {
     value: Option<V>,
-    children: BTreeMap<String, Node<V>>,
+    children: BTreeMap<String, Box<Node<V>>>,
 }
 
 impl<V> Model for Node<V> {
@@ -102,7 +103,7 @@ impl<V> Node<V> {
 /// The children of a node that a walk has not come to yet.
 #[derive(Drop)]
 pub(crate) struct Children<'a, V> {
-    left: Iter<'a, String, Node<V>>,
+    left: Iter<'a, String, Box<Node<V>>>,
 }
 
 impl<'a, V> Model for Children<'a, V> {

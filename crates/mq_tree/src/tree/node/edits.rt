@@ -30,7 +30,7 @@ impl<V> Node<V> {
         let level = String::from_str(alloc, level)?;
         let child = Node::branch(alloc, rest, value)?;
         let mut children = BTreeMap::new(alloc);
-        hang(&mut children, level, child)?;
+        hang(alloc, &mut children, level, child)?;
         Ok(Node {
             value: None,
             children,
@@ -89,7 +89,7 @@ impl<V> Node<V> {
 // Builds a branch aside, and hangs it in by one insertion.
 fn grow<V: Drop>(
     alloc: Global,
-    children: &mut BTreeMap<String, Node<V>>,
+    children: &mut BTreeMap<String, Box<Node<V>>>,
     level: &str,
     rest: Option<&str>,
     value: V,
@@ -101,28 +101,31 @@ fn grow<V: Drop>(
 {
     let level = String::from_str(alloc, level)?;
     let branch = Node::branch(alloc, rest, value)?;
-    hang(children, level, branch)?;
+    hang(alloc, children, level, branch)?;
     Ok(())
 }
 
 // Takes out the child at a level, in a function of its own so that its drop joins no paths of the caller.
-fn cut<V: Drop>(children: &mut BTreeMap<String, Node<V>>, level: &str)
+fn cut<V: Drop>(children: &mut BTreeMap<String, Box<Node<V>>>, level: &str)
     ensures entries { children.new.entries ≡ remove_entry (is_at (λ s. slice_cmp nat_cmp level.now (string_bytes s))) children.old.entries }
     ensures ordered { IsOrdered string_cmp children.new }
 {
     children.remove(level);
 }
 
-// Hangs a branch in at a level.
+// Hangs a branch in at a level, in a box of its own.
 fn hang<V: Drop>(
-    children: &mut BTreeMap<String, Node<V>>,
+    alloc: Global,
+    children: &mut BTreeMap<String, Box<Node<V>>>,
     level: String,
     branch: Node<V>,
 ) -> Result<(), AllocError>
-    ensures ok { OnOk result (children.new.entries ≡ insert_entry string_cmp children.old.entries level branch) }
+    ensures ok { OnOk result (children_of children.new.entries
+        ≡ insert_entry (slice_cmp nat_cmp) (children_of children.old.entries) (string_bytes level) (entries_of branch)) }
     ensures err { OnErr result (children.new.entries ≡ children.old.entries) }
-    ensures ordered { IsOrdered string_cmp children.new }
+    ensures ordered { OnOk result (IsOrdered string_cmp children.new) }
 {
+    let branch = Box::new(alloc, branch)?;
     match children.insert(level, branch) {
         Ok(_) => Ok(()),
         Err(_) => Err(AllocError),

@@ -12,7 +12,7 @@ returns-in_default g t c =
 pub returns-in-Some-get : goal.returns-in-Some-get
 returns-in-Some-get g t c =
     let at : At (levels_left c.args.key) c.split_first.result.0.now (levels_left c.split_first.result.1) c.self.inside.value c.self.inside.children.entries c.args.self.now = record { key_is = ap levels_left c.in-Some.is ∙ c.split_first.ensures; are = c.self.invariant; is = c.self.view_is } in
-    c.get-in-Some-get.ensures ∙ sym (found_step _ _ _ _ _ _ at _ (rw c.in-Some-get.is at c.get.ensures.value))
+    rw c.deref.ensures at c.get-in-Some-get.ensures ∙ sym (found_step _ _ _ _ _ _ at _ (rw c.in-Some-get.is at c.get.ensures.value))
 
 pub returns-in-None : goal.returns-in-None
 returns-in-None g t c =

@@ -4,14 +4,14 @@ use Rattle.std.specs.Map.Iter.{deref}
 use Rattle.std.proofs.lemmas.Map.Iter.{rest_all}
 use Rattle.std.specs.Map.{values_of}
 use Rattle.mq_tree.specs.Entries.{capped}
-use Rattle.mq_tree.specs.Nodes.{entries_of}
+use Rattle.mq_tree.specs.Nodes.{entries_in}
 use Rattle.mq_tree.proofs.Counts.{prefixes_node, nodes_of}
 use Rattle.mq_tree.proofs.tree.node.Node.+nodes.Goals as goal
 
 pub loop-child-init : goal.loop-child-init
 loop-child-init g t c = (
-  ap capped (ap (λ xs. 0 + sum_by (λ node. nodes_of (entries_of node)) xs) (c.into_iter-child-iterator.ensures.into_iter_gives ∙ c.values-child-items.ensures.rest)
-      ∙ zero-add (sum_by (λ node. nodes_of (entries_of node)) (values_of c.self.inside.children.entries)) ∙ prefixes_node c.self.inside.value c.self.inside.children.entries c.args.self.now c.self.view_is c.self.invariant),
+  ap capped (ap (λ xs. 0 + sum_by (λ node. nodes_of (entries_in node)) xs) (c.into_iter-child-iterator.ensures.into_iter_gives ∙ c.values-child-items.ensures.rest)
+      ∙ zero-add (sum_by (λ node. nodes_of (entries_in node)) (values_of c.self.inside.children.entries)) ∙ prefixes_node c.self.inside.value c.self.inside.children.entries c.args.self.now c.self.view_is c.self.invariant),
   omega arith,
 )
 

@@ -1,7 +1,8 @@
 use Rattle.std.proofs.Common.{◌++◌, Some, None, sym, ap, ◌∙◌}
 use Rattle.std.proofs.lemmas.Result.{on_ok_weaker, on_err_weaker}
+use Rattle.std.specs.Box.{with_value}
 use Rattle.mq_topic.specs.Levels.{levels_left}
-use Rattle.mq_tree.specs.Nodes.{own, below, entries_of, children_of}
+use Rattle.mq_tree.specs.Nodes.{own, below, entries_of, entries_in, children_of}
 use Rattle.mq_tree.proofs.Edits.{insert-here}
 use Rattle.mq_tree.proofs.Children.{lookup-here}
 use Rattle.mq_tree.proofs.Changes.{live_put, on_err}
@@ -20,29 +21,36 @@ returns-in_default-clause-ok g t c =
 pub invariant_of-self-in-Some-get_mut : goal.invariant_of-self-in-Some-get_mut
 invariant_of-self-in-Some-get_mut g t c =
     let at : At (levels_left c.args.key) c.split_first.result.0.now (levels_left c.split_first.result.1) c.self.inside.value c.self.inside.children.entries c.args.self.now = record { key_is = ap levels_left c.in-Some.is ∙ c.split_first.ensures; are = c.self.invariant; is = c.self.view_is } in
-    let w = c.get_mut.follows.holds c.put.new.self in
+    let child = c.in-Some-get_mut.child.now in
+    let new = with_value child c.put.new.self in
+    let w = c.get_mut.follows.holds new in
     let found = rw c.in-Some-get_mut.is at c.get_mut.ensures.value in
-    children_set _ _ _ _ _ _ at c.put.new.self _ (live_put c.put.result (entries_of c.in-Some-get_mut.child.now) (entries_of c.put.new.self) _ _ (some_child _ _ _ _ _ _ at c.in-Some-get_mut.child.now found) c.put.ensures.ok c.put.ensures.err) w.0 w.4
+    let same = c.deref_mut.ensures.value in
+    children_set _ _ _ _ _ _ at new _ (live_put c.put.result (entries_in child) (entries_in new) _ _ (some_child _ _ _ _ _ _ at child found) (rw same at c.put.ensures.ok) (rw same at c.put.ensures.err)) w.0 w.4
 
 pub returns-in-Some-get_mut-clause-older : goal.returns-in-Some-get_mut-clause-older
 returns-in-Some-get_mut-clause-older g t c =
     let at : At (levels_left c.args.key) c.split_first.result.0.now (levels_left c.split_first.result.1) c.self.inside.value c.self.inside.children.entries c.args.self.now = record { key_is = ap levels_left c.in-Some.is ∙ c.split_first.ensures; are = c.self.invariant; is = c.self.view_is } in
-    rw (found_step _ _ _ _ _ _ at (Some c.in-Some-get_mut.child.now) (rw c.in-Some-get_mut.is at c.get_mut.ensures.value)) c.put.ensures.older
+    rw (found_step _ _ _ _ _ _ at (Some c.in-Some-get_mut.child.now) (rw c.in-Some-get_mut.is at c.get_mut.ensures.value)) (rw c.deref_mut.ensures.value at c.put.ensures.older)
 
 pub returns-in-Some-get_mut-clause-ok : goal.returns-in-Some-get_mut-clause-ok
 returns-in-Some-get_mut-clause-ok g t c =
     let at : At (levels_left c.args.key) c.split_first.result.0.now (levels_left c.split_first.result.1) c.self.inside.value c.self.inside.children.entries c.args.self.now = record { key_is = ap levels_left c.in-Some.is ∙ c.split_first.ensures; are = c.self.invariant; is = c.self.view_is } in
-    on_ok_weaker c.put.result (λ e. put_kept _ _ _ _ _ _ at c.in-Some-get_mut.child.now c.put.new.self c.args.value _ (rw c.in-Some-get_mut.is at c.get_mut.ensures.value) e (c.get_mut.follows.holds c.put.new.self).0) c.put.ensures.ok
+    let child = c.in-Some-get_mut.child.now in
+    let new = with_value child c.put.new.self in
+    on_ok_weaker c.put.result (λ e. put_kept _ _ _ _ _ _ at child new c.args.value _ (rw c.in-Some-get_mut.is at c.get_mut.ensures.value) e (c.get_mut.follows.holds new).0) (rw c.deref_mut.ensures.value at c.put.ensures.ok)
 
 pub returns-in-Some-get_mut-clause-err : goal.returns-in-Some-get_mut-clause-err
 returns-in-Some-get_mut-clause-err g t c =
     let at : At (levels_left c.args.key) c.split_first.result.0.now (levels_left c.split_first.result.1) c.self.inside.value c.self.inside.children.entries c.args.self.now = record { key_is = ap levels_left c.in-Some.is ∙ c.split_first.ensures; are = c.self.invariant; is = c.self.view_is } in
-    on_err_weaker c.put.result (λ e. put_same _ _ _ _ _ _ at c.in-Some-get_mut.child.now c.put.new.self _ (rw c.in-Some-get_mut.is at c.get_mut.ensures.value) e (c.get_mut.follows.holds c.put.new.self).0) c.put.ensures.err
+    let child = c.in-Some-get_mut.child.now in
+    let new = with_value child c.put.new.self in
+    on_err_weaker c.put.result (λ e. put_same _ _ _ _ _ _ at child new _ (rw c.in-Some-get_mut.is at c.get_mut.ensures.value) e (c.get_mut.follows.holds new).0) (rw c.deref_mut.ensures.value at c.put.ensures.err)
 
 pub returns-in-Some-get_mut-clause-absent : goal.returns-in-Some-get_mut-clause-absent
 returns-in-Some-get_mut-clause-absent g t c =
     let at : At (levels_left c.args.key) c.split_first.result.0.now (levels_left c.split_first.result.1) c.self.inside.value c.self.inside.children.entries c.args.self.now = record { key_is = ap levels_left c.in-Some.is ∙ c.split_first.ensures; are = c.self.invariant; is = c.self.view_is } in
-    rw (found_step _ _ _ _ _ _ at (Some c.in-Some-get_mut.child.now) (rw c.in-Some-get_mut.is at c.get_mut.ensures.value)) c.put.ensures.absent
+    rw (found_step _ _ _ _ _ _ at (Some c.in-Some-get_mut.child.now) (rw c.in-Some-get_mut.is at c.get_mut.ensures.value)) (rw c.deref_mut.ensures.value at c.put.ensures.absent)
 
 pub returns-in_err-grow-clause-absent : goal.returns-in_err-grow-clause-absent
 returns-in_err-grow-clause-absent g t c =

@@ -1,4 +1,5 @@
 use Rattle.std.proofs.Common.{◌++◌, Some, None, sym, ap, ◌∙◌}
+use Rattle.std.specs.Box.{with_value}
 use Rattle.mq_topic.specs.Levels.{levels_left}
 use Rattle.mq_tree.specs.Nodes.{own, below, children_of}
 use Rattle.mq_tree.proofs.Edits.{remove-here}
@@ -29,30 +30,37 @@ returns-in_default-get_mut-clause-rest g t c =
 pub invariant_of-self-then-is_bare : goal.invariant_of-self-then-is_bare
 invariant_of-self-then-is_bare g t c =
     let at : At (levels_left c.args.key) c.split_first.result.0.now (levels_left c.split_first.result.1) c.self.inside.value c.self.inside.children.entries c.args.self.now = record { key_is = ap levels_left c.in-Some.is ∙ c.split_first.ensures; are = c.self.invariant; is = c.self.view_is } in
-    children_cut _ _ _ _ _ _ at c.take-taken.new.self _ _ (c.get_mut.follows.holds c.take-taken.new.self).0 c.cut.ensures.entries c.cut.ensures.ordered
+    let new = with_value c.in-Some-get_mut.child.now c.take-taken.new.self in
+    children_cut _ _ _ _ _ _ at new _ _ (c.get_mut.follows.holds new).0 c.cut.ensures.entries c.cut.ensures.ordered
 
 pub invariant_of-self-else-is_bare : goal.invariant_of-self-else-is_bare
 invariant_of-self-else-is_bare g t c =
     let at : At (levels_left c.args.key) c.split_first.result.0.now (levels_left c.split_first.result.1) c.self.inside.value c.self.inside.children.entries c.args.self.now = record { key_is = ap levels_left c.in-Some.is ∙ c.split_first.ensures; are = c.self.invariant; is = c.self.view_is } in
-    let w = c.get_mut.follows.holds c.take-taken.new.self in
-    children_set _ _ _ _ _ _ at c.take-taken.new.self _ (some_from_not_bare _ c.is_bare.result c.is_bare.ensures c.if-is_bare.false) w.0 w.4
+    let new = with_value c.in-Some-get_mut.child.now c.take-taken.new.self in
+    let w = c.get_mut.follows.holds new in
+    children_set _ _ _ _ _ _ at new _ (some_from_not_bare _ c.is_bare.result (rw c.deref.ensures at c.is_bare.ensures) c.if-is_bare.false) w.0 w.4
 
 pub returns-then-is_bare-clause-value : goal.returns-then-is_bare-clause-value
 returns-then-is_bare-clause-value g t c =
     let at : At (levels_left c.args.key) c.split_first.result.0.now (levels_left c.split_first.result.1) c.self.inside.value c.self.inside.children.entries c.args.self.now = record { key_is = ap levels_left c.in-Some.is ∙ c.split_first.ensures; are = c.self.invariant; is = c.self.view_is } in
-    c.take-taken.ensures.value ∙ sym (found_step _ _ _ _ _ _ at (Some c.in-Some-get_mut.child.now) (rw c.in-Some-get_mut.is at c.get_mut.ensures.value))
+    rw c.deref_mut.ensures.value at c.take-taken.ensures.value ∙ sym (found_step _ _ _ _ _ _ at (Some c.in-Some-get_mut.child.now) (rw c.in-Some-get_mut.is at c.get_mut.ensures.value))
 
 pub returns-then-is_bare-clause-rest : goal.returns-then-is_bare-clause-rest
 returns-then-is_bare-clause-rest g t c =
     let at : At (levels_left c.args.key) c.split_first.result.0.now (levels_left c.split_first.result.1) c.self.inside.value c.self.inside.children.entries c.args.self.now = record { key_is = ap levels_left c.in-Some.is ∙ c.split_first.ensures; are = c.self.invariant; is = c.self.view_is } in
-    take_cut _ _ _ _ _ _ at c.in-Some-get_mut.child.now c.take-taken.new.self _ _ (rw c.in-Some-get_mut.is at c.get_mut.ensures.value) c.take-taken.ensures.rest (nil_from_bare _ c.is_bare.result c.is_bare.ensures c.if-is_bare.true) (c.get_mut.follows.holds c.take-taken.new.self).0 c.cut.ensures.entries
+    let child = c.in-Some-get_mut.child.now in
+    let new = with_value child c.take-taken.new.self in
+    take_cut _ _ _ _ _ _ at child new _ _ (rw c.in-Some-get_mut.is at c.get_mut.ensures.value) (rw c.deref_mut.ensures.value at c.take-taken.ensures.rest)
+    (nil_from_bare _ c.is_bare.result (rw c.deref.ensures at c.is_bare.ensures) c.if-is_bare.true) (c.get_mut.follows.holds new).0 c.cut.ensures.entries
 
 pub returns-else-is_bare-clause-value : goal.returns-else-is_bare-clause-value
 returns-else-is_bare-clause-value g t c =
     let at : At (levels_left c.args.key) c.split_first.result.0.now (levels_left c.split_first.result.1) c.self.inside.value c.self.inside.children.entries c.args.self.now = record { key_is = ap levels_left c.in-Some.is ∙ c.split_first.ensures; are = c.self.invariant; is = c.self.view_is } in
-    c.take-taken.ensures.value ∙ sym (found_step _ _ _ _ _ _ at (Some c.in-Some-get_mut.child.now) (rw c.in-Some-get_mut.is at c.get_mut.ensures.value))
+    rw c.deref_mut.ensures.value at c.take-taken.ensures.value ∙ sym (found_step _ _ _ _ _ _ at (Some c.in-Some-get_mut.child.now) (rw c.in-Some-get_mut.is at c.get_mut.ensures.value))
 
 pub returns-else-is_bare-clause-rest : goal.returns-else-is_bare-clause-rest
 returns-else-is_bare-clause-rest g t c =
     let at : At (levels_left c.args.key) c.split_first.result.0.now (levels_left c.split_first.result.1) c.self.inside.value c.self.inside.children.entries c.args.self.now = record { key_is = ap levels_left c.in-Some.is ∙ c.split_first.ensures; are = c.self.invariant; is = c.self.view_is } in
-    take_kept _ _ _ _ _ _ at c.in-Some-get_mut.child.now c.take-taken.new.self _ (rw c.in-Some-get_mut.is at c.get_mut.ensures.value) c.take-taken.ensures.rest (c.get_mut.follows.holds c.take-taken.new.self).0
+    let child = c.in-Some-get_mut.child.now in
+    let new = with_value child c.take-taken.new.self in
+    take_kept _ _ _ _ _ _ at child new _ (rw c.in-Some-get_mut.is at c.get_mut.ensures.value) (rw c.deref_mut.ensures.value at c.take-taken.ensures.rest) (c.get_mut.follows.holds new).0
