@@ -2,7 +2,7 @@ use Rattle.std.proofs.Common.{◌++◌, Some, None, sym, ap, ◌∙◌}
 use Rattle.std.proofs.lemmas.Result.{on_ok_weaker, on_err_weaker}
 use Rattle.std.specs.Box.{with_value}
 use Rattle.mq_topic.specs.Levels.{levels_left}
-use Rattle.mq_tree.specs.Nodes.{own, below, entries_of, entries_in, children_of}
+use Rattle.mq_tree.specs.Nodes.{own, below, entries_in, children_of}
 use Rattle.mq_tree.proofs.Edits.{insert-here}
 use Rattle.mq_tree.proofs.Children.{lookup-here}
 use Rattle.mq_tree.proofs.Changes.{live_put, on_err}

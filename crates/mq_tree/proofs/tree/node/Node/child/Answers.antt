@@ -1,6 +1,6 @@
 use Rattle.std.proofs.Common.{sym, ap, ◌∙◌}
 use Rattle.std.specs.Option.{option_map, option_copied}
-use Rattle.mq_tree.specs.Nodes.{entries_of, entries_in}
+use Rattle.mq_tree.specs.Nodes.{entries_in}
 use Rattle.mq_tree.proofs.Maps.{lookup_children}
 use Rattle.mq_tree.proofs.tree.node.Node.child.Goals as goal
 
