@@ -27,7 +27,6 @@ use mq_acl::Acl;
 use mq_topic::{TopicFilter, TopicName};
 use mq_tree::Steps;
 use std::alloc::{AllocError, Global};
-use std::collections::LinkedList;
 use std::rc::{Rc, RcStr};
 
 /// A message that is published.
@@ -85,7 +84,7 @@ pub(crate) struct Turn {
 #[derive(Debug, Drop)]
 pub(crate) struct Made {
     pub(crate) copies: Vec<Delivery>,
-    pub(crate) begun: LinkedList<Begun>,
+    pub(crate) begun: Vec<Begun>,
     pub(crate) served: Vec<Turn>,
 }
 
@@ -93,12 +92,12 @@ impl Made {
     // What is made of a message that nobody gets.
     fn nothing(alloc: Global) -> Made
         ensures copies { copies_in result.copies ≡ [] }
-        ensures begun { result.begun ≡ [] }
+        ensures begun { result.begun.items ≡ [] }
         ensures served { turns_in result.served ≡ [] }
     {
         Made {
             copies: Vec::new(alloc),
-            begun: LinkedList::new(alloc),
+            begun: Vec::new(alloc),
             served: Vec::new(alloc),
         }
     }
@@ -115,7 +114,7 @@ pub(crate) fn make_copies(
 ) -> Result<Made, AllocError>
     ensures copies { IfOk result (λ m. copies_in m.copies
         ≡ copies_made readers.now.access.now readers.now.sessions.now subscriptions.now.rows (message_of message.now)) }
-    ensures begun { IfOk result (λ m. map begin_of m.begun
+    ensures begun { IfOk result (λ m. map begin_of m.begun.items
         ≡ begun_by queueing.limit readers.now.access.now readers.now.sessions.now subscriptions.now.rows (message_of message.now)
         queueing.deadline) }
     ensures served { IfOk result (λ m. turns_in m.served
@@ -198,7 +197,7 @@ fn made_for(
     ensures copies { IfOk result (λ m. copies_in m.copies
         ≡ copies_by readers.now.access.now readers.now.sessions.now (message_of message.now) (by_client (matched matches.now))
         ++ map (member_copy (message_of message.now)) (turns_in served)) }
-    ensures begun { IfOk result (λ m. map begin_of m.begun
+    ensures begun { IfOk result (λ m. map begin_of m.begun.items
         ≡ begins_by queueing.limit readers.now.access.now readers.now.sessions.now (message_of message.now) queueing.deadline
         (by_client (matched matches.now))) }
     ensures served { IfOk result (λ m. m.served ≡ served) }

@@ -17,14 +17,13 @@ use crate::session::Way;
 use crate::summary::Summary;
 use crate::waiting::{Queueing, begin};
 use std::alloc::{AllocError, Global};
-use std::collections::LinkedList;
 use std::rc::RcStr;
 
 /// The copies that are sent, and those that begin to wait.
 #[derive(Debug, Drop)]
 pub(crate) struct Direct {
     pub(crate) copies: Vec<Delivery>,
-    pub(crate) begun: LinkedList<Begun>,
+    pub(crate) begun: Vec<Begun>,
 }
 
 /// The copies for the clients that may read the topic, by client id: for those that are connected, and for those that are
@@ -39,14 +38,14 @@ pub(crate) fn direct_copies(
     requires { AreByClient (matched matches.now) }
     ensures copies { IfOk result (λ d. copies_in d.copies
         ≡ copies_by readers.now.access.now readers.now.sessions.now (message_of outgoing.now.message) (by_client (matched matches.now))) }
-    ensures begun { IfOk result (λ d. map begin_of d.begun
+    ensures begun { IfOk result (λ d. map begin_of d.begun.items
         ≡ begins_by queueing.limit readers.now.access.now readers.now.sessions.now (message_of outgoing.now.message) queueing.deadline
         (by_client (matched matches.now))) }
 {
     // A client gets a copy if it has a session.
     let most = matches.len().min(readers.sessions.len());
     let mut copies = Vec::with_capacity(alloc, most)?;
-    let mut begun = LinkedList::new(alloc);
+    let mut begun = Vec::new(alloc);
     for own in matches.chunk_by(|a, b| a.client == b.client) {
         let client = own[0].client;
         match readers.way(client, outgoing.message.topic, queueing.limit) {
@@ -54,7 +53,7 @@ pub(crate) fn direct_copies(
             Way::Waits => {
                 let copy = own_copy(alloc, client, own, outgoing)?;
                 if let Some(one) = begin(alloc, copy, queueing.deadline)? {
-                    begun.push_back(one)?;
+                    begun.push(one)?;
                 }
             }
             Way::Nowhere => {}

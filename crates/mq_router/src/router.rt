@@ -323,7 +323,7 @@ impl Router {
         steps: &mut Steps,
     ) -> Result<Made, AllocError>
         ensures copies { IfOk result (λ m. copies_in m.copies ≡ copies_held self.now (message_of message.now)) }
-        ensures begun { IfOk result (λ m. map begin_of m.begun ≡ begun_held self.now (message_of message.now) deadline) }
+        ensures begun { IfOk result (λ m. map begin_of m.begun.items ≡ begun_held self.now (message_of message.now) deadline) }
         ensures served { IfOk result (λ m. turns_in m.served ≡ members_held self.now (message_of message.now)) }
         ensures count { OnOk result (steps.new ≡ steps.old + steps_to self.now (world.Publish (message_of message.now))) }
     {

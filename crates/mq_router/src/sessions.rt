@@ -27,7 +27,7 @@ use edits::{end, join, leave, remove_ended};
 use first_end::{earlier, first_end, is_over};
 use found::{find, is_connected, learn_order, outlives, user_in, waited_copies};
 use std::alloc::{AllocError, Global};
-use std::collections::{BTreeMap, LinkedList};
+use std::collections::BTreeMap;
 use std::marker::Model;
 use std::rc::RcStr;
 
@@ -187,8 +187,8 @@ impl Sessions {
     }
 
     /// The copies begin to wait, each where fewer wait than may. It takes no memory.
-    pub(crate) fn join_all(&mut self, limit: u32, all: LinkedList<Begun>)
-        ensures new { self.new ≡ queued_all limit (map begin_of all) self.old }
+    pub(crate) fn join_all(&mut self, limit: u32, all: Vec<Begun>)
+        ensures new { self.new ≡ queued_all limit (map begin_of all.items) self.old }
         ensures ordered { IsStrictlySortedBy session_cmp self.old }
     {
         learn_order(&self.by_id);

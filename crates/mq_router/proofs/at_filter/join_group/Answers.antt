@@ -1,5 +1,5 @@
 use Rattle.std.proofs.Common.{◌∙◌, sym, ap, subst, List}
-use Rattle.std.proofs.Common.{Some, Global, BTreeMap}
+use Rattle.std.proofs.Common.{Some, BTreeMap}
 use Rattle.std.specs.Rc.{rc_str_bytes}
 use Rattle.std.specs.Result.{OnOk}
 use Rattle.std.specs.Map.{set_value, lookup}

@@ -23,7 +23,7 @@ loop-own-preserved c =
     (answers_always _ _ _ (λ f a r g h. search rules)) held.sorted in
     let step =
     nowhere-first c.args.queueing.limit A S m c.args.queueing.deadline _ c.way.result c.way.ensures.sent c.way.ensures.waits
-    (map copy_of c.loop-own.copies.items) (map begin_of c.loop-own.begun)
+    (map copy_of c.loop-own.copies.items) (map begin_of c.loop-own.begun.items)
     (by_client (matched (chunk_by_rest c.next.new.self))) (by_client (matched (chunk_by_rest c.loop-own.own-iterator))) first.1
     c.in-Nowhere.is in
     record { sorted = first.0; copies = step.0 ∙ held.copies; begun = step.1 ∙ held.begun }
@@ -39,7 +39,7 @@ loop-own-preserved-in_default c =
     (answers_always _ _ _ (λ f a r g h. search rules)) held.sorted in
     let step =
     waits-first c.args.queueing.limit A S m c.args.queueing.deadline _ c.way.result c.way.ensures.sent c.way.ensures.waits
-    (map copy_of c.loop-own.copies.items) (map begin_of c.loop-own.begun)
+    (map copy_of c.loop-own.copies.items) (map begin_of c.loop-own.begun.items)
     (by_client (matched (chunk_by_rest c.next.new.self))) (by_client (matched (chunk_by_rest c.loop-own.own-iterator))) first.1
     c.in-Waits.is (option_map begin_of c.in_ok-one-in-Waits.field-0)
     (c.in_ok-one-in-Waits.ensures ∙ ap (λ k. option_map (begin_with k.client c.args.queueing.deadline) (with_qos k)) c.in_ok-copy-in-Waits.ensures) in
@@ -47,8 +47,8 @@ loop-own-preserved-in_default c =
     record {
       sorted = first.0;
       copies = step.0 ∙ held.copies;
-      begun = ap (λ l. l ++ left) (sym (append-nil (map begin_of c.loop-own.begun)))
-          ∙ ap (λ o. (map begin_of c.loop-own.begun ++ option_to_list (option_map begin_of o)) ++ left) (sym c.in_default.is)
+      begun = ap (λ l. l ++ left) (sym (append-nil (map begin_of c.loop-own.begun.items)))
+          ∙ ap (λ o. (map begin_of c.loop-own.begun.items ++ option_to_list (option_map begin_of o)) ++ left) (sym c.in_default.is)
           ∙ step.1 ∙ held.begun;
     }
 
@@ -64,7 +64,7 @@ loop-own-preserved-in_ok-push-in-Sent c =
     let copy = c.in_ok-own_copy-in-Sent.field-0 in
     let step =
     sent-first c.args.queueing.limit A S m c.args.queueing.deadline _ c.way.result c.way.ensures.sent c.way.ensures.waits
-    (map copy_of c.loop-own.copies.items) (map begin_of c.loop-own.begun)
+    (map copy_of c.loop-own.copies.items) (map begin_of c.loop-own.begun.items)
     (by_client (matched (chunk_by_rest c.next.new.self))) (by_client (matched (chunk_by_rest c.loop-own.own-iterator))) first.1
     c.in-Sent.is (copy_of copy) c.in_ok-own_copy-in-Sent.ensures in
     let left = copies_by A S m (by_client (matched (chunk_by_rest c.next.new.self))) in
@@ -76,8 +76,8 @@ loop-own-preserved-in_ok-push-in-Sent c =
       begun = step.1 ∙ held.begun;
     }
 
-pub loop-own-preserved-in_ok-push_back-in-Waits : goal.loop-own-preserved-in_ok-push_back-in-Waits
-loop-own-preserved-in_ok-push_back-in-Waits c =
+pub loop-own-preserved-in_ok-push-in-Waits : goal.loop-own-preserved-in_ok-push-in-Waits
+loop-own-preserved-in_ok-push-in-Waits c =
     let m = message_of c.args.outgoing.now.message in
     let A = c.args.readers.now.access.now in
     let S = c.args.readers.now.sessions.now in
@@ -88,7 +88,7 @@ loop-own-preserved-in_ok-push_back-in-Waits c =
     let one = c.in-Some-2.one in
     let step =
     waits-first c.args.queueing.limit A S m c.args.queueing.deadline _ c.way.result c.way.ensures.sent c.way.ensures.waits
-    (map copy_of c.loop-own.copies.items) (map begin_of c.loop-own.begun)
+    (map copy_of c.loop-own.copies.items) (map begin_of c.loop-own.begun.items)
     (by_client (matched (chunk_by_rest c.next.new.self))) (by_client (matched (chunk_by_rest c.loop-own.own-iterator))) first.1
     c.in-Waits.is (option_map begin_of c.in_ok-one-in-Waits.field-0)
     (c.in_ok-one-in-Waits.ensures ∙ ap (λ k. option_map (begin_with k.client c.args.queueing.deadline) (with_qos k)) c.in_ok-copy-in-Waits.ensures) in
@@ -96,8 +96,8 @@ loop-own-preserved-in_ok-push_back-in-Waits c =
     record {
       sorted = first.0;
       copies = step.0 ∙ held.copies;
-      begun = ap (λ l. map begin_of l ++ left) c.in_ok-push_back-in-Waits.ensures.items
-          ∙ ap (λ l. l ++ left) (map-append begin_of c.loop-own.begun (one ∷ []))
-          ∙ ap (λ o. (map begin_of c.loop-own.begun ++ option_to_list (option_map begin_of o)) ++ left) (sym c.in-Some-2.is)
+      begun = ap (λ l. map begin_of l ++ left) c.in_ok-push-in-Waits.ensures.items
+          ∙ ap (λ l. l ++ left) (map-append begin_of c.loop-own.begun.items (one ∷ []))
+          ∙ ap (λ o. (map begin_of c.loop-own.begun.items ++ option_to_list (option_map begin_of o)) ++ left) (sym c.in-Some-2.is)
           ∙ step.1 ∙ held.begun;
     }

@@ -1,4 +1,4 @@
-use Rattle.std.proofs.Common.{◌≡◌, ◌∙◌, ◌==◌, ◌<◌, ◌+◌, ◌^◌, ℕ, sym, ap, subst, map, not, length, Err, Option, None, List}
+use Rattle.std.proofs.Common.{rules, ◌≡◌, ◌∙◌, ◌==◌, ◌<◌, ◌+◌, ◌^◌, ℕ, sym, ap, subst, map, not, length, Err, Option, None, List}
 use Rattle.mq_router.specs.Held.{turn_of, begin_of, state_of, published_message}
 use Rattle.mq_router.specs.Lists.{Text}
 use Rattle.mq_router.specs.World.{Publish, Message, Subscription}
@@ -86,10 +86,11 @@ returns-clause-applied c =
     let by : Text → Message = λ t. record m { topic = t } in
     let name = c.in_ok-name.ensures.ok.0 in
     let deadline : Option ℕ = deadline_of s.moment m.expiry in
-    let begun : map begin_of c.in_ok-made.made.begun ≡ begun_by limit s.access s.sessions s.subscriptions m deadline =
+    let begun : map begin_of c.in_ok-made.made.begun.items ≡ begun_by limit s.access s.sessions s.subscriptions m deadline =
     c.in_ok-made.ensures.begun ∙ ap (λ (v : State). begun_held v (by c.in_ok-name.name) c.deadline-deadline.result) (sym c.self.view_is) ∙ ap (λ t. begun_held s (by t) c.deadline-deadline.result) name ∙ ap (begun_held s m) c.deadline-deadline.ensures.value in
+    let none : c.is_empty-waits.result ≡ (length c.in_ok-made.made.begun.items == 0) = search rules in
     let waits : not c.is_empty-waits.result ≡ begins_to_wait limit s.access s.sessions s.subscriptions m =
-    ap not c.is_empty-waits.ensures ∙ ap (λ n. not (n == 0)) (sym (length-map c.in_ok-made.made.begun begin_of))
+    ap not none ∙ ap (λ n. not (n == 0)) (sym (length-map c.in_ok-made.made.begun.items begin_of))
     ∙ ap (λ (bs : List Begin). not (length bs == 0)) begun ∙ waits-is limit s.access s.subscriptions m deadline s.sessions in
     let waiting : c.join_all.new.self ≡ map (waiting_after limit s.access s.subscriptions s.moment m) s.sessions =
     c.join_all.ensures.new ∙ ap (λ bs. queued_all limit bs s.sessions) begun
