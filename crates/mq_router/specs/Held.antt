@@ -59,7 +59,7 @@ AreSubscriptions inside = AreListed inside.tree (texts inside.lists.entries)
 
 abbrev pub message_of : Message → world.Message
 message_of m = record {
-  publisher = m.publisher.now;
+  publisher = rc_str_bytes m.publisher.now;
   topic = m.topic.now;
   payload = m.payload.now;
   qos = m.qos;

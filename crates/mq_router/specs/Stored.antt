@@ -1,6 +1,7 @@
 -- What the tree of retained messages and the index of their deadlines show.
 use Rattle.std.specs.Prelude.{◌≡◌, ℕ, ◌+◌, ◌^◌, ◌<◌, Bool, ◌&&◌, not, List, length, map, string_bytes, Option, IfSome}
 use Rattle.std.specs.List.{AllByRecursion}
+use Rattle.std.specs.Rc.{rc_str_bytes}
 use Rattle.mq_topic.specs.Levels.{levels}
 use Rattle.mq_tree.specs.Entries.{Entries, AreInOrder, capped}
 use Rattle.mq_acl.specs.Rows.{AclRow}
@@ -17,7 +18,7 @@ message_in s = record {
   topic = s.topic;
   payload = string_bytes s.payload;
   qos = s.qos;
-  publisher = string_bytes s.publisher;
+  publisher = rc_str_bytes s.publisher;
   deadline = s.deadline;
 }
 

@@ -186,9 +186,9 @@ ghost use Rattle.mq_router.specs.Lists.{Text, same_text};
 
 // Whether No Local keeps a client's own message from it.
 fn is_held_back(options: Options, client: &str, message: &Message) -> bool
-    ensures { result ≡ (options.no_local && same_text client.now message.now.publisher.now) }
+    ensures { result ≡ (options.no_local && same_text client.now (rc_str_bytes message.now.publisher.now)) }
 {
-    options.no_local && client == message.publisher
+    options.no_local && client == message.publisher.as_str()
 }
 
 fn has_direct(direct: &BTreeMap<RcStr, Options>, client: &str) -> bool

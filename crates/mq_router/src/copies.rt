@@ -32,7 +32,7 @@ use std::rc::{Rc, RcStr};
 /// A message that is published.
 #[derive(Clone, Copy, Debug)]
 pub(crate) struct Message<'a> {
-    pub(crate) publisher: &'a str,
+    pub(crate) publisher: &'a RcStr,
     pub(crate) topic: &'a TopicName,
     pub(crate) payload: &'a str,
     pub(crate) qos: u8,

@@ -1,5 +1,6 @@
 ghost use Rattle.std.specs.Prelude.{◌≡◌, ◌≢◌, ◌+◌, [], IsTrue, IfOk, OnOk, OnErr, IfErr, map};
 ghost use Rattle.std.specs.Option.{option_copied};
+ghost use Rattle.std.specs.Rc.{rc_str_bytes};
 ghost use Rattle.mq_router.specs.Refusals.{is_valid, takes_no_memory, client_conditions, first_refusal};
 ghost use Rattle.mq_router.specs.World as world;
 ghost use Rattle.mq_router.specs.StandsFor.{AnswersFor, CountsFor};
@@ -150,17 +151,15 @@ impl Router {
         }
     }
 
-    // Whether the client of a command other than connect has a valid id and is connected.
-    fn check_client(&self, client: &str) -> Result<(), Refusal>
-        ensures { refused_by result ≡ first_refusal (client_conditions self.now.sessions client.now) }
+    // Whether the client of a command other than connect has a valid id and is connected. Gives the id as its session keeps it.
+    fn check_client(&self, client: &str) -> Result<&RcStr, Refusal>
+        ensures refused { refused_by result ≡ first_refusal (client_conditions self.now.sessions client.now) }
+        ensures same { IfOk result (λ id. rc_str_bytes id.now ≡ client.now) }
     {
         if !is_client_id(client) {
             return Err(Refusal::ClientId);
         }
-        if !self.sessions.is_connected(client) {
-            return Err(Refusal::NotConnected);
-        }
-        Ok(())
+        self.sessions.connected(client).ok_or(Refusal::NotConnected)
     }
 
     // What the answer needs comes first: the new session takes the place of the older one and of the copies that wait there.
@@ -224,12 +223,12 @@ impl Router {
         ensures counted { CountsSteps self.old (world.Subscribe client.now text.now (options_of options)) result steps.old steps.new }
         ensures err { OnErr result (self.new ≡ self.old) }
     {
-        self.check_client(client)?;
+        let id = self.check_client(client)?.clone()?;
         let wanted = parse_filter(self.alloc, text)?;
         if is_shared_no_local(&wanted, options.no_local) {
             return Err(Refusal::SharedNoLocal);
         }
-        let copies = self.copies_sent(client, &wanted, options, steps)?;
+        let copies = self.copies_sent(&id, &wanted, options, steps)?;
         self.subscriptions.put(client, &wanted, options)?;
         Ok(Answer {
             copies,
@@ -240,23 +239,22 @@ impl Router {
     // The copies of retained messages that a subscribe sends.
     fn copies_sent(
         &self,
-        client: &str,
+        client: &RcStr,
         wanted: &SubFilter,
         options: Options,
         steps: &mut Steps,
     ) -> Result<Vec<Delivery>, AllocError>
-        ensures copies { IfOk result (λ copies. copies_in copies ≡ copies_sent self.now (wanted_row client.now wanted.now options)) }
-        ensures count { OnOk result (steps.new ≡ steps.old + steps_sent self.now (wanted_row client.now wanted.now options)) }
+        ensures copies { IfOk result (λ copies. copies_in copies ≡ copies_sent self.now (wanted_row (rc_str_bytes client.now) wanted.now options)) }
+        ensures count { OnOk result (steps.new ≡ steps.old + steps_sent self.now (wanted_row (rc_str_bytes client.now) wanted.now options)) }
     {
-        if !asks_for_retained(&self.subscriptions, client, wanted, options) {
+        if !asks_for_retained(&self.subscriptions, client.as_str(), wanted, options) {
             return Ok(Vec::new(self.alloc));
         }
-        let id = self.sessions.id(self.alloc, client)?;
         let receiver = Receiver {
             access: &self.access,
             clock: self.clock,
-            user: self.sessions.user(client),
-            client: &id,
+            user: self.sessions.user(client.as_str()),
+            client,
             filter: &wanted.filter,
             options,
         };
@@ -290,13 +288,13 @@ impl Router {
             steps.old steps.new }
         ensures err { OnErr result (self.new ≡ self.old) }
     {
-        self.check_client(client)?;
+        let id = self.check_client(client)?.clone()?;
         let name = parse_name(self.alloc, topic)?;
         if !may_publish(&self.access, &self.sessions, client, &name) {
             return Err(Refusal::NotAuthorized);
         }
         let message = Message {
-            publisher: client,
+            publisher: &id,
             topic: &name,
             payload,
             qos: properties.qos,

@@ -1,5 +1,5 @@
 //! The sessions of the clients, of those that are connected and of those that are away.
-ghost use Rattle.std.specs.Prelude.{◌≡◌, [], length, not, OnOk, OnErr, IfOk, map, string_bytes};
+ghost use Rattle.std.specs.Prelude.{◌≡◌, [], length, not, is_some, OnOk, OnErr, IfOk, IfSome, map, string_bytes};
 ghost use Rattle.std.specs.Option.{option_copied, option_map};
 ghost use Rattle.std.specs.List.{filter};
 ghost use Rattle.std.specs.Rc.{rc_str_bytes};
@@ -25,7 +25,7 @@ use crate::session::Session;
 use crate::subscriptions::Subscriptions;
 use edits::{end, join, leave, remove_ended};
 use first_end::{earlier, first_end, is_over};
-use found::{find, is_connected, learn_order, outlives, user_in, waited_copies};
+use found::{connected, find, learn_order, outlives, user_in, waited_copies};
 use std::alloc::{AllocError, Global};
 use std::collections::BTreeMap;
 use std::marker::Model;
@@ -73,10 +73,12 @@ impl Sessions {
         self.by_id.len()
     }
 
-    pub(crate) fn is_connected(&self, id: &str) -> bool
-        ensures { result ≡ is_connected self.now id.now }
+    /// The id of a client that is connected, as its session keeps it.
+    pub(crate) fn connected(&self, id: &str) -> Option<&RcStr>
+        ensures connected { is_some result ≡ is_connected self.now id.now }
+        ensures same { IfSome result (λ key. rc_str_bytes key.now ≡ id.now) }
     {
-        is_connected(&self.by_id, id)
+        connected(&self.by_id, id)
     }
 
     /// The user name of a client with a session, if it has one.
@@ -98,16 +100,6 @@ impl Sessions {
         ensures { option_map (λ session. session_at id.now session.now) result ≡ session_of self.now id.now }
     {
         find(&self.by_id, id)
-    }
-
-    /// The id of a client as its session keeps it, or a new text where there is no session.
-    pub(crate) fn id(&self, alloc: Global, id: &str) -> Result<RcStr, AllocError>
-        ensures { IfOk result (λ key. rc_str_bytes key ≡ id.now) }
-    {
-        match self.by_id.get_key_value(id) {
-            Some((key, _)) => key.clone(),
-            None => RcStr::from_str(alloc, id),
-        }
     }
 
     /// Whether a client that connects resumes its session.

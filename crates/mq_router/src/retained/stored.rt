@@ -5,6 +5,7 @@ ghost use Rattle.mq_router.specs.Stored.{message_in, stored_until};
 use crate::copies::Message;
 use mq_topic::TopicName;
 use std::alloc::{AllocError, Global};
+use std::rc::RcStr;
 
 /// The message that is retained for a topic.
 #[derive(Debug, Drop)]
@@ -12,7 +13,7 @@ pub(crate) struct Stored {
     pub(crate) topic: TopicName,
     pub(crate) payload: String,
     pub(crate) qos: u8,
-    pub(crate) publisher: String,
+    pub(crate) publisher: RcStr,
     pub(crate) deadline: Option<u64>,
 }
 
@@ -28,7 +29,7 @@ impl Stored {
             topic: message.topic.clone()?,
             payload: String::from_str(alloc, message.payload)?,
             qos: message.qos,
-            publisher: String::from_str(alloc, message.publisher)?,
+            publisher: message.publisher.clone()?,
             deadline,
         })
     }

@@ -1,6 +1,7 @@
 //! Look-ups among the sessions.
-ghost use Rattle.std.specs.Prelude.{◌≡◌, IfOk, map};
+ghost use Rattle.std.specs.Prelude.{◌≡◌, IfOk, IfSome, is_some, map};
 ghost use Rattle.std.specs.Option.{option_copied, option_map};
+ghost use Rattle.std.specs.Rc.{rc_str_bytes};
 ghost use Rattle.std.specs.List.{filter_map};
 ghost use Rattle.std.specs.List.Sorted.{IsStrictlySortedBy};
 ghost use Rattle.mq_router.specs.World.{session_cmp};
@@ -32,12 +33,20 @@ pub(crate) fn find<'a>(sessions: &'a BTreeMap<RcStr, Session>, id: &str) -> Opti
     sessions.get(id)
 }
 
-pub(crate) fn is_connected(sessions: &BTreeMap<RcStr, Session>, id: &str) -> bool
-    ensures { result ≡ is_connected (map session_in sessions.now.entries) id.now }
+/// The id of a client that is connected, as the sessions keep it.
+pub(crate) fn connected<'a>(sessions: &'a BTreeMap<RcStr, Session>, id: &str) -> Option<&'a RcStr>
+    ensures connected { is_some result ≡ is_connected (map session_in sessions.now.entries) id.now }
+    ensures same { IfSome result (λ key. rc_str_bytes key.now ≡ id.now) }
 {
-    match sessions.get(id) {
-        None => false,
-        Some(session) => session.is_present(),
+    match sessions.get_key_value(id) {
+        None => None,
+        Some((key, session)) => {
+            if session.is_present() {
+                Some(key)
+            } else {
+                None
+            }
+        }
     }
 }
 

@@ -1,9 +1,11 @@
 use Rattle.std.proofs.Common.{◌∙◌, sym, ap, map, refl, string_bytes, Option, None}
-use Rattle.std.specs.Option.{option_copied, option_map}
+use Rattle.std.specs.Option.{option_map}
+use Rattle.std.specs.Rc.{rc_str_bytes}
 use Rattle.mq_router.specs.Lists.{Text}
 use Rattle.mq_router.specs.World.{Subscription}
 use Rattle.mq_router.specs.StandsFor.{State}
-use Rattle.mq_router.specs.Retained.{retained_copies}
+use Rattle.mq_router.specs.Sessions.{user_of}
+use Rattle.mq_router.specs.Retained.{asks_for_retained, retained_copies}
 use Rattle.mq_router.specs.Applied.{copies_sent}
 use Rattle.mq_router.specs.Kept.{row}
 use Rattle.mq_router.specs.Views.{copy_of}
@@ -14,19 +16,22 @@ use Rattle.mq_router.proofs.router.Router.copies_sent.Goals as goal
 pub returns-then-not-asks_for_retained-clause-copies : goal.returns-then-not-asks_for_retained-clause-copies
 returns-then-not-asks_for_retained-clause-copies c =
     let s : State = state_of c.self.inside in
-    let new : Subscription = row (option_map string_bytes c.args.wanted.now.share) c.args.wanted.now.filter (c.args.client.now, c.args.options) in
+    let by : Text → Subscription = λ client. row (option_map string_bytes c.args.wanted.now.share) c.args.wanted.now.filter (client, c.args.options) in
+    let new : Subscription = by (rc_str_bytes c.args.client.now) in
+    let asks = c.asks_for_retained.ensures ∙ ap (λ client. asks_for_retained s.subscriptions (by client)) c.as_str.ensures.value in
     ap (map copy_of) c.new.ensures.items
-    ∙ sym (sent-none s new (sym c.asks_for_retained.ensures ∙ c.if-not-asks_for_retained.true))
+    ∙ sym (sent-none s new (sym asks ∙ c.if-not-asks_for_retained.true))
     ∙ ap (λ (v : State). copies_sent v new) c.self.view_is
 
 pub returns-clause-copies : goal.returns-clause-copies
 returns-clause-copies c =
     let s : State = state_of c.self.inside in
-    let by : Text → Option Text → Subscription = λ client share. row share c.args.wanted.now.filter (client, c.args.options) in
-    let of : Option Text → Subscription = by c.args.client.now in
-    let new : Subscription = of (option_map string_bytes c.args.wanted.now.share) in
+    let by : Option Text → Text → Subscription = λ share client. row share c.args.wanted.now.filter (client, c.args.options) in
+    let share : Option Text = option_map string_bytes c.args.wanted.now.share in
+    let id : Text = rc_str_bytes c.args.client.now in
+    let new : Subscription = by share id in
+    let asks = c.asks_for_retained.ensures ∙ ap (λ client. asks_for_retained s.subscriptions (by share client)) c.as_str.ensures.value in
     c.in_ok-copies.ensures.copies
-    ∙ ap (λ client. retained_copies s.moment s.access (option_copied c.user.result) s.retained (by client None)) c.in_ok-id.ensures
-    ∙ ap (λ user. retained_copies s.moment s.access user s.retained (of None)) c.user.ensures
-    ∙ sym (sent-some s new (of None) refl (sym c.asks_for_retained.ensures ∙ c.if-not-asks_for_retained.false))
+    ∙ ap (λ user. retained_copies s.moment s.access user s.retained (by None id)) (c.user.ensures ∙ ap (user_of s.sessions) c.as_str-2.ensures.value)
+    ∙ sym (sent-some s new (by None id) refl (sym asks ∙ c.if-not-asks_for_retained.false))
     ∙ ap (λ (v : State). copies_sent v new) c.self.view_is

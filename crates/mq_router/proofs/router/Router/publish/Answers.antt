@@ -1,4 +1,5 @@
 use Rattle.std.proofs.Common.{rules, ◌≡◌, ◌∙◌, ◌==◌, ◌<◌, ◌+◌, ◌^◌, ℕ, sym, ap, subst, map, not, length, Err, Option, None, List}
+use Rattle.std.specs.Rc.{rc_str_bytes}
 use Rattle.mq_router.specs.Held.{turn_of, begin_of, state_of, published_message}
 use Rattle.mq_router.specs.Lists.{Text}
 use Rattle.mq_router.specs.World.{Publish, Message, Subscription}
@@ -30,20 +31,20 @@ returns-in_err-check_client-clause-applied c =
     let m : Message = published_message c.args.client.now c.args.topic.now c.args.payload.now c.args.properties in
     let p = err_from_is_err_and c.from_residual.result c.from_residual.ensures.1 in
     refused-applied c.args.self.now (Publish m) c.from_residual.result c.in_err-check_client.field-0.0 c.args.self.now (p.1 ∙ ap (λ e. Err e) p.2)
-    (publish-client c.args.self.now m _ c.in_err-check_client.ensures)
+    (publish-client c.args.self.now m _ c.in_err-check_client.ensures.refused)
 
 pub returns-in_err-name-clause-applied : goal.returns-in_err-name-clause-applied
 returns-in_err-name-clause-applied c =
     let m : Message = published_message c.args.client.now c.args.topic.now c.args.payload.now c.args.properties in
     let p = err_from_is_err_and c.from_residual-in_err-name.result c.from_residual-in_err-name.ensures.1 in
     refused-applied c.args.self.now (Publish m) c.from_residual-in_err-name.result c.in_err-name.field-0.0 c.args.self.now (p.1 ∙ ap (λ e. Err e) p.2)
-    (publish-name c.args.self.now m _ c.in_ok-check_client.ensures c.in_err-name.ensures.err)
+    (publish-name c.args.self.now m _ c.in_ok-check_client.ensures.refused c.in_err-name.ensures.err)
 
 pub returns-then-not-may_publish-clause-applied : goal.returns-then-not-may_publish-clause-applied
 returns-then-not-may_publish-clause-applied c =
     let m : Message = published_message c.args.client.now c.args.topic.now c.args.payload.now c.args.properties in
     let s : State = state_of c.self.inside in
-    let tested : None ≡ first_refusal (client_conditions s.sessions m.publisher) = c.in_ok-check_client.ensures ∙ ap (λ (v : State). first_refusal (client_conditions v.sessions m.publisher)) (sym c.self.view_is) in
+    let tested : None ≡ first_refusal (client_conditions s.sessions m.publisher) = c.in_ok-check_client.ensures.refused ∙ ap (λ (v : State). first_refusal (client_conditions v.sessions m.publisher)) (sym c.self.view_is) in
     subst (λ (v : State). Refuses (world_of v) (Publish m) NotAuthorized) c.self.view_is
     (publish-write s m tested c.in_ok-name.ensures.ok.1
     (ap (λ t. allowed s.access m.publisher (user_of s.sessions m.publisher) t Writing) (sym c.in_ok-name.ensures.ok.0) ∙ sym c.may_publish.ensures ∙ c.if-not-may_publish.true))
@@ -52,18 +53,21 @@ pub returns-then-is_full-clause-applied : goal.returns-then-is_full-clause-appli
 returns-then-is_full-clause-applied c =
     let m : Message = published_message c.args.client.now c.args.topic.now c.args.payload.now c.args.properties in
     let s : State = state_of c.self.inside in
-    let by : Text → Message = λ t. record m { topic = t } in
+    let from : Text → Text → Message = λ p t. record m { publisher = p; topic = t } in
+    let by : Text → Message = from m.publisher in
+    let id = c.in_ok-id.ensures.cases ∙ c.in_ok-check_client.ensures.same in
+    let at = c.in_ok-name.name in
     let name = c.in_ok-name.ensures.ok.0 in
-    let tested : None ≡ first_refusal (client_conditions s.sessions m.publisher) = c.in_ok-check_client.ensures ∙ ap (λ (v : State). first_refusal (client_conditions v.sessions m.publisher)) (sym c.self.view_is) in
+    let tested : None ≡ first_refusal (client_conditions s.sessions m.publisher) = c.in_ok-check_client.ensures.refused ∙ ap (λ (v : State). first_refusal (client_conditions v.sessions m.publisher)) (sym c.self.view_is) in
     subst (λ (v : State). Refuses (world_of v) (Publish m) RetainedFull) c.self.view_is
     (publish-full s m tested c.in_ok-name.ensures.ok.1
     (ap (λ t. allowed s.access m.publisher (user_of s.sessions m.publisher) t Writing) (sym name) ∙ sym c.may_publish.ensures ∙ c.if-not-may_publish.false)
-    (ap (λ t. is_full s.limits.retained s.retained (by t)) (sym name) ∙ sym c.is_full.ensures ∙ c.if-is_full.true))
+    (ap (λ t. is_full s.limits.retained s.retained (by t)) (sym name) ∙ ap (λ p. is_full s.limits.retained s.retained (from p at)) (sym id) ∙ sym c.is_full.ensures ∙ c.if-is_full.true))
 
 pub invariant_of-self-2 : goal.invariant_of-self-2
 invariant_of-self-2 c =
     let s : State = state_of c.self.inside in
-    let m : Message = record (published_message c.args.client.now c.args.topic.now c.args.payload.now c.args.properties) { topic = c.in_ok-name.name } in
+    let m : Message = record (published_message c.args.client.now c.args.topic.now c.args.payload.now c.args.properties) { publisher = rc_str_bytes c.in_ok-id.id; topic = c.in_ok-name.name } in
     let limit = s.limits.queued in
     let near : IfSome (deadline_of s.moment m.expiry) (λ d. d < s.moment + 2 ^ 32) = subst (λ deadline. IfSome deadline (λ d. d < s.moment + 2 ^ 32)) c.deadline-deadline.ensures.value c.deadline-deadline.ensures.near in
     let waiting : c.join_all.new.self ≡ map (waiting_after limit s.access s.subscriptions s.moment m) s.sessions =
@@ -77,17 +81,21 @@ pub returns-clause-applied : goal.returns-clause-applied
 returns-clause-applied c =
     let m : Message = published_message c.args.client.now c.args.topic.now c.args.payload.now c.args.properties in
     let s : State = state_of c.self.inside in
-    let tested : None ≡ first_refusal (client_conditions s.sessions m.publisher) = c.in_ok-check_client.ensures ∙ ap (λ (v : State). first_refusal (client_conditions v.sessions m.publisher)) (sym c.self.view_is) in
+    let tested : None ≡ first_refusal (client_conditions s.sessions m.publisher) = c.in_ok-check_client.ensures.refused ∙ ap (λ (v : State). first_refusal (client_conditions v.sessions m.publisher)) (sym c.self.view_is) in
     let subs = c.serve_all.new.subscriptions in
     let kept = c.publish.new.self in
     let new : State = record s { sessions = c.join_all.new.self; subscriptions = subs.rows; filter_keys = subs.keys; retained = kept.messages; topic_keys = kept.keys; deadlines = kept.pairs } in
     let limit = s.limits.queued in
     let turned : List Subscription → List Subscription = λ ss. all_turned ss s.subscriptions in
-    let by : Text → Message = λ t. record m { topic = t } in
+    let from : Text → Text → Message = λ p t. record m { publisher = p; topic = t } in
+    let by : Text → Message = from m.publisher in
+    let id = c.in_ok-id.ensures.cases ∙ c.in_ok-check_client.ensures.same in
+    let at = c.in_ok-name.name in
     let name = c.in_ok-name.ensures.ok.0 in
     let deadline : Option ℕ = deadline_of s.moment m.expiry in
     let begun : map begin_of c.in_ok-made.made.begun.items ≡ begun_by limit s.access s.sessions s.subscriptions m deadline =
-    c.in_ok-made.ensures.begun ∙ ap (λ (v : State). begun_held v (by c.in_ok-name.name) c.deadline-deadline.result) (sym c.self.view_is) ∙ ap (λ t. begun_held s (by t) c.deadline-deadline.result) name ∙ ap (begun_held s m) c.deadline-deadline.ensures.value in
+    c.in_ok-made.ensures.begun ∙ ap (λ p. begun_held c.args.self.now (from p at) c.deadline-deadline.result) id
+    ∙ ap (λ (v : State). begun_held v (by at) c.deadline-deadline.result) (sym c.self.view_is) ∙ ap (λ t. begun_held s (by t) c.deadline-deadline.result) name ∙ ap (begun_held s m) c.deadline-deadline.ensures.value in
     let none : c.is_empty-waits.result ≡ (length c.in_ok-made.made.begun.items == 0) = search rules in
     let waits : not c.is_empty-waits.result ≡ begins_to_wait limit s.access s.sessions s.subscriptions m =
     ap not none ∙ ap (λ n. not (n == 0)) (sym (length-map c.in_ok-made.made.begun.items begin_of))
@@ -98,10 +106,10 @@ returns-clause-applied c =
     subst (λ (v : State). Does v (Publish m) (reply_of c.published.result) new) c.self.view_is
     (publish-does s m c.join_all.new.self subs kept _ tested c.in_ok-name.ensures.ok.1
     (ap (λ t. allowed s.access m.publisher (user_of s.sessions m.publisher) t Writing) (sym name) ∙ sym c.may_publish.ensures ∙ c.if-not-may_publish.false)
-    (ap (λ t. is_full s.limits.retained s.retained (by t)) (sym name) ∙ sym c.is_full.ensures ∙ c.if-is_full.false)
-    (c.published.ensures ∙ ap (λ l. published l (not c.is_empty-waits.result)) (c.in_ok-made.ensures.copies ∙ ap (λ (v : State). copies_held v (by c.in_ok-name.name)) (sym c.self.view_is) ∙ ap (λ t. copies_held s (by t)) name) ∙ ap (published (copies_held s m)) waits)
+    (ap (λ t. is_full s.limits.retained s.retained (by t)) (sym name) ∙ ap (λ p. is_full s.limits.retained s.retained (from p at)) (sym id) ∙ sym c.is_full.ensures ∙ c.if-is_full.false)
+    (c.published.ensures ∙ ap (λ l. published l (not c.is_empty-waits.result)) (c.in_ok-made.ensures.copies ∙ ap (λ p. copies_held c.args.self.now (from p at)) id ∙ ap (λ (v : State). copies_held v (by at)) (sym c.self.view_is) ∙ ap (λ t. copies_held s (by t)) name) ∙ ap (published (copies_held s m)) waits)
     waiting
-    (same-then _ _ _ c.serve_all.ensures.rows (same-is _ _ (ap (λ l. turned (map turn_of l)) c.as_slice.ensures.value ∙ ap turned (c.in_ok-made.ensures.served ∙ ap (λ (v : State). members_held v (by c.in_ok-name.name)) (sym c.self.view_is) ∙ ap (λ t. members_held s (by t)) name))))
+    (same-then _ _ _ c.serve_all.ensures.rows (same-is _ _ (ap (λ l. turned (map turn_of l)) c.as_slice.ensures.value ∙ ap turned (c.in_ok-made.ensures.served ∙ ap (λ p. members_held c.args.self.now (from p at)) id ∙ ap (λ (v : State). members_held v (by at)) (sym c.self.view_is) ∙ ap (λ t. members_held s (by t)) name))))
     c.serve_all.ensures.keys
-    (c.in_ok-publish.ensures.ok ∙ ap (λ t. retained_after s.moment s.retained (by t)) name)
+    (c.in_ok-publish.ensures.ok ∙ ap (λ p. retained_after s.moment s.retained (from p at)) id ∙ ap (λ t. retained_after s.moment s.retained (by t)) name)
     (λ keys pairs. c.in_ok-publish.ensures.filed (record { keys = keys; pairs = pairs })))

@@ -18,13 +18,13 @@ pub returns-in_err-check_client-clause-applied : goal.returns-in_err-check_clien
 returns-in_err-check_client-clause-applied c =
     let p = err_from_is_err_and c.from_residual.result c.from_residual.ensures.1 in
     refused-applied c.args.self.now _ c.from_residual.result c.in_err-check_client.field-0.0 c.args.self.now (p.1 ∙ ap (λ e. Err e) p.2)
-    (unsubscribe-client c.args.self.now c.args.client.now c.args.text.now _ c.in_err-check_client.ensures)
+    (unsubscribe-client c.args.self.now c.args.client.now c.args.text.now _ c.in_err-check_client.ensures.refused)
 
 pub returns-in_err-wanted-clause-applied : goal.returns-in_err-wanted-clause-applied
 returns-in_err-wanted-clause-applied c =
     let p = err_from_is_err_and c.from_residual-in_err-wanted.result c.from_residual-in_err-wanted.ensures.1 in
     refused-applied c.args.self.now _ c.from_residual-in_err-wanted.result c.in_err-wanted.field-0.0 c.args.self.now (p.1 ∙ ap (λ e. Err e) p.2)
-    (unsubscribe-filter c.args.self.now c.args.client.now c.args.text.now _ c.in_ok-check_client.ensures c.in_err-wanted.ensures.err)
+    (unsubscribe-filter c.args.self.now c.args.client.now c.args.text.now _ c.in_ok-check_client.ensures.refused c.in_err-wanted.ensures.err)
 
 pub returns-clause-applied : goal.returns-clause-applied
 returns-clause-applied c =
@@ -33,7 +33,7 @@ returns-clause-applied c =
     let text = c.args.text.now in
     let subs = c.remove.new.self in
     let new : State = record s { subscriptions = subs.rows; filter_keys = subs.keys } in
-    let tested : None ≡ first_refusal (client_conditions s.sessions id) = c.in_ok-check_client.ensures ∙ ap (λ (v : State). first_refusal (client_conditions v.sessions id)) (sym c.self.view_is) in
+    let tested : None ≡ first_refusal (client_conditions s.sessions id) = c.in_ok-check_client.ensures.refused ∙ ap (λ (v : State). first_refusal (client_conditions v.sessions id)) (sym c.self.view_is) in
     let ok = c.in_ok-wanted.ensures.ok in
     let by : Option Text → Text → Bool = λ sh f. list_any (has_key id sh f) s.subscriptions in
     let out : Option Text → Text → List Subscription = λ sh f. filter (λ x. not (has_key id sh f x)) s.subscriptions in
