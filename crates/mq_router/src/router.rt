@@ -244,7 +244,8 @@ impl Router {
         options: Options,
         steps: &mut Steps,
     ) -> Result<Vec<Delivery>, AllocError>
-        ensures copies { IfOk result (λ copies. copies_in copies ≡ copies_sent self.now (wanted_row (rc_str_bytes client.now) wanted.now options)) }
+        ensures copies { IfOk result (λ copies. copies_in copies
+            ≡ copies_sent self.now (wanted_row (rc_str_bytes client.now) wanted.now options)) }
         ensures count { OnOk result (steps.new ≡ steps.old + steps_sent self.now (wanted_row (rc_str_bytes client.now) wanted.now options)) }
     {
         if !asks_for_retained(&self.subscriptions, client.as_str(), wanted, options) {
