@@ -35,7 +35,8 @@ fn access_named(word: &str) -> Option<Access>
 
 // The access and the topic that follow the keyword.
 fn split_access(rest: &str) -> Result<(Access, &str), AclKind>
-    ensures { MatchResult result (λ parts. access_and_topic rest.now ≡ Ok (access_topic_view parts)) (λ kind. access_and_topic rest.now ≡ Err kind) }
+    ensures { MatchResult result (λ parts. access_and_topic rest.now ≡ Ok (access_topic_view parts))
+        (λ kind. access_and_topic rest.now ≡ Err kind) }
 {
     if rest.is_empty() {
         return Err(AclKind::Topic);

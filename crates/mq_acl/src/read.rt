@@ -36,7 +36,8 @@ fn add_row(
     user: Option<&str>,
     entry: Entry,
 ) -> Result<(), AllocError>
-    ensures { OnOk result (row_views rows.new.items ≡ row_views rows.old.items ++ option_to_list (row_of (user_who user.entry) (entry_view entry.entry))) }
+    ensures { OnOk result (row_views rows.new.items
+        ≡ row_views rows.old.items ++ option_to_list (row_of (user_who user.entry) (entry_view entry.entry))) }
 {
     let (owner, access, filter) = match entry {
         Entry::Skipped | Entry::User(_) => return Ok(()),
@@ -89,7 +90,8 @@ fn read_line_into<'a>(
 
 // The rows of the text, or its first fault.
 pub(crate) fn read_rows(alloc: Global, text: &str) -> Result<Vec<Row>, AclFault>
-    ensures { MatchResult result (λ rows. rows_of text.now ≡ Ok (row_views rows.items)) (λ fault. (fault ≡ out_of_memory) ⊎ (rows_of text.now ≡ Err fault)) }
+    ensures { MatchResult result (λ rows. rows_of text.now ≡ Ok (row_views rows.items))
+        (λ fault. (fault ≡ out_of_memory) ⊎ (rows_of text.now ≡ Err fault)) }
 {
     let mut rows = Vec::new(alloc);
     let mut user = None;

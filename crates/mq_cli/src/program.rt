@@ -1,12 +1,14 @@
 //! All of the program but its `main`.
-ghost use Rattle.std.specs.Prelude.{◌≡◌, ◌≢◌, ◌≤◌, [], ℕ, List, Some, None, Ok, OnOk, IfOk, IsOk, IfErr, map, option_map, string_bytes, codes};
+ghost use Rattle.std.specs.Prelude.{◌≡◌, ◌≢◌, ◌≤◌, [], ℕ, List, Some, None, Ok, OnOk, IfOk, IsOk, IfErr};
+ghost use Rattle.std.specs.Prelude.{map, option_map, string_bytes, codes};
 ghost use Rattle.clap.specs.Words.{fault_of};
 ghost use Rattle.mq_router.specs.World.{World, empty_world, within};
 ghost use Rattle.mq_router.specs.Views.{limits_of};
 ghost use Rattle.mq_router.specs.StandsFor.{StandsFor};
 ghost use Rattle.mq_cli.specs.AclFile.{IsAnswerTo};
 ghost use Rattle.mq_cli.specs.CommandLine.{mqroute, given};
-ghost use Rattle.mq_cli.specs.Program.{script_file, failure_status, limits_by, limits_given, BeginsWith, BeginsIn, IsScript, AnswersScript, AnswersAll};
+ghost use Rattle.mq_cli.specs.Program.{script_file, failure_status, limits_by, limits_given};
+ghost use Rattle.mq_cli.specs.Program.{BeginsWith, BeginsIn, IsScript, AnswersScript, AnswersAll};
 
 use crate::acl_file::{AclFileFault, read_acl};
 use crate::command_line::{Options, UsageFault, arguments};

@@ -19,7 +19,7 @@ use Rattle.std.specs.List.Sorted.{IsStrictlySortedBy}
 use Rattle.mq_topic.specs.declared.subscription.SubFilter.{SubFilter}
 use Rattle.mq_router.specs.Lists.{Text, same_text}
 use Rattle.mq_router.specs.World.{Subscription, same_share}
-use Rattle.mq_router.specs.Kept.{OwnKey, wanted_key, is_own, is_in_list}
+use Rattle.mq_router.specs.Kept.{OwnKey, Shared, wanted_key, shared_key, is_own, is_in_list}
 use Rattle.mq_router.proofs.ListLemmas.{list_any-map, remove_key-filter}
 use Rattle.mq_router.proofs.OrderLemmas.{equal_from, text_flip}
 use Rattle.mq_router.proofs.InTurn.{same_share-is, same_text-is}
@@ -28,11 +28,14 @@ use Rattle.mq_router.proofs.AtLemmas.{same_share-itself}
 
 -- ## Their order
 
-abbrev pub own_cmp : SubFilter → SubFilter → Ordering
-own_cmp = then_cmp (on (λ wanted. wanted.share) (option_cmp string_cmp)) (on (λ wanted. wanted.filter) (slice_cmp nat_cmp))
+abbrev wanted_cmp : SubFilter → SubFilter → Ordering
+wanted_cmp = then_cmp (on (λ wanted. wanted.share) (option_cmp string_cmp)) (on (λ wanted. wanted.filter) (slice_cmp nat_cmp))
+
+abbrev pub own_cmp : Shared → Shared → Ordering
+own_cmp = on (λ shared. shared.value) wanted_cmp
 
 own_total : IsTotalOrder own_cmp
-own_total = then_total (on_total (λ wanted. wanted.share) (options_total string_cmp_total)) (on_total (λ wanted. wanted.filter) nat_list_cmp_total)
+own_total = on_total (λ shared. shared.value) (then_total (on_total (λ wanted. wanted.share) (options_total string_cmp_total)) (on_total (λ wanted. wanted.filter) nat_list_cmp_total))
 
 abbrev is_key : OwnKey → OwnKey → Bool
 is_key a b = same_share a.0 b.0 && same_text a.1 b.1
@@ -43,11 +46,14 @@ share_tie None (Some b) = refl
 share_tie (Some a) None = refl
 share_tie (Some a) (Some b) = is_eq-slice_cmp (string_bytes a) (string_bytes b)
 
-tied_is : (a b : SubFilter) → is_eq (own_cmp a b) ≡ is_key (wanted_key a) (wanted_key b)
-tied_is a b =
+wanted_tie : (a b : SubFilter) → is_eq (wanted_cmp a b) ≡ is_key (wanted_key a) (wanted_key b)
+wanted_tie a b =
     sym (tied_then (option_cmp string_cmp a.share b.share) (slice_cmp nat_cmp a.filter b.filter))
     ∙ ap (λ v. v && is_eq (slice_cmp nat_cmp a.filter b.filter)) (share_tie a.share b.share)
     ∙ ap (λ v. same_share (option_map string_bytes a.share) (option_map string_bytes b.share) && v) (is_eq-slice_cmp a.filter b.filter)
+
+tied_is : (a b : Shared) → is_eq (own_cmp a b) ≡ is_key (shared_key a) (shared_key b)
+tied_is a b = wanted_tie a.value b.value
 
 key-is : (a b : OwnKey) → is_key a b ≡ true → a ≡ b
 key-is (a, f) (b, g) h =
@@ -55,8 +61,8 @@ key-is (a, f) (b, g) h =
     let text : f ≡ g = same_text-is f g (right_true (same_share a b) (same_text f g) h) in
     λ i. (share i, text i)
 
-tied-keys : (a b : SubFilter) → own_cmp a b ≡ Equal → wanted_key a ≡ wanted_key b
-tied-keys a b h = key-is (wanted_key a) (wanted_key b) (sym (tied_is a b) ∙ ap is_eq h)
+tied-keys : (a b : Shared) → own_cmp a b ≡ Equal → shared_key a ≡ shared_key b
+tied-keys a b h = key-is (shared_key a) (shared_key b) (sym (tied_is a b) ∙ ap is_eq h)
 
 both_same : (a b : Bool) → (a ≡ true → b ≡ true) → (b ≡ true → a ≡ true) → a ≡ b
 both_same true b f g = sym (f refl)
@@ -69,26 +75,26 @@ own-is s (a, f) h = sym (key-is (s.share, s.filter) (a, f) h)
 
 -- ## One that joins
 
-abbrev keys_in : List SubFilter → List OwnKey
-keys_in ws = map wanted_key ws
+abbrev keys_in : List Shared → List OwnKey
+keys_in ws = map shared_key ws
 
-pub own-insert : (w : SubFilter) (ws : List SubFilter) (s : Subscription) → is_in_list (keys_in (insert_key own_cmp ws w)) s ≡ (is_own s (wanted_key w) || is_in_list (keys_in ws) s)
+pub own-insert : (w : Shared) (ws : List Shared) (s : Subscription) → is_in_list (keys_in (insert_key own_cmp ws w)) s ≡ (is_own s (shared_key w) || is_in_list (keys_in ws) s)
 own-insert w [] s = refl
 own-insert w (x ∷ xs) s =
-    let P : Ordering → Type 0 = λ r. own_cmp w x ≡ r → is_in_list (keys_in (match_ordering r (w ∷ x ∷ xs) (x ∷ xs) (x ∷ insert_key own_cmp xs w))) s ≡ (is_own s (wanted_key w) || is_in_list (keys_in (x ∷ xs)) s) in
+    let P : Ordering → Type 0 = λ r. own_cmp w x ≡ r → is_in_list (keys_in (match_ordering r (w ∷ x ∷ xs) (x ∷ xs) (x ∷ insert_key own_cmp xs w))) s ≡ (is_own s (shared_key w) || is_in_list (keys_in (x ∷ xs)) s) in
     let rest : Bool = is_in_list (keys_in xs) s in
     (elim (own_cmp w x) as P [
       | Less ↦ λ h. refl
-      | Equal ↦ λ h. or_again (is_own s (wanted_key x)) rest ∙ ap (λ k. is_own s k || (is_own s (wanted_key x) || rest)) (sym (tied-keys w x h))
-      | Greater ↦ λ h. ap (λ b. is_own s (wanted_key x) || b) (own-insert w xs s) ∙ or_swapped (is_own s (wanted_key x)) (is_own s (wanted_key w)) rest
+      | Equal ↦ λ h. or_again (is_own s (shared_key x)) rest ∙ ap (λ k. is_own s k || (is_own s (shared_key x) || rest)) (sym (tied-keys w x h))
+      | Greater ↦ λ h. ap (λ b. is_own s (shared_key x) || b) (own-insert w xs s) ∙ or_swapped (is_own s (shared_key x)) (is_own s (shared_key w)) rest
     ]) refl
 
 -- ## One that leaves
 
-apart : (w x y : SubFilter) → is_at (own_cmp w) x ≡ true → own_cmp x y ≡ Less → is_at (own_cmp w) y ≡ false
+apart : (w x y : Shared) → is_at (own_cmp w) x ≡ true → own_cmp x y ≡ Less → is_at (own_cmp w) y ≡ false
 apart w x y h k = ap is_eq (own_total.congr w x y (equal_from _ h) ∙ k)
 
-removed-is : (w : SubFilter) (ws : List SubFilter) → IsStrictlySortedBy own_cmp ws → remove_key (is_at (own_cmp w)) ws ≡ filter (λ x. not (is_at (own_cmp w) x)) ws
+removed-is : (w : Shared) (ws : List Shared) → IsStrictlySortedBy own_cmp ws → remove_key (is_at (own_cmp w)) ws ≡ filter (λ x. not (is_at (own_cmp w) x)) ws
 removed-is w ws s = remove_key-filter own_cmp (is_at (own_cmp w)) (apart w) ws s
 
 pub flip_share : (a b : Option Text) → same_share a b ≡ same_share b a
@@ -97,12 +103,12 @@ flip_share a b = both_same (same_share a b) (same_share b a) (λ t. ap (λ v. sa
 flip_key : (a b : OwnKey) → is_key a b ≡ is_key b a
 flip_key a b = ap (λ v. v && same_text a.1 b.1) (flip_share a.0 b.0) ∙ ap (λ v. same_share b.0 a.0 && v) (text_flip a.1 b.1)
 
-pub own-remove : (w : SubFilter) (ws : List SubFilter) → IsStrictlySortedBy own_cmp ws → (s : Subscription) → is_in_list (keys_in (remove_key (is_at (own_cmp w)) ws)) s ≡ (not (is_own s (wanted_key w)) && is_in_list (keys_in ws) s)
+pub own-remove : (w : Shared) (ws : List Shared) → IsStrictlySortedBy own_cmp ws → (s : Subscription) → is_in_list (keys_in (remove_key (is_at (own_cmp w)) ws)) s ≡ (not (is_own s (shared_key w)) && is_in_list (keys_in ws) s)
 own-remove w ws sorted s =
-    let other : (x : SubFilter) → is_own s (wanted_key x) ≡ true → not (is_at (own_cmp w) x) ≡ not (is_own s (wanted_key w)) = λ x h.
-    (let named : wanted_key x ≡ (s.share, s.filter) = own-is s (wanted_key x) h in
-    ap not (tied_is w x ∙ ap (is_key (wanted_key w)) named ∙ flip_key (wanted_key w) (s.share, s.filter))) in
+    let other : (x : Shared) → is_own s (shared_key x) ≡ true → not (is_at (own_cmp w) x) ≡ not (is_own s (shared_key w)) = λ x h.
+    (let named : shared_key x ≡ (s.share, s.filter) = own-is s (shared_key x) h in
+    ap not (tied_is w x ∙ ap (is_key (shared_key w)) named ∙ flip_key (shared_key w) (s.share, s.filter))) in
     ap (λ l. is_in_list (keys_in l) s) (removed-is w ws sorted)
-    ∙ list_any-map wanted_key (is_own s) (filter (λ x. not (is_at (own_cmp w) x)) ws)
-    ∙ any-filter_same (λ (x : SubFilter). is_own s (wanted_key x)) (λ x. not (is_at (own_cmp w) x)) (not (is_own s (wanted_key w))) other ws
-    ∙ ap (λ b. not (is_own s (wanted_key w)) && b) (sym (list_any-map wanted_key (is_own s) ws))
+    ∙ list_any-map shared_key (is_own s) (filter (λ x. not (is_at (own_cmp w) x)) ws)
+    ∙ any-filter_same (λ (x : Shared). is_own s (shared_key x)) (λ x. not (is_at (own_cmp w) x)) (not (is_own s (shared_key w))) other ws
+    ∙ ap (λ b. not (is_own s (shared_key w)) && b) (sym (list_any-map shared_key (is_own s) ws))

@@ -12,11 +12,13 @@ use mq_tree::LevelTree;
 use std::alloc::{AllocError, Global};
 use std::collections::BTreeSet;
 use std::marker::Model;
+use std::rc::Rc;
 
-/// A client's subscriptions, by share name and filter.
+/// A client's subscriptions, by share name and filter. Each has a place of its own, since a leaf of the set has room for more
+/// than most clients subscribe to.
 #[derive(Debug, Drop)]
 pub(crate) struct Own {
-    filters: BTreeSet<SubFilter>,
+    filters: BTreeSet<Rc<SubFilter>>,
 }
 
 impl Model for Own {
@@ -45,8 +47,9 @@ impl Own {
         self.filters.is_empty()
     }
 
-    pub(crate) fn add(&mut self, wanted: &SubFilter) -> Result<(), AllocError>
-        ensures ok { OnOk result ((s : Subscription) → is_in_list self.new s ≡ (is_own s (wanted_key wanted.now) || is_in_list self.old s)) }
+    pub(crate) fn add(&mut self, wanted: &Rc<SubFilter>) -> Result<(), AllocError>
+        ensures ok { OnOk result ((s : Subscription)
+            → is_in_list self.new s ≡ (is_own s (wanted_key wanted.now.value) || is_in_list self.old s)) }
         ensures err { OnErr result (self.new ≡ self.old) }
     {
         let wanted = wanted.clone()?;
@@ -54,8 +57,8 @@ impl Own {
         Ok(())
     }
 
-    pub(crate) fn remove(&mut self, wanted: &SubFilter)
-        ensures { (s : Subscription) → is_in_list self.new s ≡ (not (is_own s (wanted_key wanted.now)) && is_in_list self.old s) }
+    pub(crate) fn remove(&mut self, wanted: &Rc<SubFilter>)
+        ensures { (s : Subscription) → is_in_list self.new s ≡ (not (is_own s (wanted_key wanted.now.value)) && is_in_list self.old s) }
     {
         // Learns that the keys are in order.
         let _count = self.filters.len();

@@ -4,7 +4,8 @@ ghost use Rattle.std.specs.Rc.{rc_str_bytes};
 ghost use Rattle.mq_router.specs.Refusals.{is_valid, takes_no_memory, client_conditions, first_refusal};
 ghost use Rattle.mq_router.specs.World as world;
 ghost use Rattle.mq_router.specs.StandsFor.{AnswersFor, CountsFor};
-ghost use Rattle.mq_router.specs.Applied.{Applied, CountsSteps, refused_by, copies_sent, steps_sent, steps_to, counts_held, copies_held, begun_held, members_held};
+ghost use Rattle.mq_router.specs.Applied.{Applied, CountsSteps, refused_by, copies_sent, steps_sent, steps_to};
+ghost use Rattle.mq_router.specs.Applied.{counts_held, copies_held, begun_held, members_held};
 ghost use Rattle.mq_router.specs.Views.{request_of, reply_of};
 ghost use Rattle.mq_router.specs.Kept.{options_of};
 ghost use Rattle.mq_router.specs.Asked.{wanted_row};
@@ -229,7 +230,7 @@ impl Router {
             return Err(Refusal::SharedNoLocal);
         }
         let copies = self.copies_sent(&id, &wanted, options, steps)?;
-        self.subscriptions.put(client, &wanted, options)?;
+        self.subscriptions.put(&id, &wanted, options)?;
         Ok(Answer {
             copies,
             outcome: Outcome::Reason(options.qos),

@@ -65,11 +65,11 @@ impl Subscriptions {
     /// Adds a subscription, in the place of the one with its key.
     pub(crate) fn put(
         &mut self,
-        client: &str,
-        wanted: &SubFilter,
+        client: &RcStr,
+        wanted: &Rc<SubFilter>,
         options: Options,
     ) -> Result<(), AllocError>
-        ensures ok { OnOk result (SameInTurn self.new.rows (joined (wanted_row client.now wanted.now options) self.old.rows)) }
+        ensures ok { OnOk result (SameInTurn self.new.rows (joined (wanted_row (rc_str_bytes client.now) wanted.now.value options) self.old.rows)) }
         ensures keys { OnOk result (AreKeys self.new) }
         ensures err { OnErr result (self.new ≡ self.old) }
     {
@@ -84,8 +84,8 @@ impl Subscriptions {
     }
 
     /// Takes a subscription out. It takes no memory.
-    pub(crate) fn remove(&mut self, client: &str, wanted: &SubFilter)
-        ensures rows { self.new.rows ≡ filter (λ s. not (has_wanted client.now wanted.now s)) self.old.rows }
+    pub(crate) fn remove(&mut self, client: &str, wanted: &Rc<SubFilter>)
+        ensures rows { self.new.rows ≡ filter (λ s. not (has_wanted client.now wanted.now.value s)) self.old.rows }
         ensures keys { AreKeys self.new }
     {
         take_out(&mut self.tree, &mut self.lists, client, wanted);
@@ -156,16 +156,16 @@ fn contains_in(tree: &LevelTree<AtFilter>, client: &str, wanted: &SubFilter) -> 
 fn join_in(
     tree: &mut LevelTree<AtFilter>,
     alloc: Global,
-    client: &str,
+    client: &RcStr,
     wanted: &SubFilter,
     options: Options,
 ) -> Result<(), AllocError>
     requires { AreKept tree.old }
-    ensures ok { OnOk result (SameInTurn (all_rows tree.new) (joined (wanted_row client.now wanted.now options) (all_rows tree.old))) }
+    ensures ok { OnOk result (SameInTurn (all_rows tree.new) (joined (wanted_row (rc_str_bytes client.now) wanted.now options) (all_rows tree.old))) }
     ensures err { OnErr result (tree.new ≡ tree.old) }
     ensures kept { AreKept tree.new }
 {
-    let client = RcStr::from_str(alloc, client)?;
+    let client = client.clone()?;
     match tree.get_mut(&wanted.filter) {
         Some(at) => {
             at.join(alloc, wanted.share.as_deref(), client, options)?;
@@ -231,24 +231,27 @@ fn put_in(
     tree: &mut LevelTree<AtFilter>,
     lists: &mut BTreeMap<RcStr, Own>,
     alloc: Global,
-    client: &str,
-    wanted: &SubFilter,
+    client: &RcStr,
+    wanted: &Rc<SubFilter>,
     options: Options,
 ) -> Result<(), AllocError>
     requires { AreListed tree.old (texts lists.old.entries) }
-    ensures ok { OnOk result (SameInTurn (all_rows tree.new) (joined (wanted_row client.now wanted.now options) (all_rows tree.old))) }
+    ensures ok { OnOk result (SameInTurn (all_rows tree.new)
+        (joined (wanted_row (rc_str_bytes client.now) wanted.now.value options) (all_rows tree.old))) }
     ensures err { OnErr result (tree.new ≡ tree.old) }
     ensures listed { AreListed tree.new (texts lists.new.entries) }
 {
-    if contains_in(tree, client, wanted) {
-        join_in(tree, alloc, client, wanted, options)?;
+    let asked = wanted.as_ref();
+    let id = client.as_str();
+    if contains_in(tree, id, asked) {
+        join_in(tree, alloc, client, asked, options)?;
         return Ok(());
     }
     list_add(lists, alloc, client, wanted)?;
-    match join_in(tree, alloc, client, wanted, options) {
+    match join_in(tree, alloc, client, asked, options) {
         Ok(()) => Ok(()),
         Err(fault) => {
-            list_remove(lists, client, wanted);
+            list_remove(lists, id, wanted);
             Err(fault)
         }
     }
@@ -258,10 +261,10 @@ fn take_out(
     tree: &mut LevelTree<AtFilter>,
     lists: &mut BTreeMap<RcStr, Own>,
     client: &str,
-    wanted: &SubFilter,
+    wanted: &Rc<SubFilter>,
 )
     requires { AreListed tree.old (texts lists.old.entries) }
-    ensures rows { all_rows tree.new ≡ filter (λ s. not (has_wanted client.now wanted.now s)) (all_rows tree.old) }
+    ensures rows { all_rows tree.new ≡ filter (λ s. not (has_wanted client.now wanted.now.value s)) (all_rows tree.old) }
     ensures listed { AreListed tree.new (texts lists.new.entries) }
 {
     leave_in(tree, client, wanted);
@@ -285,11 +288,11 @@ ghost use Rattle.mq_router.specs.Kept.{wanted_key};
 fn list_add(
     lists: &mut BTreeMap<RcStr, Own>,
     alloc: Global,
-    client: &str,
-    wanted: &SubFilter,
+    client: &RcStr,
+    wanted: &Rc<SubFilter>,
 ) -> Result<(), AllocError>
     requires { NoneEmptied lists.old.entries }
-    ensures ok { OnOk result (ListsMore client.now wanted.now lists.old.entries lists.new.entries) }
+    ensures ok { OnOk result (ListsMore (rc_str_bytes client.now) wanted.now.value lists.old.entries lists.new.entries) }
     ensures err { OnErr result (lists.new.entries ≡ lists.old.entries) }
     ensures live { NoneEmptied lists.new.entries }
 {
@@ -306,17 +309,17 @@ fn list_add(
 fn list_begin(
     lists: &mut BTreeMap<RcStr, Own>,
     alloc: Global,
-    client: &str,
-    wanted: &SubFilter,
+    client: &RcStr,
+    wanted: &Rc<SubFilter>,
 ) -> Result<(), AllocError>
     requires live { NoneEmptied lists.old.entries }
-    requires absent { lookup (is_text client.now) (texts lists.old.entries) ≡ None }
-    ensures ok { OnOk result (ListsMore client.now wanted.now lists.old.entries lists.new.entries) }
+    requires absent { lookup (is_text (rc_str_bytes client.now)) (texts lists.old.entries) ≡ None }
+    ensures ok { OnOk result (ListsMore (rc_str_bytes client.now) wanted.now.value lists.old.entries lists.new.entries) }
     ensures err { OnErr result (lists.new.entries ≡ lists.old.entries) }
     ensures live { NoneEmptied lists.new.entries }
 {
     let _count = lists.len();
-    let client = RcStr::from_str(alloc, client)?;
+    let client = client.clone()?;
     let mut own = Own::new(alloc);
     own.add(wanted)?;
     lists.insert(client, own)?;
@@ -324,9 +327,9 @@ fn list_begin(
 }
 
 // Takes a subscription out, and with its last one the client.
-fn list_remove(lists: &mut BTreeMap<RcStr, Own>, client: &str, wanted: &SubFilter)
+fn list_remove(lists: &mut BTreeMap<RcStr, Own>, client: &str, wanted: &Rc<SubFilter>)
     requires { NoneEmptied lists.old.entries }
-    ensures rest { ListsLess client.now (wanted_key wanted.now) lists.old.entries lists.new.entries }
+    ensures rest { ListsLess client.now (wanted_key wanted.now.value) lists.old.entries lists.new.entries }
     ensures live { NoneEmptied lists.new.entries }
 {
     let _count = lists.len();

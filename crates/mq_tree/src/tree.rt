@@ -119,7 +119,8 @@ impl<V> LevelTree<V> {
     /// The values of the keys that the filter matches, in level order of the keys, by a walk over matching nodes
     /// alone.
     pub fn for_filter(&self, wanted: &TopicFilter, steps: &mut Steps) -> Result<Vec<&V>, AllocError>
-        ensures found { IfOk result (λ found. map (λ v. v.now) found.items ≡ values_of (filter (λ e. matches (levels wanted.now) e.0) self.now)) }
+        ensures found { IfOk result (λ found. map (λ v. v.now) found.items
+            ≡ values_of (filter (λ e. matches (levels wanted.now) e.0) self.now)) }
         ensures count { OnOk result (steps.new ≡ steps.old + length (met_by_filter (levels wanted.now) (prefixes (keys_of self.now)))) }
         ensures ordered { AreInOrder self.now }
     {

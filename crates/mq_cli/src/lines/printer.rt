@@ -5,7 +5,8 @@ ghost use Rattle.serde_json.specs.Data.{no_members};
 ghost use Rattle.serde_json.specs.View.{members_view};
 ghost use Rattle.mq_router.specs.Views.{copy_of, reply_of};
 ghost use Rattle.mq_router.specs.declared.answer.Outcome.TheVariants.{Reason, Counts};
-ghost use Rattle.mq_cli.specs.Printed.{copy_members, copy_text, answer_text, line_text, closing_members, report_members, report_text, report_of, refusal_text, fault_text};
+ghost use Rattle.mq_cli.specs.Printed.{copy_members, copy_text, answer_text, line_text, closing_members};
+ghost use Rattle.mq_cli.specs.Printed.{report_members, report_text, report_of, refusal_text, fault_text};
 ghost use Rattle.mq_cli.specs.Kept.{IsFor, copy_names, parts, parts_of, reason_names, report_names};
 
 use crate::lines::datum::Datum;

@@ -5,7 +5,9 @@ ghost use Rattle.serde_json.specs.View.{view, members_view};
 ghost use Rattle.mq_router.specs.Views.{request_of};
 ghost use Rattle.mq_router.specs.Refusals.{is_valid};
 ghost use Rattle.mq_cli.specs.Fields.{Gives, or_fault};
-ghost use Rattle.mq_cli.specs.Reading.{connect_fields, disconnect_fields, subscribe_fields, unsubscribe_fields, publish_fields, acl_fields, advance_fields, stat_fields, command_of, value_of, reading, is_blank as blank};
+ghost use Rattle.mq_cli.specs.Reading.{connect_fields, disconnect_fields, subscribe_fields, unsubscribe_fields};
+ghost use Rattle.mq_cli.specs.Reading.{publish_fields, acl_fields, advance_fields, stat_fields};
+ghost use Rattle.mq_cli.specs.Reading.{command_of, value_of, reading, is_blank as blank};
 
 use crate::lines::fault::LineFault;
 use crate::lines::fields::{Fields, field};

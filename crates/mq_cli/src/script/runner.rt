@@ -1,5 +1,6 @@
 //! The run of a script.
-ghost use Rattle.std.specs.Prelude.{◌≡◌, ◌≢◌, ◌+◌, ◌≤◌, ◌<◌, ◌++◌, [], ℕ, List, Some, Ok, Err, OnOk, IfErr, IsOkAnd, length};
+ghost use Rattle.std.specs.Prelude.{◌≡◌, ◌≢◌, ◌+◌, ◌≤◌, ◌<◌, ◌++◌, [], ℕ, List, Some, Ok, Err};
+ghost use Rattle.std.specs.Prelude.{OnOk, IfErr, IsOkAnd, length};
 ghost use Rattle.std.specs.Io.KnownBytes.{Consumes};
 ghost use Rattle.mq_router.specs.World.{World};
 ghost use Rattle.mq_router.specs.StandsFor.{StandsFor};

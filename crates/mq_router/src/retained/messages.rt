@@ -100,7 +100,8 @@ impl Messages {
         wanted: &TopicFilter,
         steps: &mut Steps,
     ) -> Result<Vec<&Stored>, AllocError>
-        ensures found { IfOk result (λ found. map (λ v. v.now) found.items ≡ values_of (filter (λ e. matches (levels wanted.now) e.0) self.now)) }
+        ensures found { IfOk result (λ found. map (λ v. v.now) found.items
+            ≡ values_of (filter (λ e. matches (levels wanted.now) e.0) self.now)) }
         ensures count { OnOk result (steps.new ≡ steps.old + length (met_by_filter (levels wanted.now) (prefixes (keys_of self.now)))) }
         ensures ordered { AreInOrder self.now }
     {

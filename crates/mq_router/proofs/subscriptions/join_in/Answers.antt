@@ -32,7 +32,7 @@ pub returns-in_ok-join-in-Some-clause-ok : goal.returns-in_ok-join-in-Some-claus
 returns-in_ok-join-in-Some-clause-ok c =
     let f = c.args.wanted.now.filter in
     let share = option_map string_bytes c.args.wanted.now.share in
-    let k = c.args.client.now in
+    let k = rc_str_bytes c.args.client.now in
     let w : At = c.join.new.self in
     let v : At = c.in-Some.at.now in
     let found = sym c.get_mut.ensures.value ∙ ap option_copied_mut c.in-Some.is in
@@ -41,7 +41,7 @@ returns-in_ok-join-in-Some-clause-ok c =
     let by : Option Text → Text → Text → List Subscription = λ sh g id. joined (row sh g (id, c.args.options)) v.rows in
     tree-joined f c.args.tree.now c.requires.each c.requires.ordered v found w c.join.ensures.filter c.join.ensures.here (c.get_mut.follows.lender w) set (row share f (k, c.args.options)) refl
     (same-then _ _ _ c.in_ok-join-in-Some.ensures.ok
-    (same-is _ _ (ap (λ sh. by sh v.filter (rc_str_bytes c.in_ok-client.client)) c.as_deref.ensures.value ∙ ap (λ g. by share g (rc_str_bytes c.in_ok-client.client)) is ∙ ap (λ id. by share f id) c.in_ok-client.ensures.ok)))
+    (same-is _ _ (ap (λ sh. by sh v.filter (rc_str_bytes c.in_ok-client.client)) c.as_deref.ensures.value ∙ ap (λ g. by share g (rc_str_bytes c.in_ok-client.client)) is ∙ ap (λ id. by share f id) c.in_ok-client.ensures.cases)))
 
 pub returns-in_ok-join-in-Some-clause-kept : goal.returns-in_ok-join-in-Some-clause-kept
 returns-in_ok-join-in-Some-clause-kept c =
@@ -57,5 +57,5 @@ pub returns-in-None-clause-ok : goal.returns-in-None-clause-ok
 returns-in-None-clause-ok c =
     let share = option_map string_bytes c.args.wanted.now.share in
     let f = c.args.wanted.now.filter in
-    subst (λ (id : Text). OnOk c.add_in.result (SameInTurn (all_rows c.add_in.new.tree) (joined (row share f (id, c.args.options)) (all_rows c.args.tree.now)))) c.in_ok-client.ensures.ok
+    subst (λ (id : Text). OnOk c.add_in.result (SameInTurn (all_rows c.add_in.new.tree) (joined (row share f (id, c.args.options)) (all_rows c.args.tree.now)))) c.in_ok-client.ensures.cases
     (subst (λ (es : AtEntries). OnOk c.add_in.result (SameInTurn (all_rows c.add_in.new.tree) (joined (row share f (rc_str_bytes c.in_ok-client.client, c.args.options)) (all_rows es)))) c.get_mut.follows.holds-at-none c.add_in.ensures.ok)

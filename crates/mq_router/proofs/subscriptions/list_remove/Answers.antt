@@ -8,12 +8,12 @@ use Rattle.mq_router.proofs.subscriptions.list_remove.Goals as goal
 pub returns-in_default-clause-rest : goal.returns-in_default-clause-rest
 returns-in_default-clause-rest c = λ s.
     ap (λ m. is_listed (texts m.entries) s) c.get_mut.follows.holds-at-none
-    ∙ dropped-absent c.args.client.now (wanted_key c.args.wanted.now) c.args.lists.now.entries (sym c.get_mut.ensures.value ∙ ap option_copied_mut c.in_default.is) s
+    ∙ dropped-absent c.args.client.now (wanted_key c.args.wanted.now.value) c.args.lists.now.entries (sym c.get_mut.ensures.value ∙ ap option_copied_mut c.in_default.is) s
 
 pub returns-then-is_empty-clause-rest : goal.returns-then-is_empty-clause-rest
 returns-then-is_empty-clause-rest c =
     let w = c.remove.new.self in
-    dropped-last c.args.client.now (wanted_key c.args.wanted.now) c.args.lists.now.entries c.get_mut.ensures.ordered c.in-Some.own.now w (c.get_mut.follows.lender w).entries
+    dropped-last c.args.client.now (wanted_key c.args.wanted.now.value) c.args.lists.now.entries c.get_mut.ensures.ordered c.in-Some.own.now w (c.get_mut.follows.lender w).entries
     (sym c.get_mut.ensures.value ∙ ap option_copied_mut c.in-Some.is) (c.get_mut.follows.holds w).0
     c.remove-then-is_empty.new.self.entries c.remove-then-is_empty.ensures.entries (sym c.is_empty.ensures ∙ c.if-is_empty.true) c.remove.ensures
 
@@ -25,7 +25,7 @@ returns-then-is_empty-clause-live c =
 pub returns-else-is_empty-clause-rest : goal.returns-else-is_empty-clause-rest
 returns-else-is_empty-clause-rest c =
     let w = c.remove.new.self in
-    dropped-there c.args.client.now (wanted_key c.args.wanted.now) c.args.lists.now.entries c.get_mut.ensures.ordered c.in-Some.own.now w (c.get_mut.follows.lender w).entries
+    dropped-there c.args.client.now (wanted_key c.args.wanted.now.value) c.args.lists.now.entries c.get_mut.ensures.ordered c.in-Some.own.now w (c.get_mut.follows.lender w).entries
     (sym c.get_mut.ensures.value ∙ ap option_copied_mut c.in-Some.is) (c.get_mut.follows.holds w).0 c.remove.ensures
 
 pub returns-else-is_empty-clause-live : goal.returns-else-is_empty-clause-live

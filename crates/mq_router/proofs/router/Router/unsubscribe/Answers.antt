@@ -4,6 +4,7 @@ use Rattle.std.specs.List.{filter, list_any}
 use Rattle.std.proofs.Common.{Option, Bool, List}
 use Rattle.mq_topic.specs.Texts.{share_of}
 use Rattle.mq_router.specs.Lists.{Text}
+use Rattle.mq_router.specs.Asked.{has_wanted}
 use Rattle.mq_router.specs.World.{Subscription, Unsubscribe, has_key}
 use Rattle.mq_router.specs.Refusals.{first_refusal, client_conditions}
 use Rattle.mq_router.specs.Answers.{reason}
@@ -37,8 +38,8 @@ returns-clause-applied c =
     let ok = c.in_ok-wanted.ensures.ok in
     let by : Option Text → Text → Bool = λ sh f. list_any (has_key id sh f) s.subscriptions in
     let out : Option Text → Text → List Subscription = λ sh f. filter (λ x. not (has_key id sh f x)) s.subscriptions in
-    let f = c.in_ok-wanted.wanted.filter in
+    let f = c.in_ok-wanted.wanted.value.filter in
     subst (λ (v : State). Does v (Unsubscribe id text) (reply_of c.with_reason.result) new) c.self.view_is
     (unsubscribe-does s id text subs _ tested ok.2
-    (c.with_reason.ensures ∙ ap reason (c.reason_to_leave.ensures ∙ ap (λ b. if b then 0 else 17) (c.contains-existed.ensures ∙ ap (λ sh. by sh f) ok.0 ∙ ap (by (share_of text)) ok.1)))
+    (c.with_reason.ensures ∙ ap reason (c.reason_to_leave.ensures ∙ ap (λ b. if b then 0 else 17) (c.contains-existed.ensures ∙ ap (λ w. list_any (has_wanted id w) s.subscriptions) c.deref.ensures ∙ ap (λ sh. by sh f) ok.0 ∙ ap (by (share_of text)) ok.1)))
     (c.remove.ensures.rows ∙ ap (λ sh. out sh f) ok.0 ∙ ap (out (share_of text)) ok.1) c.remove.ensures.keys)
