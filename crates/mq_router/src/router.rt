@@ -59,6 +59,18 @@ struct Properties {
     expiry: Option<u32>,
 }
 
+impl Properties {
+    fn new(qos: u8, retain: bool, expiry: Option<u32>) -> Properties
+        ensures { result ≡ record { qos = qos; retain = retain; expiry = expiry } }
+    {
+        Properties {
+            qos,
+            retain,
+            expiry,
+        }
+    }
+}
+
 impl Model for Router {
     ghost use Rattle.mq_router.specs.StandsFor.{State};
 
@@ -102,8 +114,8 @@ impl Router {
                 user,
                 clean,
                 session_expiry,
-            } => self.connect(client.as_str(), user.as_deref(), *clean, *session_expiry),
-            Command::Disconnect { client } => self.disconnect(client.as_str()),
+            } => self.connect(client, user.as_deref(), *clean, *session_expiry),
+            Command::Disconnect { client } => self.disconnect(client),
             Command::Subscribe {
                 client,
                 filter,
@@ -120,11 +132,9 @@ impl Router {
                     handling: *handling,
                     id: *id,
                 };
-                self.subscribe(client.as_str(), filter.as_str(), options, steps)
+                self.subscribe(client, filter, options, steps)
             }
-            Command::Unsubscribe { client, filter } => {
-                self.unsubscribe(client.as_str(), filter.as_str())
-            }
+            Command::Unsubscribe { client, filter } => self.unsubscribe(client, filter),
             Command::Publish {
                 client,
                 topic,
@@ -133,18 +143,8 @@ impl Router {
                 retain,
                 expiry,
             } => {
-                let properties = Properties {
-                    qos: *qos,
-                    retain: *retain,
-                    expiry: *expiry,
-                };
-                self.publish(
-                    client.as_str(),
-                    topic.as_str(),
-                    payload.as_str(),
-                    properties,
-                    steps,
-                )
+                let properties = Properties::new(*qos, *retain, *expiry);
+                self.publish(client, topic, payload, properties, steps)
             }
             Command::SetAcl { text } => self.set_acl(text.as_deref()),
             Command::Advance { seconds } => self.advance(*seconds, steps),

@@ -1,11 +1,10 @@
-use Rattle.std.proofs.Common.{◌≡◌, ◌∙◌, ◌&&◌, sym, ap, not, Bool, string_bytes}
-use Rattle.std.specs.Option.{option_map}
+use Rattle.std.proofs.Common.{◌∙◌, ◌&&◌, sym, ap, not}
 use Rattle.std.specs.List.{list_any}
 use Rattle.std.specs.Rc.{rc_str_bytes}
 use Rattle.mq_router.specs.Applied.{joined}
 use Rattle.mq_router.specs.Asked.{wanted_row, has_wanted}
 use Rattle.mq_router.specs.World.{Subscription, has_key}
-use Rattle.mq_router.specs.Kept.{row, wanted_key, all_rows, is_listed}
+use Rattle.mq_router.specs.Kept.{wanted_key, all_rows, is_listed}
 use Rattle.mq_router.specs.KeptViews.{texts}
 use Rattle.mq_router.proofs.AnyLemmas.{listed-joined, listed-again, listed-undone}
 use Rattle.mq_router.proofs.InTurn.{same-is, same-then}

@@ -1,4 +1,4 @@
-use Rattle.std.proofs.Common.{◌≡◌, ◌∙◌, ◌||◌, ap, List, map}
+use Rattle.std.proofs.Common.{◌∙◌, ◌||◌, ap, List, map}
 use Rattle.mq_router.specs.Kept.{OwnKey, wanted_key, shared_key, is_own, is_in_list}
 use Rattle.mq_router.proofs.OwnLemmas.{own-insert}
 use Rattle.mq_router.proofs.own.Own.add.Goals as goal

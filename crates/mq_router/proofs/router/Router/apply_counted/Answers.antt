@@ -1,7 +1,9 @@
-use Rattle.std.proofs.Common.{◌≡◌, ℕ, Bool, Option, Ok, ◌∙◌, sym, ap, refl, rules, string_bytes}
+use Rattle.std.proofs.Common.{◌≡◌, Ok, ◌∙◌, sym, ap, refl, rules, string_bytes}
 use Rattle.std.specs.Option.{option_copied}
 use Rattle.mq_router.specs.Lists.{Text}
-use Rattle.mq_router.specs.World.{Request, Connect, Disconnect, Subscribe, Unsubscribe, Publish, SetAcl, Advance, Stat, Options, Message}
+use Rattle.mq_router.specs.World.{Request, Connect, Disconnect, Subscribe, Unsubscribe, Publish, SetAcl, Advance, Stat, Options}
+use Rattle.mq_router.specs.declared.router.Properties.{Properties}
+use Rattle.mq_router.specs.Held.{published_message}
 use Rattle.mq_router.specs.Views.{request_of}
 use Rattle.mq_router.proofs.RouterLemmas.{stat-does}
 use Rattle.mq_router.proofs.WorldLemmas.{applied_answers, applied_counts, none_counted}
@@ -11,8 +13,8 @@ pub returns-in-Connect : goal.returns-in-Connect
 returns-in-Connect c =
     let clean = c.in-Connect.clean in
     let interval = c.in-Connect.session_expiry in
-    let is : Connect c.as_str.result.now (option_copied c.as_deref.result) clean interval ≡ request_of c.args.command.now =
-    ap (λ id. Connect id (option_copied c.as_deref.result) clean interval) c.as_str.ensures.value
+    let is : Connect c.deref.result.now (option_copied c.as_deref.result) clean interval ≡ request_of c.args.command.now =
+    ap (λ id. Connect id (option_copied c.as_deref.result) clean interval) c.deref.ensures
     ∙ ap (λ user. Connect (string_bytes c.in-Connect.client) user clean interval) c.as_deref.ensures.value
     ∙ ap request_of (sym c.in-Connect.is) in
     record {
@@ -24,8 +26,8 @@ returns-in-Connect c =
 
 pub returns-in-Disconnect : goal.returns-in-Disconnect
 returns-in-Disconnect c =
-    let is : Disconnect c.as_str-in-Disconnect.result.now ≡ request_of c.args.command.now =
-    ap (λ id. Disconnect id) c.as_str-in-Disconnect.ensures.value ∙ ap request_of (sym c.in-Disconnect.is) in
+    let is : Disconnect c.deref-in-Disconnect.result.now ≡ request_of c.args.command.now =
+    ap (λ id. Disconnect id) c.deref-in-Disconnect.ensures ∙ ap request_of (sym c.in-Disconnect.is) in
     record {
       answered = applied_answers _ _ _ _ _ is c.disconnect.ensures.applied;
       counted = none_counted c.args.self.now _ _ c.disconnect.result _ is refl;
@@ -36,9 +38,9 @@ returns-in-Disconnect c =
 pub returns-in-Subscribe : goal.returns-in-Subscribe
 returns-in-Subscribe c =
     let options : Options = record { qos = c.in-Subscribe.qos; no_local = c.in-Subscribe.no_local; retain_as_published = c.in-Subscribe.rap; handling = c.in-Subscribe.handling; identifier = c.in-Subscribe.id } in
-    let is : Subscribe c.as_str-in-Subscribe.result.now c.as_str-in-Subscribe-2.result.now options ≡ request_of c.args.command.now =
-    ap (λ id. Subscribe id c.as_str-in-Subscribe-2.result.now options) c.as_str-in-Subscribe.ensures.value
-    ∙ ap (λ text. Subscribe (string_bytes c.in-Subscribe.client) text options) c.as_str-in-Subscribe-2.ensures.value
+    let is : Subscribe c.deref-in-Subscribe.result.now c.deref-in-Subscribe-2.result.now options ≡ request_of c.args.command.now =
+    ap (λ id. Subscribe id c.deref-in-Subscribe-2.result.now options) c.deref-in-Subscribe.ensures
+    ∙ ap (λ text. Subscribe (string_bytes c.in-Subscribe.client) text options) c.deref-in-Subscribe-2.ensures
     ∙ ap request_of (sym c.in-Subscribe.is) in
     record {
       answered = applied_answers _ _ _ _ _ is c.subscribe.ensures.applied;
@@ -49,9 +51,9 @@ returns-in-Subscribe c =
 
 pub returns-in-Unsubscribe : goal.returns-in-Unsubscribe
 returns-in-Unsubscribe c =
-    let is : Unsubscribe c.as_str-in-Unsubscribe.result.now c.as_str-in-Unsubscribe-2.result.now ≡ request_of c.args.command.now =
-    ap (λ id. Unsubscribe id c.as_str-in-Unsubscribe-2.result.now) c.as_str-in-Unsubscribe.ensures.value
-    ∙ ap (λ text. Unsubscribe (string_bytes c.in-Unsubscribe.client) text) c.as_str-in-Unsubscribe-2.ensures.value
+    let is : Unsubscribe c.deref-in-Unsubscribe.result.now c.deref-in-Unsubscribe-2.result.now ≡ request_of c.args.command.now =
+    ap (λ id. Unsubscribe id c.deref-in-Unsubscribe-2.result.now) c.deref-in-Unsubscribe.ensures
+    ∙ ap (λ text. Unsubscribe (string_bytes c.in-Unsubscribe.client) text) c.deref-in-Unsubscribe-2.ensures
     ∙ ap request_of (sym c.in-Unsubscribe.is) in
     record {
       answered = applied_answers _ _ _ _ _ is c.unsubscribe.ensures.applied;
@@ -60,24 +62,16 @@ returns-in-Unsubscribe c =
       no_memory = search rules;
     }
 
-abbrev message : Text → Text → Text → ℕ → Bool → Option ℕ → Message
-message client topic payload qos retain expiry = record {
-  publisher = client;
-  topic = topic;
-  payload = payload;
-  qos = qos;
-  retain = retain;
-  expiry = expiry;
-}
-
 pub returns-in-Publish : goal.returns-in-Publish
 returns-in-Publish c =
     let p = c.in-Publish in
-    let by : Text → Text → Text → Request = λ client topic payload. Publish (message client topic payload p.qos p.retain p.expiry) in
-    let is : by c.as_str-in-Publish.result.now c.as_str-in-Publish-2.result.now c.as_str-in-Publish-3.result.now ≡ request_of c.args.command.now =
-    ap (λ id. by id c.as_str-in-Publish-2.result.now c.as_str-in-Publish-3.result.now) c.as_str-in-Publish.ensures.value
-    ∙ ap (λ topic. by (string_bytes p.client) topic c.as_str-in-Publish-3.result.now) c.as_str-in-Publish-2.ensures.value
-    ∙ ap (by (string_bytes p.client) (string_bytes p.topic)) c.as_str-in-Publish-3.ensures.value
+    let by : Text → Text → Text → Properties → Request = λ client topic payload properties. Publish (published_message client topic payload properties) in
+    let made = c.new-properties.result in
+    let is : by c.deref-in-Publish.result.now c.deref-in-Publish-2.result.now c.deref-in-Publish-3.result.now made ≡ request_of c.args.command.now =
+    ap (λ id. by id c.deref-in-Publish-2.result.now c.deref-in-Publish-3.result.now made) c.deref-in-Publish.ensures
+    ∙ ap (λ topic. by (string_bytes p.client) topic c.deref-in-Publish-3.result.now made) c.deref-in-Publish-2.ensures
+    ∙ ap (λ payload. by (string_bytes p.client) (string_bytes p.topic) payload made) c.deref-in-Publish-3.ensures
+    ∙ ap (by (string_bytes p.client) (string_bytes p.topic) (string_bytes p.payload)) c.new-properties.ensures
     ∙ ap request_of (sym c.in-Publish.is) in
     record {
       answered = applied_answers _ _ _ _ _ is c.publish.ensures.applied;
