@@ -22,12 +22,17 @@ else
     echo "The yardstick wants cargo, librust-serde-json-dev and librust-indexmap-dev: the program alone is measured."
 fi
 
-seconds() { # PROGRAM SCRIPT ARGUMENTS..: user seconds, best of five
+seconds() { # PROGRAM SCRIPT ARGUMENTS..: user seconds
     local program=$1 script=$2
     shift 2
+    { time "$program" "$@" < "$script" > /dev/null; } 2>&1 || true
+}
+
+# The programs run in turns, since a machine's speed may change from minute to minute.
+rounds() { # SCRIPT ARGUMENTS..: user seconds of the program, and of the yardstick if it is there, five times
     for _ in 1 2 3 4 5; do
-        { time "$program" "$@" < "$script" > /dev/null; } 2>&1 || true
-    done | sort -n | head -1
+        echo "$(seconds "$program" "$@") ${yardstick:+$(seconds "$yardstick" "$@")}"
+    done
 }
 
 # A program that waits for more of its script, on $feed. What the kernel tells of it then is its own: what a parent is told
@@ -68,15 +73,10 @@ peak() { # PROGRAM SCRIPT ARGUMENTS..: peak memory in KB
 }
 
 whole() { # LABEL SCRIPT ARGUMENTS..
-    local label=$1 lines took compared
+    local label=$1
     shift
-    lines=$(wc -l < "$1")
-    took=$(seconds "$program" "$@")
-    echo "$label: $took s user, $(python3 -c "print(int($lines / max($took, 0.001)))") lines a second, peak $(peak "$program" "$@") KB"
-    if [ -n "$yardstick" ]; then
-        compared=$(seconds "$yardstick" "$@")
-        echo "    the yardstick: $compared s user, peak $(peak "$yardstick" "$@") KB; ratio $(python3 -c "print(f'{$took / max($compared, 0.001):.2f}')")"
-    fi
+    rounds "$@" | python3 bench/ratios.py "$label" "$(wc -l < "$1")"
+    echo "    peak $(peak "$program" "$@") KB${yardstick:+, of the yardstick $(peak "$yardstick" "$@") KB}"
 }
 
 # What one more command costs: the user time of COUNT of them, after a script without.
