@@ -10,11 +10,11 @@ pub on_either : {A E P Q R : Type 0} (r : Result A E) → OnOk r P → OnErr r Q
 on_either (Ok x) p q f g = f p
 on_either (Err e) p q f g = g q
 
-left_none : (a b : Bool) → (a || b) ≡ false → a ≡ false
+pub left_none : (a b : Bool) → (a || b) ≡ false → a ≡ false
 left_none false b h = refl
 left_none true b h = h
 
-right_none : (a b : Bool) → (a || b) ≡ false → b ≡ false
+pub right_none : (a b : Bool) → (a || b) ≡ false → b ≡ false
 right_none false b h = h
 right_none true b h = absurd (let bad : true ≡ false = h in cc)
 

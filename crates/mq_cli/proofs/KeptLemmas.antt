@@ -64,7 +64,7 @@ set_copy k c ms =
     put (codes "line") (whole_data k) (
     put (codes "client") (string c.client) ms)))))))))
 
-abbrev copy : (client topic payload : List ℕ) (qos : ℕ) (retain : Bool) (expiry : Option ℕ) (ids : List ℕ) (group : Option Group) → Copy
+abbrev pub copy : (client topic payload : List ℕ) (qos : ℕ) (retain : Bool) (expiry : Option ℕ) (ids : List ℕ) (group : Option Group) → Copy
 copy client topic payload qos retain expiry ids group = record {
   client = client;
   topic = topic;

@@ -6,6 +6,7 @@ pub mod Ahead
 pub mod Reading
 pub mod Printed
 pub mod Kept
+pub mod Behind
 pub mod Output
 pub mod Ending
 pub mod Running

@@ -1,5 +1,6 @@
 //! The lines of a script, and the lines that answer them.
 
+mod copies;
 mod datum;
 mod fault;
 mod fields;

@@ -1,7 +1,8 @@
 //! What a member of a printed object is set to.
-ghost use Rattle.std.specs.Prelude.{◌≡◌, ◌++◌, map, OnOk, IfOk};
+ghost use Rattle.std.specs.Prelude.{◌≡◌, ◌++◌, false, map, OnOk, OnErr, IfOk};
 ghost use Rattle.serde_json.specs.Data.{string, array};
 ghost use Rattle.serde_json.specs.View.{view};
+ghost use Rattle.serde_json.specs.Written.{has_float};
 ghost use Rattle.mq_cli.specs.Printed.{whole_data, numbers_data};
 ghost use Rattle.mq_cli.specs.Kept.{data_of};
 
@@ -32,8 +33,10 @@ impl Datum<'_> {
     }
 }
 
-fn set_text(alloc: Global, slot: &mut Value, text: &str) -> Result<(), AllocError>
-    ensures { OnOk result (view slot.new ≡ string text.now) }
+/// Writes a text over a value. The memory of a text that is there is used again.
+pub fn set_text(alloc: Global, slot: &mut Value, text: &str) -> Result<(), AllocError>
+    ensures ok { OnOk result (view slot.new ≡ string text.now) }
+    ensures err { OnErr result (has_float (view slot.old) ≡ false → has_float (view slot.new) ≡ false) }
 {
     if let Value::String(held) = slot {
         held.clear();

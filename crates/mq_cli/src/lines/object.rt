@@ -8,7 +8,7 @@ ghost use Rattle.serde_json.specs.Written.{members_have_float, has_float};
 ghost use Rattle.mq_cli.specs.Kept.{names_of, values_of, data_of, WritesNext};
 ghost use Rattle.mq_cli.specs.Printed.{put_if, whole_data, text_if, whole_if, numbers_if, line_text};
 
-use crate::lines::datum::{Datum, numbers_value};
+use crate::lines::datum::{Datum, numbers_value, set_text};
 use serde_json::{Map, Value};
 use std::alloc::{AllocError, Global};
 use std::mem;
@@ -85,10 +85,14 @@ impl Object {
         Ok(())
     }
 
+    /// The memory of a text that is there is used again.
     pub fn text(&mut self, alloc: Global, name: &str, text: &str) -> Result<(), AllocError>
         ensures { OnOk result (members_view self.new.members.entries
             ≡ put name.now (string text.now) (members_view self.old.members.entries)) }
     {
+        if let Some(slot) = self.members.get_mut(name) {
+            return set_text(alloc, slot, text);
+        }
         let text = String::from_str(alloc, text)?;
         self.put(alloc, name, Value::String(text))
     }

@@ -1,129 +1,21 @@
 //! The objects of the lines that answer commands, used again from line to line.
-ghost use Rattle.std.specs.Prelude.{◌≡◌, ◌++◌, ℕ, List, Bool, true, false, is_some, OnOk, OnErr};
-ghost use Rattle.std.specs.Option.{option_copied, option_map};
+ghost use Rattle.std.specs.Prelude.{◌≡◌, ◌++◌, ℕ, List, Bool, false, is_some, OnOk, OnErr};
+ghost use Rattle.std.specs.Option.{option_map};
 ghost use Rattle.serde_json.specs.Data.{no_members};
 ghost use Rattle.serde_json.specs.View.{members_view};
-ghost use Rattle.mq_router.specs.Views.{copy_of, reply_of};
+ghost use Rattle.mq_router.specs.Views.{reply_of};
 ghost use Rattle.mq_router.specs.declared.answer.Outcome.TheVariants.{Reason, Counts};
-ghost use Rattle.mq_cli.specs.Printed.{copy_members, copy_text, answer_text, line_text, closing_members};
+ghost use Rattle.mq_cli.specs.Printed.{answer_text, line_text, closing_members};
 ghost use Rattle.mq_cli.specs.Printed.{report_members, report_text, report_of, refusal_text, fault_text};
-ghost use Rattle.mq_cli.specs.Kept.{IsFor, copy_names, parts, parts_of, reason_names, report_names};
+ghost use Rattle.mq_cli.specs.Kept.{IsFor, reason_names, report_names};
 
+use crate::lines::copies::Copies;
 use crate::lines::datum::Datum;
 use crate::lines::fault::LineFault;
 use crate::lines::object::Object;
 use crate::lines::report::{Reported, line_fault_report, refusal_report};
-use mq_router::{Answer, Delivery, Outcome, Refusal};
-use mq_topic::LevelText;
+use mq_router::{Answer, Outcome, Refusal};
 use std::alloc::{AllocError, Global};
-
-fn share_of(delivery: &Delivery) -> Option<&str>
-    ensures { option_copied result ≡ option_map (λ group. group.share) (copy_of delivery.now).group }
-{
-    match &delivery.group {
-        Some((share, _)) => Some(share.as_str()),
-        None => None,
-    }
-}
-
-fn filter_of(delivery: &Delivery) -> Option<&str>
-    ensures { option_copied result ≡ option_map (λ group. group.filter) (copy_of delivery.now).group }
-{
-    match &delivery.group {
-        Some((_, filter)) => Some(filter.text()),
-        None => None,
-    }
-}
-
-#[tactic(auto, unfolding(crate::specs::Printed::copy_members))]
-fn put_copy(
-    alloc: Global,
-    object: &mut Object,
-    line: u64,
-    delivery: &Delivery,
-) -> Result<(), AllocError>
-    requires { IsFor (copy_names (parts_of (copy_of delivery.now))) (members_view object.old.members.entries) }
-    ensures { OnOk result (members_view object.new.members.entries ≡ copy_members line (copy_of delivery.now)) }
-{
-    object.text(alloc, "client", delivery.client.as_str())?;
-    object.number(alloc, "line", line)?;
-    object.text(alloc, "payload", delivery.payload.as_str())?;
-    object.number(alloc, "qos", u64::from(delivery.qos))?;
-    object.flag(alloc, "retain", delivery.retain)?;
-    object.text(alloc, "topic", delivery.topic.as_str())?;
-    object.numbers_if(alloc, "ids", delivery.ids.as_slice())?;
-    object.short_if(alloc, "expiry", delivery.expiry)?;
-    object.text_if(alloc, "filter", filter_of(delivery))?;
-    object.text_if(alloc, "share", share_of(delivery))?;
-    Ok(())
-}
-
-// Members that are there are written over in one walk, in the order of their names.
-#[tactic(auto, unfolding(crate::specs::Kept::copy_names))]
-fn set_copy(
-    alloc: Global,
-    object: &mut Object,
-    line: u64,
-    delivery: &Delivery,
-) -> Result<(), AllocError>
-    requires { IsFor (copy_names (parts_of (copy_of delivery.now))) (members_view object.old.members.entries) }
-    ensures { OnOk result (members_view object.new.members.entries ≡ copy_members line (copy_of delivery.now)) }
-{
-    if object.is_empty() {
-        return put_copy(alloc, object, line, delivery);
-    }
-    let client = Datum::Text(delivery.client.as_str());
-    let number = Datum::Number(line);
-    let payload = Datum::Text(delivery.payload.as_str());
-    let qos = Datum::Number(u64::from(delivery.qos));
-    let retain = Datum::Flag(delivery.retain);
-    let topic = Datum::Text(delivery.topic.as_str());
-    let ids = delivery.ids.as_slice();
-    match (ids.is_empty(), delivery.expiry, &delivery.group) {
-        (true, None, None) => {
-            object.refill(alloc, &[client, number, payload, qos, retain, topic])
-        }
-        (false, None, None) => {
-            let ids = Datum::Numbers(ids);
-            object.refill(alloc, &[client, ids, number, payload, qos, retain, topic])
-        }
-        (true, Some(seconds), None) => {
-            let expiry = Datum::Number(u64::from(seconds));
-            object.refill(
-                alloc,
-                &[client, expiry, number, payload, qos, retain, topic],
-            )
-        }
-        (true, None, Some((share, filter))) => {
-            let share = Datum::Text(share.as_str());
-            let filter = Datum::Text(filter.text());
-            object.refill(
-                alloc,
-                &[client, filter, number, payload, qos, retain, share, topic],
-            )
-        }
-        _ => put_copy(alloc, object, line, delivery),
-    }
-}
-
-fn print_copy(
-    alloc: Global,
-    kept: &mut Object,
-    line: u64,
-    delivery: &Delivery,
-    out: &mut Vec<u8>,
-) -> Result<(), AllocError>
-    requires { IsFor (copy_names (parts_of (copy_of delivery.now))) (members_view kept.old.members.entries) }
-    ensures ok { OnOk result (out.new.items ≡ out.old.items ++ copy_text line (copy_of delivery.now)) }
-    ensures err { OnErr result (out.new.items ≡ out.old.items) }
-    ensures kept { IsFor (copy_names (parts_of (copy_of delivery.now))) (members_view kept.new.members.entries) }
-{
-    let mut object = kept.take(alloc);
-    set_copy(alloc, &mut object, line, delivery)?;
-    object.print(alloc, out)?;
-    *kept = object;
-    Ok(())
-}
 
 #[tactic(auto, unfolding(crate::specs::Printed::closing_members, crate::specs::Kept::reason_names))]
 fn set_reason(alloc: Global, object: &mut Object, line: u64, reason: u8) -> Result<(), AllocError>
@@ -232,19 +124,11 @@ fn print_report(
     Ok(())
 }
 
-/// Objects whose members are set again for each line of the same names: one for copies without identifiers, interval and
-/// group, one for those with each of these alone, one for closing lines with a reason, and one for faults without the line
-/// of an access list. Other lines have their own.
+/// Objects whose members are set again for each line of the same names: those for copies, one for closing lines with a
+/// reason, and one for faults without the line of an access list. Other lines have their own.
 #[derive(Drop)]
 pub struct Printer {
-    plain: Object,
-    ghost plain_names: { IsFor (copy_names (parts false false false)) (members_view plain.members.entries) },
-    with_ids: Object,
-    ghost ids_names: { IsFor (copy_names (parts true false false)) (members_view with_ids.members.entries) },
-    with_expiry: Object,
-    ghost expiry_names: { IsFor (copy_names (parts false true false)) (members_view with_expiry.members.entries) },
-    with_group: Object,
-    ghost group_names: { IsFor (copy_names (parts false false true)) (members_view with_group.members.entries) },
+    copies: Copies,
     reason: Object,
     ghost reason_names: { IsFor reason_names (members_view reason.members.entries) },
     report: Object,
@@ -254,31 +138,9 @@ pub struct Printer {
 impl Printer {
     pub fn new(alloc: Global) -> Printer {
         Printer {
-            plain: Object::new(alloc),
-            with_ids: Object::new(alloc),
-            with_expiry: Object::new(alloc),
-            with_group: Object::new(alloc),
+            copies: Copies::new(alloc),
             reason: Object::new(alloc),
             report: Object::new(alloc),
-        }
-    }
-
-    fn copy(
-        &mut self,
-        alloc: Global,
-        line: u64,
-        delivery: &Delivery,
-        out: &mut Vec<u8>,
-    ) -> Result<(), AllocError>
-        ensures ok { OnOk result (out.new.items ≡ out.old.items ++ copy_text line (copy_of delivery.now)) }
-        ensures err { OnErr result (out.new.items ≡ out.old.items) }
-    {
-        match (delivery.ids.is_empty(), delivery.expiry, &delivery.group) {
-            (true, None, None) => print_copy(alloc, &mut self.plain, line, delivery, out),
-            (false, None, None) => print_copy(alloc, &mut self.with_ids, line, delivery, out),
-            (true, Some(_), None) => print_copy(alloc, &mut self.with_expiry, line, delivery, out),
-            (true, None, Some(_)) => print_copy(alloc, &mut self.with_group, line, delivery, out),
-            _ => print_copy(alloc, &mut Object::new(alloc), line, delivery, out),
         }
     }
 
@@ -312,9 +174,8 @@ impl Printer {
         ensures ok { OnOk result (out.new.items ≡ out.old.items ++ answer_text line (reply_of answer.now)) }
         ensures err { OnErr result ((more : List ℕ) × (out.new.items ≡ out.old.items ++ more)) }
     {
-        for delivery in &answer.copies {
-            self.copy(alloc, line, delivery, out)?;
-        }
+        self.copies
+            .print_all(alloc, line, answer.copies.as_slice(), out)?;
         self.closing(alloc, line, answer.outcome, out)?;
         Ok(())
     }

@@ -1,14 +1,29 @@
-use Rattle.std.proofs.Common.{◌≡◌, rules, string_bytes, ap, ◌∙◌}
+use Rattle.std.proofs.Common.{sym, ap, ◌∙◌}
 use Rattle.std.proofs.lemmas.Result.{on_ok_weaker}
-use Rattle.serde_json.specs.Data.{put, string}
+use Rattle.std.specs.Option.{option_copied_mut}
+use Rattle.serde_json.specs.Data.{put}
 use Rattle.serde_json.specs.View.{view, members_view}
-use Rattle.serde_json.specs.declared.value.Value.{the_lemmas}
-use Rattle.serde_json.specs.declared.value.Value.TheVariants as Value
+use Rattle.serde_json.specs.Written.{has_float, members_have_float}
+use Rattle.mq_cli.proofs.FloatLemmas.{on_either, put_none}
+use Rattle.mq_cli.proofs.SetLemmas.{set_is_put, found_none}
 use Rattle.mq_cli.proofs.lines.object.Object.text.Goals as goal
 
-pub returns : goal.returns
-returns c =
+pub invariant_of-self : goal.invariant_of-self
+invariant_of-self c =
     let name = c.args.name.now in
-    let is : view (Value.String c.in_ok-text.text) ≡ string (string_bytes c.in_ok-text.text) = search (rules, the_lemmas) in
-    let old = members_view c.args.self.now.members.entries in
-    on_ok_weaker c.put.result (λ e. e ∙ ap (λ d. put name d old) (is ∙ ap string c.in_ok-text.ensures.ok)) c.put.ensures
+    let es = c.args.self.now.members.entries in
+    let v = c.in-Some.slot.now in
+    let w = c.set_text.new.slot in
+    let found = sym c.get_mut.ensures.value ∙ ap option_copied_mut c.in-Some.is in
+    let set = ap members_view (c.get_mut.follows.holds w).0 ∙ set_is_put name es v w c.get_mut.ensures.ordered found in
+    let none = on_either c.set_text.result c.set_text.ensures.ok c.set_text.ensures.err (λ e. ap has_float e) (λ f. f (found_none name es v found c.args.self.now.no_float)) in
+    record { no_float = ap members_have_float set ∙ put_none name (view w) (members_view es) none c.args.self.now.no_float }
+
+pub returns-in-Some : goal.returns-in-Some
+returns-in-Some c =
+    let name = c.args.name.now in
+    let es = c.args.self.now.members.entries in
+    let w = c.set_text.new.slot in
+    let found = sym c.get_mut.ensures.value ∙ ap option_copied_mut c.in-Some.is in
+    let set = ap members_view (c.get_mut.follows.holds w).0 ∙ set_is_put name es c.in-Some.slot.now w c.get_mut.ensures.ordered found in
+    on_ok_weaker c.set_text.result (λ e. set ∙ ap (λ d. put name d (members_view es)) e) c.set_text.ensures.ok

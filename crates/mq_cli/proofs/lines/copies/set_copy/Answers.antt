@@ -1,7 +1,7 @@
 use Rattle.std.proofs.Common.{sym}
 use Rattle.mq_router.specs.Views.{copy_of}
 use Rattle.mq_cli.proofs.KeptLemmas.{copy_refilled, no_numbers, some_numbers}
-use Rattle.mq_cli.proofs.lines.printer.set_copy.Goals as goal
+use Rattle.mq_cli.proofs.lines.copies.set_copy.Goals as goal
 
 pub returns-in-true-None-None : goal.returns-in-true-None-None
 returns-in-true-None-None c =
