@@ -1,6 +1,6 @@
 //! Readers and writers that implement `Source` and `Sink` and misbehave where they are told to. Each fails once, and
 //! then goes on as if nothing had happened.
-ghost use Rattle.std.specs.Prelude.{◌≡◌, ◌+◌, ℕ, List, Option, None, if◌then◌else◌};
+ghost use Rattle.std.specs.Prelude.{◌≡◌, ◌+◌, ◌||◌, ℕ, List, Option, None, IsTrue, false, if◌then◌else◌};
 
 use mq_cli::{DeviceFault, Sink, Source};
 
@@ -77,6 +77,31 @@ pub(crate) enum Trouble {
     Flush,
 }
 
+/// Trouble that comes once, at the call after `calls` others.
+#[derive(Drop)]
+struct Countdown {
+    calls: usize,
+    failed: bool,
+}
+
+impl Countdown {
+    // Whether trouble is due at this call.
+    fn is_due(&mut self) -> bool
+        ensures failed { self.new.failed ≡ (self.old.failed || result) }
+        ensures once { IsTrue result → self.old.failed ≡ false }
+    {
+        if self.failed {
+            return false;
+        }
+        if self.calls > 0 {
+            self.calls -= 1;
+            return false;
+        }
+        self.failed = true;
+        true
+    }
+}
+
 /// A writer that takes at most `most` bytes a call and compares them with what is wanted. It is in trouble at the call
 /// of that kind after `calls` others.
 #[derive(Drop)]
@@ -84,8 +109,7 @@ pub(crate) struct Page<'a> {
     rest: &'a [u8],
     most: usize,
     trouble: Trouble,
-    calls: usize,
-    failed: bool,
+    countdown: Countdown,
     /// Whether the bytes taken are the first ones of what is wanted.
     pub(crate) is_same: bool,
     /// How many bytes were taken.
@@ -106,13 +130,25 @@ impl<'a> Page<'a> {
             rest,
             most,
             trouble,
-            calls,
-            failed: false,
+            countdown: Countdown {
+                calls,
+                failed: false,
+            },
             is_same: true,
             taken: 0,
             flushes: 0,
             flushed: 0,
         }
+    }
+
+    fn take(&mut self, bytes: &[u8])
+        ensures { self.new.countdown ≡ self.old.countdown }
+    {
+        match self.rest.strip_prefix(bytes) {
+            Some(rest) => self.rest = rest,
+            None => self.is_same = false,
+        }
+        self.taken = self.taken.saturating_add(bytes.len());
     }
 }
 
@@ -121,38 +157,26 @@ impl<'a> Sink for Page<'a> {
 
     ghost flushed = { λ _. None };
 
-    ghost failures = { λ s. if s.failed then 1 else 0 };
+    ghost failures = { λ s. if s.countdown.failed then 1 else 0 };
 
     fn write(&mut self, buf: &[u8]) -> Result<usize, DeviceFault> {
         if buf.is_empty() {
             return Ok(0);
         }
-        if self.trouble != Trouble::Flush && !self.failed {
-            if self.calls == 0 {
-                self.failed = true;
-                return match self.trouble {
-                    Trouble::Stall => Ok(0),
-                    _ => Err(DeviceFault),
-                };
-            }
-            self.calls -= 1;
+        if self.trouble != Trouble::Flush && self.countdown.is_due() {
+            return match self.trouble {
+                Trouble::Stall => Ok(0),
+                _ => Err(DeviceFault),
+            };
         }
         let n = buf.len().min(self.most.max(1));
-        match self.rest.strip_prefix(&buf[..n]) {
-            Some(rest) => self.rest = rest,
-            None => self.is_same = false,
-        }
-        self.taken = self.taken.saturating_add(n);
+        self.take(&buf[..n]);
         Ok(n)
     }
 
     fn flush(&mut self) -> Result<(), DeviceFault> {
-        if self.trouble == Trouble::Flush && !self.failed {
-            if self.calls == 0 {
-                self.failed = true;
-                return Err(DeviceFault);
-            }
-            self.calls -= 1;
+        if self.trouble == Trouble::Flush && self.countdown.is_due() {
+            return Err(DeviceFault);
         }
         self.flushes = self.flushes.saturating_add(1);
         self.flushed = self.taken;

@@ -2,6 +2,7 @@
 use mq_acl::Acl;
 use mq_router::{Command, Outcome, Refusal, Router};
 use std::alloc::{AllocError, Global};
+use std::process::Abort;
 use std::test::Fail;
 
 fn connect(alloc: Global, client: &str) -> Result<Command, AllocError> {
@@ -46,8 +47,14 @@ fn common(alloc: Global, i: u32) -> Result<String, AllocError> {
     }
 }
 
-// What the router answers: its number of copies and its reason, or its refusal. None where the command isn't valid.
-fn answer(router: &mut Router, command: &Command) -> Option<Result<(usize, Outcome), Refusal>> {
+// A number of copies and a reason, or a refusal. None where the command isn't valid.
+type Told = Option<Result<(usize, Outcome), Refusal>>;
+
+const DONE: Told = Some(Ok((0, Outcome::Reason(0))));
+
+const NOBODY: Told = Some(Ok((0, Outcome::Reason(16))));
+
+fn answer(router: &mut Router, command: &Command) -> Told {
     if !command.is_valid() {
         return None;
     }
@@ -62,49 +69,62 @@ fn a_router_with_an_access_list(rt: HostRuntime) -> Result<(), Fail> {
     let alloc = rt.alloc();
     let acl = Acl::read(alloc, "topic write a")?;
     let mut router = Router::with_acl(alloc, acl);
-    let none = Some(Ok((0, Outcome::Reason(16))));
-    let done = Some(Ok((0, Outcome::Reason(0))));
-    assert_eq!(rt; answer(&mut router, &connect(alloc, "c")?), done);
-    assert_eq!(rt; answer(&mut router, &publish(alloc, "c", "a", 2)?), none);
-    assert_eq!(rt; answer(&mut router, &publish(alloc, "c", "a", 3)?), None);
-    assert_eq!(rt;
-        answer(&mut router, &publish(alloc, "c", "b", 0)?),
-        Some(Err(Refusal::NotAuthorized))
-    );
-    assert_eq!(rt; answer(&mut router, &Command::SetAcl { text: None }), done);
-    assert_eq!(rt; answer(&mut router, &publish(alloc, "c", "b", 0)?), none);
+    assert_eq!(rt; answer(&mut router, &connect(alloc, "c")?), DONE);
+    for (topic, qos, want) in [
+        ("a", 2, NOBODY),
+        ("a", 3, None),
+        ("b", 0, Some(Err(Refusal::NotAuthorized))),
+    ] {
+        let command = publish(alloc, "c", topic, qos)?;
+        assert_eq!(rt; answer(&mut router, &command), want, "{topic} {qos}");
+    }
+    assert_eq!(rt; answer(&mut router, &Command::SetAcl { text: None }), DONE);
+    assert_eq!(rt; answer(&mut router, &publish(alloc, "c", "b", 0)?), NOBODY);
+    Ok(())
+}
+
+fn subscribe_to_all(
+    rt: &(impl Abort + AllocGlobal),
+    router: &mut Router,
+) -> Result<(), AllocError> {
+    let alloc = rt.alloc();
+    for i in 0..1000 {
+        let command = subscribe(alloc, "a", common(alloc, i)?)?;
+        assert_eq!(rt; answer(router, &command), DONE);
+    }
+    Ok(())
+}
+
+fn unsubscribe_from_all(
+    rt: &(impl Abort + AllocGlobal),
+    router: &mut Router,
+    scattered: bool,
+) -> Result<(), AllocError> {
+    let alloc = rt.alloc();
+    for i in 0..1000 {
+        // 387 has no divisor in common with 1,000: the second order has each filter once, too.
+        let place = if scattered { i * 387 % 1000 } else { i };
+        let command = Command::Unsubscribe {
+            client: String::from_str(alloc, "a")?,
+            filter: common(alloc, place)?,
+        };
+        assert_eq!(rt; answer(router, &command), DONE);
+    }
     Ok(())
 }
 
 #[test]
 fn filters_with_common_prefixes(rt: HostRuntime) -> Result<(), Fail> {
     let alloc = rt.alloc();
-    let done = Some(Ok((0, Outcome::Reason(0))));
     for scattered in [false, true] {
         let mut router = Router::new(alloc);
-        assert_eq!(rt; answer(&mut router, &connect(alloc, "a")?), done);
-        for i in 0..1000 {
-            let command = subscribe(alloc, "a", common(alloc, i)?)?;
-            assert_eq!(rt; answer(&mut router, &command), done);
-        }
+        assert_eq!(rt; answer(&mut router, &connect(alloc, "a")?), DONE);
+        subscribe_to_all(&rt, &mut router)?;
         let publish = publish(alloc, "a", "6/5/4", 0)?;
-        assert_eq!(rt;
-            answer(&mut router, &publish),
-            Some(Ok((1, Outcome::Reason(0))))
-        );
-        for i in 0..1000 {
-            // 387 has no divisor in common with 1,000: the second order has each filter once, too.
-            let place = if scattered { i * 387 % 1000 } else { i };
-            let command = Command::Unsubscribe {
-                client: String::from_str(alloc, "a")?,
-                filter: common(alloc, place)?,
-            };
-            assert_eq!(rt; answer(&mut router, &command), done);
-        }
-        assert_eq!(rt;
-            answer(&mut router, &publish),
-            Some(Ok((0, Outcome::Reason(16))))
-        );
+        let one = Some(Ok((1, Outcome::Reason(0))));
+        assert_eq!(rt; answer(&mut router, &publish), one);
+        unsubscribe_from_all(&rt, &mut router, scattered)?;
+        assert_eq!(rt; answer(&mut router, &publish), NOBODY);
     }
     Ok(())
 }

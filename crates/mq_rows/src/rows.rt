@@ -16,18 +16,23 @@ fn router_with(alloc: Global, access_list: Option<&str>) -> Result<Router, Fail>
     }
 }
 
+// What a row's script writes in pieces of this size, and its exit status.
+fn written(alloc: Global, row: &Row, most: usize) -> Result<(Vec<u8>, u8), Fail> {
+    let mut reader = StdSource::new(Pieces::new(row.script.as_bytes(), most));
+    let mut shelf = Shelf::new(alloc);
+    shelf.most = most;
+    let mut writer = StdSink::new(shelf);
+    let router = router_with(alloc, row.access_list)?;
+    let result = run(alloc, router, &mut reader, &mut writer);
+    Ok((writer.into_inner().bytes, exit_status(&result)))
+}
+
 /// Runs a row in pieces of several sizes, read and written.
 pub(crate) fn run_row(rt: &(impl Abort + AllocGlobal), row: &Row) -> Result<(), Fail> {
     for most in [1, 7, 65_536] {
-        let mut reader = StdSource::new(Pieces::new(row.script.as_bytes(), most));
-        let mut shelf = Shelf::new(rt.alloc());
-        shelf.most = most;
-        let mut writer = StdSink::new(shelf);
-        let router = router_with(rt.alloc(), row.access_list)?;
-        let result = run(rt.alloc(), router, &mut reader, &mut writer);
-        let written = writer.into_inner().bytes;
-        assert_eq!(rt; written.as_slice(), row.output.as_bytes(), "{}", row.name);
-        assert_eq!(rt; exit_status(&result), row.status, "{}", row.name);
+        let (bytes, status) = written(rt.alloc(), row, most)?;
+        assert_eq!(rt; bytes.as_slice(), row.output.as_bytes(), "{}", row.name);
+        assert_eq!(rt; status, row.status, "{}", row.name);
     }
     Ok(())
 }

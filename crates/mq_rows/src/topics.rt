@@ -74,6 +74,16 @@ fn subscriptions(rt: HostRuntime) -> Result<(), Fail> {
         subscription_fault(alloc, "$share/g/a#"),
         Some(TopicFault::Wildcard)
     );
+    for text in ["$share", "$sharex/g"] {
+        assert!(rt; SubFilter::parse(alloc, text)?.share.is_none());
+    }
+    Ok(())
+}
+
+// The share name counts for the bytes, and not for the levels.
+#[test]
+fn subscription_limits(rt: HostRuntime) -> Result<(), Fail> {
+    let alloc = rt.alloc();
     let slashes = "/".repeat(alloc, 199)?;
     let deep = format!(in alloc; "$share/g/{slashes}")?;
     let most = "a".repeat(alloc, 65_526)?;
@@ -85,10 +95,12 @@ fn subscriptions(rt: HostRuntime) -> Result<(), Fail> {
         subscription_fault(alloc, longer.as_str()),
         Some(TopicFault::TooLong)
     );
-    for text in ["$share", "$sharex/g"] {
-        assert!(rt; SubFilter::parse(alloc, text)?.share.is_none());
-    }
-    let copy = SubFilter::parse(alloc, "$share/g/a/+")?.clone()?;
+    Ok(())
+}
+
+#[test]
+fn subscription_clones(rt: HostRuntime) -> Result<(), Fail> {
+    let copy = SubFilter::parse(rt.alloc(), "$share/g/a/+")?.clone()?;
     assert_eq!(rt; copy.share.as_deref(), Some("g"));
     assert_eq!(rt; copy.filter.text(), "a/+");
     Ok(())

@@ -51,27 +51,39 @@ fn same(rt: &impl Abort, found: &[&u32], want: &[u32]) {
     }
 }
 
-#[test]
-fn edits_filters(rt: HostRuntime) -> Result<(), Fail> {
-    let alloc = rt.alloc();
+// A tree of these filters, with the values 1, 2, and so on.
+fn tree_of(alloc: Global, keys: &[&str]) -> Result<LevelTree<u32>, Fail> {
     let mut tree = LevelTree::new(alloc);
-    put(alloc, &mut tree, "a/#", 1)?;
-    put(alloc, &mut tree, "a", 2)?;
-    put(alloc, &mut tree, "+", 3)?;
-    put(alloc, &mut tree, "#", 4)?;
+    for (value, key) in (1..100).zip(keys) {
+        put(alloc, &mut tree, key, value)?;
+    }
+    Ok(tree)
+}
+
+#[test]
+fn puts_filters(rt: HostRuntime) -> Result<(), Fail> {
+    let alloc = rt.alloc();
+    let mut tree = tree_of(alloc, &["a/#", "a", "+", "#"])?;
     assert_eq!(rt; tree.nodes(), 4);
     for_name(&rt, &tree, "a", &[4, 3, 2, 1])?;
     let older = put(alloc, &mut tree, "/x", 5)?;
     assert_eq!(rt; older, None);
     assert_eq!(rt; tree.nodes(), 6);
     for_name(&rt, &tree, "/x", &[5, 4])?;
+    Ok(())
+}
+
+#[test]
+fn takes_filters(rt: HostRuntime) -> Result<(), Fail> {
+    let alloc = rt.alloc();
+    let mut tree = tree_of(alloc, &["a/#", "a", "+", "#", "/x"])?;
     let older = put(alloc, &mut tree, "a", 9)?;
     assert_eq!(rt; older, Some(2));
-    let taken = take(alloc, &mut tree, "a")?;
-    assert_eq!(rt; taken, Some(9));
-    assert_eq!(rt; tree.nodes(), 6);
-    let taken = take(alloc, &mut tree, "a")?;
-    assert_eq!(rt; taken, None);
+    for (key, want) in [("a", Some(9)), ("a", None)] {
+        let taken = take(alloc, &mut tree, key)?;
+        assert_eq!(rt; taken, want);
+        assert_eq!(rt; tree.nodes(), 6);
+    }
     let taken = take(alloc, &mut tree, "a/#")?;
     assert_eq!(rt; taken, Some(1));
     assert_eq!(rt; tree.nodes(), 4);
@@ -81,12 +93,7 @@ fn edits_filters(rt: HostRuntime) -> Result<(), Fail> {
 
 #[test]
 fn looks_up_by_filter(rt: HostRuntime) -> Result<(), Fail> {
-    let alloc = rt.alloc();
-    let mut tree = LevelTree::new(alloc);
-    put(alloc, &mut tree, "a/b", 1)?;
-    put(alloc, &mut tree, "a", 2)?;
-    put(alloc, &mut tree, "$x", 3)?;
-    put(alloc, &mut tree, "c", 4)?;
+    let tree = tree_of(rt.alloc(), &["a/b", "a", "$x", "c"])?;
     for_filter(&rt, &tree, "#", &[2, 1, 4])?;
     for_filter(&rt, &tree, "a/#", &[2, 1])?;
     for_filter(&rt, &tree, "+", &[2, 4])?;
@@ -97,11 +104,7 @@ fn looks_up_by_filter(rt: HostRuntime) -> Result<(), Fail> {
 #[test]
 fn looks_up_by_name(rt: HostRuntime) -> Result<(), Fail> {
     let alloc = rt.alloc();
-    let mut tree = LevelTree::new(alloc);
-    put(alloc, &mut tree, "a/+", 1)?;
-    put(alloc, &mut tree, "a/b", 2)?;
-    put(alloc, &mut tree, "+/b", 3)?;
-    put(alloc, &mut tree, "a/b/c", 4)?;
+    let mut tree = tree_of(alloc, &["a/+", "a/b", "+/b", "a/b/c"])?;
     for_name(&rt, &tree, "a/b", &[3, 1, 2])?;
     for_name(&rt, &tree, "a/b/c", &[4])?;
     for_name(&rt, &tree, "c/d", &[])?;
@@ -114,11 +117,7 @@ fn looks_up_by_name(rt: HostRuntime) -> Result<(), Fail> {
 #[test]
 fn hides_names_that_begin_with_dollar(rt: HostRuntime) -> Result<(), Fail> {
     let alloc = rt.alloc();
-    let mut tree = LevelTree::new(alloc);
-    put(alloc, &mut tree, "+/x", 1)?;
-    put(alloc, &mut tree, "#", 2)?;
-    put(alloc, &mut tree, "$SYS/+", 3)?;
-    put(alloc, &mut tree, "a/+", 4)?;
+    let mut tree = tree_of(alloc, &["+/x", "#", "$SYS/+", "a/+"])?;
     for_name(&rt, &tree, "$SYS/x", &[3])?;
     for_name(&rt, &tree, "a/$x", &[2, 4])?;
     let a = TopicName::parse(alloc, "a")?;
