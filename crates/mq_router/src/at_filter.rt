@@ -107,6 +107,11 @@ impl AtFilter {
         serve_group(&mut self.groups, share, client);
     }
 
+    /// How many clients subscribe in their own name.
+    pub(crate) fn own_count(&self) -> usize {
+        self.direct.len()
+    }
+
     /// Adds the subscriptions of clients in their own name that take part in a message that the filter matches.
     pub(crate) fn gather_matches<'a>(
         &'a self,
@@ -115,7 +120,6 @@ impl AtFilter {
     ) -> Result<(), AllocError>
         ensures { OnOk result (matched matches.new.items ≡ matched matches.old.items ++ own_matches (message_of message.now) self.now.rows) }
     {
-        matches.reserve(self.direct.len())?;
         for (client, options) in &self.direct {
             if !is_held_back(*options, client.as_str(), message) {
                 matches.push(Match {

@@ -147,6 +147,15 @@ ghost use Rattle.mq_router.specs.Gathers.{seen, copies_in, turns_in, matched, op
 ghost use Rattle.mq_router.specs.Applied.{copies_made, next_members, member_copy};
 ghost use Rattle.mq_router.specs.Made.{rows_found, own_matches, copies_by, begins_by};
 
+// How many subscriptions of clients in their own name there are at most. It is a measure of room alone.
+fn own_count(found: &[&AtFilter]) -> usize {
+    let mut count: usize = 0;
+    for at in found {
+        count = count.saturating_add(at.own_count());
+    }
+    count
+}
+
 // The subscriptions of clients in their own name that take part, by client, and by filter for each client.
 fn matches_by_client<'a>(
     alloc: Global,
@@ -157,7 +166,7 @@ fn matches_by_client<'a>(
     ensures options { IfOk result (λ ms. (id : Text) → options_among id (matched ms.items)
         ≡ options_among id (own_matches (message_of message.now) (rows_found (seen found.now)))) }
 {
-    let mut matches = Vec::new(alloc);
+    let mut matches = Vec::with_capacity(alloc, own_count(found))?;
     for at in found {
         at.gather_matches(message, &mut matches)?;
     }
