@@ -97,7 +97,7 @@ pub(crate) fn copies_of(
     requires { AreNear receiver.now.clock.moment (map (λ s. message_in s.now) found.now) }
     ensures { IfOk result (λ copies. copies_in copies ≡ copies_among receiver.now (map (λ s. message_in s.now) found.now)) }
 {
-    let mut copies = Vec::new(alloc);
+    let mut copies = Vec::with_capacity(alloc, found.len())?;
     for stored in found {
         let stored: &Stored = stored;
         if !may_get(receiver, stored) {

@@ -1,5 +1,6 @@
 -- `descend` by induction on how many levels are left. Rattle proves `lend` for any way to go on; here it is one that may be called with fewer than t levels, and then `descend` may be called with t.
 -- `Walk` is the walk of its body, one call of `lend`. Both follow the signatures of `lend` and `descend`, and no step of `lend`.
+-- The clauses are read as those of `get_mut`, which are the same: a library doesn't keep the reading of `descend`, and each crate above would check again all that stands on it.
 mod Walk
 use Prim.Native.Nat.{ℕ, zero, suc, ◌<◌, ◌+◌}
 use native.Mathlib.Omega.{arith}
@@ -59,7 +60,7 @@ use Rattle.mq_tree.proofs.tree.node.Node.lend.Symbol as lend'
 use Rattle.mq_tree.proofs.tree.node.lend.DownDescend.+descend.{statement}
 use Rattle.mq_tree.proofs.tree.node.lend.DownDescend.+descend.Code as code
 use Rattle.mq_tree.proofs.tree.node.lend.DownDescend.descend.Kinds as kinds
-use Rattle.mq_tree.proofs.tree.node.lend.DownDescend.descend.Reads as reads
+use Rattle.mq_tree.proofs.tree.node.Node.get_mut.Reads as reads
 use Rattle.mq_tree.proofs.tree.node.lend.DownDescend.+descend.Proof.Walk as walk
 
 abbrev told : {On : (w : World) → Pr w} (A : Type 0) → Read On no_know (λ w. fact w.𝓤 A)
