@@ -6,10 +6,10 @@ use Rattle.mq_router.proofs.DeadlineLemmas.{first-taken, none-due, due_cmp, head
 use Rattle.std.proofs.lemmas.List.Elements.{recursion_from_All}
 use Rattle.mq_router.proofs.deadlines.Deadlines.take_due.Goals as goal
 
-pub returns-then-first-moment-clause-none : goal.returns-then-first-moment-clause-none
-returns-then-first-moment-clause-none c =
+pub returns-then-not-is_due-clause-none : goal.returns-then-not-is_due-clause-none
+returns-then-not-is_due-clause-none c =
     subst (λ (pairs : List Pair). NoneDue c.args.moment pairs) c.self.view_is
-    (none-due c.args.moment c.in_ok-first.first.now c.self.inside.pairs.keys c.if-first-moment.true
+    (none-due c.args.moment c.in_ok-first.first.now c.self.inside.pairs.keys (omega arith)
     (recursion_from_All (IsLeBy due_cmp c.in_ok-first.first.now) c.self.inside.pairs.keys c.in_ok-first.ensures.all_from))
 
 pub returns-clause-some : goal.returns-clause-some
