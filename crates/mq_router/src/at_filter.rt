@@ -8,7 +8,8 @@ ghost use Rattle.mq_router.specs.Turns.{SameInTurn};
 ghost use Rattle.mq_router.specs.Applied.{put_last};
 ghost use Rattle.mq_router.specs.Kept.{is_empty, AreHere};
 
-use crate::copies::{Message, Turn};
+use crate::message::Message;
+use crate::copies::Turn;
 use crate::group::Group;
 use crate::matches::Match;
 use crate::options::Options;

@@ -15,6 +15,7 @@ use crate::at_filter::AtFilter;
 use crate::begun::Begun;
 use crate::direct::{Direct, direct_copies};
 use crate::matches::{Match, sort_by_client};
+use crate::message::Message;
 use crate::options::Options;
 use crate::outgoing::Outgoing;
 use crate::readers::Readers;
@@ -28,17 +29,6 @@ use mq_topic::{TopicFilter, TopicName};
 use mq_tree::Steps;
 use std::alloc::{AllocError, Global};
 use std::rc::{Rc, RcStr};
-
-/// A message that is published.
-#[derive(Clone, Copy, Debug)]
-pub(crate) struct Message<'a> {
-    pub(crate) publisher: &'a RcStr,
-    pub(crate) topic: &'a TopicName,
-    pub(crate) payload: &'a str,
-    pub(crate) qos: u8,
-    pub(crate) retain: bool,
-    pub(crate) expiry: Option<u32>,
-}
 
 #[tactic(auto, unfolding(mq_acl::specs::Access::allowed))]
 pub(crate) fn may_read(

@@ -14,6 +14,7 @@ mod direct;
 mod group;
 mod limits;
 mod matches;
+mod message;
 mod options;
 mod outgoing;
 mod own;

@@ -3,7 +3,7 @@ ghost use Rattle.std.specs.Prelude.{◌≡◌};
 ghost use Rattle.std.specs.Rc.{rc_str_bytes};
 
 use crate::answer::Delivery;
-use crate::copies::Message;
+use crate::message::Message;
 use crate::summary::Summary;
 use mq_topic::{LevelText, TopicFilter};
 use std::alloc::{AllocError, Global};

@@ -14,7 +14,7 @@ mod stored;
 
 use crate::answer::Delivery;
 use crate::clock::Clock;
-use crate::copies::Message;
+use crate::message::Message;
 use crate::deadlines::Deadlines;
 use edits::{expire, forget, has_message, is_stored, store};
 use messages::Messages;

@@ -20,8 +20,9 @@ use crate::checks::{
 };
 use crate::clock::Clock;
 use crate::command::Command;
-use crate::copies::{Made, Message, make_copies, may_publish};
+use crate::copies::{Made, make_copies, may_publish};
 use crate::limits::Limits;
+use crate::message::Message;
 use crate::options::Options;
 use crate::readers::Readers;
 use crate::refusal::Refusal;

@@ -10,7 +10,7 @@ ghost use Rattle.mq_router.specs.Due.{due_of};
 ghost use Rattle.mq_router.specs.Held.{message_of};
 ghost use Rattle.mq_router.specs.Stored.{retained_in, stored_until, IsPlaced, IsSound};
 
-use crate::copies::Message;
+use crate::message::Message;
 use crate::deadlines::{Deadlines, Due};
 use crate::retained::messages::Messages;
 use crate::retained::stored::Stored;

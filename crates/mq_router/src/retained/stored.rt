@@ -2,7 +2,7 @@ ghost use Rattle.std.specs.Prelude.{◌≡◌, IfOk};
 ghost use Rattle.mq_router.specs.Held.{message_of};
 ghost use Rattle.mq_router.specs.Stored.{message_in, stored_until};
 
-use crate::copies::Message;
+use crate::message::Message;
 use mq_topic::TopicName;
 use std::alloc::{AllocError, Global};
 use std::rc::RcStr;
