@@ -29,7 +29,7 @@ use Rattle.mq_router.proofs.InTurn.{same_text-is, same_text-itself}
 use Rattle.mq_router.proofs.Texts.{is_text-is, key_text}
 use Rattle.mq_router.proofs.AscendingLemmas.{by_each_key, none_there}
 use Rattle.mq_router.proofs.GroupLemmas.{group_tie, group_tied, groups-sorted, groups-any, told, any-from_filter}
-use Rattle.mq_router.specs.declared.copies.Turn.{Turn}
+use Rattle.mq_router.specs.declared.turns.Turn.{Turn}
 
 differ : (a b : Text) → level_order (levels a) (levels b) ≡ Less → same_text a b ≡ false
 differ a b h = sym (level_equal a b) ∙ ap is_eq h

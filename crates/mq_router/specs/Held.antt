@@ -11,7 +11,7 @@ use Rattle.mq_router.specs.StandsFor.{State}
 use Rattle.mq_router.specs.Kept.{options_of, AreListed, KeptSubscriptions, kept_at}
 use Rattle.mq_router.specs.KeptViews.{texts}
 use Rattle.mq_router.specs.declared.message.Message.{Message}
-use Rattle.mq_router.specs.declared.copies.Turn.{Turn}
+use Rattle.mq_router.specs.declared.turns.Turn.{Turn}
 use Rattle.mq_router.specs.declared.session.Session.{Session}
 use Rattle.mq_router.specs.declared.session.Waiting.{Waiting}
 use Rattle.mq_router.specs.declared.session.Presence.{Presence}

@@ -8,12 +8,12 @@ ghost use Rattle.mq_router.specs.Turns.{SameInTurn};
 ghost use Rattle.mq_router.specs.Applied.{put_last};
 ghost use Rattle.mq_router.specs.Kept.{is_empty, AreHere};
 
-use crate::message::Message;
-use crate::copies::Turn;
 use crate::group::Group;
 use crate::matches::Match;
+use crate::message::Message;
 use crate::options::Options;
 use crate::readers::Readers;
+use crate::turns::Turn;
 use mq_topic::{TopicFilter, TopicName};
 use mq_tree::Counted;
 use std::alloc::{AllocError, Global};

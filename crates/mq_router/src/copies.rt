@@ -16,19 +16,17 @@ use crate::begun::Begun;
 use crate::direct::{Direct, direct_copies};
 use crate::matches::{Match, sort_by_client};
 use crate::message::Message;
-use crate::options::Options;
 use crate::outgoing::Outgoing;
 use crate::readers::Readers;
 use crate::sessions::Sessions;
 use crate::subscriptions::Subscriptions;
 use crate::summary::Summary;
-use crate::turns::sort_by_share;
+use crate::turns::{Turn, sort_by_share};
 use crate::waiting::Queueing;
 use mq_acl::Acl;
-use mq_topic::{TopicFilter, TopicName};
+use mq_topic::TopicName;
 use mq_tree::Steps;
 use std::alloc::{AllocError, Global};
-use std::rc::{Rc, RcStr};
 
 #[tactic(auto, unfolding(mq_acl::specs::Access::allowed))]
 pub(crate) fn may_read(
@@ -59,15 +57,6 @@ pub(crate) fn may_publish(
         None => true,
         Some(acl) => acl.may_write(client, sessions.user(client), name),
     }
-}
-
-/// A member of a group that a publish serves.
-#[derive(Debug, Drop)]
-pub(crate) struct Turn {
-    pub(crate) share: RcStr,
-    pub(crate) filter: Rc<TopicFilter>,
-    pub(crate) client: RcStr,
-    pub(crate) options: Options,
 }
 
 /// The copies of a message that are sent, those that begin to wait, and the members of groups that it serves.

@@ -7,9 +7,20 @@ ghost use Rattle.mq_router.specs.Kept.{AreKeys};
 ghost use Rattle.mq_router.specs.Held.{turn_of};
 ghost use Rattle.mq_router.specs.Gathers.{shares_of, turns_listed, AreAscending};
 
-use crate::copies::Turn;
+use crate::options::Options;
 use crate::subscriptions::Subscriptions;
+use mq_topic::TopicFilter;
 use std::alloc::AllocError;
+use std::rc::{Rc, RcStr};
+
+/// A member of a group that a publish serves.
+#[derive(Debug, Drop)]
+pub(crate) struct Turn {
+    pub(crate) share: RcStr,
+    pub(crate) filter: Rc<TopicFilter>,
+    pub(crate) client: RcStr,
+    pub(crate) options: Options,
+}
 
 /// Sorts them by share name; those of one share name keep their order.
 pub(crate) fn sort_by_share(turns: &mut Vec<Turn>) -> Result<(), AllocError>
