@@ -30,7 +30,6 @@ use crate::replies::{published, reason_to_leave, with_reason};
 use crate::retained::{Receiver, Retained, asks_for_retained};
 use crate::sessions::Sessions;
 use crate::subscriptions::Subscriptions;
-use crate::turns::serve_all;
 use crate::waiting::Queueing;
 use mq_acl::Acl;
 use mq_topic::SubFilter;
@@ -310,7 +309,7 @@ impl Router {
         let deadline = self.clock.deadline(properties.expiry);
         let made = self.make_copies(&message, deadline, steps)?;
         self.retained.publish(self.clock, &message)?;
-        serve_all(&mut self.subscriptions, made.served.as_slice());
+        self.subscriptions.serve_all(made.served.as_slice());
         let waits = !made.begun.is_empty();
         self.sessions.join_all(self.limits.queued, made.begun);
         Ok(published(made.copies, waits))

@@ -12,12 +12,14 @@ ghost use Rattle.mq_router.specs.Gathers.{seen};
 ghost use Rattle.mq_router.specs.Made.{rows_found};
 ghost use Rattle.mq_router.specs.Copies.{filter_matches};
 ghost use Rattle.mq_router.specs.Turns.{SameInTurn};
-ghost use Rattle.mq_router.specs.Applied.{joined, put_last};
+ghost use Rattle.mq_router.specs.Applied.{joined, put_last, all_turned};
+ghost use Rattle.mq_router.specs.Held.{turn_of};
 ghost use Rattle.mq_router.specs.Kept.{row, At, AreKeys};
 
 use crate::at_filter::AtFilter;
 use crate::options::Options;
 use crate::own::Own;
+use crate::turns::Turn;
 use mq_topic::{SubFilter, TopicFilter, TopicName};
 use mq_tree::{LevelTree, Steps};
 use std::alloc::{AllocError, Global};
@@ -118,6 +120,16 @@ impl Subscriptions {
         ensures keys { AreKeys self.new }
     {
         serve_in(&mut self.tree, share, wanted, client);
+    }
+
+    /// Each member that was served goes last in its group. It takes no memory.
+    pub(crate) fn serve_all(&mut self, served: &[Turn])
+        ensures rows { SameInTurn self.new.rows (all_turned (map turn_of served.now) self.old.rows) }
+        ensures keys { AreKeys self.old → AreKeys self.new }
+    {
+        for turn in served {
+            self.serve(turn.share.as_str(), &turn.filter, turn.client.as_str());
+        }
     }
 
     /// How many subscriptions there are, at most `u64::MAX`, by a walk over the tree. It takes no memory.

@@ -82,7 +82,7 @@ returns-clause-applied c =
     let m : Message = published_message c.args.client.now c.args.topic.now c.args.payload.now c.args.properties in
     let s : State = state_of c.self.inside in
     let tested : None ≡ first_refusal (client_conditions s.sessions m.publisher) = c.in_ok-check_client.ensures.refused ∙ ap (λ (v : State). first_refusal (client_conditions v.sessions m.publisher)) (sym c.self.view_is) in
-    let subs = c.serve_all.new.subscriptions in
+    let subs = c.serve_all.new.self in
     let kept = c.publish.new.self in
     let new : State = record s { sessions = c.join_all.new.self; subscriptions = subs.rows; filter_keys = subs.keys; retained = kept.messages; topic_keys = kept.keys; deadlines = kept.pairs } in
     let limit = s.limits.queued in

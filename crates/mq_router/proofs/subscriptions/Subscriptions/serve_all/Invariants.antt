@@ -3,10 +3,10 @@ use Rattle.mq_router.specs.Turns.{SameInTurn}
 use Rattle.mq_router.specs.Applied.{all_turned}
 use Rattle.mq_router.specs.Kept.{AreKeys}
 use Rattle.mq_router.specs.Held.{turn_of}
-use Rattle.mq_router.proofs.turns.serve_all.Given as goal
+use Rattle.mq_router.proofs.subscriptions.Subscriptions.serve_all.Given as goal
 
 abbrev pub invariant-loop-turn : goal.invariant-loop-turn
 invariant-loop-turn l = record {
-  rows : SameInTurn (all_turned (map turn_of (drop l.turn-index l.served)) l.subscriptions.rows) (all_turned (map turn_of l.served) l.initial.subscriptions.rows);
-  keys : AreKeys l.initial.subscriptions → AreKeys l.subscriptions;
+  rows : SameInTurn (all_turned (map turn_of (drop l.turn-index l.served)) l.self.rows) (all_turned (map turn_of l.served) l.initial.self.rows);
+  keys : AreKeys l.initial.self → AreKeys l.self;
 }

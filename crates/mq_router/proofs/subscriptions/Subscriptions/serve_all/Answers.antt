@@ -6,16 +6,16 @@ use Rattle.mq_router.specs.World.{Subscription, has_key}
 use Rattle.mq_router.specs.Applied.{all_turned, put_last}
 use Rattle.mq_router.specs.Held.{turn_of}
 use Rattle.mq_router.proofs.InTurn.{same-is, same-then, same-itself, all_turned-same}
-use Rattle.mq_router.proofs.turns.serve_all.Goals as goal
+use Rattle.mq_router.proofs.subscriptions.Subscriptions.serve_all.Goals as goal
 
 pub loop-turn-init : goal.loop-turn-init
-loop-turn-init c = record { rows = same-itself (all_turned (map turn_of c.args.served.now) c.args.subscriptions.now.rows); keys = λ old. old }
+loop-turn-init c = record { rows = same-itself (all_turned (map turn_of c.args.served.now) c.args.self.now.rows); keys = λ old. old }
 
 pub loop-turn-preserved : goal.loop-turn-preserved
 loop-turn-preserved c =
     let i = c.loop-turn.turn-index in
     let t = c.turn-item.result in
-    let subs : List Subscription = c.loop-turn.subscriptions.rows in
+    let subs : List Subscription = c.loop-turn.self.rows in
     let served = c.args.served.now in
     let last : Text → Text → Text → List Subscription = λ client share f. put_last (has_key client (Some share) f) subs in
     let rows = same-then _ _ _
@@ -26,5 +26,5 @@ loop-turn-preserved c =
 
 pub returns-clause-rows : goal.returns-clause-rows
 returns-clause-rows c =
-    let subs : List Subscription = c.loop-turn.subscriptions.rows in
+    let subs : List Subscription = c.loop-turn.self.rows in
     same-then _ _ _ (same-is _ _ (ap (λ l. all_turned (map turn_of l) subs) (sym (drop_all c.loop-turn.turn-index c.args.served.now c.loop-turn-test.false)))) c.loop-turn.invariant.rows
