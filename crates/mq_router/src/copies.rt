@@ -1,12 +1,8 @@
 //! The copies of a message.
 ghost use Rattle.std.specs.Prelude.{◌≡◌, ◌+◌, IfOk, length, map};
-ghost use Rattle.std.specs.Option.{option_copied};
 ghost use Rattle.mq_topic.specs.Levels.{levels};
 ghost use Rattle.mq_tree.specs.Prefixes.{prefixes, met_by_name};
-ghost use Rattle.mq_acl.specs.Access.{allowed};
-ghost use Rattle.mq_acl.specs.declared.access.Direction.TheVariants.{Reading, Writing};
 ghost use Rattle.mq_router.specs.Lists.{Text};
-ghost use Rattle.mq_router.specs.Sessions.{user_of};
 ghost use Rattle.mq_router.specs.Held.{message_of, turn_of, begin_of};
 ghost use Rattle.mq_router.specs.Begun.{begun_by};
 
@@ -18,46 +14,12 @@ use crate::matches::{Match, sort_by_client};
 use crate::message::Message;
 use crate::outgoing::Outgoing;
 use crate::readers::Readers;
-use crate::sessions::Sessions;
 use crate::subscriptions::Subscriptions;
 use crate::summary::Summary;
 use crate::turns::{Turn, sort_by_share};
 use crate::waiting::Queueing;
-use mq_acl::Acl;
-use mq_topic::TopicName;
 use mq_tree::Steps;
 use std::alloc::{AllocError, Global};
-
-#[tactic(auto, unfolding(mq_acl::specs::Access::allowed))]
-pub(crate) fn may_read(
-    access: &Option<Acl>,
-    client: &str,
-    user: Option<&str>,
-    name: &TopicName,
-) -> bool
-    ensures { result ≡ allowed access.now client.now (option_copied user.entry) name.now Reading }
-{
-    match access {
-        None => true,
-        Some(acl) => acl.may_read(client, user, name),
-    }
-}
-
-/// Whether the client may publish under the name. Its user name is looked up only where there is an access list.
-#[tactic(auto, unfolding(mq_acl::specs::Access::allowed))]
-pub(crate) fn may_publish(
-    access: &Option<Acl>,
-    sessions: &Sessions,
-    client: &str,
-    name: &TopicName,
-) -> bool
-    ensures { result ≡ allowed access.now client.now (user_of sessions.now client.now) name.now Writing }
-{
-    match access {
-        None => true,
-        Some(acl) => acl.may_write(client, sessions.user(client), name),
-    }
-}
 
 /// The copies of a message that are sent, those that begin to wait, and the members of groups that it serves.
 #[derive(Debug, Drop)]

@@ -2,6 +2,7 @@
 //! at a time.
 #![tactic(auto)]
 
+mod access;
 mod answer;
 mod at_filter;
 mod begun;

@@ -7,7 +7,7 @@ ghost use Rattle.mq_router.specs.Sessions.{user_of, is_reader};
 ghost use Rattle.mq_router.specs.Begun.{room_for};
 ghost use Rattle.mq_router.specs.Ways.{is_sent, waits};
 
-use crate::copies::may_read;
+use crate::access::may_read;
 use crate::session::Way;
 use crate::sessions::Sessions;
 use mq_acl::Acl;

@@ -14,13 +14,14 @@ ghost use Rattle.mq_router.specs.Held.{published_message, message_of, begin_of};
 
 mod fresh;
 
+use crate::access::may_publish;
 use crate::answer::{Answer, Delivery, Outcome};
 use crate::checks::{
     copied, is_client_id, is_shared_no_local, is_user_name, parse_filter, parse_name, read_access,
 };
 use crate::clock::Clock;
 use crate::command::Command;
-use crate::copies::{Made, make_copies, may_publish};
+use crate::copies::{Made, make_copies};
 use crate::limits::Limits;
 use crate::message::Message;
 use crate::options::Options;

@@ -7,9 +7,9 @@ ghost use Rattle.mq_router.specs.Asked.{wanted_row};
 ghost use Rattle.mq_router.specs.Gathers.{copies_in};
 ghost use Rattle.mq_router.specs.Stored.{message_in, may_get, AreNear};
 
+use crate::access::may_read;
 use crate::answer::Delivery;
 use crate::clock::Clock;
-use crate::copies::may_read;
 use crate::options::Options;
 use crate::retained::stored::Stored;
 use crate::subscriptions::Subscriptions;
