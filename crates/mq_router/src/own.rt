@@ -1,14 +1,9 @@
 //! The subscriptions of one client, beside the tree of all.
-ghost use Rattle.std.specs.Prelude.{◌≡◌, ◌&&◌, ◌||◌, [], not, OnOk, OnErr};
-ghost use Rattle.std.specs.List.{filter};
-ghost use Rattle.mq_router.specs.Lists.{same_text};
+ghost use Rattle.std.specs.Prelude.{◌≡◌, ◌&&◌, ◌||◌, [], map, not, OnOk, OnErr};
 ghost use Rattle.mq_router.specs.World.{Subscription};
-ghost use Rattle.mq_router.specs.Kept.{all_rows, is_empty, is_own, is_in_list, wanted_key, AreKept};
+ghost use Rattle.mq_router.specs.Kept.{is_empty, is_own, is_in_list, shared_key, wanted_key};
 
-use crate::at_filter::AtFilter;
-use crate::subscriptions::leave_in;
 use mq_topic::SubFilter;
-use mq_tree::LevelTree;
 use std::alloc::{AllocError, Global};
 use std::collections::BTreeSet;
 use std::marker::Model;
@@ -65,14 +60,9 @@ impl Own {
         let _ = self.filters.remove(wanted);
     }
 
-    /// Takes all of them out of the tree. It takes no memory.
-    pub(crate) fn leave_all(&self, tree: &mut LevelTree<AtFilter>, client: &str)
-        requires { AreKept tree.old }
-        ensures rows { all_rows tree.new ≡ filter (λ s. not (same_text s.client client.now && is_in_list self.now s)) (all_rows tree.old) }
-        ensures kept { AreKept tree.new }
+    pub(crate) fn filters(&self) -> &BTreeSet<Rc<SubFilter>>
+        ensures { map shared_key result.now.keys ≡ self.now }
     {
-        for wanted in &self.filters {
-            leave_in(tree, client, wanted);
-        }
+        &self.filters
     }
 }

@@ -209,7 +209,7 @@ fn add_in(
 }
 
 // Takes a subscription out, and the filter with its last one.
-pub(crate) fn leave_in(tree: &mut LevelTree<AtFilter>, client: &str, wanted: &SubFilter)
+fn leave_in(tree: &mut LevelTree<AtFilter>, client: &str, wanted: &SubFilter)
     requires { AreKept tree.old }
     ensures rows { all_rows tree.new ≡ filter (λ s. not (has_wanted client.now wanted.now s)) (all_rows tree.old) }
     ensures kept { AreKept tree.new }
@@ -236,7 +236,7 @@ fn serve_in(tree: &mut LevelTree<AtFilter>, share: &str, wanted: &TopicFilter, c
 
 ghost use Rattle.std.specs.Prelude.{◌&&◌, ◌||◌};
 ghost use Rattle.std.specs.List.{AllByRecursion};
-ghost use Rattle.mq_router.specs.Kept.{AreListed, is_empty, is_text, OwnKey};
+ghost use Rattle.mq_router.specs.Kept.{AreListed, is_empty, is_in_list, is_text, OwnKey};
 
 // Where there is no memory, nothing is left beside the tree that leads to no subscription.
 fn put_in(
@@ -283,6 +283,17 @@ fn take_out(
     list_remove(lists, client, wanted);
 }
 
+// Takes a client's subscriptions out of the tree.
+fn leave_all(tree: &mut LevelTree<AtFilter>, own: &Own, client: &str)
+    requires { AreKept tree.old }
+    ensures rows { all_rows tree.new ≡ filter (λ s. not (same_text s.client client.now && is_in_list own.now s)) (all_rows tree.old) }
+    ensures kept { AreKept tree.new }
+{
+    for wanted in own.filters() {
+        leave_in(tree, client, wanted);
+    }
+}
+
 fn take_all(tree: &mut LevelTree<AtFilter>, lists: &mut BTreeMap<RcStr, Own>, client: &str)
     requires { AreListed tree.old (texts lists.old.entries) }
     ensures rows { all_rows tree.new ≡ filter (λ s. not (same_text s.client client.now)) (all_rows tree.old) }
@@ -290,7 +301,7 @@ fn take_all(tree: &mut LevelTree<AtFilter>, lists: &mut BTreeMap<RcStr, Own>, cl
 {
     let _count = lists.len();
     match lists.remove(client) {
-        Some(own) => own.leave_all(tree, client),
+        Some(own) => leave_all(tree, &own, client),
         None => {}
     }
 }

@@ -5,7 +5,7 @@ use Rattle.std.proofs.lemmas.Map.Iter.{rest_more, rest_all}
 use Rattle.mq_router.specs.Asked.{has_wanted}
 use Rattle.mq_router.specs.Kept.{Shared, shared_key, all_rows}
 use Rattle.mq_router.proofs.ListedLemmas.{leaves, one-leaves, none-leave}
-use Rattle.mq_router.proofs.own.Own.leave_all.Goals as goal
+use Rattle.mq_router.proofs.subscriptions.leave_all.Goals as goal
 
 pub loop-wanted-preserved : goal.loop-wanted-preserved
 loop-wanted-preserved c =
