@@ -39,7 +39,7 @@ end-none moment (s ∷ rows) = ap (λ l. s ∷ l) (end-none moment rows)
 
 -- ## Before the first end
 
-none_ended : (moment : ℕ) (first : Option ℕ) (sessions : List Session) → AllEndFrom first sessions → is_over moment first ≡ false → AllByRecursion (λ s. has_ended moment s ≡ false) sessions
+pub none_ended : (moment : ℕ) (first : Option ℕ) (sessions : List Session) → AllEndFrom first sessions → is_over moment first ≡ false → AllByRecursion (λ s. has_ended moment s ≡ false) sessions
 none_ended moment first [] h e = tt
 none_ended moment first (s ∷ ss) h e =
     (pick (has_ended moment s) (λ t. absurd (true≢false (sym (h.0 moment t) ∙ e))) (λ f. f), none_ended moment first ss h.1 e)
@@ -47,9 +47,9 @@ none_ended moment first (s ∷ ss) h e =
 pub none-end : (moment : ℕ) (first : Option ℕ) (sessions : List Session) → AllEndFrom first sessions → is_over moment first ≡ false → sessions ≡ filter (λ s. not (has_ended moment s)) sessions
 none-end moment first sessions h e = sym (filter-kept (has_ended moment) sessions (none_ended moment first sessions h e))
 
-pub all-last : (moment : ℕ) (first : Option ℕ) (sessions : List Session) (rows : List Subscription) → AllEndFrom first sessions → is_over moment first ≡ false → rows ≡ filter (lasts moment sessions) rows
-all-last moment first sessions rows h e =
-    sym (ap (λ (l : List Session). filter (λ (s : Subscription). not (is_among l s.client)) rows) (filter-none (has_ended moment) sessions (none_ended moment first sessions h e)) ∙ end-none moment rows)
+pub all-last : (moment : ℕ) (sessions : List Session) (rows : List Subscription) → AllByRecursion (λ s. has_ended moment s ≡ false) sessions → rows ≡ filter (lasts moment sessions) rows
+all-last moment sessions rows none =
+    sym (ap (λ (l : List Session). filter (λ (s : Subscription). not (is_among l s.client)) rows) (filter-none (has_ended moment) sessions none) ∙ end-none moment rows)
 
 -- ## Edits
 

@@ -12,6 +12,7 @@ ghost use Rattle.mq_router.specs.Asked.{wanted_row};
 ghost use Rattle.mq_router.specs.Gathers.{copies_in, turns_in};
 ghost use Rattle.mq_router.specs.Held.{published_message, message_of, begin_of};
 
+mod ended;
 mod fresh;
 
 use crate::access::may_publish;
@@ -32,6 +33,7 @@ use crate::retained::{Receiver, Retained, asks_for_retained};
 use crate::sessions::Sessions;
 use crate::subscriptions::Subscriptions;
 use crate::waiting::Queueing;
+use ended::remove_ended;
 use mq_acl::Acl;
 use mq_topic::SubFilter;
 use mq_tree::Steps;
@@ -366,8 +368,7 @@ impl Router {
             return Err(Refusal::ClockTooFar);
         };
         self.clock = clock;
-        self.sessions
-            .remove_subscriptions(&mut self.subscriptions, clock.moment);
+        remove_ended(&self.sessions, &mut self.subscriptions, clock.moment);
         self.sessions.end(clock.moment);
         self.retained.advance(clock.moment, steps);
         Ok(with_reason(self.alloc, 0))

@@ -1,7 +1,7 @@
 //! The sessions of the clients, of those that are connected and of those that are away.
-ghost use Rattle.std.specs.Prelude.{◌≡◌, [], length, not, is_some, OnOk, OnErr, IfOk, IfSome, map, string_bytes};
+ghost use Rattle.std.specs.Prelude.{◌≡◌, [], length, not, is_some, false, OnOk, OnErr, IfOk, IfSome, map, string_bytes};
 ghost use Rattle.std.specs.Option.{option_copied, option_map};
-ghost use Rattle.std.specs.List.{filter};
+ghost use Rattle.std.specs.List.{filter, AllByRecursion};
 ghost use Rattle.std.specs.Rc.{rc_str_bytes};
 ghost use Rattle.std.specs.List.Sorted.{IsStrictlySortedBy};
 ghost use Rattle.mq_router.specs.Lists.{with_row};
@@ -10,8 +10,6 @@ ghost use Rattle.mq_router.specs.Sessions.{new_session, session_of, is_connected
 ghost use Rattle.mq_router.specs.Waiting.{resumed_copies};
 ghost use Rattle.mq_router.specs.Begun.{queued_one, queued_all};
 ghost use Rattle.mq_router.specs.Near.{AllReached};
-ghost use Rattle.mq_router.specs.Kept.{AreKeys};
-ghost use Rattle.mq_router.specs.Applied.{lasts};
 ghost use Rattle.mq_router.specs.Views.{copy_of};
 
 mod edits;
@@ -22,8 +20,7 @@ use crate::answer::Delivery;
 use crate::begun::Begun;
 use crate::clock::Clock;
 use crate::session::Session;
-use crate::subscriptions::Subscriptions;
-use edits::{end, join, leave, remove_ended};
+use edits::{end, join, leave};
 use first_end::{earlier, first_end, is_over};
 use found::{connected, find, learn_order, outlives, user_in, waited_copies};
 use std::alloc::{AllocError, Global};
@@ -53,7 +50,7 @@ impl Model for Sessions {
 }
 
 impl Sessions {
-    ghost use Rattle.mq_router.specs.Held.{begin_of, session_at};
+    ghost use Rattle.mq_router.specs.Held.{begin_of, session_at, session_in};
 
     pub(crate) fn new(alloc: Global) -> Self
         ensures { result ≡ [] }
@@ -189,15 +186,17 @@ impl Sessions {
         }
     }
 
-    /// Takes out the subscriptions of the sessions that have ended at this moment; where none has, it looks at none. It takes
-    /// no memory.
-    pub(crate) fn remove_subscriptions(&self, subscriptions: &mut Subscriptions, moment: u64)
-        ensures rows { subscriptions.new.rows ≡ filter (lasts moment self.now) subscriptions.old.rows }
-        ensures keys { AreKeys subscriptions.old → AreKeys subscriptions.new }
+    /// Whether one may have ended at this moment; if not, none has.
+    pub(crate) fn may_end(&self, moment: u64) -> bool
+        ensures { result ≡ false → AllByRecursion (λ session. has_ended moment session ≡ false) self.now }
     {
-        if !is_over(moment, self.first_end) {
-            return;
-        }
-        remove_ended(&self.by_id, subscriptions, moment);
+        is_over(moment, self.first_end)
+    }
+
+    /// The sessions, by client id.
+    pub(crate) fn by_id(&self) -> &BTreeMap<RcStr, Session>
+        ensures { map session_in result.now.entries ≡ self.now }
+    {
+        &self.by_id
     }
 }

@@ -9,7 +9,6 @@ ghost use Rattle.mq_router.specs.Held.{session_in, begin_of};
 use crate::begun::Begun;
 use crate::clock::Clock;
 use crate::session::Session;
-use crate::subscriptions::Subscriptions;
 use std::collections::BTreeMap;
 use std::rc::RcStr;
 
@@ -39,23 +38,4 @@ pub(crate) fn end(sessions: &mut BTreeMap<RcStr, Session>, moment: u64)
     ensures { map session_in sessions.new.entries ≡ filter (λ session. not (has_ended moment session)) (map session_in sessions.old.entries) }
 {
     sessions.retain(|_, session| !session.has_ended(moment));
-}
-
-ghost use Rattle.mq_router.specs.Kept.{AreKeys};
-ghost use Rattle.mq_router.specs.Applied.{lasts};
-
-/// Takes out the subscriptions of the sessions that have ended, and walks no other's.
-pub(crate) fn remove_ended(
-    sessions: &BTreeMap<RcStr, Session>,
-    subscriptions: &mut Subscriptions,
-    moment: u64,
-)
-    ensures rows { subscriptions.new.rows ≡ filter (lasts moment (map session_in sessions.now.entries)) subscriptions.old.rows }
-    ensures keys { AreKeys subscriptions.old → AreKeys subscriptions.new }
-{
-    for (id, session) in sessions {
-        if session.has_ended(moment) {
-            subscriptions.remove_client(id.as_str());
-        }
-    }
 }

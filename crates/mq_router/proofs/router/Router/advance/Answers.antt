@@ -31,8 +31,8 @@ pub returns-clause-applied : goal.returns-clause-applied
 returns-clause-applied c =
     let s : State = state_of c.self.inside in
     let kept = c.advance.new.self in
-    let subs = c.remove_subscriptions.new.subscriptions in
+    let subs = c.remove_ended.new.subscriptions in
     let new : State = record s { moment = c.in-Some.clock.moment; sessions = c.end.new.self; subscriptions = subs.rows; filter_keys = subs.keys; retained = kept.messages; topic_keys = kept.keys; deadlines = kept.pairs } in
     subst (λ (v : State). Does v (Advance c.args.seconds) (reply_of c.with_reason.result) new) c.self.view_is
-    (advance-does s c.args.seconds c.in-Some.clock.moment c.end.new.self subs kept _ c.in-Some.clock.within c.in-Some.ensures.some c.end.ensures c.remove_subscriptions.ensures.rows c.remove_subscriptions.ensures.keys
+    (advance-does s c.args.seconds c.in-Some.clock.moment c.end.new.self subs kept _ c.in-Some.clock.within c.in-Some.ensures.some c.end.ensures c.remove_ended.ensures.rows c.remove_ended.ensures.keys
     c.advance.ensures.rest c.advance.ensures.filed c.with_reason.ensures)

@@ -5,8 +5,12 @@ use Rattle.std.proofs.lemmas.Map.Iter.{rest_more, rest_all}
 use Rattle.mq_router.specs.World.{Session}
 use Rattle.mq_router.specs.Applied.{lasts, without}
 use Rattle.mq_router.specs.Held.{session_in}
-use Rattle.mq_router.proofs.EndLemmas.{end-more, end-none}
-use Rattle.mq_router.proofs.sessions.edits.remove_ended.Goals as goal
+use Rattle.mq_router.proofs.EndLemmas.{end-more, end-none, all-last}
+use Rattle.mq_router.proofs.router.ended.remove_ended.Goals as goal
+
+pub returns-then-not-may_end-clause-rows : goal.returns-then-not-may_end-clause-rows
+returns-then-not-may_end-clause-rows c =
+    all-last c.args.moment c.args.sessions.now c.args.subscriptions.now.rows (c.may_end.ensures c.if-not-may_end.true)
 
 pub loop-id-preserved-then-has_ended : goal.loop-id-preserved-then-has_ended
 loop-id-preserved-then-has_ended c =

@@ -3,10 +3,10 @@ use Rattle.std.specs.List.{filter}
 use Rattle.mq_router.specs.Applied.{lasts}
 use Rattle.mq_router.specs.Kept.{AreKeys}
 use Rattle.mq_router.specs.Held.{session_in}
-use Rattle.mq_router.proofs.sessions.edits.remove_ended.Given as goal
+use Rattle.mq_router.proofs.router.ended.remove_ended.Given as goal
 
 abbrev pub invariant-loop-id : goal.invariant-loop-id
 invariant-loop-id l = record {
-  rows : filter (lasts l.moment (map session_in l.id-iterator)) l.subscriptions.rows ≡ filter (lasts l.moment (map session_in l.sessions.entries)) l.initial.subscriptions.rows;
+  rows : filter (lasts l.moment (map session_in l.id-iterator)) l.subscriptions.rows ≡ filter (lasts l.moment l.sessions) l.initial.subscriptions.rows;
   keys : AreKeys l.initial.subscriptions → AreKeys l.subscriptions;
 }

@@ -1,0 +1,24 @@
+//! The subscriptions of the sessions that end.
+ghost use Rattle.std.specs.Prelude.{◌≡◌};
+ghost use Rattle.std.specs.List.{filter};
+ghost use Rattle.mq_router.specs.Kept.{AreKeys};
+ghost use Rattle.mq_router.specs.Applied.{lasts};
+
+use crate::sessions::Sessions;
+use crate::subscriptions::Subscriptions;
+
+/// Takes out the subscriptions of the sessions that have ended, and walks no other's; where none has, it looks at none. It
+/// takes no memory.
+pub(crate) fn remove_ended(sessions: &Sessions, subscriptions: &mut Subscriptions, moment: u64)
+    ensures rows { subscriptions.new.rows ≡ filter (lasts moment sessions.now) subscriptions.old.rows }
+    ensures keys { AreKeys subscriptions.old → AreKeys subscriptions.new }
+{
+    if !sessions.may_end(moment) {
+        return;
+    }
+    for (id, session) in sessions.by_id() {
+        if session.has_ended(moment) {
+            subscriptions.remove_client(id.as_str());
+        }
+    }
+}
