@@ -20,7 +20,7 @@ use edits::{expire, forget, has_message, is_stored, store};
 use messages::Messages;
 use mq_tree::Steps;
 use sending::copies_of;
-pub(crate) use sending::{Receiver, asks_for_retained};
+pub(crate) use sending::Receiver;
 use std::alloc::{AllocError, Global};
 use std::marker::Model;
 

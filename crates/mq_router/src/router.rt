@@ -29,7 +29,7 @@ use crate::options::Options;
 use crate::readers::Readers;
 use crate::refusal::Refusal;
 use crate::replies::{published, reason_to_leave, with_reason};
-use crate::retained::{Receiver, Retained, asks_for_retained};
+use crate::retained::{Receiver, Retained};
 use crate::sessions::Sessions;
 use crate::subscriptions::Subscriptions;
 use crate::waiting::Queueing;
@@ -252,7 +252,10 @@ impl Router {
             ≡ copies_sent self.now (wanted_row (rc_str_bytes client.now) wanted.now options)) }
         ensures count { OnOk result (steps.new ≡ steps.old + steps_sent self.now (wanted_row (rc_str_bytes client.now) wanted.now options)) }
     {
-        if !asks_for_retained(&self.subscriptions, client.as_str(), wanted, options) {
+        if !self
+            .subscriptions
+            .asks_for_retained(client.as_str(), wanted, options)
+        {
             return Ok(Vec::new(self.alloc));
         }
         let receiver = Receiver {

@@ -11,6 +11,7 @@ ghost use Rattle.mq_router.specs.Asked.{wanted_row, has_wanted, ListsMore, Lists
 ghost use Rattle.mq_router.specs.Gathers.{seen};
 ghost use Rattle.mq_router.specs.Made.{rows_found};
 ghost use Rattle.mq_router.specs.Copies.{filter_matches};
+ghost use Rattle.mq_router.specs.Retained.{asks_for_retained};
 ghost use Rattle.mq_router.specs.Turns.{SameInTurn};
 ghost use Rattle.mq_router.specs.Applied.{joined, put_last, all_turned};
 ghost use Rattle.mq_router.specs.Held.{turn_of};
@@ -62,6 +63,25 @@ impl Subscriptions {
         ensures { result ≡ list_any (has_wanted client.now wanted.now) self.now.rows }
     {
         contains_in(&self.tree, client, wanted)
+    }
+
+    /// Whether a subscribe is sent retained messages.
+    pub(crate) fn asks_for_retained(
+        &self,
+        client: &str,
+        wanted: &SubFilter,
+        options: Options,
+    ) -> bool
+        ensures { result ≡ asks_for_retained self.now.rows (wanted_row client.now wanted.now options) }
+    {
+        if wanted.share.is_some() {
+            return false;
+        }
+        match options.handling {
+            0 => true,
+            1 => !self.contains(client, wanted),
+            _ => false,
+        }
     }
 
     /// Adds a subscription, in the place of the one with its key.

@@ -1,9 +1,8 @@
-//! The copies of retained messages that a subscribe sends, if it sends any.
+//! The copies of retained messages that a subscribe sends.
 ghost use Rattle.std.specs.Prelude.{◌≡◌, ◌+◌, ◌<◌, ◌^◌, IfOk, IfSome, map};
 ghost use Rattle.std.specs.Option.{option_copied, option_to_list};
-ghost use Rattle.mq_router.specs.Retained.{asks_for_retained, retained_copy};
+ghost use Rattle.mq_router.specs.Retained.{retained_copy};
 ghost use Rattle.mq_router.specs.Views.{copy_of};
-ghost use Rattle.mq_router.specs.Asked.{wanted_row};
 ghost use Rattle.mq_router.specs.Gathers.{copies_in};
 ghost use Rattle.mq_router.specs.Stored.{message_in, may_get, AreNear};
 
@@ -12,9 +11,8 @@ use crate::answer::Delivery;
 use crate::clock::Clock;
 use crate::options::Options;
 use crate::retained::stored::Stored;
-use crate::subscriptions::Subscriptions;
 use mq_acl::Acl;
-use mq_topic::{LevelText, SubFilter, TopicFilter};
+use mq_topic::{LevelText, TopicFilter};
 use std::alloc::{AllocError, Global};
 use std::rc::RcStr;
 
@@ -27,25 +25,6 @@ pub(crate) struct Receiver<'a> {
     pub(crate) client: &'a RcStr,
     pub(crate) filter: &'a TopicFilter,
     pub(crate) options: Options,
-}
-
-/// Whether a subscribe is sent retained messages.
-pub(crate) fn asks_for_retained(
-    subscriptions: &Subscriptions,
-    client: &str,
-    wanted: &SubFilter,
-    options: Options,
-) -> bool
-    ensures { result ≡ asks_for_retained subscriptions.now.rows (wanted_row client.now wanted.now options) }
-{
-    if wanted.share.is_some() {
-        return false;
-    }
-    match options.handling {
-        0 => true,
-        1 => !subscriptions.contains(client, wanted),
-        _ => false,
-    }
 }
 
 ghost use Rattle.mq_router.specs.Receivers.{subscription_for, copies_among};
