@@ -19,7 +19,7 @@ use Rattle.mq_router.specs.KeptViews.{texts}
 use Rattle.mq_router.proofs.AtLemmas.{own_key_is}
 use Rattle.mq_router.proofs.SessionLemmas.{finds}
 use Rattle.mq_router.proofs.Splits.{set_same}
-use Rattle.mq_router.proofs.Texts.{is_text-is, lookup-texts}
+use Rattle.mq_router.proofs.TextMaps.{is_text-is, lookup-texts}
 use Rattle.mq_router.proofs.ListedLemmas.{leaves, found_in, list-out, live-out}
 use Rattle.std.specs.List.Sorted.{IsStrictlySortedBy}
 use Rattle.std.specs.Map.{lookup, set_value, remove_entry, keys_of}

@@ -15,7 +15,7 @@ use Rattle.mq_router.proofs.ListLemmas.{filter-same, any-append}
 use Rattle.mq_router.proofs.OrderLemmas.{all_weaker, all-with_row, text_flip}
 use Rattle.mq_router.proofs.SortedLemmas.{same_sorted, sorted-in_order, any-in_order}
 use Rattle.mq_router.proofs.InTurn.{same_text-is, same_text-itself}
-use Rattle.mq_router.proofs.Texts.{is_text-is, key_text}
+use Rattle.mq_router.proofs.TextMaps.{is_text-is, key_text}
 
 -- what is no less than a text, and another, is greater
 greater : (s t : Text) → is_lt (text_cmp t s) ≡ false → same_text s t ≡ false → text_cmp s t ≡ Less

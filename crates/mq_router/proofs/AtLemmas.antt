@@ -19,7 +19,7 @@ use Rattle.mq_router.proofs.SessionLemmas.{finds, finds-is, apart}
 use Rattle.mq_router.proofs.InTurn.{any-none, joined-among, turned-among, removed-among, none_same, Unlike, same-is, same-itself, unlike-share, unlike-own, same_text-is, same_text-itself, map-with_one, map-put_last}
 use Rattle.mq_router.proofs.Splits.{some_same, Split, split, Put, put_gap, put_found, none_passes}
 use Rattle.mq_router.proofs.Cuts.{cut-any, absent-any, cut-joined, cut-turned, cut-left, cut-out, live-set, live-out, absent-left, absent-turned, put-joined, live-put}
-use Rattle.mq_router.proofs.Texts.{is_text-is, text-apart, lookup-texts, set_value-texts, remove_entry-texts, insert_entry-texts, ordered-texts}
+use Rattle.mq_router.proofs.TextMaps.{is_text-is, text-apart, lookup-texts, set_value-texts, remove_entry-texts, insert_entry-texts, ordered-texts}
 use Rattle.mq_router.specs.World as world
 use Rattle.mq_router.specs.declared.options.Options as held
 use Rattle.std.proofs.lemmas.List.{append-nil}

@@ -21,8 +21,8 @@ use Rattle.mq_router.specs.Sessions.{is_reader, user_of}
 use Rattle.mq_router.specs.Waiting.{with_qos}
 use Rattle.mq_router.specs.Begun.{Begin, room_for, begin_with}
 use Rattle.mq_router.specs.Ways.{is_sent, waits}
-use Rattle.mq_router.specs.declared.session.Way.{Way}
-use Rattle.mq_router.specs.declared.session.Way.TheVariants.{Sent, Waits, Nowhere}
+use Rattle.mq_router.specs.declared.sessions.session.Way.{Way}
+use Rattle.mq_router.specs.declared.sessions.session.Way.TheVariants.{Sent, Waits, Nowhere}
 use Rattle.mq_router.proofs.SummaryLemmas.{summary_of-append}
 use Rattle.std.proofs.lemmas.List.{map-append, append-nil}
 use Rattle.std.proofs.lemmas.List.Elements.{filter-append}
@@ -38,8 +38,8 @@ use Rattle.mq_router.proofs.ListLemmas.{map-filter}
 use Rattle.mq_router.proofs.OrderLemmas.{text_flip}
 use Rattle.mq_router.proofs.SortedLemmas.{sorted-in_order, any-in_order}
 use Rattle.mq_router.proofs.InTurn.{same_text-is, same_text-itself}
-use Rattle.mq_router.proofs.Texts.{is_text-is, key_text}
-use Rattle.mq_router.specs.declared.matches.Match.{Match}
+use Rattle.mq_router.proofs.TextMaps.{is_text-is, key_text}
+use Rattle.mq_router.specs.declared.subscriptions.matches.Match.{Match}
 use Rattle.mq_router.proofs.AscendingLemmas.{lt, same, ascending-sorted, first-run, stable-kept, least-first, all-in_order}
 
 -- ## Sorted by client

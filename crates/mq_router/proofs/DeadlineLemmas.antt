@@ -23,7 +23,7 @@ use Rattle.mq_router.specs.Due.{due_of}
 use Rattle.mq_router.proofs.ListLemmas.{list_any-map, remove_key-filter}
 use Rattle.mq_router.proofs.OrderLemmas.{equal_from}
 use Rattle.mq_router.proofs.BoolLemmas.{parts_true, or_again, or_swapped}
-use Rattle.mq_router.specs.declared.deadlines.Due.{Due}
+use Rattle.mq_router.specs.declared.retained.deadlines.Due.{Due}
 
 -- ## The order of the pairs
 

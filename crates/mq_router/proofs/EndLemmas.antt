@@ -12,7 +12,7 @@ use Rattle.mq_router.specs.Begun.{Begin, queued, edited, queued_one}
 use Rattle.mq_router.specs.Ends.{EndsFrom, AllEndFrom}
 use Rattle.mq_router.specs.Applied.{lasts, without}
 use Rattle.mq_router.specs.Held.{session_in, shown}
-use Rattle.mq_router.specs.declared.session.Session as held
+use Rattle.mq_router.specs.declared.sessions.session.Session as held
 use Rattle.mq_router.proofs.ListLemmas.{filter-same}
 use Rattle.mq_router.proofs.SameLemmas.{filter-filter}
 use Rattle.mq_router.proofs.OrderLemmas.{text_flip}

@@ -5,7 +5,7 @@ pub mod OrderLemmas
 pub mod InTurn
 pub mod Splits
 pub mod Cuts
-pub mod Texts
+pub mod TextMaps
 pub mod Members
 pub mod MessageCounts
 pub mod AtLemmas

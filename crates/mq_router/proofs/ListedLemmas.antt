@@ -16,7 +16,7 @@ use Rattle.mq_router.proofs.SameLemmas.{filter-filter}
 use Rattle.mq_router.proofs.SessionLemmas.{finds}
 use Rattle.mq_router.proofs.OrderLemmas.{all_append}
 use Rattle.mq_router.proofs.BoolLemmas.{and_assoc, pick, left_true}
-use Rattle.mq_router.proofs.Texts.{is_text-is, text-apart, lookup-texts, set_value-texts, remove_entry-texts, insert_entry-texts, ordered-texts, key_text}
+use Rattle.mq_router.proofs.TextMaps.{is_text-is, text-apart, lookup-texts, set_value-texts, remove_entry-texts, insert_entry-texts, ordered-texts, key_text}
 use Rattle.mq_router.proofs.Splits.{Split, split, Put, put_gap, lookup-front, lookup-more, lookup-at}
 use Rattle.mq_router.proofs.InTurn.{same_text-is, same_text-itself}
 use Rattle.mq_router.proofs.AtLemmas.{same_share-itself, nothing}

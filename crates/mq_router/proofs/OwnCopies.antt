@@ -23,7 +23,7 @@ use Rattle.mq_router.proofs.SameLemmas.{filter-filter}
 use Rattle.mq_router.proofs.SortedLemmas.{same_gathered}
 use Rattle.mq_router.proofs.BoolLemmas.{pick, left_true, right_true, and_true, or_true}
 use Rattle.mq_router.proofs.InTurn.{same_text-itself}
-use Rattle.mq_router.proofs.Texts.{is_text-is, text-apart, key_text}
+use Rattle.mq_router.proofs.TextMaps.{is_text-is, text-apart, key_text}
 use Rattle.mq_router.proofs.SummaryLemmas.{summarized, unsummarized}
 use Rattle.mq_router.specs.World as world
 

@@ -26,10 +26,10 @@ use Rattle.mq_router.proofs.OrderLemmas.{group_total, level_equal, all_append, t
 use Rattle.mq_router.proofs.SortedLemmas.{sorted-in_order, any-in_order, ties, same_gathered, any-filter, sorted-append}
 use Rattle.mq_router.proofs.BoolLemmas.{pick, or_true}
 use Rattle.mq_router.proofs.InTurn.{same_text-is, same_text-itself}
-use Rattle.mq_router.proofs.Texts.{is_text-is, key_text}
+use Rattle.mq_router.proofs.TextMaps.{is_text-is, key_text}
 use Rattle.mq_router.proofs.AscendingLemmas.{by_each_key, none_there}
 use Rattle.mq_router.proofs.GroupLemmas.{group_tie, group_tied, groups-sorted, groups-any, told, any-from_filter}
-use Rattle.mq_router.specs.declared.turns.Turn.{Turn}
+use Rattle.mq_router.specs.declared.subscriptions.turn.Turn.{Turn}
 
 differ : (a b : Text) → level_order (levels a) (levels b) ≡ Less → same_text a b ≡ false
 differ a b h = sym (level_equal a b) ∙ ap is_eq h

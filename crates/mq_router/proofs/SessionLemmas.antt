@@ -19,7 +19,7 @@ use Rattle.mq_router.specs.Sessions.{session_of}
 use Rattle.mq_router.specs.Begun.{edited}
 use Rattle.mq_router.specs.Near.{AreReached, AllReached}
 use Rattle.mq_router.specs.Held.{session_at, session_in, waiting_of}
-use Rattle.mq_router.specs.declared.session.Session.{Session}
+use Rattle.mq_router.specs.declared.sessions.session.Session.{Session}
 use Rattle.mq_router.proofs.OrderLemmas.{equal_from}
 use Rattle.mq_router.proofs.ListLemmas.{filter-same, map-filter, map-insert_entry, remove_entry-filter, none_again}
 

@@ -17,9 +17,9 @@ use Rattle.mq_router.specs.Kept.{Member, row, direct_rows, group_rows}
 use Rattle.mq_router.specs.Held.{turn_of}
 use Rattle.mq_router.specs.Gathers.{turns_listed}
 use Rattle.mq_router.specs.Made.{turns_of}
-use Rattle.mq_router.proofs.Texts.{is_text-is, text-apart}
+use Rattle.mq_router.proofs.TextMaps.{is_text-is, text-apart}
 use Rattle.mq_router.proofs.InTurn.{same_text-is, same_text-itself}
-use Rattle.mq_router.specs.declared.turns.Turn.{Turn}
+use Rattle.mq_router.specs.declared.subscriptions.turn.Turn.{Turn}
 use Rattle.mq_router.specs.declared.options.Options as held
 
 abbrev pub able : Option (List AclRow) → List Session → Text → Text → Bool

@@ -15,8 +15,8 @@ use Rattle.mq_router.specs.Summaries.{Summary, summary_of}
 use Rattle.mq_router.specs.Made.{turns_of}
 use Rattle.mq_router.specs.Held.{turn_of}
 use Rattle.mq_router.specs.declared.answer.Delivery.{Delivery}
-use Rattle.mq_router.specs.declared.turns.Turn.{Turn}
-use Rattle.mq_router.specs.declared.matches.Match.{Match}
+use Rattle.mq_router.specs.declared.subscriptions.turn.Turn.{Turn}
+use Rattle.mq_router.specs.declared.subscriptions.matches.Match.{Match}
 
 -- subscriptions, each by its client and what it asks for
 abbrev pub matched : List Match → List (Text × Options)

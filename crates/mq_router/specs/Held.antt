@@ -11,12 +11,12 @@ use Rattle.mq_router.specs.StandsFor.{State}
 use Rattle.mq_router.specs.Kept.{options_of, AreListed, KeptSubscriptions, kept_at}
 use Rattle.mq_router.specs.KeptViews.{texts}
 use Rattle.mq_router.specs.declared.message.Message.{Message}
-use Rattle.mq_router.specs.declared.turns.Turn.{Turn}
-use Rattle.mq_router.specs.declared.session.Session.{Session}
-use Rattle.mq_router.specs.declared.session.Waiting.{Waiting}
-use Rattle.mq_router.specs.declared.session.Presence.{Presence}
-use Rattle.mq_router.specs.declared.session.Presence.TheVariants.{Connected, Away}
-use Rattle.mq_router.specs.declared.begun.Begun.{Begun}
+use Rattle.mq_router.specs.declared.subscriptions.turn.Turn.{Turn}
+use Rattle.mq_router.specs.declared.sessions.session.Session.{Session}
+use Rattle.mq_router.specs.declared.sessions.session.Waiting.{Waiting}
+use Rattle.mq_router.specs.declared.sessions.session.Presence.{Presence}
+use Rattle.mq_router.specs.declared.sessions.session.Presence.TheVariants.{Connected, Away}
+use Rattle.mq_router.specs.declared.sessions.queued.Begun.{Begun}
 use Rattle.mq_router.specs.declared.sessions.Sessions.TheInside as in_sessions
 use Rattle.mq_router.specs.declared.subscriptions.Subscriptions.TheInside as in_subscriptions
 use Rattle.mq_router.specs.declared.router.Router.TheInside as in_router

@@ -4,8 +4,8 @@ use Rattle.std.specs.Rc.{rc_str_bytes}
 use Rattle.mq_router.specs.Keys.{Key}
 use Rattle.mq_router.specs.Lists.{Text}
 use Rattle.mq_router.specs.Kept.{Member, At, direct_rows, group_rows, NoneEmpty}
-use Rattle.mq_router.specs.declared.group.Group.TheInside as in_group
-use Rattle.mq_router.specs.declared.at_filter.AtFilter.TheInside as in_at
+use Rattle.mq_router.specs.declared.subscriptions.group.Group.TheInside as in_group
+use Rattle.mq_router.specs.declared.subscriptions.filter_entry.AtFilter.TheInside as in_at
 
 -- the entries of a map from texts
 abbrev pub texts : {X : Type 0} → List (Key × X) → List (Text × X)

@@ -11,7 +11,7 @@ use Rattle.mq_router.specs.Retained.{retained_copy, retained_copies}
 use Rattle.mq_router.specs.Counts.{topics_of}
 use Rattle.mq_router.specs.Kept.{row}
 use Rattle.mq_router.specs.Stored.{may_get}
-use Rattle.mq_router.specs.declared.retained.sending.Receiver.{Receiver}
+use Rattle.mq_router.specs.declared.retained.copies.Receiver.{Receiver}
 
 abbrev pub subscription_for : Receiver → Subscription
 subscription_for r = row None r.filter.now (rc_str_bytes r.client.now, r.options)

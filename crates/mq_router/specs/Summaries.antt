@@ -3,7 +3,7 @@ use Rattle.std.specs.Prelude.{ℕ, Bool, List, [], ◌∷◌, ◌++◌, map, max
 use Rattle.std.specs.List.{filter_map, list_any}
 use Rattle.mq_router.specs.Lists.{Text, greatest, ascending}
 use Rattle.mq_router.specs.World.{Options, Group, Message, Copy}
-use Rattle.mq_router.specs.declared.summary.Summary.TheInside as in_summary
+use Rattle.mq_router.specs.declared.delivery.summary.Summary.TheInside as in_summary
 
 -- the greatest QoS, whether some ask for Retain As Published, and the identifiers
 pub record Summary : Type 0 where

@@ -1,7 +1,7 @@
 -- Where a copy for a client goes.
 use Rattle.std.specs.Prelude.{Bool, true, false}
-use Rattle.mq_router.specs.declared.session.Way.{Way}
-use Rattle.mq_router.specs.declared.session.Way.TheVariants.{Sent, Waits, Nowhere}
+use Rattle.mq_router.specs.declared.sessions.session.Way.{Way}
+use Rattle.mq_router.specs.declared.sessions.session.Way.TheVariants.{Sent, Waits, Nowhere}
 
 abbrev pub is_sent : Way → Bool
 is_sent way = elim way [ Sent ↦ true | Waits ↦ false | Nowhere ↦ false ]

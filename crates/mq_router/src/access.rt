@@ -1,13 +1,18 @@
-//! Who may read a topic, and who may publish under it.
-ghost use Rattle.std.specs.Prelude.{◌≡◌};
+//! Who may read a topic, and who may publish under it: the clients with a session, under an access list or none.
+ghost use Rattle.std.specs.Prelude.{◌≡◌, ◌&&◌};
 ghost use Rattle.std.specs.Option.{option_copied};
+ghost use Rattle.std.specs.Rc.{rc_str_bytes};
 ghost use Rattle.mq_acl.specs.Access.{allowed};
 ghost use Rattle.mq_acl.specs.declared.access.Direction.TheVariants.{Reading, Writing};
-ghost use Rattle.mq_router.specs.Sessions.{user_of};
+ghost use Rattle.mq_router.specs.Sessions.{user_of, is_reader};
+ghost use Rattle.mq_router.specs.Begun.{room_for};
+ghost use Rattle.mq_router.specs.Ways.{is_sent, waits};
 
 use crate::sessions::Sessions;
+use crate::sessions::session::Way;
 use mq_acl::Acl;
 use mq_topic::TopicName;
+use std::rc::RcStr;
 
 #[tactic(auto, unfolding(mq_acl::specs::Access::allowed))]
 pub(crate) fn may_read(
@@ -37,5 +42,41 @@ pub(crate) fn may_publish(
     match access {
         None => true,
         Some(acl) => acl.may_write(client, sessions.user(client), name),
+    }
+}
+
+/// The clients with a session, under an access list or none.
+#[derive(Clone, Copy)]
+pub(crate) struct Readers<'a> {
+    pub(crate) access: &'a Option<Acl>,
+    pub(crate) sessions: &'a Sessions,
+}
+
+impl Readers<'_> {
+    /// Where a copy of a message of this topic goes for the client, which may read it or gets none. One look-up.
+    pub(crate) fn way(&self, client: &RcStr, name: &TopicName, limit: u32) -> Way
+        ensures sent { is_sent result ≡ is_reader self.now.access.now self.now.sessions.now name.now (rc_str_bytes client.now) }
+        ensures waits { waits result ≡ (room_for limit self.now.sessions.now (rc_str_bytes client.now)
+            && allowed self.now.access.now (rc_str_bytes client.now) (user_of self.now.sessions.now (rc_str_bytes client.now)) name.now Reading) }
+    {
+        let client = client.as_str();
+        let Some(session) = self.sessions.get(client) else {
+            return Way::Nowhere;
+        };
+        if may_read(self.access, client, session.user.as_deref(), name) {
+            session.way(limit)
+        } else {
+            Way::Nowhere
+        }
+    }
+
+    /// Whether the client is connected and may read the topic.
+    pub(crate) fn is_reader(&self, client: &str, name: &TopicName) -> bool
+        ensures { result ≡ is_reader self.now.access.now self.now.sessions.now name.now client.now }
+    {
+        let Some(session) = self.sessions.get(client) else {
+            return false;
+        };
+        session.is_present() && may_read(self.access, client, session.user.as_deref(), name)
     }
 }

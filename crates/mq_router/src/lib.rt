@@ -4,32 +4,19 @@
 
 mod access;
 mod answer;
-mod at_filter;
-mod begun;
-mod checks;
 mod clock;
 mod command;
-mod copies;
-mod deadlines;
-mod direct;
-mod group;
+mod delivery;
 mod limits;
-mod matches;
 mod message;
 mod options;
-mod outgoing;
-mod own;
-mod readers;
 mod refusal;
 mod replies;
 mod retained;
 mod router;
-mod session;
 mod sessions;
 mod subscriptions;
-mod summary;
-mod turns;
-mod waiting;
+mod texts;
 
 pub use answer::{Answer, Delivery, Outcome};
 pub use command::Command;

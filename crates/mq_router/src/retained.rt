@@ -7,20 +7,21 @@ ghost use Rattle.mq_router.specs.Retained.{retained_after, unexpired, is_full};
 ghost use Rattle.mq_router.specs.Deadlines.{is_due};
 ghost use Rattle.mq_router.specs.Stored.{AreFiled, AreNear};
 
+mod copies;
+mod deadlines;
 mod edits;
 mod messages;
-mod sending;
 mod stored;
 
 use crate::answer::Delivery;
 use crate::clock::Clock;
 use crate::message::Message;
-use crate::deadlines::Deadlines;
+use deadlines::Deadlines;
+pub(crate) use copies::Receiver;
+use copies::copies_of;
 use edits::{expire, forget, has_message, is_stored, store};
 use messages::Messages;
 use mq_tree::Steps;
-use sending::copies_of;
-pub(crate) use sending::Receiver;
 use std::alloc::{AllocError, Global};
 use std::marker::Model;
 

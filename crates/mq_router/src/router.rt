@@ -1,38 +1,38 @@
-ghost use Rattle.std.specs.Prelude.{◌≡◌, ◌≢◌, ◌+◌, [], IsTrue, IfOk, OnOk, OnErr, IfErr, map};
+ghost use Rattle.std.specs.Prelude.{◌≡◌, ◌≢◌, ◌+◌, [], Some, IsTrue, IfOk, OnOk, OnErr, IfErr, map};
 ghost use Rattle.std.specs.Option.{option_copied};
 ghost use Rattle.std.specs.Rc.{rc_str_bytes};
 ghost use Rattle.mq_router.specs.Refusals.{is_valid, takes_no_memory, client_conditions, first_refusal};
 ghost use Rattle.mq_router.specs.World as world;
-ghost use Rattle.mq_router.specs.StandsFor.{AnswersFor, CountsFor};
+ghost use Rattle.mq_router.specs.World.{fresh_world, empty_world, within};
+ghost use Rattle.mq_router.specs.StandsFor.{StandsFor, AnswersFor, CountsFor};
 ghost use Rattle.mq_router.specs.Applied.{Applied, CountsSteps, refused_by, copies_sent, steps_sent, steps_to};
 ghost use Rattle.mq_router.specs.Applied.{counts_held, copies_held, begun_held, members_held};
-ghost use Rattle.mq_router.specs.Views.{request_of, reply_of};
+ghost use Rattle.mq_router.specs.Views.{limits_of, request_of, reply_of};
 ghost use Rattle.mq_router.specs.Kept.{options_of};
 ghost use Rattle.mq_router.specs.Asked.{wanted_row};
 ghost use Rattle.mq_router.specs.Gathers.{copies_in, turns_in};
 ghost use Rattle.mq_router.specs.Held.{published_message, message_of, begin_of};
 
 mod ended;
-mod fresh;
 
 use crate::access::may_publish;
 use crate::answer::{Answer, Delivery, Outcome};
-use crate::checks::{
+use crate::texts::{
     copied, is_client_id, is_shared_no_local, is_user_name, parse_filter, parse_name, read_access,
 };
 use crate::clock::Clock;
 use crate::command::Command;
-use crate::copies::{Made, make_copies};
+use crate::delivery::{Made, make_copies};
 use crate::limits::Limits;
 use crate::message::Message;
 use crate::options::Options;
-use crate::readers::Readers;
+use crate::access::Readers;
 use crate::refusal::Refusal;
 use crate::replies::{published, reason_to_leave, with_reason};
 use crate::retained::{Receiver, Retained};
 use crate::sessions::Sessions;
 use crate::subscriptions::Subscriptions;
-use crate::waiting::Queueing;
+use crate::sessions::queue::Queueing;
 use ended::remove_ended;
 use mq_acl::Acl;
 use mq_topic::SubFilter;
@@ -89,6 +89,36 @@ impl Model for Router {
 }
 
 impl Router {
+    /// A router without sessions and without an access list, within the limits of `Limits::new`: everything is allowed. It
+    /// takes no memory.
+    pub fn new(alloc: Global) -> Router
+        ensures { StandsFor result empty_world }
+    {
+        Router::with_limits(alloc, None, Limits::new())
+    }
+
+    /// A router without sessions, with an access list, within the limits of `Limits::new`. It takes no memory.
+    pub fn with_acl(alloc: Global, acl: Acl) -> Router
+        ensures { StandsFor result (fresh_world (Some acl)) }
+    {
+        Router::with_limits(alloc, Some(acl), Limits::new())
+    }
+
+    /// A router without sessions, with an access list or without one, within these limits. It takes no memory.
+    pub fn with_limits(alloc: Global, acl: Option<Acl>, limits: Limits) -> Router
+        ensures { StandsFor result (within (limits_of limits) (fresh_world acl)) }
+    {
+        Router {
+            alloc,
+            limits,
+            clock: Clock::start(),
+            access: acl,
+            sessions: Sessions::new(alloc),
+            subscriptions: Subscriptions::new(alloc),
+            retained: Retained::new(alloc),
+        }
+    }
+
     /// Answers a command as each world does that the router stands for, or refuses it. A refusal leaves the router as
     /// it is, want of memory too.
     pub fn apply(&mut self, command: &Command) -> Result<Answer, Refusal>

@@ -15,11 +15,15 @@ ghost use Rattle.mq_router.specs.Views.{copy_of};
 mod edits;
 mod first_end;
 mod found;
+pub(crate) mod queue;
+pub(crate) mod queued;
+mod resume;
+pub(crate) mod session;
 
 use crate::answer::Delivery;
-use crate::begun::Begun;
+use crate::sessions::queued::Begun;
 use crate::clock::Clock;
-use crate::session::Session;
+use crate::sessions::session::Session;
 use edits::{end, join, leave};
 use first_end::{earlier, first_end, is_over};
 use found::{connected, find, learn_order, outlives, user_in, waited_copies};

@@ -17,10 +17,16 @@ ghost use Rattle.mq_router.specs.Applied.{joined, put_last, all_turned};
 ghost use Rattle.mq_router.specs.Held.{turn_of};
 ghost use Rattle.mq_router.specs.Kept.{row, At, AreKeys};
 
-use crate::at_filter::AtFilter;
+pub(crate) mod client_filters;
+pub(crate) mod filter_entry;
+pub(crate) mod group;
+pub(crate) mod matches;
+pub(crate) mod turn;
+
+use crate::subscriptions::filter_entry::AtFilter;
 use crate::options::Options;
-use crate::own::Own;
-use crate::turns::Turn;
+use crate::subscriptions::client_filters::Own;
+use crate::subscriptions::turn::Turn;
 use mq_topic::{SubFilter, TopicFilter, TopicName};
 use mq_tree::{LevelTree, Steps};
 use std::alloc::{AllocError, Global};

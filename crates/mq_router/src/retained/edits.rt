@@ -11,7 +11,7 @@ ghost use Rattle.mq_router.specs.Held.{message_of};
 ghost use Rattle.mq_router.specs.Stored.{retained_in, stored_until, IsPlaced, IsSound};
 
 use crate::message::Message;
-use crate::deadlines::{Deadlines, Due};
+use crate::retained::deadlines::{Deadlines, Due};
 use crate::retained::messages::Messages;
 use crate::retained::stored::Stored;
 use mq_topic::TopicName;

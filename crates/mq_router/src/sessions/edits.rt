@@ -6,9 +6,9 @@ ghost use Rattle.mq_router.specs.Begun.{queued_one};
 ghost use Rattle.mq_router.specs.Ends.{EndLater};
 ghost use Rattle.mq_router.specs.Held.{session_in, begin_of};
 
-use crate::begun::Begun;
+use crate::sessions::queued::Begun;
 use crate::clock::Clock;
-use crate::session::Session;
+use crate::sessions::session::Session;
 use std::collections::BTreeMap;
 use std::rc::RcStr;
 

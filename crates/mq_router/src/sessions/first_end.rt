@@ -4,7 +4,7 @@ ghost use Rattle.mq_router.specs.Clock.{is_over};
 ghost use Rattle.mq_router.specs.Ends.{AllEndFrom, IsSooner};
 ghost use Rattle.mq_router.specs.Held.{session_in};
 
-use crate::session::Session;
+use crate::sessions::session::Session;
 use std::collections::BTreeMap;
 use std::rc::RcStr;
 

@@ -13,8 +13,8 @@ ghost use Rattle.mq_router.specs.Held.{session_at, session_in};
 
 use crate::answer::Delivery;
 use crate::clock::Clock;
-use crate::session::Session;
-use crate::waiting::resumed_copies;
+use crate::sessions::session::Session;
+use crate::sessions::resume::resumed_copies;
 use std::alloc::{AllocError, Global};
 use std::collections::BTreeMap;
 use std::rc::RcStr;

@@ -9,7 +9,7 @@ use Rattle.mq_router.specs.KeptViews.{texts}
 use Rattle.mq_router.proofs.ListLemmas.{on_err}
 use Rattle.mq_router.proofs.SessionLemmas.{finds}
 use Rattle.mq_router.proofs.Splits.{set_same}
-use Rattle.mq_router.proofs.Texts.{lookup-texts}
+use Rattle.mq_router.proofs.TextMaps.{lookup-texts}
 use Rattle.mq_router.proofs.ListedLemmas.{added-there, added-live, live-set}
 use Rattle.mq_router.proofs.subscriptions.list_add.Goals as goal
 

@@ -1,0 +1,9 @@
+use Rattle.std.proofs.Common.{◌≡◌, map, take}
+use Rattle.mq_router.specs.Held.{message_of}
+use Rattle.mq_router.specs.Gathers.{matched}
+use Rattle.mq_router.specs.Made.{rows_found, own_matches}
+use Rattle.mq_router.proofs.delivery.matches_by_client.Given as goal
+
+abbrev pub invariant-loop-at : goal.invariant-loop-at
+invariant-loop-at l =
+    matched l.matches.items ≡ own_matches (message_of l.message) (rows_found (map (λ a. a.now) (take l.at-index l.found)))

@@ -1,0 +1,9 @@
+use Rattle.std.proofs.Common.{◌≡◌, map, take}
+use Rattle.mq_router.specs.Lists.{Text}
+use Rattle.mq_router.specs.Gathers.{turns_listed}
+use Rattle.mq_router.specs.Made.{turns_at}
+use Rattle.mq_router.proofs.delivery.members_served.Given as goal
+
+abbrev pub invariant-loop-at : goal.invariant-loop-at
+invariant-loop-at l =
+    (share : Text) → turns_listed share l.served.items ≡ turns_at l.readers.access.now l.readers.sessions.now l.message.topic.now share (map (λ a. a.now) (take l.at-index l.found))

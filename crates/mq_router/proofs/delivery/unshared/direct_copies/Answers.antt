@@ -1,0 +1,103 @@
+use Rattle.std.proofs.Common.{rules, ◌∙◌, ◌++◌, ◌∷◌, [], sym, ap, map}
+use Rattle.std.specs.Option.{option_map, option_to_list}
+use Rattle.std.proofs.lemmas.List.{map-append, append-nil}
+use Rattle.std.proofs.lemmas.List.Sorted.{answers_always}
+use Rattle.mq_router.specs.Views.{copy_of}
+use Rattle.mq_router.specs.Held.{message_of, begin_of}
+use Rattle.mq_router.specs.Begun.{begin_with}
+use Rattle.mq_router.specs.Waiting.{with_qos}
+use Rattle.mq_router.specs.Made.{copies_by, begins_by}
+use Rattle.mq_router.specs.Gathers.{matched, by_client}
+use Rattle.std.specs.Slice.Iter.{chunk_by_rest}
+use Rattle.mq_router.proofs.ClientLemmas.{next-client, sent-first, waits-first, nowhere-first}
+use Rattle.mq_router.proofs.delivery.unshared.direct_copies.Goals as goal
+
+pub loop-own-preserved : goal.loop-own-preserved
+loop-own-preserved c =
+    let m = message_of c.args.outgoing.now.message in
+    let A = c.args.readers.now.access.now in
+    let S = c.args.readers.now.sessions.now in
+    let held = c.loop-own.invariant in
+    let first =
+    next-client _ c.loop-own.own-iterator c.next.new.self c.next.result c.in-Some.own _ c.in-Some.is c.next.ensures.steps
+    (answers_always _ _ _ (λ f a r g h. search rules)) held.sorted in
+    let step =
+    nowhere-first c.args.queueing.limit A S m c.args.queueing.deadline _ c.way.result c.way.ensures.sent c.way.ensures.waits
+    (map copy_of c.loop-own.copies.items) (map begin_of c.loop-own.begun.items)
+    (by_client (matched (chunk_by_rest c.next.new.self))) (by_client (matched (chunk_by_rest c.loop-own.own-iterator))) first.1
+    c.in-Nowhere.is in
+    record { sorted = first.0; copies = step.0 ∙ held.copies; begun = step.1 ∙ held.begun }
+
+pub loop-own-preserved-in_default : goal.loop-own-preserved-in_default
+loop-own-preserved-in_default c =
+    let m = message_of c.args.outgoing.now.message in
+    let A = c.args.readers.now.access.now in
+    let S = c.args.readers.now.sessions.now in
+    let held = c.loop-own.invariant in
+    let first =
+    next-client _ c.loop-own.own-iterator c.next.new.self c.next.result c.in-Some.own _ c.in-Some.is c.next.ensures.steps
+    (answers_always _ _ _ (λ f a r g h. search rules)) held.sorted in
+    let step =
+    waits-first c.args.queueing.limit A S m c.args.queueing.deadline _ c.way.result c.way.ensures.sent c.way.ensures.waits
+    (map copy_of c.loop-own.copies.items) (map begin_of c.loop-own.begun.items)
+    (by_client (matched (chunk_by_rest c.next.new.self))) (by_client (matched (chunk_by_rest c.loop-own.own-iterator))) first.1
+    c.in-Waits.is (option_map begin_of c.in_ok-one-in-Waits.field-0)
+    (c.in_ok-one-in-Waits.ensures ∙ ap (λ k. option_map (begin_with k.client c.args.queueing.deadline) (with_qos k)) c.in_ok-copy-in-Waits.ensures) in
+    let left = begins_by c.args.queueing.limit A S m c.args.queueing.deadline (by_client (matched (chunk_by_rest c.next.new.self))) in
+    record {
+      sorted = first.0;
+      copies = step.0 ∙ held.copies;
+      begun = ap (λ l. l ++ left) (sym (append-nil (map begin_of c.loop-own.begun.items)))
+          ∙ ap (λ o. (map begin_of c.loop-own.begun.items ++ option_to_list (option_map begin_of o)) ++ left) (sym c.in_default.is)
+          ∙ step.1 ∙ held.begun;
+    }
+
+pub loop-own-preserved-in_ok-push-in-Sent : goal.loop-own-preserved-in_ok-push-in-Sent
+loop-own-preserved-in_ok-push-in-Sent c =
+    let m = message_of c.args.outgoing.now.message in
+    let A = c.args.readers.now.access.now in
+    let S = c.args.readers.now.sessions.now in
+    let held = c.loop-own.invariant in
+    let first =
+    next-client _ c.loop-own.own-iterator c.next.new.self c.next.result c.in-Some.own _ c.in-Some.is c.next.ensures.steps
+    (answers_always _ _ _ (λ f a r g h. search rules)) held.sorted in
+    let copy = c.in_ok-own_copy-in-Sent.field-0 in
+    let step =
+    sent-first c.args.queueing.limit A S m c.args.queueing.deadline _ c.way.result c.way.ensures.sent c.way.ensures.waits
+    (map copy_of c.loop-own.copies.items) (map begin_of c.loop-own.begun.items)
+    (by_client (matched (chunk_by_rest c.next.new.self))) (by_client (matched (chunk_by_rest c.loop-own.own-iterator))) first.1
+    c.in-Sent.is (copy_of copy) c.in_ok-own_copy-in-Sent.ensures in
+    let left = copies_by A S m (by_client (matched (chunk_by_rest c.next.new.self))) in
+    record {
+      sorted = first.0;
+      copies = ap (λ l. map copy_of l ++ left) c.in_ok-push-in-Sent.ensures.items
+          ∙ ap (λ l. l ++ left) (map-append copy_of c.loop-own.copies.items (copy ∷ []))
+          ∙ step.0 ∙ held.copies;
+      begun = step.1 ∙ held.begun;
+    }
+
+pub loop-own-preserved-in_ok-push-in-Waits : goal.loop-own-preserved-in_ok-push-in-Waits
+loop-own-preserved-in_ok-push-in-Waits c =
+    let m = message_of c.args.outgoing.now.message in
+    let A = c.args.readers.now.access.now in
+    let S = c.args.readers.now.sessions.now in
+    let held = c.loop-own.invariant in
+    let first =
+    next-client _ c.loop-own.own-iterator c.next.new.self c.next.result c.in-Some.own _ c.in-Some.is c.next.ensures.steps
+    (answers_always _ _ _ (λ f a r g h. search rules)) held.sorted in
+    let one = c.in-Some-2.one in
+    let step =
+    waits-first c.args.queueing.limit A S m c.args.queueing.deadline _ c.way.result c.way.ensures.sent c.way.ensures.waits
+    (map copy_of c.loop-own.copies.items) (map begin_of c.loop-own.begun.items)
+    (by_client (matched (chunk_by_rest c.next.new.self))) (by_client (matched (chunk_by_rest c.loop-own.own-iterator))) first.1
+    c.in-Waits.is (option_map begin_of c.in_ok-one-in-Waits.field-0)
+    (c.in_ok-one-in-Waits.ensures ∙ ap (λ k. option_map (begin_with k.client c.args.queueing.deadline) (with_qos k)) c.in_ok-copy-in-Waits.ensures) in
+    let left = begins_by c.args.queueing.limit A S m c.args.queueing.deadline (by_client (matched (chunk_by_rest c.next.new.self))) in
+    record {
+      sorted = first.0;
+      copies = step.0 ∙ held.copies;
+      begun = ap (λ l. map begin_of l ++ left) c.in_ok-push-in-Waits.ensures.items
+          ∙ ap (λ l. l ++ left) (map-append begin_of c.loop-own.begun.items (one ∷ []))
+          ∙ ap (λ o. (map begin_of c.loop-own.begun.items ++ option_to_list (option_map begin_of o)) ++ left) (sym c.in-Some-2.is)
+          ∙ step.1 ∙ held.begun;
+    }

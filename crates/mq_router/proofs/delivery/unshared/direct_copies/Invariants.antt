@@ -1,0 +1,16 @@
+use Rattle.std.proofs.Common.{◌≡◌, ◌++◌, map}
+use Rattle.std.specs.Slice.Iter.{chunk_by_rest}
+use Rattle.mq_router.specs.Views.{copy_of}
+use Rattle.mq_router.specs.Held.{message_of, begin_of}
+use Rattle.mq_router.specs.Made.{copies_by, begins_by}
+use Rattle.mq_router.specs.Gathers.{matched, by_client, AreByClient}
+use Rattle.mq_router.proofs.delivery.unshared.direct_copies.Given as goal
+
+abbrev pub invariant-loop-own : goal.invariant-loop-own
+invariant-loop-own l = record {
+  sorted : AreByClient (matched (chunk_by_rest l.own-iterator));
+  copies : map copy_of l.copies.items ++ copies_by l.readers.access.now l.readers.sessions.now (message_of l.outgoing.message) (by_client (matched (chunk_by_rest l.own-iterator)))
+      ≡ copies_by l.readers.access.now l.readers.sessions.now (message_of l.outgoing.message) (by_client (matched l.fn.matches));
+  begun : map begin_of l.begun.items ++ begins_by l.queueing.limit l.readers.access.now l.readers.sessions.now (message_of l.outgoing.message) l.queueing.deadline (by_client (matched (chunk_by_rest l.own-iterator)))
+      ≡ begins_by l.queueing.limit l.readers.access.now l.readers.sessions.now (message_of l.outgoing.message) l.queueing.deadline (by_client (matched l.fn.matches));
+}

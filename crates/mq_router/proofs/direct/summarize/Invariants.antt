@@ -1,7 +1,0 @@
-use Rattle.std.proofs.Common.{◌≡◌, map, take}
-use Rattle.mq_router.specs.Kept.{options_of}
-use Rattle.mq_router.specs.Summaries.{summary_of}
-use Rattle.mq_router.proofs.direct.summarize.Given as goal
-
-abbrev pub invariant-loop-one : goal.invariant-loop-one
-invariant-loop-one l = l.summary ≡ summary_of (map (λ x. options_of x.options) (take l.one-index l.own))

@@ -1,0 +1,191 @@
+//! The copies of a message.
+ghost use Rattle.std.specs.Prelude.{◌≡◌, ◌+◌, IfOk, length, map};
+ghost use Rattle.mq_topic.specs.Levels.{levels};
+ghost use Rattle.mq_tree.specs.Prefixes.{prefixes, met_by_name};
+ghost use Rattle.mq_router.specs.Lists.{Text};
+ghost use Rattle.mq_router.specs.Held.{message_of, turn_of, begin_of};
+ghost use Rattle.mq_router.specs.Begun.{begun_by};
+
+pub(crate) mod outgoing;
+pub(crate) mod summary;
+pub(crate) mod unshared;
+
+use crate::answer::Delivery;
+use crate::subscriptions::filter_entry::AtFilter;
+use crate::sessions::queued::Begun;
+use crate::delivery::unshared::{Direct, direct_copies};
+use crate::subscriptions::matches::{Match, sort_by_client};
+use crate::message::Message;
+use crate::delivery::outgoing::Outgoing;
+use crate::access::Readers;
+use crate::subscriptions::Subscriptions;
+use crate::delivery::summary::Summary;
+use crate::subscriptions::turn::{Turn, sort_by_share};
+use crate::sessions::queue::Queueing;
+use mq_tree::Steps;
+use std::alloc::{AllocError, Global};
+
+/// The copies of a message that are sent, those that begin to wait, and the members of groups that it serves.
+#[derive(Debug, Drop)]
+pub(crate) struct Made {
+    pub(crate) copies: Vec<Delivery>,
+    pub(crate) begun: Vec<Begun>,
+    pub(crate) served: Vec<Turn>,
+}
+
+impl Made {
+    // What is made of a message that nobody gets.
+    fn nothing(alloc: Global) -> Made
+        ensures copies { copies_in result.copies ≡ [] }
+        ensures begun { result.begun.items ≡ [] }
+        ensures served { turns_in result.served ≡ [] }
+    {
+        Made {
+            copies: Vec::new(alloc),
+            begun: Vec::new(alloc),
+            served: Vec::new(alloc),
+        }
+    }
+}
+
+/// All copies of a message: those for clients themselves by client id, and those for groups by share name and filter.
+pub(crate) fn make_copies(
+    alloc: Global,
+    readers: &Readers,
+    subscriptions: &Subscriptions,
+    message: &Message,
+    queueing: Queueing,
+    steps: &mut Steps,
+) -> Result<Made, AllocError>
+    ensures copies { IfOk result (λ m. copies_in m.copies
+        ≡ copies_made readers.now.access.now readers.now.sessions.now subscriptions.now.rows (message_of message.now)) }
+    ensures begun { IfOk result (λ m. map begin_of m.begun.items
+        ≡ begun_by queueing.limit readers.now.access.now readers.now.sessions.now subscriptions.now.rows (message_of message.now)
+        queueing.deadline) }
+    ensures served { IfOk result (λ m. turns_in m.served
+        ≡ next_members readers.now.access.now readers.now.sessions.now subscriptions.now.rows (message_of message.now)) }
+    ensures count { OnOk result (steps.new ≡ steps.old
+        + length (met_by_name (levels message.now.topic.now) (prefixes subscriptions.now.keys))) }
+{
+    let candidates = subscriptions.candidates(message.topic, steps)?;
+    let found = candidates.as_slice();
+    if found.is_empty() {
+        return Ok(Made::nothing(alloc));
+    }
+    let matches = matches_by_client(alloc, found, message)?;
+    // Learns that the sessions are in order.
+    let _sessions = readers.sessions.len();
+    let served = members_served(alloc, readers, found, message)?;
+    made_for(
+        alloc,
+        readers,
+        matches.as_slice(),
+        served,
+        message,
+        queueing,
+    )
+}
+
+ghost use Rattle.std.specs.Prelude.{◌++◌, OnOk, []};
+ghost use Rattle.mq_router.specs.Kept.{AreAtFilters};
+ghost use Rattle.mq_router.specs.Gathers.{seen, copies_in, turns_in, matched, options_among, by_client, AreByClient};
+ghost use Rattle.mq_router.specs.Applied.{copies_made, next_members, member_copy};
+ghost use Rattle.mq_router.specs.Made.{rows_found, own_matches, copies_by, begins_by};
+
+// How many subscriptions of clients in their own name there are at most. It is a measure of room alone.
+fn own_count(found: &[&AtFilter]) -> usize {
+    let mut count: usize = 0;
+    for at in found {
+        count = count.saturating_add(at.own_count());
+    }
+    count
+}
+
+// The subscriptions of clients in their own name that take part, by client, and by filter for each client.
+fn matches_by_client<'a>(
+    alloc: Global,
+    found: &[&'a AtFilter],
+    message: &Message,
+) -> Result<Vec<Match<'a>>, AllocError>
+    ensures sorted { IfOk result (λ ms. AreByClient (matched ms.items)) }
+    ensures options { IfOk result (λ ms. (id : Text) → options_among id (matched ms.items)
+        ≡ options_among id (own_matches (message_of message.now) (rows_found (seen found.now)))) }
+{
+    let mut matches = Vec::with_capacity(alloc, own_count(found))?;
+    for at in found {
+        at.gather_matches(message, &mut matches)?;
+    }
+    sort_by_client(&mut matches)?;
+    Ok(matches)
+}
+
+// The members that are served, by share name and filter.
+fn members_served(
+    alloc: Global,
+    readers: &Readers,
+    found: &[&AtFilter],
+    message: &Message,
+) -> Result<Vec<Turn>, AllocError>
+    requires { AreAtFilters message.now.topic.now (seen found.now) }
+    ensures { IfOk result (λ served. turns_in served
+        ≡ next_members readers.now.access.now readers.now.sessions.now (rows_found (seen found.now)) (message_of message.now)) }
+{
+    let mut served = Vec::new(alloc);
+    for at in found {
+        at.gather_turns(readers, message.topic, &mut served)?;
+    }
+    sort_by_share(&mut served)?;
+    Ok(served)
+}
+
+// The copies for these clients and members, with texts that all of them share. Where there is no one no texts are made.
+fn made_for(
+    alloc: Global,
+    readers: &Readers,
+    matches: &[Match],
+    served: Vec<Turn>,
+    message: &Message,
+    queueing: Queueing,
+) -> Result<Made, AllocError>
+    requires { AreByClient (matched matches.now) }
+    ensures copies { IfOk result (λ m. copies_in m.copies
+        ≡ copies_by readers.now.access.now readers.now.sessions.now (message_of message.now) (by_client (matched matches.now))
+        ++ map (member_copy (message_of message.now)) (turns_in served)) }
+    ensures begun { IfOk result (λ m. map begin_of m.begun.items
+        ≡ begins_by queueing.limit readers.now.access.now readers.now.sessions.now (message_of message.now) queueing.deadline
+        (by_client (matched matches.now))) }
+    ensures served { IfOk result (λ m. m.served ≡ served) }
+{
+    if matches.is_empty() && served.is_empty() {
+        return Ok(Made {
+            served,
+            ..Made::nothing(alloc)
+        });
+    }
+    let outgoing = Outgoing::new(alloc, message)?;
+    let Direct { mut copies, begun } = direct_copies(alloc, readers, matches, &outgoing, queueing)?;
+    add_group_copies(alloc, served.as_slice(), &outgoing, &mut copies)?;
+    Ok(Made {
+        copies,
+        begun,
+        served,
+    })
+}
+
+fn add_group_copies(
+    alloc: Global,
+    served: &[Turn],
+    outgoing: &Outgoing,
+    copies: &mut Vec<Delivery>,
+) -> Result<(), AllocError>
+    ensures { OnOk result (copies_in copies.new
+        ≡ copies_in copies.old ++ map (λ t. member_copy (message_of outgoing.now.message) (turn_of t)) served.now) }
+{
+    for turn in served {
+        let group = (turn.share.clone()?, turn.filter.clone()?);
+        let summary = Summary::of(alloc, turn.options)?;
+        let client = turn.client.clone()?;
+        copies.push(outgoing.copy(client, Some(group), summary)?)?;
+    }
+    Ok(())
+}

@@ -1,0 +1,86 @@
+//! The copies of a message for clients in their own name: those that are sent, and those that begin to wait.
+ghost use Rattle.std.specs.Prelude.{◌≡◌, IfOk, None, map};
+ghost use Rattle.std.specs.Rc.{rc_str_bytes};
+ghost use Rattle.mq_router.specs.Kept.{options_of};
+ghost use Rattle.mq_router.specs.Gathers.{copies_in, matched, by_client, AreByClient};
+ghost use Rattle.mq_router.specs.Made.{copies_by, begins_by};
+ghost use Rattle.mq_router.specs.Summaries.{summary_of, copy_from};
+ghost use Rattle.mq_router.specs.Views.{copy_of};
+ghost use Rattle.mq_router.specs.Held.{message_of, begin_of};
+
+use crate::answer::Delivery;
+use crate::sessions::queued::Begun;
+use crate::subscriptions::matches::Match;
+use crate::delivery::outgoing::Outgoing;
+use crate::access::Readers;
+use crate::sessions::session::Way;
+use crate::delivery::summary::Summary;
+use crate::sessions::queue::{Queueing, begin};
+use std::alloc::{AllocError, Global};
+use std::rc::RcStr;
+
+/// The copies that are sent, and those that begin to wait.
+#[derive(Debug, Drop)]
+pub(crate) struct Direct {
+    pub(crate) copies: Vec<Delivery>,
+    pub(crate) begun: Vec<Begun>,
+}
+
+/// The copies for the clients that may read the topic, by client id: for those that are connected, and for those that are
+/// away and have room.
+pub(crate) fn direct_copies(
+    alloc: Global,
+    readers: &Readers,
+    matches: &[Match],
+    outgoing: &Outgoing,
+    queueing: Queueing,
+) -> Result<Direct, AllocError>
+    requires { AreByClient (matched matches.now) }
+    ensures copies { IfOk result (λ d. copies_in d.copies
+        ≡ copies_by readers.now.access.now readers.now.sessions.now (message_of outgoing.now.message) (by_client (matched matches.now))) }
+    ensures begun { IfOk result (λ d. map begin_of d.begun.items
+        ≡ begins_by queueing.limit readers.now.access.now readers.now.sessions.now (message_of outgoing.now.message) queueing.deadline
+        (by_client (matched matches.now))) }
+{
+    // A client gets a copy if it has a session.
+    let most = matches.len().min(readers.sessions.len());
+    let mut copies = Vec::with_capacity(alloc, most)?;
+    let mut begun = Vec::new(alloc);
+    for own in matches.chunk_by(|a, b| a.client == b.client) {
+        let client = own[0].client;
+        match readers.way(client, outgoing.message.topic, queueing.limit) {
+            Way::Sent => copies.push(own_copy(alloc, client, own, outgoing)?)?,
+            Way::Waits => {
+                let copy = own_copy(alloc, client, own, outgoing)?;
+                if let Some(one) = begin(alloc, copy, queueing.deadline)? {
+                    begun.push(one)?;
+                }
+            }
+            Way::Nowhere => {}
+        }
+    }
+    Ok(Direct { copies, begun })
+}
+
+// The copy for a client, by its subscriptions.
+fn own_copy(
+    alloc: Global,
+    client: &RcStr,
+    own: &[Match],
+    outgoing: &Outgoing,
+) -> Result<Delivery, AllocError>
+    ensures { IfOk result (λ d. copy_of d
+        ≡ copy_from (rc_str_bytes client.now) None (message_of outgoing.now.message) (summary_of (map (λ x. options_of x.options) own.now))) }
+{
+    outgoing.copy(client.clone()?, None, summarize(alloc, own)?)
+}
+
+fn summarize(alloc: Global, own: &[Match]) -> Result<Summary, AllocError>
+    ensures { IfOk result (λ summary. summary ≡ summary_of (map (λ x. options_of x.options) own.now)) }
+{
+    let mut summary = Summary::new(alloc);
+    for one in own {
+        summary.add(one.options)?;
+    }
+    Ok(summary)
+}

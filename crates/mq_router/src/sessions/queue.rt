@@ -1,0 +1,49 @@
+//! The copies that begin to wait for clients that are away.
+ghost use Rattle.std.specs.Prelude.{◌≡◌, [], ◌∷◌, IfOk};
+ghost use Rattle.std.specs.Option.{option_map};
+ghost use Rattle.std.specs.Rc.{rc_str_bytes};
+ghost use Rattle.mq_router.specs.Waiting.{with_qos};
+ghost use Rattle.mq_router.specs.Begun.{begin_with};
+ghost use Rattle.mq_router.specs.Views.{copy_of};
+ghost use Rattle.mq_router.specs.Held.{begin_of};
+
+use crate::answer::Delivery;
+use crate::sessions::queued::Begun;
+use crate::sessions::session::Waiting;
+use std::alloc::{AllocError, Global};
+use std::collections::LinkedList;
+
+/// How a message's copies wait: where fewer wait than the limit, and until the deadline if there is one.
+#[derive(Clone, Copy, Debug)]
+pub(crate) struct Queueing {
+    pub(crate) limit: u32,
+    pub(crate) deadline: Option<u64>,
+}
+
+fn alone(alloc: Global, waiting: Waiting) -> Result<LinkedList<Waiting>, AllocError>
+    ensures { IfOk result (λ list. list ≡ waiting ∷ []) }
+{
+    let mut list = LinkedList::new(alloc);
+    list.push_back(waiting)?;
+    Ok(list)
+}
+
+/// What begins to wait of the copy, until the deadline or for ever. A copy of QoS 0 does not wait.
+pub(crate) fn begin(
+    alloc: Global,
+    copy: Delivery,
+    deadline: Option<u64>,
+) -> Result<Option<Begun>, AllocError>
+    ensures { IfOk result (λ begun. option_map begin_of begun
+        ≡ option_map (begin_with (rc_str_bytes copy.client) deadline) (with_qos (copy_of copy))) }
+{
+    if copy.qos == 0 {
+        return Ok(None);
+    }
+    let client = copy.client.clone()?;
+    let waiting = Waiting { copy, deadline };
+    Ok(Some(Begun {
+        client,
+        copies: alone(alloc, waiting)?,
+    }))
+}
