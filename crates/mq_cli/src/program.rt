@@ -2,9 +2,9 @@
 ghost use Rattle.std.specs.Prelude.{◌≡◌, ◌≢◌, ◌≤◌, [], ℕ, List, Some, None, Ok, OnOk, IfOk, IsOk, IfErr};
 ghost use Rattle.std.specs.Prelude.{map, option_map, string_bytes, codes};
 ghost use Rattle.clap.specs.Words.{fault_of};
-ghost use Rattle.mq_router.specs.World.{World, empty_world, within};
-ghost use Rattle.mq_router.specs.Views.{limits_of};
-ghost use Rattle.mq_router.specs.StandsFor.{StandsFor};
+ghost use Rattle.mq_router.specs.definition.World.{World, empty_world, within};
+ghost use Rattle.mq_router.specs.definition.Views.{limits_of};
+ghost use Rattle.mq_router.specs.definition.StandsFor.{StandsFor};
 ghost use Rattle.mq_cli.specs.AclFile.{IsAnswerTo};
 ghost use Rattle.mq_cli.specs.CommandLine.{mqroute, given};
 ghost use Rattle.mq_cli.specs.Program.{script_file, failure_status, limits_by, limits_given};

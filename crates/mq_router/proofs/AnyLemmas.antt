@@ -2,12 +2,12 @@
 use Rattle.std.proofs.Common.{◌≡◌, Bool, true, false, true≢false, cond, ◌&&◌, ◌||◌, not, List, [], ◌∷◌, map, Option, Some, None, if◌then◌else◌, refl, sym, ◌∙◌, ap, subst}
 use Rattle.std.specs.List.{filter, list_any, AllByRecursion}
 use Rattle.std.proofs.lemmas.Map.Views.{any-filter_same}
-use Rattle.mq_router.specs.Keys.{Key, key_cmp}
-use Rattle.mq_router.specs.Lists.{Text, same_text}
-use Rattle.mq_router.specs.World.{Subscription, same_share, has_key, same_key}
-use Rattle.mq_router.specs.Turns.{SameInTurn}
-use Rattle.mq_router.specs.Applied.{put_last, joined}
-use Rattle.mq_router.specs.Kept.{OwnKey, AtEntries, AreKept, AreListed, is_text, is_in_list, is_listed, is_empty, all_rows}
+use Rattle.mq_router.specs.definition.Keys.{Key, key_cmp}
+use Rattle.mq_router.specs.definition.Lists.{Text, same_text}
+use Rattle.mq_router.specs.definition.World.{Subscription, same_share, has_key, same_key}
+use Rattle.mq_router.specs.definition.Turns.{SameInTurn}
+use Rattle.mq_router.specs.router.Applied.{put_last, joined}
+use Rattle.mq_router.specs.subscriptions.Kept.{OwnKey, AtEntries, AreKept, AreListed, is_text, is_in_list, is_listed, is_empty, all_rows}
 use Rattle.mq_router.proofs.ListLemmas.{list_any-map, list_any-same, any-append}
 use Rattle.mq_router.proofs.SameLemmas.{list_any-SameElements}
 use Rattle.mq_router.proofs.BoolLemmas.{pick, left_true, right_true, and_true, or_false}
@@ -15,7 +15,7 @@ use Rattle.mq_router.proofs.InTurn.{same_text-is, same_share-is}
 use Rattle.mq_router.proofs.OrderLemmas.{text_flip, all_weaker}
 use Rattle.mq_router.proofs.OwnLemmas.{flip_share}
 use Rattle.mq_router.proofs.OneServed.{turned-elements}
-use Rattle.mq_router.specs.KeptViews.{texts}
+use Rattle.mq_router.specs.subscriptions.KeptViews.{texts}
 use Rattle.mq_router.proofs.AtLemmas.{own_key_is}
 use Rattle.mq_router.proofs.SessionLemmas.{finds}
 use Rattle.mq_router.proofs.Splits.{set_same}

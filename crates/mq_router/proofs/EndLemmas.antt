@@ -2,16 +2,16 @@
 use Rattle.std.proofs.Common.{◌≡◌, ℕ, Bool, true, false, true≢false, ◌&&◌, ◌||◌, cond, not, List, [], ◌∷◌, map, Option, if◌then◌else◌, refl, sym, ◌∙◌, ap}
 use Rattle.std.specs.List.{filter, list_any, AllByRecursion}
 use Rattle.std.specs.Map.{set_value}
-use Rattle.mq_router.specs.Keys.{Key}
-use Rattle.mq_router.specs.Lists.{same_text}
-use Rattle.mq_router.specs.World.{Session, Subscription, has_id}
-use Rattle.mq_router.specs.Clock.{is_over}
-use Rattle.mq_router.specs.Sessions.{has_ended, is_among}
-use Rattle.mq_router.specs.Waiting.{has_place, with_waiting}
-use Rattle.mq_router.specs.Begun.{Begin, queued, edited, queued_one}
-use Rattle.mq_router.specs.Ends.{EndsFrom, AllEndFrom}
-use Rattle.mq_router.specs.Applied.{lasts, without}
-use Rattle.mq_router.specs.Held.{session_in, shown}
+use Rattle.mq_router.specs.definition.Keys.{Key}
+use Rattle.mq_router.specs.definition.Lists.{same_text}
+use Rattle.mq_router.specs.definition.World.{Session, Subscription, has_id}
+use Rattle.mq_router.specs.definition.Clock.{is_over}
+use Rattle.mq_router.specs.definition.Sessions.{has_ended, is_among}
+use Rattle.mq_router.specs.definition.Waiting.{has_place, with_waiting}
+use Rattle.mq_router.specs.sessions.Begun.{Begin, queued, edited, queued_one}
+use Rattle.mq_router.specs.sessions.Ends.{EndsFrom, AllEndFrom}
+use Rattle.mq_router.specs.router.Applied.{lasts, without}
+use Rattle.mq_router.specs.router.Held.{session_in, shown}
 use Rattle.mq_router.specs.declared.sessions.session.Session as held
 use Rattle.mq_router.proofs.ListLemmas.{filter-same}
 use Rattle.mq_router.proofs.SameLemmas.{filter-filter}

@@ -11,10 +11,10 @@ use Rattle.std.specs.Map.{lookup, remove_entry, keys_of}
 use Rattle.std.proofs.lemmas.Map.Keys.{IsDistinct-head, IsDistinct-tail}
 use Rattle.std.proofs.lemmas.Slice.Eq.{bytes_eq-Decides}
 use Rattle.indexmap.specs.IndexMap as ordered
-use Rattle.mq_router.specs.Keys.{Key, key_eq}
-use Rattle.mq_router.specs.Lists.{Text, same_text}
-use Rattle.mq_router.specs.Applied.{with_one, put_last}
-use Rattle.mq_router.specs.KeptViews.{texts}
+use Rattle.mq_router.specs.definition.Keys.{Key, key_eq}
+use Rattle.mq_router.specs.definition.Lists.{Text, same_text}
+use Rattle.mq_router.specs.router.Applied.{with_one, put_last}
+use Rattle.mq_router.specs.subscriptions.KeptViews.{texts}
 use Rattle.mq_router.proofs.ListLemmas.{map-filter, filter-same, is_some-lookup, list_any-map, list_any-same}
 
 on_keys : {K X : Type 0} (test : K → Bool) (es : List (K × X)) → NonePasses test es → AllByRecursion (λ k. test k ≡ false) (keys_of es)

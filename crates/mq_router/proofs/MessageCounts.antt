@@ -8,7 +8,7 @@ use Rattle.std.proofs.lemmas.List.Sums.{sum_by-cons}
 use Rattle.std.proofs.lemmas.Map.Entries.{sum_by-insert_entry, sum_by-remove_entry}
 use Rattle.mq_topic.specs.Levels.{level_order}
 use Rattle.mq_tree.specs.Entries.{Entries, is_key, capped, AreInOrder}
-use Rattle.mq_router.specs.Stored.{AreCounted}
+use Rattle.mq_router.specs.retained.Stored.{AreCounted}
 use Rattle.mq_router.proofs.OrderLemmas.{levels_total}
 use Rattle.mq_router.proofs.RetainedLemmas.{put-ordered, take-ordered}
 use Rattle.mq_router.specs.declared.retained.stored.Stored.{Stored}

@@ -6,10 +6,10 @@ use Rattle.std.specs.List.{filter, find, AllByRecursion}
 use Rattle.std.specs.List.Sorted.{IsStrictlySortedBy}
 use Rattle.std.proofs.lemmas.List.{map-append}
 use Rattle.std.proofs.lemmas.List.Elements.{filter-append}
-use Rattle.mq_router.specs.Lists.{SameElements}
-use Rattle.mq_router.specs.World.{Group, Subscription, Row, row_cmp, is_in_group, same_key}
-use Rattle.mq_router.specs.Turns.{by_turn}
-use Rattle.mq_router.specs.Applied.{put_last, all_turned}
+use Rattle.mq_router.specs.definition.Lists.{SameElements}
+use Rattle.mq_router.specs.definition.World.{Group, Subscription, Row, row_cmp, is_in_group, same_key}
+use Rattle.mq_router.specs.definition.Turns.{by_turn}
+use Rattle.mq_router.specs.router.Applied.{put_last, all_turned}
 use Rattle.mq_router.proofs.BoolLemmas.{pick}
 use Rattle.mq_router.proofs.OrderLemmas.{subscription_total, tied_is, length-filter-append}
 use Rattle.mq_router.proofs.InTurn.{in_group_same, filter-swap, filter-none, filter-kept, map-put_last}

@@ -11,14 +11,14 @@ use Rattle.std.specs.Map.{lookup, remove_entry, set_value, keys_of}
 use Rattle.std.specs.BTreeMap.{insert_entry}
 use Rattle.std.proofs.lemmas.Map.Text.{is_eq-slice_cmp}
 use Rattle.std.proofs.lemmas.Slice.Eq.{bytes_eq-Decides}
-use Rattle.mq_router.specs.Keys.{Key, key_cmp}
-use Rattle.mq_router.specs.Lists.{same_text, with_row}
-use Rattle.mq_router.specs.World as world
-use Rattle.mq_router.specs.World.{has_id, session_cmp}
-use Rattle.mq_router.specs.Sessions.{session_of}
-use Rattle.mq_router.specs.Begun.{edited}
-use Rattle.mq_router.specs.Near.{AreReached, AllReached}
-use Rattle.mq_router.specs.Held.{session_at, session_in, waiting_of}
+use Rattle.mq_router.specs.definition.Keys.{Key, key_cmp}
+use Rattle.mq_router.specs.definition.Lists.{same_text, with_row}
+use Rattle.mq_router.specs.definition.World as world
+use Rattle.mq_router.specs.definition.World.{has_id, session_cmp}
+use Rattle.mq_router.specs.definition.Sessions.{session_of}
+use Rattle.mq_router.specs.sessions.Begun.{edited}
+use Rattle.mq_router.specs.sessions.Near.{AreReached, AllReached}
+use Rattle.mq_router.specs.router.Held.{session_at, session_in, waiting_of}
 use Rattle.mq_router.specs.declared.sessions.session.Session.{Session}
 use Rattle.mq_router.proofs.OrderLemmas.{equal_from}
 use Rattle.mq_router.proofs.ListLemmas.{filter-same, map-filter, map-insert_entry, remove_entry-filter, none_again}

@@ -9,14 +9,14 @@ use Rattle.std.specs.Map.{keys_of}
 use Rattle.std.proofs.lemmas.List.{append-nil, map-append}
 use Rattle.std.proofs.lemmas.List.Elements.{filter-append}
 use Rattle.mq_acl.specs.Rows.{AclRow}
-use Rattle.mq_router.specs.Lists.{Text, same_text, text_cmp}
-use Rattle.mq_router.specs.World.{Session, Subscription, Group, is_in_group}
-use Rattle.mq_router.specs.Sessions.{is_reader}
-use Rattle.mq_router.specs.Applied.{next_in}
-use Rattle.mq_router.specs.Kept.{Member, row, direct_rows, group_rows}
-use Rattle.mq_router.specs.Held.{turn_of}
-use Rattle.mq_router.specs.Gathers.{turns_listed}
-use Rattle.mq_router.specs.Made.{turns_of}
+use Rattle.mq_router.specs.definition.Lists.{Text, same_text, text_cmp}
+use Rattle.mq_router.specs.definition.World.{Session, Subscription, Group, is_in_group}
+use Rattle.mq_router.specs.definition.Sessions.{is_reader}
+use Rattle.mq_router.specs.router.Applied.{next_in}
+use Rattle.mq_router.specs.subscriptions.Kept.{Member, row, direct_rows, group_rows}
+use Rattle.mq_router.specs.router.Held.{turn_of}
+use Rattle.mq_router.specs.delivery.Gathers.{turns_listed}
+use Rattle.mq_router.specs.delivery.Made.{turns_of}
 use Rattle.mq_router.proofs.TextMaps.{is_text-is, text-apart}
 use Rattle.mq_router.proofs.InTurn.{same_text-is, same_text-itself}
 use Rattle.mq_router.specs.declared.subscriptions.turn.Turn.{Turn}

@@ -4,9 +4,9 @@ ghost use Rattle.std.specs.Option.{option_copied};
 ghost use Rattle.std.specs.Rc.{rc_str_bytes};
 ghost use Rattle.mq_acl.specs.Access.{allowed};
 ghost use Rattle.mq_acl.specs.declared.access.Direction.TheVariants.{Reading, Writing};
-ghost use Rattle.mq_router.specs.Sessions.{user_of, is_reader};
-ghost use Rattle.mq_router.specs.Begun.{room_for};
-ghost use Rattle.mq_router.specs.Ways.{is_sent, waits};
+ghost use Rattle.mq_router.specs.definition.Sessions.{user_of, is_reader};
+ghost use Rattle.mq_router.specs.sessions.Begun.{room_for};
+ghost use Rattle.mq_router.specs.sessions.Ways.{is_sent, waits};
 
 use crate::sessions::Sessions;
 use crate::sessions::session::Way;

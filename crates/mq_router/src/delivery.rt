@@ -2,9 +2,9 @@
 ghost use Rattle.std.specs.Prelude.{◌≡◌, ◌+◌, IfOk, length, map};
 ghost use Rattle.mq_topic.specs.Levels.{levels};
 ghost use Rattle.mq_tree.specs.Prefixes.{prefixes, met_by_name};
-ghost use Rattle.mq_router.specs.Lists.{Text};
-ghost use Rattle.mq_router.specs.Held.{message_of, turn_of, begin_of};
-ghost use Rattle.mq_router.specs.Begun.{begun_by};
+ghost use Rattle.mq_router.specs.definition.Lists.{Text};
+ghost use Rattle.mq_router.specs.router.Held.{message_of, turn_of, begin_of};
+ghost use Rattle.mq_router.specs.sessions.Begun.{begun_by};
 
 pub(crate) mod outgoing;
 pub(crate) mod summary;
@@ -87,10 +87,10 @@ pub(crate) fn make_copies(
 }
 
 ghost use Rattle.std.specs.Prelude.{◌++◌, OnOk, []};
-ghost use Rattle.mq_router.specs.Kept.{AreAtFilters};
-ghost use Rattle.mq_router.specs.Gathers.{seen, copies_in, turns_in, matched, options_among, by_client, AreByClient};
-ghost use Rattle.mq_router.specs.Applied.{copies_made, next_members, member_copy};
-ghost use Rattle.mq_router.specs.Made.{rows_found, own_matches, copies_by, begins_by};
+ghost use Rattle.mq_router.specs.subscriptions.Kept.{AreAtFilters};
+ghost use Rattle.mq_router.specs.delivery.Gathers.{seen, copies_in, turns_in, matched, options_among, by_client, AreByClient};
+ghost use Rattle.mq_router.specs.router.Applied.{copies_made, next_members, member_copy};
+ghost use Rattle.mq_router.specs.delivery.Made.{rows_found, own_matches, copies_by, begins_by};
 
 // How many subscriptions of clients in their own name there are at most. It is a measure of room alone.
 fn own_count(found: &[&AtFilter]) -> usize {

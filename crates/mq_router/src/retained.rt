@@ -3,9 +3,9 @@ ghost use Rattle.std.specs.Prelude.{◌≡◌, ◌+◌, [], length, OnOk, OnErr,
 ghost use Rattle.std.specs.List.{filter};
 ghost use Rattle.mq_tree.specs.Entries.{capped};
 ghost use Rattle.mq_tree.specs.Prefixes.{prefixes};
-ghost use Rattle.mq_router.specs.Retained.{retained_after, unexpired, is_full};
-ghost use Rattle.mq_router.specs.Deadlines.{is_due};
-ghost use Rattle.mq_router.specs.Stored.{AreFiled, AreNear};
+ghost use Rattle.mq_router.specs.definition.Retained.{retained_after, unexpired, is_full};
+ghost use Rattle.mq_router.specs.definition.Deadlines.{is_due};
+ghost use Rattle.mq_router.specs.retained.Stored.{AreFiled, AreNear};
 
 mod copies;
 mod deadlines;
@@ -35,11 +35,11 @@ pub(crate) struct Retained {
 }
 
 impl Model for Retained {
-    ghost use Rattle.mq_router.specs.Stored.{KeptRetained};
+    ghost use Rattle.mq_router.specs.retained.Stored.{KeptRetained};
 
     ghost Value = { KeptRetained };
 
-    ghost use Rattle.mq_router.specs.Stored.{kept_retained, IsSound};
+    ghost use Rattle.mq_router.specs.retained.Stored.{kept_retained, IsSound};
 
     ghost view = { λ a. kept_retained a.tree a.deadlines };
 
@@ -47,9 +47,9 @@ impl Model for Retained {
 }
 
 impl Retained {
-    ghost use Rattle.mq_router.specs.Held.{message_of};
-    ghost use Rattle.mq_router.specs.Receivers.{copies_for, steps_among};
-    ghost use Rattle.mq_router.specs.Gathers.{copies_in};
+    ghost use Rattle.mq_router.specs.router.Held.{message_of};
+    ghost use Rattle.mq_router.specs.retained.Receivers.{copies_for, steps_among};
+    ghost use Rattle.mq_router.specs.delivery.Gathers.{copies_in};
 
     pub(crate) fn new(alloc: Global) -> Retained
         ensures { result ≡ record { messages = []; keys = []; pairs = [] } }

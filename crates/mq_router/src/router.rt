@@ -1,17 +1,17 @@
 ghost use Rattle.std.specs.Prelude.{◌≡◌, ◌≢◌, ◌+◌, [], Some, IsTrue, IfOk, OnOk, OnErr, IfErr, map};
 ghost use Rattle.std.specs.Option.{option_copied};
 ghost use Rattle.std.specs.Rc.{rc_str_bytes};
-ghost use Rattle.mq_router.specs.Refusals.{is_valid, takes_no_memory, client_conditions, first_refusal};
-ghost use Rattle.mq_router.specs.World as world;
-ghost use Rattle.mq_router.specs.World.{fresh_world, empty_world, within};
-ghost use Rattle.mq_router.specs.StandsFor.{StandsFor, AnswersFor, CountsFor};
-ghost use Rattle.mq_router.specs.Applied.{Applied, CountsSteps, refused_by, copies_sent, steps_sent, steps_to};
-ghost use Rattle.mq_router.specs.Applied.{counts_held, copies_held, begun_held, members_held};
-ghost use Rattle.mq_router.specs.Views.{limits_of, request_of, reply_of};
-ghost use Rattle.mq_router.specs.Kept.{options_of};
-ghost use Rattle.mq_router.specs.Asked.{wanted_row};
-ghost use Rattle.mq_router.specs.Gathers.{copies_in, turns_in};
-ghost use Rattle.mq_router.specs.Held.{published_message, message_of, begin_of};
+ghost use Rattle.mq_router.specs.definition.Refusals.{is_valid, takes_no_memory, client_conditions, first_refusal};
+ghost use Rattle.mq_router.specs.definition.World as world;
+ghost use Rattle.mq_router.specs.definition.World.{fresh_world, empty_world, within};
+ghost use Rattle.mq_router.specs.definition.StandsFor.{StandsFor, AnswersFor, CountsFor};
+ghost use Rattle.mq_router.specs.router.Applied.{Applied, CountsSteps, refused_by, copies_sent, steps_sent, steps_to};
+ghost use Rattle.mq_router.specs.router.Applied.{counts_held, copies_held, begun_held, members_held};
+ghost use Rattle.mq_router.specs.definition.Views.{limits_of, request_of, reply_of};
+ghost use Rattle.mq_router.specs.subscriptions.Kept.{options_of};
+ghost use Rattle.mq_router.specs.subscriptions.Asked.{wanted_row};
+ghost use Rattle.mq_router.specs.delivery.Gathers.{copies_in, turns_in};
+ghost use Rattle.mq_router.specs.router.Held.{published_message, message_of, begin_of};
 
 mod ended;
 
@@ -75,13 +75,13 @@ impl Properties {
 }
 
 impl Model for Router {
-    ghost use Rattle.mq_router.specs.StandsFor.{State};
+    ghost use Rattle.mq_router.specs.definition.StandsFor.{State};
 
     ghost Value = { State };
 
-    ghost use Rattle.mq_router.specs.Held.{state_of};
-    ghost use Rattle.mq_router.specs.Stored.{AreNear};
-    ghost use Rattle.mq_router.specs.Near.{AllReached};
+    ghost use Rattle.mq_router.specs.router.Held.{state_of};
+    ghost use Rattle.mq_router.specs.retained.Stored.{AreNear};
+    ghost use Rattle.mq_router.specs.sessions.Near.{AllReached};
 
     ghost view = { state_of };
 

@@ -5,17 +5,17 @@ ghost use Rattle.std.specs.Rc.{rc_str_bytes};
 ghost use Rattle.std.specs.List.{filter, list_any, flat_map};
 ghost use Rattle.mq_tree.specs.Entries.{capped};
 ghost use Rattle.mq_tree.specs.Prefixes.{prefixes, met_by_name};
-ghost use Rattle.mq_router.specs.Lists.{same_text};
-ghost use Rattle.mq_router.specs.World.{has_key};
-ghost use Rattle.mq_router.specs.Asked.{wanted_row, has_wanted, ListsMore, ListsLess, NoneEmptied};
-ghost use Rattle.mq_router.specs.Gathers.{seen};
-ghost use Rattle.mq_router.specs.Made.{rows_found};
-ghost use Rattle.mq_router.specs.Copies.{filter_matches};
-ghost use Rattle.mq_router.specs.Retained.{asks_for_retained};
-ghost use Rattle.mq_router.specs.Turns.{SameInTurn};
-ghost use Rattle.mq_router.specs.Applied.{joined, put_last, all_turned};
-ghost use Rattle.mq_router.specs.Held.{turn_of};
-ghost use Rattle.mq_router.specs.Kept.{row, At, AreKeys};
+ghost use Rattle.mq_router.specs.definition.Lists.{same_text};
+ghost use Rattle.mq_router.specs.definition.World.{has_key};
+ghost use Rattle.mq_router.specs.subscriptions.Asked.{wanted_row, has_wanted, ListsMore, ListsLess, NoneEmptied};
+ghost use Rattle.mq_router.specs.delivery.Gathers.{seen};
+ghost use Rattle.mq_router.specs.delivery.Made.{rows_found};
+ghost use Rattle.mq_router.specs.definition.Copies.{filter_matches};
+ghost use Rattle.mq_router.specs.definition.Retained.{asks_for_retained};
+ghost use Rattle.mq_router.specs.definition.Turns.{SameInTurn};
+ghost use Rattle.mq_router.specs.router.Applied.{joined, put_last, all_turned};
+ghost use Rattle.mq_router.specs.router.Held.{turn_of};
+ghost use Rattle.mq_router.specs.subscriptions.Kept.{row, At, AreKeys};
 
 pub(crate) mod client_filters;
 pub(crate) mod filter_entry;
@@ -43,11 +43,11 @@ pub(crate) struct Subscriptions {
 }
 
 impl Model for Subscriptions {
-    ghost use Rattle.mq_router.specs.Kept.{KeptSubscriptions};
+    ghost use Rattle.mq_router.specs.subscriptions.Kept.{KeptSubscriptions};
 
     ghost Value = { KeptSubscriptions };
 
-    ghost use Rattle.mq_router.specs.Held.{subscriptions_of, AreSubscriptions};
+    ghost use Rattle.mq_router.specs.router.Held.{subscriptions_of, AreSubscriptions};
 
     ghost view = { subscriptions_of };
 
@@ -177,9 +177,9 @@ ghost use Rattle.std.specs.Prelude.{Some, true, false, IsSome, None};
 ghost use Rattle.std.specs.Map.{lookup};
 ghost use Rattle.mq_topic.specs.Levels.{levels};
 ghost use Rattle.mq_tree.specs.Entries.{is_key};
-ghost use Rattle.mq_router.specs.Kept.{all_rows, AreKept, AreAtFilters, is_listed};
-ghost use Rattle.mq_router.specs.KeptViews.{texts};
-ghost use Rattle.mq_router.specs.World.{Subscription};
+ghost use Rattle.mq_router.specs.subscriptions.Kept.{all_rows, AreKept, AreAtFilters, is_listed};
+ghost use Rattle.mq_router.specs.subscriptions.KeptViews.{texts};
+ghost use Rattle.mq_router.specs.definition.World.{Subscription};
 
 fn contains_in(tree: &LevelTree<AtFilter>, client: &str, wanted: &SubFilter) -> bool
     requires { AreKept tree.now }
@@ -262,7 +262,7 @@ fn serve_in(tree: &mut LevelTree<AtFilter>, share: &str, wanted: &TopicFilter, c
 
 ghost use Rattle.std.specs.Prelude.{◌&&◌, ◌||◌};
 ghost use Rattle.std.specs.List.{AllByRecursion};
-ghost use Rattle.mq_router.specs.Kept.{AreListed, is_empty, is_in_list, is_text, OwnKey};
+ghost use Rattle.mq_router.specs.subscriptions.Kept.{AreListed, is_empty, is_in_list, is_text, OwnKey};
 
 // Where there is no memory, nothing is left beside the tree that leads to no subscription.
 fn put_in(
@@ -332,7 +332,7 @@ fn take_all(tree: &mut LevelTree<AtFilter>, lists: &mut BTreeMap<RcStr, Own>, cl
     }
 }
 
-ghost use Rattle.mq_router.specs.Kept.{wanted_key};
+ghost use Rattle.mq_router.specs.subscriptions.Kept.{wanted_key};
 
 fn list_add(
     lists: &mut BTreeMap<RcStr, Own>,

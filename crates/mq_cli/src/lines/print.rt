@@ -1,6 +1,6 @@
 //! The lines that answer a line.
 ghost use Rattle.std.specs.Prelude.{◌≡◌, ◌++◌, OnOk, OnErr};
-ghost use Rattle.mq_router.specs.Views.{reply_of};
+ghost use Rattle.mq_router.specs.definition.Views.{reply_of};
 ghost use Rattle.mq_cli.specs.Printed.{answer_text, refusal_text, fault_text};
 
 use crate::lines::fault::LineFault;

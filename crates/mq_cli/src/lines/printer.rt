@@ -3,7 +3,7 @@ ghost use Rattle.std.specs.Prelude.{◌≡◌, ◌++◌, ℕ, List, Bool, false,
 ghost use Rattle.std.specs.Option.{option_map};
 ghost use Rattle.serde_json.specs.Data.{no_members};
 ghost use Rattle.serde_json.specs.View.{members_view};
-ghost use Rattle.mq_router.specs.Views.{reply_of};
+ghost use Rattle.mq_router.specs.definition.Views.{reply_of};
 ghost use Rattle.mq_router.specs.declared.answer.Outcome.TheVariants.{Reason, Counts};
 ghost use Rattle.mq_cli.specs.Printed.{answer_text, line_text, closing_members};
 ghost use Rattle.mq_cli.specs.Printed.{report_members, report_text, report_of, refusal_text, fault_text};

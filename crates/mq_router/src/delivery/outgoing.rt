@@ -22,9 +22,9 @@ pub(crate) struct Outgoing<'a> {
 impl<'a> Outgoing<'a> {
     ghost use Rattle.std.specs.Prelude.{IfOk};
     ghost use Rattle.std.specs.Option.{option_map};
-    ghost use Rattle.mq_router.specs.Summaries.{copy_from};
-    ghost use Rattle.mq_router.specs.Views.{copy_of, group_of};
-    ghost use Rattle.mq_router.specs.Held.{message_of};
+    ghost use Rattle.mq_router.specs.delivery.Summaries.{copy_from};
+    ghost use Rattle.mq_router.specs.definition.Views.{copy_of, group_of};
+    ghost use Rattle.mq_router.specs.router.Held.{message_of};
 
     pub(crate) fn new(alloc: Global, message: &Message<'a>) -> Result<Outgoing<'a>, AllocError>
         ensures { IfOk result (λ o. o.message ≡ message.now) }

@@ -1,7 +1,7 @@
 //! What the options of a client's subscriptions come to for its copy.
 ghost use Rattle.std.specs.Prelude.{◌≡◌, [], ◌∷◌, ◌++◌, IfOk, OnOk};
 ghost use Rattle.std.specs.Option.{option_to_list};
-ghost use Rattle.mq_router.specs.Kept.{options_of};
+ghost use Rattle.mq_router.specs.subscriptions.Kept.{options_of};
 
 use crate::options::Options;
 use std::alloc::{AllocError, Global};
@@ -16,7 +16,7 @@ pub(crate) struct Summary {
 }
 
 impl Model for Summary {
-    ghost use Rattle.mq_router.specs.Summaries as specs;
+    ghost use Rattle.mq_router.specs.delivery.Summaries as specs;
 
     ghost Value = { specs.Summary };
 
@@ -24,8 +24,8 @@ impl Model for Summary {
 }
 
 impl Summary {
-    ghost use Rattle.mq_router.specs.Lists.{ascending};
-    ghost use Rattle.mq_router.specs.Summaries.{summary_of, together};
+    ghost use Rattle.mq_router.specs.definition.Lists.{ascending};
+    ghost use Rattle.mq_router.specs.delivery.Summaries.{summary_of, together};
 
     /// That of no subscription.
     pub(crate) fn new(alloc: Global) -> Summary

@@ -1,12 +1,12 @@
 //! The copies of a message for clients in their own name: those that are sent, and those that begin to wait.
 ghost use Rattle.std.specs.Prelude.{◌≡◌, IfOk, None, map};
 ghost use Rattle.std.specs.Rc.{rc_str_bytes};
-ghost use Rattle.mq_router.specs.Kept.{options_of};
-ghost use Rattle.mq_router.specs.Gathers.{copies_in, matched, by_client, AreByClient};
-ghost use Rattle.mq_router.specs.Made.{copies_by, begins_by};
-ghost use Rattle.mq_router.specs.Summaries.{summary_of, copy_from};
-ghost use Rattle.mq_router.specs.Views.{copy_of};
-ghost use Rattle.mq_router.specs.Held.{message_of, begin_of};
+ghost use Rattle.mq_router.specs.subscriptions.Kept.{options_of};
+ghost use Rattle.mq_router.specs.delivery.Gathers.{copies_in, matched, by_client, AreByClient};
+ghost use Rattle.mq_router.specs.delivery.Made.{copies_by, begins_by};
+ghost use Rattle.mq_router.specs.delivery.Summaries.{summary_of, copy_from};
+ghost use Rattle.mq_router.specs.definition.Views.{copy_of};
+ghost use Rattle.mq_router.specs.router.Held.{message_of, begin_of};
 
 use crate::answer::Delivery;
 use crate::sessions::queued::Begun;

@@ -1,10 +1,10 @@
 //! The copies of retained messages that a subscribe sends.
 ghost use Rattle.std.specs.Prelude.{◌≡◌, ◌+◌, ◌<◌, ◌^◌, IfOk, IfSome, map};
 ghost use Rattle.std.specs.Option.{option_copied, option_to_list};
-ghost use Rattle.mq_router.specs.Retained.{retained_copy};
-ghost use Rattle.mq_router.specs.Views.{copy_of};
-ghost use Rattle.mq_router.specs.Gathers.{copies_in};
-ghost use Rattle.mq_router.specs.Stored.{message_in, may_get, AreNear};
+ghost use Rattle.mq_router.specs.definition.Retained.{retained_copy};
+ghost use Rattle.mq_router.specs.definition.Views.{copy_of};
+ghost use Rattle.mq_router.specs.delivery.Gathers.{copies_in};
+ghost use Rattle.mq_router.specs.retained.Stored.{message_in, may_get, AreNear};
 
 use crate::access::may_read;
 use crate::answer::Delivery;
@@ -27,7 +27,7 @@ pub(crate) struct Receiver<'a> {
     pub(crate) options: Options,
 }
 
-ghost use Rattle.mq_router.specs.Receivers.{subscription_for, copies_among};
+ghost use Rattle.mq_router.specs.retained.Receivers.{subscription_for, copies_among};
 
 fn may_get(receiver: &Receiver, stored: &Stored) -> bool
     ensures { result ≡ may_get receiver.now.access.now (option_copied receiver.now.user) (subscription_for receiver.now) (message_in stored.now) }

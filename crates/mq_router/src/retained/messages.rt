@@ -31,7 +31,7 @@ impl Model for Messages {
 
     ghost view = { λ a. a.by_topic };
 
-    ghost use Rattle.mq_router.specs.Stored.{AreCounted};
+    ghost use Rattle.mq_router.specs.retained.Stored.{AreCounted};
 
     ghost invariant = { λ a. AreCounted a.count a.by_topic };
 }

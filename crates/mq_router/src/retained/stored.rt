@@ -1,6 +1,6 @@
 ghost use Rattle.std.specs.Prelude.{◌≡◌, IfOk};
-ghost use Rattle.mq_router.specs.Held.{message_of};
-ghost use Rattle.mq_router.specs.Stored.{message_in, stored_until};
+ghost use Rattle.mq_router.specs.router.Held.{message_of};
+ghost use Rattle.mq_router.specs.retained.Stored.{message_in, stored_until};
 
 use crate::message::Message;
 use mq_topic::TopicName;

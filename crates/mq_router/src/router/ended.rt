@@ -1,8 +1,8 @@
 //! The subscriptions of the sessions that end.
 ghost use Rattle.std.specs.Prelude.{◌≡◌};
 ghost use Rattle.std.specs.List.{filter};
-ghost use Rattle.mq_router.specs.Kept.{AreKeys};
-ghost use Rattle.mq_router.specs.Applied.{lasts};
+ghost use Rattle.mq_router.specs.subscriptions.Kept.{AreKeys};
+ghost use Rattle.mq_router.specs.router.Applied.{lasts};
 
 use crate::sessions::Sessions;
 use crate::subscriptions::Subscriptions;

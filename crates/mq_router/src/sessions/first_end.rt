@@ -1,8 +1,8 @@
 //! From when on a session may have ended.
 ghost use Rattle.std.specs.Prelude.{◌≡◌, map};
-ghost use Rattle.mq_router.specs.Clock.{is_over};
-ghost use Rattle.mq_router.specs.Ends.{AllEndFrom, IsSooner};
-ghost use Rattle.mq_router.specs.Held.{session_in};
+ghost use Rattle.mq_router.specs.definition.Clock.{is_over};
+ghost use Rattle.mq_router.specs.sessions.Ends.{AllEndFrom, IsSooner};
+ghost use Rattle.mq_router.specs.router.Held.{session_in};
 
 use crate::sessions::session::Session;
 use std::collections::BTreeMap;

@@ -4,12 +4,12 @@ ghost use Rattle.std.specs.Option.{option_copied, option_map};
 ghost use Rattle.std.specs.Rc.{rc_str_bytes};
 ghost use Rattle.std.specs.List.{filter_map};
 ghost use Rattle.std.specs.List.Sorted.{IsStrictlySortedBy};
-ghost use Rattle.mq_router.specs.World.{session_cmp};
-ghost use Rattle.mq_router.specs.Sessions.{session_of, is_connected, user_of, outlives};
-ghost use Rattle.mq_router.specs.Waiting.{waiting_for, resumed_copy};
-ghost use Rattle.mq_router.specs.Near.{AllReached};
-ghost use Rattle.mq_router.specs.Views.{copy_of};
-ghost use Rattle.mq_router.specs.Held.{session_at, session_in};
+ghost use Rattle.mq_router.specs.definition.World.{session_cmp};
+ghost use Rattle.mq_router.specs.definition.Sessions.{session_of, is_connected, user_of, outlives};
+ghost use Rattle.mq_router.specs.definition.Waiting.{waiting_for, resumed_copy};
+ghost use Rattle.mq_router.specs.sessions.Near.{AllReached};
+ghost use Rattle.mq_router.specs.definition.Views.{copy_of};
+ghost use Rattle.mq_router.specs.router.Held.{session_at, session_in};
 
 use crate::answer::Delivery;
 use crate::clock::Clock;

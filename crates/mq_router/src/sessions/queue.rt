@@ -2,10 +2,10 @@
 ghost use Rattle.std.specs.Prelude.{◌≡◌, [], ◌∷◌, IfOk};
 ghost use Rattle.std.specs.Option.{option_map};
 ghost use Rattle.std.specs.Rc.{rc_str_bytes};
-ghost use Rattle.mq_router.specs.Waiting.{with_qos};
-ghost use Rattle.mq_router.specs.Begun.{begin_with};
-ghost use Rattle.mq_router.specs.Views.{copy_of};
-ghost use Rattle.mq_router.specs.Held.{begin_of};
+ghost use Rattle.mq_router.specs.definition.Waiting.{with_qos};
+ghost use Rattle.mq_router.specs.sessions.Begun.{begin_with};
+ghost use Rattle.mq_router.specs.definition.Views.{copy_of};
+ghost use Rattle.mq_router.specs.router.Held.{begin_of};
 
 use crate::answer::Delivery;
 use crate::sessions::queued::Begun;

@@ -2,10 +2,10 @@
 ghost use Rattle.std.specs.Prelude.{◌≡◌, IfOk, map};
 ghost use Rattle.std.specs.Option.{option_map};
 ghost use Rattle.std.specs.List.{filter_map};
-ghost use Rattle.mq_router.specs.Waiting.{resumed_copy};
-ghost use Rattle.mq_router.specs.Near.{IsReached, AreReached};
-ghost use Rattle.mq_router.specs.Views.{copy_of};
-ghost use Rattle.mq_router.specs.Held.{waiting_of};
+ghost use Rattle.mq_router.specs.definition.Waiting.{resumed_copy};
+ghost use Rattle.mq_router.specs.sessions.Near.{IsReached, AreReached};
+ghost use Rattle.mq_router.specs.definition.Views.{copy_of};
+ghost use Rattle.mq_router.specs.router.Held.{waiting_of};
 
 use crate::answer::Delivery;
 use crate::clock::Clock;

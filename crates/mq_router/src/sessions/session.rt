@@ -1,12 +1,12 @@
 //! A client's session, and the copies that wait for it.
 ghost use Rattle.std.specs.Prelude.{◌≡◌, ◌≤◌, [], length, map, string_bytes};
 ghost use Rattle.std.specs.Option.{option_map};
-ghost use Rattle.mq_router.specs.World.{Away};
-ghost use Rattle.mq_router.specs.Sessions.{is_present, outlives_connection, session_end, has_ended, new_session};
-ghost use Rattle.mq_router.specs.Waiting.{has_place, has_room};
-ghost use Rattle.mq_router.specs.Begun.{queued};
-ghost use Rattle.mq_router.specs.Ends.{EndsFrom};
-ghost use Rattle.mq_router.specs.Held.{shown, waiting_of};
+ghost use Rattle.mq_router.specs.definition.World.{Away};
+ghost use Rattle.mq_router.specs.definition.Sessions.{is_present, outlives_connection, session_end, has_ended, new_session};
+ghost use Rattle.mq_router.specs.definition.Waiting.{has_place, has_room};
+ghost use Rattle.mq_router.specs.sessions.Begun.{queued};
+ghost use Rattle.mq_router.specs.sessions.Ends.{EndsFrom};
+ghost use Rattle.mq_router.specs.router.Held.{shown, waiting_of};
 
 use crate::answer::Delivery;
 use crate::clock::Clock;
@@ -47,7 +47,7 @@ pub(crate) struct Session {
 }
 
 impl Session {
-    ghost use Rattle.mq_router.specs.Ways.{is_sent, waits};
+    ghost use Rattle.mq_router.specs.sessions.Ways.{is_sent, waits};
 
     /// The session of a client that connects.
     pub(crate) fn new(alloc: Global, user: Option<String>, interval: u32) -> Session

@@ -1,7 +1,7 @@
 //! The subscriptions of one client, beside the tree of all.
 ghost use Rattle.std.specs.Prelude.{◌≡◌, ◌&&◌, ◌||◌, [], map, not, OnOk, OnErr};
-ghost use Rattle.mq_router.specs.World.{Subscription};
-ghost use Rattle.mq_router.specs.Kept.{is_empty, is_own, is_in_list, shared_key, wanted_key};
+ghost use Rattle.mq_router.specs.definition.World.{Subscription};
+ghost use Rattle.mq_router.specs.subscriptions.Kept.{is_empty, is_own, is_in_list, shared_key, wanted_key};
 
 use mq_topic::SubFilter;
 use std::alloc::{AllocError, Global};
@@ -18,11 +18,11 @@ pub(crate) struct Own {
 
 impl Model for Own {
     ghost use Rattle.std.specs.Prelude.{List};
-    ghost use Rattle.mq_router.specs.Kept.{OwnKey};
+    ghost use Rattle.mq_router.specs.subscriptions.Kept.{OwnKey};
 
     ghost Value = { List OwnKey };
 
-    ghost use Rattle.mq_router.specs.OwnViews.{own_of};
+    ghost use Rattle.mq_router.specs.subscriptions.OwnViews.{own_of};
 
     ghost view = { own_of };
 }

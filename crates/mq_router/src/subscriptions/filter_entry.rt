@@ -3,10 +3,10 @@ ghost use Rattle.std.specs.Prelude.{◌≡◌, ◌&&◌, [], not, Some, None, On
 ghost use Rattle.std.specs.Option.{option_copied};
 ghost use Rattle.std.specs.List.{filter, list_any};
 ghost use Rattle.std.specs.Rc.{rc_str_bytes};
-ghost use Rattle.mq_router.specs.World.{has_key};
-ghost use Rattle.mq_router.specs.Turns.{SameInTurn};
-ghost use Rattle.mq_router.specs.Applied.{put_last};
-ghost use Rattle.mq_router.specs.Kept.{is_empty, AreHere};
+ghost use Rattle.mq_router.specs.definition.World.{has_key};
+ghost use Rattle.mq_router.specs.definition.Turns.{SameInTurn};
+ghost use Rattle.mq_router.specs.router.Applied.{put_last};
+ghost use Rattle.mq_router.specs.subscriptions.Kept.{is_empty, AreHere};
 
 use crate::subscriptions::group::Group;
 use crate::subscriptions::matches::Match;
@@ -30,11 +30,11 @@ pub(crate) struct AtFilter {
 }
 
 impl Model for AtFilter {
-    ghost use Rattle.mq_router.specs.Kept.{At};
+    ghost use Rattle.mq_router.specs.subscriptions.Kept.{At};
 
     ghost Value = { At };
 
-    ghost use Rattle.mq_router.specs.KeptViews.{at_of, GroupsLive};
+    ghost use Rattle.mq_router.specs.subscriptions.KeptViews.{at_of, GroupsLive};
 
     ghost view = { at_of };
 
@@ -181,13 +181,13 @@ fn member_count(groups: &BTreeMap<RcStr, Group>) -> u64
     total
 }
 
-ghost use Rattle.mq_router.specs.Held.{message_of};
-ghost use Rattle.mq_router.specs.Made.{own_matches};
-ghost use Rattle.mq_router.specs.Gathers.{matched, GathersTurns};
-ghost use Rattle.mq_router.specs.AtWords.{JoinsAt, DirectJoins, GroupJoins, DirectLeaves, GroupLeaves, GroupTurns};
-ghost use Rattle.mq_router.specs.Kept.{direct_rows, group_rows, NoneEmpty};
-ghost use Rattle.mq_router.specs.KeptViews.{texts};
-ghost use Rattle.mq_router.specs.Lists.{Text, same_text};
+ghost use Rattle.mq_router.specs.router.Held.{message_of};
+ghost use Rattle.mq_router.specs.delivery.Made.{own_matches};
+ghost use Rattle.mq_router.specs.delivery.Gathers.{matched, GathersTurns};
+ghost use Rattle.mq_router.specs.subscriptions.AtWords.{JoinsAt, DirectJoins, GroupJoins, DirectLeaves, GroupLeaves, GroupTurns};
+ghost use Rattle.mq_router.specs.subscriptions.Kept.{direct_rows, group_rows, NoneEmpty};
+ghost use Rattle.mq_router.specs.subscriptions.KeptViews.{texts};
+ghost use Rattle.mq_router.specs.definition.Lists.{Text, same_text};
 
 // Whether No Local keeps a client's own message from it.
 fn is_held_back(options: Options, client: &str, message: &Message) -> bool
@@ -270,7 +270,7 @@ fn add_group(
 }
 
 ghost use Rattle.std.specs.Map.{lookup};
-ghost use Rattle.mq_router.specs.Kept.{is_text};
+ghost use Rattle.mq_router.specs.subscriptions.Kept.{is_text};
 
 fn leave_direct(direct: &mut BTreeMap<RcStr, Options>, client: &str)
     ensures { DirectLeaves client.now direct.old.entries direct.new.entries }

@@ -3,9 +3,9 @@ ghost use Rattle.std.specs.Prelude.{◌≡◌, [], length, not, OnOk, OnErr};
 ghost use Rattle.std.specs.Option.{option_map};
 ghost use Rattle.std.specs.Rc.{rc_str_bytes};
 ghost use Rattle.std.specs.List.{filter, find, list_any};
-ghost use Rattle.mq_router.specs.Sessions.{is_reader};
-ghost use Rattle.mq_router.specs.Kept.{has_client, is_empty};
-ghost use Rattle.mq_router.specs.Applied.{with_one, put_last};
+ghost use Rattle.mq_router.specs.definition.Sessions.{is_reader};
+ghost use Rattle.mq_router.specs.subscriptions.Kept.{has_client, is_empty};
+ghost use Rattle.mq_router.specs.router.Applied.{with_one, put_last};
 
 use crate::options::Options;
 use crate::access::Readers;
@@ -23,11 +23,11 @@ pub(crate) struct Group {
 
 impl Model for Group {
     ghost use Rattle.std.specs.Prelude.{List};
-    ghost use Rattle.mq_router.specs.Kept.{Member};
+    ghost use Rattle.mq_router.specs.subscriptions.Kept.{Member};
 
     ghost Value = { List Member };
 
-    ghost use Rattle.mq_router.specs.KeptViews.{members_of};
+    ghost use Rattle.mq_router.specs.subscriptions.KeptViews.{members_of};
 
     ghost view = { members_of };
 }

@@ -1,7 +1,7 @@
 //! The subscriptions of clients in their own name that take part in a message.
 ghost use Rattle.std.specs.Prelude.{◌≡◌, OnOk};
-ghost use Rattle.mq_router.specs.Lists.{Text};
-ghost use Rattle.mq_router.specs.Gathers.{matched, options_among, AreByClient};
+ghost use Rattle.mq_router.specs.definition.Lists.{Text};
+ghost use Rattle.mq_router.specs.delivery.Gathers.{matched, options_among, AreByClient};
 
 use crate::options::Options;
 use std::alloc::AllocError;

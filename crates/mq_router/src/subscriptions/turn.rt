@@ -1,7 +1,7 @@
 //! Turns in groups.
 ghost use Rattle.std.specs.Prelude.{◌≡◌, OnOk};
-ghost use Rattle.mq_router.specs.Lists.{Text};
-ghost use Rattle.mq_router.specs.Gathers.{shares_of, turns_listed, AreAscending};
+ghost use Rattle.mq_router.specs.definition.Lists.{Text};
+ghost use Rattle.mq_router.specs.delivery.Gathers.{shares_of, turns_listed, AreAscending};
 
 use crate::options::Options;
 use mq_topic::TopicFilter;

@@ -1,14 +1,14 @@
 use Rattle.std.proofs.Common.{◌≡◌, ◌∙◌, ◌++◌, [], sym, ap, map, List}
 use Rattle.std.specs.List.{filter}
 use Rattle.std.proofs.lemmas.Result.{IfOk-weaker}
-use Rattle.mq_router.specs.World.{Subscription}
-use Rattle.mq_router.specs.Sessions.{connected}
-use Rattle.mq_router.specs.Applied.{next_members, member_copy}
-use Rattle.mq_router.specs.Copies.{filter_matches, direct_copies}
-use Rattle.mq_router.specs.Made.{rows_found, gives_options}
-use Rattle.mq_router.specs.Summaries.{summary_for}
-use Rattle.mq_router.specs.Held.{message_of, begin_of}
-use Rattle.mq_router.specs.Gathers.{turns_in, matched, options_among, by_client}
+use Rattle.mq_router.specs.definition.World.{Subscription}
+use Rattle.mq_router.specs.definition.Sessions.{connected}
+use Rattle.mq_router.specs.router.Applied.{next_members, member_copy}
+use Rattle.mq_router.specs.definition.Copies.{filter_matches, direct_copies}
+use Rattle.mq_router.specs.delivery.Made.{rows_found, gives_options}
+use Rattle.mq_router.specs.delivery.Summaries.{summary_for}
+use Rattle.mq_router.specs.router.Held.{message_of, begin_of}
+use Rattle.mq_router.specs.delivery.Gathers.{turns_in, matched, options_among, by_client}
 use Rattle.mq_router.proofs.ClientLemmas.{sorted-by_client, lookup-by_client, options-own}
 use Rattle.mq_router.proofs.OwnCopies.{own-copies, own-begun, options-matching}
 use Rattle.mq_router.proofs.GroupLemmas.{members-matching}

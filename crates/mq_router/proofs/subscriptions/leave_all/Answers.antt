@@ -2,8 +2,8 @@ use Rattle.std.proofs.Common.{◌∙◌, sym, ap, not, List, map}
 use Rattle.std.specs.List.{filter}
 use Rattle.std.specs.Map.Iter.{deref}
 use Rattle.std.proofs.lemmas.Map.Iter.{rest_more, rest_all}
-use Rattle.mq_router.specs.Asked.{has_wanted}
-use Rattle.mq_router.specs.Kept.{Shared, shared_key, all_rows}
+use Rattle.mq_router.specs.subscriptions.Asked.{has_wanted}
+use Rattle.mq_router.specs.subscriptions.Kept.{Shared, shared_key, all_rows}
 use Rattle.mq_router.proofs.ListedLemmas.{leaves, one-leaves, none-leave}
 use Rattle.mq_router.proofs.subscriptions.leave_all.Goals as goal
 

@@ -1,6 +1,6 @@
 use Rattle.std.proofs.Common.{◌≡◌, map}
 use Rattle.std.specs.List.{filter}
-use Rattle.mq_router.specs.Kept.{shared_key, all_rows, AreKept}
+use Rattle.mq_router.specs.subscriptions.Kept.{shared_key, all_rows, AreKept}
 use Rattle.mq_router.proofs.ListedLemmas.{leaves}
 use Rattle.mq_router.proofs.subscriptions.leave_all.Given as goal
 

@@ -3,9 +3,9 @@ use Rattle.std.specs.Option.{option_copied_mut}
 use Rattle.std.specs.Rc.{rc_str_bytes}
 use Rattle.std.specs.List.{AllByRecursion}
 use Rattle.std.specs.Map.{lookup, set_value}
-use Rattle.mq_router.specs.Keys.{Key}
-use Rattle.mq_router.specs.Kept.{is_text, wanted_key, is_empty, OwnKey}
-use Rattle.mq_router.specs.KeptViews.{texts}
+use Rattle.mq_router.specs.definition.Keys.{Key}
+use Rattle.mq_router.specs.subscriptions.Kept.{is_text, wanted_key, is_empty, OwnKey}
+use Rattle.mq_router.specs.subscriptions.KeptViews.{texts}
 use Rattle.mq_router.proofs.ListLemmas.{on_err}
 use Rattle.mq_router.proofs.SessionLemmas.{finds}
 use Rattle.mq_router.proofs.Splits.{set_same}

@@ -1,6 +1,6 @@
 use Rattle.std.proofs.Common.{◌∙◌, ◌||◌, ap}
 use Rattle.std.specs.Rc.{rc_str_bytes}
-use Rattle.mq_router.specs.Kept.{wanted_key, is_own, is_in_list}
+use Rattle.mq_router.specs.subscriptions.Kept.{wanted_key, is_own, is_in_list}
 use Rattle.mq_router.proofs.ListedLemmas.{added-first, added-live, live-begun}
 use Rattle.mq_router.proofs.subscriptions.list_begin.Goals as goal
 

@@ -1,7 +1,7 @@
 use Rattle.std.proofs.Common.{◌∙◌, sym, ap}
 use Rattle.std.specs.Option.{option_copied_mut}
-use Rattle.mq_router.specs.Kept.{wanted_key, is_listed}
-use Rattle.mq_router.specs.KeptViews.{texts}
+use Rattle.mq_router.specs.subscriptions.Kept.{wanted_key, is_listed}
+use Rattle.mq_router.specs.subscriptions.KeptViews.{texts}
 use Rattle.mq_router.proofs.ListedLemmas.{dropped-there, dropped-last, dropped-absent, live-set, live-out}
 use Rattle.mq_router.proofs.subscriptions.list_remove.Goals as goal
 

@@ -1,8 +1,8 @@
 use Rattle.std.proofs.Common.{◌∙◌, sym, ap, refl, Some}
 use Rattle.std.specs.Option.{option_copied_mut}
-use Rattle.mq_router.specs.World.{Subscription, has_key}
-use Rattle.mq_router.specs.Applied.{put_last}
-use Rattle.mq_router.specs.Kept.{all_rows}
+use Rattle.mq_router.specs.definition.World.{Subscription, has_key}
+use Rattle.mq_router.specs.router.Applied.{put_last}
+use Rattle.mq_router.specs.subscriptions.Kept.{all_rows}
 use Rattle.mq_router.proofs.AtLemmas.{nothing}
 use Rattle.mq_router.proofs.InTurn.{same-is, same-then}
 use Rattle.mq_router.proofs.TreeLemmas.{tree-turned, tree-absent_turned, set-kept, found_filter, found_live, turned-live}

@@ -1,8 +1,8 @@
 use Rattle.std.proofs.Common.{◌∙◌, ap, not}
 use Rattle.std.specs.List.{filter}
-use Rattle.mq_router.specs.Asked.{has_wanted}
-use Rattle.mq_router.specs.Kept.{wanted_key, all_rows}
-use Rattle.mq_router.specs.KeptViews.{texts}
+use Rattle.mq_router.specs.subscriptions.Asked.{has_wanted}
+use Rattle.mq_router.specs.subscriptions.Kept.{wanted_key, all_rows}
+use Rattle.mq_router.specs.subscriptions.KeptViews.{texts}
 use Rattle.mq_router.proofs.AnyLemmas.{listed-left}
 use Rattle.mq_router.proofs.subscriptions.take_out.Goals as goal
 

@@ -1,6 +1,6 @@
 use Rattle.std.proofs.Common.{◌≡◌, map, take}
-use Rattle.mq_router.specs.Kept.{options_of}
-use Rattle.mq_router.specs.Summaries.{summary_of}
+use Rattle.mq_router.specs.subscriptions.Kept.{options_of}
+use Rattle.mq_router.specs.delivery.Summaries.{summary_of}
 use Rattle.mq_router.proofs.delivery.unshared.summarize.Given as goal
 
 abbrev pub invariant-loop-one : goal.invariant-loop-one

@@ -4,11 +4,11 @@ use Rattle.std.specs.Option.{option_copied}
 use Rattle.std.proofs.lemmas.Simd.{map-map}
 use Rattle.mq_topic.specs.Levels.{levels}
 use Rattle.mq_tree.specs.Prefixes.{prefixes, met_by_filter}
-use Rattle.mq_router.specs.World.{Retained}
-use Rattle.mq_router.specs.Counts.{topics_of}
-use Rattle.mq_router.specs.Copies.{filter_matches}
-use Rattle.mq_router.specs.Receivers.{subscription_for}
-use Rattle.mq_router.specs.Stored.{AreNear, message_in, KeptRetained}
+use Rattle.mq_router.specs.definition.World.{Retained}
+use Rattle.mq_router.specs.definition.Counts.{topics_of}
+use Rattle.mq_router.specs.definition.Copies.{filter_matches}
+use Rattle.mq_router.specs.retained.Receivers.{subscription_for}
+use Rattle.mq_router.specs.retained.Stored.{AreNear, message_in, KeptRetained}
 use Rattle.mq_router.proofs.RetainedLemmas.{matched-retained, keys-retained}
 use Rattle.mq_router.proofs.SendingLemmas.{sent-is}
 use Rattle.mq_router.proofs.NearLemmas.{near-filter}

@@ -1,10 +1,10 @@
 use Rattle.std.proofs.Common.{◌≡◌, map, take}
 use Rattle.std.specs.List.{filter}
 use Rattle.std.specs.Option.{option_copied}
-use Rattle.mq_router.specs.Stored.{may_get, message_in}
-use Rattle.mq_router.specs.Retained.{retained_copy}
-use Rattle.mq_router.specs.Views.{copy_of}
-use Rattle.mq_router.specs.Receivers.{subscription_for}
+use Rattle.mq_router.specs.retained.Stored.{may_get, message_in}
+use Rattle.mq_router.specs.definition.Retained.{retained_copy}
+use Rattle.mq_router.specs.definition.Views.{copy_of}
+use Rattle.mq_router.specs.retained.Receivers.{subscription_for}
 use Rattle.mq_router.proofs.retained.copies.copies_of.Given as goal
 
 abbrev pub invariant-loop-stored : goal.invariant-loop-stored

@@ -1,8 +1,8 @@
 use Rattle.std.proofs.Common.{◌≡◌, ◌∙◌, ap, refl, is_some, Option, Some, None}
 use denote.Ref.{Bor}
 use Rattle.std.specs.Option.{option_copied, option_map}
-use Rattle.mq_router.specs.Retained.{has_topic}
-use Rattle.mq_router.specs.Stored.{message_in, retained_in}
+use Rattle.mq_router.specs.definition.Retained.{has_topic}
+use Rattle.mq_router.specs.retained.Stored.{message_in, retained_in}
 use Rattle.mq_router.proofs.ListLemmas.{is_some-find}
 use Rattle.mq_router.proofs.RetainedLemmas.{found-retained}
 use Rattle.mq_router.proofs.retained.edits.has_message.Goals as goal

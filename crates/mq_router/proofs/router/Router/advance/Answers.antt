@@ -1,12 +1,12 @@
 use Rattle.std.proofs.Common.{◌≤◌, not, sym, subst, arith}
-use Rattle.mq_router.specs.World.{Advance}
-use Rattle.mq_router.specs.StandsFor.{State, Refuses}
-use Rattle.mq_router.specs.Applied.{Does, world_of}
-use Rattle.mq_router.specs.Stored.{AreNear}
-use Rattle.mq_router.specs.Near.{AllReached}
-use Rattle.mq_router.specs.Sessions.{has_ended}
-use Rattle.mq_router.specs.Views.{reply_of}
-use Rattle.mq_router.specs.Held.{state_of}
+use Rattle.mq_router.specs.definition.World.{Advance}
+use Rattle.mq_router.specs.definition.StandsFor.{State, Refuses}
+use Rattle.mq_router.specs.router.Applied.{Does, world_of}
+use Rattle.mq_router.specs.retained.Stored.{AreNear}
+use Rattle.mq_router.specs.sessions.Near.{AllReached}
+use Rattle.mq_router.specs.definition.Sessions.{has_ended}
+use Rattle.mq_router.specs.definition.Views.{reply_of}
+use Rattle.mq_router.specs.router.Held.{state_of}
 use Rattle.mq_router.proofs.RouterLemmas.{advance-refused, advance-does}
 use Rattle.mq_router.proofs.NearLemmas.{near-later}
 use Rattle.mq_router.proofs.ReachedLemmas.{reached-later}

@@ -1,20 +1,20 @@
 use Rattle.std.proofs.Common.{rules, ◌≡◌, ◌∙◌, ◌==◌, ◌<◌, ◌+◌, ◌^◌, ℕ, sym, ap, subst, map, not, length, Err, Option, None, List}
 use Rattle.std.specs.Rc.{rc_str_bytes}
-use Rattle.mq_router.specs.Held.{turn_of, begin_of, state_of, published_message}
-use Rattle.mq_router.specs.Lists.{Text}
-use Rattle.mq_router.specs.World.{Publish, Message, Subscription}
-use Rattle.mq_router.specs.Refusals.{first_refusal, client_conditions}
-use Rattle.mq_router.specs.Sessions.{user_of}
-use Rattle.mq_router.specs.Retained.{retained_after, is_full}
-use Rattle.mq_router.specs.Clock.{deadline_of}
-use Rattle.mq_router.specs.Waiting.{waiting_after, begins_to_wait}
-use Rattle.mq_router.specs.Begun.{Begin, begun_by, queued_all}
-use Rattle.mq_router.specs.Near.{AllReached}
+use Rattle.mq_router.specs.router.Held.{turn_of, begin_of, state_of, published_message}
+use Rattle.mq_router.specs.definition.Lists.{Text}
+use Rattle.mq_router.specs.definition.World.{Publish, Message, Subscription}
+use Rattle.mq_router.specs.definition.Refusals.{first_refusal, client_conditions}
+use Rattle.mq_router.specs.definition.Sessions.{user_of}
+use Rattle.mq_router.specs.definition.Retained.{retained_after, is_full}
+use Rattle.mq_router.specs.definition.Clock.{deadline_of}
+use Rattle.mq_router.specs.definition.Waiting.{waiting_after, begins_to_wait}
+use Rattle.mq_router.specs.sessions.Begun.{Begin, begun_by, queued_all}
+use Rattle.mq_router.specs.sessions.Near.{AllReached}
 use Rattle.std.specs.Option.{IfSome}
-use Rattle.mq_router.specs.Answers.{published}
-use Rattle.mq_router.specs.StandsFor.{State, Refuses}
-use Rattle.mq_router.specs.Applied.{Does, world_of, copies_held, begun_held, members_held, all_turned}
-use Rattle.mq_router.specs.Views.{reply_of}
+use Rattle.mq_router.specs.definition.Answers.{published}
+use Rattle.mq_router.specs.definition.StandsFor.{State, Refuses}
+use Rattle.mq_router.specs.router.Applied.{Does, world_of, copies_held, begun_held, members_held, all_turned}
+use Rattle.mq_router.specs.definition.Views.{reply_of}
 use Rattle.mq_router.proofs.InTurn.{same-is, same-then}
 use Rattle.mq_router.proofs.RouterLemmas.{refused-applied, publish-client, publish-name, publish-write, publish-full, publish-does}
 use Rattle.mq_router.proofs.BegunLemmas.{queued-is, waits-is}

@@ -2,15 +2,15 @@ use Rattle.std.proofs.Common.{◌≡◌, ◌∙◌, sym, ap, subst, Err, None}
 use Rattle.std.proofs.lemmas.Result.{err_from_is_err_and}
 use Rattle.std.specs.Rc.{rc_str_bytes}
 use Rattle.mq_topic.specs.declared.subscription.SubFilter.{SubFilter}
-use Rattle.mq_router.specs.Asked.{wanted_row}
-use Rattle.mq_router.specs.World.{Subscribe, Subscription, Options, asked}
-use Rattle.mq_router.specs.Lists.{Text}
-use Rattle.mq_router.specs.Refusals.{first_refusal, client_conditions}
-use Rattle.mq_router.specs.StandsFor.{State}
-use Rattle.mq_router.specs.Applied.{Does, joined, copies_sent}
-use Rattle.mq_router.specs.Views.{copy_of}
-use Rattle.mq_router.specs.Kept.{options_of}
-use Rattle.mq_router.specs.Held.{state_of}
+use Rattle.mq_router.specs.subscriptions.Asked.{wanted_row}
+use Rattle.mq_router.specs.definition.World.{Subscribe, Subscription, Options, asked}
+use Rattle.mq_router.specs.definition.Lists.{Text}
+use Rattle.mq_router.specs.definition.Refusals.{first_refusal, client_conditions}
+use Rattle.mq_router.specs.definition.StandsFor.{State}
+use Rattle.mq_router.specs.router.Applied.{Does, joined, copies_sent}
+use Rattle.mq_router.specs.definition.Views.{copy_of}
+use Rattle.mq_router.specs.subscriptions.Kept.{options_of}
+use Rattle.mq_router.specs.router.Held.{state_of}
 use Rattle.mq_router.proofs.InTurn.{same-is, same-then}
 use Rattle.mq_router.proofs.RouterLemmas.{refused-applied, subscribe-client, subscribe-filter, subscribe-shared, subscribe-does}
 use Rattle.std.proofs.Common.{map, Option, Some, String, Global, is_some, ◌&&◌, refl, string_bytes}

@@ -1,6 +1,6 @@
 use Rattle.std.proofs.Common.{sym, subst, map}
-use Rattle.mq_router.specs.Ends.{AllEndFrom}
-use Rattle.mq_router.specs.Held.{session_in, begin_of}
+use Rattle.mq_router.specs.sessions.Ends.{AllEndFrom}
+use Rattle.mq_router.specs.router.Held.{session_in, begin_of}
 use Rattle.mq_router.proofs.EndLemmas.{ends-queued}
 use Rattle.mq_router.proofs.sessions.Sessions.join.Goals as goal
 

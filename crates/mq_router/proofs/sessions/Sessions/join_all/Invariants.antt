@@ -1,7 +1,7 @@
 use Rattle.std.proofs.Common.{◌≡◌, map}
 use Rattle.std.specs.Vec.Iter.{into_iter_items}
-use Rattle.mq_router.specs.Begun.{queued_all}
-use Rattle.mq_router.specs.Held.{begin_of}
+use Rattle.mq_router.specs.sessions.Begun.{queued_all}
+use Rattle.mq_router.specs.router.Held.{begin_of}
 use Rattle.mq_router.proofs.sessions.Sessions.join_all.Given as goal
 
 abbrev pub invariant-loop-begun : goal.invariant-loop-begun

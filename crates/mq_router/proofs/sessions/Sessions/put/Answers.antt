@@ -1,10 +1,10 @@
 use Rattle.std.proofs.Common.{◌≡◌, ◌∙◌, ap, sym, subst, map, true, false}
-use Rattle.mq_router.specs.Lists.{with_row}
+use Rattle.mq_router.specs.definition.Lists.{with_row}
 use Rattle.std.specs.Rc.{rc_str_bytes}
-use Rattle.mq_router.specs.World as world
-use Rattle.mq_router.specs.World.{session_cmp}
-use Rattle.mq_router.specs.Ends.{EndsFrom, AllEndFrom}
-use Rattle.mq_router.specs.Held.{session_in}
+use Rattle.mq_router.specs.definition.World as world
+use Rattle.mq_router.specs.definition.World.{session_cmp}
+use Rattle.mq_router.specs.sessions.Ends.{EndsFrom, AllEndFrom}
+use Rattle.mq_router.specs.router.Held.{session_in}
 use Rattle.mq_router.proofs.OrderLemmas.{session_total, all-with_row}
 use Rattle.mq_router.proofs.SessionLemmas.{put-is}
 use Rattle.mq_router.proofs.sessions.Sessions.put.Goals as goal

@@ -1,8 +1,8 @@
 use Rattle.std.proofs.Common.{◌∙◌, ap, sym, subst, map, not}
-use Rattle.mq_router.specs.World.{has_id}
-use Rattle.mq_router.specs.Ends.{EndsFrom, AllEndFrom}
+use Rattle.mq_router.specs.definition.World.{has_id}
+use Rattle.mq_router.specs.sessions.Ends.{EndsFrom, AllEndFrom}
 use Rattle.mq_router.proofs.OrderLemmas.{all_filtered}
-use Rattle.mq_router.specs.Held.{session_in}
+use Rattle.mq_router.specs.router.Held.{session_in}
 use Rattle.mq_router.proofs.SessionLemmas.{removed-is}
 use Rattle.mq_router.proofs.sessions.Sessions.remove.Goals as goal
 

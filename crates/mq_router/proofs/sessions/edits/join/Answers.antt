@@ -1,7 +1,7 @@
 use Rattle.std.proofs.Common.{◌∙◌, sym, ap, map, None, []}
-use Rattle.mq_router.specs.World.{Session}
-use Rattle.mq_router.specs.Begun.{queued, edited}
-use Rattle.mq_router.specs.Held.{session_in, shown, waiting_of}
+use Rattle.mq_router.specs.definition.World.{Session}
+use Rattle.mq_router.specs.sessions.Begun.{queued, edited}
+use Rattle.mq_router.specs.router.Held.{session_in, shown, waiting_of}
 use Rattle.mq_router.proofs.SessionLemmas.{edited-is, nobody-edited}
 use Rattle.mq_router.proofs.BegunLemmas.{queued-id}
 use Rattle.mq_router.proofs.sessions.edits.join.Goals as goal

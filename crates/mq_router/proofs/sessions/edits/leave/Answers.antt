@@ -1,8 +1,8 @@
 use Rattle.std.proofs.Common.{ℕ, ◌∙◌, sym, ap, subst, map}
-use Rattle.mq_router.specs.World.{Session, Away}
-use Rattle.mq_router.specs.Sessions.{session_end}
-use Rattle.mq_router.specs.Ends.{AllEndFrom}
-use Rattle.mq_router.specs.Held.{session_in}
+use Rattle.mq_router.specs.definition.World.{Session, Away}
+use Rattle.mq_router.specs.definition.Sessions.{session_end}
+use Rattle.mq_router.specs.sessions.Ends.{AllEndFrom}
+use Rattle.mq_router.specs.router.Held.{session_in}
 use Rattle.mq_router.proofs.SessionLemmas.{finds, edited-is, nobody-edited}
 use Rattle.mq_router.proofs.EndLemmas.{ends-set}
 use Rattle.mq_router.proofs.sessions.edits.leave.Goals as goal

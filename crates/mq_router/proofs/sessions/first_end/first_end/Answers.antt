@@ -1,8 +1,8 @@
 use Rattle.std.proofs.Common.{◌≡◌, sym, subst, map, rules}
 use Rattle.std.specs.Map.Iter.{deref_pair}
 use Rattle.std.proofs.lemmas.Map.Iter.{rest_more, rest_all}
-use Rattle.mq_router.specs.Ends.{AllEndFrom}
-use Rattle.mq_router.specs.Held.{session_in}
+use Rattle.mq_router.specs.sessions.Ends.{AllEndFrom}
+use Rattle.mq_router.specs.router.Held.{session_in}
 use Rattle.mq_router.proofs.sessions.first_end.first_end.Goals as goal
 
 pub loop-session-init : goal.loop-session-init

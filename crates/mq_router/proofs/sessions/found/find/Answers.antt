@@ -1,6 +1,6 @@
 use Rattle.std.proofs.Common.{◌≡◌, Some, None, refl, ◌∙◌, ap}
 use Rattle.std.specs.Option.{option_map, option_copied}
-use Rattle.mq_router.specs.Held.{session_at}
+use Rattle.mq_router.specs.router.Held.{session_at}
 use Rattle.mq_router.proofs.SessionLemmas.{found-is}
 use Rattle.mq_router.proofs.sessions.found.find.Goals as goal
 

@@ -1,6 +1,6 @@
 use Rattle.std.proofs.Common.{length, sym, ap, ◌∙◌}
 use Rattle.mq_tree.specs.Entries.{capped}
-use Rattle.mq_router.specs.Kept.{KeptSubscriptions}
+use Rattle.mq_router.specs.subscriptions.Kept.{KeptSubscriptions}
 use Rattle.mq_router.proofs.CountLemmas.{all-number}
 use Rattle.mq_router.proofs.subscriptions.Subscriptions.len.Goals as goal
 

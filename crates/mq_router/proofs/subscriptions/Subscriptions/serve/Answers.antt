@@ -1,6 +1,6 @@
 use Rattle.std.proofs.Common.{Some}
-use Rattle.mq_router.specs.World.{Subscription}
-use Rattle.mq_router.specs.KeptViews.{texts}
+use Rattle.mq_router.specs.definition.World.{Subscription}
+use Rattle.mq_router.specs.subscriptions.KeptViews.{texts}
 use Rattle.mq_router.proofs.AtLemmas.{nothing}
 use Rattle.mq_router.proofs.AnyLemmas.{listed-turned}
 use Rattle.mq_router.proofs.FiledLemmas.{kept-keys}

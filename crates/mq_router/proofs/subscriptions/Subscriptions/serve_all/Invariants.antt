@@ -1,8 +1,8 @@
 use Rattle.std.proofs.Common.{map, drop}
-use Rattle.mq_router.specs.Turns.{SameInTurn}
-use Rattle.mq_router.specs.Applied.{all_turned}
-use Rattle.mq_router.specs.Kept.{AreKeys}
-use Rattle.mq_router.specs.Held.{turn_of}
+use Rattle.mq_router.specs.definition.Turns.{SameInTurn}
+use Rattle.mq_router.specs.router.Applied.{all_turned}
+use Rattle.mq_router.specs.subscriptions.Kept.{AreKeys}
+use Rattle.mq_router.specs.router.Held.{turn_of}
 use Rattle.mq_router.proofs.subscriptions.Subscriptions.serve_all.Given as goal
 
 abbrev pub invariant-loop-turn : goal.invariant-loop-turn

@@ -1,7 +1,7 @@
 use Rattle.std.proofs.Common.{◌∙◌, ap}
-use Rattle.mq_router.specs.Kept.{has_client, is_empty}
+use Rattle.mq_router.specs.subscriptions.Kept.{has_client, is_empty}
 use Rattle.std.specs.Rc.{rc_str_bytes}
-use Rattle.mq_router.specs.Applied.{with_one}
+use Rattle.mq_router.specs.router.Applied.{with_one}
 use Rattle.mq_router.proofs.AtLemmas.{group-added, added-live, with_one-live}
 use Rattle.mq_router.proofs.subscriptions.filter_entry.add_group.Goals as goal
 

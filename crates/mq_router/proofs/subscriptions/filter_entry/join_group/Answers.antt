@@ -4,14 +4,14 @@ use Rattle.std.specs.Rc.{rc_str_bytes}
 use Rattle.std.specs.Result.{OnOk}
 use Rattle.std.specs.Map.{set_value, lookup}
 use Rattle.std.specs.Option.{option_copied_mut}
-use Rattle.mq_router.specs.Keys.{Key}
-use Rattle.mq_router.specs.Lists.{Text}
-use Rattle.mq_router.specs.Turns.{SameInTurn}
-use Rattle.mq_router.specs.Applied.{joined}
+use Rattle.mq_router.specs.definition.Keys.{Key}
+use Rattle.mq_router.specs.definition.Lists.{Text}
+use Rattle.mq_router.specs.definition.Turns.{SameInTurn}
+use Rattle.mq_router.specs.router.Applied.{joined}
 use Rattle.mq_router.proofs.SessionLemmas.{finds}
 use Rattle.mq_router.proofs.ListLemmas.{on_err}
-use Rattle.mq_router.specs.Kept.{Member, row, NoneEmpty, is_text, group_rows, has_client, is_empty}
-use Rattle.mq_router.specs.KeptViews.{texts}
+use Rattle.mq_router.specs.subscriptions.Kept.{Member, row, NoneEmpty, is_text, group_rows, has_client, is_empty}
+use Rattle.mq_router.specs.subscriptions.KeptViews.{texts}
 use Rattle.mq_router.proofs.AtLemmas.{group-joined, group-live, with_one-live}
 use Rattle.mq_router.proofs.Splits.{set_same}
 use Rattle.mq_router.proofs.TextMaps.{lookup-texts}

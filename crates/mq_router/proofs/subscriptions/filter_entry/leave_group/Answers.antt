@@ -1,7 +1,7 @@
 use Rattle.std.proofs.Common.{◌∙◌, sym, ap}
 use Rattle.std.specs.Option.{option_copied_mut}
-use Rattle.mq_router.specs.Kept.{group_rows}
-use Rattle.mq_router.specs.KeptViews.{texts}
+use Rattle.mq_router.specs.subscriptions.Kept.{group_rows}
+use Rattle.mq_router.specs.subscriptions.KeptViews.{texts}
 use Rattle.mq_router.proofs.AtLemmas.{group-left, group-gone, gone-live, group-live, group-absent_left}
 use Rattle.mq_router.proofs.subscriptions.filter_entry.leave_group.Goals as goal
 

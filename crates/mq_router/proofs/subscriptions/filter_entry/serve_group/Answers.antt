@@ -1,7 +1,7 @@
 use Rattle.std.proofs.Common.{◌∙◌, sym, ap}
 use Rattle.std.specs.Option.{option_copied_mut}
-use Rattle.mq_router.specs.Kept.{group_rows, has_client, is_empty}
-use Rattle.mq_router.specs.KeptViews.{texts}
+use Rattle.mq_router.specs.subscriptions.Kept.{group_rows, has_client, is_empty}
+use Rattle.mq_router.specs.subscriptions.KeptViews.{texts}
 use Rattle.mq_router.proofs.InTurn.{same-is, same-then}
 use Rattle.mq_router.proofs.AtLemmas.{group-turned, group-live, group-absent_turned, put_last-live, found_live}
 use Rattle.mq_router.proofs.subscriptions.filter_entry.serve_group.Goals as goal

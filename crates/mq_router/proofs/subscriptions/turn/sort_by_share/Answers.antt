@@ -3,7 +3,7 @@ use Rattle.std.specs.Cmp.Lexicographic.{nat_list_cmp_total}
 use Rattle.std.specs.Rc.{rc_str_bytes}
 use Rattle.std.proofs.lemmas.Result.{on_ok_weaker}
 use Rattle.std.proofs.lemmas.List.Sorted.{ranks_by, answers_always}
-use Rattle.mq_router.specs.Held.{turn_of}
+use Rattle.mq_router.specs.router.Held.{turn_of}
 use Rattle.mq_router.proofs.AscendingLemmas.{ascending-sorted, stable-kept}
 use Rattle.mq_router.proofs.subscriptions.turn.sort_by_share.Goals as goal
 

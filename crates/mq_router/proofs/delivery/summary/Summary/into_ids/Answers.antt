@@ -1,6 +1,6 @@
 use Rattle.std.proofs.Common.{◌∙◌, ap}
-use Rattle.mq_router.specs.Lists.{ascending}
-use Rattle.mq_router.specs.Summaries.{Summary}
+use Rattle.mq_router.specs.definition.Lists.{ascending}
+use Rattle.mq_router.specs.delivery.Summaries.{Summary}
 use Rattle.mq_router.proofs.CopyLemmas.{sorted-is}
 use Rattle.mq_router.proofs.delivery.summary.Summary.into_ids.Goals as goal
 

@@ -4,7 +4,7 @@ use Rattle.std.specs.BTreeMap.{insert_entry}
 use Rattle.std.specs.Map.{lookup}
 use Rattle.mq_topic.specs.Levels.{levels, level_order}
 use Rattle.mq_tree.specs.Entries.{Entries, is_key}
-use Rattle.mq_router.specs.Stored.{AreCounted}
+use Rattle.mq_router.specs.retained.Stored.{AreCounted}
 use Rattle.mq_router.proofs.MessageCounts.{put-new, put-again}
 use Rattle.mq_router.specs.declared.retained.stored.Stored.{Stored}
 use Rattle.mq_router.proofs.retained.messages.Messages.put.Goals as goal

@@ -3,7 +3,7 @@ use Rattle.std.specs.Prelude.{is_some}
 use Rattle.std.specs.Map.{lookup}
 use Rattle.mq_topic.specs.Levels.{levels}
 use Rattle.mq_tree.specs.Entries.{Entries, is_key, capped, AreInOrder}
-use Rattle.mq_router.specs.Stored.{AreCounted}
+use Rattle.mq_router.specs.retained.Stored.{AreCounted}
 use Rattle.mq_router.proofs.MessageCounts.{taken-fewer, none-taken}
 use Rattle.mq_router.proofs.RetainedLemmas.{take-ordered}
 use Rattle.mq_router.specs.declared.retained.stored.Stored.{Stored}

@@ -1,5 +1,5 @@
 use Rattle.std.proofs.Common.{◌∙◌, ◌||◌, ap, List, map}
-use Rattle.mq_router.specs.Kept.{OwnKey, wanted_key, shared_key, is_own, is_in_list}
+use Rattle.mq_router.specs.subscriptions.Kept.{OwnKey, wanted_key, shared_key, is_own, is_in_list}
 use Rattle.mq_router.proofs.OwnLemmas.{own-insert}
 use Rattle.mq_router.proofs.subscriptions.client_filters.Own.add.Goals as goal
 

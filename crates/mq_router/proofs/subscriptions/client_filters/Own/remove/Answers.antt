@@ -1,5 +1,5 @@
 use Rattle.std.proofs.Common.{◌∙◌, ◌&&◌, ap, not, List, map}
-use Rattle.mq_router.specs.Kept.{OwnKey, shared_key, is_own, is_in_list}
+use Rattle.mq_router.specs.subscriptions.Kept.{OwnKey, shared_key, is_own, is_in_list}
 use Rattle.mq_router.proofs.OwnLemmas.{own-remove}
 use Rattle.mq_router.proofs.subscriptions.client_filters.Own.remove.Goals as goal
 

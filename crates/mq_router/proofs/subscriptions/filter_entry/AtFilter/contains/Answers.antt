@@ -1,9 +1,9 @@
 use Rattle.std.proofs.Common.{◌≡◌, ◌∙◌, subst}
 use Rattle.std.specs.Option.{option_copied}
 use Rattle.std.specs.List.{list_any}
-use Rattle.mq_router.specs.World.{has_key}
-use Rattle.mq_router.specs.Kept.{At}
-use Rattle.mq_router.specs.KeptViews.{texts}
+use Rattle.mq_router.specs.definition.World.{has_key}
+use Rattle.mq_router.specs.subscriptions.Kept.{At}
+use Rattle.mq_router.specs.subscriptions.KeptViews.{texts}
 use Rattle.mq_router.proofs.AtLemmas.{at-any-own, at-any-shared}
 use Rattle.mq_router.proofs.subscriptions.filter_entry.AtFilter.contains.Goals as goal
 

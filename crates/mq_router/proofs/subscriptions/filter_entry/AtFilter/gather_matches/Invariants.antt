@@ -1,9 +1,9 @@
 use Rattle.std.proofs.Common.{◌≡◌, ◌++◌, []}
-use Rattle.mq_router.specs.Kept.{direct_rows}
-use Rattle.mq_router.specs.KeptViews.{texts}
-use Rattle.mq_router.specs.Gathers.{matched}
-use Rattle.mq_router.specs.Held.{message_of}
-use Rattle.mq_router.specs.Made.{own_matches}
+use Rattle.mq_router.specs.subscriptions.Kept.{direct_rows}
+use Rattle.mq_router.specs.subscriptions.KeptViews.{texts}
+use Rattle.mq_router.specs.delivery.Gathers.{matched}
+use Rattle.mq_router.specs.router.Held.{message_of}
+use Rattle.mq_router.specs.delivery.Made.{own_matches}
 use Rattle.mq_router.proofs.subscriptions.filter_entry.AtFilter.gather_matches.Given as goal
 
 abbrev pub invariant-loop-client : goal.invariant-loop-client

@@ -3,13 +3,13 @@ use Rattle.std.specs.Map.Iter.{deref_pair}
 use Rattle.std.specs.Rc.{rc_str_bytes}
 use Rattle.std.specs.Option.{option_map}
 use Rattle.std.proofs.lemmas.Map.Iter.{rest_more}
-use Rattle.mq_router.specs.Lists.{Text}
-use Rattle.mq_router.specs.World.{Subscription}
-use Rattle.mq_router.specs.Applied.{next_in}
-use Rattle.mq_router.specs.Kept.{At, row}
-use Rattle.mq_router.specs.KeptViews.{texts}
-use Rattle.mq_router.specs.Gathers.{turns_listed}
-use Rattle.mq_router.specs.Made.{turns_of}
+use Rattle.mq_router.specs.definition.Lists.{Text}
+use Rattle.mq_router.specs.definition.World.{Subscription}
+use Rattle.mq_router.specs.router.Applied.{next_in}
+use Rattle.mq_router.specs.subscriptions.Kept.{At, row}
+use Rattle.mq_router.specs.subscriptions.KeptViews.{texts}
+use Rattle.mq_router.specs.delivery.Gathers.{turns_listed}
+use Rattle.mq_router.specs.delivery.Made.{turns_of}
 use Rattle.mq_router.proofs.TextMaps.{ordered-texts}
 use Rattle.mq_router.proofs.TurnsAtLemmas.{turns_left, turns-at, turns-more, same_turn}
 use Rattle.mq_router.proofs.subscriptions.filter_entry.AtFilter.gather_turns.Goals as goal

@@ -1,9 +1,9 @@
 use Rattle.std.proofs.Common.{◌≡◌, ◌++◌}
-use Rattle.mq_router.specs.Lists.{Text}
-use Rattle.mq_router.specs.Applied.{next_in}
-use Rattle.mq_router.specs.KeptViews.{texts}
-use Rattle.mq_router.specs.Gathers.{turns_listed}
-use Rattle.mq_router.specs.Made.{turns_of}
+use Rattle.mq_router.specs.definition.Lists.{Text}
+use Rattle.mq_router.specs.router.Applied.{next_in}
+use Rattle.mq_router.specs.subscriptions.KeptViews.{texts}
+use Rattle.mq_router.specs.delivery.Gathers.{turns_listed}
+use Rattle.mq_router.specs.delivery.Made.{turns_of}
 use Rattle.mq_router.proofs.TurnsAtLemmas.{turns_left}
 use Rattle.mq_router.proofs.subscriptions.filter_entry.AtFilter.gather_turns.Given as goal
 

@@ -1,6 +1,6 @@
 use Rattle.std.proofs.Common.{◌≡◌, ◌∙◌, sym, subst, true≢false}
-use Rattle.mq_router.specs.Kept.{At, is_empty}
-use Rattle.mq_router.specs.KeptViews.{texts}
+use Rattle.mq_router.specs.subscriptions.Kept.{At, is_empty}
+use Rattle.mq_router.specs.subscriptions.KeptViews.{texts}
 use Rattle.mq_router.proofs.AtLemmas.{bare-is, not_bare}
 use Rattle.mq_router.proofs.subscriptions.filter_entry.AtFilter.is_bare.Goals as goal
 

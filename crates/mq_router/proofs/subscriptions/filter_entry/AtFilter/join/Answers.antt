@@ -3,11 +3,11 @@ use Rattle.std.specs.Option.{option_copied}
 use Rattle.std.specs.Rc.{rc_str_bytes}
 use Rattle.std.specs.Result.{OnOk}
 use Rattle.std.proofs.lemmas.Result.{on_ok_weaker}
-use Rattle.mq_router.specs.World.{Subscription}
-use Rattle.mq_router.specs.Turns.{SameInTurn}
-use Rattle.mq_router.specs.Applied.{joined}
-use Rattle.mq_router.specs.Kept.{At, row, direct_rows, group_rows}
-use Rattle.mq_router.specs.KeptViews.{texts}
+use Rattle.mq_router.specs.definition.World.{Subscription}
+use Rattle.mq_router.specs.definition.Turns.{SameInTurn}
+use Rattle.mq_router.specs.router.Applied.{joined}
+use Rattle.mq_router.specs.subscriptions.Kept.{At, row, direct_rows, group_rows}
+use Rattle.mq_router.specs.subscriptions.KeptViews.{texts}
 use Rattle.mq_router.proofs.AtLemmas.{at-joined-own, at-joined-shared, here-is}
 use Rattle.mq_router.proofs.subscriptions.filter_entry.AtFilter.join.Goals as goal
 

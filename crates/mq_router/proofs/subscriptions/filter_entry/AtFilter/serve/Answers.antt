@@ -1,9 +1,9 @@
 use Rattle.std.proofs.Common.{◌++◌, subst, Some, List}
-use Rattle.mq_router.specs.World.{Subscription, has_key}
-use Rattle.mq_router.specs.Turns.{SameInTurn}
-use Rattle.mq_router.specs.Applied.{put_last}
-use Rattle.mq_router.specs.Kept.{At, direct_rows, group_rows}
-use Rattle.mq_router.specs.KeptViews.{texts}
+use Rattle.mq_router.specs.definition.World.{Subscription, has_key}
+use Rattle.mq_router.specs.definition.Turns.{SameInTurn}
+use Rattle.mq_router.specs.router.Applied.{put_last}
+use Rattle.mq_router.specs.subscriptions.Kept.{At, direct_rows, group_rows}
+use Rattle.mq_router.specs.subscriptions.KeptViews.{texts}
 use Rattle.mq_router.proofs.AtLemmas.{at-turned, here-is}
 use Rattle.mq_router.proofs.subscriptions.filter_entry.AtFilter.serve.Goals as goal
 

@@ -1,7 +1,7 @@
 use Rattle.std.proofs.Common.{◌≡◌, ◌+◌, length, sym, ap, ◌∙◌, arith}
 use Rattle.std.specs.List.{sum_by}
 use Rattle.std.specs.Map.{values_of}
-use Rattle.mq_router.specs.Kept.{At}
+use Rattle.mq_router.specs.subscriptions.Kept.{At}
 use Rattle.mq_router.proofs.CountLemmas.{at-number}
 use Rattle.mq_router.proofs.subscriptions.filter_entry.AtFilterCounted.count.Goals as goal
 

@@ -1,6 +1,6 @@
 use Rattle.std.proofs.Common.{◌∙◌, ap}
 use Rattle.std.specs.List.{list_any}
-use Rattle.mq_router.specs.Kept.{has_client}
+use Rattle.mq_router.specs.subscriptions.Kept.{has_client}
 use Rattle.mq_router.proofs.Members.{contains-texts}
 use Rattle.mq_router.proofs.subscriptions.group.Group.contains.Goals as goal
 

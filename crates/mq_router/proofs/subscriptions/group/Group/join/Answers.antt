@@ -1,8 +1,8 @@
 use Rattle.std.proofs.Common.{◌∙◌, ap}
-use Rattle.mq_router.specs.Kept.{has_client}
+use Rattle.mq_router.specs.subscriptions.Kept.{has_client}
 use Rattle.std.specs.Rc.{rc_str_bytes}
-use Rattle.mq_router.specs.KeptViews.{texts}
-use Rattle.mq_router.specs.Applied.{with_one}
+use Rattle.mq_router.specs.subscriptions.KeptViews.{texts}
+use Rattle.mq_router.specs.router.Applied.{with_one}
 use Rattle.mq_router.proofs.Members.{joined-texts}
 use Rattle.mq_router.proofs.subscriptions.group.Group.join.Goals as goal
 

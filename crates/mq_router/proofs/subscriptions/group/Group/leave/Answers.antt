@@ -1,7 +1,7 @@
 use Rattle.std.proofs.Common.{◌∙◌, ap, not}
 use Rattle.std.specs.List.{filter}
-use Rattle.mq_router.specs.Kept.{has_client}
-use Rattle.mq_router.specs.KeptViews.{texts}
+use Rattle.mq_router.specs.subscriptions.Kept.{has_client}
+use Rattle.mq_router.specs.subscriptions.KeptViews.{texts}
 use Rattle.mq_router.proofs.Members.{removed-texts}
 use Rattle.mq_router.proofs.subscriptions.group.Group.leave.Goals as goal
 

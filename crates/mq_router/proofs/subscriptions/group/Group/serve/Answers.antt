@@ -1,7 +1,7 @@
 use Rattle.std.proofs.Common.{◌∙◌, ap, sym}
-use Rattle.mq_router.specs.Kept.{has_client}
-use Rattle.mq_router.specs.KeptViews.{texts}
-use Rattle.mq_router.specs.Applied.{put_last}
+use Rattle.mq_router.specs.subscriptions.Kept.{has_client}
+use Rattle.mq_router.specs.subscriptions.KeptViews.{texts}
+use Rattle.mq_router.specs.router.Applied.{put_last}
 use Rattle.mq_router.proofs.Members.{turned-texts, turned-none}
 use Rattle.mq_router.proofs.subscriptions.group.Group.serve.Goals as goal
 

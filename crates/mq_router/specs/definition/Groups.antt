@@ -1,0 +1,40 @@
+-- Which member of each group a publish serves (MQTT 5.0, section 4.8.2; that members take turns is our own).
+use Rattle.std.specs.Prelude.{ℕ, Bool, List, [], ◌∷◌, nat_le, map, Option, if◌then◌else◌}
+use Rattle.std.specs.List.{filter, filter_map, find, list_all, list_any}
+use Rattle.mq_router.specs.definition.Lists.{Text, in_order}
+use Rattle.mq_router.specs.definition.World.{World, Row, Group, Message, Copy, group_cmp, group_of, rows_in, same_key}
+use Rattle.mq_router.specs.definition.Sessions.{can_be_served}
+use Rattle.mq_router.specs.definition.Copies.{filter_matches, copy_by}
+
+-- the groups, by share name and then by filter
+unfoldable pub groups_of : List Row → List Group
+groups_of rows = in_order group_cmp (filter_map (λ row. group_of row.subscription) rows)
+
+-- the row with the least stamp
+abbrev pub least_stamped : List Row → Option Row
+least_stamped rows = find (λ row. list_all (λ other. nat_le row.stamp other.stamp) rows) rows
+
+-- the member that joined or was served longest ago, among those that can be served
+abbrev pub turn_of : (Text → Bool) → List Row → Group → Option Row
+turn_of can rows group = least_stamped (filter (λ row. can row.subscription.client) (rows_in group rows))
+
+-- the members that are served: one of each group whose filter matches the topic, if any can be
+unfoldable pub served : (Text → Bool) → List Row → Text → List Row
+served can rows topic =
+    filter_map (turn_of can rows) (filter (λ group. filter_matches group.filter topic) (groups_of rows))
+
+-- the members that a publish serves
+abbrev pub served_by : World → Message → List Row
+served_by w m = served (can_be_served w m.topic) w.rows m.topic
+
+-- the copy for a member by its own subscription
+abbrev pub group_copy : Message → Row → Copy
+group_copy m row = copy_by row.subscription.client (group_of row.subscription) m (row.subscription.options ∷ [])
+
+abbrev pub group_copies : World → Message → List Copy
+group_copies w m = map (group_copy m) (served_by w m)
+
+-- a member that was served stands last in its group
+abbrev pub restamped : ℕ → List Row → Row → Row
+restamped stamp served row =
+    if list_any (λ other. same_key other.subscription row.subscription) served then record row { stamp = stamp } else row

@@ -1,0 +1,4 @@
+-- The proof's words for the copies of a message.
+pub mod Summaries
+pub mod Made
+pub mod Gathers

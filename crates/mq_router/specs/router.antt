@@ -1,0 +1,3 @@
+-- The proof's words for the router.
+pub mod Applied
+pub mod Held

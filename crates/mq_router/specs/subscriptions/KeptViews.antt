@@ -1,0 +1,24 @@
+-- What the router's own values at one filter show.
+use Rattle.std.specs.Prelude.{List, map, ◌++◌}
+use Rattle.std.specs.Rc.{rc_str_bytes}
+use Rattle.mq_router.specs.definition.Keys.{Key}
+use Rattle.mq_router.specs.definition.Lists.{Text}
+use Rattle.mq_router.specs.subscriptions.Kept.{Member, At, direct_rows, group_rows, NoneEmpty}
+use Rattle.mq_router.specs.declared.subscriptions.group.Group.TheInside as in_group
+use Rattle.mq_router.specs.declared.subscriptions.filter_entry.AtFilter.TheInside as in_at
+
+-- the entries of a map from texts
+abbrev pub texts : {X : Type 0} → List (Key × X) → List (Text × X)
+texts es = map (λ e. (rc_str_bytes e.0, e.1)) es
+
+abbrev pub members_of : in_group.Inside → List Member
+members_of inside = texts inside.members.entries
+
+abbrev pub at_of : in_at.Inside → At
+at_of inside = record {
+  filter = inside.filter.value;
+  rows = direct_rows inside.filter.value (texts inside.direct.entries) ++ group_rows inside.filter.value (texts inside.groups.entries);
+}
+
+abbrev pub GroupsLive : in_at.Inside → Type 0
+GroupsLive inside = NoneEmpty (texts inside.groups.entries)
