@@ -1,7 +1,7 @@
 -- Of copies that differ in their clients alone, the second one's line is the first one's with another client.
 use Rattle.std.proofs.Common.{◌≡◌, ℕ, List, [], ◌∷◌, Bool, Option, Some, None, IfSome, codes, refl, ap, ◌∙◌, subst}
 use Rattle.serde_json.specs.Data.{string, Members, put}
-use Rattle.mq_router.specs.definition.World.{Copy, Group}
+use Rattle.mq_world.specs.World.{Copy, Group}
 use Rattle.mq_cli.specs.Printed.{copy_members}
 use Rattle.mq_cli.specs.Behind.{with_client, IsAlike, IsBehind, held_for, Keeps, Follows}
 use Rattle.mq_cli.specs.declared.lines.object.Object.{Object}

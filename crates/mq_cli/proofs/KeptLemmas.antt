@@ -3,8 +3,8 @@ use Rattle.std.proofs.Common.{◌≡◌, ℕ, List, [], ◌∷◌, Bool, Option,
 use Rattle.std.proofs.lemmas.Bool.Decides.{Decides-eqb}
 use Rattle.std.proofs.lemmas.Result.{on_ok_weaker}
 use Rattle.serde_json.specs.Data.{Data, null, string, boolean, array, Members, no_members, member, put}
-use Rattle.mq_router.specs.definition.World.{Copy, Group}
-use Rattle.mq_router.specs.declared.answer.Outcome.TheVariants.{Reason}
+use Rattle.mq_world.specs.World.{Copy, Group}
+use Rattle.mq_world.specs.declared.answer.Outcome.TheVariants.{Reason}
 use Rattle.mq_cli.specs.Printed.{put_if, whole_data, numbers_data, text_if, whole_if, numbers_if, Report, copy_members, closing_members, report_members}
 use Rattle.mq_cli.specs.Kept.{names_of, values_of, IsFor, parts_of, copy_names, reason_names, report_names}
 use Rattle.std.specs.Option.{option_map}

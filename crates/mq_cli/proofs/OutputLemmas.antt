@@ -4,8 +4,8 @@ use Rattle.std.specs.List.{filter_map, cons_option}
 use Rattle.std.proofs.lemmas.Bool.{cases_lt, lt-ltb}
 use Rattle.std.proofs.lemmas.List.{take_all}
 use Rattle.std.proofs.lemmas.List.Elements.{filter_map-append}
-use Rattle.mq_router.specs.definition.World.{World, Request}
-use Rattle.mq_router.specs.definition.After.{next, replay}
+use Rattle.mq_world.specs.World.{World, Request}
+use Rattle.mq_world.specs.After.{next, replay}
 use Rattle.mq_cli.specs.Reading.{reading, line_limit}
 use Rattle.mq_cli.specs.Output.{command_in, world_after, text_of, is_refused, text_from, refused_from}
 use Rattle.mq_cli.specs.Running.{kept, next_or, world_then}

@@ -3,7 +3,7 @@ use Rattle.std.proofs.Common.{◌≡◌, ◌∙◌, [], ℕ, List, Option, Some,
 use Rattle.std.specs.Prelude.{IfOk, option_map}
 use Rattle.clap.specs.Words.{Kinds, IsAmong}
 use Rattle.clap.specs.declared.error.ErrorKind.TheVariants.{DisplayHelp}
-use Rattle.mq_router.specs.definition.World.{World, Limits, fresh_world, empty_world, within}
+use Rattle.mq_world.specs.World.{World, Limits, fresh_world, empty_world, within}
 use Rattle.mq_cli.specs.declared.command_line.UsageFault.{UsageFault}
 use Rattle.mq_cli.specs.declared.command_line.UsageFault.TheVariants.{Help, Usage, Memory}
 use Rattle.mq_cli.specs.declared.program.Failure.{Failure}

@@ -5,8 +5,8 @@ use Rattle.std.proofs.lemmas.List.{take_all, take-append-le}
 use Rattle.std.proofs.KnownBytes.{Appends-trans, Appends-nil}
 use Rattle.std.proofs.Math.Seq.{take-append-add}
 use Rattle.std.specs.Io.KnownBytes.{Appends, IsAtEnd}
-use Rattle.mq_router.specs.definition.World.{World}
-use Rattle.mq_router.specs.definition.StandsFor.{State, StandsFor}
+use Rattle.mq_world.specs.World.{World}
+use Rattle.mq_router.specs.StandsFor.{State, StandsFor}
 use Rattle.mq_cli.specs.declared.script.outcome.RunFault.{RunFault}
 use Rattle.mq_cli.specs.declared.script.outcome.RunFault.TheVariants as fault
 use Rattle.mq_cli.specs.declared.script.progress.Progress.{Progress}

@@ -4,7 +4,7 @@ use Rattle.std.specs.Prelude.{Result, Ok, Err, codes}
 use Rattle.serde_json.specs.Data.{Data, object, Members}
 use Rattle.serde_json.specs.Find.{get}
 use Rattle.mq_cli.specs.Kept.{names_of}
-use Rattle.mq_router.specs.definition.World.{Request, Connect, Disconnect, Subscribe, Unsubscribe, Publish, SetAcl, Advance, Stat}
+use Rattle.mq_world.specs.World.{Request, Connect, Disconnect, Subscribe, Unsubscribe, Publish, SetAcl, Advance, Stat}
 use Rattle.mq_cli.specs.Fields.{◌>>=◌, text, flag, unsigned, whole, of_kind, optional, required, defaulted, or_fault}
 use Rattle.mq_cli.specs.Reading.{connect_names, connect_fields, disconnect_fields, subscribe_names, subscribe_fields, unsubscribe_fields, publish_names, publish_fields, acl_fields, advance_fields, stat_fields}
 use Rattle.mq_cli.specs.Ahead.{Ascends, ahead, end}

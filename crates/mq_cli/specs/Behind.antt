@@ -2,7 +2,7 @@
 use Rattle.std.specs.Prelude.{◌≡◌, ℕ, List, Bool, true, false, Option, Some, None, IfSome, is_some, codes}
 use Rattle.serde_json.specs.Data.{string, Members, put}
 use Rattle.serde_json.specs.View.{members_view}
-use Rattle.mq_router.specs.definition.World.{Copy}
+use Rattle.mq_world.specs.World.{Copy}
 use Rattle.mq_cli.specs.Printed.{numbers_if, copy_members}
 use Rattle.mq_cli.specs.declared.lines.object.Object.{Object}
 

@@ -1,7 +1,7 @@
 -- How a run ends.
 use Rattle.std.specs.Prelude.{◌≡◌, ◌≤◌, ◌<◌, ◌⊎◌, ℕ, ◌+◌, List, ◌++◌, length, take, Option, Result, Ok, Err}
 use Rattle.std.specs.Io.KnownBytes.{Appends, Consumes, IsAtEnd}
-use Rattle.mq_router.specs.definition.World.{World}
+use Rattle.mq_world.specs.World.{World}
 use Rattle.mq_cli.specs.declared.script.outcome.Summary.{Summary}
 use Rattle.mq_cli.specs.declared.script.outcome.RunFault.{RunFault}
 use Rattle.mq_cli.specs.declared.script.outcome.RunFault.TheVariants as fault

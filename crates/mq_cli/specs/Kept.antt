@@ -1,7 +1,7 @@
 -- The names of an object that is printed again and again, and the data that are written over its values.
 use Rattle.std.specs.Prelude.{◌≡◌, ◌≢◌, ℕ, List, [], ◌∷◌, Bool, true, false, is_some, codes}
 use Rattle.serde_json.specs.Data.{Data, string, boolean, array, Members, no_members, member}
-use Rattle.mq_router.specs.definition.World.{Copy}
+use Rattle.mq_world.specs.World.{Copy}
 use Rattle.mq_cli.specs.Printed.{whole_data, numbers_data, numbers_if}
 use Rattle.mq_cli.specs.declared.lines.datum.Datum.{Datum}
 use Rattle.mq_cli.specs.declared.lines.datum.Datum.TheVariants.{Text, Number, Flag, Numbers}

@@ -1,11 +1,11 @@
 -- What a script writes.
 use Rattle.std.specs.Prelude.{◌≡◌, ℕ, ◌+◌, List, [], ◌∷◌, ◌++◌, ◌==◌, length, Bool, true, false, if◌then◌else◌, Option, Some, None, Result, Ok, Err, is_some, unwrap_or}
 use Rattle.std.specs.List.{slice_split, filter_map, last_or}
-use Rattle.mq_router.specs.definition.World.{World, Request}
-use Rattle.mq_router.specs.definition.Refusals.{refusal}
-use Rattle.mq_router.specs.definition.Answers.{answer}
-use Rattle.mq_router.specs.definition.After.{replay}
-use Rattle.mq_router.specs.declared.refusal.Refusal.{Refusal}
+use Rattle.mq_world.specs.World.{World, Request}
+use Rattle.mq_world.specs.Refusals.{refusal}
+use Rattle.mq_world.specs.Answers.{answer}
+use Rattle.mq_world.specs.After.{replay}
+use Rattle.mq_world.specs.declared.refusal.Refusal.{Refusal}
 use Rattle.mq_cli.specs.declared.lines.fault.LineFault.{LineFault}
 use Rattle.mq_cli.specs.declared.script.outcome.Summary.{Summary}
 use Rattle.mq_cli.specs.Reading.{reading}

@@ -5,11 +5,11 @@ use Rattle.std.specs.List.{flat_map}
 use Rattle.serde_json.specs.Data.{Data, boolean, number, unsigned, string, array, object, Items, Members, no_members, put}
 use Rattle.serde_json.specs.View.{items_of}
 use Rattle.serde_json.specs.Written.{compact_text}
-use Rattle.mq_router.specs.definition.World.{Copy, Reply}
-use Rattle.mq_router.specs.declared.answer.Outcome.{Outcome}
-use Rattle.mq_router.specs.declared.answer.Outcome.TheVariants.{Reason, Counts}
-use Rattle.mq_router.specs.declared.refusal.Refusal.{Refusal}
-use Rattle.mq_router.specs.declared.refusal.Refusal.TheVariants as refused
+use Rattle.mq_world.specs.World.{Copy, Reply}
+use Rattle.mq_world.specs.declared.answer.Outcome.{Outcome}
+use Rattle.mq_world.specs.declared.answer.Outcome.TheVariants.{Reason, Counts}
+use Rattle.mq_world.specs.declared.refusal.Refusal.{Refusal}
+use Rattle.mq_world.specs.declared.refusal.Refusal.TheVariants as refused
 use Rattle.mq_cli.specs.declared.lines.fault.LineFault.{LineFault}
 use Rattle.mq_cli.specs.declared.lines.fault.LineFault.TheVariants as fault
 use Rattle.mq_cli.specs.declared.lines.report.Reported.{Reported}

@@ -2,7 +2,7 @@
 use Rattle.std.specs.Prelude.{◌≡◌, ℕ, ◌==◌, List, [], ◌++◌, if◌then◌else◌, Option, Some, None, Ok, unwrap_or, codes, ⊤}
 use Rattle.std.specs.Str.{bytes_eq}
 use Rattle.mq_acl.specs.Rows.{AclRow}
-use Rattle.mq_router.specs.definition.World.{World, Limits, default_limits, fresh_world, within}
+use Rattle.mq_world.specs.World.{World, Limits, default_limits, fresh_world, within}
 use Rattle.mq_cli.specs.CommandLine.{number_given}
 use Rattle.mq_cli.specs.declared.script.outcome.Summary.{Summary}
 use Rattle.mq_cli.specs.Output.{all_lines, refused_from, output, Summarizes}

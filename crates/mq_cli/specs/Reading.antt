@@ -5,7 +5,7 @@ use Rattle.std.specs.Str.{bytes_eq, is_utf8}
 use Rattle.serde_json.specs.Data.{Data}
 use Rattle.serde_json.specs.Find.{get, as_str}
 use Rattle.serde_json.specs.Read.{read}
-use Rattle.mq_router.specs.definition.World.{Request, Connect, Disconnect, Subscribe, Unsubscribe, Publish, SetAcl, Advance, Stat}
+use Rattle.mq_world.specs.World.{Request, Connect, Disconnect, Subscribe, Unsubscribe, Publish, SetAcl, Advance, Stat}
 use Rattle.mq_cli.specs.Fields.{◌>>=◌, text, flag, unsigned, whole, optional, required, defaulted, has_only, or_fault}
 use Rattle.mq_cli.specs.declared.lines.fault.LineFault.{LineFault}
 use Rattle.mq_cli.specs.declared.lines.fault.LineFault.TheVariants.{LineTooLong, BadJson, BadCommand, BadField}

@@ -1,9 +1,9 @@
 -- A run on its way: what is answered so far, and what is kept of the line that has not ended.
 use Rattle.std.specs.Prelude.{◌≡◌, ◌≤◌, ℕ, ◌+◌, List, [], ◌++◌, length, take, if◌then◌else◌, Bool, Option, Some, None, Result, Ok, Err, MatchResult}
 use Rattle.std.specs.Io.KnownBytes.{Appends, IsAtEnd}
-use Rattle.mq_router.specs.definition.World.{World, Request}
-use Rattle.mq_router.specs.definition.After.{next}
-use Rattle.mq_router.specs.definition.StandsFor.{State, StandsFor}
+use Rattle.mq_world.specs.World.{World, Request}
+use Rattle.mq_world.specs.After.{next}
+use Rattle.mq_router.specs.StandsFor.{State, StandsFor}
 use Rattle.mq_cli.specs.declared.script.outcome.RunFault.{RunFault}
 use Rattle.mq_cli.specs.declared.script.outcome.RunFault.TheVariants as fault
 use Rattle.mq_cli.specs.declared.script.progress.Progress.{Progress}

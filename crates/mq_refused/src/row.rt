@@ -1,7 +1,7 @@
 //! A worked row: a script, with what must be written for it.
 ghost use Rattle.std.specs.Prelude.{IsTrue, OnSome};
-ghost use Rattle.mq_router.specs.definition.Refusals.{is_valid};
-ghost use Rattle.mq_router.specs.definition.Views.{request_of};
+ghost use Rattle.mq_world.specs.Refusals.{is_valid};
+ghost use Rattle.mq_world.specs.Views.{request_of};
 
 use crate::reply::Reply;
 use mq_acl::Acl;

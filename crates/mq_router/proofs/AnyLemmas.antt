@@ -2,10 +2,10 @@
 use Rattle.std.proofs.Common.{◌≡◌, Bool, true, false, true≢false, cond, ◌&&◌, ◌||◌, not, List, [], ◌∷◌, map, Option, Some, None, if◌then◌else◌, refl, sym, ◌∙◌, ap, subst}
 use Rattle.std.specs.List.{filter, list_any, AllByRecursion}
 use Rattle.std.proofs.lemmas.Map.Views.{any-filter_same}
-use Rattle.mq_router.specs.definition.Keys.{Key, key_cmp}
-use Rattle.mq_router.specs.definition.Lists.{Text, same_text}
-use Rattle.mq_router.specs.definition.World.{Subscription, same_share, has_key, same_key}
-use Rattle.mq_router.specs.definition.Turns.{SameInTurn}
+use Rattle.mq_world.specs.Keys.{Key, key_cmp}
+use Rattle.mq_world.specs.Lists.{Text, same_text}
+use Rattle.mq_world.specs.World.{Subscription, same_share, has_key, same_key}
+use Rattle.mq_world.specs.Turns.{SameInTurn}
 use Rattle.mq_router.specs.router.Applied.{put_last, joined}
 use Rattle.mq_router.specs.subscriptions.Kept.{OwnKey, AtEntries, AreKept, AreListed, is_text, is_in_list, is_listed, is_empty, all_rows}
 use Rattle.mq_router.proofs.ListLemmas.{list_any-map, list_any-same, any-append}

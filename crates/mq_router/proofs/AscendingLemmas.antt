@@ -7,7 +7,7 @@ use Rattle.std.specs.Cmp.Lexicographic.{nat_list_cmp_total}
 use Rattle.std.specs.List.{filter, flat_map, list_any, AllByRecursion, AllAdjacentBelow, IsChunkByPrefix}
 use Rattle.std.specs.List.Sorted.{IsSortedBy, IsStableBy, IsStrictlySortedBy}
 use Rattle.std.proofs.lemmas.List.Sorted.{sorted_far, ranks_by}
-use Rattle.mq_router.specs.definition.Lists.{Text, same_text, text_cmp, in_order}
+use Rattle.mq_world.specs.Lists.{Text, same_text, text_cmp, in_order}
 use Rattle.mq_router.specs.subscriptions.Kept.{is_text}
 use Rattle.mq_router.specs.delivery.Gathers.{AreAscending}
 use Rattle.mq_router.proofs.BoolLemmas.{pick, or_true}

@@ -6,10 +6,10 @@ use Rattle.std.specs.List.{filter, flat_map, list_any, AllByRecursion}
 use Rattle.std.specs.List.Sorted.{IsStrictlySortedBy}
 use Rattle.std.specs.Map.{lookup, set_value, remove_entry, keys_of}
 use Rattle.std.specs.BTreeMap.{insert_entry}
-use Rattle.mq_router.specs.definition.Keys.{Key, key_cmp}
-use Rattle.mq_router.specs.definition.Lists.{Text, same_text, text_cmp}
-use Rattle.mq_router.specs.definition.World.{Subscription, same_share, has_key, same_key}
-use Rattle.mq_router.specs.definition.Turns.{SameInTurn}
+use Rattle.mq_world.specs.Keys.{Key, key_cmp}
+use Rattle.mq_world.specs.Lists.{Text, same_text, text_cmp}
+use Rattle.mq_world.specs.World.{Subscription, same_share, has_key, same_key}
+use Rattle.mq_world.specs.Turns.{SameInTurn}
 use Rattle.mq_router.specs.router.Applied.{with_one, put_last, joined}
 use Rattle.mq_router.specs.subscriptions.Kept.{Member, has_client, row, is_empty, is_text, direct_rows, group_rows, NoneEmpty}
 use Rattle.mq_router.specs.subscriptions.KeptViews.{texts}
@@ -20,7 +20,7 @@ use Rattle.mq_router.proofs.InTurn.{any-none, joined-among, turned-among, remove
 use Rattle.mq_router.proofs.Splits.{some_same, Split, split, Put, put_gap, put_found, none_passes}
 use Rattle.mq_router.proofs.Cuts.{cut-any, absent-any, cut-joined, cut-turned, cut-left, cut-out, live-set, live-out, absent-left, absent-turned, put-joined, live-put}
 use Rattle.mq_router.proofs.TextMaps.{is_text-is, text-apart, lookup-texts, set_value-texts, remove_entry-texts, insert_entry-texts, ordered-texts}
-use Rattle.mq_router.specs.definition.World as world
+use Rattle.mq_world.specs.World as world
 use Rattle.mq_router.specs.declared.options.Options as held
 use Rattle.std.proofs.lemmas.List.{append-nil}
 

@@ -8,12 +8,12 @@ use Rattle.std.specs.List.Sorted.{IsStrictlySortedBy}
 use Rattle.std.proofs.lemmas.Map.Text.{is_eq-slice_cmp}
 use Rattle.std.proofs.lemmas.Slice.Eq.{bytes_eq-Decides}
 use Rattle.mq_acl.specs.Rows.{AclRow}
-use Rattle.mq_router.specs.definition.Lists.{Text, same_text}
-use Rattle.mq_router.specs.definition.World.{Session, Subscription, Waiting, Message, Copy, session_cmp}
-use Rattle.mq_router.specs.definition.Clock.{deadline_of}
-use Rattle.mq_router.specs.definition.Sessions.{is_present}
-use Rattle.mq_router.specs.definition.Copies.{direct_copy}
-use Rattle.mq_router.specs.definition.Waiting.{has_place, with_qos, with_waiting, waiting_copy, waiting_after, begins_to_wait}
+use Rattle.mq_world.specs.Lists.{Text, same_text}
+use Rattle.mq_world.specs.World.{Session, Subscription, Waiting, Message, Copy, session_cmp}
+use Rattle.mq_world.specs.Clock.{deadline_of}
+use Rattle.mq_world.specs.Sessions.{is_present}
+use Rattle.mq_world.specs.Copies.{direct_copy}
+use Rattle.mq_world.specs.Waiting.{has_place, with_qos, with_waiting, waiting_copy, waiting_after, begins_to_wait}
 use Rattle.mq_router.specs.sessions.Begun.{Begin, begin_with, begins, queued, edited, queued_one, queued_all}
 use Rattle.mq_router.proofs.SameLemmas.{some_pass}
 use Rattle.mq_router.proofs.OrderLemmas.{text_flip}

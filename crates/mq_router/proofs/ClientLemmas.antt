@@ -17,8 +17,8 @@ use Rattle.std.proofs.lemmas.Grind.{common_steps}
 use Rattle.mq_acl.specs.Rows.{AclRow}
 use Rattle.mq_acl.specs.Access.{allowed}
 use Rattle.mq_acl.specs.declared.access.Direction.TheVariants.{Reading}
-use Rattle.mq_router.specs.definition.Sessions.{is_reader, user_of}
-use Rattle.mq_router.specs.definition.Waiting.{with_qos}
+use Rattle.mq_world.specs.Sessions.{is_reader, user_of}
+use Rattle.mq_world.specs.Waiting.{with_qos}
 use Rattle.mq_router.specs.sessions.Begun.{Begin, room_for, begin_with}
 use Rattle.mq_router.specs.sessions.Ways.{is_sent, waits}
 use Rattle.mq_router.specs.declared.sessions.session.Way.{Way}
@@ -27,8 +27,8 @@ use Rattle.mq_router.proofs.SummaryLemmas.{summary_of-append}
 use Rattle.std.proofs.lemmas.List.{map-append, append-nil}
 use Rattle.std.proofs.lemmas.List.Elements.{filter-append}
 use Rattle.std.proofs.lemmas.Simd.{map-map}
-use Rattle.mq_router.specs.definition.Lists.{Text, same_text, text_cmp, in_order}
-use Rattle.mq_router.specs.definition.World.{Options, Session, Subscription, Message, Copy}
+use Rattle.mq_world.specs.Lists.{Text, same_text, text_cmp, in_order}
+use Rattle.mq_world.specs.World.{Options, Session, Subscription, Message, Copy}
 use Rattle.mq_router.specs.subscriptions.Kept.{Member, is_text, is_empty, direct_rows, group_rows, row, options_of}
 use Rattle.mq_router.specs.delivery.Summaries.{Summary, summary_of, summary_for, together, copy_from}
 use Rattle.mq_router.specs.delivery.Made.{gives, gives_options, is_own_match, own_matches, copy_for, copies_by, begin_for, begins_by}

@@ -8,7 +8,7 @@ use Rattle.std.proofs.lemmas.Cmp.{ranked}
 use Rattle.std.specs.declared.cmp.Ordering.{Ordering}
 use Rattle.std.specs.declared.cmp.Ordering.TheVariants.{Less, Equal, Greater}
 use Rattle.std.proofs.lemmas.Bool.Decides.{nat_tests}
-use Rattle.mq_router.specs.definition.Lists.{SameElements, ascending, insert_number}
+use Rattle.mq_world.specs.Lists.{SameElements, ascending, insert_number}
 use Rattle.mq_router.proofs.SameLemmas.{ascending-SameElements}
 
 permuted-same : {X : Type 0} (xs ys : List X) → IsPermutation xs ys → SameElements xs ys

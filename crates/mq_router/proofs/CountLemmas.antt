@@ -6,8 +6,8 @@ use Rattle.std.specs.Map.{values_of}
 use Rattle.std.proofs.lemmas.List.{length-map}
 use Rattle.std.proofs.lemmas.List.Concat.{length-flat_map}
 use Rattle.std.proofs.lemmas.List.Sums.{sum_by-cons}
-use Rattle.mq_router.specs.definition.Keys.{Key}
-use Rattle.mq_router.specs.definition.Lists.{Text}
+use Rattle.mq_world.specs.Keys.{Key}
+use Rattle.mq_world.specs.Lists.{Text}
 use Rattle.mq_router.specs.subscriptions.Kept.{Member, At, AtEntries, row, direct_rows, group_rows, all_rows}
 use Rattle.mq_router.specs.subscriptions.KeptViews.{texts}
 use Rattle.mq_router.specs.declared.options.Options.{Options}

@@ -5,8 +5,8 @@ use Rattle.std.specs.Ordering.{is_eq}
 use Rattle.std.specs.List.{filter, flat_map, list_any, AllByRecursion}
 use Rattle.std.specs.Map.{set_value, remove_entry}
 use Rattle.std.specs.BTreeMap.{insert_entry}
-use Rattle.mq_router.specs.definition.World.{Subscription, same_key}
-use Rattle.mq_router.specs.definition.Turns.{SameInTurn}
+use Rattle.mq_world.specs.World.{Subscription, same_key}
+use Rattle.mq_world.specs.Turns.{SameInTurn}
 use Rattle.mq_router.specs.router.Applied.{put_last, joined}
 use Rattle.mq_router.proofs.Splits.{Split, Put, flat_map-cut, flat_map-joint}
 use Rattle.mq_router.proofs.OrderLemmas.{all_append}

@@ -17,8 +17,8 @@ use Rattle.std.specs.Set.{remove_key}
 use Rattle.std.specs.BTreeMap.Range.{IsLeBy, IsLtBy}
 use Rattle.std.specs.List.{filter, slice_get, AllByRecursion}
 use Rattle.std.specs.List.Sorted.{IsStrictlySortedBy}
-use Rattle.mq_router.specs.definition.Lists.{Text, same_text, text_cmp}
-use Rattle.mq_router.specs.definition.Deadlines.{Pair, is_pair, has_pair, Drops, TakesDue, NoneDue}
+use Rattle.mq_world.specs.Lists.{Text, same_text, text_cmp}
+use Rattle.mq_router.specs.Deadlines.{Pair, is_pair, has_pair, Drops, TakesDue, NoneDue}
 use Rattle.mq_router.specs.retained.Due.{due_of}
 use Rattle.mq_router.proofs.ListLemmas.{list_any-map, remove_key-filter}
 use Rattle.mq_router.proofs.OrderLemmas.{equal_from}

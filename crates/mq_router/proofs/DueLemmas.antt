@@ -10,10 +10,10 @@ use Rattle.std.proofs.lemmas.Bool.{eq-eqb}
 use Rattle.std.proofs.lemmas.Bool.Decides.{nat_tests}
 use Rattle.mq_topic.specs.Levels.{levels, level_order}
 use Rattle.mq_tree.specs.Entries.{Entries, is_key, AreInOrder}
-use Rattle.mq_router.specs.definition.Lists.{Text}
-use Rattle.mq_router.specs.definition.World.{Retained}
-use Rattle.mq_router.specs.definition.Retained.{has_topic}
-use Rattle.mq_router.specs.definition.Deadlines.{is_due, Pair, Drops, TakesDue, NoneDue, deadline_at, is_deadline}
+use Rattle.mq_world.specs.Lists.{Text}
+use Rattle.mq_world.specs.World.{Retained}
+use Rattle.mq_world.specs.Retained.{has_topic}
+use Rattle.mq_router.specs.Deadlines.{is_due, Pair, Drops, TakesDue, NoneDue, deadline_at, is_deadline}
 use Rattle.mq_router.specs.retained.Stored.{message_in, retained_in, IsPlaced, IsSound}
 use Rattle.mq_router.proofs.RetainedLemmas.{Entry, Stands, view, key-is, found-retained}
 use Rattle.mq_router.proofs.FindLemmas.{topic-is, own-topic}

@@ -2,12 +2,12 @@
 use Rattle.std.proofs.Common.{◌≡◌, ℕ, Bool, true, false, true≢false, ◌&&◌, ◌||◌, cond, not, List, [], ◌∷◌, map, Option, if◌then◌else◌, refl, sym, ◌∙◌, ap}
 use Rattle.std.specs.List.{filter, list_any, AllByRecursion}
 use Rattle.std.specs.Map.{set_value}
-use Rattle.mq_router.specs.definition.Keys.{Key}
-use Rattle.mq_router.specs.definition.Lists.{same_text}
-use Rattle.mq_router.specs.definition.World.{Session, Subscription, has_id}
-use Rattle.mq_router.specs.definition.Clock.{is_over}
-use Rattle.mq_router.specs.definition.Sessions.{has_ended, is_among}
-use Rattle.mq_router.specs.definition.Waiting.{has_place, with_waiting}
+use Rattle.mq_world.specs.Keys.{Key}
+use Rattle.mq_world.specs.Lists.{same_text}
+use Rattle.mq_world.specs.World.{Session, Subscription, has_id}
+use Rattle.mq_world.specs.Clock.{is_over}
+use Rattle.mq_world.specs.Sessions.{has_ended, is_among}
+use Rattle.mq_world.specs.Waiting.{has_place, with_waiting}
 use Rattle.mq_router.specs.sessions.Begun.{Begin, queued, edited, queued_one}
 use Rattle.mq_router.specs.sessions.Ends.{EndsFrom, AllEndFrom}
 use Rattle.mq_router.specs.router.Applied.{lasts, without}

@@ -12,12 +12,12 @@ use Rattle.std.specs.Map.{keys_of}
 use Rattle.std.specs.List.{list_any, filter, AllByRecursion}
 use Rattle.mq_topic.specs.Levels.{levels, level_order}
 use Rattle.mq_tree.specs.Entries.{Entries}
-use Rattle.mq_router.specs.definition.Lists.{Text, same_text, text_cmp, in_order, with_row, SameElements}
-use Rattle.mq_router.specs.definition.World.{Subscription, Retained, Message, retained_cmp}
-use Rattle.mq_router.specs.definition.Counts.{filters_among}
-use Rattle.mq_router.specs.definition.Deadlines.{Pair, is_pair, has_pair, pair_cmp, SamePairs}
+use Rattle.mq_world.specs.Lists.{Text, same_text, text_cmp, in_order, with_row, SameElements}
+use Rattle.mq_world.specs.World.{Subscription, Retained, Message, retained_cmp}
+use Rattle.mq_world.specs.Counts.{filters_among}
+use Rattle.mq_router.specs.Deadlines.{Pair, is_pair, has_pair, pair_cmp, SamePairs}
 use Rattle.mq_router.specs.subscriptions.Kept.{At, AtEntries, IsKept, AllKept, AreKept, AreKeys, all_rows, kept_at, is_empty}
-use Rattle.mq_router.specs.definition.Retained.{is_stored, stored, has_topic, retained_after}
+use Rattle.mq_world.specs.Retained.{is_stored, stored, has_topic, retained_after}
 use Rattle.mq_router.specs.retained.Stored.{AreFiled, IsSound, kept_retained, retained_in}
 use Rattle.mq_router.proofs.ListLemmas.{list_any-map, list_any-same, any-append}
 use Rattle.mq_router.proofs.SameLemmas.{list_any-SameElements}

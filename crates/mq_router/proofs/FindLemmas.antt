@@ -7,10 +7,10 @@ use Rattle.std.specs.Option.{option_and_then}
 use Rattle.std.specs.List.{filter, find}
 use Rattle.std.proofs.lemmas.Slice.Eq.{bytes_eq-Decides}
 use Rattle.mq_topic.specs.Levels.{levels, level_order}
-use Rattle.mq_router.specs.definition.Lists.{Text, same_text, with_row}
-use Rattle.mq_router.specs.definition.World.{Retained, retained_cmp}
-use Rattle.mq_router.specs.definition.Retained.{has_topic}
-use Rattle.mq_router.specs.definition.Deadlines.{deadline_at}
+use Rattle.mq_world.specs.Lists.{Text, same_text, with_row}
+use Rattle.mq_world.specs.World.{Retained, retained_cmp}
+use Rattle.mq_world.specs.Retained.{has_topic}
+use Rattle.mq_router.specs.Deadlines.{deadline_at}
 use Rattle.mq_router.proofs.OrderLemmas.{levels_total, level_equal, text_flip}
 
 find-filter_all : {X : Type 0} (p q : X → Bool) → ((x : X) → p x ≡ true → q x ≡ true) → (xs : List X) → find p (filter q xs) ≡ find p xs

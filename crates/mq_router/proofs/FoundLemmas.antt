@@ -7,9 +7,9 @@ use Rattle.std.specs.Map.{keys_of, values_of}
 use Rattle.std.proofs.lemmas.List.Elements.{filter-append}
 use Rattle.mq_topic.specs.Levels.{levels, level_order}
 use Rattle.mq_topic.specs.Matching.{matches}
-use Rattle.mq_router.specs.definition.Lists.{Text}
-use Rattle.mq_router.specs.definition.World.{Subscription}
-use Rattle.mq_router.specs.definition.Copies.{filter_matches}
+use Rattle.mq_world.specs.Lists.{Text}
+use Rattle.mq_world.specs.World.{Subscription}
+use Rattle.mq_world.specs.Copies.{filter_matches}
 use Rattle.mq_router.specs.subscriptions.Kept.{At, AtEntries, AreHere, AllKept, AreAtFilters, all_rows}
 
 abbrev pub found_for : Text → AtEntries → List At

@@ -4,9 +4,9 @@ use Rattle.std.proofs.Common.{refl, List}
 use Rattle.std.specs.List.{IsDistinct}
 use Rattle.std.specs.List.Sorted.{IsStrictlySortedBy}
 use Rattle.mq_acl.specs.Rows.{AclRow}
-use Rattle.mq_router.specs.definition.World.{Limits, fresh_world, within}
-use Rattle.mq_router.specs.definition.Counts.{filters_of}
-use Rattle.mq_router.specs.definition.StandsFor.{State, StandsFor}
+use Rattle.mq_world.specs.World.{Limits, fresh_world, within}
+use Rattle.mq_world.specs.Counts.{filters_of}
+use Rattle.mq_router.specs.StandsFor.{State, StandsFor}
 
 abbrev pub fresh_state : Limits → Option (List AclRow) → State
 fresh_state limits access = record {

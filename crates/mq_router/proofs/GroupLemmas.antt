@@ -9,13 +9,13 @@ use Rattle.std.specs.List.Sorted.{IsStrictlySortedBy}
 use Rattle.std.proofs.lemmas.Map.Text.{is_eq-slice_cmp}
 use Rattle.mq_topic.specs.Levels.{levels, level_order}
 use Rattle.mq_acl.specs.Rows.{AclRow}
-use Rattle.mq_router.specs.definition.Sessions.{is_reader}
-use Rattle.mq_router.specs.definition.Lists.{Text, same_text, in_order}
-use Rattle.mq_router.specs.definition.World.{Session, Row, Subscription, Group, Message, group_cmp, group_of, is_in_group, same_share}
+use Rattle.mq_world.specs.Sessions.{is_reader}
+use Rattle.mq_world.specs.Lists.{Text, same_text, in_order}
+use Rattle.mq_world.specs.World.{Session, Row, Subscription, Group, Message, group_cmp, group_of, is_in_group, same_share}
 use Rattle.mq_router.specs.router.Applied.{groups_among, next_in, next_members}
-use Rattle.mq_router.specs.definition.Copies.{filter_matches}
+use Rattle.mq_world.specs.Copies.{filter_matches}
 use Rattle.mq_router.specs.subscriptions.Kept.{is_empty}
-use Rattle.mq_router.specs.definition.Groups.{groups_of}
+use Rattle.mq_world.specs.Groups.{groups_of}
 use Rattle.mq_router.proofs.ListLemmas.{filter_map-map}
 use Rattle.mq_router.proofs.OrderLemmas.{group_total, level_equal, text_flip}
 use Rattle.mq_router.proofs.SortedLemmas.{sorted-in_order, any-in_order, ties, same_filtered}

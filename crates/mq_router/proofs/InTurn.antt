@@ -4,9 +4,9 @@ use Rattle.std.specs.List.{filter, list_any, AllByRecursion}
 use Rattle.std.proofs.lemmas.List.{append-nil, map-append}
 use Rattle.std.proofs.lemmas.List.Elements.{filter-append}
 use Rattle.std.proofs.lemmas.Slice.Eq.{bytes_eq-Decides}
-use Rattle.mq_router.specs.definition.Lists.{Text, same_text}
-use Rattle.mq_router.specs.definition.World.{Group, Subscription, is_in_group, same_share, same_key}
-use Rattle.mq_router.specs.definition.Turns.{SameInTurn}
+use Rattle.mq_world.specs.Lists.{Text, same_text}
+use Rattle.mq_world.specs.World.{Group, Subscription, is_in_group, same_share, same_key}
+use Rattle.mq_world.specs.Turns.{SameInTurn}
 use Rattle.mq_router.specs.router.Applied.{with_one, put_last, joined, all_turned}
 use Rattle.mq_router.proofs.ListLemmas.{map-filter, filter-same, any-append}
 use Rattle.mq_router.proofs.SameLemmas.{filter-filter, SameElements-filter, SameElements-map, list_any-SameElements}

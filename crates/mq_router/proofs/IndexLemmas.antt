@@ -9,10 +9,10 @@ use Rattle.std.proofs.lemmas.Bool.{eqb-true, eq-eqb}
 use Rattle.std.proofs.lemmas.Slice.Eq.{bytes_eq-Decides}
 use Rattle.mq_topic.specs.Levels.{levels, level_order}
 use Rattle.mq_tree.specs.Entries.{Entries, is_key, AreInOrder}
-use Rattle.mq_router.specs.definition.Lists.{Text, same_text, with_row}
-use Rattle.mq_router.specs.definition.World.{Retained, retained_cmp}
-use Rattle.mq_router.specs.definition.Retained.{has_topic}
-use Rattle.mq_router.specs.definition.Deadlines.{Pair, has_pair, names, Adds, Drops, deadline_at, is_deadline, Indexes, SamePairs}
+use Rattle.mq_world.specs.Lists.{Text, same_text, with_row}
+use Rattle.mq_world.specs.World.{Retained, retained_cmp}
+use Rattle.mq_world.specs.Retained.{has_topic}
+use Rattle.mq_router.specs.Deadlines.{Pair, has_pair, names, Adds, Drops, deadline_at, is_deadline, Indexes, SamePairs}
 use Rattle.mq_router.specs.retained.Stored.{message_in, retained_in, IsPlaced, IsSound}
 use Rattle.mq_router.proofs.RetainedLemmas.{found-retained, put-retained, put-ordered, put-placed, take-retained, take-ordered, take-placed}
 use Rattle.mq_router.proofs.FindLemmas.{topic-is, deadline-with_row, deadline-without}

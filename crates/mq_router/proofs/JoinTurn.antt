@@ -8,10 +8,10 @@ use Rattle.std.specs.List.{filter, find, list_any, AllByRecursion, IsDistinct}
 use Rattle.std.specs.List.Sorted.{IsStrictlySortedBy}
 use Rattle.std.proofs.lemmas.List.{map-append, append-nil}
 use Rattle.std.proofs.lemmas.List.Elements.{filter-append}
-use Rattle.mq_router.specs.definition.Lists.{with_row, SameElements}
-use Rattle.mq_router.specs.definition.World.{World, IsWorld, Group, Subscription, Row, row_cmp, subscription_cmp, is_in_group, rows_in, same_key}
-use Rattle.mq_router.specs.definition.After.{kept_stamp}
-use Rattle.mq_router.specs.definition.Turns.{put_in_turn, by_turn, in_turn}
+use Rattle.mq_world.specs.Lists.{with_row, SameElements}
+use Rattle.mq_world.specs.World.{World, IsWorld, Group, Subscription, Row, row_cmp, subscription_cmp, is_in_group, rows_in, same_key}
+use Rattle.mq_world.specs.After.{kept_stamp}
+use Rattle.mq_world.specs.Turns.{put_in_turn, by_turn, in_turn}
 use Rattle.mq_router.specs.router.Applied.{joined}
 use Rattle.mq_router.proofs.ListLemmas.{map-filter, filter-same, list_any-map}
 use Rattle.mq_router.proofs.SameLemmas.{length-filter-cons, list_any-SameElements}

@@ -46,4 +46,3 @@ pub mod RouterLemmas
 pub mod CopyLemmas
 pub mod CountLemmas
 pub mod SessionLemmas
-mod WorkedScripts

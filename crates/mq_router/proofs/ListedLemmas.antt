@@ -6,9 +6,9 @@ use Rattle.std.specs.List.{filter, AllByRecursion}
 use Rattle.std.specs.List.Sorted.{IsStrictlySortedBy}
 use Rattle.std.specs.Map.{lookup, set_value, remove_entry, keys_of}
 use Rattle.std.specs.BTreeMap.{insert_entry}
-use Rattle.mq_router.specs.definition.Keys.{Key, key_cmp}
-use Rattle.mq_router.specs.definition.Lists.{Text, same_text, text_cmp}
-use Rattle.mq_router.specs.definition.World.{Subscription, same_share, has_key}
+use Rattle.mq_world.specs.Keys.{Key, key_cmp}
+use Rattle.mq_world.specs.Lists.{Text, same_text, text_cmp}
+use Rattle.mq_world.specs.World.{Subscription, same_share, has_key}
 use Rattle.mq_router.specs.subscriptions.Kept.{OwnKey, is_text, is_own, is_in_list, is_listed, is_empty}
 use Rattle.mq_router.specs.subscriptions.KeptViews.{texts}
 use Rattle.mq_router.proofs.ListLemmas.{filter-same}

@@ -11,8 +11,8 @@ use Rattle.std.specs.Map.{lookup, remove_entry, keys_of}
 use Rattle.std.proofs.lemmas.Map.Keys.{IsDistinct-head, IsDistinct-tail}
 use Rattle.std.proofs.lemmas.Slice.Eq.{bytes_eq-Decides}
 use Rattle.indexmap.specs.IndexMap as ordered
-use Rattle.mq_router.specs.definition.Keys.{Key, key_eq}
-use Rattle.mq_router.specs.definition.Lists.{Text, same_text}
+use Rattle.mq_world.specs.Keys.{Key, key_eq}
+use Rattle.mq_world.specs.Lists.{Text, same_text}
 use Rattle.mq_router.specs.router.Applied.{with_one, put_last}
 use Rattle.mq_router.specs.subscriptions.KeptViews.{texts}
 use Rattle.mq_router.proofs.ListLemmas.{map-filter, filter-same, is_some-lookup, list_any-map, list_any-same}

@@ -2,8 +2,8 @@
 use Rattle.std.proofs.Common.{ℕ, ◌+◌, ◌<◌, ◌≤◌, ◌^◌, Bool, List, Option, Some, None, arith}
 use Rattle.std.specs.Option.{IfSome}
 use Rattle.std.specs.List.{filter}
-use Rattle.mq_router.specs.definition.Lists.{with_row}
-use Rattle.mq_router.specs.definition.World.{Retained, retained_cmp}
+use Rattle.mq_world.specs.Lists.{with_row}
+use Rattle.mq_world.specs.World.{Retained, retained_cmp}
 use Rattle.mq_router.specs.retained.Stored.{AreNear}
 use Rattle.mq_router.proofs.OrderLemmas.{retained_total, all_weaker, all_filtered, all-with_row}
 

@@ -6,14 +6,14 @@ use Rattle.std.specs.List.Sorted.{IsStrictlySortedBy}
 use Rattle.std.proofs.lemmas.List.Kept.{IsStrictlySortedBy-filter}
 use Rattle.mq_topic.specs.Texts.{share_of, filter_part}
 use Rattle.mq_acl.specs.Rows.{AclRow}
-use Rattle.mq_router.specs.definition.Lists.{Text, same_text, with_row}
-use Rattle.mq_router.specs.definition.World.{World, IsWorld, Session, Away, Subscription, Row, Retained, Message, Request, Connect, Disconnect, Subscribe, Unsubscribe, Publish, SetAcl, Advance, Stat, asked, session_cmp, row_cmp, retained_cmp, has_id, has_key, same_key, is_in_group, rows_in, subscriptions_of}
-use Rattle.mq_router.specs.definition.Clock.{deadline_of, is_over}
-use Rattle.mq_router.specs.definition.Sessions.{new_session, outlives, resumes, left_by, session_end, has_ended}
-use Rattle.mq_router.specs.definition.Waiting.{waiting_copy, waiting_after, with_waiting}
-use Rattle.mq_router.specs.definition.Groups.{served_by}
-use Rattle.mq_router.specs.definition.Retained.{retained_after, is_stored, stored, has_topic}
-use Rattle.mq_router.specs.definition.After.{after, kept_stamp, without_client}
+use Rattle.mq_world.specs.Lists.{Text, same_text, with_row}
+use Rattle.mq_world.specs.World.{World, IsWorld, Session, Away, Subscription, Row, Retained, Message, Request, Connect, Disconnect, Subscribe, Unsubscribe, Publish, SetAcl, Advance, Stat, asked, session_cmp, row_cmp, retained_cmp, has_id, has_key, same_key, is_in_group, rows_in, subscriptions_of}
+use Rattle.mq_world.specs.Clock.{deadline_of, is_over}
+use Rattle.mq_world.specs.Sessions.{new_session, outlives, resumes, left_by, session_end, has_ended}
+use Rattle.mq_world.specs.Waiting.{waiting_copy, waiting_after, with_waiting}
+use Rattle.mq_world.specs.Groups.{served_by}
+use Rattle.mq_world.specs.Retained.{retained_after, is_stored, stored, has_topic}
+use Rattle.mq_world.specs.After.{after, kept_stamp, without_client}
 use Rattle.mq_router.specs.router.Applied.{lasts}
 use Rattle.mq_router.proofs.OrderLemmas.{session_total, row_total, retained_total, sorted-with_row, all-with_row, all_weaker, all_filtered}
 use Rattle.mq_router.proofs.InTurn.{filter-swap}

@@ -5,11 +5,11 @@ use Rattle.std.specs.List.{filter, filter_map, cons_option}
 use Rattle.mq_acl.specs.Rows.{AclRow}
 use Rattle.mq_acl.specs.Access.{allowed}
 use Rattle.mq_acl.specs.declared.access.Direction.TheVariants.{Reading}
-use Rattle.mq_router.specs.definition.Lists.{Text}
-use Rattle.mq_router.specs.definition.World.{Session, Subscription, Message, Copy}
-use Rattle.mq_router.specs.definition.World as world
-use Rattle.mq_router.specs.definition.Copies.{filter_matches, options_for, copy_by, direct_copy, direct_copies}
-use Rattle.mq_router.specs.definition.Waiting.{has_room, with_qos}
+use Rattle.mq_world.specs.Lists.{Text}
+use Rattle.mq_world.specs.World.{Session, Subscription, Message, Copy}
+use Rattle.mq_world.specs.World as world
+use Rattle.mq_world.specs.Copies.{filter_matches, options_for, copy_by, direct_copy, direct_copies}
+use Rattle.mq_world.specs.Waiting.{has_room, with_qos}
 use Rattle.mq_router.specs.sessions.Begun.{begin_with, begins, begun_by}
 use Rattle.mq_router.specs.delivery.Made.{gives_options}
 use Rattle.mq_router.specs.router.Applied.{next_members, groups_among}

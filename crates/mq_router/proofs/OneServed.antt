@@ -6,9 +6,9 @@ use Rattle.std.specs.List.{filter, find, AllByRecursion}
 use Rattle.std.specs.List.Sorted.{IsStrictlySortedBy}
 use Rattle.std.proofs.lemmas.List.{map-append}
 use Rattle.std.proofs.lemmas.List.Elements.{filter-append}
-use Rattle.mq_router.specs.definition.Lists.{SameElements}
-use Rattle.mq_router.specs.definition.World.{Group, Subscription, Row, row_cmp, is_in_group, same_key}
-use Rattle.mq_router.specs.definition.Turns.{by_turn}
+use Rattle.mq_world.specs.Lists.{SameElements}
+use Rattle.mq_world.specs.World.{Group, Subscription, Row, row_cmp, is_in_group, same_key}
+use Rattle.mq_world.specs.Turns.{by_turn}
 use Rattle.mq_router.specs.router.Applied.{put_last, all_turned}
 use Rattle.mq_router.proofs.BoolLemmas.{pick}
 use Rattle.mq_router.proofs.OrderLemmas.{subscription_total, tied_is, length-filter-append}

@@ -15,8 +15,8 @@ use Rattle.std.proofs.lemmas.Map.Text.{is_eq-slice_cmp}
 use Rattle.std.proofs.lemmas.List.Splits.{join_with_byte-slice_split}
 use Rattle.std.proofs.lemmas.Slice.Eq.{bytes_eq-Decides}
 use Rattle.mq_topic.specs.Levels.{levels, level_order}
-use Rattle.mq_router.specs.definition.Lists.{Text, same_text, text_cmp, with_row}
-use Rattle.mq_router.specs.definition.World.{Subscription, session_cmp, subscription_cmp, row_cmp, retained_cmp, group_cmp, same_share, has_key}
+use Rattle.mq_world.specs.Lists.{Text, same_text, text_cmp, with_row}
+use Rattle.mq_world.specs.World.{Subscription, session_cmp, subscription_cmp, row_cmp, retained_cmp, group_cmp, same_share, has_key}
 use Rattle.mq_router.proofs.BoolLemmas.{and_assoc}
 
 -- ## The orders

@@ -9,12 +9,12 @@ use Rattle.std.specs.Map.{lookup, keys_of}
 use Rattle.mq_acl.specs.Rows.{AclRow}
 use Rattle.mq_acl.specs.Access.{allowed}
 use Rattle.mq_acl.specs.declared.access.Direction.TheVariants.{Reading}
-use Rattle.mq_router.specs.definition.Lists.{Text, same_text, text_cmp}
-use Rattle.mq_router.specs.definition.World.{Session, Subscription, Message, Copy, session_cmp, has_id}
-use Rattle.mq_router.specs.definition.Sessions.{session_of, is_present, connected, user_of}
-use Rattle.mq_router.specs.definition.Waiting.{has_room, with_qos}
+use Rattle.mq_world.specs.Lists.{Text, same_text, text_cmp}
+use Rattle.mq_world.specs.World.{Session, Subscription, Message, Copy, session_cmp, has_id}
+use Rattle.mq_world.specs.Sessions.{session_of, is_present, connected, user_of}
+use Rattle.mq_world.specs.Waiting.{has_room, with_qos}
 use Rattle.mq_router.specs.sessions.Begun.{Begin, begin_with, begins, begun_by}
-use Rattle.mq_router.specs.definition.Copies.{filter_matches, takes_part, options_for, copy_by, direct_copy, direct_copies}
+use Rattle.mq_world.specs.Copies.{filter_matches, takes_part, options_for, copy_by, direct_copy, direct_copies}
 use Rattle.mq_router.specs.subscriptions.Kept.{is_text}
 use Rattle.mq_router.specs.delivery.Summaries.{Summary, summary_of, summary_for, copy_from}
 use Rattle.mq_router.specs.delivery.Made.{gives, gives_options, copies_by, begins_by}
@@ -25,7 +25,7 @@ use Rattle.mq_router.proofs.BoolLemmas.{pick, left_true, right_true, and_true, o
 use Rattle.mq_router.proofs.InTurn.{same_text-itself}
 use Rattle.mq_router.proofs.TextMaps.{is_text-is, text-apart, key_text}
 use Rattle.mq_router.proofs.SummaryLemmas.{summarized, unsummarized}
-use Rattle.mq_router.specs.definition.World as world
+use Rattle.mq_world.specs.World as world
 
 -- ## Sessions in order
 

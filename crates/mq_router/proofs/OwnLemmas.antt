@@ -17,8 +17,8 @@ use Rattle.std.specs.Set.{remove_key}
 use Rattle.std.specs.List.{filter}
 use Rattle.std.specs.List.Sorted.{IsStrictlySortedBy}
 use Rattle.mq_topic.specs.declared.subscription.SubFilter.{SubFilter}
-use Rattle.mq_router.specs.definition.Lists.{Text, same_text}
-use Rattle.mq_router.specs.definition.World.{Subscription, same_share}
+use Rattle.mq_world.specs.Lists.{Text, same_text}
+use Rattle.mq_world.specs.World.{Subscription, same_share}
 use Rattle.mq_router.specs.subscriptions.Kept.{OwnKey, Shared, wanted_key, shared_key, is_own, is_in_list}
 use Rattle.mq_router.proofs.ListLemmas.{list_any-map, remove_key-filter}
 use Rattle.mq_router.proofs.OrderLemmas.{equal_from, text_flip}

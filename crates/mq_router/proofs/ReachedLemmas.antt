@@ -3,11 +3,11 @@ use Rattle.std.proofs.Common.{ℕ, ◌+◌, ◌<◌, ◌≤◌, ◌^◌, Bool, t
 use Rattle.std.specs.Option.{IfSome, option_map_or}
 use Rattle.std.specs.List.{filter, AllByRecursion}
 use Rattle.mq_acl.specs.Rows.{AclRow}
-use Rattle.mq_router.specs.definition.Lists.{Text, with_row}
-use Rattle.mq_router.specs.definition.World.{Session, Away, Subscription, Message, session_cmp, has_id}
-use Rattle.mq_router.specs.definition.Clock.{deadline_of}
-use Rattle.mq_router.specs.definition.Sessions.{left_by, session_end}
-use Rattle.mq_router.specs.definition.Waiting.{waiting_copy, waiting_after, with_waiting}
+use Rattle.mq_world.specs.Lists.{Text, with_row}
+use Rattle.mq_world.specs.World.{Session, Away, Subscription, Message, session_cmp, has_id}
+use Rattle.mq_world.specs.Clock.{deadline_of}
+use Rattle.mq_world.specs.Sessions.{left_by, session_end}
+use Rattle.mq_world.specs.Waiting.{waiting_copy, waiting_after, with_waiting}
 use Rattle.mq_router.specs.sessions.Near.{IsReached, AreReached, AllReached}
 use Rattle.mq_router.proofs.OrderLemmas.{session_total, all_weaker, all_filtered, all_append, all-with_row}
 

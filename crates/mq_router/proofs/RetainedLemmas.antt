@@ -14,10 +14,10 @@ use Rattle.std.proofs.lemmas.Simd.{map-map}
 use Rattle.mq_topic.specs.Levels.{levels, level_order}
 use Rattle.mq_topic.specs.Matching.{matches}
 use Rattle.mq_tree.specs.Entries.{Entries, is_key, AreInOrder}
-use Rattle.mq_router.specs.definition.Lists.{Text, with_row}
-use Rattle.mq_router.specs.definition.World.{Retained, retained_cmp}
-use Rattle.mq_router.specs.definition.Retained.{has_topic}
-use Rattle.mq_router.specs.definition.Copies.{filter_matches}
+use Rattle.mq_world.specs.Lists.{Text, with_row}
+use Rattle.mq_world.specs.World.{Retained, retained_cmp}
+use Rattle.mq_world.specs.Retained.{has_topic}
+use Rattle.mq_world.specs.Copies.{filter_matches}
 use Rattle.mq_router.specs.retained.Stored.{message_in, retained_in, IsPlaced}
 use Rattle.mq_router.proofs.ListLemmas.{map-insert_entry, map-insert_entry_among, remove_entry-filter, map-filter}
 use Rattle.mq_router.proofs.OrderLemmas.{levels_total, level_equal, equal_from, sorted-with_row, all_filtered, text_flip}

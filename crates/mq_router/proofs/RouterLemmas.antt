@@ -6,27 +6,27 @@ use Rattle.std.proofs.lemmas.Bool.Decides.{nat_tests}
 use Rattle.mq_topic.specs.Texts.{is_name, is_shared, is_subscription, share_of, share_name, filter_part}
 use Rattle.mq_acl.specs.Access.{allowed}
 use Rattle.mq_acl.specs.declared.access.Direction.TheVariants.{Writing}
-use Rattle.mq_router.specs.definition.Lists.{Text, with_row}
-use Rattle.mq_router.specs.definition.World.{Session, Subscription, Options, Message, Copy, Reply, Request, Connect, Disconnect, Subscribe, Unsubscribe, Publish, SetAcl, Advance, Stat, asked, session_cmp, has_id, has_key}
-use Rattle.mq_router.specs.definition.Clock.{last_moment}
-use Rattle.mq_router.specs.definition.Sessions.{new_session, user_of, outlives, resumes, left_by, has_ended}
-use Rattle.mq_router.specs.definition.Waiting.{begins_to_wait, waiting_after, resumed_copies}
-use Rattle.mq_router.specs.definition.Refusals.{Conditions, first_refusal, client_conditions, is_client_id, is_user_name, faulty_line, refusal}
-use Rattle.mq_router.specs.definition.Retained.{asks_for_retained, retained_copies, retained_after, is_full, unexpired}
-use Rattle.mq_router.specs.definition.Counts.{filters_among, topics_of}
-use Rattle.mq_router.specs.definition.Deadlines.{Indexes}
-use Rattle.mq_router.specs.definition.Turns.{SameInTurn}
-use Rattle.mq_router.specs.definition.Answers.{reason, published}
-use Rattle.mq_router.specs.definition.After.{access_of}
-use Rattle.mq_router.specs.definition.StandsFor.{State, Refuses}
+use Rattle.mq_world.specs.Lists.{Text, with_row}
+use Rattle.mq_world.specs.World.{Session, Subscription, Options, Message, Copy, Reply, Request, Connect, Disconnect, Subscribe, Unsubscribe, Publish, SetAcl, Advance, Stat, asked, session_cmp, has_id, has_key}
+use Rattle.mq_world.specs.Clock.{last_moment}
+use Rattle.mq_world.specs.Sessions.{new_session, user_of, outlives, resumes, left_by, has_ended}
+use Rattle.mq_world.specs.Waiting.{begins_to_wait, waiting_after, resumed_copies}
+use Rattle.mq_world.specs.Refusals.{Conditions, first_refusal, client_conditions, is_client_id, is_user_name, faulty_line, refusal}
+use Rattle.mq_world.specs.Retained.{asks_for_retained, retained_copies, retained_after, is_full, unexpired}
+use Rattle.mq_world.specs.Counts.{filters_among, topics_of}
+use Rattle.mq_router.specs.Deadlines.{Indexes}
+use Rattle.mq_world.specs.Turns.{SameInTurn}
+use Rattle.mq_world.specs.Answers.{reason, published}
+use Rattle.mq_world.specs.After.{access_of}
+use Rattle.mq_router.specs.StandsFor.{State, Refuses}
 use Rattle.mq_router.specs.router.Applied.{Applied, Does, world_of, joined, copies_held, members_held, copies_sent, counts_held, all_turned, without, lasts}
 use Rattle.mq_router.specs.subscriptions.Kept.{KeptSubscriptions, AreKeys}
 use Rattle.mq_router.specs.retained.Stored.{KeptRetained, AreFiled}
 use Rattle.mq_router.proofs.InTurn.{same-is, same-itself}
-use Rattle.mq_router.specs.declared.answer.Answer.{Answer}
-use Rattle.mq_router.specs.declared.answer.Outcome.TheVariants.{Reason}
-use Rattle.mq_router.specs.declared.refusal.Refusal.{Refusal}
-use Rattle.mq_router.specs.declared.refusal.Refusal.TheVariants.{ClientId, UserName, TopicName, TopicFilter, SharedNoLocal, NotAuthorized, RetainedFull, AclLine, ClockTooFar, Memory}
+use Rattle.mq_world.specs.declared.answer.Answer.{Answer}
+use Rattle.mq_world.specs.declared.answer.Outcome.TheVariants.{Reason}
+use Rattle.mq_world.specs.declared.refusal.Refusal.{Refusal}
+use Rattle.mq_world.specs.declared.refusal.Refusal.TheVariants.{ClientId, UserName, TopicName, TopicFilter, SharedNoLocal, NotAuthorized, RetainedFull, AclLine, ClockTooFar, Memory}
 
 -- ## Refusals
 

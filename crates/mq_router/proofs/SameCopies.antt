@@ -5,11 +5,11 @@ use Rattle.std.specs.List.{filter, filter_map, cons_option, list_any}
 use Rattle.mq_acl.specs.Rows.{AclRow}
 use Rattle.mq_acl.specs.Access.{allowed}
 use Rattle.mq_acl.specs.declared.access.Direction.TheVariants.{Reading}
-use Rattle.mq_router.specs.definition.Lists.{SameElements, Text, greatest, ascending}
-use Rattle.mq_router.specs.definition.World.{Session, Subscription, Options, Message}
-use Rattle.mq_router.specs.definition.Clock.{deadline_of}
-use Rattle.mq_router.specs.definition.Copies.{takes_part, options_for, copy_by, direct_copy, direct_copies}
-use Rattle.mq_router.specs.definition.Waiting.{has_room, with_qos, waiting_copy, with_waiting, waiting_after, begins_to_wait}
+use Rattle.mq_world.specs.Lists.{SameElements, Text, greatest, ascending}
+use Rattle.mq_world.specs.World.{Session, Subscription, Options, Message}
+use Rattle.mq_world.specs.Clock.{deadline_of}
+use Rattle.mq_world.specs.Copies.{takes_part, options_for, copy_by, direct_copy, direct_copies}
+use Rattle.mq_world.specs.Waiting.{has_room, with_qos, waiting_copy, with_waiting, waiting_after, begins_to_wait}
 use Rattle.mq_router.proofs.ListLemmas.{list_any-same, map-same}
 use Rattle.mq_router.proofs.SameLemmas.{SameElements-filter, SameElements-map, SameElements-filter_map, length-SameElements, list_any-SameElements, greatest-SameElements, ascending-SameElements}
 

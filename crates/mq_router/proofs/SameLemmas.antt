@@ -4,7 +4,7 @@ use Rattle.std.specs.List.{filter, filter_map, cons_option, list_any}
 use Rattle.std.specs.Option.{option_map_or}
 use Rattle.std.specs.Cmp.{nat_eq_equiv}
 use borrow.Author.Tests.{ltb-true, ltb-false, eqb-true, leb-true, leb-false}
-use Rattle.mq_router.specs.definition.Lists.{greatest, ascending, insert_number, SameElements}
+use Rattle.mq_world.specs.Lists.{greatest, ascending, insert_number, SameElements}
 
 -- ## What filters, maps and tests say of such lists
 

@@ -4,11 +4,11 @@ use Rattle.std.specs.Option.{IfSome}
 use Rattle.std.specs.List.{filter}
 use Rattle.std.proofs.lemmas.List.{map_more, append-nil, map-append}
 use Rattle.mq_acl.specs.Rows.{AclRow}
-use Rattle.mq_router.specs.definition.Lists.{Text, same_text}
-use Rattle.mq_router.specs.definition.World.{Subscription, Retained}
-use Rattle.mq_router.specs.definition.Copies.{filter_matches}
+use Rattle.mq_world.specs.Lists.{Text, same_text}
+use Rattle.mq_world.specs.World.{Subscription, Retained}
+use Rattle.mq_world.specs.Copies.{filter_matches}
 use Rattle.mq_router.specs.retained.Stored.{may_get, AreNear}
-use Rattle.mq_router.specs.definition.Retained.{is_sent, retained_copy, retained_copies}
+use Rattle.mq_world.specs.Retained.{is_sent, retained_copy, retained_copies}
 use Rattle.mq_router.proofs.SameLemmas.{filter-filter}
 use Rattle.mq_router.proofs.ListLemmas.{filter-same}
 use Rattle.mq_router.proofs.BoolLemmas.{and_assoc}

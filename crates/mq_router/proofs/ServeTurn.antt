@@ -5,13 +5,13 @@ use Rattle.std.specs.Ordering.{is_eq}
 use Rattle.std.specs.List.{filter, filter_map, cons_option, list_any, list_all, AllByRecursion, IsDistinct}
 use Rattle.std.specs.List.Sorted.{IsStrictlySortedBy}
 use Rattle.std.proofs.lemmas.List.Kept.{IsStrictlySortedBy-filter}
-use Rattle.mq_router.specs.definition.Lists.{Text, SameElements, same_text}
-use Rattle.mq_router.specs.definition.World.{World, IsWorld, Group, Subscription, Row, Message, row_cmp, subscription_cmp, group_cmp, same_share, is_in_group, rows_in, same_key}
-use Rattle.mq_router.specs.definition.Sessions.{can_be_served}
-use Rattle.mq_router.specs.definition.Copies.{filter_matches}
+use Rattle.mq_world.specs.Lists.{Text, SameElements, same_text}
+use Rattle.mq_world.specs.World.{World, IsWorld, Group, Subscription, Row, Message, row_cmp, subscription_cmp, group_cmp, same_share, is_in_group, rows_in, same_key}
+use Rattle.mq_world.specs.Sessions.{can_be_served}
+use Rattle.mq_world.specs.Copies.{filter_matches}
 use Rattle.mq_router.specs.router.Applied.{all_turned}
-use Rattle.mq_router.specs.definition.Groups.{groups_of, turn_of, served, served_by, restamped}
-use Rattle.mq_router.specs.definition.Turns.{by_turn, in_turn, SameInTurn}
+use Rattle.mq_world.specs.Groups.{groups_of, turn_of, served, served_by, restamped}
+use Rattle.mq_world.specs.Turns.{by_turn, in_turn, SameInTurn}
 use Rattle.mq_router.proofs.ListLemmas.{map-filter, filter-same}
 use Rattle.mq_router.proofs.SameLemmas.{SameElements-map}
 use Rattle.mq_router.proofs.SortedLemmas.{ties}

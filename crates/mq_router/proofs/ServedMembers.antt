@@ -12,11 +12,11 @@ use Rattle.std.proofs.lemmas.List.Kept.{IsStrictlySortedBy-filter}
 use Rattle.std.proofs.lemmas.List.Elements.{filter-append, filter_map-append}
 use Rattle.mq_topic.specs.Levels.{levels, level_order}
 use Rattle.mq_acl.specs.Rows.{AclRow}
-use Rattle.mq_router.specs.definition.Sessions.{is_reader}
-use Rattle.mq_router.specs.definition.Lists.{Text, same_text, text_cmp, in_order}
-use Rattle.mq_router.specs.definition.World.{Session, Subscription, Group, Message, group_cmp, is_in_group, same_share}
+use Rattle.mq_world.specs.Sessions.{is_reader}
+use Rattle.mq_world.specs.Lists.{Text, same_text, text_cmp, in_order}
+use Rattle.mq_world.specs.World.{Session, Subscription, Group, Message, group_cmp, is_in_group, same_share}
 use Rattle.mq_router.specs.router.Applied.{groups_among, next_members}
-use Rattle.mq_router.specs.definition.Copies.{filter_matches}
+use Rattle.mq_world.specs.Copies.{filter_matches}
 use Rattle.mq_router.specs.subscriptions.Kept.{At, AreHere, AreAtFilters, is_text, is_empty}
 use Rattle.mq_router.specs.delivery.Gathers.{AreAscending, shares_of, turns_listed}
 use Rattle.mq_router.specs.router.Held.{turn_of}

@@ -11,11 +11,11 @@ use Rattle.std.specs.Map.{lookup, remove_entry, set_value, keys_of}
 use Rattle.std.specs.BTreeMap.{insert_entry}
 use Rattle.std.proofs.lemmas.Map.Text.{is_eq-slice_cmp}
 use Rattle.std.proofs.lemmas.Slice.Eq.{bytes_eq-Decides}
-use Rattle.mq_router.specs.definition.Keys.{Key, key_cmp}
-use Rattle.mq_router.specs.definition.Lists.{same_text, with_row}
-use Rattle.mq_router.specs.definition.World as world
-use Rattle.mq_router.specs.definition.World.{has_id, session_cmp}
-use Rattle.mq_router.specs.definition.Sessions.{session_of}
+use Rattle.mq_world.specs.Keys.{Key, key_cmp}
+use Rattle.mq_world.specs.Lists.{same_text, with_row}
+use Rattle.mq_world.specs.World as world
+use Rattle.mq_world.specs.World.{has_id, session_cmp}
+use Rattle.mq_world.specs.Sessions.{session_of}
 use Rattle.mq_router.specs.sessions.Begun.{edited}
 use Rattle.mq_router.specs.sessions.Near.{AreReached, AllReached}
 use Rattle.mq_router.specs.router.Held.{session_at, session_in, waiting_of}

@@ -7,7 +7,7 @@ use Rattle.std.specs.Cmp.{IsTotalOrder, tied_itself}
 use Rattle.std.specs.List.{filter, filter_map, cons_option, list_any, AllByRecursion}
 use Rattle.std.specs.List.Sorted.{IsStrictlySortedBy}
 use Rattle.std.proofs.lemmas.List.Kept.{IsStrictlySortedBy-filter}
-use Rattle.mq_router.specs.definition.Lists.{with_row, in_order}
+use Rattle.mq_world.specs.Lists.{with_row, in_order}
 use Rattle.mq_router.proofs.OrderLemmas.{all_append, all_weaker, sorted-with_row}
 use Rattle.mq_router.proofs.BoolLemmas.{and_false, or_flip, pick}
 use Rattle.mq_router.proofs.ListLemmas.{any-append}

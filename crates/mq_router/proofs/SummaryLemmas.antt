@@ -1,8 +1,8 @@
 -- Summaries of options.
 use Rattle.std.proofs.Common.{◌≡◌, ℕ, Bool, true, false, not, ◌==◌, List, [], ◌∷◌, ◌++◌, map, length, max, Some, None, refl, sym, ap, arith}
 use Rattle.std.specs.List.{filter_map, cons_option}
-use Rattle.mq_router.specs.definition.Lists.{greatest}
-use Rattle.mq_router.specs.definition.World.{Options}
+use Rattle.mq_world.specs.Lists.{greatest}
+use Rattle.mq_world.specs.World.{Options}
 use Rattle.mq_router.specs.delivery.Summaries.{Summary, summary_of, summary_for, together}
 use Rattle.mq_router.proofs.ListLemmas.{any-append}
 use Rattle.mq_router.proofs.SameLemmas.{some_pass}

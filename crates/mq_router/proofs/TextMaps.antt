@@ -10,8 +10,8 @@ use Rattle.std.specs.Map.{lookup, set_value, remove_entry, keys_of}
 use Rattle.std.specs.BTreeMap.{insert_entry}
 use Rattle.std.proofs.lemmas.Map.Text.{is_eq-slice_cmp}
 use Rattle.std.proofs.lemmas.Slice.Eq.{bytes_eq-Decides}
-use Rattle.mq_router.specs.definition.Keys.{Key, key_cmp}
-use Rattle.mq_router.specs.definition.Lists.{Text, same_text, text_cmp}
+use Rattle.mq_world.specs.Keys.{Key, key_cmp}
+use Rattle.mq_world.specs.Lists.{Text, same_text, text_cmp}
 use Rattle.mq_router.specs.subscriptions.Kept.{is_text}
 use Rattle.mq_router.specs.subscriptions.KeptViews.{texts}
 use Rattle.mq_router.proofs.OrderLemmas.{equal_from}

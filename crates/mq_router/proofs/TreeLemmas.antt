@@ -14,9 +14,9 @@ use Rattle.mq_tree.specs.Entries.{is_key, AreInOrder}
 use Rattle.std.proofs.lemmas.Map.{keys-set_value}
 use Rattle.std.proofs.lemmas.List.Kept.{IsStrictlySortedBy-filter}
 use Rattle.mq_router.proofs.ListLemmas.{map-filter, map-insert_entry, remove_entry-filter}
-use Rattle.mq_router.specs.definition.Lists.{Text, same_text}
-use Rattle.mq_router.specs.definition.World.{Subscription, same_key}
-use Rattle.mq_router.specs.definition.Turns.{SameInTurn}
+use Rattle.mq_world.specs.Lists.{Text, same_text}
+use Rattle.mq_world.specs.World.{Subscription, same_key}
+use Rattle.mq_world.specs.Turns.{SameInTurn}
 use Rattle.mq_router.specs.router.Applied.{put_last, joined}
 use Rattle.mq_router.specs.subscriptions.Kept.{At, AtEntries, AreHere, IsKept, AllKept, AreKept, all_rows, is_empty}
 use Rattle.mq_router.proofs.OrderLemmas.{equal_from, same_levels, sorted-with_row, levels_total}

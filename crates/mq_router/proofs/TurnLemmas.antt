@@ -1,9 +1,9 @@
 -- The members of a group in the order of their stamps.
 use Rattle.std.proofs.Common.{◌≡◌, ℕ, ◌≤◌, ◌<◌, Bool, true, false, cond, ◌&&◌, List, [], ◌∷◌, ◌++◌, map, Option, Some, None, nat_le, refl, sym, ◌∙◌, ap, subst, inl, inr, arith}
 use Rattle.std.specs.List.{filter, find, list_all, AllByRecursion}
-use Rattle.mq_router.specs.definition.World.{Row}
-use Rattle.mq_router.specs.definition.Groups.{least_stamped}
-use Rattle.mq_router.specs.definition.Turns.{put_in_turn, by_turn}
+use Rattle.mq_world.specs.World.{Row}
+use Rattle.mq_world.specs.Groups.{least_stamped}
+use Rattle.mq_world.specs.Turns.{put_in_turn, by_turn}
 use Rattle.mq_router.proofs.SameLemmas.{le_cases, not_le}
 use Rattle.mq_router.proofs.BoolLemmas.{left_true, right_true}
 

@@ -9,9 +9,9 @@ use Rattle.std.specs.Map.{keys_of}
 use Rattle.std.proofs.lemmas.List.{append-nil, map-append}
 use Rattle.std.proofs.lemmas.List.Elements.{filter-append}
 use Rattle.mq_acl.specs.Rows.{AclRow}
-use Rattle.mq_router.specs.definition.Lists.{Text, same_text, text_cmp}
-use Rattle.mq_router.specs.definition.World.{Session, Subscription, Group, is_in_group}
-use Rattle.mq_router.specs.definition.Sessions.{is_reader}
+use Rattle.mq_world.specs.Lists.{Text, same_text, text_cmp}
+use Rattle.mq_world.specs.World.{Session, Subscription, Group, is_in_group}
+use Rattle.mq_world.specs.Sessions.{is_reader}
 use Rattle.mq_router.specs.router.Applied.{next_in}
 use Rattle.mq_router.specs.subscriptions.Kept.{Member, row, direct_rows, group_rows}
 use Rattle.mq_router.specs.router.Held.{turn_of}

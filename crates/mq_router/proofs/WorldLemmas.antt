@@ -9,24 +9,24 @@ use Rattle.mq_topic.specs.Texts.{is_name, is_shared, is_subscription, share_of, 
 use Rattle.mq_acl.specs.Rows.{AclRow}
 use Rattle.mq_acl.specs.Access.{allowed}
 use Rattle.mq_acl.specs.declared.access.Direction.TheVariants.{Writing}
-use Rattle.mq_router.specs.definition.Lists.{SameElements, Text, same_text, with_row}
-use Rattle.mq_router.specs.definition.World.{World, Limits, IsWorld, Group, Session, Subscription, Row, Retained, Message, Copy, Reply, Request, Connect, Disconnect, Subscribe, Unsubscribe, Publish, SetAcl, Advance, Stat, asked, session_cmp, has_id, has_key, same_key, is_in_group, rows_in, subscriptions_of}
-use Rattle.mq_router.specs.definition.Clock.{last_moment}
-use Rattle.mq_router.specs.definition.Sessions.{new_session, connected, user_of, is_reader, can_be_served, outlives, resumes, left_by, has_ended}
-use Rattle.mq_router.specs.definition.Waiting.{begins_to_wait, waiting_after, resumed_copies}
-use Rattle.mq_router.specs.definition.Refusals.{first_refusal, client_conditions, refusal}
-use Rattle.mq_router.specs.definition.Copies.{direct_copies, filter_matches}
-use Rattle.mq_router.specs.definition.Groups.{groups_of, turn_of, served, served_by}
-use Rattle.mq_router.specs.definition.Retained.{retained_copies, retained_after, is_full, unexpired}
-use Rattle.mq_router.specs.definition.Counts.{filters_of, topics_of, counts, steps}
-use Rattle.mq_router.specs.definition.Deadlines.{Indexes, is_due}
+use Rattle.mq_world.specs.Lists.{SameElements, Text, same_text, with_row}
+use Rattle.mq_world.specs.World.{World, Limits, IsWorld, Group, Session, Subscription, Row, Retained, Message, Copy, Reply, Request, Connect, Disconnect, Subscribe, Unsubscribe, Publish, SetAcl, Advance, Stat, asked, session_cmp, has_id, has_key, same_key, is_in_group, rows_in, subscriptions_of}
+use Rattle.mq_world.specs.Clock.{last_moment}
+use Rattle.mq_world.specs.Sessions.{new_session, connected, user_of, is_reader, can_be_served, outlives, resumes, left_by, has_ended}
+use Rattle.mq_world.specs.Waiting.{begins_to_wait, waiting_after, resumed_copies}
+use Rattle.mq_world.specs.Refusals.{first_refusal, client_conditions, refusal}
+use Rattle.mq_world.specs.Copies.{direct_copies, filter_matches}
+use Rattle.mq_world.specs.Groups.{groups_of, turn_of, served, served_by}
+use Rattle.mq_world.specs.Retained.{retained_copies, retained_after, is_full, unexpired}
+use Rattle.mq_world.specs.Counts.{filters_of, topics_of, counts, steps}
+use Rattle.mq_router.specs.Deadlines.{Indexes, is_due}
 use Rattle.mq_router.specs.retained.Receivers.{steps_among}
-use Rattle.mq_router.specs.definition.Answers.{answer, reason, published, copies_of}
-use Rattle.mq_router.specs.definition.After.{after, without_client}
-use Rattle.mq_router.specs.definition.Turns.{by_turn, in_turn, SameInTurn}
-use Rattle.mq_router.specs.definition.StandsFor.{State, Holds, StandsFor, Answers, AnswersFor, CountsFor, Refuses}
+use Rattle.mq_world.specs.Answers.{answer, reason, published, copies_of}
+use Rattle.mq_world.specs.After.{after, without_client}
+use Rattle.mq_world.specs.Turns.{by_turn, in_turn, SameInTurn}
+use Rattle.mq_router.specs.StandsFor.{State, Holds, StandsFor, Answers, AnswersFor, CountsFor, Refuses}
 use Rattle.mq_router.specs.router.Applied.{Applied, CountsSteps, Does, IsFiled, world_of, reply_to, counts_held, steps_to, moved, next_in, next_members, all_turned, member_copy, without, lasts}
-use Rattle.mq_router.specs.definition.Views.{reply_of}
+use Rattle.mq_world.specs.Views.{reply_of}
 use Rattle.mq_tree.specs.Entries.{capped}
 use Rattle.mq_tree.specs.Prefixes.{prefixes, met_by_name}
 use Rattle.mq_router.proofs.ListLemmas.{map-filter}
@@ -40,11 +40,11 @@ use Rattle.mq_router.proofs.GroupLemmas.{groups-same, groups-told}
 use Rattle.mq_router.proofs.FiledLemmas.{filters-same}
 use Rattle.mq_router.proofs.SameCopies.{direct_copies-same, begins_to_wait-same, waiting_after-same}
 use Rattle.mq_router.proofs.NextLemmas.{gone, after-is_world}
-use Rattle.mq_router.specs.declared.answer.Answer.{Answer}
-use Rattle.mq_router.specs.declared.answer.Outcome.{Outcome}
-use Rattle.mq_router.specs.declared.answer.Outcome.TheVariants.{Reason, Counts}
-use Rattle.mq_router.specs.declared.refusal.Refusal.{Refusal}
-use Rattle.mq_router.specs.declared.refusal.Refusal.TheVariants.{TopicName, TopicFilter, SharedNoLocal, NotAuthorized, RetainedFull, ClockTooFar}
+use Rattle.mq_world.specs.declared.answer.Answer.{Answer}
+use Rattle.mq_world.specs.declared.answer.Outcome.{Outcome}
+use Rattle.mq_world.specs.declared.answer.Outcome.TheVariants.{Reason, Counts}
+use Rattle.mq_world.specs.declared.refusal.Refusal.{Refusal}
+use Rattle.mq_world.specs.declared.refusal.Refusal.TheVariants.{TopicName, TopicFilter, SharedNoLocal, NotAuthorized, RetainedFull, ClockTooFar}
 
 -- the subscriptions in turn are those of the rows
 turn_told : (w : World) → SameElements (in_turn w) (subscriptions_of w)

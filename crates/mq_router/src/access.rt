@@ -4,7 +4,7 @@ ghost use Rattle.std.specs.Option.{option_copied};
 ghost use Rattle.std.specs.Rc.{rc_str_bytes};
 ghost use Rattle.mq_acl.specs.Access.{allowed};
 ghost use Rattle.mq_acl.specs.declared.access.Direction.TheVariants.{Reading, Writing};
-ghost use Rattle.mq_router.specs.definition.Sessions.{user_of, is_reader};
+ghost use Rattle.mq_world.specs.Sessions.{user_of, is_reader};
 ghost use Rattle.mq_router.specs.sessions.Begun.{room_for};
 ghost use Rattle.mq_router.specs.sessions.Ways.{is_sent, waits};
 

@@ -1,7 +1,7 @@
 //! The router's clock.
 ghost use Rattle.std.specs.Prelude.{◌≡◌, ◌≤◌, ◌<◌, ◌+◌, ◌-◌, ◌^◌, IfSome, IfNone};
-ghost use Rattle.mq_router.specs.definition.Clock.{last_moment, deadline_of, time_left};
-ghost use Rattle.mq_router.specs.definition.Sessions.{session_end};
+ghost use Rattle.mq_world.specs.Clock.{last_moment, deadline_of, time_left};
+ghost use Rattle.mq_world.specs.Sessions.{session_end};
 
 /// The moment, in seconds from the start: at most 1,000,000,000,000.
 #[derive(Clone, Copy, Debug)]

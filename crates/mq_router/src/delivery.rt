@@ -2,7 +2,7 @@
 ghost use Rattle.std.specs.Prelude.{◌≡◌, ◌+◌, IfOk, length, map};
 ghost use Rattle.mq_topic.specs.Levels.{levels};
 ghost use Rattle.mq_tree.specs.Prefixes.{prefixes, met_by_name};
-ghost use Rattle.mq_router.specs.definition.Lists.{Text};
+ghost use Rattle.mq_world.specs.Lists.{Text};
 ghost use Rattle.mq_router.specs.router.Held.{message_of, turn_of, begin_of};
 ghost use Rattle.mq_router.specs.sessions.Begun.{begun_by};
 
@@ -10,7 +10,7 @@ pub(crate) mod outgoing;
 pub(crate) mod summary;
 pub(crate) mod unshared;
 
-use crate::answer::Delivery;
+use mq_world::Delivery;
 use crate::subscriptions::filter_entry::AtFilter;
 use crate::sessions::queued::Begun;
 use crate::delivery::unshared::{Direct, direct_copies};

@@ -3,14 +3,10 @@
 #![tactic(auto)]
 
 mod access;
-mod answer;
 mod clock;
-mod command;
 mod delivery;
-mod limits;
 mod message;
 mod options;
-mod refusal;
 mod replies;
 mod retained;
 mod router;
@@ -18,8 +14,5 @@ mod sessions;
 mod subscriptions;
 mod texts;
 
-pub use answer::{Answer, Delivery, Outcome};
-pub use command::Command;
-pub use limits::Limits;
-pub use refusal::Refusal;
+pub use mq_world::{Answer, Command, Delivery, Limits, Outcome, Refusal};
 pub use router::Router;

@@ -1,9 +1,9 @@
 //! Answers of commands.
 ghost use Rattle.std.specs.Prelude.{◌≡◌, ◌&&◌, not, map, if◌then◌else◌};
-ghost use Rattle.mq_router.specs.definition.Answers.{reason, published};
-ghost use Rattle.mq_router.specs.definition.Views.{reply_of, copy_of};
+ghost use Rattle.mq_world.specs.Answers.{reason, published};
+ghost use Rattle.mq_world.specs.Views.{reply_of, copy_of};
 
-use crate::answer::{Answer, Delivery, Outcome};
+use mq_world::{Answer, Delivery, Outcome};
 use std::alloc::Global;
 
 /// An answer without copies.

@@ -3,8 +3,8 @@ ghost use Rattle.std.specs.Prelude.{◌≡◌, ◌+◌, [], length, OnOk, OnErr,
 ghost use Rattle.std.specs.List.{filter};
 ghost use Rattle.mq_tree.specs.Entries.{capped};
 ghost use Rattle.mq_tree.specs.Prefixes.{prefixes};
-ghost use Rattle.mq_router.specs.definition.Retained.{retained_after, unexpired, is_full};
-ghost use Rattle.mq_router.specs.definition.Deadlines.{is_due};
+ghost use Rattle.mq_world.specs.Retained.{retained_after, unexpired, is_full};
+ghost use Rattle.mq_router.specs.Deadlines.{is_due};
 ghost use Rattle.mq_router.specs.retained.Stored.{AreFiled, AreNear};
 
 mod copies;
@@ -13,7 +13,7 @@ mod edits;
 mod messages;
 mod stored;
 
-use crate::answer::Delivery;
+use mq_world::Delivery;
 use crate::clock::Clock;
 use crate::message::Message;
 use deadlines::Deadlines;

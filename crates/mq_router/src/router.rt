@@ -1,13 +1,13 @@
 ghost use Rattle.std.specs.Prelude.{◌≡◌, ◌≢◌, ◌+◌, [], Some, IsTrue, IfOk, OnOk, OnErr, IfErr, map};
 ghost use Rattle.std.specs.Option.{option_copied};
 ghost use Rattle.std.specs.Rc.{rc_str_bytes};
-ghost use Rattle.mq_router.specs.definition.Refusals.{is_valid, takes_no_memory, client_conditions, first_refusal};
-ghost use Rattle.mq_router.specs.definition.World as world;
-ghost use Rattle.mq_router.specs.definition.World.{fresh_world, empty_world, within};
-ghost use Rattle.mq_router.specs.definition.StandsFor.{StandsFor, AnswersFor, CountsFor};
+ghost use Rattle.mq_world.specs.Refusals.{is_valid, takes_no_memory, client_conditions, first_refusal};
+ghost use Rattle.mq_world.specs.World as world;
+ghost use Rattle.mq_world.specs.World.{fresh_world, empty_world, within};
+ghost use Rattle.mq_router.specs.StandsFor.{StandsFor, AnswersFor, CountsFor};
 ghost use Rattle.mq_router.specs.router.Applied.{Applied, CountsSteps, refused_by, copies_sent, steps_sent, steps_to};
 ghost use Rattle.mq_router.specs.router.Applied.{counts_held, copies_held, begun_held, members_held};
-ghost use Rattle.mq_router.specs.definition.Views.{limits_of, request_of, reply_of};
+ghost use Rattle.mq_world.specs.Views.{limits_of, request_of, reply_of};
 ghost use Rattle.mq_router.specs.subscriptions.Kept.{options_of};
 ghost use Rattle.mq_router.specs.subscriptions.Asked.{wanted_row};
 ghost use Rattle.mq_router.specs.delivery.Gathers.{copies_in, turns_in};
@@ -16,18 +16,15 @@ ghost use Rattle.mq_router.specs.router.Held.{published_message, message_of, beg
 mod ended;
 
 use crate::access::may_publish;
-use crate::answer::{Answer, Delivery, Outcome};
+use mq_world::{Answer, Command, Delivery, Limits, Outcome, Refusal};
 use crate::texts::{
     copied, is_client_id, is_shared_no_local, is_user_name, parse_filter, parse_name, read_access,
 };
 use crate::clock::Clock;
-use crate::command::Command;
 use crate::delivery::{Made, make_copies};
-use crate::limits::Limits;
 use crate::message::Message;
 use crate::options::Options;
 use crate::access::Readers;
-use crate::refusal::Refusal;
 use crate::replies::{published, reason_to_leave, with_reason};
 use crate::retained::{Receiver, Retained};
 use crate::sessions::Sessions;
@@ -75,7 +72,7 @@ impl Properties {
 }
 
 impl Model for Router {
-    ghost use Rattle.mq_router.specs.definition.StandsFor.{State};
+    ghost use Rattle.mq_router.specs.StandsFor.{State};
 
     ghost Value = { State };
 

@@ -4,13 +4,13 @@ ghost use Rattle.std.specs.Option.{option_copied, option_map};
 ghost use Rattle.std.specs.List.{filter, AllByRecursion};
 ghost use Rattle.std.specs.Rc.{rc_str_bytes};
 ghost use Rattle.std.specs.List.Sorted.{IsStrictlySortedBy};
-ghost use Rattle.mq_router.specs.definition.Lists.{with_row};
-ghost use Rattle.mq_router.specs.definition.World.{has_id, session_cmp};
-ghost use Rattle.mq_router.specs.definition.Sessions.{new_session, session_of, is_connected, user_of, outlives, resumes, left_by, has_ended};
-ghost use Rattle.mq_router.specs.definition.Waiting.{resumed_copies};
+ghost use Rattle.mq_world.specs.Lists.{with_row};
+ghost use Rattle.mq_world.specs.World.{has_id, session_cmp};
+ghost use Rattle.mq_world.specs.Sessions.{new_session, session_of, is_connected, user_of, outlives, resumes, left_by, has_ended};
+ghost use Rattle.mq_world.specs.Waiting.{resumed_copies};
 ghost use Rattle.mq_router.specs.sessions.Begun.{queued_one, queued_all};
 ghost use Rattle.mq_router.specs.sessions.Near.{AllReached};
-ghost use Rattle.mq_router.specs.definition.Views.{copy_of};
+ghost use Rattle.mq_world.specs.Views.{copy_of};
 
 mod edits;
 mod first_end;
@@ -20,7 +20,7 @@ pub(crate) mod queued;
 mod resume;
 pub(crate) mod session;
 
-use crate::answer::Delivery;
+use mq_world::Delivery;
 use crate::sessions::queued::Begun;
 use crate::clock::Clock;
 use crate::sessions::session::Session;
@@ -41,7 +41,7 @@ pub(crate) struct Sessions {
 
 impl Model for Sessions {
     ghost use Rattle.std.specs.Prelude.{List};
-    ghost use Rattle.mq_router.specs.definition.World.{Session};
+    ghost use Rattle.mq_world.specs.World.{Session};
 
     ghost Value = { List Session };
 
@@ -111,7 +111,7 @@ impl Sessions {
     }
 
     /// The copies that waited for a client that connects, if it resumes its session.
-    #[tactic(auto, unfolding(crate::specs::definition::Waiting::resumed_copies))]
+    #[tactic(auto, unfolding(mq_world::specs::Waiting::resumed_copies))]
     pub(crate) fn resumed_copies(
         &self,
         alloc: Global,

@@ -5,14 +5,14 @@ ghost use Rattle.std.specs.Rc.{rc_str_bytes};
 ghost use Rattle.std.specs.List.{filter, list_any, flat_map};
 ghost use Rattle.mq_tree.specs.Entries.{capped};
 ghost use Rattle.mq_tree.specs.Prefixes.{prefixes, met_by_name};
-ghost use Rattle.mq_router.specs.definition.Lists.{same_text};
-ghost use Rattle.mq_router.specs.definition.World.{has_key};
+ghost use Rattle.mq_world.specs.Lists.{same_text};
+ghost use Rattle.mq_world.specs.World.{has_key};
 ghost use Rattle.mq_router.specs.subscriptions.Asked.{wanted_row, has_wanted, ListsMore, ListsLess, NoneEmptied};
 ghost use Rattle.mq_router.specs.delivery.Gathers.{seen};
 ghost use Rattle.mq_router.specs.delivery.Made.{rows_found};
-ghost use Rattle.mq_router.specs.definition.Copies.{filter_matches};
-ghost use Rattle.mq_router.specs.definition.Retained.{asks_for_retained};
-ghost use Rattle.mq_router.specs.definition.Turns.{SameInTurn};
+ghost use Rattle.mq_world.specs.Copies.{filter_matches};
+ghost use Rattle.mq_world.specs.Retained.{asks_for_retained};
+ghost use Rattle.mq_world.specs.Turns.{SameInTurn};
 ghost use Rattle.mq_router.specs.router.Applied.{joined, put_last, all_turned};
 ghost use Rattle.mq_router.specs.router.Held.{turn_of};
 ghost use Rattle.mq_router.specs.subscriptions.Kept.{row, At, AreKeys};
@@ -179,7 +179,7 @@ ghost use Rattle.mq_topic.specs.Levels.{levels};
 ghost use Rattle.mq_tree.specs.Entries.{is_key};
 ghost use Rattle.mq_router.specs.subscriptions.Kept.{all_rows, AreKept, AreAtFilters, is_listed};
 ghost use Rattle.mq_router.specs.subscriptions.KeptViews.{texts};
-ghost use Rattle.mq_router.specs.definition.World.{Subscription};
+ghost use Rattle.mq_world.specs.World.{Subscription};
 
 fn contains_in(tree: &LevelTree<AtFilter>, client: &str, wanted: &SubFilter) -> bool
     requires { AreKept tree.now }

@@ -2,11 +2,11 @@
 ghost use Rattle.std.specs.Prelude.{◌≡◌, ◌&&◌, None, Some, is_some, string_bytes, IfOk, IfErr, ◌⊎◌, true, false};
 ghost use Rattle.std.specs.Option.{option_copied, option_map};
 ghost use Rattle.mq_topic.specs.Texts.{contains_byte, is_name, is_subscription};
-ghost use Rattle.mq_router.specs.definition.Refusals.{is_client_id, is_user_name, faulty_line, acl_refusal};
+ghost use Rattle.mq_world.specs.Refusals.{is_client_id, is_user_name, faulty_line, acl_refusal};
 ghost use Rattle.mq_router.specs.subscriptions.Asked.{IsAskedBy};
-ghost use Rattle.mq_router.specs.definition.After.{access_of};
+ghost use Rattle.mq_world.specs.After.{access_of};
 
-use crate::refusal::Refusal;
+use mq_world::Refusal;
 use mq_acl::{Acl, AclKind};
 use mq_topic::{SubFilter, TopicFault, TopicName};
 use std::alloc::{AllocError, Global};

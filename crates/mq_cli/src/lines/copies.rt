@@ -3,14 +3,14 @@ ghost use Rattle.std.specs.Prelude.{◌≡◌, ◌++◌, ℕ, List, true, false,
 ghost use Rattle.std.specs.List.{flat_map};
 ghost use Rattle.std.specs.Option.{option_copied, option_map};
 ghost use Rattle.serde_json.specs.View.{members_view};
-ghost use Rattle.mq_router.specs.definition.Views.{copy_of};
+ghost use Rattle.mq_world.specs.Views.{copy_of};
 ghost use Rattle.mq_cli.specs.Printed.{copy_members, copy_text};
 ghost use Rattle.mq_cli.specs.Kept.{IsFor, copy_names, parts, parts_of};
 ghost use Rattle.mq_cli.specs.Behind.{IsAlike, IsBehind, Follows, Keeps};
 
 use crate::lines::datum::Datum;
 use crate::lines::object::Object;
-use mq_router::Delivery;
+use mq_world::Delivery;
 use mq_topic::LevelText;
 use std::alloc::{AllocError, Global};
 

@@ -1,11 +1,11 @@
 //! The lines that answer a line.
 ghost use Rattle.std.specs.Prelude.{◌≡◌, ◌++◌, OnOk, OnErr};
-ghost use Rattle.mq_router.specs.definition.Views.{reply_of};
+ghost use Rattle.mq_world.specs.Views.{reply_of};
 ghost use Rattle.mq_cli.specs.Printed.{answer_text, refusal_text, fault_text};
 
 use crate::lines::fault::LineFault;
 use crate::lines::printer::Printer;
-use mq_router::{Answer, Refusal};
+use mq_world::{Answer, Refusal};
 use std::alloc::{AllocError, Global};
 
 /// Adds the answer to line `line`: a text line for each copy, in their order, and a closing one. Each is a compact JSON

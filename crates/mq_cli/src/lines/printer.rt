@@ -3,8 +3,8 @@ ghost use Rattle.std.specs.Prelude.{◌≡◌, ◌++◌, ℕ, List, Bool, false,
 ghost use Rattle.std.specs.Option.{option_map};
 ghost use Rattle.serde_json.specs.Data.{no_members};
 ghost use Rattle.serde_json.specs.View.{members_view};
-ghost use Rattle.mq_router.specs.definition.Views.{reply_of};
-ghost use Rattle.mq_router.specs.declared.answer.Outcome.TheVariants.{Reason, Counts};
+ghost use Rattle.mq_world.specs.Views.{reply_of};
+ghost use Rattle.mq_world.specs.declared.answer.Outcome.TheVariants.{Reason, Counts};
 ghost use Rattle.mq_cli.specs.Printed.{answer_text, line_text, closing_members};
 ghost use Rattle.mq_cli.specs.Printed.{report_members, report_text, report_of, refusal_text, fault_text};
 ghost use Rattle.mq_cli.specs.Kept.{IsFor, reason_names, report_names};
@@ -14,7 +14,7 @@ use crate::lines::datum::Datum;
 use crate::lines::fault::LineFault;
 use crate::lines::object::Object;
 use crate::lines::report::{Reported, line_fault_report, refusal_report};
-use mq_router::{Answer, Outcome, Refusal};
+use mq_world::{Answer, Outcome, Refusal};
 use std::alloc::{AllocError, Global};
 
 #[tactic(auto, unfolding(crate::specs::Printed::closing_members, crate::specs::Kept::reason_names))]

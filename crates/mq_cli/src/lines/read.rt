@@ -2,8 +2,8 @@
 ghost use Rattle.std.specs.Prelude.{◌≡◌, IfOk, IfSome, IsTrue, option_map};
 ghost use Rattle.serde_json.specs.Data.{object};
 ghost use Rattle.serde_json.specs.View.{view, members_view};
-ghost use Rattle.mq_router.specs.definition.Views.{request_of};
-ghost use Rattle.mq_router.specs.definition.Refusals.{is_valid};
+ghost use Rattle.mq_world.specs.Views.{request_of};
+ghost use Rattle.mq_world.specs.Refusals.{is_valid};
 ghost use Rattle.mq_cli.specs.Fields.{Gives, or_fault};
 ghost use Rattle.mq_cli.specs.Reading.{connect_fields, disconnect_fields, subscribe_fields, unsubscribe_fields};
 ghost use Rattle.mq_cli.specs.Reading.{publish_fields, acl_fields, advance_fields, stat_fields};
@@ -12,7 +12,7 @@ ghost use Rattle.mq_cli.specs.Reading.{command_of, value_of, reading, is_blank a
 use crate::lines::fault::LineFault;
 use crate::lines::fields::{Fields, field};
 use crate::lines::object::members_of;
-use mq_router::Command;
+use mq_world::Command;
 use serde_json::{Map, Value};
 use std::alloc::Global;
 

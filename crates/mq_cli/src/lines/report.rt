@@ -3,7 +3,7 @@ ghost use Rattle.std.specs.Prelude.{◌≡◌, option_map};
 ghost use Rattle.mq_cli.specs.Printed.{report_of, plain as plain_report, refusal_report as report_of_refusal, fault_report as report_of_fault};
 
 use crate::lines::fault::LineFault;
-use mq_router::Refusal;
+use mq_world::Refusal;
 
 /// A code and a name, and of an access list the number of its faulty line.
 #[derive(Clone, Copy)]

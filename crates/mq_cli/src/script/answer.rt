@@ -1,15 +1,16 @@
 //! The answer to a line.
 ghost use Rattle.std.specs.Prelude.{◌≡◌, OnErr, IfOk};
-ghost use Rattle.mq_router.specs.definition.World.{World};
-ghost use Rattle.mq_router.specs.definition.StandsFor.{StandsFor};
+ghost use Rattle.mq_world.specs.World.{World};
+ghost use Rattle.mq_router.specs.StandsFor.{StandsFor};
 ghost use Rattle.mq_cli.specs.Running.{IsTold};
 
 use crate::lines::{LineFault, Printer, read_line};
-use mq_router::{Refusal, Router};
+use mq_router::Router;
+use mq_world::Refusal;
 use std::alloc::{AllocError, Global};
 
 /// Adds the answer to a line, and says whether the line is refused.
-#[tactic(auto, unfolding(crate::specs::Output::text_of, crate::specs::Output::is_refused, crate::specs::Running::world_then, mq_router::specs::definition::After::next))]
+#[tactic(auto, unfolding(crate::specs::Output::text_of, crate::specs::Output::is_refused, crate::specs::Running::world_then, mq_world::specs::After::next))]
 pub fn answer_line(
     alloc: Global,
     printer: &mut Printer,

@@ -1,7 +1,7 @@
 //! A run on its way.
 ghost use Rattle.std.specs.Prelude.{◌≡◌, ◌+◌, ◌≤◌, ◌<◌, ◌^◌, ◌++◌, ◌∷◌, [], List, ℕ, Option, OnOk, length};
-ghost use Rattle.mq_router.specs.definition.World.{World};
-ghost use Rattle.mq_router.specs.definition.StandsFor.{StandsFor};
+ghost use Rattle.mq_world.specs.World.{World};
+ghost use Rattle.mq_router.specs.StandsFor.{StandsFor};
 ghost use Rattle.mq_cli.specs.Output.{pieces};
 
 use crate::devices::Sink;

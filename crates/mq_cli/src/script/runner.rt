@@ -2,8 +2,8 @@
 ghost use Rattle.std.specs.Prelude.{◌≡◌, ◌≢◌, ◌+◌, ◌≤◌, ◌<◌, ◌++◌, [], ℕ, List, Some, Ok, Err};
 ghost use Rattle.std.specs.Prelude.{OnOk, IfErr, IsOkAnd, length};
 ghost use Rattle.std.specs.Io.KnownBytes.{Consumes};
-ghost use Rattle.mq_router.specs.definition.World.{World};
-ghost use Rattle.mq_router.specs.definition.StandsFor.{StandsFor};
+ghost use Rattle.mq_world.specs.World.{World};
+ghost use Rattle.mq_router.specs.StandsFor.{StandsFor};
 ghost use Rattle.mq_cli.specs.Output.{output, Summarizes};
 ghost use Rattle.mq_cli.specs.Ending.{EndsOver, watch, script_limit};
 ghost use Rattle.mq_cli.specs.Running.{Told, TakesAll};

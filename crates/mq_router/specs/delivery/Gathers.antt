@@ -6,15 +6,15 @@ use Rattle.std.specs.List.{filter, AllByRecursion}
 use Rattle.std.specs.declared.alloc.Global.{Global}
 use denote.Ref.{Bor}
 use Rattle.mq_acl.specs.Rows.{AclRow}
-use Rattle.mq_router.specs.definition.Lists.{Text, same_text, text_cmp, in_order}
-use Rattle.mq_router.specs.definition.World.{Session, Subscription, Options, Copy}
+use Rattle.mq_world.specs.Lists.{Text, same_text, text_cmp, in_order}
+use Rattle.mq_world.specs.World.{Session, Subscription, Options, Copy}
 use Rattle.mq_router.specs.router.Applied.{next_in}
-use Rattle.mq_router.specs.definition.Views.{copy_of}
+use Rattle.mq_world.specs.Views.{copy_of}
 use Rattle.mq_router.specs.subscriptions.Kept.{At, options_of}
 use Rattle.mq_router.specs.delivery.Summaries.{Summary, summary_of}
 use Rattle.mq_router.specs.delivery.Made.{turns_of}
 use Rattle.mq_router.specs.router.Held.{turn_of}
-use Rattle.mq_router.specs.declared.answer.Delivery.{Delivery}
+use Rattle.mq_world.specs.declared.answer.Delivery.{Delivery}
 use Rattle.mq_router.specs.declared.subscriptions.turn.Turn.{Turn}
 use Rattle.mq_router.specs.declared.subscriptions.matches.Match.{Match}
 

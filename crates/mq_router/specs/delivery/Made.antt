@@ -5,12 +5,12 @@ use Rattle.std.specs.List.{filter, filter_map, flat_map}
 use Rattle.mq_acl.specs.Rows.{AclRow}
 use Rattle.mq_acl.specs.Access.{allowed}
 use Rattle.mq_acl.specs.declared.access.Direction.TheVariants.{Reading}
-use Rattle.mq_router.specs.definition.Lists.{Text, same_text}
-use Rattle.mq_router.specs.definition.World.{Session, Subscription, Options, Message, Copy}
-use Rattle.mq_router.specs.definition.World as world
-use Rattle.mq_router.specs.definition.Sessions.{is_reader, user_of}
+use Rattle.mq_world.specs.Lists.{Text, same_text}
+use Rattle.mq_world.specs.World.{Session, Subscription, Options, Message, Copy}
+use Rattle.mq_world.specs.World as world
+use Rattle.mq_world.specs.Sessions.{is_reader, user_of}
 use Rattle.mq_router.specs.delivery.Summaries.{Summary, copy_from}
-use Rattle.mq_router.specs.definition.Waiting.{with_qos}
+use Rattle.mq_world.specs.Waiting.{with_qos}
 use Rattle.mq_router.specs.sessions.Begun.{Begin, room_for, begin_with}
 use Rattle.mq_router.specs.subscriptions.Kept.{At}
 use Rattle.mq_router.specs.router.Applied.{next_in}

@@ -1,8 +1,8 @@
 -- What the options of a client's subscriptions come to for its copy.
 use Rattle.std.specs.Prelude.{ℕ, Bool, List, [], ◌∷◌, ◌++◌, map, max, min, ◌&&◌, ◌||◌, Option, Some, None}
 use Rattle.std.specs.List.{filter_map, list_any}
-use Rattle.mq_router.specs.definition.Lists.{Text, greatest, ascending}
-use Rattle.mq_router.specs.definition.World.{Options, Group, Message, Copy}
+use Rattle.mq_world.specs.Lists.{Text, greatest, ascending}
+use Rattle.mq_world.specs.World.{Options, Group, Message, Copy}
 use Rattle.mq_router.specs.declared.delivery.summary.Summary.TheInside as in_summary
 
 -- the greatest QoS, whether some ask for Retain As Published, and the identifiers

@@ -1,6 +1,6 @@
 -- What the index by deadline shows.
 use Rattle.std.specs.Prelude.{List, map}
-use Rattle.mq_router.specs.definition.Deadlines.{Pair}
+use Rattle.mq_router.specs.Deadlines.{Pair}
 use Rattle.mq_router.specs.declared.retained.deadlines.Due.{Due}
 use Rattle.mq_router.specs.declared.retained.deadlines.Deadlines.TheInside as in_deadlines
 

@@ -5,10 +5,10 @@ use Rattle.std.specs.List.{filter}
 use Rattle.std.specs.Rc.{rc_str_bytes}
 use Rattle.mq_topic.specs.Levels.{levels}
 use Rattle.mq_tree.specs.Prefixes.{prefixes, met_by_filter}
-use Rattle.mq_router.specs.definition.Lists.{Text}
-use Rattle.mq_router.specs.definition.World.{Subscription, Retained, Copy}
-use Rattle.mq_router.specs.definition.Retained.{retained_copy, retained_copies}
-use Rattle.mq_router.specs.definition.Counts.{topics_of}
+use Rattle.mq_world.specs.Lists.{Text}
+use Rattle.mq_world.specs.World.{Subscription, Retained, Copy}
+use Rattle.mq_world.specs.Retained.{retained_copy, retained_copies}
+use Rattle.mq_world.specs.Counts.{topics_of}
 use Rattle.mq_router.specs.subscriptions.Kept.{row}
 use Rattle.mq_router.specs.retained.Stored.{may_get}
 use Rattle.mq_router.specs.declared.retained.copies.Receiver.{Receiver}

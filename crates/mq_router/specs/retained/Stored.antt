@@ -7,10 +7,10 @@ use Rattle.mq_tree.specs.Entries.{Entries, AreInOrder, capped}
 use Rattle.mq_acl.specs.Rows.{AclRow}
 use Rattle.mq_acl.specs.Access.{allowed}
 use Rattle.mq_acl.specs.declared.access.Direction.TheVariants.{Reading}
-use Rattle.mq_router.specs.definition.Lists.{Text, same_text, in_order}
-use Rattle.mq_router.specs.definition.World.{Subscription, Retained, Message}
-use Rattle.mq_router.specs.definition.Counts.{topics_of}
-use Rattle.mq_router.specs.definition.Deadlines.{Pair, Indexes, pair_cmp}
+use Rattle.mq_world.specs.Lists.{Text, same_text, in_order}
+use Rattle.mq_world.specs.World.{Subscription, Retained, Message}
+use Rattle.mq_world.specs.Counts.{topics_of}
+use Rattle.mq_router.specs.Deadlines.{Pair, Indexes, pair_cmp}
 use Rattle.mq_router.specs.declared.retained.stored.Stored.{Stored}
 
 abbrev pub message_in : Stored → Retained

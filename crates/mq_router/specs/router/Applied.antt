@@ -6,28 +6,28 @@ use Rattle.mq_topic.specs.Texts.{share_of, filter_part}
 use Rattle.mq_tree.specs.Entries.{capped}
 use Rattle.mq_tree.specs.Prefixes.{prefixes, met_by_name}
 use Rattle.mq_acl.specs.Rows.{AclRow}
-use Rattle.mq_router.specs.definition.Lists.{Text, same_text, with_row, in_order}
-use Rattle.mq_router.specs.definition.World.{World, Row, Session, Group, Subscription, Message, Copy, Request, Connect, Disconnect, Subscribe, Unsubscribe, Publish, SetAcl, Advance, Stat, Reply, asked, session_cmp, group_cmp, group_of, has_id, has_key, same_key, is_in_group}
-use Rattle.mq_router.specs.definition.Sessions.{new_session, connected, user_of, is_reader, outlives, resumes, left_by, has_ended, is_among}
+use Rattle.mq_world.specs.Lists.{Text, same_text, with_row, in_order}
+use Rattle.mq_world.specs.World.{World, Row, Session, Group, Subscription, Message, Copy, Request, Connect, Disconnect, Subscribe, Unsubscribe, Publish, SetAcl, Advance, Stat, Reply, asked, session_cmp, group_cmp, group_of, has_id, has_key, same_key, is_in_group}
+use Rattle.mq_world.specs.Sessions.{new_session, connected, user_of, is_reader, outlives, resumes, left_by, has_ended, is_among}
 use Rattle.mq_router.specs.sessions.Begun.{Begin, begun_by}
-use Rattle.mq_router.specs.definition.Waiting.{begins_to_wait, waiting_after, resumed_copies}
-use Rattle.mq_router.specs.definition.Refusals.{refusal}
-use Rattle.mq_router.specs.definition.Copies.{direct_copies, filter_matches}
-use Rattle.mq_router.specs.definition.Groups.{group_copy}
-use Rattle.mq_router.specs.definition.Retained.{asks_for_retained, retained_copies, retained_after, unexpired}
-use Rattle.mq_router.specs.definition.Answers.{reason, published}
-use Rattle.mq_router.specs.definition.After.{access_of}
-use Rattle.mq_router.specs.definition.Counts.{filters_among, topics_of}
-use Rattle.mq_router.specs.definition.Deadlines.{Indexes, is_due}
+use Rattle.mq_world.specs.Waiting.{begins_to_wait, waiting_after, resumed_copies}
+use Rattle.mq_world.specs.Refusals.{refusal}
+use Rattle.mq_world.specs.Copies.{direct_copies, filter_matches}
+use Rattle.mq_world.specs.Groups.{group_copy}
+use Rattle.mq_world.specs.Retained.{asks_for_retained, retained_copies, retained_after, unexpired}
+use Rattle.mq_world.specs.Answers.{reason, published}
+use Rattle.mq_world.specs.After.{access_of}
+use Rattle.mq_world.specs.Counts.{filters_among, topics_of}
+use Rattle.mq_router.specs.Deadlines.{Indexes, is_due}
 use Rattle.mq_router.specs.retained.Receivers.{steps_among}
-use Rattle.mq_router.specs.definition.StandsFor.{State, Refuses}
-use Rattle.mq_router.specs.definition.Turns.{SameInTurn}
-use Rattle.mq_router.specs.definition.Views.{reply_of}
-use Rattle.mq_router.specs.declared.answer.Answer.{Answer}
-use Rattle.mq_router.specs.declared.answer.Outcome.{Outcome}
-use Rattle.mq_router.specs.declared.answer.Outcome.TheVariants.{Reason, Counts}
-use Rattle.mq_router.specs.declared.refusal.Refusal.{Refusal}
-use Rattle.mq_router.specs.declared.refusal.Refusal.TheVariants.{Memory}
+use Rattle.mq_router.specs.StandsFor.{State, Refuses}
+use Rattle.mq_world.specs.Turns.{SameInTurn}
+use Rattle.mq_world.specs.Views.{reply_of}
+use Rattle.mq_world.specs.declared.answer.Answer.{Answer}
+use Rattle.mq_world.specs.declared.answer.Outcome.{Outcome}
+use Rattle.mq_world.specs.declared.answer.Outcome.TheVariants.{Reason, Counts}
+use Rattle.mq_world.specs.declared.refusal.Refusal.{Refusal}
+use Rattle.mq_world.specs.declared.refusal.Refusal.TheVariants.{Memory}
 
 abbrev pub unstamped : Subscription → Row
 unstamped s = record { subscription = s; stamp = 0 }

@@ -2,12 +2,12 @@
 use Rattle.std.specs.Prelude.{List, [], map, Some, string_bytes}
 use Rattle.std.specs.Option.{option_map}
 use Rattle.std.specs.Rc.{rc_str_bytes}
-use Rattle.mq_router.specs.definition.Lists.{Text}
-use Rattle.mq_router.specs.definition.Keys.{Key}
-use Rattle.mq_router.specs.definition.World as world
-use Rattle.mq_router.specs.definition.Views.{copy_of, limits_of}
+use Rattle.mq_world.specs.Lists.{Text}
+use Rattle.mq_world.specs.Keys.{Key}
+use Rattle.mq_world.specs.World as world
+use Rattle.mq_world.specs.Views.{copy_of, limits_of}
 use Rattle.mq_router.specs.sessions.Begun.{Begin}
-use Rattle.mq_router.specs.definition.StandsFor.{State}
+use Rattle.mq_router.specs.StandsFor.{State}
 use Rattle.mq_router.specs.subscriptions.Kept.{options_of, AreListed, KeptSubscriptions, kept_at}
 use Rattle.mq_router.specs.subscriptions.KeptViews.{texts}
 use Rattle.mq_router.specs.declared.message.Message.{Message}

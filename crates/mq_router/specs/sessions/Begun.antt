@@ -3,10 +3,10 @@ use Rattle.std.specs.Prelude.{ℕ, Bool, false, List, [], ◌∷◌, map, Option
 use Rattle.std.specs.Option.{option_map, option_map_or}
 use Rattle.std.specs.List.{filter_map}
 use Rattle.mq_acl.specs.Rows.{AclRow}
-use Rattle.mq_router.specs.definition.Lists.{Text}
-use Rattle.mq_router.specs.definition.World.{Session, Subscription, Waiting, Message, Copy, has_id}
-use Rattle.mq_router.specs.definition.Sessions.{session_of}
-use Rattle.mq_router.specs.definition.Waiting.{has_place, has_room, waiting_copy, with_waiting}
+use Rattle.mq_world.specs.Lists.{Text}
+use Rattle.mq_world.specs.World.{Session, Subscription, Waiting, Message, Copy, has_id}
+use Rattle.mq_world.specs.Sessions.{session_of}
+use Rattle.mq_world.specs.Waiting.{has_place, has_room, waiting_copy, with_waiting}
 
 -- the client has a session, it is away, and fewer copies wait for it than may
 abbrev pub room_for : ℕ → List Session → Text → Bool

@@ -1,9 +1,9 @@
 -- From when on a session may have ended.
 use Rattle.std.specs.Prelude.{◌≡◌, ℕ, true, List, Option}
 use Rattle.std.specs.List.{AllByRecursion}
-use Rattle.mq_router.specs.definition.World.{Session}
-use Rattle.mq_router.specs.definition.Clock.{is_over}
-use Rattle.mq_router.specs.definition.Sessions.{has_ended}
+use Rattle.mq_world.specs.World.{Session}
+use Rattle.mq_world.specs.Clock.{is_over}
+use Rattle.mq_world.specs.Sessions.{has_ended}
 
 -- when the session has ended this moment has come; without a moment it never ends
 abbrev pub EndsFrom : Option ℕ → Session → Type 0

@@ -1,7 +1,7 @@
 -- Deadlines of waiting copies that can be reached from the moment by an expiry interval.
 use Rattle.std.specs.Prelude.{ℕ, ◌+◌, ◌^◌, ◌<◌, List, IfSome}
 use Rattle.std.specs.List.{AllByRecursion}
-use Rattle.mq_router.specs.definition.World.{Session, Waiting}
+use Rattle.mq_world.specs.World.{Session, Waiting}
 
 abbrev pub IsReached : ℕ → Waiting → Type 0
 IsReached moment waiting = IfSome waiting.deadline (λ deadline. deadline < moment + 2 ^ 32)

@@ -1,10 +1,10 @@
 -- Words of the contracts: what changes at one filter, whatever its text is.
 use Rattle.std.specs.Prelude.{◌≡◌, not, List, Option, Some, None}
 use Rattle.std.specs.List.{filter}
-use Rattle.mq_router.specs.definition.Keys.{Key}
-use Rattle.mq_router.specs.definition.Lists.{Text}
-use Rattle.mq_router.specs.definition.World.{Subscription, has_key}
-use Rattle.mq_router.specs.definition.Turns.{SameInTurn}
+use Rattle.mq_world.specs.Keys.{Key}
+use Rattle.mq_world.specs.Lists.{Text}
+use Rattle.mq_world.specs.World.{Subscription, has_key}
+use Rattle.mq_world.specs.Turns.{SameInTurn}
 use Rattle.mq_router.specs.router.Applied.{joined, put_last}
 use Rattle.mq_router.specs.subscriptions.Kept.{Member, At, row, direct_rows, group_rows}
 use Rattle.mq_router.specs.subscriptions.KeptViews.{texts}

@@ -9,14 +9,14 @@ use Rattle.std.specs.Cmp.Lexicographic.{slice_cmp}
 use Rattle.mq_topic.specs.Levels.{levels}
 use Rattle.std.specs.declared.alloc.Global.{Global}
 use Rattle.std.specs.declared.rc.Rc.{Rc}
-use Rattle.mq_router.specs.definition.Lists.{Text, same_text}
+use Rattle.mq_world.specs.Lists.{Text, same_text}
 use Rattle.mq_topic.specs.declared.subscription.SubFilter.{SubFilter}
 use Rattle.mq_topic.specs.Levels.{level_order}
 use Rattle.mq_tree.specs.Entries.{AreInOrder}
-use Rattle.mq_router.specs.definition.Copies.{filter_matches}
-use Rattle.mq_router.specs.definition.World.{Subscription, has_key, same_key, same_share}
-use Rattle.mq_router.specs.definition.World as world
-use Rattle.mq_router.specs.definition.Counts.{filters_among}
+use Rattle.mq_world.specs.Copies.{filter_matches}
+use Rattle.mq_world.specs.World.{Subscription, has_key, same_key, same_share}
+use Rattle.mq_world.specs.World as world
+use Rattle.mq_world.specs.Counts.{filters_among}
 use Rattle.mq_router.specs.declared.options.Options.{Options}
 
 -- what a subscription asks for, as the definitions have it

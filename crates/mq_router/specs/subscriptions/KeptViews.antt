@@ -1,8 +1,8 @@
 -- What the router's own values at one filter show.
 use Rattle.std.specs.Prelude.{List, map, ◌++◌}
 use Rattle.std.specs.Rc.{rc_str_bytes}
-use Rattle.mq_router.specs.definition.Keys.{Key}
-use Rattle.mq_router.specs.definition.Lists.{Text}
+use Rattle.mq_world.specs.Keys.{Key}
+use Rattle.mq_world.specs.Lists.{Text}
 use Rattle.mq_router.specs.subscriptions.Kept.{Member, At, direct_rows, group_rows, NoneEmpty}
 use Rattle.mq_router.specs.declared.subscriptions.group.Group.TheInside as in_group
 use Rattle.mq_router.specs.declared.subscriptions.filter_entry.AtFilter.TheInside as in_at

@@ -2,7 +2,7 @@
 ghost use Rattle.std.specs.Prelude.{◌≡◌};
 ghost use Rattle.std.specs.Rc.{rc_str_bytes};
 
-use crate::answer::Delivery;
+use mq_world::Delivery;
 use crate::message::Message;
 use crate::delivery::summary::Summary;
 use mq_topic::{LevelText, TopicFilter};
@@ -23,7 +23,7 @@ impl<'a> Outgoing<'a> {
     ghost use Rattle.std.specs.Prelude.{IfOk};
     ghost use Rattle.std.specs.Option.{option_map};
     ghost use Rattle.mq_router.specs.delivery.Summaries.{copy_from};
-    ghost use Rattle.mq_router.specs.definition.Views.{copy_of, group_of};
+    ghost use Rattle.mq_world.specs.Views.{copy_of, group_of};
     ghost use Rattle.mq_router.specs.router.Held.{message_of};
 
     pub(crate) fn new(alloc: Global, message: &Message<'a>) -> Result<Outgoing<'a>, AllocError>

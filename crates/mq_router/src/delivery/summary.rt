@@ -24,7 +24,7 @@ impl Model for Summary {
 }
 
 impl Summary {
-    ghost use Rattle.mq_router.specs.definition.Lists.{ascending};
+    ghost use Rattle.mq_world.specs.Lists.{ascending};
     ghost use Rattle.mq_router.specs.delivery.Summaries.{summary_of, together};
 
     /// That of no subscription.

@@ -5,10 +5,10 @@ ghost use Rattle.mq_router.specs.subscriptions.Kept.{options_of};
 ghost use Rattle.mq_router.specs.delivery.Gathers.{copies_in, matched, by_client, AreByClient};
 ghost use Rattle.mq_router.specs.delivery.Made.{copies_by, begins_by};
 ghost use Rattle.mq_router.specs.delivery.Summaries.{summary_of, copy_from};
-ghost use Rattle.mq_router.specs.definition.Views.{copy_of};
+ghost use Rattle.mq_world.specs.Views.{copy_of};
 ghost use Rattle.mq_router.specs.router.Held.{message_of, begin_of};
 
-use crate::answer::Delivery;
+use mq_world::Delivery;
 use crate::sessions::queued::Begun;
 use crate::subscriptions::matches::Match;
 use crate::delivery::outgoing::Outgoing;

@@ -1,13 +1,13 @@
 //! The copies of retained messages that a subscribe sends.
 ghost use Rattle.std.specs.Prelude.{◌≡◌, ◌+◌, ◌<◌, ◌^◌, IfOk, IfSome, map};
 ghost use Rattle.std.specs.Option.{option_copied, option_to_list};
-ghost use Rattle.mq_router.specs.definition.Retained.{retained_copy};
-ghost use Rattle.mq_router.specs.definition.Views.{copy_of};
+ghost use Rattle.mq_world.specs.Retained.{retained_copy};
+ghost use Rattle.mq_world.specs.Views.{copy_of};
 ghost use Rattle.mq_router.specs.delivery.Gathers.{copies_in};
 ghost use Rattle.mq_router.specs.retained.Stored.{message_in, may_get, AreNear};
 
 use crate::access::may_read;
-use crate::answer::Delivery;
+use mq_world::Delivery;
 use crate::clock::Clock;
 use crate::options::Options;
 use crate::retained::stored::Stored;

@@ -2,10 +2,10 @@
 ghost use Rattle.std.specs.Prelude.{◌≡◌, ◌+◌, length, not, OnOk, OnErr, IfOk, nat_eq, None, if◌then◌else◌};
 ghost use Rattle.std.specs.Option.{option_map, option_eq};
 ghost use Rattle.std.specs.List.{filter, list_any};
-ghost use Rattle.mq_router.specs.definition.Lists.{with_row};
-ghost use Rattle.mq_router.specs.definition.World.{retained_cmp};
-ghost use Rattle.mq_router.specs.definition.Retained.{is_stored, has_topic, unexpired};
-ghost use Rattle.mq_router.specs.definition.Deadlines.{deadline_at, is_due, SamePairs};
+ghost use Rattle.mq_world.specs.Lists.{with_row};
+ghost use Rattle.mq_world.specs.World.{retained_cmp};
+ghost use Rattle.mq_world.specs.Retained.{is_stored, has_topic, unexpired};
+ghost use Rattle.mq_router.specs.Deadlines.{deadline_at, is_due, SamePairs};
 ghost use Rattle.mq_router.specs.retained.Due.{due_of};
 ghost use Rattle.mq_router.specs.router.Held.{message_of};
 ghost use Rattle.mq_router.specs.retained.Stored.{retained_in, stored_until, IsPlaced, IsSound};

@@ -1,7 +1,7 @@
 //! Edits of one session, or of those that end. They take no memory.
 ghost use Rattle.std.specs.Prelude.{◌≡◌, map, not};
 ghost use Rattle.std.specs.List.{filter};
-ghost use Rattle.mq_router.specs.definition.Sessions.{left_by, has_ended};
+ghost use Rattle.mq_world.specs.Sessions.{left_by, has_ended};
 ghost use Rattle.mq_router.specs.sessions.Begun.{queued_one};
 ghost use Rattle.mq_router.specs.sessions.Ends.{EndLater};
 ghost use Rattle.mq_router.specs.router.Held.{session_in, begin_of};

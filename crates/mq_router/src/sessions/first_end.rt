@@ -1,6 +1,6 @@
 //! From when on a session may have ended.
 ghost use Rattle.std.specs.Prelude.{◌≡◌, map};
-ghost use Rattle.mq_router.specs.definition.Clock.{is_over};
+ghost use Rattle.mq_world.specs.Clock.{is_over};
 ghost use Rattle.mq_router.specs.sessions.Ends.{AllEndFrom, IsSooner};
 ghost use Rattle.mq_router.specs.router.Held.{session_in};
 

@@ -2,12 +2,12 @@
 ghost use Rattle.std.specs.Prelude.{◌≡◌, [], ◌∷◌, IfOk};
 ghost use Rattle.std.specs.Option.{option_map};
 ghost use Rattle.std.specs.Rc.{rc_str_bytes};
-ghost use Rattle.mq_router.specs.definition.Waiting.{with_qos};
+ghost use Rattle.mq_world.specs.Waiting.{with_qos};
 ghost use Rattle.mq_router.specs.sessions.Begun.{begin_with};
-ghost use Rattle.mq_router.specs.definition.Views.{copy_of};
+ghost use Rattle.mq_world.specs.Views.{copy_of};
 ghost use Rattle.mq_router.specs.router.Held.{begin_of};
 
-use crate::answer::Delivery;
+use mq_world::Delivery;
 use crate::sessions::queued::Begun;
 use crate::sessions::session::Waiting;
 use std::alloc::{AllocError, Global};

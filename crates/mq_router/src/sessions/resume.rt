@@ -2,12 +2,12 @@
 ghost use Rattle.std.specs.Prelude.{◌≡◌, IfOk, map};
 ghost use Rattle.std.specs.Option.{option_map};
 ghost use Rattle.std.specs.List.{filter_map};
-ghost use Rattle.mq_router.specs.definition.Waiting.{resumed_copy};
+ghost use Rattle.mq_world.specs.Waiting.{resumed_copy};
 ghost use Rattle.mq_router.specs.sessions.Near.{IsReached, AreReached};
-ghost use Rattle.mq_router.specs.definition.Views.{copy_of};
+ghost use Rattle.mq_world.specs.Views.{copy_of};
 ghost use Rattle.mq_router.specs.router.Held.{waiting_of};
 
-use crate::answer::Delivery;
+use mq_world::Delivery;
 use crate::clock::Clock;
 use crate::sessions::session::Waiting;
 use std::alloc::{AllocError, Global};

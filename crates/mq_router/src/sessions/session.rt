@@ -1,14 +1,14 @@
 //! A client's session, and the copies that wait for it.
 ghost use Rattle.std.specs.Prelude.{◌≡◌, ◌≤◌, [], length, map, string_bytes};
 ghost use Rattle.std.specs.Option.{option_map};
-ghost use Rattle.mq_router.specs.definition.World.{Away};
-ghost use Rattle.mq_router.specs.definition.Sessions.{is_present, outlives_connection, session_end, has_ended, new_session};
-ghost use Rattle.mq_router.specs.definition.Waiting.{has_place, has_room};
+ghost use Rattle.mq_world.specs.World.{Away};
+ghost use Rattle.mq_world.specs.Sessions.{is_present, outlives_connection, session_end, has_ended, new_session};
+ghost use Rattle.mq_world.specs.Waiting.{has_place, has_room};
 ghost use Rattle.mq_router.specs.sessions.Begun.{queued};
 ghost use Rattle.mq_router.specs.sessions.Ends.{EndsFrom};
 ghost use Rattle.mq_router.specs.router.Held.{shown, waiting_of};
 
-use crate::answer::Delivery;
+use mq_world::Delivery;
 use crate::clock::Clock;
 use std::alloc::Global;
 use std::collections::LinkedList;

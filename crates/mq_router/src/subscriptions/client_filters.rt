@@ -1,6 +1,6 @@
 //! The subscriptions of one client, beside the tree of all.
 ghost use Rattle.std.specs.Prelude.{◌≡◌, ◌&&◌, ◌||◌, [], map, not, OnOk, OnErr};
-ghost use Rattle.mq_router.specs.definition.World.{Subscription};
+ghost use Rattle.mq_world.specs.World.{Subscription};
 ghost use Rattle.mq_router.specs.subscriptions.Kept.{is_empty, is_own, is_in_list, shared_key, wanted_key};
 
 use mq_topic::SubFilter;

@@ -3,8 +3,8 @@ ghost use Rattle.std.specs.Prelude.{◌≡◌, ◌&&◌, [], not, Some, None, On
 ghost use Rattle.std.specs.Option.{option_copied};
 ghost use Rattle.std.specs.List.{filter, list_any};
 ghost use Rattle.std.specs.Rc.{rc_str_bytes};
-ghost use Rattle.mq_router.specs.definition.World.{has_key};
-ghost use Rattle.mq_router.specs.definition.Turns.{SameInTurn};
+ghost use Rattle.mq_world.specs.World.{has_key};
+ghost use Rattle.mq_world.specs.Turns.{SameInTurn};
 ghost use Rattle.mq_router.specs.router.Applied.{put_last};
 ghost use Rattle.mq_router.specs.subscriptions.Kept.{is_empty, AreHere};
 
@@ -187,7 +187,7 @@ ghost use Rattle.mq_router.specs.delivery.Gathers.{matched, GathersTurns};
 ghost use Rattle.mq_router.specs.subscriptions.AtWords.{JoinsAt, DirectJoins, GroupJoins, DirectLeaves, GroupLeaves, GroupTurns};
 ghost use Rattle.mq_router.specs.subscriptions.Kept.{direct_rows, group_rows, NoneEmpty};
 ghost use Rattle.mq_router.specs.subscriptions.KeptViews.{texts};
-ghost use Rattle.mq_router.specs.definition.Lists.{Text, same_text};
+ghost use Rattle.mq_world.specs.Lists.{Text, same_text};
 
 // Whether No Local keeps a client's own message from it.
 fn is_held_back(options: Options, client: &str, message: &Message) -> bool

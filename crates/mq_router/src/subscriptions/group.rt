@@ -3,7 +3,7 @@ ghost use Rattle.std.specs.Prelude.{◌≡◌, [], length, not, OnOk, OnErr};
 ghost use Rattle.std.specs.Option.{option_map};
 ghost use Rattle.std.specs.Rc.{rc_str_bytes};
 ghost use Rattle.std.specs.List.{filter, find, list_any};
-ghost use Rattle.mq_router.specs.definition.Sessions.{is_reader};
+ghost use Rattle.mq_world.specs.Sessions.{is_reader};
 ghost use Rattle.mq_router.specs.subscriptions.Kept.{has_client, is_empty};
 ghost use Rattle.mq_router.specs.router.Applied.{with_one, put_last};
 

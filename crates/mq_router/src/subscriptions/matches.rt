@@ -1,6 +1,6 @@
 //! The subscriptions of clients in their own name that take part in a message.
 ghost use Rattle.std.specs.Prelude.{◌≡◌, OnOk};
-ghost use Rattle.mq_router.specs.definition.Lists.{Text};
+ghost use Rattle.mq_world.specs.Lists.{Text};
 ghost use Rattle.mq_router.specs.delivery.Gathers.{matched, options_among, AreByClient};
 
 use crate::options::Options;

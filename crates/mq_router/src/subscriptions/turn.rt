@@ -1,6 +1,6 @@
 //! Turns in groups.
 ghost use Rattle.std.specs.Prelude.{◌≡◌, OnOk};
-ghost use Rattle.mq_router.specs.definition.Lists.{Text};
+ghost use Rattle.mq_world.specs.Lists.{Text};
 ghost use Rattle.mq_router.specs.delivery.Gathers.{shares_of, turns_listed, AreAscending};
 
 use crate::options::Options;

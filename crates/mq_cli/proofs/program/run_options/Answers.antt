@@ -1,6 +1,6 @@
 use Rattle.std.proofs.Common.{refl, subst, option_map, string_bytes}
-use Rattle.mq_router.specs.definition.World.{Limits, fresh_world, within}
-use Rattle.mq_router.specs.definition.StandsFor.{StandsFor}
+use Rattle.mq_world.specs.World.{Limits, fresh_world, within}
+use Rattle.mq_router.specs.StandsFor.{StandsFor}
 use Rattle.mq_cli.specs.Program.{limits_by, script_file, IsScript, AnswersScript}
 use Rattle.mq_cli.proofs.ProgramLemmas.{IfOk-begun}
 use Rattle.mq_cli.proofs.program.run_options.Goals as goal

@@ -1,6 +1,6 @@
 use Rattle.std.proofs.Common.{◌∙◌, ◌==◌, ℕ, List, Option, ap, ap₂, subst, sym, map, string_bytes, codes, cond}
 use Rattle.clap.specs.Words.{fault_of}
-use Rattle.mq_router.specs.definition.World.{World, Limits, empty_world, within}
+use Rattle.mq_world.specs.World.{World, Limits, empty_world, within}
 use Rattle.mq_cli.specs.CommandLine.{mqroute, given}
 use Rattle.mq_cli.specs.Program.{script_file, limits_by, BeginsIn, IsScript}
 use Rattle.mq_cli.proofs.ProgramLemmas.{memory_only, none_from_map, failure_two, begins_empty, script_told}

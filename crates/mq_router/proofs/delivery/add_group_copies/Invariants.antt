@@ -1,6 +1,6 @@
 use Rattle.std.proofs.Common.{◌≡◌, ◌++◌, map, take}
 use Rattle.mq_router.specs.router.Applied.{member_copy}
-use Rattle.mq_router.specs.definition.Views.{copy_of}
+use Rattle.mq_world.specs.Views.{copy_of}
 use Rattle.mq_router.specs.router.Held.{message_of, turn_of}
 use Rattle.mq_router.proofs.delivery.add_group_copies.Given as goal
 

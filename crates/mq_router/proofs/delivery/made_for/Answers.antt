@@ -1,6 +1,6 @@
 use Rattle.std.proofs.Common.{◌∙◌, ◌++◌, sym, ap, map, List}
 use Rattle.std.proofs.lemmas.Simd.{map-map}
-use Rattle.mq_router.specs.definition.World.{Message, Copy}
+use Rattle.mq_world.specs.World.{Message, Copy}
 use Rattle.mq_router.specs.router.Applied.{member_copy}
 use Rattle.mq_router.specs.delivery.Made.{copies_by}
 use Rattle.mq_router.specs.delivery.Gathers.{matched, by_client}

@@ -1,10 +1,10 @@
 use Rattle.std.proofs.Common.{◌≡◌, ◌∙◌, ◌++◌, [], sym, ap, map, List}
 use Rattle.std.specs.List.{filter}
 use Rattle.std.proofs.lemmas.Result.{IfOk-weaker}
-use Rattle.mq_router.specs.definition.World.{Subscription}
-use Rattle.mq_router.specs.definition.Sessions.{connected}
+use Rattle.mq_world.specs.World.{Subscription}
+use Rattle.mq_world.specs.Sessions.{connected}
 use Rattle.mq_router.specs.router.Applied.{next_members, member_copy}
-use Rattle.mq_router.specs.definition.Copies.{filter_matches, direct_copies}
+use Rattle.mq_world.specs.Copies.{filter_matches, direct_copies}
 use Rattle.mq_router.specs.delivery.Made.{rows_found, gives_options}
 use Rattle.mq_router.specs.delivery.Summaries.{summary_for}
 use Rattle.mq_router.specs.router.Held.{message_of, begin_of}

@@ -1,5 +1,5 @@
 use Rattle.std.proofs.Common.{◌≡◌, map, take}
-use Rattle.mq_router.specs.definition.Lists.{Text}
+use Rattle.mq_world.specs.Lists.{Text}
 use Rattle.mq_router.specs.delivery.Gathers.{turns_listed}
 use Rattle.mq_router.specs.delivery.Made.{turns_at}
 use Rattle.mq_router.proofs.delivery.members_served.Given as goal

@@ -1,8 +1,8 @@
 use Rattle.std.proofs.Common.{◌≡◌, ◌∙◌, ap, refl, List, Option, string_bytes}
 use Rattle.std.specs.Option.{option_copied, option_map}
 use Rattle.std.specs.Rc.{rc_str_bytes}
-use Rattle.mq_router.specs.definition.Lists.{Text}
-use Rattle.mq_router.specs.definition.World.{Subscription}
+use Rattle.mq_world.specs.Lists.{Text}
+use Rattle.mq_world.specs.World.{Subscription}
 use Rattle.mq_router.specs.router.Applied.{joined}
 use Rattle.mq_router.specs.subscriptions.Kept.{At, row}
 use Rattle.mq_router.proofs.InTurn.{same-is, same-then}

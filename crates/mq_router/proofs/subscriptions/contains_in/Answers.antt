@@ -1,7 +1,7 @@
 use Rattle.std.proofs.Common.{◌∙◌, sym, ap, refl, string_bytes}
 use Rattle.std.specs.Option.{option_copied, option_map}
 use Rattle.std.specs.List.{list_any}
-use Rattle.mq_router.specs.definition.World.{Subscription, has_key}
+use Rattle.mq_world.specs.World.{Subscription, has_key}
 use Rattle.mq_router.proofs.AtLemmas.{nothing}
 use Rattle.mq_router.proofs.TreeLemmas.{tree-any, tree-absent_any, found_filter}
 use Rattle.mq_router.proofs.subscriptions.contains_in.Goals as goal

@@ -5,9 +5,9 @@ use Rattle.std.specs.Result.{OnOk}
 use Rattle.std.specs.Map.{set_value}
 use Rattle.mq_topic.specs.Levels.{levels}
 use Rattle.mq_tree.specs.Entries.{is_key}
-use Rattle.mq_router.specs.definition.Lists.{Text}
-use Rattle.mq_router.specs.definition.World.{Subscription}
-use Rattle.mq_router.specs.definition.Turns.{SameInTurn}
+use Rattle.mq_world.specs.Lists.{Text}
+use Rattle.mq_world.specs.World.{Subscription}
+use Rattle.mq_world.specs.Turns.{SameInTurn}
 use Rattle.mq_router.specs.router.Applied.{joined}
 use Rattle.mq_router.specs.subscriptions.Kept.{At, AtEntries, AreKept, row, all_rows}
 use Rattle.mq_router.proofs.InTurn.{same-is, same-then}

@@ -1,7 +1,7 @@
 use Rattle.std.proofs.Common.{◌∙◌, sym, ap, refl, not, string_bytes}
 use Rattle.std.specs.Option.{option_copied_mut, option_map}
 use Rattle.std.specs.List.{filter}
-use Rattle.mq_router.specs.definition.World.{Subscription, has_key}
+use Rattle.mq_world.specs.World.{Subscription, has_key}
 use Rattle.mq_router.specs.subscriptions.Kept.{all_rows}
 use Rattle.mq_router.proofs.AtLemmas.{nothing}
 use Rattle.mq_router.proofs.TreeLemmas.{tree-left, tree-gone, tree-absent_left, set-kept, out-kept, found_filter}

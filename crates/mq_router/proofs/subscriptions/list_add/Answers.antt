@@ -3,7 +3,7 @@ use Rattle.std.specs.Option.{option_copied_mut}
 use Rattle.std.specs.Rc.{rc_str_bytes}
 use Rattle.std.specs.List.{AllByRecursion}
 use Rattle.std.specs.Map.{lookup, set_value}
-use Rattle.mq_router.specs.definition.Keys.{Key}
+use Rattle.mq_world.specs.Keys.{Key}
 use Rattle.mq_router.specs.subscriptions.Kept.{is_text, wanted_key, is_empty, OwnKey}
 use Rattle.mq_router.specs.subscriptions.KeptViews.{texts}
 use Rattle.mq_router.proofs.ListLemmas.{on_err}

@@ -3,7 +3,7 @@ use Rattle.std.specs.List.{list_any}
 use Rattle.std.specs.Rc.{rc_str_bytes}
 use Rattle.mq_router.specs.router.Applied.{joined}
 use Rattle.mq_router.specs.subscriptions.Asked.{wanted_row, has_wanted}
-use Rattle.mq_router.specs.definition.World.{Subscription, has_key}
+use Rattle.mq_world.specs.World.{Subscription, has_key}
 use Rattle.mq_router.specs.subscriptions.Kept.{wanted_key, all_rows, is_listed}
 use Rattle.mq_router.specs.subscriptions.KeptViews.{texts}
 use Rattle.mq_router.proofs.AnyLemmas.{listed-joined, listed-again, listed-undone}

@@ -1,6 +1,6 @@
 use Rattle.std.proofs.Common.{◌∙◌, sym, ap, refl, Some}
 use Rattle.std.specs.Option.{option_copied_mut}
-use Rattle.mq_router.specs.definition.World.{Subscription, has_key}
+use Rattle.mq_world.specs.World.{Subscription, has_key}
 use Rattle.mq_router.specs.router.Applied.{put_last}
 use Rattle.mq_router.specs.subscriptions.Kept.{all_rows}
 use Rattle.mq_router.proofs.AtLemmas.{nothing}

@@ -1,5 +1,5 @@
 use Rattle.std.proofs.Common.{◌∙◌}
-use Rattle.mq_router.specs.definition.Views.{copy_of}
+use Rattle.mq_world.specs.Views.{copy_of}
 use Rattle.mq_cli.proofs.KeptLemmas.{copy_fits}
 use Rattle.mq_cli.proofs.lines.copies.print_copy.Goals as goal
 

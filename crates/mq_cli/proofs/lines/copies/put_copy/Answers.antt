@@ -1,6 +1,6 @@
 use Rattle.std.proofs.Common.{◌≡◌, ◌∙◌}
 use Rattle.serde_json.specs.View.{members_view}
-use Rattle.mq_router.specs.definition.Views.{copy_of}
+use Rattle.mq_world.specs.Views.{copy_of}
 use Rattle.mq_cli.proofs.KeptLemmas.{set_copy, copy_again}
 use Rattle.mq_cli.proofs.lines.copies.put_copy.Goals as goal
 

@@ -1,5 +1,5 @@
 use Rattle.std.proofs.Common.{sym}
-use Rattle.mq_router.specs.definition.Views.{copy_of}
+use Rattle.mq_world.specs.Views.{copy_of}
 use Rattle.mq_cli.proofs.KeptLemmas.{copy_refilled, no_numbers, some_numbers}
 use Rattle.mq_cli.proofs.lines.copies.set_copy.Goals as goal
 

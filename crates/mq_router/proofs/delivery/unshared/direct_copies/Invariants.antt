@@ -1,6 +1,6 @@
 use Rattle.std.proofs.Common.{◌≡◌, ◌++◌, map}
 use Rattle.std.specs.Slice.Iter.{chunk_by_rest}
-use Rattle.mq_router.specs.definition.Views.{copy_of}
+use Rattle.mq_world.specs.Views.{copy_of}
 use Rattle.mq_router.specs.router.Held.{message_of, begin_of}
 use Rattle.mq_router.specs.delivery.Made.{copies_by, begins_by}
 use Rattle.mq_router.specs.delivery.Gathers.{matched, by_client, AreByClient}

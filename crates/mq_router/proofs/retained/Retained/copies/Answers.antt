@@ -4,9 +4,9 @@ use Rattle.std.specs.Option.{option_copied}
 use Rattle.std.proofs.lemmas.Simd.{map-map}
 use Rattle.mq_topic.specs.Levels.{levels}
 use Rattle.mq_tree.specs.Prefixes.{prefixes, met_by_filter}
-use Rattle.mq_router.specs.definition.World.{Retained}
-use Rattle.mq_router.specs.definition.Counts.{topics_of}
-use Rattle.mq_router.specs.definition.Copies.{filter_matches}
+use Rattle.mq_world.specs.World.{Retained}
+use Rattle.mq_world.specs.Counts.{topics_of}
+use Rattle.mq_world.specs.Copies.{filter_matches}
 use Rattle.mq_router.specs.retained.Receivers.{subscription_for}
 use Rattle.mq_router.specs.retained.Stored.{AreNear, message_in, KeptRetained}
 use Rattle.mq_router.proofs.RetainedLemmas.{matched-retained, keys-retained}

@@ -1,9 +1,9 @@
 use Rattle.std.proofs.Common.{◌∙◌, ap, sym, subst, not, true, false, List, ℕ, Option}
-use Rattle.mq_router.specs.definition.World.{Retained, Message, retained_cmp}
-use Rattle.mq_router.specs.definition.Retained.{has_topic, retained_after}
+use Rattle.mq_world.specs.World.{Retained, Message, retained_cmp}
+use Rattle.mq_world.specs.Retained.{has_topic, retained_after}
 use Rattle.mq_router.specs.retained.Stored.{stored_until, AreNear, retained_in, KeptRetained}
 use Rattle.mq_router.specs.router.Held.{message_of}
-use Rattle.mq_router.specs.definition.Lists.{with_row}
+use Rattle.mq_world.specs.Lists.{with_row}
 use Rattle.mq_router.proofs.ListLemmas.{on_err}
 use Rattle.mq_router.proofs.NearLemmas.{near-with_row, near-filter}
 use Rattle.mq_router.proofs.FiledLemmas.{sound-filed, same-kept, after-unretained, after-by}

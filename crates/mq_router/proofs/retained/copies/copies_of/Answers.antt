@@ -3,8 +3,8 @@ use Rattle.std.specs.List.{filter}
 use Rattle.std.specs.Option.{IfSome, option_copied}
 use Rattle.std.proofs.lemmas.List.{map_push}
 use Rattle.mq_router.specs.retained.Stored.{may_get, message_in}
-use Rattle.mq_router.specs.definition.Retained.{retained_copy}
-use Rattle.mq_router.specs.definition.Views.{copy_of}
+use Rattle.mq_world.specs.Retained.{retained_copy}
+use Rattle.mq_world.specs.Views.{copy_of}
 use Rattle.mq_router.specs.retained.Receivers.{subscription_for}
 use Rattle.mq_router.proofs.SendingLemmas.{near_at, sent_more, held_more}
 use Rattle.mq_router.proofs.retained.copies.copies_of.Goals as goal

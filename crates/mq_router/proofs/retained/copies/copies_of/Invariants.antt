@@ -2,8 +2,8 @@ use Rattle.std.proofs.Common.{◌≡◌, map, take}
 use Rattle.std.specs.List.{filter}
 use Rattle.std.specs.Option.{option_copied}
 use Rattle.mq_router.specs.retained.Stored.{may_get, message_in}
-use Rattle.mq_router.specs.definition.Retained.{retained_copy}
-use Rattle.mq_router.specs.definition.Views.{copy_of}
+use Rattle.mq_world.specs.Retained.{retained_copy}
+use Rattle.mq_world.specs.Views.{copy_of}
 use Rattle.mq_router.specs.retained.Receivers.{subscription_for}
 use Rattle.mq_router.proofs.retained.copies.copies_of.Given as goal
 

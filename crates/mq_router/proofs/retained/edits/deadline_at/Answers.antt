@@ -1,6 +1,6 @@
 use Rattle.std.proofs.Common.{◌∙◌, ap}
 use Rattle.std.specs.Option.{option_map, option_and_then}
-use Rattle.mq_router.specs.definition.World.{Retained}
+use Rattle.mq_world.specs.World.{Retained}
 use Rattle.mq_router.specs.retained.Stored.{message_in}
 use Rattle.mq_router.proofs.RetainedLemmas.{found-retained}
 use Rattle.mq_router.proofs.retained.edits.deadline_at.Goals as goal

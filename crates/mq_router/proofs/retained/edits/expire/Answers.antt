@@ -1,7 +1,7 @@
 use Rattle.std.proofs.Common.{◌≡◌, false, ◌∙◌, ◌+◌, suc, sym, subst, length, arith}
 use Rattle.std.specs.List.{filter, AllByRecursion}
 use Rattle.mq_tree.specs.Entries.{Entries}
-use Rattle.mq_router.specs.definition.Deadlines.{is_due}
+use Rattle.mq_router.specs.Deadlines.{is_due}
 use Rattle.mq_router.specs.retained.Stored.{retained_in, IsSound}
 use Rattle.mq_router.proofs.DueLemmas.{OneDue, one-due, due-sound, sound-none-due, none_due-kept, none_due-count}
 use Rattle.mq_router.specs.declared.retained.stored.Stored.{Stored}

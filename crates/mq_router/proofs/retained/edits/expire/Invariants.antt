@@ -1,6 +1,6 @@
 use Rattle.std.proofs.Common.{◌≡◌, ◌+◌, length, not}
 use Rattle.std.specs.List.{filter}
-use Rattle.mq_router.specs.definition.Deadlines.{is_due}
+use Rattle.mq_router.specs.Deadlines.{is_due}
 use Rattle.mq_router.specs.retained.Stored.{retained_in, IsSound}
 use Rattle.mq_router.proofs.retained.edits.expire.Given as goal
 

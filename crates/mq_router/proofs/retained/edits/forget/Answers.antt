@@ -1,6 +1,6 @@
 use Rattle.std.proofs.Common.{◌∙◌, ap, sym, subst, Option}
 use Rattle.mq_tree.specs.Entries.{Entries}
-use Rattle.mq_router.specs.definition.Deadlines.{Pair, Drops}
+use Rattle.mq_router.specs.Deadlines.{Pair, Drops}
 use Rattle.mq_router.specs.retained.Stored.{retained_in, IsSound}
 use Rattle.mq_router.proofs.RetainedLemmas.{take-retained}
 use Rattle.mq_router.proofs.IndexLemmas.{pair_at, taken-sound}

@@ -1,7 +1,7 @@
 use Rattle.std.proofs.Common.{◌≡◌, ◌∙◌, ap, refl, is_some, Option, Some, None}
 use denote.Ref.{Bor}
 use Rattle.std.specs.Option.{option_copied, option_map}
-use Rattle.mq_router.specs.definition.Retained.{has_topic}
+use Rattle.mq_world.specs.Retained.{has_topic}
 use Rattle.mq_router.specs.retained.Stored.{message_in, retained_in}
 use Rattle.mq_router.proofs.ListLemmas.{is_some-find}
 use Rattle.mq_router.proofs.RetainedLemmas.{found-retained}

@@ -1,8 +1,8 @@
 use Rattle.std.proofs.Common.{◌∙◌, ap, sym, subst, Option}
 use Rattle.mq_tree.specs.Entries.{Entries}
-use Rattle.mq_router.specs.definition.World.{Retained}
+use Rattle.mq_world.specs.World.{Retained}
 use Rattle.mq_router.specs.retained.Stored.{stored_until, retained_in, IsSound}
-use Rattle.mq_router.specs.definition.Deadlines.{Pair, Drops}
+use Rattle.mq_router.specs.Deadlines.{Pair, Drops}
 use Rattle.mq_router.specs.router.Held.{message_of}
 use Rattle.mq_router.proofs.IndexLemmas.{replaced, stored-sound, stored-retained, undone-sound, undone-pairs}
 use Rattle.mq_router.specs.declared.retained.stored.Stored.{Stored}

@@ -1,10 +1,10 @@
 use Rattle.std.proofs.Common.{◌≡◌, Ok, ◌∙◌, sym, ap, refl, rules, string_bytes}
 use Rattle.std.specs.Option.{option_copied}
-use Rattle.mq_router.specs.definition.Lists.{Text}
-use Rattle.mq_router.specs.definition.World.{Request, Connect, Disconnect, Subscribe, Unsubscribe, Publish, SetAcl, Advance, Stat, Options}
+use Rattle.mq_world.specs.Lists.{Text}
+use Rattle.mq_world.specs.World.{Request, Connect, Disconnect, Subscribe, Unsubscribe, Publish, SetAcl, Advance, Stat, Options}
 use Rattle.mq_router.specs.declared.router.Properties.{Properties}
 use Rattle.mq_router.specs.router.Held.{published_message}
-use Rattle.mq_router.specs.definition.Views.{request_of}
+use Rattle.mq_world.specs.Views.{request_of}
 use Rattle.mq_router.proofs.RouterLemmas.{stat-does}
 use Rattle.mq_router.proofs.WorldLemmas.{applied_answers, applied_counts, none_counted}
 use Rattle.mq_router.proofs.router.Router.apply_counted.Goals as goal

@@ -1,14 +1,14 @@
 use Rattle.std.proofs.Common.{◌≡◌, ◌∙◌, sym, ap, subst, map, string_bytes, true, false}
 use Rattle.std.specs.Option.{option_map, option_copied}
-use Rattle.mq_router.specs.definition.Lists.{with_row}
-use Rattle.mq_router.specs.definition.World.{Connect, session_cmp}
-use Rattle.mq_router.specs.definition.Sessions.{new_session, resumes}
+use Rattle.mq_world.specs.Lists.{with_row}
+use Rattle.mq_world.specs.World.{Connect, session_cmp}
+use Rattle.mq_world.specs.Sessions.{new_session, resumes}
 use Rattle.mq_router.specs.sessions.Near.{AllReached}
-use Rattle.mq_router.specs.definition.Views.{copy_of}
+use Rattle.mq_world.specs.Views.{copy_of}
 use Rattle.mq_router.specs.router.Held.{state_of}
-use Rattle.mq_router.specs.definition.StandsFor.{State}
+use Rattle.mq_router.specs.StandsFor.{State}
 use Rattle.mq_router.specs.router.Applied.{Does}
-use Rattle.mq_router.specs.declared.answer.Outcome.TheVariants.{Reason}
+use Rattle.mq_world.specs.declared.answer.Outcome.TheVariants.{Reason}
 use Rattle.mq_router.proofs.RouterLemmas.{connect-client, connect-user, connect-does, connect_rows}
 use Rattle.mq_router.proofs.ReachedLemmas.{reached-with_row}
 use Rattle.mq_router.proofs.router.Router.connect.Goals as goal

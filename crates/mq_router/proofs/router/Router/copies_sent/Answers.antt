@@ -1,14 +1,14 @@
 use Rattle.std.proofs.Common.{◌∙◌, sym, ap, map, refl, string_bytes, Option, None}
 use Rattle.std.specs.Option.{option_map}
 use Rattle.std.specs.Rc.{rc_str_bytes}
-use Rattle.mq_router.specs.definition.Lists.{Text}
-use Rattle.mq_router.specs.definition.World.{Subscription}
-use Rattle.mq_router.specs.definition.StandsFor.{State}
-use Rattle.mq_router.specs.definition.Sessions.{user_of}
-use Rattle.mq_router.specs.definition.Retained.{asks_for_retained, retained_copies}
+use Rattle.mq_world.specs.Lists.{Text}
+use Rattle.mq_world.specs.World.{Subscription}
+use Rattle.mq_router.specs.StandsFor.{State}
+use Rattle.mq_world.specs.Sessions.{user_of}
+use Rattle.mq_world.specs.Retained.{asks_for_retained, retained_copies}
 use Rattle.mq_router.specs.router.Applied.{copies_sent}
 use Rattle.mq_router.specs.subscriptions.Kept.{row}
-use Rattle.mq_router.specs.definition.Views.{copy_of}
+use Rattle.mq_world.specs.Views.{copy_of}
 use Rattle.mq_router.specs.router.Held.{state_of}
 use Rattle.mq_router.proofs.RouterLemmas.{sent-none, sent-some}
 use Rattle.mq_router.proofs.router.Router.copies_sent.Goals as goal

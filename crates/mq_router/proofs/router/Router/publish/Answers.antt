@@ -1,20 +1,20 @@
 use Rattle.std.proofs.Common.{rules, ◌≡◌, ◌∙◌, ◌==◌, ◌<◌, ◌+◌, ◌^◌, ℕ, sym, ap, subst, map, not, length, Err, Option, None, List}
 use Rattle.std.specs.Rc.{rc_str_bytes}
 use Rattle.mq_router.specs.router.Held.{turn_of, begin_of, state_of, published_message}
-use Rattle.mq_router.specs.definition.Lists.{Text}
-use Rattle.mq_router.specs.definition.World.{Publish, Message, Subscription}
-use Rattle.mq_router.specs.definition.Refusals.{first_refusal, client_conditions}
-use Rattle.mq_router.specs.definition.Sessions.{user_of}
-use Rattle.mq_router.specs.definition.Retained.{retained_after, is_full}
-use Rattle.mq_router.specs.definition.Clock.{deadline_of}
-use Rattle.mq_router.specs.definition.Waiting.{waiting_after, begins_to_wait}
+use Rattle.mq_world.specs.Lists.{Text}
+use Rattle.mq_world.specs.World.{Publish, Message, Subscription}
+use Rattle.mq_world.specs.Refusals.{first_refusal, client_conditions}
+use Rattle.mq_world.specs.Sessions.{user_of}
+use Rattle.mq_world.specs.Retained.{retained_after, is_full}
+use Rattle.mq_world.specs.Clock.{deadline_of}
+use Rattle.mq_world.specs.Waiting.{waiting_after, begins_to_wait}
 use Rattle.mq_router.specs.sessions.Begun.{Begin, begun_by, queued_all}
 use Rattle.mq_router.specs.sessions.Near.{AllReached}
 use Rattle.std.specs.Option.{IfSome}
-use Rattle.mq_router.specs.definition.Answers.{published}
-use Rattle.mq_router.specs.definition.StandsFor.{State, Refuses}
+use Rattle.mq_world.specs.Answers.{published}
+use Rattle.mq_router.specs.StandsFor.{State, Refuses}
 use Rattle.mq_router.specs.router.Applied.{Does, world_of, copies_held, begun_held, members_held, all_turned}
-use Rattle.mq_router.specs.definition.Views.{reply_of}
+use Rattle.mq_world.specs.Views.{reply_of}
 use Rattle.mq_router.proofs.InTurn.{same-is, same-then}
 use Rattle.mq_router.proofs.RouterLemmas.{refused-applied, publish-client, publish-name, publish-write, publish-full, publish-does}
 use Rattle.mq_router.proofs.BegunLemmas.{queued-is, waits-is}
@@ -23,7 +23,7 @@ use Rattle.std.proofs.lemmas.List.{length-map}
 use Rattle.std.proofs.lemmas.Result.{err_from_is_err_and}
 use Rattle.mq_acl.specs.Access.{allowed}
 use Rattle.mq_acl.specs.declared.access.Direction.TheVariants.{Writing}
-use Rattle.mq_router.specs.declared.refusal.Refusal.TheVariants.{NotAuthorized, RetainedFull}
+use Rattle.mq_world.specs.declared.refusal.Refusal.TheVariants.{NotAuthorized, RetainedFull}
 use Rattle.mq_router.proofs.router.Router.publish.Goals as goal
 
 pub returns-in_err-check_client-clause-applied : goal.returns-in_err-check_client-clause-applied

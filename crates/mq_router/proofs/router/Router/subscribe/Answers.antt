@@ -3,12 +3,12 @@ use Rattle.std.proofs.lemmas.Result.{err_from_is_err_and}
 use Rattle.std.specs.Rc.{rc_str_bytes}
 use Rattle.mq_topic.specs.declared.subscription.SubFilter.{SubFilter}
 use Rattle.mq_router.specs.subscriptions.Asked.{wanted_row}
-use Rattle.mq_router.specs.definition.World.{Subscribe, Subscription, Options, asked}
-use Rattle.mq_router.specs.definition.Lists.{Text}
-use Rattle.mq_router.specs.definition.Refusals.{first_refusal, client_conditions}
-use Rattle.mq_router.specs.definition.StandsFor.{State}
+use Rattle.mq_world.specs.World.{Subscribe, Subscription, Options, asked}
+use Rattle.mq_world.specs.Lists.{Text}
+use Rattle.mq_world.specs.Refusals.{first_refusal, client_conditions}
+use Rattle.mq_router.specs.StandsFor.{State}
 use Rattle.mq_router.specs.router.Applied.{Does, joined, copies_sent}
-use Rattle.mq_router.specs.definition.Views.{copy_of}
+use Rattle.mq_world.specs.Views.{copy_of}
 use Rattle.mq_router.specs.subscriptions.Kept.{options_of}
 use Rattle.mq_router.specs.router.Held.{state_of}
 use Rattle.mq_router.proofs.InTurn.{same-is, same-then}
@@ -16,7 +16,7 @@ use Rattle.mq_router.proofs.RouterLemmas.{refused-applied, subscribe-client, sub
 use Rattle.std.proofs.Common.{map, Option, Some, String, Global, is_some, ◌&&◌, refl, string_bytes}
 use Rattle.std.specs.Option.{option_map}
 use Rattle.mq_topic.specs.Texts.{share_of}
-use Rattle.mq_router.specs.declared.answer.Outcome.TheVariants.{Reason}
+use Rattle.mq_world.specs.declared.answer.Outcome.TheVariants.{Reason}
 use Rattle.mq_router.proofs.router.Router.subscribe.Goals as goal
 
 pub returns-in_err-check_client-clause-applied : goal.returns-in_err-check_client-clause-applied

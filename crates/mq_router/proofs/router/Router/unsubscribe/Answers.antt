@@ -3,15 +3,15 @@ use Rattle.std.proofs.lemmas.Result.{err_from_is_err_and}
 use Rattle.std.specs.List.{filter, list_any}
 use Rattle.std.proofs.Common.{Option, Bool, List}
 use Rattle.mq_topic.specs.Texts.{share_of}
-use Rattle.mq_router.specs.definition.Lists.{Text}
+use Rattle.mq_world.specs.Lists.{Text}
 use Rattle.mq_router.specs.subscriptions.Asked.{has_wanted}
-use Rattle.mq_router.specs.definition.World.{Subscription, Unsubscribe, has_key}
-use Rattle.mq_router.specs.definition.Refusals.{first_refusal, client_conditions}
-use Rattle.mq_router.specs.definition.Answers.{reason}
+use Rattle.mq_world.specs.World.{Subscription, Unsubscribe, has_key}
+use Rattle.mq_world.specs.Refusals.{first_refusal, client_conditions}
+use Rattle.mq_world.specs.Answers.{reason}
 use Rattle.mq_router.specs.router.Held.{state_of}
-use Rattle.mq_router.specs.definition.StandsFor.{State}
+use Rattle.mq_router.specs.StandsFor.{State}
 use Rattle.mq_router.specs.router.Applied.{Does}
-use Rattle.mq_router.specs.definition.Views.{reply_of}
+use Rattle.mq_world.specs.Views.{reply_of}
 use Rattle.mq_router.proofs.RouterLemmas.{refused-applied, unsubscribe-client, unsubscribe-filter, unsubscribe-does}
 use Rattle.mq_router.proofs.router.Router.unsubscribe.Goals as goal
 

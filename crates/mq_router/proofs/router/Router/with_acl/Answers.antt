@@ -1,6 +1,6 @@
 use Rattle.std.proofs.Common.{Some, subst}
-use Rattle.mq_router.specs.definition.World.{Limits, fresh_world, within}
-use Rattle.mq_router.specs.definition.StandsFor.{StandsFor}
+use Rattle.mq_world.specs.World.{Limits, fresh_world, within}
+use Rattle.mq_router.specs.StandsFor.{StandsFor}
 use Rattle.mq_router.proofs.router.Router.with_acl.Goals as goal
 
 pub returns : goal.returns

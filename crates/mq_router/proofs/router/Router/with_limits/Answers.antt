@@ -1,7 +1,7 @@
 use Rattle.std.proofs.Common.{◌≡◌, sym, subst, refl}
-use Rattle.mq_router.specs.definition.World.{fresh_world, within}
-use Rattle.mq_router.specs.definition.Views.{limits_of}
-use Rattle.mq_router.specs.definition.StandsFor.{State, StandsFor}
+use Rattle.mq_world.specs.World.{fresh_world, within}
+use Rattle.mq_world.specs.Views.{limits_of}
+use Rattle.mq_router.specs.StandsFor.{State, StandsFor}
 use Rattle.mq_router.proofs.Fresh.{fresh_state, fresh-stands}
 use Rattle.mq_router.proofs.router.Router.with_limits.Goals as goal
 

@@ -2,7 +2,7 @@ use Rattle.std.proofs.Common.{◌∙◌, sym, ap, map}
 use Rattle.std.specs.List.{filter}
 use Rattle.std.specs.Map.Iter.{deref_pair}
 use Rattle.std.proofs.lemmas.Map.Iter.{rest_more, rest_all}
-use Rattle.mq_router.specs.definition.World.{Session}
+use Rattle.mq_world.specs.World.{Session}
 use Rattle.mq_router.specs.router.Applied.{lasts, without}
 use Rattle.mq_router.specs.router.Held.{session_in}
 use Rattle.mq_router.proofs.EndLemmas.{end-more, end-none, all-last}

@@ -1,7 +1,7 @@
 use Rattle.std.proofs.Common.{◌≡◌, ◌∙◌, sym, subst, map, false, List}
 use Rattle.std.specs.List.{AllByRecursion}
-use Rattle.mq_router.specs.definition.World.{Session}
-use Rattle.mq_router.specs.definition.Sessions.{has_ended}
+use Rattle.mq_world.specs.World.{Session}
+use Rattle.mq_world.specs.Sessions.{has_ended}
 use Rattle.mq_router.specs.router.Held.{session_in}
 use Rattle.mq_router.proofs.EndLemmas.{none_ended}
 use Rattle.mq_router.proofs.sessions.Sessions.may_end.Goals as goal

@@ -1,8 +1,8 @@
 use Rattle.std.proofs.Common.{◌≡◌, ◌∙◌, ap, sym, subst, map, true, false}
-use Rattle.mq_router.specs.definition.Lists.{with_row}
+use Rattle.mq_world.specs.Lists.{with_row}
 use Rattle.std.specs.Rc.{rc_str_bytes}
-use Rattle.mq_router.specs.definition.World as world
-use Rattle.mq_router.specs.definition.World.{session_cmp}
+use Rattle.mq_world.specs.World as world
+use Rattle.mq_world.specs.World.{session_cmp}
 use Rattle.mq_router.specs.sessions.Ends.{EndsFrom, AllEndFrom}
 use Rattle.mq_router.specs.router.Held.{session_in}
 use Rattle.mq_router.proofs.OrderLemmas.{session_total, all-with_row}

@@ -1,5 +1,5 @@
 use Rattle.std.proofs.Common.{◌∙◌, ap, sym, subst, map, not}
-use Rattle.mq_router.specs.definition.World.{has_id}
+use Rattle.mq_world.specs.World.{has_id}
 use Rattle.mq_router.specs.sessions.Ends.{EndsFrom, AllEndFrom}
 use Rattle.mq_router.proofs.OrderLemmas.{all_filtered}
 use Rattle.mq_router.specs.router.Held.{session_in}

@@ -1,6 +1,6 @@
 use Rattle.std.proofs.Common.{◌∙◌, ap, map, not, rules}
 use Rattle.std.proofs.lemmas.Map.Made.{filter_same_pairs}
-use Rattle.mq_router.specs.definition.Sessions.{has_ended}
+use Rattle.mq_world.specs.Sessions.{has_ended}
 use Rattle.mq_router.specs.router.Held.{session_in}
 use Rattle.mq_router.proofs.ListLemmas.{map-filter}
 use Rattle.mq_router.proofs.sessions.edits.end.Goals as goal

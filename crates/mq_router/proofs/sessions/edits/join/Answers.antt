@@ -1,5 +1,5 @@
 use Rattle.std.proofs.Common.{◌∙◌, sym, ap, map, None, []}
-use Rattle.mq_router.specs.definition.World.{Session}
+use Rattle.mq_world.specs.World.{Session}
 use Rattle.mq_router.specs.sessions.Begun.{queued, edited}
 use Rattle.mq_router.specs.router.Held.{session_in, shown, waiting_of}
 use Rattle.mq_router.proofs.SessionLemmas.{edited-is, nobody-edited}

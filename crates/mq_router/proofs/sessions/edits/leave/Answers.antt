@@ -1,6 +1,6 @@
 use Rattle.std.proofs.Common.{ℕ, ◌∙◌, sym, ap, subst, map}
-use Rattle.mq_router.specs.definition.World.{Session, Away}
-use Rattle.mq_router.specs.definition.Sessions.{session_end}
+use Rattle.mq_world.specs.World.{Session, Away}
+use Rattle.mq_world.specs.Sessions.{session_end}
 use Rattle.mq_router.specs.sessions.Ends.{AllEndFrom}
 use Rattle.mq_router.specs.router.Held.{session_in}
 use Rattle.mq_router.proofs.SessionLemmas.{finds, edited-is, nobody-edited}

@@ -1,7 +1,7 @@
 use Rattle.std.proofs.Common.{◌∙◌, ap, sym, false}
 use Rattle.std.specs.Ordering.{is_eq}
 use Rattle.std.specs.Option.{option_map, option_map_or}
-use Rattle.mq_router.specs.definition.Sessions.{is_present}
+use Rattle.mq_world.specs.Sessions.{is_present}
 use Rattle.mq_router.specs.router.Held.{session_at}
 use Rattle.mq_router.proofs.SessionLemmas.{found-is, key-is}
 use Rattle.mq_router.proofs.sessions.found.connected.Goals as goal

@@ -1,8 +1,8 @@
 use Rattle.std.proofs.Common.{◌≡◌, map, ◌++◌}
 use Rattle.std.specs.List.{filter_map}
-use Rattle.mq_router.specs.definition.Waiting.{resumed_copy}
+use Rattle.mq_world.specs.Waiting.{resumed_copy}
 use Rattle.mq_router.specs.sessions.Near.{AreReached}
-use Rattle.mq_router.specs.definition.Views.{copy_of}
+use Rattle.mq_world.specs.Views.{copy_of}
 use Rattle.mq_router.specs.router.Held.{waiting_of}
 use Rattle.mq_router.proofs.sessions.resume.resumed_copies.Given as goal
 

@@ -1,6 +1,6 @@
 use Rattle.std.proofs.Common.{◌∙◌, ap, List, List, subst, sym}
 use Rattle.std.specs.List.{flat_map, filter}
-use Rattle.mq_router.specs.definition.Copies.{filter_matches}
+use Rattle.mq_world.specs.Copies.{filter_matches}
 use Rattle.mq_router.specs.subscriptions.Kept.{At, AreAtFilters, KeptSubscriptions}
 use Rattle.mq_router.proofs.FoundLemmas.{found-rows, found-order}
 use Rattle.mq_router.proofs.subscriptions.Subscriptions.candidates.Goals as goal

@@ -1,5 +1,5 @@
 use Rattle.std.proofs.Common.{Some}
-use Rattle.mq_router.specs.definition.World.{Subscription}
+use Rattle.mq_world.specs.World.{Subscription}
 use Rattle.mq_router.specs.subscriptions.KeptViews.{texts}
 use Rattle.mq_router.proofs.AtLemmas.{nothing}
 use Rattle.mq_router.proofs.AnyLemmas.{listed-turned}

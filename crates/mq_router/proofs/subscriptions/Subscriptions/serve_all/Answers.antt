@@ -1,8 +1,8 @@
 use Rattle.std.proofs.Common.{◌+◌, ◌∙◌, ◌∷◌, sym, ap, map, drop, Some, List}
 use Rattle.std.specs.Rc.{rc_str_bytes}
 use Rattle.std.proofs.lemmas.List.{drop_more, drop_all}
-use Rattle.mq_router.specs.definition.Lists.{Text}
-use Rattle.mq_router.specs.definition.World.{Subscription, has_key}
+use Rattle.mq_world.specs.Lists.{Text}
+use Rattle.mq_world.specs.World.{Subscription, has_key}
 use Rattle.mq_router.specs.router.Applied.{all_turned, put_last}
 use Rattle.mq_router.specs.router.Held.{turn_of}
 use Rattle.mq_router.proofs.InTurn.{same-is, same-then, same-itself, all_turned-same}

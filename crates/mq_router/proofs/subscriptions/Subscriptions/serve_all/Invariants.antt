@@ -1,5 +1,5 @@
 use Rattle.std.proofs.Common.{map, drop}
-use Rattle.mq_router.specs.definition.Turns.{SameInTurn}
+use Rattle.mq_world.specs.Turns.{SameInTurn}
 use Rattle.mq_router.specs.router.Applied.{all_turned}
 use Rattle.mq_router.specs.subscriptions.Kept.{AreKeys}
 use Rattle.mq_router.specs.router.Held.{turn_of}

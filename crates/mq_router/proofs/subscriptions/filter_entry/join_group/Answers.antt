@@ -4,9 +4,9 @@ use Rattle.std.specs.Rc.{rc_str_bytes}
 use Rattle.std.specs.Result.{OnOk}
 use Rattle.std.specs.Map.{set_value, lookup}
 use Rattle.std.specs.Option.{option_copied_mut}
-use Rattle.mq_router.specs.definition.Keys.{Key}
-use Rattle.mq_router.specs.definition.Lists.{Text}
-use Rattle.mq_router.specs.definition.Turns.{SameInTurn}
+use Rattle.mq_world.specs.Keys.{Key}
+use Rattle.mq_world.specs.Lists.{Text}
+use Rattle.mq_world.specs.Turns.{SameInTurn}
 use Rattle.mq_router.specs.router.Applied.{joined}
 use Rattle.mq_router.proofs.SessionLemmas.{finds}
 use Rattle.mq_router.proofs.ListLemmas.{on_err}

@@ -1,6 +1,6 @@
 use Rattle.std.proofs.Common.{◌∙◌, IsTrue, subst, sym, true≢false}
 use Rattle.std.proofs.lemmas.Result.{err_from_is_err_and}
-use Rattle.mq_router.specs.definition.Views.{copy_of}
+use Rattle.mq_world.specs.Views.{copy_of}
 use Rattle.mq_cli.proofs.BehindLemmas.{behind}
 use Rattle.mq_cli.proofs.lines.copies.Copies.print_all.Goals as goal
 use Rattle.mq_cli.proofs.lines.copies.Copies.print_all.Goals.{in-Some, in-None}

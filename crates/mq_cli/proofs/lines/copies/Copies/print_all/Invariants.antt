@@ -1,6 +1,6 @@
 use Rattle.std.proofs.Common.{◌≡◌, ◌++◌, IfSome, map, take}
 use Rattle.std.specs.List.{flat_map}
-use Rattle.mq_router.specs.definition.Views.{copy_of}
+use Rattle.mq_world.specs.Views.{copy_of}
 use Rattle.mq_cli.specs.Printed.{copy_text}
 use Rattle.mq_cli.specs.Behind.{Keeps}
 use Rattle.mq_cli.proofs.lines.copies.Copies.print_all.Given as goal

@@ -1,5 +1,5 @@
 use Rattle.std.proofs.Common.{◌∙◌, ap}
-use Rattle.mq_router.specs.definition.Lists.{ascending}
+use Rattle.mq_world.specs.Lists.{ascending}
 use Rattle.mq_router.specs.delivery.Summaries.{Summary}
 use Rattle.mq_router.proofs.CopyLemmas.{sorted-is}
 use Rattle.mq_router.proofs.delivery.summary.Summary.into_ids.Goals as goal

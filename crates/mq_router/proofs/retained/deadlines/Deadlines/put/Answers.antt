@@ -1,6 +1,6 @@
 use Rattle.std.proofs.Common.{◌≡◌, ◌∙◌, ◌||◌, ap, map, sym, List, Option, Some}
 use Rattle.std.specs.Option.{option_map}
-use Rattle.mq_router.specs.definition.Deadlines.{Pair, names, has_pair}
+use Rattle.mq_router.specs.Deadlines.{Pair, names, has_pair}
 use Rattle.mq_router.specs.retained.Due.{due_of}
 use Rattle.mq_router.proofs.DeadlineLemmas.{has-insert}
 use Rattle.mq_router.proofs.retained.deadlines.Deadlines.put.Goals as goal

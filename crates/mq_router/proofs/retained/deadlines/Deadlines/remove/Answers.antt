@@ -1,6 +1,6 @@
 use Rattle.std.proofs.Common.{ap, map, sym, subst, List, Option, Some}
 use Rattle.std.specs.Option.{option_map}
-use Rattle.mq_router.specs.definition.Deadlines.{Pair, Drops}
+use Rattle.mq_router.specs.Deadlines.{Pair, Drops}
 use Rattle.mq_router.specs.retained.Due.{due_of}
 use Rattle.mq_router.proofs.DeadlineLemmas.{has-remove}
 use Rattle.mq_router.proofs.retained.deadlines.Deadlines.remove.Goals as goal

@@ -1,6 +1,6 @@
 use Rattle.std.proofs.Common.{◌≡◌, ◌∙◌, ◌≤◌, ap, map, sym, subst, List, arith}
 use Rattle.std.specs.BTreeMap.Range.{IsLeBy, IsLtBy}
-use Rattle.mq_router.specs.definition.Deadlines.{Pair, TakesDue, NoneDue}
+use Rattle.mq_router.specs.Deadlines.{Pair, TakesDue, NoneDue}
 use Rattle.mq_router.specs.retained.Due.{due_of}
 use Rattle.mq_router.proofs.DeadlineLemmas.{first-taken, none-due, due_cmp, head-is}
 use Rattle.std.proofs.lemmas.List.Elements.{recursion_from_All}

@@ -1,7 +1,7 @@
 use Rattle.std.proofs.Common.{◌≡◌, ◌∙◌, subst}
 use Rattle.std.specs.Option.{option_copied}
 use Rattle.std.specs.List.{list_any}
-use Rattle.mq_router.specs.definition.World.{has_key}
+use Rattle.mq_world.specs.World.{has_key}
 use Rattle.mq_router.specs.subscriptions.Kept.{At}
 use Rattle.mq_router.specs.subscriptions.KeptViews.{texts}
 use Rattle.mq_router.proofs.AtLemmas.{at-any-own, at-any-shared}

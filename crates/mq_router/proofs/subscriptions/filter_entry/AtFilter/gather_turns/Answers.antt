@@ -3,8 +3,8 @@ use Rattle.std.specs.Map.Iter.{deref_pair}
 use Rattle.std.specs.Rc.{rc_str_bytes}
 use Rattle.std.specs.Option.{option_map}
 use Rattle.std.proofs.lemmas.Map.Iter.{rest_more}
-use Rattle.mq_router.specs.definition.Lists.{Text}
-use Rattle.mq_router.specs.definition.World.{Subscription}
+use Rattle.mq_world.specs.Lists.{Text}
+use Rattle.mq_world.specs.World.{Subscription}
 use Rattle.mq_router.specs.router.Applied.{next_in}
 use Rattle.mq_router.specs.subscriptions.Kept.{At, row}
 use Rattle.mq_router.specs.subscriptions.KeptViews.{texts}

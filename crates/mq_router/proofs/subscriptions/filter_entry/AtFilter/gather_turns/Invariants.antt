@@ -1,5 +1,5 @@
 use Rattle.std.proofs.Common.{◌≡◌, ◌++◌}
-use Rattle.mq_router.specs.definition.Lists.{Text}
+use Rattle.mq_world.specs.Lists.{Text}
 use Rattle.mq_router.specs.router.Applied.{next_in}
 use Rattle.mq_router.specs.subscriptions.KeptViews.{texts}
 use Rattle.mq_router.specs.delivery.Gathers.{turns_listed}

@@ -3,8 +3,8 @@ use Rattle.std.specs.Option.{option_copied}
 use Rattle.std.specs.Rc.{rc_str_bytes}
 use Rattle.std.specs.Result.{OnOk}
 use Rattle.std.proofs.lemmas.Result.{on_ok_weaker}
-use Rattle.mq_router.specs.definition.World.{Subscription}
-use Rattle.mq_router.specs.definition.Turns.{SameInTurn}
+use Rattle.mq_world.specs.World.{Subscription}
+use Rattle.mq_world.specs.Turns.{SameInTurn}
 use Rattle.mq_router.specs.router.Applied.{joined}
 use Rattle.mq_router.specs.subscriptions.Kept.{At, row, direct_rows, group_rows}
 use Rattle.mq_router.specs.subscriptions.KeptViews.{texts}

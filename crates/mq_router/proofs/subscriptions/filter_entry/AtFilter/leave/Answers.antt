@@ -1,7 +1,7 @@
 use Rattle.std.proofs.Common.{◌≡◌, ◌++◌, subst, not, List}
 use Rattle.std.specs.Option.{option_copied}
 use Rattle.std.specs.List.{filter}
-use Rattle.mq_router.specs.definition.World.{Subscription, has_key}
+use Rattle.mq_world.specs.World.{Subscription, has_key}
 use Rattle.mq_router.specs.subscriptions.Kept.{At, direct_rows, group_rows}
 use Rattle.mq_router.specs.subscriptions.KeptViews.{texts}
 use Rattle.mq_router.proofs.AtLemmas.{at-left-own, at-left-shared, here-is}

@@ -1,6 +1,6 @@
 use Rattle.std.proofs.Common.{◌++◌, subst, Some, List}
-use Rattle.mq_router.specs.definition.World.{Subscription, has_key}
-use Rattle.mq_router.specs.definition.Turns.{SameInTurn}
+use Rattle.mq_world.specs.World.{Subscription, has_key}
+use Rattle.mq_world.specs.Turns.{SameInTurn}
 use Rattle.mq_router.specs.router.Applied.{put_last}
 use Rattle.mq_router.specs.subscriptions.Kept.{At, direct_rows, group_rows}
 use Rattle.mq_router.specs.subscriptions.KeptViews.{texts}

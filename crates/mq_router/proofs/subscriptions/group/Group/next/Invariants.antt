@@ -1,6 +1,6 @@
 use Rattle.std.proofs.Common.{◌≡◌}
 use Rattle.std.specs.List.{find}
-use Rattle.mq_router.specs.definition.Sessions.{is_reader}
+use Rattle.mq_world.specs.Sessions.{is_reader}
 use Rattle.mq_router.specs.subscriptions.KeptViews.{texts}
 use Rattle.mq_router.proofs.subscriptions.group.Group.next.Given as goal
 

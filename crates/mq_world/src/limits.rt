@@ -1,6 +1,6 @@
 ghost use Rattle.std.specs.Prelude.{◌≡◌};
-ghost use Rattle.mq_router.specs.definition.World.{default_limits};
-ghost use Rattle.mq_router.specs.definition.Views.{limits_of};
+ghost use Rattle.mq_world.specs.World.{default_limits};
+ghost use Rattle.mq_world.specs.Views.{limits_of};
 
 /// How much a router keeps for clients.
 #[derive(Clone, Copy, Debug, PartialEq, Eq)]

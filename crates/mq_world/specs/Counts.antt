@@ -4,12 +4,12 @@ use Rattle.std.specs.List.{filter}
 use Rattle.mq_topic.specs.Levels.{levels, level_order}
 use Rattle.mq_tree.specs.Entries.{capped}
 use Rattle.mq_tree.specs.Prefixes.{prefixes, met_by_name, met_by_filter}
-use Rattle.mq_router.specs.definition.Lists.{in_order}
-use Rattle.mq_router.specs.definition.World.{World, Subscription, Retained, Request, Connect, Disconnect, Subscribe, Unsubscribe, Publish, SetAcl, Advance, Stat, asked, subscriptions_of}
-use Rattle.mq_router.specs.definition.Clock.{is_over}
-use Rattle.mq_router.specs.definition.Retained.{asks_for_retained}
-use Rattle.mq_router.specs.declared.answer.Outcome.{Outcome}
-use Rattle.mq_router.specs.declared.answer.Outcome.TheVariants.{Counts}
+use Rattle.mq_world.specs.Lists.{in_order}
+use Rattle.mq_world.specs.World.{World, Subscription, Retained, Request, Connect, Disconnect, Subscribe, Unsubscribe, Publish, SetAcl, Advance, Stat, asked, subscriptions_of}
+use Rattle.mq_world.specs.Clock.{is_over}
+use Rattle.mq_world.specs.Retained.{asks_for_retained}
+use Rattle.mq_world.specs.declared.answer.Outcome.{Outcome}
+use Rattle.mq_world.specs.declared.answer.Outcome.TheVariants.{Counts}
 
 -- the levels of the filters, share names left out, in level order, each once
 abbrev pub filters_among : List Subscription → List (List (List ℕ))

@@ -4,15 +4,15 @@ use Rattle.std.specs.Option.{option_map}
 use Rattle.std.specs.Rc.{rc_str_bytes}
 use Rattle.std.specs.declared.alloc.Global.{Global}
 use Rattle.std.specs.declared.rc.Rc.{Rc}
-use Rattle.mq_router.specs.definition.Keys.{Key}
-use Rattle.mq_router.specs.definition.Lists.{Text}
-use Rattle.mq_router.specs.definition.World.{Request, Group, Copy, Reply}
-use Rattle.mq_router.specs.definition.World as world
-use Rattle.mq_router.specs.declared.command.Command.{Command}
-use Rattle.mq_router.specs.declared.command.Command.TheVariants.{Connect, Disconnect, Subscribe, Unsubscribe, Publish, SetAcl, Advance, Stat}
-use Rattle.mq_router.specs.declared.limits.Limits.{Limits}
-use Rattle.mq_router.specs.declared.answer.Delivery.{Delivery}
-use Rattle.mq_router.specs.declared.answer.Answer.{Answer}
+use Rattle.mq_world.specs.Keys.{Key}
+use Rattle.mq_world.specs.Lists.{Text}
+use Rattle.mq_world.specs.World.{Request, Group, Copy, Reply}
+use Rattle.mq_world.specs.World as world
+use Rattle.mq_world.specs.declared.command.Command.{Command}
+use Rattle.mq_world.specs.declared.command.Command.TheVariants.{Connect, Disconnect, Subscribe, Unsubscribe, Publish, SetAcl, Advance, Stat}
+use Rattle.mq_world.specs.declared.limits.Limits.{Limits}
+use Rattle.mq_world.specs.declared.answer.Delivery.{Delivery}
+use Rattle.mq_world.specs.declared.answer.Answer.{Answer}
 
 abbrev pub limits_of : Limits → world.Limits
 limits_of limits = record { retained = limits.retained; queued = limits.queued }

@@ -4,7 +4,7 @@ use Rattle.std.specs.Rc.{rc_str_bytes}
 use Rattle.std.specs.declared.alloc.Global.{Global}
 use Rattle.std.specs.declared.cmp.Ordering.{Ordering}
 use Rattle.std.specs.declared.rc.RcStr.{RcStr}
-use Rattle.mq_router.specs.definition.Lists.{same_text, text_cmp}
+use Rattle.mq_world.specs.Lists.{same_text, text_cmp}
 
 abbrev pub Key : Type 0
 Key = RcStr Global

@@ -3,19 +3,19 @@ use Rattle.std.specs.Prelude.{◌≡◌, ℕ, Bool, true, false, List, [], ◌�
 use Rattle.std.proofs.Common.{refl}
 use Rattle.std.specs.Option.{option_map_or}
 use Rattle.mq_acl.specs.Access.{allowed}
-use Rattle.mq_router.specs.definition.Lists.{Text, with_row}
-use Rattle.mq_router.specs.definition.World.{World, Request, Connect, Disconnect, Subscribe, Unsubscribe, Publish, SetAcl, Advance, Stat, Group, Copy, Reply, fresh_world, empty_world, within}
-use Rattle.mq_router.specs.definition.Refusals.{refusal}
-use Rattle.mq_router.specs.definition.Copies.{direct_copies}
-use Rattle.mq_router.specs.definition.Groups.{groups_of, served}
-use Rattle.mq_router.specs.definition.Retained.{retained_after, retained_copies}
-use Rattle.mq_router.specs.definition.Waiting.{resumed_copies, begins_to_wait}
-use Rattle.mq_router.specs.definition.Counts.{filters_of, counts, steps}
-use Rattle.mq_router.specs.definition.Answers.{answer}
-use Rattle.mq_router.specs.definition.After.{after, next}
-use Rattle.mq_router.specs.declared.refusal.Refusal.{Refusal}
-use Rattle.mq_router.specs.declared.refusal.Refusal.TheVariants.{ClientId, UserName, NotConnected, TopicName, TopicFilter, SharedNoLocal, NotAuthorized, RetainedFull, AclLine, ClockTooFar}
-use Rattle.mq_router.specs.declared.answer.Outcome.TheVariants.{Reason, Counts}
+use Rattle.mq_world.specs.Lists.{Text, with_row}
+use Rattle.mq_world.specs.World.{World, Request, Connect, Disconnect, Subscribe, Unsubscribe, Publish, SetAcl, Advance, Stat, Group, Copy, Reply, fresh_world, empty_world, within}
+use Rattle.mq_world.specs.Refusals.{refusal}
+use Rattle.mq_world.specs.Copies.{direct_copies}
+use Rattle.mq_world.specs.Groups.{groups_of, served}
+use Rattle.mq_world.specs.Retained.{retained_after, retained_copies}
+use Rattle.mq_world.specs.Waiting.{resumed_copies, begins_to_wait}
+use Rattle.mq_world.specs.Counts.{filters_of, counts, steps}
+use Rattle.mq_world.specs.Answers.{answer}
+use Rattle.mq_world.specs.After.{after, next}
+use Rattle.mq_world.specs.declared.refusal.Refusal.{Refusal}
+use Rattle.mq_world.specs.declared.refusal.Refusal.TheVariants.{ClientId, UserName, NotConnected, TopicName, TopicFilter, SharedNoLocal, NotAuthorized, RetainedFull, AclLine, ClockTooFar}
+use Rattle.mq_world.specs.declared.answer.Outcome.TheVariants.{Reason, Counts}
 
 -- what each command is answered
 abbrev answers : World → List Request → List (Result Reply Refusal)

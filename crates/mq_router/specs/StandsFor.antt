@@ -1,17 +1,17 @@
 -- Which worlds a router stands for, and how it answers for each of them.
 use Rattle.std.specs.Prelude.{◌≡◌, ℕ, ◌+◌, List, Option, Some, None, Result, MatchResult, ◌⊎◌}
 use Rattle.mq_acl.specs.Rows.{AclRow}
-use Rattle.mq_router.specs.definition.World.{World, Limits, Session, Subscription, Retained, Request, Reply, IsWorld}
-use Rattle.mq_router.specs.definition.Turns.{SameInTurn, in_turn}
-use Rattle.mq_router.specs.definition.Counts.{filters_of, topics_of, steps}
-use Rattle.mq_router.specs.definition.Deadlines.{Pair, Indexes}
-use Rattle.mq_router.specs.definition.Refusals.{refusal}
-use Rattle.mq_router.specs.definition.Answers.{answer}
-use Rattle.mq_router.specs.definition.After.{after}
-use Rattle.mq_router.specs.definition.Views.{reply_of}
-use Rattle.mq_router.specs.declared.answer.Answer.{Answer}
-use Rattle.mq_router.specs.declared.refusal.Refusal.{Refusal}
-use Rattle.mq_router.specs.declared.refusal.Refusal.TheVariants.{Memory}
+use Rattle.mq_world.specs.World.{World, Limits, Session, Subscription, Retained, Request, Reply, IsWorld}
+use Rattle.mq_world.specs.Turns.{SameInTurn, in_turn}
+use Rattle.mq_world.specs.Counts.{filters_of, topics_of, steps}
+use Rattle.mq_router.specs.Deadlines.{Pair, Indexes}
+use Rattle.mq_world.specs.Refusals.{refusal}
+use Rattle.mq_world.specs.Answers.{answer}
+use Rattle.mq_world.specs.After.{after}
+use Rattle.mq_world.specs.Views.{reply_of}
+use Rattle.mq_world.specs.declared.answer.Answer.{Answer}
+use Rattle.mq_world.specs.declared.refusal.Refusal.{Refusal}
+use Rattle.mq_world.specs.declared.refusal.Refusal.TheVariants.{Memory}
 
 -- what a router holds: no stamps, and no count of commands. The members of each group stand in their turn; `filter_keys`
 -- and `topic_keys` are the keys of its two trees, and `deadlines` the pairs of its index, each a deadline and a topic

@@ -9,8 +9,8 @@ use Rattle.std.specs.List.Sorted.{IsStrictlySortedBy}
 use Rattle.mq_topic.specs.Levels.{levels, level_order}
 use Rattle.mq_topic.specs.Texts.{share_of, filter_part}
 use Rattle.mq_acl.specs.Rows.{AclRow}
-use Rattle.mq_router.specs.definition.Lists.{Text, same_text, text_cmp}
-use Rattle.mq_router.specs.declared.answer.Outcome.{Outcome}
+use Rattle.mq_world.specs.Lists.{Text, same_text, text_cmp}
+use Rattle.mq_world.specs.declared.answer.Outcome.{Outcome}
 
 -- ## Subscriptions
 

@@ -5,13 +5,13 @@ use Rattle.std.specs.List.{filter, find}
 use Rattle.mq_topic.specs.Texts.{share_of, filter_part}
 use Rattle.mq_acl.specs.Rows.{AclRow, rows_of}
 use Rattle.mq_acl.specs.declared.fault.AclFault.{AclFault}
-use Rattle.mq_router.specs.definition.Lists.{Text, same_text, with_row}
-use Rattle.mq_router.specs.definition.World.{World, Row, Subscription, Request, Connect, Disconnect, Subscribe, Unsubscribe, Publish, SetAcl, Advance, Stat, asked, session_cmp, row_cmp, has_id, has_key, same_key, subscriptions_of}
-use Rattle.mq_router.specs.definition.Sessions.{new_session, outlives, resumes, left_by, has_ended, is_among}
-use Rattle.mq_router.specs.definition.Waiting.{waiting_after}
-use Rattle.mq_router.specs.definition.Groups.{served_by, restamped}
-use Rattle.mq_router.specs.definition.Retained.{retained_after, unexpired}
-use Rattle.mq_router.specs.definition.Refusals.{refusal}
+use Rattle.mq_world.specs.Lists.{Text, same_text, with_row}
+use Rattle.mq_world.specs.World.{World, Row, Subscription, Request, Connect, Disconnect, Subscribe, Unsubscribe, Publish, SetAcl, Advance, Stat, asked, session_cmp, row_cmp, has_id, has_key, same_key, subscriptions_of}
+use Rattle.mq_world.specs.Sessions.{new_session, outlives, resumes, left_by, has_ended, is_among}
+use Rattle.mq_world.specs.Waiting.{waiting_after}
+use Rattle.mq_world.specs.Groups.{served_by, restamped}
+use Rattle.mq_world.specs.Retained.{retained_after, unexpired}
+use Rattle.mq_world.specs.Refusals.{refusal}
 
 -- the rows without those of a client
 abbrev pub without_client : Text → List Row → List Row

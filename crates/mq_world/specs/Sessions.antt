@@ -7,9 +7,9 @@ use Rattle.mq_acl.specs.Rows.{AclRow}
 use Rattle.mq_acl.specs.Access.{allowed}
 use Rattle.mq_acl.specs.declared.access.Direction.{Direction}
 use Rattle.mq_acl.specs.declared.access.Direction.TheVariants.{Reading}
-use Rattle.mq_router.specs.definition.Lists.{Text}
-use Rattle.mq_router.specs.definition.World.{World, Session, Connected, Away, has_id}
-use Rattle.mq_router.specs.definition.Clock.{deadline_of, is_over}
+use Rattle.mq_world.specs.Lists.{Text}
+use Rattle.mq_world.specs.World.{World, Session, Connected, Away, has_id}
+use Rattle.mq_world.specs.Clock.{deadline_of, is_over}
 
 -- ## Who is connected
 

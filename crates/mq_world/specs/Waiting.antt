@@ -3,11 +3,11 @@ use Rattle.std.specs.Prelude.{ℕ, Bool, List, [], ◌∷◌, ◌++◌, length, 
 use Rattle.std.specs.Option.{option_map_or, option_and_then}
 use Rattle.std.specs.List.{filter_map, list_any}
 use Rattle.mq_acl.specs.Rows.{AclRow}
-use Rattle.mq_router.specs.definition.Lists.{Text}
-use Rattle.mq_router.specs.definition.World.{Session, Subscription, Waiting, Message, Copy}
-use Rattle.mq_router.specs.definition.Clock.{deadline_of, is_over, time_left}
-use Rattle.mq_router.specs.definition.Sessions.{session_of, is_present, resumes}
-use Rattle.mq_router.specs.definition.Copies.{direct_copy}
+use Rattle.mq_world.specs.Lists.{Text}
+use Rattle.mq_world.specs.World.{Session, Subscription, Waiting, Message, Copy}
+use Rattle.mq_world.specs.Clock.{deadline_of, is_over, time_left}
+use Rattle.mq_world.specs.Sessions.{session_of, is_present, resumes}
+use Rattle.mq_world.specs.Copies.{direct_copy}
 
 -- ## What a publish leaves waiting
 

@@ -1,7 +1,7 @@
 ghost use Rattle.std.specs.Prelude.{◌≡◌};
-ghost use Rattle.mq_router.specs.definition.World.{is_identifier};
-ghost use Rattle.mq_router.specs.definition.Refusals.{is_valid};
-ghost use Rattle.mq_router.specs.definition.Views.{request_of};
+ghost use Rattle.mq_world.specs.World.{is_identifier};
+ghost use Rattle.mq_world.specs.Refusals.{is_valid};
+ghost use Rattle.mq_world.specs.Views.{request_of};
 
 /// A command of a script. Its texts may be any texts: the router tests them.
 #[derive(Debug, Drop)]

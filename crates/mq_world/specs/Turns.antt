@@ -1,8 +1,8 @@
 -- Whose turn it is in each group: the order of the stamps.
 use Rattle.std.specs.Prelude.{◌≡◌, List, [], ◌∷◌, map, nat_le, if◌then◌else◌}
 use Rattle.std.specs.List.{filter}
-use Rattle.mq_router.specs.definition.Lists.{SameElements}
-use Rattle.mq_router.specs.definition.World.{World, Group, Subscription, Row, is_in_group}
+use Rattle.mq_world.specs.Lists.{SameElements}
+use Rattle.mq_world.specs.World.{World, Group, Subscription, Row, is_in_group}
 
 -- the row among rows in the order of their stamps
 abbrev pub put_in_turn : Row → List Row → List Row

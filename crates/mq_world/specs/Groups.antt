@@ -1,10 +1,10 @@
 -- Which member of each group a publish serves (MQTT 5.0, section 4.8.2; that members take turns is our own).
 use Rattle.std.specs.Prelude.{ℕ, Bool, List, [], ◌∷◌, nat_le, map, Option, if◌then◌else◌}
 use Rattle.std.specs.List.{filter, filter_map, find, list_all, list_any}
-use Rattle.mq_router.specs.definition.Lists.{Text, in_order}
-use Rattle.mq_router.specs.definition.World.{World, Row, Group, Message, Copy, group_cmp, group_of, rows_in, same_key}
-use Rattle.mq_router.specs.definition.Sessions.{can_be_served}
-use Rattle.mq_router.specs.definition.Copies.{filter_matches, copy_by}
+use Rattle.mq_world.specs.Lists.{Text, in_order}
+use Rattle.mq_world.specs.World.{World, Row, Group, Message, Copy, group_cmp, group_of, rows_in, same_key}
+use Rattle.mq_world.specs.Sessions.{can_be_served}
+use Rattle.mq_world.specs.Copies.{filter_matches, copy_by}
 
 -- the groups, by share name and then by filter
 unfoldable pub groups_of : List Row → List Group

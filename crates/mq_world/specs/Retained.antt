@@ -5,11 +5,11 @@ use Rattle.std.specs.List.{filter, filter_map, list_any}
 use Rattle.mq_acl.specs.Rows.{AclRow}
 use Rattle.mq_acl.specs.Access.{allowed}
 use Rattle.mq_acl.specs.declared.access.Direction.TheVariants.{Reading}
-use Rattle.mq_router.specs.definition.Lists.{Text, same_text, with_row}
-use Rattle.mq_router.specs.definition.World.{World, Subscription, Message, Retained, Copy, retained_cmp, same_key, subscriptions_of}
-use Rattle.mq_router.specs.definition.Clock.{deadline_of, is_over, time_left}
-use Rattle.mq_router.specs.definition.Sessions.{user_of}
-use Rattle.mq_router.specs.definition.Copies.{filter_matches}
+use Rattle.mq_world.specs.Lists.{Text, same_text, with_row}
+use Rattle.mq_world.specs.World.{World, Subscription, Message, Retained, Copy, retained_cmp, same_key, subscriptions_of}
+use Rattle.mq_world.specs.Clock.{deadline_of, is_over, time_left}
+use Rattle.mq_world.specs.Sessions.{user_of}
+use Rattle.mq_world.specs.Copies.{filter_matches}
 
 -- ## What a publish leaves
 

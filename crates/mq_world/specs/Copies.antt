@@ -6,8 +6,8 @@ use Rattle.mq_topic.specs.Matching.{matches}
 use Rattle.mq_acl.specs.Rows.{AclRow}
 use Rattle.mq_acl.specs.Access.{allowed}
 use Rattle.mq_acl.specs.declared.access.Direction.TheVariants.{Reading}
-use Rattle.mq_router.specs.definition.Lists.{Text, same_text, greatest, ascending}
-use Rattle.mq_router.specs.definition.World.{Session, Subscription, Options, Group, Message, Copy}
+use Rattle.mq_world.specs.Lists.{Text, same_text, greatest, ascending}
+use Rattle.mq_world.specs.World.{Session, Subscription, Options, Group, Message, Copy}
 
 abbrev pub filter_matches : Text → Text → Bool
 filter_matches filter topic = matches (levels filter) (levels topic)

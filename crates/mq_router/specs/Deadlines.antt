@@ -4,10 +4,10 @@ use Rattle.std.specs.Option.{option_map_or, option_and_then}
 use Rattle.std.specs.List.{list_any, find}
 use Rattle.std.specs.declared.cmp.Ordering.{Ordering}
 use Rattle.std.specs.Ordering.{on, then_cmp, nat_cmp}
-use Rattle.mq_router.specs.definition.Lists.{Text, same_text, text_cmp}
-use Rattle.mq_router.specs.definition.World.{Retained}
-use Rattle.mq_router.specs.definition.Retained.{has_topic}
-use Rattle.mq_router.specs.definition.Clock.{is_over}
+use Rattle.mq_world.specs.Lists.{Text, same_text, text_cmp}
+use Rattle.mq_world.specs.World.{Retained}
+use Rattle.mq_world.specs.Retained.{has_topic}
+use Rattle.mq_world.specs.Clock.{is_over}
 
 -- a deadline and a topic
 abbrev pub Pair : Type 0

@@ -2,14 +2,14 @@
 use Rattle.std.specs.Prelude.{ℕ, Bool, List, [], ◌++◌, length, ◌==◌, ◌&&◌, not, if◌then◌else◌}
 use Rattle.std.specs.List.{list_any}
 use Rattle.mq_topic.specs.Texts.{share_of, filter_part}
-use Rattle.mq_router.specs.definition.World.{World, Message, Request, Connect, Disconnect, Subscribe, Unsubscribe, Publish, SetAcl, Advance, Stat, Copy, Reply, asked, has_key, subscriptions_of}
-use Rattle.mq_router.specs.definition.Sessions.{connected}
-use Rattle.mq_router.specs.definition.Copies.{direct_copies}
-use Rattle.mq_router.specs.definition.Waiting.{resumed_copies, begins_to_wait}
-use Rattle.mq_router.specs.definition.Groups.{group_copies}
-use Rattle.mq_router.specs.definition.Retained.{sent_to}
-use Rattle.mq_router.specs.definition.Counts.{counts}
-use Rattle.mq_router.specs.declared.answer.Outcome.TheVariants.{Reason}
+use Rattle.mq_world.specs.World.{World, Message, Request, Connect, Disconnect, Subscribe, Unsubscribe, Publish, SetAcl, Advance, Stat, Copy, Reply, asked, has_key, subscriptions_of}
+use Rattle.mq_world.specs.Sessions.{connected}
+use Rattle.mq_world.specs.Copies.{direct_copies}
+use Rattle.mq_world.specs.Waiting.{resumed_copies, begins_to_wait}
+use Rattle.mq_world.specs.Groups.{group_copies}
+use Rattle.mq_world.specs.Retained.{sent_to}
+use Rattle.mq_world.specs.Counts.{counts}
+use Rattle.mq_world.specs.declared.answer.Outcome.TheVariants.{Reason}
 
 -- where no copies are named there are none
 abbrev pub reason : ℕ → Reply

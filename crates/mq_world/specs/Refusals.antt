@@ -6,13 +6,13 @@ use Rattle.mq_topic.specs.Texts.{contains_byte, is_name, is_shared, is_subscript
 use Rattle.mq_acl.specs.Rows.{AclRow, rows_of}
 use Rattle.mq_acl.specs.declared.access.Direction.TheVariants.{Writing}
 use Rattle.mq_acl.specs.declared.fault.AclFault.{AclFault}
-use Rattle.mq_router.specs.definition.Lists.{Text}
-use Rattle.mq_router.specs.definition.World.{World, Session, Message, Request, Connect, Disconnect, Subscribe, Unsubscribe, Publish, SetAcl, Advance, Stat, are_valid}
-use Rattle.mq_router.specs.definition.Clock.{last_moment}
-use Rattle.mq_router.specs.definition.Sessions.{is_connected, may}
-use Rattle.mq_router.specs.definition.Retained.{is_full}
-use Rattle.mq_router.specs.declared.refusal.Refusal.{Refusal}
-use Rattle.mq_router.specs.declared.refusal.Refusal.TheVariants.{ClientId, UserName, NotConnected, TopicName, TopicFilter, SharedNoLocal, NotAuthorized, RetainedFull, AclLine, ClockTooFar}
+use Rattle.mq_world.specs.Lists.{Text}
+use Rattle.mq_world.specs.World.{World, Session, Message, Request, Connect, Disconnect, Subscribe, Unsubscribe, Publish, SetAcl, Advance, Stat, are_valid}
+use Rattle.mq_world.specs.Clock.{last_moment}
+use Rattle.mq_world.specs.Sessions.{is_connected, may}
+use Rattle.mq_world.specs.Retained.{is_full}
+use Rattle.mq_world.specs.declared.refusal.Refusal.{Refusal}
+use Rattle.mq_world.specs.declared.refusal.Refusal.TheVariants.{ClientId, UserName, NotConnected, TopicName, TopicFilter, SharedNoLocal, NotAuthorized, RetainedFull, AclLine, ClockTooFar}
 
 -- a list of conditions, each with the refusal that it leads to
 abbrev pub Conditions : Type 0

@@ -1,4 +1,3 @@
--- What a broker is, and when the router stands for one: what a user has to believe. It says nothing of how the router works.
 pub mod Lists
 pub mod Keys
 pub mod World
@@ -14,5 +13,8 @@ pub mod Answers
 pub mod After
 pub mod Views
 pub mod Turns
-pub mod Deadlines
-pub mod StandsFor
+pub use Rattle.mq_topic.specs.Levels
+pub use Rattle.mq_topic.specs.Texts
+pub use Rattle.mq_topic.specs.Matching
+pub use Rattle.mq_acl.specs.Rows
+pub use Rattle.mq_acl.specs.Access

@@ -1,0 +1,13 @@
+//! What a broker of MQTT 5 is, told by its commands and answers: the definition that the router is proved against. It holds no
+//! algorithm.
+#![tactic(auto)]
+
+mod answer;
+mod command;
+mod limits;
+mod refusal;
+
+pub use answer::{Answer, Delivery, Outcome};
+pub use command::Command;
+pub use limits::Limits;
+pub use refusal::Refusal;
