@@ -21,7 +21,6 @@ use crate::access::Readers;
 use crate::subscriptions::Subscriptions;
 use crate::delivery::summary::Summary;
 use crate::subscriptions::turn::{Turn, sort_by_share};
-use crate::sessions::queue::Queueing;
 use mq_tree::Steps;
 use std::alloc::{AllocError, Global};
 
@@ -54,14 +53,14 @@ pub(crate) fn make_copies(
     readers: &Readers,
     subscriptions: &Subscriptions,
     message: &Message,
-    queueing: Queueing,
+    limit: u32,
     steps: &mut Steps,
 ) -> Result<Made, AllocError>
     ensures copies { IfOk result (λ m. copies_in m.copies
         ≡ copies_made readers.now.access.now readers.now.sessions.now subscriptions.now.rows (message_of message.now)) }
     ensures begun { IfOk result (λ m. map begin_of m.begun.items
-        ≡ begun_by queueing.limit readers.now.access.now readers.now.sessions.now subscriptions.now.rows (message_of message.now)
-        queueing.deadline) }
+        ≡ begun_by limit readers.now.access.now readers.now.sessions.now subscriptions.now.rows (message_of message.now)
+        message.now.deadline) }
     ensures served { IfOk result (λ m. turns_in m.served
         ≡ next_members readers.now.access.now readers.now.sessions.now subscriptions.now.rows (message_of message.now)) }
     ensures count { OnOk result (steps.new ≡ steps.old
@@ -82,7 +81,7 @@ pub(crate) fn make_copies(
         matches.as_slice(),
         served,
         message,
-        queueing,
+        limit,
     )
 }
 
@@ -145,14 +144,14 @@ fn made_for(
     matches: &[Match],
     served: Vec<Turn>,
     message: &Message,
-    queueing: Queueing,
+    limit: u32,
 ) -> Result<Made, AllocError>
     requires { AreByClient (matched matches.now) }
     ensures copies { IfOk result (λ m. copies_in m.copies
         ≡ copies_by readers.now.access.now readers.now.sessions.now (message_of message.now) (by_client (matched matches.now))
         ++ map (member_copy (message_of message.now)) (turns_in served)) }
     ensures begun { IfOk result (λ m. map begin_of m.begun.items
-        ≡ begins_by queueing.limit readers.now.access.now readers.now.sessions.now (message_of message.now) queueing.deadline
+        ≡ begins_by limit readers.now.access.now readers.now.sessions.now (message_of message.now) message.now.deadline
         (by_client (matched matches.now))) }
     ensures served { IfOk result (λ m. m.served ≡ served) }
 {
@@ -163,7 +162,7 @@ fn made_for(
         });
     }
     let outgoing = Outgoing::new(alloc, message)?;
-    let Direct { mut copies, begun } = direct_copies(alloc, readers, matches, &outgoing, queueing)?;
+    let Direct { mut copies, begun } = direct_copies(alloc, readers, matches, &outgoing, limit)?;
     add_group_copies(alloc, served.as_slice(), &outgoing, &mut copies)?;
     Ok(Made {
         copies,

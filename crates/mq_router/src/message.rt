@@ -12,4 +12,6 @@ pub(crate) struct Message<'a> {
     pub(crate) qos: u8,
     pub(crate) retain: bool,
     pub(crate) expiry: Option<u32>,
+    /// When what is kept of it ends, if it ends.
+    pub(crate) deadline: Option<u64>,
 }

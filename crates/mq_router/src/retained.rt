@@ -1,8 +1,9 @@
 //! The retained messages: a tree by topic, and an index of their deadlines.
-ghost use Rattle.std.specs.Prelude.{◌≡◌, ◌+◌, [], length, OnOk, OnErr, IfOk};
+ghost use Rattle.std.specs.Prelude.{◌≡◌, ◌+◌, ◌<◌, ◌^◌, ℕ, [], length, OnOk, OnErr, IfOk, IfSome};
 ghost use Rattle.std.specs.List.{filter};
 ghost use Rattle.mq_tree.specs.Entries.{capped};
 ghost use Rattle.mq_tree.specs.Prefixes.{prefixes};
+ghost use Rattle.mq_world.specs.Clock.{deadline_of};
 ghost use Rattle.mq_world.specs.Retained.{retained_after, unexpired, is_full};
 ghost use Rattle.mq_router.specs.Deadlines.{is_due};
 ghost use Rattle.mq_router.specs.retained.Stored.{AreFiled, AreNear};
@@ -14,7 +15,6 @@ mod messages;
 mod stored;
 
 use mq_world::Delivery;
-use crate::clock::Clock;
 use crate::message::Message;
 use deadlines::Deadlines;
 pub(crate) use copies::Receiver;
@@ -63,10 +63,12 @@ impl Retained {
 
     /// Takes in a message that is published: with RETAIN it takes the place of the older one of its topic, or only removes
     /// that.
-    pub(crate) fn publish(&mut self, clock: Clock, message: &Message) -> Result<(), AllocError>
-        ensures ok { OnOk result (self.new.messages ≡ retained_after clock.moment self.old.messages (message_of message.now)) }
+    pub(crate) fn publish(&mut self, message: &Message) -> Result<(), AllocError>
+        ensures ok { OnOk result ((moment : ℕ) → message.now.deadline ≡ deadline_of moment message.now.expiry
+            → self.new.messages ≡ retained_after moment self.old.messages (message_of message.now)) }
         ensures filed { OnOk result (AreFiled self.old → AreFiled self.new) }
-        ensures near { OnOk result (AreNear clock.moment self.old.messages → AreNear clock.moment self.new.messages) }
+        ensures near { OnOk result ((moment : ℕ) → IfSome message.now.deadline (λ d. d < moment + 2 ^ 32)
+            → AreNear moment self.old.messages → AreNear moment self.new.messages) }
         ensures err { OnErr result (self.new ≡ self.old) }
     {
         if !message.retain {
@@ -76,14 +78,7 @@ impl Retained {
             forget(&mut self.tree, &mut self.deadlines, message.topic)?;
             return Ok(());
         }
-        let deadline = clock.deadline(message.expiry);
-        store(
-            self.alloc,
-            &mut self.tree,
-            &mut self.deadlines,
-            message,
-            deadline,
-        )?;
+        store(self.alloc, &mut self.tree, &mut self.deadlines, message)?;
         Ok(())
     }
 

@@ -29,7 +29,6 @@ use crate::replies::{published, reason_to_leave, with_reason};
 use crate::retained::{Receiver, Retained};
 use crate::sessions::Sessions;
 use crate::subscriptions::Subscriptions;
-use crate::sessions::queue::Queueing;
 use ended::remove_ended;
 use mq_acl::Acl;
 use mq_topic::SubFilter;
@@ -49,26 +48,6 @@ pub struct Router {
     sessions: Sessions,
     subscriptions: Subscriptions,
     retained: Retained,
-}
-
-// What a message has beside its texts.
-#[derive(Clone, Copy, Debug)]
-struct Properties {
-    qos: u8,
-    retain: bool,
-    expiry: Option<u32>,
-}
-
-impl Properties {
-    fn new(qos: u8, retain: bool, expiry: Option<u32>) -> Properties
-        ensures { result ≡ record { qos = qos; retain = retain; expiry = expiry } }
-    {
-        Properties {
-            qos,
-            retain,
-            expiry,
-        }
-    }
 }
 
 impl Model for Router {
@@ -172,10 +151,7 @@ impl Router {
                 qos,
                 retain,
                 expiry,
-            } => {
-                let properties = Properties::new(*qos, *retain, *expiry);
-                self.publish(client, topic, payload, properties, steps)
-            }
+            } => self.publish(client, topic, payload, *qos, *retain, *expiry, steps),
             Command::SetAcl { text } => self.set_acl(text.as_deref()),
             Command::Advance { seconds } => self.advance(*seconds, steps),
             Command::Stat => Ok(self.stat()),
@@ -315,11 +291,13 @@ impl Router {
         client: &str,
         topic: &str,
         payload: &str,
-        properties: Properties,
+        qos: u8,
+        retain: bool,
+        expiry: Option<u32>,
         steps: &mut Steps,
     ) -> Result<Answer, Refusal>
-        ensures applied { Applied self.old (world.Publish (published_message client.now topic.now payload.now properties)) result self.new }
-        ensures counted { CountsSteps self.old (world.Publish (published_message client.now topic.now payload.now properties)) result
+        ensures applied { Applied self.old (world.Publish (published_message client.now topic.now payload.now qos retain expiry)) result self.new }
+        ensures counted { CountsSteps self.old (world.Publish (published_message client.now topic.now payload.now qos retain expiry)) result
             steps.old steps.new }
         ensures err { OnErr result (self.new ≡ self.old) }
     {
@@ -328,35 +306,35 @@ impl Router {
         if !may_publish(&self.access, &self.sessions, client, &name) {
             return Err(Refusal::NotAuthorized);
         }
+        let deadline = self.clock.deadline(expiry);
         let message = Message {
             publisher: &id,
             topic: &name,
             payload,
-            qos: properties.qos,
-            retain: properties.retain,
-            expiry: properties.expiry,
+            qos,
+            retain,
+            expiry,
+            deadline,
         };
         if self.retained.is_full(self.limits.retained, &message) {
             return Err(Refusal::RetainedFull);
         }
-        let deadline = self.clock.deadline(properties.expiry);
-        let made = self.make_copies(&message, deadline, steps)?;
-        self.retained.publish(self.clock, &message)?;
+        let made = self.make_copies(&message, steps)?;
+        self.retained.publish(&message)?;
         self.subscriptions.serve_all(made.served.as_slice());
         let waits = !made.begun.is_empty();
         self.sessions.join_all(self.limits.queued, made.begun);
         Ok(published(made.copies, waits))
     }
 
-    // The copies that a publish sends, and those that begin to wait, until the deadline or for ever.
+    // The copies that a publish sends, and those that begin to wait.
     fn make_copies(
         &self,
         message: &Message,
-        deadline: Option<u64>,
         steps: &mut Steps,
     ) -> Result<Made, AllocError>
         ensures copies { IfOk result (λ m. copies_in m.copies ≡ copies_held self.now (message_of message.now)) }
-        ensures begun { IfOk result (λ m. map begin_of m.begun.items ≡ begun_held self.now (message_of message.now) deadline) }
+        ensures begun { IfOk result (λ m. map begin_of m.begun.items ≡ begun_held self.now (message_of message.now) message.now.deadline) }
         ensures served { IfOk result (λ m. turns_in m.served ≡ members_held self.now (message_of message.now)) }
         ensures count { OnOk result (steps.new ≡ steps.old + steps_to self.now (world.Publish (message_of message.now))) }
     {
@@ -364,16 +342,12 @@ impl Router {
             access: &self.access,
             sessions: &self.sessions,
         };
-        let queueing = Queueing {
-            limit: self.limits.queued,
-            deadline,
-        };
         let made = make_copies(
             self.alloc,
             &readers,
             &self.subscriptions,
             message,
-            queueing,
+            self.limits.queued,
             steps,
         )?;
         Ok(made)

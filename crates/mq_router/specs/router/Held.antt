@@ -1,5 +1,5 @@
 -- What the router's own values show.
-use Rattle.std.specs.Prelude.{List, [], map, Some, string_bytes}
+use Rattle.std.specs.Prelude.{ℕ, Bool, Option, List, [], map, Some, string_bytes}
 use Rattle.std.specs.Option.{option_map}
 use Rattle.std.specs.Rc.{rc_str_bytes}
 use Rattle.mq_world.specs.Lists.{Text}
@@ -20,7 +20,6 @@ use Rattle.mq_router.specs.declared.sessions.queued.Begun.{Begun}
 use Rattle.mq_router.specs.declared.sessions.Sessions.TheInside as in_sessions
 use Rattle.mq_router.specs.declared.subscriptions.Subscriptions.TheInside as in_subscriptions
 use Rattle.mq_router.specs.declared.router.Router.TheInside as in_router
-use Rattle.mq_router.specs.declared.router.Properties.{Properties}
 
 abbrev pub waiting_of : Waiting → world.Waiting
 waiting_of w = record { copy = copy_of w.copy; deadline = w.deadline }
@@ -67,14 +66,14 @@ message_of m = record {
   expiry = m.expiry;
 }
 
-abbrev pub published_message : Text → Text → Text → Properties → world.Message
-published_message client topic payload properties = record {
+abbrev pub published_message : Text → Text → Text → ℕ → Bool → Option ℕ → world.Message
+published_message client topic payload qos retain expiry = record {
   publisher = client;
   topic = topic;
   payload = payload;
-  qos = properties.qos;
-  retain = properties.retain;
-  expiry = properties.expiry;
+  qos = qos;
+  retain = retain;
+  expiry = expiry;
 }
 
 abbrev pub turn_of : Turn → world.Subscription

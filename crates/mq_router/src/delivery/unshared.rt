@@ -9,13 +9,13 @@ ghost use Rattle.mq_world.specs.Views.{copy_of};
 ghost use Rattle.mq_router.specs.router.Held.{message_of, begin_of};
 
 use mq_world::Delivery;
-use crate::sessions::queued::Begun;
 use crate::subscriptions::matches::Match;
 use crate::delivery::outgoing::Outgoing;
 use crate::access::Readers;
 use crate::sessions::session::Way;
 use crate::delivery::summary::Summary;
-use crate::sessions::queue::{Queueing, begin};
+use crate::sessions::queue::begin;
+use crate::sessions::queued::Begun;
 use std::alloc::{AllocError, Global};
 use std::rc::RcStr;
 
@@ -33,13 +33,13 @@ pub(crate) fn direct_copies(
     readers: &Readers,
     matches: &[Match],
     outgoing: &Outgoing,
-    queueing: Queueing,
+    limit: u32,
 ) -> Result<Direct, AllocError>
     requires { AreByClient (matched matches.now) }
     ensures copies { IfOk result (λ d. copies_in d.copies
         ≡ copies_by readers.now.access.now readers.now.sessions.now (message_of outgoing.now.message) (by_client (matched matches.now))) }
     ensures begun { IfOk result (λ d. map begin_of d.begun.items
-        ≡ begins_by queueing.limit readers.now.access.now readers.now.sessions.now (message_of outgoing.now.message) queueing.deadline
+        ≡ begins_by limit readers.now.access.now readers.now.sessions.now (message_of outgoing.now.message) outgoing.now.message.deadline
         (by_client (matched matches.now))) }
 {
     // A client gets a copy if it has a session.
@@ -48,11 +48,11 @@ pub(crate) fn direct_copies(
     let mut begun = Vec::new(alloc);
     for own in matches.chunk_by(|a, b| a.client == b.client) {
         let client = own[0].client;
-        match readers.way(client, outgoing.message.topic, queueing.limit) {
+        match readers.way(client, outgoing.message.topic, limit) {
             Way::Sent => copies.push(own_copy(alloc, client, own, outgoing)?)?,
             Way::Waits => {
                 let copy = own_copy(alloc, client, own, outgoing)?;
-                if let Some(one) = begin(alloc, copy, queueing.deadline)? {
+                if let Some(one) = begin(alloc, copy, outgoing.message.deadline)? {
                     begun.push(one)?;
                 }
             }

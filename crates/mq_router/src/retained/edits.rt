@@ -63,19 +63,18 @@ pub(crate) fn store(
     tree: &mut Messages,
     deadlines: &mut Deadlines,
     message: &Message,
-    deadline: Option<u64>,
 ) -> Result<(), AllocError>
     requires { IsSound tree.old deadlines.old }
     ensures sound { IsSound tree.new deadlines.new }
     ensures ok { OnOk result (retained_in tree.new
-        ≡ with_row retained_cmp (stored_until deadline (message_of message.now)) (retained_in tree.old)) }
+        ≡ with_row retained_cmp (stored_until message.now.deadline (message_of message.now)) (retained_in tree.old)) }
     ensures err { OnErr result ((tree.new ≡ tree.old) × SamePairs deadlines.new deadlines.old) }
 {
-    let stored = Stored::from_message(alloc, message, deadline)?;
-    let new = Due::of(deadline, message.topic)?;
+    let stored = Stored::from_message(alloc, message)?;
+    let new = Due::of(message.deadline, message.topic)?;
     let older = deadline_at(tree, message.topic);
-    let older = replaced(older, deadline, message.topic)?;
-    deadlines.put(deadline, message.topic)?;
+    let older = replaced(older, message.deadline, message.topic)?;
+    deadlines.put(message.deadline, message.topic)?;
     match tree.put(message.topic, stored) {
         Err(fault) => {
             deadlines.remove(&new);

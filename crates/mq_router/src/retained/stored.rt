@@ -18,19 +18,15 @@ pub(crate) struct Stored {
 }
 
 impl Stored {
-    pub(crate) fn from_message(
-        alloc: Global,
-        message: &Message,
-        deadline: Option<u64>,
-    ) -> Result<Stored, AllocError>
-        ensures { IfOk result (λ stored. message_in stored ≡ stored_until deadline (message_of message.now)) }
+    pub(crate) fn from_message(alloc: Global, message: &Message) -> Result<Stored, AllocError>
+        ensures { IfOk result (λ stored. message_in stored ≡ stored_until message.now.deadline (message_of message.now)) }
     {
         Ok(Stored {
             topic: message.topic.clone()?,
             payload: String::from_str(alloc, message.payload)?,
             qos: message.qos,
             publisher: message.publisher.clone()?,
-            deadline,
+            deadline: message.deadline,
         })
     }
 }

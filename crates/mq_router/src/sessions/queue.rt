@@ -13,13 +13,6 @@ use crate::sessions::session::Waiting;
 use std::alloc::{AllocError, Global};
 use std::collections::LinkedList;
 
-/// How a message's copies wait: where fewer wait than the limit, and until the deadline if there is one.
-#[derive(Clone, Copy, Debug)]
-pub(crate) struct Queueing {
-    pub(crate) limit: u32,
-    pub(crate) deadline: Option<u64>,
-}
-
 fn alone(alloc: Global, waiting: Waiting) -> Result<LinkedList<Waiting>, AllocError>
     ensures { IfOk result (λ list. list ≡ waiting ∷ []) }
 {

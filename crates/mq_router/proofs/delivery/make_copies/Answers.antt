@@ -30,7 +30,7 @@ returns-then-is_empty-clause-begun c =
     let none : filter (λ s. filter_matches s.filter m.topic) subs ≡ [] =
     sym c.in_ok-candidates.ensures.rows ∙ ap (λ l. rows_found (map (λ a. a.now) l)) (sym c.as_slice-found.ensures.value ∙ empty-is c.as_slice-found.result.now (sym c.is_empty.ensures ∙ c.if-is_empty.true)) in
     ap (map begin_of) c.nothing.ensures.begun
-    ∙ sym (no-begun c.args.readers.now.access.now c.args.readers.now.sessions.now subs m none c.args.queueing.limit c.args.queueing.deadline)
+    ∙ sym (no-begun c.args.readers.now.access.now c.args.readers.now.sessions.now subs m none c.args.limit c.args.message.now.deadline)
 
 pub returns-then-is_empty-clause-copies : goal.returns-then-is_empty-clause-copies
 returns-then-is_empty-clause-copies c =
@@ -65,7 +65,7 @@ returns-clause-begun c =
     let ms = matched c.as_slice.result.now in
     IfOk-weaker c.made_for.result _ _
     (λ made e. e
-    ∙ own-begun c.args.queueing.limit A S subs m c.args.queueing.deadline (by_client ms) c.len-sessions.ensures.ordered (sorted-by_client ms)
+    ∙ own-begun c.args.limit A S subs m c.args.message.now.deadline (by_client ms) c.len-sessions.ensures.ordered (sorted-by_client ms)
     (λ id. lookup-by_client id ms
     ∙ ap summary_for (ap (λ l. options_among id (matched l)) c.as_slice.ensures.value ∙ c.in_ok-matches.ensures.options id ∙ options-own m id (rows_found (map (λ a. a.now) c.as_slice-found.result.now))
     ∙ ap (λ l. gives_options m id (rows_found (map (λ a. a.now) l))) c.as_slice-found.ensures.value

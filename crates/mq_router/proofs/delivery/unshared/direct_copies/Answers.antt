@@ -22,7 +22,7 @@ loop-own-preserved c =
     next-client _ c.loop-own.own-iterator c.next.new.self c.next.result c.in-Some.own _ c.in-Some.is c.next.ensures.steps
     (answers_always _ _ _ (λ f a r g h. search rules)) held.sorted in
     let step =
-    nowhere-first c.args.queueing.limit A S m c.args.queueing.deadline _ c.way.result c.way.ensures.sent c.way.ensures.waits
+    nowhere-first c.args.limit A S m c.args.outgoing.now.message.deadline _ c.way.result c.way.ensures.sent c.way.ensures.waits
     (map copy_of c.loop-own.copies.items) (map begin_of c.loop-own.begun.items)
     (by_client (matched (chunk_by_rest c.next.new.self))) (by_client (matched (chunk_by_rest c.loop-own.own-iterator))) first.1
     c.in-Nowhere.is in
@@ -38,12 +38,12 @@ loop-own-preserved-in_default c =
     next-client _ c.loop-own.own-iterator c.next.new.self c.next.result c.in-Some.own _ c.in-Some.is c.next.ensures.steps
     (answers_always _ _ _ (λ f a r g h. search rules)) held.sorted in
     let step =
-    waits-first c.args.queueing.limit A S m c.args.queueing.deadline _ c.way.result c.way.ensures.sent c.way.ensures.waits
+    waits-first c.args.limit A S m c.args.outgoing.now.message.deadline _ c.way.result c.way.ensures.sent c.way.ensures.waits
     (map copy_of c.loop-own.copies.items) (map begin_of c.loop-own.begun.items)
     (by_client (matched (chunk_by_rest c.next.new.self))) (by_client (matched (chunk_by_rest c.loop-own.own-iterator))) first.1
     c.in-Waits.is (option_map begin_of c.in_ok-one-in-Waits.field-0)
-    (c.in_ok-one-in-Waits.ensures ∙ ap (λ k. option_map (begin_with k.client c.args.queueing.deadline) (with_qos k)) c.in_ok-copy-in-Waits.ensures) in
-    let left = begins_by c.args.queueing.limit A S m c.args.queueing.deadline (by_client (matched (chunk_by_rest c.next.new.self))) in
+    (c.in_ok-one-in-Waits.ensures ∙ ap (λ k. option_map (begin_with k.client c.args.outgoing.now.message.deadline) (with_qos k)) c.in_ok-copy-in-Waits.ensures) in
+    let left = begins_by c.args.limit A S m c.args.outgoing.now.message.deadline (by_client (matched (chunk_by_rest c.next.new.self))) in
     record {
       sorted = first.0;
       copies = step.0 ∙ held.copies;
@@ -63,7 +63,7 @@ loop-own-preserved-in_ok-push-in-Sent c =
     (answers_always _ _ _ (λ f a r g h. search rules)) held.sorted in
     let copy = c.in_ok-own_copy-in-Sent.field-0 in
     let step =
-    sent-first c.args.queueing.limit A S m c.args.queueing.deadline _ c.way.result c.way.ensures.sent c.way.ensures.waits
+    sent-first c.args.limit A S m c.args.outgoing.now.message.deadline _ c.way.result c.way.ensures.sent c.way.ensures.waits
     (map copy_of c.loop-own.copies.items) (map begin_of c.loop-own.begun.items)
     (by_client (matched (chunk_by_rest c.next.new.self))) (by_client (matched (chunk_by_rest c.loop-own.own-iterator))) first.1
     c.in-Sent.is (copy_of copy) c.in_ok-own_copy-in-Sent.ensures in
@@ -87,12 +87,12 @@ loop-own-preserved-in_ok-push-in-Waits c =
     (answers_always _ _ _ (λ f a r g h. search rules)) held.sorted in
     let one = c.in-Some-2.one in
     let step =
-    waits-first c.args.queueing.limit A S m c.args.queueing.deadline _ c.way.result c.way.ensures.sent c.way.ensures.waits
+    waits-first c.args.limit A S m c.args.outgoing.now.message.deadline _ c.way.result c.way.ensures.sent c.way.ensures.waits
     (map copy_of c.loop-own.copies.items) (map begin_of c.loop-own.begun.items)
     (by_client (matched (chunk_by_rest c.next.new.self))) (by_client (matched (chunk_by_rest c.loop-own.own-iterator))) first.1
     c.in-Waits.is (option_map begin_of c.in_ok-one-in-Waits.field-0)
-    (c.in_ok-one-in-Waits.ensures ∙ ap (λ k. option_map (begin_with k.client c.args.queueing.deadline) (with_qos k)) c.in_ok-copy-in-Waits.ensures) in
-    let left = begins_by c.args.queueing.limit A S m c.args.queueing.deadline (by_client (matched (chunk_by_rest c.next.new.self))) in
+    (c.in_ok-one-in-Waits.ensures ∙ ap (λ k. option_map (begin_with k.client c.args.outgoing.now.message.deadline) (with_qos k)) c.in_ok-copy-in-Waits.ensures) in
+    let left = begins_by c.args.limit A S m c.args.outgoing.now.message.deadline (by_client (matched (chunk_by_rest c.next.new.self))) in
     record {
       sorted = first.0;
       copies = step.0 ∙ held.copies;

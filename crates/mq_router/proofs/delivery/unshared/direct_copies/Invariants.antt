@@ -11,6 +11,6 @@ invariant-loop-own l = record {
   sorted : AreByClient (matched (chunk_by_rest l.own-iterator));
   copies : map copy_of l.copies.items ++ copies_by l.readers.access.now l.readers.sessions.now (message_of l.outgoing.message) (by_client (matched (chunk_by_rest l.own-iterator)))
       ≡ copies_by l.readers.access.now l.readers.sessions.now (message_of l.outgoing.message) (by_client (matched l.fn.matches));
-  begun : map begin_of l.begun.items ++ begins_by l.queueing.limit l.readers.access.now l.readers.sessions.now (message_of l.outgoing.message) l.queueing.deadline (by_client (matched (chunk_by_rest l.own-iterator)))
-      ≡ begins_by l.queueing.limit l.readers.access.now l.readers.sessions.now (message_of l.outgoing.message) l.queueing.deadline (by_client (matched l.fn.matches));
+  begun : map begin_of l.begun.items ++ begins_by l.limit l.readers.access.now l.readers.sessions.now (message_of l.outgoing.message) l.outgoing.message.deadline (by_client (matched (chunk_by_rest l.own-iterator)))
+      ≡ begins_by l.limit l.readers.access.now l.readers.sessions.now (message_of l.outgoing.message) l.outgoing.message.deadline (by_client (matched l.fn.matches));
 }

@@ -2,7 +2,6 @@ use Rattle.std.proofs.Common.{◌≡◌, Ok, ◌∙◌, sym, ap, refl, rules, st
 use Rattle.std.specs.Option.{option_copied}
 use Rattle.mq_world.specs.Lists.{Text}
 use Rattle.mq_world.specs.World.{Request, Connect, Disconnect, Subscribe, Unsubscribe, Publish, SetAcl, Advance, Stat, Options}
-use Rattle.mq_router.specs.declared.router.Properties.{Properties}
 use Rattle.mq_router.specs.router.Held.{published_message}
 use Rattle.mq_world.specs.Views.{request_of}
 use Rattle.mq_router.proofs.RouterLemmas.{stat-does}
@@ -65,13 +64,11 @@ returns-in-Unsubscribe c =
 pub returns-in-Publish : goal.returns-in-Publish
 returns-in-Publish c =
     let p = c.in-Publish in
-    let by : Text → Text → Text → Properties → Request = λ client topic payload properties. Publish (published_message client topic payload properties) in
-    let made = c.new-properties.result in
-    let is : by c.deref-in-Publish.result.now c.deref-in-Publish-2.result.now c.deref-in-Publish-3.result.now made ≡ request_of c.args.command.now =
-    ap (λ id. by id c.deref-in-Publish-2.result.now c.deref-in-Publish-3.result.now made) c.deref-in-Publish.ensures
-    ∙ ap (λ topic. by (string_bytes p.client) topic c.deref-in-Publish-3.result.now made) c.deref-in-Publish-2.ensures
-    ∙ ap (λ payload. by (string_bytes p.client) (string_bytes p.topic) payload made) c.deref-in-Publish-3.ensures
-    ∙ ap (by (string_bytes p.client) (string_bytes p.topic) (string_bytes p.payload)) c.new-properties.ensures
+    let by : Text → Text → Text → Request = λ client topic payload. Publish (published_message client topic payload p.qos p.retain p.expiry) in
+    let is : by c.deref-in-Publish.result.now c.deref-in-Publish-2.result.now c.deref-in-Publish-3.result.now ≡ request_of c.args.command.now =
+    ap (λ id. by id c.deref-in-Publish-2.result.now c.deref-in-Publish-3.result.now) c.deref-in-Publish.ensures
+    ∙ ap (λ topic. by (string_bytes p.client) topic c.deref-in-Publish-3.result.now) c.deref-in-Publish-2.ensures
+    ∙ ap (λ payload. by (string_bytes p.client) (string_bytes p.topic) payload) c.deref-in-Publish-3.ensures
     ∙ ap request_of (sym c.in-Publish.is) in
     record {
       answered = applied_answers _ _ _ _ _ is c.publish.ensures.applied;

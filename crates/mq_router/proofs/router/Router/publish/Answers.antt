@@ -28,21 +28,21 @@ use Rattle.mq_router.proofs.router.Router.publish.Goals as goal
 
 pub returns-in_err-check_client-clause-applied : goal.returns-in_err-check_client-clause-applied
 returns-in_err-check_client-clause-applied c =
-    let m : Message = published_message c.args.client.now c.args.topic.now c.args.payload.now c.args.properties in
+    let m : Message = published_message c.args.client.now c.args.topic.now c.args.payload.now c.args.qos c.args.retain c.args.expiry in
     let p = err_from_is_err_and c.from_residual.result c.from_residual.ensures.1 in
     refused-applied c.args.self.now (Publish m) c.from_residual.result c.in_err-check_client.field-0.0 c.args.self.now (p.1 ∙ ap (λ e. Err e) p.2)
     (publish-client c.args.self.now m _ c.in_err-check_client.ensures.refused)
 
 pub returns-in_err-name-clause-applied : goal.returns-in_err-name-clause-applied
 returns-in_err-name-clause-applied c =
-    let m : Message = published_message c.args.client.now c.args.topic.now c.args.payload.now c.args.properties in
+    let m : Message = published_message c.args.client.now c.args.topic.now c.args.payload.now c.args.qos c.args.retain c.args.expiry in
     let p = err_from_is_err_and c.from_residual-in_err-name.result c.from_residual-in_err-name.ensures.1 in
     refused-applied c.args.self.now (Publish m) c.from_residual-in_err-name.result c.in_err-name.field-0.0 c.args.self.now (p.1 ∙ ap (λ e. Err e) p.2)
     (publish-name c.args.self.now m _ c.in_ok-check_client.ensures.refused c.in_err-name.ensures.err)
 
 pub returns-then-not-may_publish-clause-applied : goal.returns-then-not-may_publish-clause-applied
 returns-then-not-may_publish-clause-applied c =
-    let m : Message = published_message c.args.client.now c.args.topic.now c.args.payload.now c.args.properties in
+    let m : Message = published_message c.args.client.now c.args.topic.now c.args.payload.now c.args.qos c.args.retain c.args.expiry in
     let s : State = state_of c.self.inside in
     let tested : None ≡ first_refusal (client_conditions s.sessions m.publisher) = c.in_ok-check_client.ensures.refused ∙ ap (λ (v : State). first_refusal (client_conditions v.sessions m.publisher)) (sym c.self.view_is) in
     subst (λ (v : State). Refuses (world_of v) (Publish m) NotAuthorized) c.self.view_is
@@ -51,7 +51,7 @@ returns-then-not-may_publish-clause-applied c =
 
 pub returns-then-is_full-clause-applied : goal.returns-then-is_full-clause-applied
 returns-then-is_full-clause-applied c =
-    let m : Message = published_message c.args.client.now c.args.topic.now c.args.payload.now c.args.properties in
+    let m : Message = published_message c.args.client.now c.args.topic.now c.args.payload.now c.args.qos c.args.retain c.args.expiry in
     let s : State = state_of c.self.inside in
     let from : Text → Text → Message = λ p t. record m { publisher = p; topic = t } in
     let by : Text → Message = from m.publisher in
@@ -67,19 +67,19 @@ returns-then-is_full-clause-applied c =
 pub invariant_of-self-2 : goal.invariant_of-self-2
 invariant_of-self-2 c =
     let s : State = state_of c.self.inside in
-    let m : Message = record (published_message c.args.client.now c.args.topic.now c.args.payload.now c.args.properties) { publisher = rc_str_bytes c.in_ok-id.id; topic = c.in_ok-name.name } in
+    let m : Message = record (published_message c.args.client.now c.args.topic.now c.args.payload.now c.args.qos c.args.retain c.args.expiry) { publisher = rc_str_bytes c.in_ok-id.id; topic = c.in_ok-name.name } in
     let limit = s.limits.queued in
     let near : IfSome (deadline_of s.moment m.expiry) (λ d. d < s.moment + 2 ^ 32) = subst (λ deadline. IfSome deadline (λ d. d < s.moment + 2 ^ 32)) c.deadline-deadline.ensures.value c.deadline-deadline.ensures.near in
     let waiting : c.join_all.new.self ≡ map (waiting_after limit s.access s.subscriptions s.moment m) s.sessions =
     c.join_all.ensures.new ∙ ap (λ bs. queued_all limit bs s.sessions) (c.in_ok-made.ensures.begun ∙ ap (λ (v : State). begun_held v m c.deadline-deadline.result) (sym c.self.view_is) ∙ ap (begun_held s m) c.deadline-deadline.ensures.value)
     ∙ queued-is limit s.access s.subscriptions s.moment m s.sessions c.join_all.ensures.ordered in (
-      c.in_ok-publish.ensures.near c.self.invariant.0,
+      c.in_ok-publish.ensures.near s.moment c.deadline-deadline.ensures.near c.self.invariant.0,
       subst (AllReached s.moment) (sym waiting) (reached-after limit s.access s.subscriptions s.moment m s.sessions near c.self.invariant.1),
     )
 
 pub returns-clause-applied : goal.returns-clause-applied
 returns-clause-applied c =
-    let m : Message = published_message c.args.client.now c.args.topic.now c.args.payload.now c.args.properties in
+    let m : Message = published_message c.args.client.now c.args.topic.now c.args.payload.now c.args.qos c.args.retain c.args.expiry in
     let s : State = state_of c.self.inside in
     let tested : None ≡ first_refusal (client_conditions s.sessions m.publisher) = c.in_ok-check_client.ensures.refused ∙ ap (λ (v : State). first_refusal (client_conditions v.sessions m.publisher)) (sym c.self.view_is) in
     let subs = c.serve_all.new.self in
@@ -111,5 +111,5 @@ returns-clause-applied c =
     waiting
     (same-then _ _ _ c.serve_all.ensures.rows (same-is _ _ (ap (λ l. turned (map turn_of l)) c.as_slice.ensures.value ∙ ap turned (c.in_ok-made.ensures.served ∙ ap (λ p. members_held c.args.self.now (from p at)) id ∙ ap (λ (v : State). members_held v (by at)) (sym c.self.view_is) ∙ ap (λ t. members_held s (by t)) name))))
     c.serve_all.ensures.keys
-    (c.in_ok-publish.ensures.ok ∙ ap (λ p. retained_after s.moment s.retained (from p at)) id ∙ ap (λ t. retained_after s.moment s.retained (by t)) name)
+    (c.in_ok-publish.ensures.ok s.moment c.deadline-deadline.ensures.value ∙ ap (λ p. retained_after s.moment s.retained (from p at)) id ∙ ap (λ t. retained_after s.moment s.retained (by t)) name)
     (λ keys pairs. c.in_ok-publish.ensures.filed (record { keys = keys; pairs = pairs })))
