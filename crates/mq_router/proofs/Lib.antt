@@ -24,6 +24,7 @@ pub mod OwnCopies
 pub mod NothingLemmas
 pub mod BegunLemmas
 pub mod ReachedLemmas
+pub mod ResumeLemmas
 pub mod EndLemmas
 pub mod JoinTurn
 pub mod OneServed

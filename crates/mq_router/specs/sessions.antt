@@ -3,3 +3,4 @@ pub mod Begun
 pub mod Near
 pub mod Ends
 pub mod Ways
+pub mod Resumed

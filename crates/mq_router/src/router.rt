@@ -188,20 +188,18 @@ impl Router {
         }
         let id = RcStr::from_str(self.alloc, client)?;
         let user = copied(self.alloc, user)?;
-        let resumes = self.sessions.resumes(client, clean);
-        let copies = self
+        let resumed = self
             .sessions
             .resumed_copies(self.alloc, self.clock, client, clean)?;
         self.sessions.put(self.alloc, id, user, session_expiry)?;
-        let answer = Answer {
+        let Some(copies) = resumed else {
+            self.subscriptions.remove_client(client);
+            return Ok(with_reason(self.alloc, 0));
+        };
+        Ok(Answer {
             copies,
             outcome: Outcome::Reason(0),
-        };
-        if resumes {
-            return Ok(answer);
-        }
-        self.subscriptions.remove_client(client);
-        Ok(answer)
+        })
     }
 
     fn disconnect(&mut self, client: &str) -> Result<Answer, Refusal>

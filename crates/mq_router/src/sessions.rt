@@ -6,8 +6,8 @@ ghost use Rattle.std.specs.Rc.{rc_str_bytes};
 ghost use Rattle.std.specs.List.Sorted.{IsStrictlySortedBy};
 ghost use Rattle.mq_world.specs.Lists.{with_row};
 ghost use Rattle.mq_world.specs.World.{has_id, session_cmp};
-ghost use Rattle.mq_world.specs.Sessions.{new_session, session_of, is_connected, user_of, outlives, resumes, left_by, has_ended};
-ghost use Rattle.mq_world.specs.Waiting.{resumed_copies};
+ghost use Rattle.mq_world.specs.Sessions.{new_session, session_of, is_connected, user_of, outlives, left_by, has_ended};
+ghost use Rattle.mq_router.specs.sessions.Resumed.{resumed};
 ghost use Rattle.mq_router.specs.sessions.Begun.{queued_one, queued_all};
 ghost use Rattle.mq_router.specs.sessions.Near.{AllReached};
 ghost use Rattle.mq_world.specs.Views.{copy_of};
@@ -103,27 +103,19 @@ impl Sessions {
         find(&self.by_id, id)
     }
 
-    /// Whether a client that connects resumes its session.
-    pub(crate) fn resumes(&self, id: &str, clean: bool) -> bool
-        ensures { result ≡ resumes self.now id.now clean }
-    {
-        !clean && self.outlives(id)
-    }
-
     /// The copies that waited for a client that connects, if it resumes its session.
-    #[tactic(auto, unfolding(mq_world::specs::Waiting::resumed_copies))]
     pub(crate) fn resumed_copies(
         &self,
         alloc: Global,
         clock: Clock,
         id: &str,
         clean: bool,
-    ) -> Result<Vec<Delivery>, AllocError>
+    ) -> Result<Option<Vec<Delivery>>, AllocError>
         requires { AllReached clock.moment self.now }
-        ensures { IfOk result (λ copies. map copy_of copies.items ≡ resumed_copies clock.moment self.now id.now clean) }
+        ensures { IfOk result (λ copies. option_map (λ list. map copy_of list.items) copies ≡ resumed clock.moment self.now id.now clean) }
     {
-        if !self.resumes(id, clean) {
-            return Ok(Vec::new(alloc));
+        if clean {
+            return Ok(None);
         }
         waited_copies(alloc, clock, &self.by_id, id)
     }

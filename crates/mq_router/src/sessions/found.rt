@@ -1,12 +1,11 @@
 //! Look-ups among the sessions.
-ghost use Rattle.std.specs.Prelude.{◌≡◌, IfOk, IfSome, is_some, map};
+ghost use Rattle.std.specs.Prelude.{◌≡◌, false, IfOk, IfSome, is_some, map};
 ghost use Rattle.std.specs.Option.{option_copied, option_map};
 ghost use Rattle.std.specs.Rc.{rc_str_bytes};
-ghost use Rattle.std.specs.List.{filter_map};
 ghost use Rattle.std.specs.List.Sorted.{IsStrictlySortedBy};
 ghost use Rattle.mq_world.specs.World.{session_cmp};
 ghost use Rattle.mq_world.specs.Sessions.{session_of, is_connected, user_of, outlives};
-ghost use Rattle.mq_world.specs.Waiting.{waiting_for, resumed_copy};
+ghost use Rattle.mq_router.specs.sessions.Resumed.{resumed};
 ghost use Rattle.mq_router.specs.sessions.Near.{AllReached};
 ghost use Rattle.mq_world.specs.Views.{copy_of};
 ghost use Rattle.mq_router.specs.router.Held.{session_at, session_in};
@@ -68,19 +67,23 @@ pub(crate) fn outlives(sessions: &BTreeMap<RcStr, Session>, id: &str) -> bool
     }
 }
 
-/// The copies that wait for a client, with what is left of their intervals.
+/// The copies that waited for a client, with what is left of their intervals, if its session stays when a connection ends.
 pub(crate) fn waited_copies(
     alloc: Global,
     clock: Clock,
     sessions: &BTreeMap<RcStr, Session>,
     id: &str,
-) -> Result<Vec<Delivery>, AllocError>
+) -> Result<Option<Vec<Delivery>>, AllocError>
     requires { AllReached clock.moment (map session_in sessions.now.entries) }
-    ensures { IfOk result (λ copies. map copy_of copies.items
-        ≡ filter_map (resumed_copy clock.moment) (waiting_for (map session_in sessions.now.entries) id.now)) }
+    ensures { IfOk result (λ copies. option_map (λ list. map copy_of list.items) copies
+        ≡ resumed clock.moment (map session_in sessions.now.entries) id.now false) }
 {
-    match sessions.get(id) {
-        None => Ok(Vec::new(alloc)),
-        Some(session) => resumed_copies(alloc, clock, &session.waiting),
+    let Some(session) = sessions.get(id) else {
+        return Ok(None);
+    };
+    if !session.outlives_connection() {
+        return Ok(None);
     }
+    let copies = resumed_copies(alloc, clock, &session.waiting)?;
+    Ok(Some(copies))
 }

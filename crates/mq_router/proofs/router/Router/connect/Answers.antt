@@ -1,16 +1,17 @@
 use Rattle.std.proofs.Common.{◌≡◌, ◌∙◌, sym, ap, subst, map, string_bytes, true, false}
 use Rattle.std.specs.Option.{option_map, option_copied}
 use Rattle.mq_world.specs.Lists.{with_row}
-use Rattle.mq_world.specs.World.{Connect, session_cmp}
+use Rattle.mq_world.specs.World.{Connect, Reply, session_cmp}
 use Rattle.mq_world.specs.Sessions.{new_session, resumes}
 use Rattle.mq_router.specs.sessions.Near.{AllReached}
-use Rattle.mq_world.specs.Views.{copy_of}
+use Rattle.mq_world.specs.Views.{copy_of, reply_of}
 use Rattle.mq_router.specs.router.Held.{state_of}
 use Rattle.mq_router.specs.StandsFor.{State}
 use Rattle.mq_router.specs.router.Applied.{Does}
 use Rattle.mq_world.specs.declared.answer.Outcome.TheVariants.{Reason}
 use Rattle.mq_router.proofs.RouterLemmas.{connect-client, connect-user, connect-does, connect_rows}
 use Rattle.mq_router.proofs.ReachedLemmas.{reached-with_row}
+use Rattle.mq_router.proofs.ResumeLemmas.{resumes-none, resumes-some, resumed-empty}
 use Rattle.mq_router.proofs.router.Router.connect.Goals as goal
 
 pub returns-then-not-is_client_id-clause-applied : goal.returns-then-not-is_client_id-clause-applied
@@ -20,36 +21,39 @@ pub returns-then-not-is_user_name-clause-applied : goal.returns-then-not-is_user
 returns-then-not-is_user_name-clause-applied c =
     connect-user c.args.self.now c.args.client.now _ _ _ (sym c.is_client_id.ensures ∙ c.if-not-is_client_id.false) (sym c.is_user_name.ensures ∙ c.if-not-is_user_name.true)
 
-pub invariant_of-self-then-resumes : goal.invariant_of-self-then-resumes
-invariant_of-self-then-resumes c = (
+pub invariant_of-self-in-Some-resumed-2 : goal.invariant_of-self-in-Some-resumed-2
+invariant_of-self-in-Some-resumed-2 c = (
   c.self.invariant.0,
   subst (AllReached c.self.inside.clock.moment) (sym c.in_ok-put.ensures.ok)
       (reached-with_row c.self.inside.clock.moment _ c.self.inside.sessions tt c.self.invariant.1),
 )
 
-pub invariant_of-self-2 : goal.invariant_of-self-2
-invariant_of-self-2 c = (
+pub invariant_of-self-in_default : goal.invariant_of-self-in_default
+invariant_of-self-in_default c = (
   c.self.invariant.0,
   subst (AllReached c.self.inside.clock.moment) (sym c.in_ok-put.ensures.ok)
       (reached-with_row c.self.inside.clock.moment _ c.self.inside.sessions tt c.self.invariant.1),
 )
 
-pub returns-then-resumes-clause-applied : goal.returns-then-resumes-clause-applied
-returns-then-resumes-clause-applied c =
+pub returns-in_default-clause-applied : goal.returns-in_default-clause-applied
+returns-in_default-clause-applied c =
     let s : State = state_of c.self.inside in
     let id = c.args.client.now in
     let user = option_copied c.args.user in
     let interval = c.args.session_expiry in
-    let new : State = record s { sessions = c.put.new.self } in
-    let stays : resumes s.sessions id c.args.clean ≡ true = sym c.resumes-resumes.ensures ∙ c.if-resumes.true in
+    let subs = c.remove_client.new.self in
+    let new : State = record s { sessions = c.put.new.self; subscriptions = subs.rows; filter_keys = subs.keys } in
+    let ends : resumes s.sessions id c.args.clean ≡ false =
+    resumes-none s.moment s.sessions id c.args.clean (ap (option_map (λ list. map copy_of list.items)) (sym c.in_default.is) ∙ c.in_ok-resumed.ensures) in
     let sessions : c.put.new.self ≡ with_row session_cmp (new_session id user interval) s.sessions =
     c.in_ok-put.ensures.ok
     ∙ ap (λ i. with_row session_cmp (new_session i (option_map string_bytes c.in_ok-user.user) interval) s.sessions) c.in_ok-id.ensures.ok
     ∙ ap (λ u. with_row session_cmp (new_session id u interval) s.sessions) c.in_ok-user.ensures in
-    subst (λ (v : State). Does v (Connect id user c.args.clean interval) (record { copies = map copy_of c.in_ok-copies.copies.items; outcome = Reason 0 }) new) c.self.view_is
-    (connect-does s id user c.args.clean interval c.put.new.self c.self.inside.subscriptions _
+    subst (λ (v : State). Does v (Connect id user c.args.clean interval) (reply_of c.with_reason.result) new) c.self.view_is
+    (subst (λ (r : Reply). Does s (Connect id user c.args.clean interval) r new) (sym c.with_reason.ensures)
+    (connect-does s id user c.args.clean interval c.put.new.self subs _
     (sym c.is_client_id.ensures ∙ c.if-not-is_client_id.false) (sym c.is_user_name.ensures ∙ c.if-not-is_user_name.false)
-    c.in_ok-copies.ensures sessions (ap (connect_rows s id) (sym stays)) (λ keys. keys))
+    (resumed-empty s.moment s.sessions id c.args.clean ends) sessions (c.remove_client.ensures.rows ∙ ap (connect_rows s id) (sym ends)) (λ old. c.remove_client.ensures.keys)))
 
 pub returns-clause-applied : goal.returns-clause-applied
 returns-clause-applied c =
@@ -57,14 +61,13 @@ returns-clause-applied c =
     let id = c.args.client.now in
     let user = option_copied c.args.user in
     let interval = c.args.session_expiry in
-    let subs = c.remove_client.new.self in
-    let new : State = record s { sessions = c.put.new.self; subscriptions = subs.rows; filter_keys = subs.keys } in
-    let ends : resumes s.sessions id c.args.clean ≡ false = sym c.resumes-resumes.ensures ∙ c.if-resumes.false in
+    let new : State = record s { sessions = c.put.new.self } in
+    let stays = resumes-some s.moment s.sessions id c.args.clean (map copy_of c.in-Some.copies.items) (ap (option_map (λ list. map copy_of list.items)) (sym c.in-Some.is) ∙ c.in_ok-resumed.ensures) in
     let sessions : c.put.new.self ≡ with_row session_cmp (new_session id user interval) s.sessions =
     c.in_ok-put.ensures.ok
     ∙ ap (λ i. with_row session_cmp (new_session i (option_map string_bytes c.in_ok-user.user) interval) s.sessions) c.in_ok-id.ensures.ok
     ∙ ap (λ u. with_row session_cmp (new_session id u interval) s.sessions) c.in_ok-user.ensures in
-    subst (λ (v : State). Does v (Connect id user c.args.clean interval) (record { copies = map copy_of c.in_ok-copies.copies.items; outcome = Reason 0 }) new) c.self.view_is
-    (connect-does s id user c.args.clean interval c.put.new.self subs _
+    subst (λ (v : State). Does v (Connect id user c.args.clean interval) (record { copies = map copy_of c.in-Some.copies.items; outcome = Reason 0 }) new) c.self.view_is
+    (connect-does s id user c.args.clean interval c.put.new.self c.self.inside.subscriptions _
     (sym c.is_client_id.ensures ∙ c.if-not-is_client_id.false) (sym c.is_user_name.ensures ∙ c.if-not-is_user_name.false)
-    c.in_ok-copies.ensures sessions (c.remove_client.ensures.rows ∙ ap (connect_rows s id) (sym ends)) (λ old. c.remove_client.ensures.keys))
+    stays.1 sessions (ap (connect_rows s id) (sym stays.0)) (λ keys. keys))
