@@ -277,8 +277,7 @@ impl Router {
     {
         self.check_client(client)?;
         let wanted = parse_filter(self.alloc, text)?;
-        let existed = self.subscriptions.contains(client, &wanted);
-        self.subscriptions.remove(client, &wanted);
+        let existed = self.subscriptions.remove(client, &wanted);
         Ok(with_reason(self.alloc, reason_to_leave(existed)))
     }
 

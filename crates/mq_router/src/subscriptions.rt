@@ -111,12 +111,13 @@ impl Subscriptions {
         )
     }
 
-    /// Takes a subscription out. It takes no memory.
-    pub(crate) fn remove(&mut self, client: &str, wanted: &Rc<SubFilter>)
+    /// Takes a subscription out, and says whether there was one. It takes no memory.
+    pub(crate) fn remove(&mut self, client: &str, wanted: &Rc<SubFilter>) -> bool
+        ensures existed { result ≡ list_any (has_wanted client.now wanted.now.value) self.old.rows }
         ensures rows { self.new.rows ≡ filter (λ s. not (has_wanted client.now wanted.now.value s)) self.old.rows }
         ensures keys { AreKeys self.new }
     {
-        take_out(&mut self.tree, &mut self.lists, client, wanted);
+        take_out(&mut self.tree, &mut self.lists, client, wanted)
     }
 
     /// Takes a client's subscriptions out, and no other is looked at. It takes no memory.
@@ -234,19 +235,23 @@ fn add_in(
     Ok(())
 }
 
-// Takes a subscription out, and the filter with its last one.
-fn leave_in(tree: &mut LevelTree<AtFilter>, client: &str, wanted: &SubFilter)
+// Takes a subscription out, and the filter with its last one; says whether there was one.
+fn leave_in(tree: &mut LevelTree<AtFilter>, client: &str, wanted: &SubFilter) -> bool
     requires { AreKept tree.old }
+    ensures existed { result ≡ list_any (has_wanted client.now wanted.now) (all_rows tree.old) }
     ensures rows { all_rows tree.new ≡ filter (λ s. not (has_wanted client.now wanted.now s)) (all_rows tree.old) }
     ensures kept { AreKept tree.new }
 {
     let Some(at) = tree.get_mut(&wanted.filter) else {
-        return;
+        return false;
     };
-    at.leave(wanted.share.as_deref(), client);
+    let share = wanted.share.as_deref();
+    let existed = at.contains(share, client);
+    at.leave(share, client);
     if at.is_bare() {
         let _ = tree.take(&wanted.filter);
     }
+    existed
 }
 
 fn serve_in(tree: &mut LevelTree<AtFilter>, share: &str, wanted: &TopicFilter, client: &str)
@@ -300,13 +305,15 @@ fn take_out(
     lists: &mut BTreeMap<RcStr, Own>,
     client: &str,
     wanted: &Rc<SubFilter>,
-)
+) -> bool
     requires { AreListed tree.old (texts lists.old.entries) }
+    ensures existed { result ≡ list_any (has_wanted client.now wanted.now.value) (all_rows tree.old) }
     ensures rows { all_rows tree.new ≡ filter (λ s. not (has_wanted client.now wanted.now.value s)) (all_rows tree.old) }
     ensures listed { AreListed tree.new (texts lists.new.entries) }
 {
-    leave_in(tree, client, wanted);
+    let existed = leave_in(tree, client, wanted);
     list_remove(lists, client, wanted);
+    existed
 }
 
 // Takes a client's subscriptions out of the tree.
@@ -316,7 +323,7 @@ fn leave_all(tree: &mut LevelTree<AtFilter>, own: &Own, client: &str)
     ensures kept { AreKept tree.new }
 {
     for wanted in own.filters() {
-        leave_in(tree, client, wanted);
+        let _ = leave_in(tree, client, wanted);
     }
 }
 

@@ -1,10 +1,10 @@
 use Rattle.std.proofs.Common.{◌∙◌, sym, ap, refl, not, string_bytes}
 use Rattle.std.specs.Option.{option_copied_mut, option_map}
-use Rattle.std.specs.List.{filter}
+use Rattle.std.specs.List.{filter, list_any}
 use Rattle.mq_world.specs.World.{Subscription, has_key}
 use Rattle.mq_router.specs.subscriptions.Kept.{all_rows}
 use Rattle.mq_router.proofs.AtLemmas.{nothing}
-use Rattle.mq_router.proofs.TreeLemmas.{tree-left, tree-gone, tree-absent_left, set-kept, out-kept, found_filter}
+use Rattle.mq_router.proofs.TreeLemmas.{tree-any, tree-absent_any, tree-left, tree-gone, tree-absent_left, set-kept, out-kept, found_filter}
 use Rattle.mq_router.proofs.subscriptions.leave_in.Goals as goal
 
 pub returns-in_default-clause-rows : goal.returns-in_default-clause-rows
@@ -26,7 +26,7 @@ returns-then-is_bare-clause-rows c =
     let is = found_filter f c.args.tree.now c.requires.each c.requires.ordered v found in
     tree-gone f c.args.tree.now c.requires.each c.requires.ordered v found w c.leave.ensures.filter c.leave.ensures.here (c.get_mut.follows.lender w) set s c.take.new.self refl c.take.ensures.rest
     (sym c.is_bare.ensures ∙ c.if-is_bare.true)
-    (c.leave.ensures.rows ∙ ap (λ sh. filter (λ x. not (has_key c.args.client.now sh v.filter x)) v.rows) c.as_deref.ensures.value ∙ ap (λ g. filter (λ x. not (has_key c.args.client.now share g x)) v.rows) is)
+    (c.leave.ensures.rows ∙ ap (λ sh. filter (λ x. not (has_key c.args.client.now sh v.filter x)) v.rows) c.as_deref-share.ensures.value ∙ ap (λ g. filter (λ x. not (has_key c.args.client.now share g x)) v.rows) is)
 
 pub returns-then-is_bare-clause-kept : goal.returns-then-is_bare-clause-kept
 returns-then-is_bare-clause-kept c =
@@ -47,7 +47,7 @@ returns-else-is_bare-clause-rows c =
     let set = rw c.in-Some.is at (c.get_mut.follows.holds w) in
     let is = found_filter f c.args.tree.now c.requires.each c.requires.ordered v found in
     tree-left f c.args.tree.now c.requires.each c.requires.ordered v found w c.leave.ensures.filter c.leave.ensures.here (c.get_mut.follows.lender w) set s refl
-    (c.leave.ensures.rows ∙ ap (λ sh. filter (λ x. not (has_key c.args.client.now sh v.filter x)) v.rows) c.as_deref.ensures.value ∙ ap (λ g. filter (λ x. not (has_key c.args.client.now share g x)) v.rows) is)
+    (c.leave.ensures.rows ∙ ap (λ sh. filter (λ x. not (has_key c.args.client.now sh v.filter x)) v.rows) c.as_deref-share.ensures.value ∙ ap (λ g. filter (λ x. not (has_key c.args.client.now share g x)) v.rows) is)
 
 pub returns-else-is_bare-clause-kept : goal.returns-else-is_bare-clause-kept
 returns-else-is_bare-clause-kept c =
@@ -56,3 +56,31 @@ returns-else-is_bare-clause-kept c =
     let found = sym c.get_mut.ensures.value ∙ ap option_copied_mut c.in-Some.is in
     let set = rw c.in-Some.is at (c.get_mut.follows.holds w) in
     set-kept f c.args.tree.now c.requires.each c.requires.ordered c.in-Some.at.now found w c.leave.ensures.filter c.leave.ensures.here (c.get_mut.follows.lender w) set (sym c.is_bare.ensures ∙ c.if-is_bare.false)
+
+pub returns-in_default-clause-existed : goal.returns-in_default-clause-existed
+returns-in_default-clause-existed c =
+    let f = c.args.wanted.now.filter in
+    let s : Subscription = record { client = c.args.client.now; share = option_map string_bytes c.args.wanted.now.share; filter = f; options = nothing } in
+    tree-absent_any f c.args.tree.now c.requires.each (sym c.get_mut.ensures.value ∙ ap option_copied_mut c.in_default.is) s refl
+
+pub returns-then-is_bare-clause-existed : goal.returns-then-is_bare-clause-existed
+returns-then-is_bare-clause-existed c =
+    let f = c.args.wanted.now.filter in
+    let share = option_map string_bytes c.args.wanted.now.share in
+    let s : Subscription = record { client = c.args.client.now; share = share; filter = f; options = nothing } in
+    let v = c.in-Some.at.now in
+    let found = sym c.get_mut.ensures.value ∙ ap option_copied_mut c.in-Some.is in
+    let is = found_filter f c.args.tree.now c.requires.each c.requires.ordered v found in
+    c.contains-existed.ensures ∙ ap (λ sh. list_any (has_key c.args.client.now sh v.filter) v.rows) c.as_deref-share.ensures.value ∙ ap (λ g. list_any (has_key c.args.client.now share g) v.rows) is
+    ∙ tree-any f c.args.tree.now c.requires.each c.requires.ordered v found s refl
+
+pub returns-else-is_bare-clause-existed : goal.returns-else-is_bare-clause-existed
+returns-else-is_bare-clause-existed c =
+    let f = c.args.wanted.now.filter in
+    let share = option_map string_bytes c.args.wanted.now.share in
+    let s : Subscription = record { client = c.args.client.now; share = share; filter = f; options = nothing } in
+    let v = c.in-Some.at.now in
+    let found = sym c.get_mut.ensures.value ∙ ap option_copied_mut c.in-Some.is in
+    let is = found_filter f c.args.tree.now c.requires.each c.requires.ordered v found in
+    c.contains-existed.ensures ∙ ap (λ sh. list_any (has_key c.args.client.now sh v.filter) v.rows) c.as_deref-share.ensures.value ∙ ap (λ g. list_any (has_key c.args.client.now share g) v.rows) is
+    ∙ tree-any f c.args.tree.now c.requires.each c.requires.ordered v found s refl

@@ -32,7 +32,7 @@ returns-clause-applied c =
     let s : State = state_of c.self.inside in
     let id = c.args.client.now in
     let text = c.args.text.now in
-    let subs = c.remove.new.self in
+    let subs = c.remove-existed.new.self in
     let new : State = record s { subscriptions = subs.rows; filter_keys = subs.keys } in
     let tested : None ≡ first_refusal (client_conditions s.sessions id) = c.in_ok-check_client.ensures.refused ∙ ap (λ (v : State). first_refusal (client_conditions v.sessions id)) (sym c.self.view_is) in
     let ok = c.in_ok-wanted.ensures.ok in
@@ -41,5 +41,5 @@ returns-clause-applied c =
     let f = c.in_ok-wanted.wanted.value.filter in
     subst (λ (v : State). Does v (Unsubscribe id text) (reply_of c.with_reason.result) new) c.self.view_is
     (unsubscribe-does s id text subs _ tested ok.2
-    (c.with_reason.ensures ∙ ap reason (c.reason_to_leave.ensures ∙ ap (λ b. if b then 0 else 17) (c.contains-existed.ensures ∙ ap (λ w. list_any (has_wanted id w) s.subscriptions) c.deref.ensures ∙ ap (λ sh. by sh f) ok.0 ∙ ap (by (share_of text)) ok.1)))
-    (c.remove.ensures.rows ∙ ap (λ sh. out sh f) ok.0 ∙ ap (out (share_of text)) ok.1) c.remove.ensures.keys)
+    (c.with_reason.ensures ∙ ap reason (c.reason_to_leave.ensures ∙ ap (λ b. if b then 0 else 17) (c.remove-existed.ensures.existed ∙ ap (λ sh. by sh f) ok.0 ∙ ap (by (share_of text)) ok.1)))
+    (c.remove-existed.ensures.rows ∙ ap (λ sh. out sh f) ok.0 ∙ ap (out (share_of text)) ok.1) c.remove-existed.ensures.keys)
