@@ -10,18 +10,18 @@ pub(crate) mod outgoing;
 pub(crate) mod summary;
 pub(crate) mod unshared;
 
-use mq_world::Delivery;
-use crate::subscriptions::filter_entry::AtFilter;
-use crate::sessions::queued::Begun;
-use crate::delivery::unshared::{Direct, direct_copies};
-use crate::subscriptions::matches::{Match, sort_by_client};
-use crate::message::Message;
-use crate::delivery::outgoing::Outgoing;
 use crate::access::Readers;
-use crate::subscriptions::Subscriptions;
+use crate::delivery::outgoing::Outgoing;
 use crate::delivery::summary::Summary;
+use crate::delivery::unshared::{Direct, direct_copies};
+use crate::message::Message;
+use crate::sessions::queued::Begun;
+use crate::subscriptions::Subscriptions;
+use crate::subscriptions::filter_entry::AtFilter;
+use crate::subscriptions::matches::{Match, sort_by_client};
 use crate::subscriptions::turn::{Turn, sort_by_share};
 use mq_tree::Steps;
+use mq_world::Delivery;
 use std::alloc::{AllocError, Global};
 
 /// The copies of a message that are sent, those that begin to wait, and the members of groups that it serves.
@@ -75,14 +75,7 @@ pub(crate) fn make_copies(
     // Learns that the sessions are in order.
     let _sessions = readers.sessions.len();
     let served = members_served(alloc, readers, found, message)?;
-    made_for(
-        alloc,
-        readers,
-        matches.as_slice(),
-        served,
-        message,
-        limit,
-    )
+    made_for(alloc, readers, matches.as_slice(), served, message, limit)
 }
 
 ghost use Rattle.std.specs.Prelude.{◌++◌, OnOk, []};

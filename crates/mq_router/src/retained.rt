@@ -14,14 +14,14 @@ mod edits;
 mod messages;
 mod stored;
 
-use mq_world::Delivery;
 use crate::message::Message;
-use deadlines::Deadlines;
 pub(crate) use copies::Receiver;
 use copies::copies_of;
+use deadlines::Deadlines;
 use edits::{expire, forget, has_message, is_stored, store};
 use messages::Messages;
 use mq_tree::Steps;
+use mq_world::Delivery;
 use std::alloc::{AllocError, Global};
 use std::marker::Model;
 

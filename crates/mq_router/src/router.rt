@@ -15,24 +15,23 @@ ghost use Rattle.mq_router.specs.router.Held.{published_message, message_of, beg
 
 mod ended;
 
-use crate::access::may_publish;
-use mq_world::{Answer, Command, Delivery, Limits, Outcome, Refusal};
-use crate::texts::{
-    copied, is_client_id, is_shared_no_local, is_user_name, parse_filter, parse_name, read_access,
-};
+use crate::access::{Readers, may_publish};
 use crate::clock::Clock;
 use crate::delivery::{Made, make_copies};
 use crate::message::Message;
 use crate::options::Options;
-use crate::access::Readers;
 use crate::replies::{published, reason_to_leave, with_reason};
 use crate::retained::{Receiver, Retained};
 use crate::sessions::Sessions;
 use crate::subscriptions::Subscriptions;
+use crate::texts::{
+    copied, is_client_id, is_shared_no_local, is_user_name, parse_filter, parse_name, read_access,
+};
 use ended::remove_ended;
 use mq_acl::Acl;
 use mq_topic::SubFilter;
 use mq_tree::Steps;
+use mq_world::{Answer, Command, Delivery, Limits, Outcome, Refusal};
 use std::alloc::{AllocError, Global};
 use std::marker::Model;
 use std::rc::RcStr;
@@ -325,11 +324,7 @@ impl Router {
     }
 
     // The copies that a publish sends, and those that begin to wait.
-    fn make_copies(
-        &self,
-        message: &Message,
-        steps: &mut Steps,
-    ) -> Result<Made, AllocError>
+    fn make_copies(&self, message: &Message, steps: &mut Steps) -> Result<Made, AllocError>
         ensures copies { IfOk result (λ m. copies_in m.copies ≡ copies_held self.now (message_of message.now)) }
         ensures begun { IfOk result (λ m. map begin_of m.begun.items ≡ begun_held self.now (message_of message.now) message.now.deadline) }
         ensures served { IfOk result (λ m. turns_in m.served ≡ members_held self.now (message_of message.now)) }

@@ -20,13 +20,13 @@ pub(crate) mod queued;
 mod resume;
 pub(crate) mod session;
 
-use mq_world::Delivery;
-use crate::sessions::queued::Begun;
 use crate::clock::Clock;
+use crate::sessions::queued::Begun;
 use crate::sessions::session::Session;
 use edits::{end, join, leave};
 use first_end::{earlier, first_end, is_over};
 use found::{connected, find, learn_order, outlives, user_in, waited_copies};
+use mq_world::Delivery;
 use std::alloc::{AllocError, Global};
 use std::collections::BTreeMap;
 use std::marker::Model;

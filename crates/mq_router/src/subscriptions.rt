@@ -23,9 +23,9 @@ pub(crate) mod group;
 pub(crate) mod matches;
 pub(crate) mod turn;
 
-use crate::subscriptions::filter_entry::AtFilter;
 use crate::options::Options;
 use crate::subscriptions::client_filters::Own;
+use crate::subscriptions::filter_entry::AtFilter;
 use crate::subscriptions::turn::Turn;
 use mq_topic::{SubFilter, TopicFilter, TopicName};
 use mq_tree::{LevelTree, Steps};

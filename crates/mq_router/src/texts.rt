@@ -6,9 +6,9 @@ ghost use Rattle.mq_world.specs.Refusals.{is_client_id, is_user_name, faulty_lin
 ghost use Rattle.mq_router.specs.subscriptions.Asked.{IsAskedBy};
 ghost use Rattle.mq_world.specs.After.{access_of};
 
-use mq_world::Refusal;
 use mq_acl::{Acl, AclKind};
 use mq_topic::{SubFilter, TopicFault, TopicName};
+use mq_world::Refusal;
 use std::alloc::{AllocError, Global};
 use std::rc::Rc;
 

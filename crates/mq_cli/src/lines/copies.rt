@@ -10,8 +10,8 @@ ghost use Rattle.mq_cli.specs.Behind.{IsAlike, IsBehind, Follows, Keeps};
 
 use crate::lines::datum::Datum;
 use crate::lines::object::Object;
-use mq_world::Delivery;
 use mq_topic::LevelText;
+use mq_world::Delivery;
 use std::alloc::{AllocError, Global};
 
 fn share_of(delivery: &Delivery) -> Option<&str>

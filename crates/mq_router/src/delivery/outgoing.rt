@@ -2,10 +2,10 @@
 ghost use Rattle.std.specs.Prelude.{◌≡◌};
 ghost use Rattle.std.specs.Rc.{rc_str_bytes};
 
-use mq_world::Delivery;
-use crate::message::Message;
 use crate::delivery::summary::Summary;
+use crate::message::Message;
 use mq_topic::{LevelText, TopicFilter};
+use mq_world::Delivery;
 use std::alloc::{AllocError, Global};
 use std::rc::{Rc, RcStr};
 

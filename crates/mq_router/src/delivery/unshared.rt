@@ -8,14 +8,14 @@ ghost use Rattle.mq_router.specs.delivery.Summaries.{summary_of, copy_from};
 ghost use Rattle.mq_world.specs.Views.{copy_of};
 ghost use Rattle.mq_router.specs.router.Held.{message_of, begin_of};
 
-use mq_world::Delivery;
-use crate::subscriptions::matches::Match;
-use crate::delivery::outgoing::Outgoing;
 use crate::access::Readers;
-use crate::sessions::session::Way;
+use crate::delivery::outgoing::Outgoing;
 use crate::delivery::summary::Summary;
 use crate::sessions::queue::begin;
 use crate::sessions::queued::Begun;
+use crate::sessions::session::Way;
+use crate::subscriptions::matches::Match;
+use mq_world::Delivery;
 use std::alloc::{AllocError, Global};
 use std::rc::RcStr;
 

@@ -7,12 +7,12 @@ ghost use Rattle.mq_router.specs.delivery.Gathers.{copies_in};
 ghost use Rattle.mq_router.specs.retained.Stored.{message_in, may_get, AreNear};
 
 use crate::access::may_read;
-use mq_world::Delivery;
 use crate::clock::Clock;
 use crate::options::Options;
 use crate::retained::stored::Stored;
 use mq_acl::Acl;
 use mq_topic::{LevelText, TopicFilter};
+use mq_world::Delivery;
 use std::alloc::{AllocError, Global};
 use std::rc::RcStr;
 

@@ -6,8 +6,8 @@ ghost use Rattle.mq_router.specs.sessions.Begun.{queued_one};
 ghost use Rattle.mq_router.specs.sessions.Ends.{EndLater};
 ghost use Rattle.mq_router.specs.router.Held.{session_in, begin_of};
 
-use crate::sessions::queued::Begun;
 use crate::clock::Clock;
+use crate::sessions::queued::Begun;
 use crate::sessions::session::Session;
 use std::collections::BTreeMap;
 use std::rc::RcStr;

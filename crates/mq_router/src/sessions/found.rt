@@ -10,10 +10,10 @@ ghost use Rattle.mq_router.specs.sessions.Near.{AllReached};
 ghost use Rattle.mq_world.specs.Views.{copy_of};
 ghost use Rattle.mq_router.specs.router.Held.{session_at, session_in};
 
-use mq_world::Delivery;
 use crate::clock::Clock;
-use crate::sessions::session::Session;
 use crate::sessions::resume::resumed_copies;
+use crate::sessions::session::Session;
+use mq_world::Delivery;
 use std::alloc::{AllocError, Global};
 use std::collections::BTreeMap;
 use std::rc::RcStr;

@@ -7,9 +7,9 @@ ghost use Rattle.mq_router.specs.sessions.Near.{IsReached, AreReached};
 ghost use Rattle.mq_world.specs.Views.{copy_of};
 ghost use Rattle.mq_router.specs.router.Held.{waiting_of};
 
-use mq_world::Delivery;
 use crate::clock::Clock;
 use crate::sessions::session::Waiting;
+use mq_world::Delivery;
 use std::alloc::{AllocError, Global};
 use std::collections::LinkedList;
 

@@ -8,8 +8,8 @@ ghost use Rattle.mq_router.specs.sessions.Begun.{queued};
 ghost use Rattle.mq_router.specs.sessions.Ends.{EndsFrom};
 ghost use Rattle.mq_router.specs.router.Held.{shown, waiting_of};
 
-use mq_world::Delivery;
 use crate::clock::Clock;
+use mq_world::Delivery;
 use std::alloc::Global;
 use std::collections::LinkedList;
 

@@ -8,11 +8,11 @@ ghost use Rattle.mq_world.specs.Turns.{SameInTurn};
 ghost use Rattle.mq_router.specs.router.Applied.{put_last};
 ghost use Rattle.mq_router.specs.subscriptions.Kept.{is_empty, AreHere};
 
-use crate::subscriptions::group::Group;
-use crate::subscriptions::matches::Match;
+use crate::access::Readers;
 use crate::message::Message;
 use crate::options::Options;
-use crate::access::Readers;
+use crate::subscriptions::group::Group;
+use crate::subscriptions::matches::Match;
 use crate::subscriptions::turn::Turn;
 use mq_topic::{TopicFilter, TopicName};
 use mq_tree::Counted;

@@ -7,8 +7,8 @@ ghost use Rattle.mq_world.specs.Sessions.{is_reader};
 ghost use Rattle.mq_router.specs.subscriptions.Kept.{has_client, is_empty};
 ghost use Rattle.mq_router.specs.router.Applied.{with_one, put_last};
 
-use crate::options::Options;
 use crate::access::Readers;
+use crate::options::Options;
 use indexmap::IndexMap;
 use mq_topic::TopicName;
 use std::alloc::{AllocError, Global};
