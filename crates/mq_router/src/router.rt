@@ -233,7 +233,7 @@ impl Router {
             return Err(Refusal::SharedNoLocal);
         }
         let copies = self.copies_sent(&id, &wanted, options, steps)?;
-        self.subscriptions.put(&id, &wanted, options)?;
+        self.subscriptions.put(&id, text, &wanted, options)?;
         Ok(Answer {
             copies,
             outcome: Outcome::Reason(options.qos),
@@ -273,10 +273,13 @@ impl Router {
     fn unsubscribe(&mut self, client: &str, text: &str) -> Result<Answer, Refusal>
         ensures applied { Applied self.old (world.Unsubscribe client.now text.now) result self.new }
         ensures err { OnErr result (self.new ≡ self.old) }
+        ensures no_memory { IfErr result (λ refusal. refusal ≢ Refusal.Memory) }
     {
         self.check_client(client)?;
-        let wanted = parse_filter(self.alloc, text)?;
-        let existed = self.subscriptions.remove(client, &wanted);
+        if !SubFilter::is_valid(text) {
+            return Err(Refusal::TopicFilter);
+        }
+        let existed = self.subscriptions.remove(client, text);
         Ok(with_reason(self.alloc, reason_to_leave(existed)))
     }
 

@@ -1,13 +1,14 @@
 //! The subscriptions of all clients.
-ghost use Rattle.std.specs.Prelude.{◌≡◌, ◌+◌, [], length, not, OnOk, OnErr, IfOk, map};
+ghost use Rattle.std.specs.Prelude.{◌≡◌, ◌+◌, [], length, not, IsTrue, OnOk, OnErr, IfOk, map};
 ghost use Rattle.std.specs.Option.{option_map};
 ghost use Rattle.std.specs.Rc.{rc_str_bytes};
 ghost use Rattle.std.specs.List.{filter, list_any, flat_map};
+ghost use Rattle.mq_topic.specs.Texts.{is_subscription};
 ghost use Rattle.mq_tree.specs.Entries.{capped};
 ghost use Rattle.mq_tree.specs.Prefixes.{prefixes, met_by_name};
 ghost use Rattle.mq_world.specs.Lists.{same_text};
 ghost use Rattle.mq_world.specs.World.{has_key};
-ghost use Rattle.mq_router.specs.subscriptions.Asked.{wanted_row, has_wanted, ListsMore, ListsLess, NoneEmptied};
+ghost use Rattle.mq_router.specs.subscriptions.Asked.{wanted_row, has_wanted, has_asked, ListsMore, ListsLess, NoneEmptied, IsAskedBy};
 ghost use Rattle.mq_router.specs.delivery.Gathers.{seen};
 ghost use Rattle.mq_router.specs.delivery.Made.{rows_found};
 ghost use Rattle.mq_world.specs.Copies.{filter_matches};
@@ -90,14 +91,17 @@ impl Subscriptions {
         }
     }
 
-    /// Adds a subscription, in the place of the one with its key.
+    /// Adds the subscription with this text, in the place of the one with its key.
     pub(crate) fn put(
         &mut self,
         client: &RcStr,
-        wanted: &Rc<SubFilter>,
+        text: &str,
+        wanted: &SubFilter,
         options: Options,
     ) -> Result<(), AllocError>
-        ensures ok { OnOk result (SameInTurn self.new.rows (joined (wanted_row (rc_str_bytes client.now) wanted.now.value options) self.old.rows)) }
+        requires { IsAskedBy text.now wanted.now }
+        ensures ok { OnOk result (SameInTurn self.new.rows
+            (joined (wanted_row (rc_str_bytes client.now) wanted.now options) self.old.rows)) }
         ensures keys { OnOk result (AreKeys self.new) }
         ensures err { OnErr result (self.new ≡ self.old) }
     {
@@ -106,18 +110,20 @@ impl Subscriptions {
             &mut self.lists,
             self.alloc,
             client,
+            text,
             wanted,
             options,
         )
     }
 
-    /// Takes a subscription out, and says whether there was one. It takes no memory.
-    pub(crate) fn remove(&mut self, client: &str, wanted: &Rc<SubFilter>) -> bool
-        ensures existed { result ≡ list_any (has_wanted client.now wanted.now.value) self.old.rows }
-        ensures rows { self.new.rows ≡ filter (λ s. not (has_wanted client.now wanted.now.value s)) self.old.rows }
+    /// Takes the subscription with this text out, and says whether there was one. It takes no memory.
+    pub(crate) fn remove(&mut self, client: &str, text: &str) -> bool
+        requires { IsTrue (is_subscription text.now) }
+        ensures existed { result ≡ list_any (has_asked client.now text.now) self.old.rows }
+        ensures rows { self.new.rows ≡ filter (λ s. not (has_asked client.now text.now s)) self.old.rows }
         ensures keys { AreKeys self.new }
     {
-        take_out(&mut self.tree, &mut self.lists, client, wanted)
+        take_out(&mut self.tree, &mut self.lists, client, text)
     }
 
     /// Takes a client's subscriptions out, and no other is looked at. It takes no memory.
@@ -236,20 +242,21 @@ fn add_in(
 }
 
 // Takes a subscription out, and the filter with its last one; says whether there was one.
-fn leave_in(tree: &mut LevelTree<AtFilter>, client: &str, wanted: &SubFilter) -> bool
-    requires { AreKept tree.old }
-    ensures existed { result ≡ list_any (has_wanted client.now wanted.now) (all_rows tree.old) }
-    ensures rows { all_rows tree.new ≡ filter (λ s. not (has_wanted client.now wanted.now s)) (all_rows tree.old) }
+fn leave_in(tree: &mut LevelTree<AtFilter>, client: &str, text: &str) -> bool
+    requires kept { AreKept tree.old }
+    requires valid { IsTrue (is_subscription text.now) }
+    ensures existed { result ≡ list_any (has_asked client.now text.now) (all_rows tree.old) }
+    ensures rows { all_rows tree.new ≡ filter (λ s. not (has_asked client.now text.now s)) (all_rows tree.old) }
     ensures kept { AreKept tree.new }
 {
-    let Some(at) = tree.get_mut(&wanted.filter) else {
+    let (share, filter) = SubFilter::split(text);
+    let Some(at) = tree.get_mut(&filter) else {
         return false;
     };
-    let share = wanted.share.as_deref();
     let existed = at.contains(share, client);
     at.leave(share, client);
     if at.is_bare() {
-        let _ = tree.take(&wanted.filter);
+        let _ = tree.take(&filter);
     }
     existed
 }
@@ -275,26 +282,27 @@ fn put_in(
     lists: &mut BTreeMap<RcStr, Own>,
     alloc: Global,
     client: &RcStr,
-    wanted: &Rc<SubFilter>,
+    text: &str,
+    wanted: &SubFilter,
     options: Options,
 ) -> Result<(), AllocError>
-    requires { AreListed tree.old (texts lists.old.entries) }
+    requires listed { AreListed tree.old (texts lists.old.entries) }
+    requires asked { IsAskedBy text.now wanted.now }
     ensures ok { OnOk result (SameInTurn (all_rows tree.new)
-        (joined (wanted_row (rc_str_bytes client.now) wanted.now.value options) (all_rows tree.old))) }
+        (joined (wanted_row (rc_str_bytes client.now) wanted.now options) (all_rows tree.old))) }
     ensures err { OnErr result (tree.new ≡ tree.old) }
     ensures listed { AreListed tree.new (texts lists.new.entries) }
 {
-    let asked = wanted.as_ref();
     let id = client.as_str();
-    if contains_in(tree, id, asked) {
-        join_in(tree, alloc, client, asked, options)?;
+    if contains_in(tree, id, wanted) {
+        join_in(tree, alloc, client, wanted, options)?;
         return Ok(());
     }
-    list_add(lists, alloc, client, wanted)?;
-    match join_in(tree, alloc, client, asked, options) {
+    list_add(lists, alloc, client, text)?;
+    match join_in(tree, alloc, client, wanted, options) {
         Ok(()) => Ok(()),
         Err(fault) => {
-            list_remove(lists, id, wanted);
+            list_remove(lists, id, text);
             Err(fault)
         }
     }
@@ -304,15 +312,16 @@ fn take_out(
     tree: &mut LevelTree<AtFilter>,
     lists: &mut BTreeMap<RcStr, Own>,
     client: &str,
-    wanted: &Rc<SubFilter>,
+    text: &str,
 ) -> bool
-    requires { AreListed tree.old (texts lists.old.entries) }
-    ensures existed { result ≡ list_any (has_wanted client.now wanted.now.value) (all_rows tree.old) }
-    ensures rows { all_rows tree.new ≡ filter (λ s. not (has_wanted client.now wanted.now.value s)) (all_rows tree.old) }
+    requires listed { AreListed tree.old (texts lists.old.entries) }
+    requires valid { IsTrue (is_subscription text.now) }
+    ensures existed { result ≡ list_any (has_asked client.now text.now) (all_rows tree.old) }
+    ensures rows { all_rows tree.new ≡ filter (λ s. not (has_asked client.now text.now s)) (all_rows tree.old) }
     ensures listed { AreListed tree.new (texts lists.new.entries) }
 {
-    let existed = leave_in(tree, client, wanted);
-    list_remove(lists, client, wanted);
+    let existed = leave_in(tree, client, text);
+    list_remove(lists, client, text);
     existed
 }
 
@@ -322,8 +331,8 @@ fn leave_all(tree: &mut LevelTree<AtFilter>, own: &Own, client: &str)
     ensures rows { all_rows tree.new ≡ filter (λ s. not (same_text s.client client.now && is_in_list own.now s)) (all_rows tree.old) }
     ensures kept { AreKept tree.new }
 {
-    for wanted in own.filters() {
-        let _ = leave_in(tree, client, wanted);
+    for text in own.texts() {
+        let _ = leave_in(tree, client, text.as_str());
     }
 }
 
@@ -339,25 +348,26 @@ fn take_all(tree: &mut LevelTree<AtFilter>, lists: &mut BTreeMap<RcStr, Own>, cl
     }
 }
 
-ghost use Rattle.mq_router.specs.subscriptions.Kept.{wanted_key};
+ghost use Rattle.mq_router.specs.subscriptions.Kept.{text_key};
 
 fn list_add(
     lists: &mut BTreeMap<RcStr, Own>,
     alloc: Global,
     client: &RcStr,
-    wanted: &Rc<SubFilter>,
+    text: &str,
 ) -> Result<(), AllocError>
-    requires { NoneEmptied lists.old.entries }
-    ensures ok { OnOk result (ListsMore (rc_str_bytes client.now) wanted.now.value lists.old.entries lists.new.entries) }
+    requires live { NoneEmptied lists.old.entries }
+    requires valid { IsTrue (is_subscription text.now) }
+    ensures ok { OnOk result (ListsMore (rc_str_bytes client.now) (text_key text.now) lists.old.entries lists.new.entries) }
     ensures err { OnErr result (lists.new.entries ≡ lists.old.entries) }
     ensures live { NoneEmptied lists.new.entries }
 {
     match lists.get_mut(client) {
         Some(own) => {
-            own.add(wanted)?;
+            own.add(alloc, text)?;
             Ok(())
         }
-        None => list_begin(lists, alloc, client, wanted),
+        None => list_begin(lists, alloc, client, text),
     }
 }
 
@@ -366,33 +376,35 @@ fn list_begin(
     lists: &mut BTreeMap<RcStr, Own>,
     alloc: Global,
     client: &RcStr,
-    wanted: &Rc<SubFilter>,
+    text: &str,
 ) -> Result<(), AllocError>
     requires live { NoneEmptied lists.old.entries }
+    requires valid { IsTrue (is_subscription text.now) }
     requires absent { lookup (is_text (rc_str_bytes client.now)) (texts lists.old.entries) ≡ None }
-    ensures ok { OnOk result (ListsMore (rc_str_bytes client.now) wanted.now.value lists.old.entries lists.new.entries) }
+    ensures ok { OnOk result (ListsMore (rc_str_bytes client.now) (text_key text.now) lists.old.entries lists.new.entries) }
     ensures err { OnErr result (lists.new.entries ≡ lists.old.entries) }
     ensures live { NoneEmptied lists.new.entries }
 {
     let _count = lists.len();
     let client = client.clone()?;
     let mut own = Own::new(alloc);
-    own.add(wanted)?;
+    own.add(alloc, text)?;
     lists.insert(client, own)?;
     Ok(())
 }
 
 // Takes a subscription out, and with its last one the client.
-fn list_remove(lists: &mut BTreeMap<RcStr, Own>, client: &str, wanted: &Rc<SubFilter>)
-    requires { NoneEmptied lists.old.entries }
-    ensures rest { ListsLess client.now (wanted_key wanted.now.value) lists.old.entries lists.new.entries }
+fn list_remove(lists: &mut BTreeMap<RcStr, Own>, client: &str, text: &str)
+    requires live { NoneEmptied lists.old.entries }
+    requires valid { IsTrue (is_subscription text.now) }
+    ensures rest { ListsLess client.now (text_key text.now) lists.old.entries lists.new.entries }
     ensures live { NoneEmptied lists.new.entries }
 {
     let _count = lists.len();
     let Some(own) = lists.get_mut(client) else {
         return;
     };
-    own.remove(wanted);
+    own.remove(text);
     if own.is_empty() {
         let _ = lists.remove(client);
     }

@@ -10,7 +10,6 @@ use mq_acl::{Acl, AclKind};
 use mq_topic::{SubFilter, TopicFault, TopicName};
 use mq_world::Refusal;
 use std::alloc::{AllocError, Global};
-use std::rc::Rc;
 
 const MAX_BYTES: usize = 65_535;
 
@@ -36,13 +35,13 @@ pub(crate) fn is_user_name(user: Option<&str>) -> bool
 }
 
 /// A filter, and a share name or none.
-pub(crate) fn parse_filter(alloc: Global, text: &str) -> Result<Rc<SubFilter>, Refusal>
-    ensures ok { IfOk result (λ wanted. IsAskedBy text.now wanted.value) }
+pub(crate) fn parse_filter(alloc: Global, text: &str) -> Result<SubFilter, Refusal>
+    ensures ok { IfOk result (λ wanted. IsAskedBy text.now wanted) }
     ensures err { IfErr result (λ refusal. (refusal ≡ Refusal.Memory)
         ⊎ ((refusal ≡ Refusal.TopicFilter) × (is_subscription text.now ≡ false))) }
 {
     match SubFilter::parse(alloc, text) {
-        Ok(wanted) => Rc::new(alloc, wanted).or(Err(Refusal::Memory)),
+        Ok(wanted) => Ok(wanted),
         Err(TopicFault::Memory) => Err(Refusal::Memory),
         Err(_) => Err(Refusal::TopicFilter),
     }

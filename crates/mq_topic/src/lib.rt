@@ -4,6 +4,7 @@
 
 mod fault;
 mod filter;
+mod filter_text;
 mod level_text;
 mod levels;
 mod matching;
@@ -13,6 +14,7 @@ mod validity;
 
 pub use fault::TopicFault;
 pub use filter::TopicFilter;
+pub use filter_text::FilterText;
 pub use level_text::LevelText;
 pub use levels::split_first;
 pub use matching::{LevelTest, levels_match, matches};

@@ -4,6 +4,7 @@ ghost use Rattle.mq_topic.specs.Texts.{subscription_fault, told, accepts, is_mem
 
 use crate::fault::TopicFault;
 use crate::filter::TopicFilter;
+use crate::filter_text::FilterText;
 use crate::validity::{first_fault, is_deep, is_plain, wildcards_fit};
 use std::alloc::{AllocError, Global};
 
@@ -47,6 +48,24 @@ impl SubFilter {
             Some(share) => Some(String::from_str(alloc, share)?),
         };
         Ok(SubFilter { share, filter })
+    }
+
+    /// Whether the text is one that `parse` takes. It takes no memory.
+    pub fn is_valid(text: &str) -> bool
+        ensures { result ≡ is_subscription text.now }
+    {
+        subscription_fault(text).is_none()
+    }
+
+    /// The share name and the filter of a valid text, lent out of it. It takes no memory.
+    #[tactic(auto, using(crate::proofs::TextLemmas::filter_part_is_filter))]
+    pub fn split(text: &str) -> (Option<&str>, FilterText<'_>)
+        requires { IsTrue (is_subscription text.now) }
+        ensures share { option_copied result.0 ≡ share_of text.now }
+        ensures filter { result.1 ≡ filter_part text.now }
+    {
+        let (share, filter) = parts(text);
+        (share, FilterText::new(filter))
     }
 
     /// Another one with the same share name and filter.

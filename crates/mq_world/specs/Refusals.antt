@@ -83,6 +83,7 @@ is_valid Stat = true
 -- a command that takes no memory
 abbrev pub takes_no_memory : Request → Bool
 takes_no_memory (Disconnect id) = true
+takes_no_memory (Unsubscribe id text) = true
 takes_no_memory (Advance seconds) = true
 takes_no_memory Stat = true
 takes_no_memory request = false

@@ -23,12 +23,17 @@ wanted_row client wanted options = row (option_map string_bytes wanted.share) wa
 abbrev pub has_wanted : Text → SubFilter → Subscription → Bool
 has_wanted client wanted s = has_key client (option_map string_bytes wanted.share) wanted.filter s
 
+-- the subscription is the client's, with this text
+abbrev pub has_asked : Text → Text → Subscription → Bool
+has_asked client text s = has_key client (share_of text) (filter_part text) s
+
 abbrev pub OwnLists : Type 0
 OwnLists = List (Key × List OwnKey)
 
 -- the lists have the key too, or no longer
-abbrev pub ListsMore : Text → SubFilter → OwnLists → OwnLists → Type 0
-ListsMore client wanted old new = (s : Subscription) → is_listed (texts new) s ≡ (has_wanted client wanted s || is_listed (texts old) s)
+abbrev pub ListsMore : Text → OwnKey → OwnLists → OwnLists → Type 0
+ListsMore client key old new =
+    (s : Subscription) → is_listed (texts new) s ≡ (has_key client key.0 key.1 s || is_listed (texts old) s)
 
 abbrev pub ListsLess : Text → OwnKey → OwnLists → OwnLists → Type 0
 ListsLess client key old new =

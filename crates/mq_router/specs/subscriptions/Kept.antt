@@ -7,8 +7,7 @@ use Rattle.std.specs.List.Sorted.{IsStrictlySortedBy}
 use Rattle.std.specs.Ordering.{nat_cmp, is_eq}
 use Rattle.std.specs.Cmp.Lexicographic.{slice_cmp}
 use Rattle.mq_topic.specs.Levels.{levels}
-use Rattle.std.specs.declared.alloc.Global.{Global}
-use Rattle.std.specs.declared.rc.Rc.{Rc}
+use Rattle.mq_topic.specs.Texts.{share_of, filter_part}
 use Rattle.mq_world.specs.Lists.{Text, same_text}
 use Rattle.mq_topic.specs.declared.subscription.SubFilter.{SubFilter}
 use Rattle.mq_topic.specs.Levels.{level_order}
@@ -116,12 +115,9 @@ OwnKey = Option Text × Text
 abbrev pub wanted_key : SubFilter → OwnKey
 wanted_key wanted = (option_map string_bytes wanted.share, wanted.filter)
 
--- what a client asks for, as its own list and others share it
-abbrev pub Shared : Type 0
-Shared = Rc SubFilter Global
-
-abbrev pub shared_key : Shared → OwnKey
-shared_key wanted = wanted_key wanted.value
+-- that of a subscription's text
+abbrev pub text_key : Text → OwnKey
+text_key text = (share_of text, filter_part text)
 
 abbrev pub is_own : Subscription → OwnKey → Bool
 is_own s key = same_share s.share key.0 && same_text s.filter key.1

@@ -1,19 +1,21 @@
 //! The subscriptions of one client, beside the tree of all.
-ghost use Rattle.std.specs.Prelude.{◌≡◌, ◌&&◌, ◌||◌, [], map, not, OnOk, OnErr};
+ghost use Rattle.std.specs.Prelude.{◌≡◌, ◌&&◌, ◌||◌, [], true, map, not, IsTrue, OnOk, OnErr};
+ghost use Rattle.std.specs.List.{AllByRecursion};
+ghost use Rattle.mq_topic.specs.Texts.{is_subscription};
 ghost use Rattle.mq_world.specs.World.{Subscription};
-ghost use Rattle.mq_router.specs.subscriptions.Kept.{is_empty, is_own, is_in_list, shared_key, wanted_key};
+ghost use Rattle.mq_router.specs.subscriptions.Kept.{is_empty, is_own, is_in_list, text_key};
+ghost use Rattle.mq_router.specs.subscriptions.OwnViews.{key_in, IsAsked};
 
-use mq_topic::SubFilter;
 use std::alloc::{AllocError, Global};
 use std::collections::BTreeSet;
 use std::marker::Model;
-use std::rc::Rc;
+use std::rc::RcStr;
 
-/// A client's subscriptions, by share name and filter. Each has a place of its own, since a leaf of the set has room for more
-/// than most clients subscribe to.
+/// A client's subscriptions, by their texts, so that one can be looked up by the text of a command. Each has a place of its own,
+/// since a leaf of the set has room for more than most clients subscribe to.
 #[derive(Debug, Drop)]
 pub(crate) struct Own {
-    filters: BTreeSet<Rc<SubFilter>>,
+    texts: BTreeSet<RcStr>,
 }
 
 impl Model for Own {
@@ -22,9 +24,11 @@ impl Model for Own {
 
     ghost Value = { List OwnKey };
 
-    ghost use Rattle.mq_router.specs.subscriptions.OwnViews.{own_of};
+    ghost use Rattle.mq_router.specs.subscriptions.OwnViews.{own_of, AreAsked};
 
     ghost view = { own_of };
+
+    ghost invariant = { AreAsked };
 }
 
 impl Own {
@@ -32,37 +36,43 @@ impl Own {
         ensures { result ≡ [] }
     {
         Own {
-            filters: BTreeSet::new(alloc),
+            texts: BTreeSet::new(alloc),
         }
     }
 
     pub(crate) fn is_empty(&self) -> bool
         ensures { result ≡ is_empty self.now }
     {
-        self.filters.is_empty()
+        self.texts.is_empty()
     }
 
-    pub(crate) fn add(&mut self, wanted: &Rc<SubFilter>) -> Result<(), AllocError>
+    /// Adds the subscription with this text.
+    pub(crate) fn add(&mut self, alloc: Global, text: &str) -> Result<(), AllocError>
+        requires { IsTrue (is_subscription text.now) }
         ensures ok { OnOk result ((s : Subscription)
-            → is_in_list self.new s ≡ (is_own s (wanted_key wanted.now.value) || is_in_list self.old s)) }
+            → is_in_list self.new s ≡ (is_own s (text_key text.now) || is_in_list self.old s)) }
         ensures err { OnErr result (self.new ≡ self.old) }
     {
-        let wanted = wanted.clone()?;
-        self.filters.insert(wanted)?;
+        let text = RcStr::from_str(alloc, text)?;
+        self.texts.insert(text)?;
         Ok(())
     }
 
-    pub(crate) fn remove(&mut self, wanted: &Rc<SubFilter>)
-        ensures { (s : Subscription) → is_in_list self.new s ≡ (not (is_own s (wanted_key wanted.now.value)) && is_in_list self.old s) }
+    /// Removes the subscription with this text, if there is one. It takes no memory.
+    pub(crate) fn remove(&mut self, text: &str)
+        requires { IsTrue (is_subscription text.now) }
+        ensures { (s : Subscription)
+            → is_in_list self.new s ≡ (not (is_own s (text_key text.now)) && is_in_list self.old s) }
     {
         // Learns that the keys are in order.
-        let _count = self.filters.len();
-        let _ = self.filters.remove(wanted);
+        let _count = self.texts.len();
+        let _ = self.texts.remove(text);
     }
 
-    pub(crate) fn filters(&self) -> &BTreeSet<Rc<SubFilter>>
-        ensures { map shared_key result.now.keys ≡ self.now }
+    pub(crate) fn texts(&self) -> &BTreeSet<RcStr>
+        ensures keys { map key_in result.now.keys ≡ self.now }
+        ensures valid { AllByRecursion IsAsked result.now.keys }
     {
-        &self.filters
+        &self.texts
     }
 }

@@ -1,4 +1,4 @@
-use Rattle.std.proofs.Common.{◌≡◌, ◌∙◌, sym, ap, subst, map, string_bytes, true, false}
+use Rattle.std.proofs.Common.{◌≡◌, ◌∙◌, sym, ap, subst, map, string_bytes, false}
 use Rattle.std.specs.Option.{option_map, option_copied}
 use Rattle.mq_world.specs.Lists.{with_row}
 use Rattle.mq_world.specs.World.{Connect, Reply, session_cmp}

@@ -1,7 +1,5 @@
 use Rattle.std.proofs.Common.{◌≡◌, ◌∙◌, sym, ap, subst, Err, None}
 use Rattle.std.proofs.lemmas.Result.{err_from_is_err_and}
-use Rattle.std.specs.Rc.{rc_str_bytes}
-use Rattle.mq_topic.specs.declared.subscription.SubFilter.{SubFilter}
 use Rattle.mq_router.specs.subscriptions.Asked.{wanted_row}
 use Rattle.mq_world.specs.World.{Subscribe, Subscription, Options, asked}
 use Rattle.mq_world.specs.Lists.{Text}
@@ -39,7 +37,7 @@ pub returns-then-is_shared_no_local-clause-applied : goal.returns-then-is_shared
 returns-then-is_shared_no_local-clause-applied c =
     let ok = c.in_ok-wanted.ensures.ok in
     subscribe-shared c.args.self.now c.args.client.now c.args.text.now (options_of c.args.options) c.in_ok-check_client.ensures.refused ok.2
-    (ap (λ o. is_some o && c.args.options.no_local) (sym ok.0) ∙ ap (λ b. b && c.args.options.no_local) (sym (some_told c.in_ok-wanted.wanted.value.share)) ∙ ap (λ (w : SubFilter). is_some w.share && c.args.options.no_local) (sym c.deref.ensures) ∙ sym c.is_shared_no_local.ensures ∙ c.if-is_shared_no_local.true)
+    (ap (λ o. is_some o && c.args.options.no_local) (sym ok.0) ∙ ap (λ b. b && c.args.options.no_local) (sym (some_told c.in_ok-wanted.wanted.share)) ∙ sym c.is_shared_no_local.ensures ∙ c.if-is_shared_no_local.true)
 
 pub returns-clause-applied : goal.returns-clause-applied
 returns-clause-applied c =
@@ -52,17 +50,16 @@ returns-clause-applied c =
     let tested : None ≡ first_refusal (client_conditions s.sessions id) = c.in_ok-check_client.ensures.refused ∙ ap (λ (v : State). first_refusal (client_conditions v.sessions id)) (sym c.self.view_is) in
     let ok = c.in_ok-wanted.ensures.ok in
     let named : Option Text → Text → Subscription = λ sh f. record { client = id; share = sh; filter = f; options = options } in
-    let is : named (option_map string_bytes c.in_ok-wanted.wanted.value.share) c.in_ok-wanted.wanted.value.filter ≡ asked id text options =
-    ap (λ sh. named sh c.in_ok-wanted.wanted.value.filter) ok.0 ∙ ap (named (share_of text)) ok.1 in
-    let by : Text → Subscription = λ k. wanted_row k c.in_ok-wanted.wanted.value c.args.options in
+    let is : named (option_map string_bytes c.in_ok-wanted.wanted.share) c.in_ok-wanted.wanted.filter ≡ asked id text options =
+    ap (λ sh. named sh c.in_ok-wanted.wanted.filter) ok.0 ∙ ap (named (share_of text)) ok.1 in
+    let by : Text → Subscription = λ k. wanted_row k c.in_ok-wanted.wanted c.args.options in
     let kept = c.in_ok-id.ensures.cases ∙ c.in_ok-check_client.ensures.same in
     let copies : map copy_of c.in_ok-copies.copies.items ≡ copies_sent s (asked id text options) =
     c.in_ok-copies.ensures.copies
-    ∙ ap (λ w. copies_sent c.args.self.now (wanted_row (rc_str_bytes c.in_ok-id.id) w c.args.options)) c.deref-2.ensures
     ∙ ap (λ k. copies_sent c.args.self.now (by k)) kept
-    ∙ ap (λ (v : State). copies_sent v (named (option_map string_bytes c.in_ok-wanted.wanted.value.share) c.in_ok-wanted.wanted.value.filter)) (sym c.self.view_is) ∙ ap (copies_sent s) is in
+    ∙ ap (λ (v : State). copies_sent v (named (option_map string_bytes c.in_ok-wanted.wanted.share) c.in_ok-wanted.wanted.filter)) (sym c.self.view_is) ∙ ap (copies_sent s) is in
     subst (λ (v : State). Does v (Subscribe id text options) (record { copies = map copy_of c.in_ok-copies.copies.items; outcome = Reason c.args.options.qos }) new) c.self.view_is
     (subscribe-does s id text options subs _ tested ok.2
-    (ap (λ o. is_some o && c.args.options.no_local) (sym ok.0) ∙ ap (λ b. b && c.args.options.no_local) (sym (some_told c.in_ok-wanted.wanted.value.share)) ∙ ap (λ (w : SubFilter). is_some w.share && c.args.options.no_local) (sym c.deref.ensures) ∙ sym c.is_shared_no_local.ensures ∙ c.if-is_shared_no_local.false)
+    (ap (λ o. is_some o && c.args.options.no_local) (sym ok.0) ∙ ap (λ b. b && c.args.options.no_local) (sym (some_told c.in_ok-wanted.wanted.share)) ∙ sym c.is_shared_no_local.ensures ∙ c.if-is_shared_no_local.false)
     (ap (λ l. record { copies = l; outcome = Reason c.args.options.qos }) copies)
     (same-then _ _ _ c.in_ok-put.ensures.ok (same-is _ _ (ap (λ k. joined (by k) s.subscriptions) kept ∙ ap (λ (x : Subscription). joined x s.subscriptions) is))) c.in_ok-put.ensures.keys)

@@ -1,17 +1,13 @@
-use Rattle.std.proofs.Common.{◌≡◌, ◌∙◌, sym, ap, subst, Err, None, not, if◌then◌else◌}
+use Rattle.std.proofs.Common.{◌≡◌, ◌∙◌, sym, ap, subst, refl, inr, Err, None, if◌then◌else◌}
 use Rattle.std.proofs.lemmas.Result.{err_from_is_err_and}
-use Rattle.std.specs.List.{filter, list_any}
-use Rattle.std.proofs.Common.{Option, Bool, List}
-use Rattle.mq_topic.specs.Texts.{share_of}
-use Rattle.mq_world.specs.Lists.{Text}
-use Rattle.mq_router.specs.subscriptions.Asked.{has_wanted}
-use Rattle.mq_world.specs.World.{Subscription, Unsubscribe, has_key}
+use Rattle.mq_world.specs.World.{Unsubscribe}
 use Rattle.mq_world.specs.Refusals.{first_refusal, client_conditions}
 use Rattle.mq_world.specs.Answers.{reason}
+use Rattle.mq_world.specs.Views.{reply_of}
+use Rattle.mq_world.specs.declared.refusal.Refusal.TheVariants.{TopicFilter}
+use Rattle.mq_router.specs.router.Applied.{Does}
 use Rattle.mq_router.specs.router.Held.{state_of}
 use Rattle.mq_router.specs.StandsFor.{State}
-use Rattle.mq_router.specs.router.Applied.{Does}
-use Rattle.mq_world.specs.Views.{reply_of}
 use Rattle.mq_router.proofs.RouterLemmas.{refused-applied, unsubscribe-client, unsubscribe-filter, unsubscribe-does}
 use Rattle.mq_router.proofs.router.Router.unsubscribe.Goals as goal
 
@@ -21,11 +17,10 @@ returns-in_err-check_client-clause-applied c =
     refused-applied c.args.self.now _ c.from_residual.result c.in_err-check_client.field-0.0 c.args.self.now (p.1 ∙ ap (λ e. Err e) p.2)
     (unsubscribe-client c.args.self.now c.args.client.now c.args.text.now _ c.in_err-check_client.ensures.refused)
 
-pub returns-in_err-wanted-clause-applied : goal.returns-in_err-wanted-clause-applied
-returns-in_err-wanted-clause-applied c =
-    let p = err_from_is_err_and c.from_residual-in_err-wanted.result c.from_residual-in_err-wanted.ensures.1 in
-    refused-applied c.args.self.now _ c.from_residual-in_err-wanted.result c.in_err-wanted.field-0.0 c.args.self.now (p.1 ∙ ap (λ e. Err e) p.2)
-    (unsubscribe-filter c.args.self.now c.args.client.now c.args.text.now _ c.in_ok-check_client.ensures.refused c.in_err-wanted.ensures.err)
+pub returns-then-not-is_valid-clause-applied : goal.returns-then-not-is_valid-clause-applied
+returns-then-not-is_valid-clause-applied c =
+    refused-applied c.args.self.now _ _ TopicFilter c.args.self.now refl
+    (unsubscribe-filter c.args.self.now c.args.client.now c.args.text.now TopicFilter c.in_ok-check_client.ensures.refused (inr (refl, sym c.is_valid.ensures ∙ c.if-not-is_valid.true)))
 
 pub returns-clause-applied : goal.returns-clause-applied
 returns-clause-applied c =
@@ -35,11 +30,7 @@ returns-clause-applied c =
     let subs = c.remove-existed.new.self in
     let new : State = record s { subscriptions = subs.rows; filter_keys = subs.keys } in
     let tested : None ≡ first_refusal (client_conditions s.sessions id) = c.in_ok-check_client.ensures.refused ∙ ap (λ (v : State). first_refusal (client_conditions v.sessions id)) (sym c.self.view_is) in
-    let ok = c.in_ok-wanted.ensures.ok in
-    let by : Option Text → Text → Bool = λ sh f. list_any (has_key id sh f) s.subscriptions in
-    let out : Option Text → Text → List Subscription = λ sh f. filter (λ x. not (has_key id sh f x)) s.subscriptions in
-    let f = c.in_ok-wanted.wanted.value.filter in
     subst (λ (v : State). Does v (Unsubscribe id text) (reply_of c.with_reason.result) new) c.self.view_is
-    (unsubscribe-does s id text subs _ tested ok.2
-    (c.with_reason.ensures ∙ ap reason (c.reason_to_leave.ensures ∙ ap (λ b. if b then 0 else 17) (c.remove-existed.ensures.existed ∙ ap (λ sh. by sh f) ok.0 ∙ ap (by (share_of text)) ok.1)))
-    (c.remove-existed.ensures.rows ∙ ap (λ sh. out sh f) ok.0 ∙ ap (out (share_of text)) ok.1) c.remove-existed.ensures.keys)
+    (unsubscribe-does s id text subs _ tested (sym c.is_valid.ensures ∙ c.if-not-is_valid.false)
+    (c.with_reason.ensures ∙ ap reason (c.reason_to_leave.ensures ∙ ap (λ b. if b then 0 else 17) c.remove-existed.ensures.existed))
+    c.remove-existed.ensures.rows c.remove-existed.ensures.keys)
