@@ -1,6 +1,6 @@
 # run: proves and builds mqroute and what it stands on, and runs it on a sample script.
-# test: the gate: every proof from nothing, the must-fail edits, the tests, then the worked rows as a user runs them, and each
-# growth of memory refused in turn.
+# test: the gate: rules of the sources, every proof from nothing, the must-fail edits, the tests, then the worked rows as a
+# user runs them, each growth of memory refused in turn, and long scripts in little memory.
 # bench: measures the built program (bench/README.md).
 # install: puts the built program, its man page and the tools beside real brokers below PREFIX.
 .PHONY: run test bench install
@@ -12,9 +12,12 @@ run:
 	cd crates/mqroute && rt run < ../../tests/rows/first-look.jsonl
 
 test:
+	tests/layers.py
+	tests/sources.py
 	rt ci
 	tests/rows.sh
 	tests/refused.sh
+	tests/memory.sh
 	tests/readme.py
 	python3 -m unittest discover -s brokers/tests
 

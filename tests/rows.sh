@@ -22,13 +22,16 @@ check() { # NAME WANTED_OUTPUT WANTED_STATUS, with what was written in $written 
 
 tools/rows_table.py --check || exit 1
 tools/worked_scripts.py --check || exit 1
+tools/three_hundred.py --check || exit 1
+tools/plain_router.py --check || exit 1
 if [ ! -x "$program" ]; then
     echo "rows: there is no $program: run 'rt ci' first"
     exit 1
 fi
 written=$(mktemp)
 told=$(mktemp)
-trap 'rm -f "$written" "$told"' EXIT
+kept=$(mktemp)
+trap 'rm -f "$written" "$told" "$kept"' EXIT
 
 for script in tests/rows/*.jsonl; do
     [ -e "$script" ] || continue
@@ -53,9 +56,17 @@ complaint() { # NAME TEXT STATUS, with what was told in $written and the status 
     check "$1" "$told" "$3"
 }
 
-"$program" $'\xff.jsonl' > "$written" 2>&1
-status=$?
-complaint "an argument that is not UTF-8" "an argument is not UTF-8" 2
+# The same, where nothing is to stand on standard output.
+lone_complaint() { # NAME TEXT STATUS ARGUMENTS..
+    "$program" "${@:4}" < /dev/null > "$written" 2> "$kept"
+    status=$?
+    check "$1: standard output" /dev/null "$3"
+    cp "$kept" "$written"
+    complaint "$1" "$2" "$3"
+}
+
+lone_complaint "an argument that is not UTF-8" "an argument is not UTF-8" 2 $'\xff.jsonl'
+lone_complaint "a script that is not there" "cannot open script nowhere" 2 nowhere
 
 "$program" < tests/rows/first-look.jsonl > /dev/full 2> "$written"
 status=$?

@@ -1,12 +1,13 @@
 #!/usr/bin/env python3
 """Writes crates/mq_rows/src/table.rt: the worked rows of tests/rows, since a test reads no files.
 
-A row that begins with an access list has it in NAME.acl. One with other arguments (NAME.args), with a line of more than
-1,000 bytes or with more than 20,000 bytes in all is left out: tests/rows.sh runs it. Run from the repository's top,
-whenever a row joins: tools/rows_table.py; with the argument --check it writes nothing and fails where the table is out
-of date.
+A row that begins with an access list has it in NAME.acl. Of each row the lines of more than 1,000 bytes are left out, and
+the others renumbered. One with other arguments (NAME.args), or still with more than 20,000 bytes, is left out whole.
+tests/rows.sh runs each as it is. Run from the repository's top, whenever a row joins: tools/rows_table.py; with the
+argument --check it writes nothing and fails where the table is out of date.
 """
 import pathlib
+import re
 import sys
 
 ROWS = pathlib.Path("tests/rows")
@@ -14,19 +15,31 @@ TABLE = pathlib.Path("crates/mq_rows/src/table.rt")
 MOST = 6_000
 LONGEST_LINE = 1_000
 LONGEST_ROW = 20_000
+NUMBER = re.compile(r'"line":(\d+)')
 
 
 def raw(text):
     return f'r##"{text}"##'
 
 
+def without_long_lines(script, out):
+    lines = script.splitlines(keepends=True)
+    kept = [number for number, line in enumerate(lines, 1) if len(line) <= LONGEST_LINE]
+    place = {number: place for place, number in enumerate(kept, 1)}
+    answers = [line for line in out.splitlines(keepends=True) if line_answered(line) in place]
+    renumbered = [NUMBER.sub(f'"line":{place[line_answered(line)]}', line) for line in answers]
+    return "".join(lines[number - 1] for number in kept), "".join(renumbered)
+
+
+def line_answered(line):
+    return int(NUMBER.search(line)[1])
+
+
 def row(path):
-    script = path.read_text()
+    script, out = without_long_lines(path.read_text(), path.with_suffix(".out").read_text())
     access_list = path.with_suffix(".acl")
-    out = path.with_suffix(".out").read_text()
     beside = path.with_suffix(".args").exists() and not access_list.exists()
-    long = len(script) + len(out) > LONGEST_ROW or any(len(line) > LONGEST_LINE for line in script.splitlines())
-    if beside or long:
+    if beside or len(script) + len(out) > LONGEST_ROW:
         return ""
     access = f"Some(\n        {raw(access_list.read_text())},\n    )" if access_list.exists() else "None"
     status = path.with_suffix(".status").read_text().strip()
@@ -60,17 +73,8 @@ def part(number, rows):
 
 
 text = """//! The worked rows. Made by tools/rows_table.py from tests/rows.
-use crate::rows::run_row;
+use crate::rows::{Row, run_row};
 use std::test::Fail;
-
-/// A script, the access list that it begins with, what is written for it, and the exit status.
-pub(crate) struct Row {
-    pub(crate) name: &'static str,
-    pub(crate) access_list: Option<&'static str>,
-    pub(crate) script: &'static str,
-    pub(crate) output: &'static str,
-    pub(crate) status: u8,
-}
 """ + "".join(part(number, rows) for number, rows in enumerate(tables(), 1))
 if "--check" in sys.argv:
     sys.exit(0 if TABLE.read_text() == text else f"{TABLE} is not what tools/rows_table.py makes of {ROWS}")

@@ -22,7 +22,7 @@ enum Met {
     Answer { was_refused: bool },
     /// It answered want of memory, and the counts are as before.
     Memory,
-    /// It answered want of memory without reason, or the counts are others.
+    /// It answered want of memory without reason, or the counts are others, or it took memory and takes none.
     Fault,
 }
 
@@ -90,11 +90,14 @@ impl Replay {
         refuse(self.alloc, nth);
         let reply = command.apply(&mut self.router);
         let was_refused = was_refused(self.alloc);
+        if was_refused && command.takes_no_memory() {
+            return Ok(Met::Fault);
+        }
         if !reply.is_memory() {
             self.write(&reply)?;
             return Ok(Met::Answer { was_refused });
         }
-        if !was_refused || command.takes_no_memory() || self.counts() != counts {
+        if !was_refused || self.counts() != counts {
             return Ok(Met::Fault);
         }
         Ok(Met::Memory)

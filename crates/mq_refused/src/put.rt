@@ -50,7 +50,7 @@ impl<'a> Put<'a> {
 
 impl<'a> Trial for Put<'a> {
     // Where it is refused, the tree is as before, and the next put makes the tree that it should. A key that is there takes
-    // no memory.
+    // no memory: no growth is met.
     fn attempt(&self, alloc: Global, nth: u32) -> Result<Attempt, AllocError> {
         let before = tree_of(alloc, self.keys)?;
         let mut after = tree_of(alloc, self.keys)?;
@@ -59,8 +59,11 @@ impl<'a> Trial for Put<'a> {
         refuse(alloc, nth);
         let mut answer = tree.put(self.key, VALUE);
         let was_refused = was_refused(alloc);
+        if was_refused && older.is_some() {
+            return Ok(Attempt::Wrong);
+        }
         if answer.is_err() {
-            if !was_refused || older.is_some() || !self.are_same(&tree, &before)? {
+            if !was_refused || !self.are_same(&tree, &before)? {
                 return Ok(Attempt::Wrong);
             }
             answer = tree.put(self.key, VALUE);

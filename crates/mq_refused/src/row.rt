@@ -24,11 +24,14 @@ impl ValidCommand {
         }
     }
 
-    /// Whether no answer to it may be want of memory.
+    /// Whether it meets no growth, whatever it is answered.
     pub fn takes_no_memory(&self) -> bool {
         matches!(
             self.command,
-            Command::Disconnect { .. } | Command::Advance { .. } | Command::Stat
+            Command::Disconnect { .. }
+                | Command::Unsubscribe { .. }
+                | Command::Advance { .. }
+                | Command::Stat
         )
     }
 }

@@ -1,44 +1,18 @@
 //! Runs over readers and writers that fail at each of their calls in turn, and scripts cut at each byte.
 use crate::hostile_devices::{Page, Script, Spaces, Trouble};
-use crate::table::FIRST_LOOK;
+use crate::table::{FIRST_LOOK, REFUSALS};
 use mq_cli::{AclFileFault, RunFault, Sink, Source, Summary, read_acl, run, run_within};
 use mq_router::Router;
 use std::alloc::{AllocError, Global};
 use std::process::Abort;
 use std::test::Fail;
 
-const REFUSALS: &str = r##"{"do":"connect","client":"a"}
-{"do":"subscribe","client":"a","filter":"$share//t"}
-
-{"do":"publish","client":"a","topic":"a/+","payload":"x"}
-{"do":"publish","client":"b","topic":"t","payload":"x"}
-{"do":"connect","client":""}
-{"do":"connect"
-[]
-{"do":"fly"}
-{"do":"subscribe","client":"a","filter":"t","qos":3}
-{"do":"publish","client":"a","topic":"t","extra":1}
-{"do":"connect","client":"a","user":"\u0000"}
-{"do":"publish","client":"a","topic":"t","payload":"x"}
-"##;
-
-const REFUSED: &str = r##"{"line":1,"reason":0}
-{"code":9,"line":2,"refused":"TopicFilter"}
-{"code":8,"line":4,"refused":"TopicName"}
-{"code":7,"line":5,"refused":"NotConnected"}
-{"code":5,"line":6,"refused":"ClientId"}
-{"code":2,"line":7,"refused":"BadJson"}
-{"code":3,"line":8,"refused":"BadCommand"}
-{"code":3,"line":9,"refused":"BadCommand"}
-{"code":4,"line":10,"refused":"BadField"}
-{"code":4,"line":11,"refused":"BadField"}
-{"code":6,"line":12,"refused":"UserName"}
-{"line":13,"reason":16}
-"##;
-
 // The scripts that are tried, each with its answers.
 fn scripts() -> [(&'static str, &'static str); 2] {
-    [(FIRST_LOOK.script, FIRST_LOOK.output), (REFUSALS, REFUSED)]
+    [
+        (FIRST_LOOK.script, FIRST_LOOK.output),
+        (REFUSALS.script, REFUSALS.output),
+    ]
 }
 
 fn ended<R: Source>(alloc: Global, reader: &mut R, writer: &mut Page) -> Result<Summary, RunFault> {

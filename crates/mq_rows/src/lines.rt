@@ -34,6 +34,7 @@ fn faulty_fields(rt: HostRuntime) -> Result<(), Fail> {
         r#"{"do":"stat","client":"a"}"#,
         r#"{"do":"advance"}"#,
         r#"{"do":"advance","seconds":1.0}"#,
+        r#"{"do":"advance","seconds":1e0}"#,
         r#"{"do":"advance","seconds":18446744073709551616}"#,
         r#"{"do":"connect"}"#,
         r#"{"do":"connect","client":null}"#,
@@ -67,6 +68,13 @@ fn lines_that_are_no_json(rt: HostRuntime) -> Result<(), Fail> {
     );
     assert_eq!(rt;
         fault(alloc, b"{\"do\":\"connect\",\"client\":\"\xff\"}"),
+        Some(LineFault::BadJson)
+    );
+    assert_eq!(rt;
+        fault(
+            alloc,
+            b"{\"do\":\"publish\",\"client\":\"a\",\"topic\":\"t\",\"payload\":\"\xff\"}"
+        ),
         Some(LineFault::BadJson)
     );
     assert_eq!(rt;

@@ -1,5 +1,6 @@
 //! The program but its `main`: its texts and exit statuses, over files of the test's folder.
 use crate::devices::{Interrupted, Pieces, Shelf, Starved};
+use mq_acl::{AclFault, AclKind};
 use mq_cli::{AclFileFault, StdSink, StdSource, arguments, read_acl, start};
 use mq_topic::TopicName;
 use std::alloc::Global;
@@ -197,6 +198,8 @@ fn usage(rt: HostRuntime) -> Result<(), Fail> {
         "--max-retained x",
         "--max-retained 4294967296",
         "--max-queued=-1",
+        "--max-retained=-0",
+        "--max-queued=-00",
     ] {
         let got = started(&rt, arguments, Pieces::new(b"", 9), Shelf::new(rt.alloc()))?;
         assert!(rt; got.out.is_empty(), "{arguments}");
@@ -270,5 +273,16 @@ fn access_files(rt: HostRuntime) -> Result<(), Fail> {
     let pieces = Pieces::new(b"topic a\n", 4);
     let interrupted = read_acl(alloc, &mut StdSource::new(Interrupted::new(pieces, 1)));
     assert!(rt; matches!(&interrupted, Err(AclFileFault::Read)));
+    Ok(())
+}
+
+#[test]
+fn an_access_file_with_a_faulty_line(rt: HostRuntime) -> Result<(), Fail> {
+    let faulty = read_acl(rt.alloc(), &mut StdSource::new(Pieces::new(b"allow a", 3)));
+    let fault = AclFault {
+        line: 1,
+        kind: AclKind::Keyword,
+    };
+    assert_eq!(rt; faulty.err(), Some(AclFileFault::Line(fault)));
     Ok(())
 }

@@ -1,12 +1,20 @@
 //! The worked rows, from bytes to bytes, in pieces of several sizes.
 use crate::devices::{Pieces, Shelf};
-use crate::table::Row;
 use mq_acl::Acl;
 use mq_cli::{StdSink, StdSource, exit_status, run};
 use mq_router::Router;
 use std::alloc::Global;
 use std::process::Abort;
 use std::test::Fail;
+
+/// A script, the access list that it begins with, what is written for it, and the exit status.
+pub(crate) struct Row {
+    pub(crate) name: &'static str,
+    pub(crate) access_list: Option<&'static str>,
+    pub(crate) script: &'static str,
+    pub(crate) output: &'static str,
+    pub(crate) status: u8,
+}
 
 // A router that begins with the access list of this text, or with none.
 fn router_with(alloc: Global, access_list: Option<&str>) -> Result<Router, Fail> {

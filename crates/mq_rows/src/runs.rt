@@ -80,12 +80,14 @@ fn failing_writers(rt: HostRuntime) -> Result<(), Fail> {
         let (bytes, result) = written(rt.alloc(), CONNECT.as_bytes(), usize::MAX, shelf);
         assert_eq!(rt; bytes.as_slice(), b"{\"line\":1,".as_slice());
         assert!(rt; matches!(&result, Err(RunFault::Write)));
+        assert_eq!(rt; exit_status(&result), 3);
     }
     let mut shelf = Shelf::new(rt.alloc());
     shelf.stuck = true;
     let (bytes, result) = written(rt.alloc(), CONNECT.as_bytes(), usize::MAX, shelf);
     assert_eq!(rt; bytes.as_slice(), ANSWER.as_bytes());
     assert!(rt; matches!(&result, Err(RunFault::Write)));
+    assert_eq!(rt; exit_status(&result), 3);
     Ok(())
 }
 

@@ -1,15 +1,6 @@
 //! The worked rows. Made by tools/rows_table.py from tests/rows.
-use crate::rows::run_row;
+use crate::rows::{Row, run_row};
 use std::test::Fail;
-
-/// A script, the access list that it begins with, what is written for it, and the exit status.
-pub(crate) struct Row {
-    pub(crate) name: &'static str,
-    pub(crate) access_list: Option<&'static str>,
-    pub(crate) script: &'static str,
-    pub(crate) output: &'static str,
-    pub(crate) status: u8,
-}
 
 pub(crate) static ACCESS_LIST_FILE: Row = Row {
     name: "access-list-file",
@@ -722,6 +713,42 @@ fn rows_5(rt: HostRuntime) -> Result<(), Fail> {
     Ok(())
 }
 
+pub(crate) static REFUSALS: Row = Row {
+    name: "refusals",
+    access_list: None,
+    script: r##"{"do":"connect","client":"a"}
+{"do":"subscribe","client":"a","filter":"$share//t"}
+{"do":"subscribe","client":"a","filter":"$share/g/t","no_local":true}
+{"do":"publish","client":"a","topic":"a/+","payload":"x"}
+{"do":"publish","client":"b","topic":"t","payload":"x"}
+{"do":"connect","client":""}
+{"do":"connect"
+[]
+{"do":"fly"}
+{"do":"subscribe","client":"a","filter":"t","qos":3}
+{"do":"subscribe","client":"a","filter":"t","id":0}
+{"do":"publish","client":"a","topic":"t","extra":1}
+{"do":"connect","client":"a","user":"\u0000"}
+{"do":"publish","client":"a","topic":"t","payload":"x"}
+"##,
+    output: r##"{"line":1,"reason":0}
+{"code":9,"line":2,"refused":"TopicFilter"}
+{"code":10,"line":3,"refused":"SharedNoLocal"}
+{"code":8,"line":4,"refused":"TopicName"}
+{"code":7,"line":5,"refused":"NotConnected"}
+{"code":5,"line":6,"refused":"ClientId"}
+{"code":2,"line":7,"refused":"BadJson"}
+{"code":3,"line":8,"refused":"BadCommand"}
+{"code":3,"line":9,"refused":"BadCommand"}
+{"code":4,"line":10,"refused":"BadField"}
+{"code":4,"line":11,"refused":"BadField"}
+{"code":4,"line":12,"refused":"BadField"}
+{"code":6,"line":13,"refused":"UserName"}
+{"line":14,"reason":16}
+"##,
+    status: 1,
+};
+
 pub(crate) static RETAIN_HANDLING_UNSHARED: Row = Row {
     name: "retain-handling-unshared",
     access_list: None,
@@ -836,6 +863,15 @@ pub(crate) static RETAINED_AND_ACCESS: Row = Row {
     status: 1,
 };
 
+#[test]
+fn rows_6(rt: HostRuntime) -> Result<(), Fail> {
+    run_row(&rt, &REFUSALS)?;
+    run_row(&rt, &RETAIN_HANDLING_UNSHARED)?;
+    run_row(&rt, &RETAIN_HANDLING)?;
+    run_row(&rt, &RETAINED_AND_ACCESS)?;
+    Ok(())
+}
+
 pub(crate) static RETAINED_ORDER: Row = Row {
     name: "retained-order",
     access_list: None,
@@ -883,16 +919,6 @@ pub(crate) static SESSION_BEGUN_ANEW: Row = Row {
 "##,
     status: 1,
 };
-
-#[test]
-fn rows_6(rt: HostRuntime) -> Result<(), Fail> {
-    run_row(&rt, &RETAIN_HANDLING_UNSHARED)?;
-    run_row(&rt, &RETAIN_HANDLING)?;
-    run_row(&rt, &RETAINED_AND_ACCESS)?;
-    run_row(&rt, &RETAINED_ORDER)?;
-    run_row(&rt, &SESSION_BEGUN_ANEW)?;
-    Ok(())
-}
 
 pub(crate) static SESSION_TAKEN_OVER: Row = Row {
     name: "session-taken-over",
@@ -980,6 +1006,16 @@ pub(crate) static STAT_COUNTS: Row = Row {
     status: 0,
 };
 
+#[test]
+fn rows_7(rt: HostRuntime) -> Result<(), Fail> {
+    run_row(&rt, &RETAINED_ORDER)?;
+    run_row(&rt, &SESSION_BEGUN_ANEW)?;
+    run_row(&rt, &SESSION_TAKEN_OVER)?;
+    run_row(&rt, &SINGLE_LEVEL_WILDCARD)?;
+    run_row(&rt, &STAT_COUNTS)?;
+    Ok(())
+}
+
 pub(crate) static TWO_GROUPS: Row = Row {
     name: "two-groups",
     access_list: None,
@@ -1028,10 +1064,7 @@ pub(crate) static TWO_GROUPS: Row = Row {
 };
 
 #[test]
-fn rows_7(rt: HostRuntime) -> Result<(), Fail> {
-    run_row(&rt, &SESSION_TAKEN_OVER)?;
-    run_row(&rt, &SINGLE_LEVEL_WILDCARD)?;
-    run_row(&rt, &STAT_COUNTS)?;
+fn rows_8(rt: HostRuntime) -> Result<(), Fail> {
     run_row(&rt, &TWO_GROUPS)?;
     Ok(())
 }

@@ -35,6 +35,9 @@ fn names(rt: HostRuntime) -> Result<(), Fail> {
     ];
     for (text, want) in cases {
         assert_eq!(rt; name_fault(alloc, text), want);
+        if want.is_none() {
+            assert_eq!(rt; TopicName::parse(alloc, text)?.clone()?.text(), text);
+        }
     }
     let copy = TopicName::parse(alloc, "a//b")?.clone()?;
     assert_eq!(rt; copy.text(), "a//b");
@@ -75,7 +78,9 @@ fn subscriptions(rt: HostRuntime) -> Result<(), Fail> {
         Some(TopicFault::Wildcard)
     );
     for text in ["$share", "$sharex/g"] {
-        assert!(rt; SubFilter::parse(alloc, text)?.share.is_none());
+        let copy = SubFilter::parse(alloc, text)?.clone()?;
+        assert!(rt; copy.share.is_none());
+        assert_eq!(rt; copy.filter.text(), text);
     }
     Ok(())
 }
@@ -89,8 +94,14 @@ fn subscription_limits(rt: HostRuntime) -> Result<(), Fail> {
     let most = "a".repeat(alloc, 65_526)?;
     let long = format!(in alloc; "$share/g/{most}")?;
     let longer = format!(in alloc; "$share/g/{most}a")?;
-    assert_eq!(rt; subscription_fault(alloc, deep.as_str()), None);
-    assert_eq!(rt; subscription_fault(alloc, long.as_str()), None);
+    for (text, filter) in [
+        (deep.as_str(), slashes.as_str()),
+        (long.as_str(), most.as_str()),
+    ] {
+        let copy = SubFilter::parse(alloc, text)?.clone()?;
+        assert_eq!(rt; copy.share.as_deref(), Some("g"));
+        assert_eq!(rt; copy.filter.text(), filter);
+    }
     assert_eq!(rt;
         subscription_fault(alloc, longer.as_str()),
         Some(TopicFault::TooLong)

@@ -1,0 +1,192 @@
+#!/usr/bin/env python3
+"""Two rules of the sources that no contract can see. It fails, and says where, if one doesn't hold.
+
+A `Steps` counts what a look-up enters, and the contracts speak of the count that is handed in. A body that makes a count
+of its own walks as far as it likes, and no contract sees it. So `Steps::new` is called by `Router::apply` alone, outside
+tests and tools: there nobody asks for the count.
+
+A contract of the router speaks of its model, which is made of the fields of its structs. A field that the model doesn't
+name may hold anything, and grow for ever, and each function is still proved. So MADE_OF has the fields of each struct and
+the variants of each enum that a router is made of: one that is not in it is refused, until somebody who has seen what
+the model says of it writes it down here.
+"""
+import pathlib
+import re
+import sys
+
+TOP = pathlib.Path(__file__).resolve().parent.parent
+
+# The crates that a router is made of, and those that may count what they like.
+ROUTER = ["mq_router", "mq_world", "mq_acl", "mq_tree", "mq_topic"]
+TESTS_AND_TOOLS = {"mq_rows", "mq_refused", "mq_bench"}
+
+MADE_OF = {
+    "Router":
+        "alloc: Global, limits: Limits, clock: Clock, access: Option<Acl>, sessions: Sessions, subscriptions: "
+        "Subscriptions, retained: Retained",
+    "Limits": "retained: Option<u32>, queued: u32",
+    "Clock": "moment: u64",
+    "Acl": "rows: Vec<Row>",
+    "Sessions": "by_id: BTreeMap<RcStr, Session>, first_end: Option<u64>",
+    "Subscriptions": "alloc: Global, tree: LevelTree<AtFilter>, lists: BTreeMap<RcStr, Own>",
+    "Retained": "alloc: Global, tree: Messages, deadlines: Deadlines",
+    "Row": "owner: Owner, access: Access, filter: TopicFilter",
+    "Session": "user: Option<String>, interval: u32, presence: Presence, waiting: LinkedList<Waiting>",
+    "LevelTree": "alloc: Global, root: Node<V>",
+    "AtFilter": "filter: Rc<TopicFilter>, direct: BTreeMap<RcStr, Options>, groups: BTreeMap<RcStr, Group>",
+    "Own": "texts: BTreeSet<RcStr>",
+    "Messages": "by_topic: LevelTree<Stored>, count: u64",
+    "Deadlines": "pairs: BTreeSet<Due>",
+    "Owner": "Anonymous, Named(String), Everyone",
+    "Access": "Read, Write, ReadWrite, Deny",
+    "TopicFilter": "text: String",
+    "Presence": "Connected, Away { end: Option<u64> }",
+    "Waiting": "copy: Delivery, deadline: Option<u64>",
+    "Node": "value: Option<V>, children: BTreeMap<String, Box<Node<V>>>",
+    "Options": "qos: u8, no_local: bool, rap: bool, handling: u8, id: Option<u32>",
+    "Group": "members: IndexMap<RcStr, Options>",
+    "Stored": "topic: TopicName, payload: String, qos: u8, publisher: RcStr, deadline: Option<u64>",
+    "Due": "deadline: u64, topic: TopicName",
+    "Delivery":
+        "client: RcStr, topic: RcStr, payload: RcStr, qos: u8, retain: bool, expiry: Option<u32>, ids: Vec<u32>, group: "
+        "Option<(RcStr, Rc<TopicFilter>)>",
+    "TopicName": "text: String",
+}
+
+UNREAD = re.compile(r"""//[^\n]*|r(\#*)"[\s\S]*?"\1|"(?:\\.|[^"\\])*"|'(?:\\[^\n]{1,8}?|[^'\\\n])'""")
+
+
+def crates():
+    return [line.split(":")[0] for line in (TOP / "crates.txt").read_text(encoding="utf-8").splitlines() if ":" in line]
+
+
+def sources(crate):
+    """The files of a crate, with blanks in place of comments, texts and characters."""
+    for path in sorted((TOP / "crates" / crate / "src").rglob("*.rt")):
+        text = path.read_text(encoding="utf-8")
+        yield path.relative_to(TOP), UNREAD.sub(lambda it: re.sub(r"[^\n]", " ", it[0]), text)
+
+
+# Steps
+
+
+def enclosing(lines, place):
+    """The headers around a line: the nearest lines above it that begin further and further to the left."""
+    indent = len(lines[place]) - len(lines[place].lstrip())
+    for line in reversed(lines[:place]):
+        begins = len(line) - len(line.lstrip())
+        if line.strip() and begins < indent and not line.lstrip().startswith(("ensures", "requires", "where", "{", ")")):
+            indent = begins
+            yield line.strip()
+
+
+def is_apply(path, headers):
+    where = " in ".join(re.sub(r"^pub(\([^)]*\))? ", "", header) for header in headers)
+    return path.parts[1] == "mq_router" and re.search(r"(^| in )fn apply\(.* in impl Router \{$", where) is not None
+
+
+def steps_faults():
+    found = 0
+    for crate in crates():
+        if crate in TESTS_AND_TOOLS:
+            continue
+        for path, text in sources(crate):
+            lines = text.split("\n")
+            for place, line in enumerate(lines):
+                if re.search(r"\bSteps\s+as\b", line):
+                    yield f"{path}:{place + 1}: Steps has another name here, so that nobody sees where one is made"
+                for _ in re.findall(r"\bSteps\s*>?\s*::\s*new\b", line):
+                    headers = list(enclosing(lines, place))
+                    found += 1
+                    if not is_apply(path, headers):
+                        yield f"{path}:{place + 1}: a Steps of its own, in {headers[0]}: Router::apply alone makes one"
+    if found == 0:
+        yield "Router::apply makes no Steps any more: this rule has to be written anew"
+
+
+# What a router is made of
+
+
+def inside(text, start):
+    """What stands between the bracket at this place and the one that closes it."""
+    depth = 0
+    for place in range(start, len(text)):
+        depth += (text[place] in "{([<") - (text[place] in "})]" or text[place] == ">" and text[place - 1] not in "-=")
+        if depth == 0:
+            return text[start + 1:place]
+    return text[start + 1:]
+
+
+def pieces(text):
+    """The parts of a text between its commas, those in brackets left out."""
+    parts, depth = [""], 0
+    for place, c in enumerate(text):
+        depth += (c in "{([<") - (c in "})]" or c == ">" and text[place - 1] not in "-=")
+        if c == "," and depth == 0:
+            parts.append("")
+        else:
+            parts[-1] += c
+    return [" ".join(part.split()) for part in parts if part.strip()]
+
+
+def members(body):
+    """The fields of a struct, or the variants of an enum, without attributes, visibility and ghost fields."""
+    found = [re.sub(r"(#\[[^\]]*\]|\bpub(\([^)]*\))?) ", "", piece) for piece in pieces(body)]
+    return [it for it in found if not it.startswith("ghost ")]
+
+
+def declared():
+    """Of each struct, enum and type alias its declarations: a crate, and the members."""
+    found = {}
+    for crate in ROUTER:
+        for _, text in sources(crate):
+            for it in re.finditer(r"^[ \t]*(?:pub(?:\([^)]*\))? )?(struct|enum) (\w+)[^{(;]*([{(;])", text, re.M):
+                body = "" if it[3] == ";" else inside(text, it.end() - 1)
+                found.setdefault(it[2], []).append((crate, members(body)))
+            for it in re.finditer(r"^(?:pub(?:\([^)]*\))? )?type (\w+)[^=;]*=([^;]*);", text, re.M):
+                found.setdefault(it[1], []).append((crate, [" ".join(it[2].split())]))
+    return found
+
+
+def reached(found):
+    """The names that `Router` leads to, by the types of the members."""
+    names, left = [], ["Router"]
+    while left:
+        name = left.pop(0)
+        if name in found and name not in names:
+            names.append(name)
+            for _, parts in found[name]:
+                left += re.findall(r"\b[A-Z]\w*", " ".join(parts))
+    return names
+
+
+def struct_faults():
+    found, known = declared(), {name: pieces(parts) for name, parts in MADE_OF.items()}
+    names = reached(found)
+    for name in names:
+        if len(found[name]) > 1:
+            yield f"{name} is declared in {' and in '.join(crate for crate, _ in found[name])}: one of them needs another name"
+        crate, parts = found[name][0]
+        if name not in known:
+            yield f"{crate}: a router is now made of {name}, too: {', '.join(parts)}"
+            continue
+        for part in parts:
+            if part not in known[name]:
+                yield f"{crate}: {name} has `{part}`, which MADE_OF doesn't have: does a model speak of it?"
+        for part in known[name]:
+            if part not in parts:
+                yield f"{crate}: {name} has no `{part}` any more, but MADE_OF has it"
+    for name in known:
+        if name not in names:
+            yield f"MADE_OF has {name}, and a router is not made of it any more"
+
+
+def main():
+    faults = [*steps_faults(), *struct_faults()]
+    for fault in faults:
+        print(f"sources: {fault}")
+    print(f"sources: {len(MADE_OF)} structs and enums of a router, {len(faults)} faults")
+    return 1 if faults else 0
+
+
+sys.exit(main())
