@@ -8,6 +8,11 @@
 PREFIX ?= /usr/local
 INSTALLED = $(DESTDIR)$(PREFIX)
 
+# The programs beside real brokers, and the modules that they import.
+TOOLS = $(addprefix brokers/,log_to_script.py who_loses.py replay.py compare_log.py)
+TOOL_MODULES = $(addprefix brokers/,agreement.py conversion.py ending.py evidence.py inference.py live.py \
+	mosquitto_log.py notes.py output.py sessions.py stamps.py state.py topics.py writing.py)
+
 run:
 	cd crates/mqroute && rt run < ../../tests/rows/first-look.jsonl
 
@@ -26,11 +31,13 @@ bench:
 	bench/tree.sh
 
 install:
+	@[ -x crates/mqroute/out/mqroute ] || { echo "there is no crates/mqroute/out/mqroute: run 'make run' first"; exit 1; }
 	install -D -m 755 crates/mqroute/out/mqroute $(INSTALLED)/bin/mqroute
 	install -D -m 644 docs/mqroute.1 $(INSTALLED)/share/man/man1/mqroute.1
 	install -d $(INSTALLED)/lib/mqroute
-	install -m 644 brokers/conversion.py brokers/mosquitto_log.py brokers/notes.py $(INSTALLED)/lib/mqroute
-	install -m 755 brokers/log_to_script.py brokers/who_loses.py brokers/replay.py $(INSTALLED)/lib/mqroute
+	install -m 644 $(TOOL_MODULES) $(INSTALLED)/lib/mqroute
+	install -m 755 $(TOOLS) $(INSTALLED)/lib/mqroute
 	ln -sf ../lib/mqroute/log_to_script.py $(INSTALLED)/bin/mqroute-log-to-script
 	ln -sf ../lib/mqroute/who_loses.py $(INSTALLED)/bin/mqroute-who-loses
 	ln -sf ../lib/mqroute/replay.py $(INSTALLED)/bin/mqroute-replay
+	ln -sf ../lib/mqroute/compare_log.py $(INSTALLED)/bin/mqroute-compare-log

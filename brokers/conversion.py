@@ -1,14 +1,14 @@
 """From the lines of a mosquitto log to the commands of a script."""
 import re
 from collections.abc import Iterable, Iterator
-from typing import Any, BinaryIO
+from itertools import chain, islice
+from typing import BinaryIO
 
 import mosquitto_log as log
-from notes import Notes
+from sessions import FOREVER, Arrival, Clients, Command
+from stamps import LOOKED_AT, Stamps
 
-Command = dict[str, Any]
-FOREVER = 4_294_967_295
-MQTT_3_1 = 1  # as the log has it: 1 is 3.1, 2 is 3.1.1, 5 is 5
+ADDRESSES = 1_000  # new connections that are remembered until they say who they are
 
 def publish(client: str, topic: str, size: int, qos: int, retain: bool) -> Command:
     command: Command = {"do": "publish", "client": client, "topic": topic}
@@ -21,67 +21,18 @@ def publish(client: str, topic: str, size: int, qos: int, retain: bool) -> Comma
     return command
 
 
-class Session:
-    """A client's state that later lines need."""
-    __slots__ = ("will", "leaves", "unreleased", "kept")
-
-    def __init__(self, will: Command | None = None, kept: bool = False) -> None:
-        self.will = will
-        self.leaves = False  # sent DISCONNECT: the will is not published
-        self.unreleased: dict[int, Command] = {}  # QoS 2, routed when the sender releases them
-        self.kept = kept
-
-
-class Arrival:
-    """A connect of which the client id is known for certain only from the CONNACK that follows."""
-    __slots__ = ("place", "text", "will", "will_head")
-
-    def __init__(self, place: int, text: str) -> None:
-        self.place, self.text = place, text
-        self.will: Command | None = None
-        self.will_head: re.Match[str] | None = None
-
-
-class Converter:
-    """Reads lines one by one; `commands` holds those that the last line gave, each with its place in the log."""
+class Converter(Clients):
+    """Reads lines one by one."""
 
     def __init__(self, session_expiry: int = 0, form: str | None = None) -> None:
-        self.stamps = log.Stamps(form)
-        self.session_expiry = session_expiry
-        self.now: int | None = None  # what the script's clock stands for
-        self.time: int | None = None
-        self.place = 0
-        self.commands: list[tuple[int, Command]] = []
-        self.connected: dict[str, Session] = {}
-        self.away: dict[str, Session] = {}
+        super().__init__(session_expiry)
+        self.stamps = Stamps(form)
         self.arrival: Arrival | None = None
         self.packet: tuple[str, str, int] | None = None  # subscribe or unsubscribe, client, place
         self.asked: tuple[str, int] | None = None  # filter and QoS, until the broker has granted it
-        self.seen_before: set[str] = set()
-        self.notes = Notes()
-
-    # -- writing
-
-    def emit(self, place: int, command: Command) -> None:
-        if self.time is not None:
-            if self.now is not None and self.time > self.now:
-                self.commands.append((place, {"do": "advance", "seconds": self.time - self.now}))
-            self.now = max(self.now or self.time, self.time)
-        self.commands.append((place, command))
-
-    def session(self, client: str) -> Session:
-        """The client's session; of one that was connected before the log began, a new one."""
-        found = self.connected.get(client)
-        if found is None:
-            self.was_before(client)
-            found = self.connected[client] = self.away.pop(client, None) or Session()
-            self.emit(self.place, {"do": "connect", "client": client})
-        return found
-
-    def was_before(self, client: str) -> None:
-        if client not in self.seen_before:
-            self.seen_before.add(client)
-            self.notes.add("clients were connected before the log began: user name and subscriptions are not in the script", client)
+        self.addresses: dict[str, None] = {}  # that connected over TCP: the broker has no such line of a websocket
+        self.sys_topics: set[str] = set()  # below $SYS/, that clients publish
+        self.silent = False  # the broker tells neither who connects nor whose connection ends
 
     # -- reading
 
@@ -128,24 +79,45 @@ class Converter:
             return self.listed(text[1:])
         if text.startswith("Denied PUBLISH from "):
             return self.publish(text[20:], routed=False)
-        if text.startswith(("New client connected from ", "New bridge connected from ")):
-            address, found, name = text[26:].partition(" as ")
-            self.finish()
-            self.arrival = Arrival(self.place, name)
-            return bool(found)
+        if text.startswith("New "):
+            return self.arriving(text)
         if text.startswith("Will message specified ") and self.arrival:
             self.arrival.will_head = log.WILL.match(text)
             return self.arrival.will_head is not None
-        return self.ending(text) or text.startswith(log.PASSED_OVER)
+        return self.ending(text) or self.told(text) or text.startswith(log.PASSED_OVER)
+
+    def arriving(self, text: str) -> bool:
+        """`New connection from ADDRESS on port N.`, and then `New client connected from ADDRESS as ID (..).`"""
+        if text.startswith("New connection from "):
+            self.addresses[text[20:].partition(" ")[0]] = None
+            if len(self.addresses) > ADDRESSES:
+                del self.addresses[next(iter(self.addresses))]
+            return True
+        if not text.startswith(("New client connected from ", "New bridge connected from ")):
+            return False
+        address, found, name = text[26:].partition(" as ")
+        self.finish()
+        websocket = address not in self.addresses
+        self.addresses.pop(address, None)
+        self.arrival = Arrival(self.place, name, websocket, text.startswith("New bridge"))
+        return bool(found)
+
+    def told(self, text: str) -> bool:
+        """Lines that change what the broker does, and that no command stands for; and those of its own bridges."""
+        for start, what in log.TOLD:
+            if text.startswith(start):
+                self.notes.add(what, f"line {self.place}: {text}")
+                return True
+        bridge = log.LOCAL_SUBSCRIBE.match(text)
+        if bridge:
+            self.bridge_subscribes(bridge[1], bridge[2])
+        return bridge is not None or log.BRIDGE_SENDS.match(text) is not None
 
     def sending(self, text: str) -> bool:
         if text.startswith("PUBLISH to "):
-            head = log.PUBLISH_HEAD.search(text, 11)
-            if head and text[11:head.start()] in self.connected:
-                return True  # only who isn't known matters
             sent = log.read_publish(text[11:], self.connected)
-            if sent and sent.client not in self.connected:
-                self.was_before(sent.client)
+            if sent:
+                self.copied(sent)
             return sent is not None
         if text.startswith("CONNACK to "):
             return self.connack(text[11:])
@@ -153,6 +125,14 @@ class Converter:
             self.grant(None)
             self.packet = None
         return True
+
+    def copied(self, sent: log.Publish) -> None:
+        """The broker sent a copy."""
+        if sent.client not in self.connected:
+            self.was_before(sent.client)
+        if sent.topic.startswith("$SYS/") and sent.topic not in self.sys_topics:
+            self.notes.add("copies of topics under $SYS/, which the broker publishes itself, are not in the script",
+                           f"line {self.place}: {sent.client} {sent.topic}")
 
     def received(self, text: str) -> bool:
         kind, _, client = text.partition(" from ")
@@ -162,6 +142,8 @@ class Converter:
         elif kind == "DISCONNECT":
             if client in self.connected:
                 self.connected[client].leaves = True
+                if self.silent:
+                    self.end(client, willed=True)
         elif kind == "PUBREL":
             found = log.RELEASE.match(client)
             session = found and self.connected.get(found[1])
@@ -170,7 +152,7 @@ class Converter:
                 self.emit(self.place, command)
             return found is not None
         else:
-            return kind in ("PINGREQ", "PUBACK", "PUBREC", "PUBCOMP", "AUTH")
+            return kind in ("PINGREQ", "PUBACK", "PUBREC", "PUBCOMP", "AUTH", "SUBACK", "UNSUBACK") or text.startswith("CONNACK on connection ")
         return True
 
     def publish(self, text: str, routed: bool) -> bool:
@@ -181,10 +163,12 @@ class Converter:
             self.doubt(text)
         command = publish(found.client, found.topic, found.size, found.qos, bool(found.retain))
         session = self.session(found.client)
+        if found.topic.startswith("$SYS/"):
+            self.sys_topics.add(found.topic)
         if routed and found.qos == 2:
             session.unreleased[found.packet] = command
         else:
-            self.emit(self.place, command)
+            self.emit(self.place, command, routed)
         return True
 
     # -- subscribing: `<tab>FILTER (QoS N)`, then `CLIENT GRANTED FILTER`
@@ -199,7 +183,7 @@ class Converter:
             return False
         kind, client, place = self.packet
         if kind == "unsubscribe":
-            self.emit(place, {"do": "unsubscribe", "client": client, "filter": text})
+            self.unsubscribe(place, client, text)
             self.asked = (text, -1)
             return True
         self.grant(None)
@@ -231,8 +215,27 @@ class Converter:
             if qos > 2:
                 self.notes.add("subscribes that the broker refused: they are not in the script", f"line {self.place}: {client} {self.asked[0]}")
             else:
-                self.emit(place, {"do": "subscribe", "client": client, "filter": self.asked[0]} | ({"qos": qos} if qos else {}))
+                self.subscribe(place, client, self.asked[0], qos)
         self.asked = None
+
+    def subscribe(self, place: int, client: str, name: str, qos: int) -> None:
+        """A bridge is never sent its own messages, and gets RETAIN as it was published."""
+        session = self.session(client)
+        command: Command = {"do": "subscribe", "client": client, "filter": name} | ({"qos": qos} if qos else {})
+        if session.bridge:
+            command |= {"rap": True} if name.startswith("$share/") else {"no_local": True, "rap": True}
+        session.add(name)
+        self.emit(place, command)
+
+    def unsubscribe(self, place: int, client: str, name: str) -> None:
+        self.emit(place, {"do": "unsubscribe", "client": client, "filter": name})
+        self.session(client).drop(name)
+
+    def bridge_subscribes(self, client: str, name: str) -> None:
+        """Within the broker that has the bridge. The log has no QoS here: with 2 each copy has that of its publish."""
+        if client not in self.connected:
+            self.connect(Arrival(self.place, client, bridge=True), client, None, False, 4, client in self.away)
+        self.subscribe(self.place, client, name, 2)
 
     # -- coming and going
 
@@ -240,7 +243,7 @@ class Converter:
         found = log.CONNACK.match(text)
         arrival, self.arrival = self.arrival, None
         if found is None or arrival is None:
-            return found is not None
+            return found is not None and (found[3] != "0" or self.unannounced(found[1], found[2] == "1"))
         client = found[1]
         about = log.CONNECTED.match(arrival.text[len(client):]) if arrival.text.startswith(client + " (") else None
         if about is None:
@@ -249,87 +252,48 @@ class Converter:
         self.connect(arrival, client, user, clean, protocol, found[2] == "1")
         return True
 
-    def connect(self, arrival: Arrival, client: str, user: str | None, clean: bool, protocol: int, present: bool) -> None:
-        command: Command = {"do": "connect", "client": client}
-        if user is not None:
-            command["user"] = user
-        old = self.connected.pop(client, None) or self.away.pop(client, None)
-        had_one = old is not None and old.kept  # in the script; the broker may have lost it, as by a new start
-        resumed = present or (had_one and not clean and protocol == MQTT_3_1)  # whose CONNACK doesn't tell
-        if not clean and (resumed or not had_one):
-            command["clean"] = False
-        expiry = 0 if clean else FOREVER if protocol < 5 else self.session_expiry
-        if expiry:
-            command["session_expiry"] = expiry
-        if present and not had_one:
-            self.notes.add("sessions were resumed that the script doesn't have", f"line {arrival.place}: {client}")
-        if arrival.will:
-            arrival.will["client"] = client
-        session = Session(arrival.will, expiry > 0)
-        if old and resumed:
-            session.unreleased = old.unreleased
-        elif old:
-            self.unrouted(old)
-        self.connected[client] = session
-        self.emit(arrival.place, command)
+    def unannounced(self, client: str, present: bool) -> bool:
+        """A connection of which the CONNACK line alone stands in the log."""
+        self.silent = True
+        self.notes.add("connections have no 'New client connected' line (the broker's connection_messages is false): user names, wills, "
+                       "and the ends of connections without DISCONNECT are not in the script", f"line {self.place}: {client}")
+        self.connect(Arrival(self.place, client), client, None, not present, 5, present)
+        return True
 
     def ending(self, text: str) -> bool:
         taken = log.TAKEN_OVER.match(text)
         if taken and taken[1] in self.connected:
-            self.leave_will(taken[1])
+            self.taken_over(taken[1])
             return True
         if text.startswith("mosquitto version ") and text.endswith(" starting"):
-            for client in list(self.connected):
-                self.end(client, willed=False)
+            self.start()
             return True
         expired = log.EXPIRED.match(text)
         if expired:
-            return self.expire(expired[1])
+            self.expire(expired[1])
+            return True
         named = log.ended_clients(text, self.connected)
         if len(named) > 1:
             self.doubt(text)
-        if named and named[0] in self.connected:
-            self.end(named[0], willed=True)
+        if named:
+            self.closed(named[0])
         return bool(named) or taken is not None
 
-    def expire(self, client: str) -> bool:
-        """The broker ended the session of a client that is away; where the script still has it, a clean start ends it."""
-        session = self.away.pop(client, None)
-        if session:
-            self.unrouted(session)
-            self.emit(self.place, {"do": "connect", "client": client})
-            self.emit(self.place, {"do": "disconnect", "client": client})
-        return True
-
-    def unrouted(self, session: Session) -> None:
-        for command in session.unreleased.values():
-            self.notes.add("QoS 2 publishes were never released by their sender: neither the broker nor the script routes them",
-                           f"line {self.place}: {command['client']} {command['topic']}")
-
-    def leave_will(self, client: str) -> None:
-        session = self.connected[client]
-        if session.will and not session.leaves:
-            self.emit(self.place, session.will)
-        session.will = None
-
     def end(self, client: str, willed: bool) -> None:
-        if willed:
-            self.leave_will(client)
-        session = self.connected.pop(client)
-        session.leaves = False
-        if session.kept:
-            self.away[client] = session
-        else:
-            self.unrouted(session)
-        self.emit(self.place, {"do": "disconnect", "client": client})
+        super().end(client, willed)
         if self.packet and self.packet[1] == client:
             self.packet = self.asked = None
 
 
 def placed_commands(converter: Converter, streams: Iterable[BinaryIO]) -> Iterator[tuple[int, Command]]:
     """The commands, each with the number of the log line that it came from."""
+    yield from converter.commands  # of before the log
     for stream in streams:
-        for raw in log.raw_lines(stream):
-            converter.read(raw)
-            yield from converter.commands
+        with stream:
+            lines = log.raw_lines(stream)
+            first = list(islice(lines, LOOKED_AT))
+            converter.stamps.decide([line.decode("utf-8", "replace") for line in first])
+            for raw in chain(first, lines):
+                converter.read(raw)
+                yield from converter.commands
     converter.finish()

@@ -3,43 +3,55 @@
 
 The commands stand in the order in which the broker did them. What a log doesn't tell (payloads, options,
 expiry) is left at its default; a payload is told as its number of bytes, and is empty where it was empty.
+Of clients that were connected before the log began the script begins with what their copies show (--no-inference: it doesn't).
 Exit status: 0 all of the log is in the script; 1 something isn't, told on standard error; 2 usage, or a file.
 """
 import argparse
 import json
 import sys
 
-from conversion import Converter, placed_commands
+import ending
+from conversion import placed_commands
+from sessions import INFERRED, NONE, SEEN
+from writing import Logs, Writer, add_options, writer
 
 text_of = json.JSONEncoder(ensure_ascii=False, separators=(",", ":")).encode
 
 
 def arguments() -> argparse.Namespace:
     parser = argparse.ArgumentParser(description="Makes a script for mqroute of a mosquitto 2.0 log (log_type all).")
-    parser.add_argument("log", nargs="*", help="log files, in the order of time; standard input if none")
-    parser.add_argument("--time-format", metavar="FORMAT", help="log_timestamp_format as in mosquitto.conf (seconds, ISO and none are found without)")
-    parser.add_argument("--session-expiry", metavar="SECONDS", type=int, default=0,
-                        help="Session Expiry Interval of MQTT 5 clients that connect without Clean Start, which no log tells (default 0)")
+    parser.add_argument("log", nargs="*", help="log files, in the order of time, packed by gzip or not; standard input if none")
+    add_options(parser)
+    parser.add_argument("--state", metavar="FILE", help="write what stands at the end (clients, sessions, subscriptions, retained messages) as a script, "
+                        "for --begin with the log that follows")
     return parser.parse_args()
+
+
+def tell(found: Writer, written: int) -> None:
+    others = f" ({found.stamps.others} of other programs)" if found.stamps.others else ""
+    print(f"log_to_script: {found.place} lines read{others}, {written} commands written", file=sys.stderr)
+    if found.explained[INFERRED] or found.explained[NONE]:
+        seen, inferred, none = (found.explained[i] for i in (SEEN, INFERRED, NONE))
+        print(f"log_to_script: the broker sent {seen + inferred + none} copies: the script explains {seen} by subscriptions in the log and "
+              f"{inferred} by inferred ones, and doesn't explain {none}", file=sys.stderr)
+    found.notes.write(sys.stderr)
 
 
 def main() -> int:
     options = arguments()
-    converter = Converter(options.session_expiry, options.time_format)
+    logs = Logs(options.log, not options.no_inference)
+    found = writer(Writer, options, logs, follow=bool(options.state))
     written = 0
-    try:
-        streams = (open(name, "rb") for name in options.log) if options.log else [sys.stdin.buffer]
-        for _, command in placed_commands(converter, streams):
-            sys.stdout.buffer.write(text_of(command).encode("utf-8") + b"\n")
-            written += 1
-        sys.stdout.buffer.flush()
-    except OSError as fault:
-        print(f"log_to_script: {fault}", file=sys.stderr)
-        return 2
-    print(f"log_to_script: {converter.place} lines read, {written} commands written", file=sys.stderr)
-    converter.notes.write(sys.stderr)
-    return 1 if converter.notes.counts else 0
+    for _, command in placed_commands(found, logs.streams()):
+        sys.stdout.buffer.write(text_of(command).encode("utf-8") + b"\n")
+        written += 1
+    sys.stdout.buffer.flush()
+    if found.state:
+        with open(options.state, "wb") as file:
+            file.writelines(text_of(command).encode("utf-8") + b"\n" for command in found.state.commands())
+    tell(found, written)
+    return 1 if found.notes.counts or found.explained[NONE] else 0
 
 
 if __name__ == "__main__":
-    sys.exit(main())
+    sys.exit(ending.run("log_to_script", main))

@@ -1,67 +1,40 @@
 """What the lines of a mosquitto 2.0 log say (log_type all), one event a line."""
+import gzip
 import re
-from calendar import timegm
+import sys
+import zlib
 from collections.abc import Container, Iterator
-from datetime import datetime
-from typing import BinaryIO
+from typing import BinaryIO, cast
+
+from ending import Fault
 
 LINE_MAX = 65_536  # far over what mosquitto writes: it cuts its lines at 1,000 bytes
 CUT_AT = 999
 
-ISO = re.compile(r"(\d{4}-\d\d-\d\d[T ]\d\d:\d\d:\d\d(?:[+-]\d\d:?\d\d|Z)?): ")
-EPOCH = re.compile(r"(\d{9,11}): ")
+GZIP = b"\x1f\x8b"  # how such a file begins
+
+
+def open_log(name: str | None) -> BinaryIO:
+    """A log, packed or not; without a name standard input."""
+    plain = open(name, "rb") if name else sys.stdin.buffer
+    if plain.peek(2)[:2] != GZIP:
+        return plain
+    if name is None:
+        return cast(BinaryIO, gzip.open(plain))
+    plain.close()
+    return cast(BinaryIO, gzip.open(name))
 
 
 def raw_lines(stream: BinaryIO) -> Iterator[bytes]:
     """The lines without their ends; of one that is far too long only the beginning."""
-    while piece := stream.readline(LINE_MAX):
-        rest = piece
-        while not rest.endswith(b"\n") and len(rest) == LINE_MAX:
-            rest = stream.readline(LINE_MAX)
-        yield piece.rstrip(b"\r\n")
-
-
-class Stamps:
-    """Takes the time stamps off the lines. Without a format the first line decides: seconds, ISO or none."""
-
-    def __init__(self, form: str | None = None) -> None:
-        self.form = form
-        self.pattern: re.Pattern[str] | None = None
-        self.decided = form is not None
-        self.last = ("", 0)
-
-    def found(self) -> bool:
-        return bool(self.form or self.pattern)
-
-    def split(self, line: str) -> tuple[int | None, str]:
-        """The line's time in seconds, if it has one, and the line without it."""
-        if not self.decided:
-            self.pattern = next((p for p in (EPOCH, ISO) if p.match(line)), None)
-            self.decided = True
-        if self.form:
-            pieces = line.split(": ", self.form.count(": ") + 1)
-            stamp, text = ": ".join(pieces[:-1]), pieces[-1]
-        elif self.pattern:
-            found = self.pattern.match(line)
-            stamp, text = (found[1], line[found.end():]) if found else ("", line)
-        else:
-            return None, line
-        if stamp != self.last[0]:
-            seconds = self.seconds(stamp)
-            if seconds is None:
-                return None, line
-            self.last = (stamp, seconds)
-        return self.last[1], text
-
-    def seconds(self, stamp: str) -> int | None:
-        """A time without a zone is taken as one of UTC: only differences matter."""
-        try:
-            if self.pattern is EPOCH:
-                return int(stamp)
-            time = datetime.strptime(stamp, self.form) if self.form else datetime.fromisoformat(stamp)
-        except ValueError:
-            return None
-        return int(time.timestamp()) if time.tzinfo else timegm(time.timetuple())
+    try:
+        while piece := stream.readline(LINE_MAX):
+            rest = piece
+            while not rest.endswith(b"\n") and len(rest) == LINE_MAX:
+                rest = stream.readline(LINE_MAX)
+            yield piece.rstrip(b"\r\n")
+    except (EOFError, zlib.error) as fault:
+        raise Fault(f"a packed log is damaged: {fault}") from fault
 
 
 # The client id is free text, and so may look like any other part of a line. Each form below is read with its
@@ -91,8 +64,18 @@ PASSED_OVER = (
     "Received PUBREC from ", "Received PUBCOMP from ", "Received AUTH from ", "Config loaded from ", "Loading config file ",
     "Opening ", "Saving in-memory database to ", "mosquitto version ", "Invalid subscription string from ",
     "Empty subscription string from ", "Invalid unsubscription string from ", "Empty unsubscription string from ",
-    "Warning: ", "Client <unknown> ", "Client connection from ", "ACL denying access to client with dangerous ",
+    "Warning: ", "Note: ", "To fix this, use ", "Client <unknown> ", "Client connection from ", "OpenSSL Error",
+    "ACL denying access to client with dangerous ", "Connecting bridge ", "Received CONNACK on connection ",
 )
+# Lines that concern the script and give no command.
+TOLD = (
+    ("Reloading config.", "times the broker read its configuration again: the access list may have changed here"),
+    ("Dropped too large PUBLISH from ", "publishes were too large for the broker, which dropped them: they are not in the script"),
+    ("Outgoing messages are being dropped for client ",
+     "times the broker began to drop copies for a client since too many waited: the script has no such limit (mqroute's is --max-queued)"),
+)
+LOCAL_SUBSCRIBE = re.compile(r"Bridge (.*) doing local SUBSCRIBE on topic (.*)$")
+BRIDGE_SENDS = re.compile(r"Bridge (.*) sending (?:CONNECT|SUBSCRIBE|UNSUBSCRIBE)(?: \(.*\))?$")
 EXPIRED = re.compile(r"Expiring client (.*) due to timeout\.$")
 TAKEN_OVER = re.compile(r"Client (.*) already connected, closing old connection\.$")
 

@@ -4,10 +4,7 @@ import random
 import sys
 import time
 
-import paho.mqtt.client as mqtt
-from paho.mqtt.packettypes import PacketTypes
-from paho.mqtt.properties import Properties
-from paho.mqtt.subscribeoptions import SubscribeOptions
+from live import Client, PacketTypes, Properties, SubscribeOptions, mqtt
 
 STEPS = 900
 PAUSE = 0.05
@@ -30,11 +27,11 @@ class Person:
 
     def __init__(self, name: str, user: str | None, protocol: int, port: int, kept: bool) -> None:
         self.name, self.user, self.protocol, self.port, self.kept = name, user, protocol, port, kept
-        self.client: mqtt.Client | None = None
+        self.client: Client | None = None
 
     def come(self, will: bool = False) -> None:
         old, five = self.client, self.protocol == mqtt.MQTTv5
-        client = mqtt.Client(self.name, protocol=self.protocol, **({} if five else {"clean_session": not self.kept}))
+        client = Client(self.name, protocol=self.protocol, **({} if five else {"clean_session": not self.kept}))
         if self.user:
             client.username_pw_set(self.user, "")
         if will:

@@ -2,131 +2,55 @@
 """Runs a script on a live MQTT 5 broker and compares who got what with mqroute's output.
 
 usage: replay.py [--host H] [--port P] SCRIPT OUTPUT
-The broker has to have the access list that mqroute had, and no other clients. Copies of one client for one
-line and topic are joined: greatest QoS, any RETAIN, all identifiers. Granted QoS and the reasons of
-unsubscribes are compared too. Exit status: 0 nothing differs; 1 something does; 2 usage, a file, the broker.
+The broker has to have the access list that mqroute had, and no other clients. Copies of one client for one line and topic are
+joined: greatest QoS, any RETAIN, all identifiers; there may be as many as the client has subscriptions for the topic. The order of
+what waited, the reasons of SUBACK, UNSUBACK, PUBACK and PUBREC, and CONNACK's session present are compared too.
+Exit status: 0 nothing differs; 1 something does; 2 usage, a file, an output that isn't of the script, the broker.
 """
 import argparse
 import json
+import os
 import select
-import socket
+import subprocess
 import sys
+import tempfile
 import time
+from collections import Counter
 from collections.abc import Callable, Iterator
-from dataclasses import dataclass, field
-from typing import Any
 
-try:
-    import paho.mqtt.client as mqtt
-    from paho.mqtt.packettypes import PacketTypes
-    from paho.mqtt.properties import Properties
-    from paho.mqtt.subscribeoptions import SubscribeOptions
-except ImportError:
-    sys.exit("replay: wants the package python3-paho-mqtt")
+import ending
+from agreement import Acknowledged, Command, Copy, Sessions, copies_of, different_copies, different_order, different_reasons
+from ending import Fault
+from live import Connection, Offer
+from output import Block, blocks, by_key, is_blank, misfit
 
-Command = dict[str, Any]
-Answer = dict[str, Any]
 FENCE = "mqroute/fence"  # nobody subscribes to it; its UNSUBACK tells that all that was sent before has come
 QUIET_ROUNDS = 2  # a copy of QoS 2 wants two fences: one for PUBLISH, one for PUBREL
-KEEP_ALIVE = 3600
-EXPIRY_SLACK = 2  # seconds
-
-
-class Fault(Exception):
-    """What is said to the user before exit status 2."""
+ACL_PAUSE = 0.3  # seconds that a broker gets to read an access list
+ALL_ALLOWED = "pattern readwrite #\npattern readwrite $SYS/#\n"  # in place of no access list
 
 
 class Closed(Exception):
     """The broker closed a client's connection: a difference, and the end of the run."""
 
 
-@dataclass
-class Joined:
-    """All that one client got of one topic for one line."""
-    qos: int = 0
-    retain: bool = False
-    ids: list[int] = field(default_factory=list)
-    payloads: set[str] = field(default_factory=set)
-    expiry: int | None = None
-
-    def add(self, qos: int, retain: bool, ids: list[int], payload: str, expiry: int | None) -> None:
-        self.qos = max(self.qos, qos)
-        self.retain = self.retain or bool(retain)
-        self.ids = sorted(self.ids + ids)
-        self.payloads.add(payload)
-        self.expiry = expiry
-
-    def agrees(self, other: "Joined | None") -> bool:
-        if other is None or (self.expiry is None) != (other.expiry is None):
-            return False
-        near = self.expiry is None or abs(self.expiry - other.expiry) <= EXPIRY_SLACK
-        return near and (self.qos, self.retain, self.ids, self.payloads) == (other.qos, other.retain, other.ids, other.payloads)
-
-    def __str__(self) -> str:
-        parts = [f"qos {self.qos}", f"retain {str(self.retain).lower()}", "payload " + ", ".join(map(json.dumps, sorted(self.payloads)))]
-        parts += [f"ids {self.ids}"] if self.ids else []
-        parts += [f"expiry {self.expiry}"] if self.expiry is not None else []
-        return ", ".join(parts)
-
-
-Got = dict[tuple[str, str], Joined]
-
-
-class Connection:
-    """One client of the broker; what it receives goes to `got`, acknowledgements to `answered`."""
-
-    def __init__(self, command: Command, host: str, port: int) -> None:
-        self.name = command["client"]
-        self.got: list[mqtt.MQTTMessage] = []
-        self.answered: dict[int | str, list[int]] = {}
-        client = self.client = mqtt.Client(self.name, protocol=mqtt.MQTTv5)
-        if command.get("user") is not None:
-            client.username_pw_set(command["user"])
-        client.on_message = lambda _c, _u, message: self.got.append(message)
-        client.on_connect = lambda _c, _u, _f, reason, _p: self.answered.update(connect=[reason.value])
-        client.on_disconnect = lambda *_: self.answered.update(closed=[0])
-        client.on_subscribe = lambda _c, _u, mid, reasons, _p: self.answered.update({mid: [r.value for r in reasons]})
-        client.on_unsubscribe = lambda _c, _u, mid, _p, reasons: self.answered.update({mid: values(reasons)})
-        client.on_publish = lambda _c, _u, mid: self.answered.update({mid: [0]})
-        properties = Properties(PacketTypes.CONNECT)
-        properties.SessionExpiryInterval = command.get("session_expiry", 0)
-        client.connect(host, port, keepalive=KEEP_ALIVE, clean_start=command.get("clean", True), properties=properties)
-        self.at_once()
-
-    def read(self) -> None:
-        self.client.loop_read()
-        self.at_once()
-
-    def at_once(self) -> None:
-        """Neither side is to hold small packets back: that would cost 40 ms a line."""
-        if self.client.socket():
-            for option in ("TCP_NODELAY", "TCP_QUICKACK"):
-                if hasattr(socket, option):
-                    self.client.socket().setsockopt(socket.IPPROTO_TCP, getattr(socket, option), 1)
-
-    def write(self) -> None:
-        while self.client.want_write():
-            self.client.loop_write()
-
-
-def values(reasons: Any) -> list[int]:
-    return [r.value for r in (reasons if isinstance(reasons, list) else [reasons])]
-
-
 class Replay:
-    def __init__(self, host: str, port: int, patience: float, settle: float) -> None:
-        self.host, self.port, self.patience, self.settle = host, port, patience, settle
+    def __init__(self, options: argparse.Namespace) -> None:
+        self.options = options
         self.live: dict[str, Connection] = {}
+        self.sessions = Sessions()
+        self.offer = Offer()
+        self.left_out: Counter[str] = Counter()
         self.line = 0
 
     # -- waiting
 
     def pump(self, done: Callable[[], bool], what: str) -> None:
         """Reads and writes on all connections until `done`."""
-        end = time.monotonic() + self.patience
+        end = time.monotonic() + self.options.patience
         while not done():
             if time.monotonic() > end:
-                raise Fault(f"line {self.line}: no {what} within {self.patience:g} seconds")
+                raise Fault(f"line {self.line}: no {what} within {self.options.patience:g} seconds")
             by_socket = {c.client.socket(): c for c in self.live.values() if c.client.socket()}
             for connection in by_socket.values():
                 connection.write()
@@ -134,7 +58,7 @@ class Replay:
             for readable in ready:
                 by_socket[readable].read()
 
-    def wait(self, connection: Connection, key: int | str, what: str) -> list[int]:
+    def wait(self, connection: Connection, key: int | str, what: str) -> Acknowledged:
         self.pump(lambda: key in connection.answered or "closed" in connection.answered, what)
         if key not in connection.answered:
             raise Closed(f"the broker closed the connection of {connection.name}; the lines after this one are not run")
@@ -148,7 +72,7 @@ class Replay:
     def quiet(self) -> None:
         """Until nothing more comes."""
         idle, count = 0, -1
-        time.sleep(self.settle)
+        time.sleep(self.options.settle)
         while idle < QUIET_ROUNDS:
             self.fence()
             now = sum(len(c.got) for c in self.live.values())
@@ -156,63 +80,69 @@ class Replay:
 
     # -- commands
 
-    def do(self, command: Command) -> list[int]:
-        """Sends one command; gives the reason codes of a subscribe or unsubscribe."""
+    def do(self, command: Command) -> Acknowledged:
+        """Sends one command; gives what its acknowledgement says."""
         do = command["do"]
         if do == "connect":
             return self.connect(command)
-        if do == "advance":
-            time.sleep(command["seconds"] + 0.1)
-            return []
-        if do == "stat":
-            return []
+        if do in ("advance", "acl", "stat"):
+            if do == "advance":
+                time.sleep(command["seconds"] + 0.1)
+            if do == "acl":
+                self.set_access(command.get("text"))
+            return Acknowledged()
         connection = self.live[command["client"]]
         if do == "disconnect":
             connection.client.disconnect()
             self.pump(lambda: "closed" in connection.answered, "end of the connection")
             del self.live[command["client"]]
-            return []
+            return Acknowledged()
         if do == "publish":
-            self.publish(connection, command)
-            return []
+            said = self.wait(connection, connection.publish(command), "acknowledgement of the PUBLISH")
+            return said if command.get("qos", 0) else Acknowledged()
         if do == "subscribe":
-            return self.subscribe(connection, command)
+            return self.wait(connection, connection.subscribe(command), "SUBACK")
         return self.wait(connection, connection.client.unsubscribe(command["filter"])[1], "UNSUBACK")
 
-    def connect(self, command: Command) -> list[int]:
+    def connect(self, command: Command) -> Acknowledged:
         self.live.pop(command["client"], None)  # the broker takes the old one's session over
-        connection = self.live[command["client"]] = Connection(command, self.host, self.port)
-        reason = self.wait(connection, "connect", "CONNACK")
-        if reason != [0]:
-            raise Fault(f"line {self.line}: the broker refused the connection, reason {reason[0]}")
-        return []
+        options = self.options
+        connection = self.live[command["client"]] = Connection(command, options.host, options.port, options.username, options.password)
+        said = self.wait(connection, "connect", "CONNACK")
+        if said.reason != 0:
+            raise Fault(f"line {self.line}: the broker refused the connection, reason {said.reason}")
+        self.offer = connection.offer
+        return said
 
-    def publish(self, connection: Connection, command: Command) -> None:
-        properties = Properties(PacketTypes.PUBLISH)
-        if "expiry" in command:
-            properties.MessageExpiryInterval = command["expiry"]
-        sent = connection.client.publish(command["topic"], command.get("payload", ""), command.get("qos", 0),
-                                         command.get("retain", False), properties)
-        self.wait(connection, sent.mid, "acknowledgement of the PUBLISH")
+    def set_access(self, text: str | None) -> None:
+        """Lets the user's command give the broker an access list."""
+        if not self.options.on_acl:
+            raise Fault(f"line {self.line} sets an access list: give --on-acl, a command that lets the broker read one")
+        with tempfile.NamedTemporaryFile("w", suffix=".acl", encoding="utf-8") as file:
+            os.chmod(file.name, 0o644)
+            file.write(ALL_ALLOWED if text is None else text)
+            file.flush()
+            done = subprocess.run(self.options.on_acl, shell=True, env=os.environ | {"MQROUTE_ACL": file.name})
+            time.sleep(ACL_PAUSE)
+        if done.returncode:
+            raise Fault(f"line {self.line}: the command of --on-acl ended with status {done.returncode}")
 
-    def subscribe(self, connection: Connection, command: Command) -> list[int]:
-        properties = Properties(PacketTypes.SUBSCRIBE)
-        if "id" in command:
-            properties.SubscriptionIdentifier = command["id"]
-        options = SubscribeOptions(command.get("qos", 0), command.get("no_local", False), command.get("rap", False), command.get("handling", 0))
-        sent = connection.client.subscribe(command["filter"], options=options, properties=properties)
-        return self.wait(connection, sent[1], "SUBACK")
-
-    def got(self) -> Got:
-        """What has come since the last line."""
-        found: Got = {}
-        for connection in self.live.values():
-            for m in connection.got:
-                ids = list(getattr(m.properties, "SubscriptionIdentifier", None) or [])
-                expiry = getattr(m.properties, "MessageExpiryInterval", None)
-                found.setdefault((connection.name, m.topic), Joined()).add(m.qos, m.retain, ids, m.payload.decode("utf-8", "replace"), expiry)
-            connection.got.clear()
-        return found
+    def answer(self, number: int, command: Command, block: Block) -> list[str]:
+        """Runs a line, and gives what differs as texts to print."""
+        self.line = number
+        lacking = self.offer.lacks(command)
+        if lacking:
+            self.left_out[lacking] += 1
+            return []
+        present = self.sessions.present(command) if command["do"] == "connect" else False
+        said = self.do(command)
+        self.quiet()
+        if not block.refused:
+            self.sessions.follow(command)
+        theirs: list[Copy] = [copy for connection in self.live.values() for copy in connection.copies()]
+        ours = [copy for copy in copies_of(block) if self.offer.shared or not copy.shared]
+        return (different_copies(ours, theirs, self.sessions) + (different_order(ours, theirs) if command["do"] == "connect" else [])
+                + different_reasons(command, block, said, present, self.offer.greatest_qos))
 
     def end(self) -> None:
         for connection in self.live.values():
@@ -221,58 +151,36 @@ class Replay:
                 connection.write()
 
 
-def expected(name: str) -> dict[int, list[Answer]]:
-    by_line: dict[int, list[Answer]] = {}
-    with open(name, "rb") as stream:
-        for answer in map(json.loads, stream):
-            by_line.setdefault(answer["line"], []).append(answer)
-    return by_line
-
-
-def copies(answers: list[Answer]) -> Got:
-    found: Got = {}
-    for a in answers:
-        if "client" in a:
-            found.setdefault((a["client"], a["topic"]), Joined()).add(a["qos"], a["retain"], a.get("ids", []), a["payload"], a.get("expiry"))
-    return found
-
-
-def runnable(script: str, answers: dict[int, list[Answer]]) -> Iterator[tuple[int, Command]]:
-    """The lines that can be sent: all that mqroute answered, but for those refused as no MQTT command can be."""
+def runnable(script: str, output: str) -> Iterator[tuple[int, Command, Block]]:
+    """The lines that can be sent, with their answers: all but those refused as no MQTT command can be."""
+    answers = blocks(output)
     with open(script, "rb") as stream:
         for number, line in enumerate(stream, 1):
-            if number not in answers or answers[number][-1].get("refused", "NotAuthorized") != "NotAuthorized":
+            if is_blank(line):
+                continue
+            block = next(answers, None)
+            if block is None or block.line != number:
+                raise Fault(f"line {number} of {script} is not answered in {output}: it is cut short, or is of another script")
+            if block.refused and block.refused != "NotAuthorized":
                 continue
             command = json.loads(line)
-            if command["do"] == "acl":
-                raise Fault(f"line {number} sets an access list, which a live broker can't be told: give it the list and leave the line out")
-            yield number, command
+            why = misfit(command, block, by_key(block.copies, output))
+            if why:
+                raise Fault(f"{output} is of another script: line {number} is answered with {why}")
+            yield number, command, block
+    if next(answers, None):
+        raise Fault(f"{output} has answers to lines that {script} doesn't have")
 
 
-def compared(answers: list[Answer], reasons: list[int], got: Got) -> list[str]:
-    """What differs on one line, as texts to print."""
-    want, found = copies(answers), []
-    for key in sorted(want.keys() | got.keys()):
-        ours, theirs = want.get(key), got.get(key)
-        if ours is None or not ours.agrees(theirs):
-            found += [f"   {key[0]} {key[1]}", f"      mqroute: {ours or 'nothing'}", f"      broker:  {theirs or 'nothing'}"]
-    if reasons and reasons != [answers[-1].get("reason")]:
-        found += [f"   reason: mqroute {answers[-1].get('reason')}, broker {reasons[0]}"]
-    return found
-
-
-def differences(replay: Replay, script: str, answers: dict[int, list[Answer]]) -> Iterator[list[str]]:
+def differences(replay: Replay, script: str, output: str) -> Iterator[list[str]]:
     """For each line that differs, the texts to print."""
-    for number, command in runnable(script, answers):
-        replay.line = number
+    for number, command, block in list(runnable(script, output)):  # a fault is told before the broker is asked anything
         head = f"line {number}: {json.dumps(command, ensure_ascii=False)}"
         try:
-            reasons = replay.do(command)
-            replay.quiet()
+            found = replay.answer(number, command, block)
         except Closed as fault:
             yield [head, f"   {fault}"]
             return
-        found = compared(answers[number], reasons, replay.got())
         if found:
             yield [head, *found]
 
@@ -281,6 +189,10 @@ def arguments() -> argparse.Namespace:
     parser = argparse.ArgumentParser(description="Runs a script on a live MQTT 5 broker and compares with mqroute's output.")
     parser.add_argument("script"), parser.add_argument("output")
     parser.add_argument("--host", default="127.0.0.1"), parser.add_argument("--port", type=int, default=1883)
+    parser.add_argument("--username", metavar="NAME", help="user name of the clients for which the script has none")
+    parser.add_argument("--password", metavar="TEXT", help="password of all clients")
+    parser.add_argument("--on-acl", metavar="COMMAND", help="what the shell does for an `acl` line: it lets the broker read the access list in the file "
+                        "$MQROUTE_ACL, as by: cp \"$MQROUTE_ACL\" /tmp/acl && kill -HUP 123")
     parser.add_argument("--patience", type=float, default=5, metavar="SECONDS", help="how long to wait for an acknowledgement (default 5)")
     parser.add_argument("--settle", type=float, default=0, metavar="SECONDS",
                         help="wait after each line, for brokers that acknowledge before they route (default 0)")
@@ -289,19 +201,20 @@ def arguments() -> argparse.Namespace:
 
 def main() -> int:
     options = arguments()
-    replay = Replay(options.host, options.port, options.patience, options.settle)
+    replay = Replay(options)
     status = 0
     try:
-        for texts in differences(replay, options.script, expected(options.output)):
+        for texts in differences(replay, options.script, options.output):
             print("\n".join(texts))
             status = 1
-    except (OSError, ValueError, KeyError, Fault) as fault:
-        print(f"replay: {fault}", file=sys.stderr)
-        return 2
+    except (ValueError, KeyError) as fault:
+        raise Fault(repr(fault)) from fault
     finally:
         replay.end()
+    for what, count in replay.left_out.items():
+        print(f"replay: the broker doesn't offer {what}: {count} lines left out", file=sys.stderr)
     return status
 
 
 if __name__ == "__main__":
-    sys.exit(main())
+    sys.exit(ending.run("replay", main))

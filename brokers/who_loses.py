@@ -8,17 +8,15 @@ import argparse
 import json
 import sys
 from collections import Counter, defaultdict
-from collections.abc import Iterable, Iterator
+from collections.abc import Iterable, Mapping
 from dataclasses import dataclass, field
-from typing import Any, NamedTuple
+from typing import Any
 
-Key = tuple[str, str]  # client and topic
-COPY, ACCEPTED = '{"client":', '{"line":'  # mqroute prints names in ascending order: these lines alone begin so
-read_json = json.JSONDecoder().decode
+import ending
+from ending import Fault
+from output import Block, Key, blocks, by_key, command_of, is_blank, misfit
 
-
-class Fault(Exception):
-    """What is said to the user before exit status 2."""
+Grouped = Mapping[Key, list[str]]  # the copies of each client and topic
 
 
 @dataclass
@@ -51,12 +49,20 @@ class Losses:
         levels = topic.split("/", self.depth) if self.depth else []
         return "/".join(levels[:-1]) + "/#" if self.depth and len(levels) > self.depth else topic
 
-    def add(self, command: bytes, before: "Block | None", after: "Block | None") -> None:
-        """Counts what one line of the script was answered in both runs."""
-        if before is None or after is None:
-            return
-        self.add_copies(before.copies, after.copies)
-        was, now = before.refused, after.refused
+    def add(self, text: bytes, before: Block, after: Block) -> str | bool:
+        """Counts what one line of the script was answered in both runs. Says why, if an answer can't be of that line."""
+        was = by_key(before.copies)
+        now = was if before.copies == after.copies else by_key(after.copies)
+        if was or now or before.reason or after.reason or before.refused or after.refused:
+            command = command_of(text)
+            why = misfit(command, before, was) or (after != before and misfit(command, after, now))
+            if why:
+                return why
+            self.add_copies(was, now)
+            self.add_refusals(command or {}, before.refused, after.refused)
+        return False
+
+    def add_refusals(self, command: dict[str, Any], was: str | None, now: str | None) -> None:
         if was or now:
             entry = self.refusals[self.subject(command)]
             entry.before += was is not None
@@ -65,29 +71,22 @@ class Losses:
                 entry.newly.update([now] if now else [])
                 entry.no_longer.update([was] if was else [])
 
-    def add_copies(self, before: list[str], after: list[str]) -> None:
-        if before == after:
-            for (client, topic), copies in by_key(before).items():
-                entry = self.copies[client, self.gathered(topic)]
-                entry.before += len(copies)
-                entry.after += len(copies)
-            return
-        was, now = by_key(before), by_key(after)
-        for client, topic in was.keys() | now.keys():
-            entry, old, new = self.copies[client, self.gathered(topic)], was[client, topic], now[client, topic]
+    def add_copies(self, was: Grouped, now: Grouped) -> None:
+        for key in was.keys() | now.keys():
+            entry, old, new = self.copies[key[0], self.gathered(key[1])], was.get(key, []), now.get(key, [])
             entry.before += len(old)
             entry.after += len(new)
-            same = (Counter(old) & Counter(new)).total()
-            entry.changed += min(len(old), len(new)) - same
-            entry.lost += max(0, len(old) - len(new))
-            entry.gained += max(0, len(new) - len(old))
+            if old is not new:
+                same = (Counter(old) & Counter(new)).total()
+                entry.changed += min(len(old), len(new)) - same
+                entry.lost += max(0, len(old) - len(new))
+                entry.gained += max(0, len(new) - len(old))
 
-    def subject(self, command: bytes) -> Key:
+    def subject(self, command: dict[str, Any]) -> Key:
         """Whom a refusal concerns: the client, and the topic or filter, or what the command does."""
         try:
-            value = json.loads(command)
-            return str(value["client"]), self.gathered(str(value.get("topic", value.get("filter", value["do"]))))
-        except (ValueError, KeyError, TypeError, AttributeError):
+            return str(command["client"]), self.gathered(str(command.get("topic", command.get("filter", command["do"]))))
+        except KeyError:
             return "", "(no command)"
 
     def changed_copies(self) -> list[tuple[Key, Copies]]:
@@ -102,59 +101,47 @@ class Losses:
                             "refused_after": sum(r.after for r in self.refusals.values())}
 
 
-class Block(NamedTuple):
-    """What one line of a script was answered: its copies as they stand, and the refusal's name if it was refused."""
-    line: int
-    copies: list[str]
-    refused: str | None
+class Run:
+    """One output, answer by answer."""
 
+    def __init__(self, name: str) -> None:
+        self.name = name
+        self.blocks = blocks(name)
+        self.head = next(self.blocks, None)
 
-def blocks(name: str) -> Iterator[Block]:
-    with open(name, encoding="utf-8", newline="\n") as stream:
-        copies: list[str] = []
-        try:
-            for text in stream:
-                if text.startswith(COPY):
-                    copies.append(text)
-                    continue
-                if text.startswith(ACCEPTED):
-                    yield Block(int(text[len(ACCEPTED):text.index(",")]), copies, None)
-                else:
-                    end = read_json(text)
-                    yield Block(end["line"], copies, end["refused"])
-                copies = []
-        except (ValueError, KeyError, TypeError) as fault:
-            raise Fault(f"{name} is no output of mqroute: {fault!r}") from fault
-    if copies:
-        raise Fault(f"{name} is cut short: copies without a closing line")
-
-
-def by_key(copies: list[str]) -> defaultdict[Key, list[str]]:
-    """The copies of each client and topic."""
-    found: defaultdict[Key, list[str]] = defaultdict(list)
-    for text in copies:
-        copy = read_json(text)
-        found[copy["client"], copy["topic"]].append(text)
-    return found
+    def take(self, number: int) -> Block | None:
+        """The answer to this line of the script, if it has one."""
+        head = self.head
+        if head is None or head.line != number:
+            return None
+        self.head = next(self.blocks, None)
+        return head
 
 
 def compare(script: str, before: str, after: str, depth: int | None) -> Losses:
     losses = Losses(depth)
-    runs = [blocks(before), blocks(after)]
-    heads = [next(run, None) for run in runs]
+    runs = [Run(before), Run(after)]
     with open(script, "rb") as commands:
-        for number, command in enumerate(commands, 1):
-            here: list[Block | None] = [None, None]
-            for side, head in enumerate(heads):
-                if head and head.line == number:
-                    here[side] = head
-                    heads[side] = next(runs[side], None)
-            if (here[0] is None) != (here[1] is None):
-                raise Fault(f"line {number} of {script} is answered in one output alone: the outputs are of different scripts, or one is cut short")
-            losses.add(command, *here)
-    if any(heads):
-        raise Fault(f"an output has answers to lines that {script} doesn't have")
+        for number, text in enumerate(commands, 1):
+            here = [run.take(number) for run in runs]
+            if is_blank(text):
+                for run in (r for r, block in zip(runs, here) if block):
+                    raise Fault(f"line {number} of {script} is blank, and {run.name} has an answer to it: it is the output of another script")
+                continue
+            if None in here:
+                raise unanswered(script, number, [run.name for run, block in zip(runs, here) if block is None])
+            why = losses.add(text, *here)
+            if why:
+                raise Fault(f"line {number} of {script}: an output is of another script: {why}")
+    for run in runs:
+        if run.head:
+            raise Fault(f"{run.name} has answers to lines that {script} doesn't have")
     return losses
+
+
+def unanswered(script: str, number: int, names: list[str]) -> Fault:
+    where = "answered in neither output" if len(names) == 2 else f"not answered in {names[0]}"
+    return Fault(f"line {number} of {script} is {where}: a run failed or is cut short" + (", or is of another script" if len(names) == 1 else ""))
 
 
 # -- showing
@@ -215,14 +202,10 @@ def arguments() -> argparse.Namespace:
 
 def main() -> int:
     options = arguments()
-    try:
-        losses = compare(options.script, options.before, options.after, options.depth)
-    except (OSError, Fault) as fault:
-        print(f"who_loses: {fault}", file=sys.stderr)
-        return 2
+    losses = compare(options.script, options.before, options.after, options.depth)
     sys.stdout.buffer.write((as_json(losses) if options.json else report(losses)).encode("utf-8"))
     return 1 if losses.changed_copies() or losses.changed_refusals() else 0
 
 
 if __name__ == "__main__":
-    sys.exit(main())
+    sys.exit(ending.run("who_loses", main))

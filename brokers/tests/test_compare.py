@@ -1,18 +1,19 @@
 """The two comparisons with a broker: of a log, and of what a live one sent."""
 import json
+import subprocess
 import sys
 import tempfile
+import tracemalloc
 import unittest
 from pathlib import Path
 
 sys.path.insert(0, str(Path(__file__).parent.parent))
-from compare_log import differences, read_log, read_output  # noqa: E402
+from compare_log import Watcher, compare  # noqa: E402
+from inference import Beginning  # noqa: E402
+from state import State  # noqa: E402
+from writing import Logs  # noqa: E402
 
-try:
-    import replay
-except SystemExit:
-    replay = None
-
+TOOL = Path(__file__).parent.parent / "compare_log.py"
 CONNECTS = "".join(f"New client connected from 1.2.3.4:5 as {c} ({p}, c1, k60).\nNo will message specified.\nSending CONNACK to {c} (0, 0)\n"
                    for c, p in (("a", "p5"), ("b", "p5"), ("old", "p2")))
 PUBLISH = "Received PUBLISH from a (d0, q1, r1, m1, 'x', ... (2 bytes))\n"
@@ -26,13 +27,13 @@ def sent(client: str, qos: int, retain: int) -> str:
 class OfALog(unittest.TestCase):
     def kinds(self, log: str, *copies: tuple[str, int, bool, str | None], refused: bool = False) -> list[str]:
         """What is printed for a log's last line under CONNECTS; a copy is client, QoS, RETAIN and share name."""
-        answers = [{"client": c, "line": 4, "payload": "", "qos": q, "retain": r, "topic": "x"} | ({"share": s} if s else {}) for c, q, r, s in copies]
-        answers.append({"code": 11, "line": 4, "refused": "NotAuthorized"} if refused else {"line": 4, "reason": 0})
+        answers = [{"line": n, "reason": 0} for n in (1, 2, 3)]
+        answers += [{"client": c, "line": 4, "payload": "", "qos": q, "retain": r, "topic": "x"} | ({"share": s} if s else {}) for c, q, r, s in copies]
+        answers.append({"code": 11, "line": 4, "refused": "NotAuthorized"} if refused else {"line": 4, "reason": int(log.startswith(SUBSCRIBE))})
         with tempfile.TemporaryDirectory() as folder:
             Path(folder, "log").write_text(CONNECTS + log, encoding="utf-8")
             Path(folder, "output").write_text("".join(json.dumps(a) + "\n" for a in answers), encoding="utf-8")
-            recorded = read_log(f"{folder}/log", 0)
-            return [line.split(":")[0] for line in differences(recorded, read_output(f"{folder}/output", recorded))]
+            return [line.split(":")[0] for line in compare(Watcher(None, None, Beginning(State())), Logs([f"{folder}/log"]), f"{folder}/output").lines()]
 
     def test_the_same(self):
         self.assertEqual(self.kinds(PUBLISH + sent("b", 1, 0) + sent("a", 0, 0), ("a", 0, False, None), ("b", 1, False, None)), [])
@@ -55,40 +56,57 @@ class OfALog(unittest.TestCase):
         self.assertEqual(self.kinds(PUBLISH, refused=True), ["refused by mqroute alone"])
         self.assertEqual(self.kinds(PUBLISH.replace("Received", "Denied")), ["refused by the broker alone"])
 
+    def test_sent_again(self):
+        self.assertEqual(self.kinds(PUBLISH + sent("b", 1, 0) + sent("b", 1, 0).replace("d0", "d1"), ("b", 1, False, None)), [])
 
-@unittest.skipUnless(replay, "there is no python3-paho-mqtt")
-class OfALiveOne(unittest.TestCase):
-    ANSWERS = [{"client": "b", "expiry": 9, "ids": [7], "line": 1, "payload": "p", "qos": 0, "retain": True, "topic": "x"},
-               {"client": "b", "expiry": 9, "ids": [3], "line": 1, "payload": "p", "qos": 1, "retain": False, "topic": "x"}, {"line": 1, "reason": 0}]
+    def test_what_a_group_sent_to_a_member_that_was_away(self):
+        """It comes when the member resumes its session."""
+        def coming(present: int) -> str:
+            return f"New client connected from 1.2.3.4:5 as m (p2, c0, k60).\nNo will message specified.\nSending CONNACK to m ({present}, 0)\n"
+        def subscribing(name: str) -> str:
+            return f"Received SUBSCRIBE from m\n\t{name} (QoS 1)\nm 1 {name}\nSending SUBACK to m\n"
+        for name, kind in (("$share/g/+", "another member's turn"), ("$share/g/y", "different"), ("y", "different")):
+            log = coming(0) + subscribing(name) + "Client m disconnected.\n" + coming(1) + sent("m", 1, 0)
+            found = self.compared([log], "".join('{"line":%d,"reason":%d}\n' % (n, n == 2) for n in (1, 2, 3, 4)))
+            self.assertEqual((found[0], found[1].split(":")[0]), (1, kind))
 
-    def joined(self, **more) -> dict:
-        return {("b", "x"): replay.Joined(**({"qos": 1, "retain": True, "ids": [3, 7], "payloads": {"p"}, "expiry": 9} | more))}
+    def compared(self, logs: list[str], output: str, *words: str) -> tuple[int, str, str]:
+        with tempfile.TemporaryDirectory() as folder:
+            names = [f"log.{i}" for i in range(len(logs))]
+            for name, text in zip([*names, "output"], [*logs, output]):
+                Path(folder, name).write_text(text, encoding="utf-8")
+            done = subprocess.run([sys.executable, TOOL, *words, *names, "output"], cwd=folder, capture_output=True, text=True)
+            return done.returncode, done.stdout, done.stderr
 
-    def test_joined(self):
-        self.assertEqual(replay.compared(self.ANSWERS, [], self.joined()), [])
-        self.assertEqual(replay.compared(self.ANSWERS, [], self.joined(expiry=8)), [])
+    COPY = '{"client":"b","line":4,"payload":"2 bytes","qos":1,"retain":false,"topic":"x"}\n'
+    OUTPUT = "".join('{"line":%d,"reason":0}\n' % n for n in (1, 2, 3)) + COPY + '{"line":4,"reason":0}\n'
 
-    def test_differs(self):
-        for more in ({"qos": 0}, {"retain": False}, {"ids": [3]}, {"payloads": {"q"}}, {"expiry": 5}, {"expiry": None}):
-            self.assertEqual(len(replay.compared(self.ANSWERS, [], self.joined(**more))), 3, more)
-        self.assertEqual(replay.compared(self.ANSWERS, [], {})[2], "      broker:  nothing")
-        self.assertEqual(replay.compared([{"line": 1, "reason": 0}], [], self.joined())[1], "      mqroute: nothing")
+    def test_several_logs(self):
+        self.assertEqual(self.compared([CONNECTS, PUBLISH, sent("b", 1, 0)], self.OUTPUT)[:2], (0, ""))
 
-    def test_reasons(self):
-        self.assertEqual(replay.compared([{"line": 1, "reason": 17}], [17], {}), [])
-        self.assertEqual(replay.compared([{"line": 1, "reason": 0}], [17], {}), ["   reason: mqroute 0, broker 17"])
+    def test_time_format(self):
+        log = "".join(f"22.11.26 at: 10h05: {line}\n" for line in (CONNECTS + PUBLISH + sent("b", 1, 0)).splitlines())
+        self.assertEqual(self.compared([log], self.OUTPUT, "--time-format", "%d.%m.%y at: %Hh%M")[:2], (0, ""))
 
-    def run_lines(self, *lines: str, **answers: str) -> list[int]:
-        with tempfile.NamedTemporaryFile("w", suffix=".jsonl") as script:
-            script.write("".join(line + "\n" for line in lines))
-            script.flush()
-            return [n for n, _ in replay.runnable(script.name, {n: [{"line": n, "refused": r} if r else {"line": n}] for n, r in enumerate(answers.values(), 1)})]
+    def test_outputs_that_are_not_of_this_log(self):
+        for output in (self.OUTPUT[:-22], "", self.OUTPUT + '{"line":5,"reason":0}\n', self.OUTPUT.replace('"x"', '"y"'),
+                       self.OUTPUT.replace('1,"reason":0', '1,"reason":16'), "no\n"):
+            status, out, told = self.compared([CONNECTS + PUBLISH], output)
+            self.assertEqual((status, out, len(told.splitlines())), (2, "", 1), output)
 
-    def test_what_is_sent(self):
-        lines = ['{"do":"publish","client":"a","topic":"x"}'] * 3
-        self.assertEqual(self.run_lines(*lines, one="", two="NotAuthorized", three="TopicName"), [1, 2])
-        with self.assertRaises(replay.Fault):
-            self.run_lines('{"do":"acl"}', one="")
+    def test_memory(self):
+        """Nothing is kept of what is compared."""
+        with tempfile.TemporaryDirectory() as folder:
+            count = 20_000
+            Path(folder, "log").write_text(CONNECTS + (PUBLISH + sent("b", 1, 0)) * count, encoding="utf-8")
+            Path(folder, "output").write_text("".join('{"line":%d,"reason":0}\n' % n for n in (1, 2, 3)) + "".join(
+                self.COPY.replace("4,", f"{n},") + '{"line":%d,"reason":0}\n' % n for n in range(4, count + 4)))
+            tracemalloc.start()
+            found = compare(Watcher(None, None, Beginning(State())), Logs([f"{folder}/log"]), f"{folder}/output")
+            peak = tracemalloc.get_traced_memory()[1]
+            tracemalloc.stop()
+            self.assertEqual((found.sent, found.lines()), (count, []))
+            self.assertLess(peak, 1_000_000)
 
 
 if __name__ == "__main__":

@@ -94,6 +94,16 @@ class Scripts(unittest.TestCase):
         for script in (HERE / "differences").glob("*.jsonl"):
             differs = script.with_suffix(".diff").stat().st_size > 0
             self.assertIn(f"`{script.stem}`", table if differs else text)
+        for refused in (HERE / "differences").glob("refused-*.acl"):
+            self.assertIn(f"`{refused.stem}`", table)
+
+    @wants_program
+    def test_lists_that_the_broker_refuses(self):
+        """mqroute reads each."""
+        lists = sorted((HERE / "differences").glob("refused-*.acl"))
+        self.assertGreater(len(lists), 3)
+        for name in lists:
+            self.assertEqual(mqroute(b'{"do":"connect","client":"a"}\n', "--acl-file", name), b'{"line":1,"reason":0}\n')
 
 
 class Readme(unittest.TestCase):
@@ -114,13 +124,6 @@ class Readme(unittest.TestCase):
         text = (HERE / "README.md").read_text(encoding="utf-8")
         commands = walk_through(text.split("## Walk-through")[1].split("\n## ")[0])
         self.assertGreater(len(commands), 4)
-        self.check(commands)
-
-    @wants_program
-    def test_first_page(self):
-        text = (HERE.parent / "README.md").read_text(encoding="utf-8")
-        commands = walk_through(text.split("## Yesterday's log")[1].split("\n## ")[0])
-        self.assertGreater(len(commands), 3)
         self.check(commands)
 
 
