@@ -14,6 +14,7 @@ pub mod OutputLemmas
 pub mod RunLemmas
 pub mod StepLemmas
 pub mod HeadlineLemmas
+pub mod FrontLemmas
 pub mod AclFileLemmas
 pub mod NumberLemmas
 pub mod ProgramLemmas

@@ -1,10 +1,10 @@
 -- The command line of the program, in the words of `clap`.
-use Rattle.std.specs.Prelude.{◌≡◌, ◌≢◌, ℕ, ◌^◌, ◌&&◌, Bool, nat_lt, if◌then◌else◌, List, length, Option, Some, None, option_map, option_and_then, pos, codes, string_bytes}
+use Rattle.std.specs.Prelude.{◌≡◌, ◌≢◌, ℕ, ◌^◌, ◌&&◌, Bool, nat_lt, if◌then◌else◌, List, length, Option, Some, None, option_map, option_and_then, codes, string_bytes}
 use Rattle.std.specs.List.{list_all}
 use Rattle.std.specs.Char.{digit_value}
 use Rattle.std.specs.Str.Parse.{digits_value, without_leading_plus}
 use Rattle.clap.specs.Words.{App, Rule, Text, Kinds, IsAmong, new_app, new_rule, with_rule, first_of, one_of, matches_of}
-use Rattle.clap.specs.declared.builder.value_parser.ValueParser.TheVariants.{Signed}
+use Rattle.clap.specs.declared.builder.value_parser.ValueParser.TheVariants.{Unsigned}
 use Rattle.clap.specs.declared.error.ErrorKind.{ErrorKind}
 use Rattle.clap.specs.declared.error.ErrorKind.TheVariants.{DisplayHelp}
 use Rattle.mq_cli.specs.declared.command_line.UsageFault.{UsageFault}
@@ -15,12 +15,12 @@ use Rattle.mq_cli.specs.declared.command_line.Options.{Options}
 abbrev pub acl_file : Rule
 acl_file = record (new_rule (codes "acl-file")) { long = Some (codes "acl-file"); value_names = 1 }
 
--- an option that takes a whole number of 32 bits
+-- an option that takes a whole number of 32 bits, with no minus before it
 abbrev pub number_option : Text → Rule
 number_option name = record (new_rule name) {
   long = Some name;
   value_names = 1;
-  parser = Some (Signed (pos 0) (pos 4294967295));
+  parser = Some (Unsigned 0 4294967295);
 }
 
 -- `SCRIPT`

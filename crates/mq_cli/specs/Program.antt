@@ -1,5 +1,6 @@
 -- What the program does.
-use Rattle.std.specs.Prelude.{◌≡◌, ℕ, ◌==◌, List, [], ◌++◌, if◌then◌else◌, Option, Some, None, Ok, unwrap_or, codes, ⊤}
+use Rattle.std.specs.Prelude.{◌≡◌, ◌⊎◌, ℕ, ◌==◌, List, [], ◌++◌, if◌then◌else◌, Option, Some, None, Ok, unwrap_or, codes, string_bytes, ⊤}
+use Rattle.std.specs.Io.KnownBytes.{Appends}
 use Rattle.std.specs.Str.{bytes_eq}
 use Rattle.mq_acl.specs.Rows.{AclRow}
 use Rattle.mq_world.specs.World.{World, Limits, default_limits, fresh_world, within}
@@ -7,6 +8,9 @@ use Rattle.mq_cli.specs.CommandLine.{number_given}
 use Rattle.mq_cli.specs.declared.script.outcome.Summary.{Summary}
 use Rattle.mq_cli.specs.Output.{all_lines, refused_from, output, Summarizes}
 use Rattle.mq_cli.specs.AclFile.{IsAnswerTo}
+use Rattle.mq_cli.specs.Ending.{AppendsSome}
+use Rattle.mq_cli.specs.declared.command_line.UsageFault.{UsageFault}
+use Rattle.mq_cli.specs.declared.command_line.UsageFault.TheVariants.{Help, Usage, Memory}
 use Rattle.mq_cli.specs.declared.program.Failure.{Failure}
 use Rattle.mq_cli.specs.declared.program.Failure.TheVariants as failure
 
@@ -59,3 +63,16 @@ pub record AnswersScript (w : World) (script before : List ℕ) (after : Option 
 pub record AnswersAll (w : World) (script before : List ℕ) (after : Option (List ℕ)) (status : ℕ) : Type 0 where
   pub written : after ≡ Some (before ++ output w script)
   pub ended : status ≡ (if refused_from w [] (all_lines script) == 0 then 0 else 1)
+
+-- a front of what some script writes was written; where no file is named, that script is all that the input tells
+abbrev pub WritesFront : World → (file to_come : Option (List ℕ)) → (before after : Option (List ℕ)) → Type 0
+WritesFront w file to_come before after =
+    (script : List ℕ) × IsScript file to_come script × AppendsSome before after (output w script)
+
+-- what is written where the words give no options: help, all of it where the status is 0, and else nothing
+abbrev pub TellsUsage : UsageFault → (status : ℕ) → (before after flushed : Option (List ℕ)) → Type 0
+TellsUsage (Help text) status before after flushed =
+    ((status ≡ 0) × Appends before after (string_bytes text) × (flushed ≡ after))
+    ⊎ ((status ≡ 3) × AppendsSome before after (string_bytes text))
+TellsUsage (Usage text) status before after flushed = (status ≡ 2) × (after ≡ before)
+TellsUsage Memory status before after flushed = (status ≡ 3) × (after ≡ before)

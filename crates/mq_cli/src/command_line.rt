@@ -3,8 +3,9 @@ ghost use Rattle.std.specs.Prelude.{◌≡◌, [], false, map, option_map, strin
 ghost use Rattle.clap.specs.Words.{app_of, rule_of, rows_of, found_of, matches_of, fault_of, FailsBy};
 ghost use Rattle.mq_cli.specs.CommandLine.{mqroute, acl_file, number_option, script, AreGiven, IsFaultOf};
 
+use clap::builder::ValueParser;
 use clap::error::ErrorKind;
-use clap::{Arg, ArgMatches, Command, Error, value_parser};
+use clap::{Arg, ArgMatches, Command, Error};
 use std::alloc::{AllocError, Global};
 
 const ABOUT: &str = "Answers a script of MQTT 5.0 routing commands, line by line";
@@ -45,11 +46,13 @@ closing line, a refused line by one line that says why.
 Exit status:
   0  every line was accepted
   1  some line was refused
-  2  the arguments, a file or the access list can't be read
-  3  a read or a write failed, the script is too long, or memory ran out
+  2  the arguments aren't understood, the script can't be opened, or the access
+     list can't be opened, read or understood
+  3  a read of the script failed (a directory can be opened, but not read), a
+     write failed, the script is too long, or memory ran out
 
 Example:
-  mqroute --acl-file access.txt script.jsonl";
+  mqroute --acl-file current.acl script.jsonl";
 
 /// What the command line asks for.
 #[derive(Debug, Drop)]
@@ -96,14 +99,14 @@ fn acl_file_option<'a>(alloc: Global) -> Arg<'a>
         .help(ACL_FILE_HELP)
 }
 
-// `--NAME N`
+// `--NAME N`. The parser of an unsigned number refuses every minus sign; that of `u32` takes `-0` for 0.
 fn number_option<'a>(alloc: Global, name: &'a str, help: &'a str) -> Arg<'a>
     ensures { (rule_of result ≡ number_option name.entry.now) × (result.global ≡ false) }
 {
     Arg::new(alloc, name)
         .long(name)
         .value_name("N")
-        .value_parser(value_parser!(u32))
+        .value_parser(ValueParser::unsigned(0, u64::from(u32::MAX)))
         .help(help)
 }
 

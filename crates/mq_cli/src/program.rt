@@ -1,14 +1,18 @@
 //! All of the program but its `main`.
-ghost use Rattle.std.specs.Prelude.{◌≡◌, ◌≢◌, ◌≤◌, [], ℕ, List, Some, None, Ok, OnOk, IfOk, IsOk, IfErr};
-ghost use Rattle.std.specs.Prelude.{map, option_map, string_bytes, codes};
+ghost use Rattle.std.specs.Prelude.{◌≡◌, ◌≢◌, ◌≤◌, ◌⊎◌, ◌↔◌, [], ℕ, List, Some, None, Ok, if◌then◌else◌};
+ghost use Rattle.std.specs.Prelude.{OnOk, OnErr, IfOk, IsOk, IfErr, is_ok, map, option_map, string_bytes, codes};
+ghost use Rattle.std.specs.Io.KnownBytes.{Appends};
+ghost use Rattle.std.specs.IoError.{error_kind};
 ghost use Rattle.clap.specs.Words.{fault_of};
 ghost use Rattle.mq_world.specs.World.{World, empty_world, within};
 ghost use Rattle.mq_world.specs.Views.{limits_of};
 ghost use Rattle.mq_router.specs.StandsFor.{StandsFor};
 ghost use Rattle.mq_cli.specs.AclFile.{IsAnswerTo};
-ghost use Rattle.mq_cli.specs.CommandLine.{mqroute, given};
-ghost use Rattle.mq_cli.specs.Program.{script_file, failure_status, limits_by, limits_given};
-ghost use Rattle.mq_cli.specs.Program.{BeginsWith, BeginsIn, IsScript, AnswersScript, AnswersAll};
+ghost use Rattle.mq_cli.specs.CommandLine.{mqroute, given, IsFaultOf};
+ghost use Rattle.mq_cli.specs.Ending.{AppendsSome};
+ghost use Rattle.mq_cli.specs.Output.{output};
+ghost use Rattle.mq_cli.specs.Program.{script_file, failure_status, limits_by, limits_given, TellsUsage};
+ghost use Rattle.mq_cli.specs.Program.{BeginsWith, BeginsIn, IsScript, AnswersScript, AnswersAll, WritesFront};
 
 use crate::acl_file::{AclFileFault, read_acl};
 use crate::command_line::{Options, UsageFault, arguments};
@@ -17,12 +21,14 @@ use crate::script::{RUN_FAILED, RunFault, Summary, exit_status, flush, run, writ
 use mq_acl::{Acl, AclFault, AclKind};
 use mq_router::Router;
 use mq_world::Limits;
-use std::alloc::Global;
+use std::alloc::{AllocError, Global};
+use std::fs;
+use std::io::{self, ErrorKind};
 use std::rt::Files;
-use std::{fs, io};
 use thiserror::Error;
 
-/// The exit status where the words, a file or the access list can't be read.
+/// The exit status where the words are not understood, the script can't be opened, or the access list can't be read or
+/// understood.
 pub const UNREADABLE: u8 = 2;
 
 /// Why the program ends before its script does.
@@ -52,6 +58,21 @@ enum Failure<'a> {
     Memory,
 }
 
+impl Failure<'_> {
+    ghost use Rattle.std.specs.Prelude.{◌≡◌};
+    ghost use Rattle.mq_cli.specs.Program.{failure_status};
+
+    /// The exit status.
+    fn status(self) -> u8
+        ensures { result ≡ failure_status self.entry }
+    {
+        match self {
+            Failure::Read | Failure::Write | Failure::TooMuch | Failure::Memory => RUN_FAILED,
+            _ => UNREADABLE,
+        }
+    }
+}
+
 fn run_failure<'a>(fault: RunFault) -> Failure<'a>
     ensures { failure_status result ≡ 3 }
 {
@@ -63,7 +84,9 @@ fn run_failure<'a>(fault: RunFault) -> Failure<'a>
     }
 }
 
-fn acl_failure(file: &str, fault: AclFileFault) -> Failure<'_> {
+fn acl_failure(file: &str, fault: AclFileFault) -> Failure<'_>
+    ensures { (failure_status result ≡ 3) ↔ (fault ≡ AclFileFault.Memory) }
+{
     match fault {
         AclFileFault::Read => Failure::AclRead(file),
         AclFileFault::TooLong => Failure::AclTooLong(file),
@@ -73,18 +96,28 @@ fn acl_failure(file: &str, fault: AclFileFault) -> Failure<'_> {
     }
 }
 
+/// Why a file can't be opened: there was no memory, or the failure that is given.
+fn open_failure<'a>(error: &io::Error, failure: Failure<'a>) -> Failure<'a>
+    ensures memory { error_kind error.now ≡ ErrorKind.OutOfMemory → result ≡ Failure.Memory }
+    ensures other { error_kind error.now ≢ ErrorKind.OutOfMemory → result ≡ failure.entry }
+{
+    match error.kind() {
+        ErrorKind::OutOfMemory => Failure::Memory,
+        _ => failure,
+    }
+}
+
 /// Opens a file; want of memory is told apart.
 fn open<'a, R: Files>(
     rt: &R,
     file: &'a str,
     failure: Failure<'a>,
-) -> Result<StdSource<R::File>, Failure<'a>> {
+) -> Result<StdSource<R::File>, Failure<'a>>
+    ensures { IfErr result (λ told. (told ≡ failure.entry) ⊎ (told ≡ Failure.Memory)) }
+{
     match fs::open(rt, file) {
         Ok(opened) => Ok(StdSource::new(opened)),
-        Err(e) => match e.kind() {
-            io::ErrorKind::OutOfMemory => Err(Failure::Memory),
-            _ => Err(failure),
-        },
+        Err(error) => Err(open_failure(&error, failure)),
     }
 }
 
@@ -134,6 +167,26 @@ fn script_of(options: &Options) -> Option<&str>
     }
 }
 
+/// Runs the script that a source gives.
+fn run_source<'a, S: Source, W: Sink>(
+    alloc: Global,
+    router: Router,
+    source: &mut S,
+    out: &mut W,
+) -> Result<Summary, Failure<'a>>
+    ensures ok { (w : World) (before : List ℕ) → StandsFor router w → W.taken out.old ≡ Some before → IfOk result (λ summary.
+        (script : List ℕ) × IsScript None (S.to_come source.old) script × AnswersScript w script before (W.taken out.new) summary) }
+    ensures prefix { (w : World) → StandsFor router w
+        → WritesFront w None (S.to_come source.old) (W.taken out.old) (W.taken out.new) }
+    ensures err { IfErr result (λ failure. failure_status failure ≡ 3) }
+    ensures flushed { OnOk result (W.flushed out.new ≡ W.taken out.new) }
+{
+    match run(alloc, router, source, out) {
+        Ok(summary) => Ok(summary),
+        Err(fault) => Err(run_failure(fault)),
+    }
+}
+
 /// Runs the script that is in a file.
 fn run_file<'a, R: Files, W: Sink>(
     rt: &R,
@@ -144,31 +197,16 @@ fn run_file<'a, R: Files, W: Sink>(
 ) -> Result<Summary, Failure<'a>>
     ensures ok { (w : World) (before : List ℕ) → StandsFor router w → W.taken out.old ≡ Some before → IfOk result (λ summary.
         (script : List ℕ) × AnswersScript w script before (W.taken out.new) summary) }
+    ensures prefix { (w : World) → StandsFor router w
+        → (script : List ℕ) × AppendsSome (W.taken out.old) (W.taken out.new) (output w script) }
+
+    // Only a script that can't be opened has another status than the run's, and then nothing is written.
+    ensures err { IfErr result (λ failure. (failure ≡ Failure.Script file.entry) × (out.new ≡ out.old)
+        ⊎ (failure_status failure ≡ 3)) }
     ensures flushed { OnOk result (W.flushed out.new ≡ W.taken out.new) }
 {
     let mut source = open(rt, file, Failure::Script(file))?;
-    match run(alloc, router, &mut source, out) {
-        Ok(summary) => Ok(summary),
-        Err(fault) => Err(run_failure(fault)),
-    }
-}
-
-/// Runs the script that is read from the input.
-fn run_input<'a, S: Source, W: Sink>(
-    alloc: Global,
-    router: Router,
-    input: &mut S,
-    out: &mut W,
-) -> Result<Summary, Failure<'a>>
-    ensures ok { (w : World) (before : List ℕ) → StandsFor router w → W.taken out.old ≡ Some before → IfOk result (λ summary.
-        (script : List ℕ) × IsScript None (S.to_come input.old) script × AnswersScript w script before (W.taken out.new) summary) }
-    ensures err { IfErr result (λ failure. failure_status failure ≡ 3) }
-    ensures flushed { OnOk result (W.flushed out.new ≡ W.taken out.new) }
-{
-    match run(alloc, router, input, out) {
-        Ok(summary) => Ok(summary),
-        Err(fault) => Err(run_failure(fault)),
-    }
+    run_source(alloc, router, &mut source, out)
 }
 
 /// Runs the script that the options ask for.
@@ -183,13 +221,20 @@ fn run_with<'a, R: Files, S: Source, W: Sink>(
     ensures ok { (w : World) (before : List ℕ) → StandsFor router w → W.taken out.old ≡ Some before → IfOk result (λ summary.
         (script : List ℕ) × IsScript (script_file (option_map string_bytes options.now.script)) (S.to_come input.old) script
         × AnswersScript w script before (W.taken out.new) summary) }
+    ensures prefix { (w : World) → StandsFor router w
+        → WritesFront w (script_file (option_map string_bytes options.now.script)) (S.to_come input.old)
+        (W.taken out.old) (W.taken out.new) }
     ensures err { script_file (option_map string_bytes options.now.script) ≡ None
         → IfErr result (λ failure. failure_status failure ≡ 3) }
+    ensures unread { (file : List ℕ) → script_file (option_map string_bytes options.now.script) ≡ Some file
+        → input.new ≡ input.old }
+    ensures unreadable { IfErr result (λ failure. failure_status failure ≡ 2
+        → (input.new ≡ input.old) × (out.new ≡ out.old)) }
     ensures flushed { OnOk result (W.flushed out.new ≡ W.taken out.new) }
 {
     match script_of(options) {
         Some(file) => run_file(rt, alloc, router, file, out),
-        None => run_input(alloc, router, input, out),
+        None => run_source(alloc, router, input, out),
     }
 }
 
@@ -205,8 +250,15 @@ fn run_options<'a, R: Files, S: Source, W: Sink>(
         (w : World) × BeginsIn (option_map string_bytes options.now.acl_file) (limits_by options.now.max_retained options.now.max_queued) w
         × (script : List ℕ) × IsScript (script_file (option_map string_bytes options.now.script)) (S.to_come input.old) script
         × AnswersScript w script before (W.taken out.new) summary) }
+    ensures prefix { (w : World) × BeginsIn (option_map string_bytes options.now.acl_file) (limits_by options.now.max_retained options.now.max_queued) w
+        × WritesFront w (script_file (option_map string_bytes options.now.script)) (S.to_come input.old)
+        (W.taken out.old) (W.taken out.new) }
     ensures err { options.now.acl_file ≡ None → script_file (option_map string_bytes options.now.script) ≡ None
         → IfErr result (λ failure. failure_status failure ≡ 3) }
+    ensures unread { (file : List ℕ) → script_file (option_map string_bytes options.now.script) ≡ Some file
+        → input.new ≡ input.old }
+    ensures unreadable { IfErr result (λ failure. failure_status failure ≡ 2
+        → (input.new ≡ input.old) × (out.new ≡ out.old)) }
     ensures flushed { OnOk result (W.flushed out.new ≡ W.taken out.new) }
 {
     let access = access_list(rt, alloc, options)?;
@@ -215,48 +267,59 @@ fn run_options<'a, R: Files, S: Source, W: Sink>(
 }
 
 /// Writes all of a text at once.
-fn print<W: Sink>(writer: &mut W, text: &str) -> Result<(), RunFault> {
+fn print<W: Sink>(writer: &mut W, text: &str) -> Result<(), RunFault>
+    ensures ok { OnOk result (Appends (W.taken writer.old) (W.taken writer.new) text.now) }
+    ensures err { OnErr result (AppendsSome (W.taken writer.old) (W.taken writer.new) text.now) }
+    ensures flushed { OnOk result (W.flushed writer.new ≡ W.taken writer.new) }
+{
     write_all(writer, text.as_bytes())?;
     flush(writer)
 }
 
-/// Tells why the program ends, and answers its status. A failed write is passed over.
+/// Tells a text, or that there was no memory for it, and answers the exit status: the one that is given, or that of want
+/// of memory. A failed write is passed over.
+fn tell<E: Sink>(text: Result<String, AllocError>, status: u8, err: &mut E) -> u8
+    ensures { result ≡ (if is_ok text then status else 3) }
+{
+    let (line, status) = match &text {
+        Ok(text) => (text.as_str(), status),
+        Err(_) => ("mqroute: out of memory\n", RUN_FAILED),
+    };
+    let _ = print(err, line);
+    status
+}
+
+/// Tells why the program ends, and answers its status: 3 too where there is no memory for the text.
 fn report<E: Sink>(alloc: Global, failure: Failure<'_>, err: &mut E) -> u8
     ensures bound { result ≤ 3 }
-    ensures status { result ≡ failure_status failure.entry }
+    ensures status { (result ≡ failure_status failure.entry) ⊎ (result ≡ 3) }
 {
-    let _ = match format!(in alloc; "mqroute: {failure}\n") {
-        Ok(text) => print(err, text.as_str()),
-        Err(_) => print(err, "mqroute: out of memory\n"),
-    };
-    match failure {
-        Failure::Read | Failure::Write | Failure::TooMuch | Failure::Memory => RUN_FAILED,
-        _ => UNREADABLE,
-    }
+    let text = format!(in alloc; "mqroute: {failure}\n");
+    tell(text, failure.status(), err)
 }
 
 /// Prints help, or why the words are not understood, and answers the status.
 fn report_usage<W: Sink, E: Sink>(alloc: Global, fault: UsageFault, out: &mut W, err: &mut E) -> u8
     ensures bound { result ≤ 3 }
-    ensures memory { fault ≡ UsageFault.Memory → result ≡ 3 }
+    ensures tells { TellsUsage fault result (W.taken out.old) (W.taken out.new) (W.flushed out.new) }
+    ensures unreadable { result ≡ 2 → out.new ≡ out.old }
+    ensures quiet { result ≡ 0 → err.new ≡ err.old }
 {
     match fault {
         UsageFault::Help(text) => match print(out, text.as_str()) {
             Ok(()) => 0,
             Err(fault) => report(alloc, run_failure(fault), err),
         },
-        UsageFault::Usage(text) => {
-            let _ = print(err, text.as_str());
-            UNREADABLE
-        }
+        UsageFault::Usage(text) => tell(Ok(text), UNREADABLE, err),
         UsageFault::Memory => report(alloc, Failure::Memory, err),
     }
 }
 
 /// Runs the program: `words` are its name and its arguments, a script that is no file is read from `input`, answers go to
 /// `out`, and a line on `err` says what failed. The access list is read before the script is opened. Answers the exit
-/// status: 0 where every line was accepted or help was asked for, 1 where a line was refused, 2 where the words, a file
-/// or the access list can't be read, and 3 where the run failed or memory ran out.
+/// status: 0 where every line was accepted or help was asked for, 1 where a line was refused, 2 where the words are not
+/// understood, the script can't be opened, or the access list can't be read or understood, and 3 where the run or the
+/// printing of help failed, or memory ran out, even if only for the line on `err`.
 pub fn start<R: Files, S: Source, W: Sink, E: Sink>(
     rt: &R,
     alloc: Global,
@@ -283,9 +346,28 @@ pub fn start<R: Files, S: Source, W: Sink, E: Sink>(
         × (script : List ℕ) × IsScript (script_file (given (codes "script") given_words)) (S.to_come input.old) script
         × AnswersAll w script before (W.taken out.new) result }
 
-    // And all that was written is handed on.
-    ensures flushed { fault_of mqroute (map string_bytes words.now) ≡ [] → result ≢ 2 → result ≢ 3
-        → W.flushed out.new ≡ W.taken out.new }
+    // Whatever the status, what was written is a front of the answers to such a script in such a world.
+    ensures prefix { let given_words = map string_bytes words.now in fault_of mqroute given_words ≡ []
+        → (w : World) × BeginsIn (given (codes "acl-file") given_words) (limits_given given_words) w
+        × WritesFront w (script_file (given (codes "script") given_words)) (S.to_come input.old)
+        (W.taken out.old) (W.taken out.new) }
+
+    // A script in a file leaves the input alone.
+    ensures unread { (file : List ℕ) → script_file (given (codes "script") (map string_bytes words.now)) ≡ Some file
+        → input.new ≡ input.old }
+
+    // At a status of 2 nothing was read from the input, and nothing written.
+    ensures unreadable { result ≡ 2 → (input.new ≡ input.old) × (out.new ≡ out.old) }
+
+    // Of words that are not understood a fault that they have is told, or that memory ran out: of help the status is 0,
+    // or 3 where it can't be written, of another fault 2, and of want of memory 3.
+    ensures usage { let given_words = map string_bytes words.now in fault_of mqroute given_words ≢ []
+        → (input.new ≡ input.old) × ((fault : UsageFault) × IsFaultOf (fault_of mqroute given_words) fault
+        × TellsUsage fault result (W.taken out.old) (W.taken out.new) (W.flushed out.new)) }
+
+    // At a status of 0 or 1 all that was written is handed on, and nothing is told.
+    ensures flushed { result ≢ 2 → result ≢ 3 → W.flushed out.new ≡ W.taken out.new }
+    ensures quiet { result ≢ 2 → result ≢ 3 → err.new ≡ err.old }
 {
     let options = match arguments(alloc, words) {
         Ok(options) => options,
