@@ -7,16 +7,20 @@ ghost use Rattle.mq_acl.specs.declared.access.Direction.TheVariants.{Reading, Wr
 use crate::access::Direction;
 use crate::check::rows_allow;
 use crate::fault::{AclFault, AclKind};
+use crate::groups::Groups;
 use crate::read::read_rows;
 use crate::row::Row;
 use mq_topic::TopicName;
 use std::alloc::Global;
 use std::marker::Model;
+use std::snapshot::Snapshot;
 
 /// An access list: rows that grant topics to clients or deny them (mosquitto.conf(5), `acl_file`).
-#[derive(Debug, Drop)]
+#[derive(Drop)]
 pub struct Acl {
-    rows: Vec<Row>,
+    groups: Groups,
+    /// The rows as they stand in the text, for contracts alone.
+    order: Snapshot<Vec<Row>>,
 }
 
 impl Model for Acl {
@@ -26,7 +30,11 @@ impl Model for Acl {
 
     ghost Value = { List AclRow };
 
-    ghost view = { λ acl. row_views acl.rows.items };
+    ghost use Rattle.mq_acl.specs.Groups.{IsGrouped};
+
+    ghost view = { λ acl. row_views acl.order.value.items };
+
+    ghost invariant = { λ acl. IsGrouped (row_views acl.order.value.items) acl.groups };
 }
 
 impl Acl {
@@ -40,17 +48,24 @@ impl Acl {
         ensures line { IfErr result (λ fault. fault.kind ≢ AclKind.Memory → (rows_of text.now ≡ Err fault) × (0 < fault.line)) }
     {
         let rows = read_rows(alloc, text)?;
-        Ok(Acl { rows })
+        let order = Snapshot::of(&rows);
+        match Groups::of(alloc, rows) {
+            Ok(groups) => Ok(Acl { groups, order }),
+            Err(_) => Err(AclFault {
+                line: 0,
+                kind: AclKind::Memory,
+            }),
+        }
     }
 
     /// Whether the client with this client id, and with this user name or none, may read the topic: no row denies
-    /// it, and one grants it. It takes no memory, looks at each row once, and at the name once for each row that
-    /// applies to the client.
+    /// it, and one grants it. It takes no memory, and looks at the rows for all clients and at those for this user
+    /// name, or for clients without one, alone.
     #[tactic(auto, unfolding(crate::specs::Access::allowed))]
     pub fn may_read(&self, client: &str, user: Option<&str>, name: &TopicName) -> bool
         ensures { result ≡ allowed (Some self.now) client.now (option_copied user.entry) name.now Reading }
     {
-        rows_allow(&self.rows, client, user, name, Direction::Reading)
+        rows_allow(&self.groups, client, user, name, Direction::Reading)
     }
 
     /// Whether this client may write the topic, as `may_read`.
@@ -58,6 +73,6 @@ impl Acl {
     pub fn may_write(&self, client: &str, user: Option<&str>, name: &TopicName) -> bool
         ensures { result ≡ allowed (Some self.now) client.now (option_copied user.entry) name.now Writing }
     {
-        rows_allow(&self.rows, client, user, name, Direction::Writing)
+        rows_allow(&self.groups, client, user, name, Direction::Writing)
     }
 }

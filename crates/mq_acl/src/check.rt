@@ -1,11 +1,14 @@
-ghost use Rattle.std.specs.Prelude.{◌≡◌, ◌&&◌, ◌||◌, not};
+ghost use Rattle.std.specs.Prelude.{◌≡◌, ◌&&◌, ◌||◌, not, List};
 ghost use Rattle.std.specs.Option.{option_copied};
 ghost use Rattle.mq_acl.specs.Access.{row_level_matches, begins_with_dollar, covers, applies, is_deny, grants, concerns, rows_allow};
+ghost use Rattle.mq_acl.specs.Rows.{AclRow};
+ghost use Rattle.mq_acl.specs.Groups.{IsGrouped, judged};
 ghost use Rattle.mq_topic.specs.Levels.{levels};
 ghost use Rattle.mq_topic.specs.Matching.{levels_match_by};
 ghost use Rattle.mq_acl.specs.Views.{access_view, owner_view, row_view, row_views};
 
 use crate::access::{Access, Direction};
+use crate::groups::Groups;
 use crate::row::{Owner, Row};
 use mq_topic::{LevelTest, LevelText, TopicName, levels_match};
 
@@ -81,25 +84,44 @@ fn grants(direction: Direction, access: Access) -> bool
     }
 }
 
-// Whether no row that concerns the name denies, and one grants.
-pub(crate) fn rows_allow(
+// Nothing where a row that concerns the name denies; else whether one grants, or some before them did.
+fn judge(
     rows: &[Row],
+    granted: bool,
     client: &str,
     user: Option<&str>,
     name: &TopicName,
     direction: Direction,
-) -> bool
-    ensures { result ≡ rows_allow (row_views rows.now) client.now (option_copied user.entry) name.now direction }
+) -> Option<bool>
+    ensures { result ≡ judged client.now (option_copied user.entry) name.now direction granted (row_views rows.now) }
 {
-    let mut granted = false;
+    let mut granted = granted;
     for row in rows {
         if !concerns(row, client, user, name) {
             continue;
         }
         if is_deny(row.access) {
-            return false;
+            return None;
         }
         granted |= grants(direction, row.access);
     }
-    granted
+    Some(granted)
+}
+
+// Whether no row that concerns the name denies, and one grants, of the rows for all clients and of those for this user alone.
+pub(crate) fn rows_allow(
+    groups: &Groups,
+    client: &str,
+    user: Option<&str>,
+    name: &TopicName,
+    direction: Direction,
+) -> bool
+    ensures { (rows : List AclRow) → IsGrouped rows groups.now → result ≡ rows_allow rows client.now (option_copied user.entry) name.now direction }
+{
+    match judge(groups.everyone(), false, client, user, name, direction) {
+        None => false,
+        Some(granted) => {
+            judge(groups.own(user), granted, client, user, name, direction).unwrap_or(false)
+        }
+    }
 }

@@ -6,6 +6,7 @@ mod acl;
 mod check;
 mod entry;
 mod fault;
+mod groups;
 mod read;
 mod row;
 mod words;
