@@ -13,7 +13,7 @@ pub const FILTERS: [&str; 7] = [
     "a/#/b",
 ];
 
-pub const SUBSCRIPTIONS: [&str; 9] = [
+pub const SUBSCRIPTIONS: [&str; 10] = [
     "$share//t",
     "$share/g",
     "$share/g/",
@@ -21,6 +21,7 @@ pub const SUBSCRIPTIONS: [&str; 9] = [
     "$share/g/a#",
     "$share",
     "$sharex/g",
+    "$share/g/+",
     "$share/g/a/b/c",
     "a/b",
 ];
@@ -49,7 +50,7 @@ pub const KEYS: [&str; 8] = ["a/#", "a", "+", "#", "/x", "a/b", "a/b/c/d/e", "$x
 
 pub const LOOKED_UP: [&str; 4] = ["a", "a/b", "$x", "/x"];
 
-pub const LISTS: [&str; 14] = [
+pub const LISTS: [&str; 15] = [
     "topic read a b",
     "# c\n\ntopic a b",
     "topic read",
@@ -63,6 +64,7 @@ pub const LISTS: [&str; 14] = [
     "pattern read x%u",
     "pattern read +%u",
     "topic read x%u",
+    "topic a\n",
     "topic read a/#\npattern deny a/%u\npattern read %u/#\nuser b\ntopic readwrite a/b c/#\n",
 ];
 
