@@ -10,8 +10,8 @@ INSTALLED = $(DESTDIR)$(PREFIX)
 
 # The programs beside real brokers, and the modules that they import.
 TOOLS = $(addprefix brokers/,log_to_script.py who_loses.py replay.py compare_log.py)
-TOOL_MODULES = $(addprefix brokers/,agreement.py conversion.py ending.py evidence.py inference.py live.py \
-	mosquitto_log.py notes.py output.py sessions.py stamps.py state.py topics.py writing.py)
+TOOL_MODULES = $(addprefix brokers/,$(addsuffix .py,agreement because causes conversion ending evidence inference live \
+	mosquitto_log notes output page picture quick rows safe sessions stamps state story style tables topics waited writing))
 
 run:
 	cd crates/mqroute && rt run < ../../tests/rows/first-look.jsonl

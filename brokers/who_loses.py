@@ -1,22 +1,25 @@
 #!/usr/bin/env python3
 """Tells who loses (and who gains) what between two outputs of mqroute for one script.
 
-usage: who_loses.py [--depth N] [--json] SCRIPT BEFORE AFTER
+usage: who_loses.py [--by user] [--why] [--depth N] [--json] [--html FILE] SCRIPT BEFORE AFTER
 Exit status: 0 nothing changes; 1 something does; 2 usage, a file, or outputs that aren't of this script.
 """
 import argparse
 import json
 import sys
 from collections import Counter, defaultdict
-from collections.abc import Iterable, Mapping
 from dataclasses import dataclass, field
+from functools import lru_cache
 from typing import Any
 
 import ending
+import page
+from because import Grouped, difference
 from ending import Fault
-from output import Block, Key, blocks, by_key, command_of, is_blank, misfit
-
-Grouped = Mapping[Key, list[str]]  # the copies of each client and topic
+from output import Block, blocks, command_of, is_blank, misfit
+from quick import grouped
+from rows import Reasons, Row, all_causes, because_of, by_user_table, copies_of, refused_of, row_order
+from tables import shown, table, user_shown
 
 
 @dataclass
@@ -39,10 +42,14 @@ class Refusals:
 
 
 class Losses:
+    """What differs, by client and topic. With `reasons` its causes too, and where they want it by user name and topic."""
+
     def __init__(self, depth: int | None) -> None:
         self.depth = depth
-        self.copies: defaultdict[Key, Copies] = defaultdict(Copies)
-        self.refusals: defaultdict[Key, Refusals] = defaultdict(Refusals)
+        self.gathered = lru_cache(1 << 14)(self.gathered)
+        self.reasons: Reasons | None = None
+        self.copies: defaultdict[Row, Copies] = defaultdict(Copies)
+        self.refusals: defaultdict[Row, Refusals] = defaultdict(Refusals)
 
     def gathered(self, topic: str) -> str:
         """The topic, or the filter that stands for all topics with the same first levels."""
@@ -51,49 +58,63 @@ class Losses:
 
     def add(self, text: bytes, before: Block, after: Block) -> str | bool:
         """Counts what one line of the script was answered in both runs. Says why, if an answer can't be of that line."""
-        was = by_key(before.copies)
-        now = was if before.copies == after.copies else by_key(after.copies)
-        if was or now or before.reason or after.reason or before.refused or after.refused:
+        was = grouped(before.copies)
+        now = was if before.copies == after.copies else grouped(after.copies)
+        said = was or now or before.reason or after.reason or before.refused or after.refused
+        if said or self.reasons:
             command = command_of(text)
-            why = misfit(command, before, was) or (after != before and misfit(command, after, now))
+            why = said and (misfit(command, before, was) or (after != before and misfit(command, after, now)))
             if why:
-                return why
-            self.add_copies(was, now)
-            self.add_refusals(command or {}, before.refused, after.refused)
+                return str(why)
+            self.count(command or {}, (before, after), was, now)
         return False
 
-    def add_refusals(self, command: dict[str, Any], was: str | None, now: str | None) -> None:
+    def count(self, command: dict[str, Any], blocks: tuple[Block, Block], was: Grouped, now: Grouped) -> None:
+        if self.reasons:
+            self.reasons.take(command, blocks, was, now)
+        self.add_copies(was, now)
+        self.add_refusals(command, blocks[0].line, blocks[0].refused, blocks[1].refused)
+        if self.reasons:
+            self.reasons.because.end(command, *blocks, was)
+
+    def who(self, client: str) -> str | None:
+        return self.reasons.who(client) if self.reasons else client
+
+    def add_refusals(self, command: dict[str, Any], line: int, was: str | None, now: str | None) -> None:
         if was or now:
-            entry = self.refusals[self.subject(command)]
+            subject = self.subject(command)
+            entry = self.refusals[subject]
             entry.before += was is not None
             entry.after += now is not None
             if was != now:
+                if self.reasons:
+                    self.reasons.refused(subject, line, command)
                 entry.newly.update([now] if now else [])
                 entry.no_longer.update([was] if was else [])
 
     def add_copies(self, was: Grouped, now: Grouped) -> None:
         for key in was.keys() | now.keys():
-            entry, old, new = self.copies[key[0], self.gathered(key[1])], was.get(key, []), now.get(key, [])
+            entry, old, new = self.copies[self.who(key[0]), self.gathered(key[1])], was.get(key, []), now.get(key, [])
             entry.before += len(old)
             entry.after += len(new)
             if old is not new:
-                same = (Counter(old) & Counter(new)).total()
-                entry.changed += min(len(old), len(new)) - same
-                entry.lost += max(0, len(old) - len(new))
-                entry.gained += max(0, len(new) - len(old))
+                lost, gained, changed = difference(old, new)
+                entry.lost += lost
+                entry.gained += gained
+                entry.changed += changed
 
-    def subject(self, command: dict[str, Any]) -> Key:
+    def subject(self, command: dict[str, Any]) -> Row:
         """Whom a refusal concerns: the client, and the topic or filter, or what the command does."""
         try:
-            return str(command["client"]), self.gathered(str(command.get("topic", command.get("filter", command["do"]))))
+            return self.who(str(command["client"])), self.gathered(str(command.get("topic", command.get("filter", command["do"]))))
         except KeyError:
             return "", "(no command)"
 
-    def changed_copies(self) -> list[tuple[Key, Copies]]:
-        return sorted((k, c) for k, c in self.copies.items() if c.lost or c.gained or c.changed)
+    def changed_copies(self) -> list[tuple[Row, Copies]]:
+        return sorted(((k, c) for k, c in self.copies.items() if c.lost or c.gained or c.changed), key=row_order)
 
-    def changed_refusals(self) -> list[tuple[Key, Refusals]]:
-        return sorted((k, r) for k, r in self.refusals.items() if r.newly or r.no_longer)
+    def changed_refusals(self) -> list[tuple[Row, Refusals]]:
+        return sorted(((k, r) for k, r in self.refusals.items() if r.newly or r.no_longer), key=row_order)
 
     def totals(self) -> dict[str, int]:
         of_copies = {name: sum(getattr(c, name) for c in self.copies.values()) for name in ("before", "after", "lost", "gained", "changed")}
@@ -118,8 +139,7 @@ class Run:
         return head
 
 
-def compare(script: str, before: str, after: str, depth: int | None) -> Losses:
-    losses = Losses(depth)
+def compare(losses: Losses, script: str, before: str, after: str) -> None:
     runs = [Run(before), Run(after)]
     with open(script, "rb") as commands:
         for number, text in enumerate(commands, 1):
@@ -136,7 +156,6 @@ def compare(script: str, before: str, after: str, depth: int | None) -> Losses:
     for run in runs:
         if run.head:
             raise Fault(f"{run.name} has answers to lines that {script} doesn't have")
-    return losses
 
 
 def unanswered(script: str, number: int, names: list[str]) -> Fault:
@@ -146,46 +165,50 @@ def unanswered(script: str, number: int, names: list[str]) -> Fault:
 
 # -- showing
 
-def table(head: list[str], rows: Iterable[list[str]]) -> str:
-    """Columns of numbers to the right, others to the left."""
-    lines = [head, *rows]
-    widths = [max(len(line[i]) for line in lines) for i in range(len(head))]
-    right = [all(line[i].lstrip("-").isdigit() for line in lines[1:]) for i in range(len(head))]
-    return "\n".join("  ".join(c.rjust(w) if r else c.ljust(w) for c, w, r in zip(line, widths, right)).rstrip() for line in lines)
-
-
-def shown(text: str) -> str:
-    """A client id or topic on one line of a table: control characters are told as JSON has them."""
-    return text if text.isprintable() and text == text.strip() and text else json.dumps(text, ensure_ascii=False)
-
-
 def why(newly: Counter[str], no_longer: Counter[str]) -> str:
     parts = [f"{name} {count}" for name, count in sorted(newly.items())]
     return ", ".join(parts + [f"no longer {name} {count}" for name, count in sorted(no_longer.items())])
 
 
-def report(losses: Losses) -> str:
-    copies, refusals, totals = losses.changed_copies(), losses.changed_refusals(), losses.totals()
+def report(found: dict[str, Any]) -> str:
+    copies, refusals = found["copies"], found["refused"]
     if not (copies or refusals):
         return ""
     parts = []
     if copies:
-        rows = [[shown(k[0]), shown(k[1]), *(str(n) for n in (c.before, c.after, c.lost, c.gained, c.changed))] for k, c in copies]
-        parts.append("Copies\n" + table(["client", "topic", "before", "after", "lost", "gained", "changed"], rows))
+        parts.append("Copies\n" + (by_user_table(copies, shown) if found.get("by") == "user" else copies_table(copies)))
     if refusals:
-        rows = [[shown(k[0]), shown(k[1]), str(r.before), str(r.after), why(r.newly, r.no_longer)] for k, r in refusals]
-        parts.append("Refused\n" + table(["client", "topic", "before", "after", "why"], rows))
+        parts.append("Refused\n" + refused_table(refusals))
     parts.append("In all {before} copies before and {after} after: {lost} lost, {gained} gained, {changed} changed. "
-                 "{refused_before} lines refused before, {refused_after} after.".format(**totals))
+                 "{refused_before} lines refused before, {refused_after} after.".format(**found["totals"]))
     return "\n\n".join(parts) + "\n"
 
 
-def as_json(losses: Losses) -> str:
-    def entry(key: Key, value: Copies | Refusals) -> dict[str, Any]:
+def copies_table(copies: list[dict[str, Any]]) -> str:
+    head = ["before", "after", "lost", "gained", "changed"]
+    rows = [[shown(c["client"]), shown(c["topic"]), *(str(c[name]) for name in head)] + ([because_of(c)] if "causes" in c else []) for c in copies]
+    return table(["client", "topic", *head] + (["because"] if "causes" in copies[0] else []), rows)
+
+
+def refused_table(refusals: list[dict[str, Any]]) -> str:
+    head = ["user", "clients", "topic"] if "user" in refusals[0] else ["client", "topic"]
+    rows = []
+    for r in refusals:
+        names = [user_shown(r["user"]), str(r["clients"])] if "user" in r else [shown(r["client"])]
+        rows.append([*names, shown(r["topic"]), str(r["before"]), str(r["after"]), why(r["newly"], r["no_longer"])])
+    return table([*head, "before", "after", "why"], rows)
+
+
+def findings(losses: Losses) -> dict[str, Any]:
+    """All that is told, as JSON has it."""
+    def entry(key: Row, value: Copies | Refusals) -> dict[str, Any]:
         return {"client": key[0], "topic": key[1], **vars(value)}
-    found = {"copies": [entry(*c) for c in losses.changed_copies()],
-             "refused": [entry(*r) for r in losses.changed_refusals()], "totals": losses.totals()}
-    return json.dumps(found, ensure_ascii=False, indent=1) + "\n"
+    copies, refusals, reasons = losses.changed_copies(), losses.changed_refusals(), losses.reasons
+    if not reasons:
+        return {"copies": [entry(*c) for c in copies], "refused": [entry(*r) for r in refusals], "totals": losses.totals()}
+    rows = [copies_of(reasons, key, vars(value)) for key, value in copies]
+    return {"by": "user" if reasons.by_user else "client", "copies": rows, "causes": all_causes(rows),
+            "refused": [refused_of(reasons, key, vars(value)) for key, value in refusals], "totals": losses.totals()}
 
 
 def arguments() -> argparse.Namespace:
@@ -196,15 +219,26 @@ def arguments() -> argparse.Namespace:
     parser = argparse.ArgumentParser(description="Tells who loses what between two outputs of mqroute for one script.")
     parser.add_argument("script"), parser.add_argument("before"), parser.add_argument("after")
     parser.add_argument("--depth", type=positive, metavar="N", help="gather topics by their first N levels")
+    parser.add_argument("--by", choices=["client", "user"], help="gather rows by user name, with causes (client without it; with --html user)")
+    parser.add_argument("--why", action="store_true", help="the causes by client, too")
     parser.add_argument("--json", action="store_true", help="JSON, also where nothing changes")
+    parser.add_argument("--html", metavar="FILE", help="write a page with causes and script lines, too")
     return parser.parse_args()
 
 
 def main() -> int:
     options = arguments()
-    losses = compare(options.script, options.before, options.after, options.depth)
-    sys.stdout.buffer.write((as_json(losses) if options.json else report(losses)).encode("utf-8"))
-    return 1 if losses.changed_copies() or losses.changed_refusals() else 0
+    by_user = options.by == "user" or (options.html is not None and options.by is None)
+    losses = Losses(options.depth)
+    if by_user or options.why or options.html is not None:
+        losses.reasons = Reasons(by_user, losses.gathered)
+    compare(losses, options.script, options.before, options.after)
+    found = findings(losses)
+    if options.html is not None:
+        page.write(options.html, found, options.script, options.before, options.after)
+    text = json.dumps(found, ensure_ascii=False, indent=1) + "\n" if options.json else report(found)
+    sys.stdout.buffer.write(text.encode("utf-8"))
+    return 1 if found["copies"] or found["refused"] else 0
 
 
 if __name__ == "__main__":

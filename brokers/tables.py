@@ -1,0 +1,23 @@
+"""Tables on a terminal."""
+import json
+from collections.abc import Iterable
+
+
+def table(head: list[str], rows: Iterable[list[str]]) -> str:
+    """Columns of numbers to the right, others to the left."""
+    lines = [head, *rows]
+    widths = [max(len(line[i]) for line in lines) for i in range(len(head))]
+    right = [all(line[i].lstrip("-").isdigit() for line in lines[1:]) for i in range(len(head))]
+    return "\n".join("  ".join(c.rjust(w) if r else c.ljust(w) for c, w, r in zip(line, widths, right)).rstrip() for line in lines)
+
+
+def shown(text: str) -> str:
+    """A client id or topic on one line of a table: control characters are told as JSON has them."""
+    return text if text.isprintable() and text == text.strip() and text else json.dumps(text, ensure_ascii=False)
+
+
+def user_shown(user: str | None) -> str:
+    """A user name, or (none); a name that looks so is in quotes."""
+    if user is None:
+        return "(none)"
+    return json.dumps(user, ensure_ascii=False) if user == "(none)" else shown(user)
