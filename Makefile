@@ -2,16 +2,18 @@
 # test: the gate: rules of the sources, every proof from nothing, the must-fail edits, the tests, then the worked rows as a
 # user runs them, each growth of memory refused in turn, and long scripts in little memory.
 # bench: measures the built program (bench/README.md).
-# install: puts the built program, its man page and the tools beside real brokers below PREFIX.
-.PHONY: run test bench install
+# install: puts the built program, its man page, its completion and the tools beside real brokers below PREFIX; uninstall
+# takes them out again.
+.PHONY: run test bench install uninstall
 
 PREFIX ?= /usr/local
 INSTALLED = $(DESTDIR)$(PREFIX)
 
-# The programs beside real brokers, and the modules that they import.
-TOOLS = $(addprefix brokers/,log_to_script.py who_loses.py replay.py compare_log.py)
-TOOL_MODULES = $(addprefix brokers/,$(addsuffix .py,agreement because causes conversion ending evidence inference live \
-	mosquitto_log notes output page picture quick rows safe sessions stamps state story style tables topics waited writing))
+# The programs beside real brokers, each installed as mqroute-NAME, and the modules that they import.
+TOOLS = log_to_script who_loses replay compare_log check search
+TOOL_MODULES = agreement because causes conversion ending evidence inference kinds live live_side mosquitto_log mqroute \
+	notes output page picture quick random_scripts rows safe sessions shrinking stamps state story strict_json style tables \
+	topics waited writing
 
 run:
 	cd crates/mqroute && rt run < ../../tests/rows/first-look.jsonl
@@ -34,10 +36,19 @@ install:
 	@[ -x crates/mqroute/out/mqroute ] || { echo "there is no crates/mqroute/out/mqroute: run 'make run' first"; exit 1; }
 	install -D -m 755 crates/mqroute/out/mqroute $(INSTALLED)/bin/mqroute
 	install -D -m 644 docs/mqroute.1 $(INSTALLED)/share/man/man1/mqroute.1
+	install -D -m 644 docs/mqroute.bash-completion $(INSTALLED)/share/bash-completion/completions/mqroute
 	install -d $(INSTALLED)/lib/mqroute
-	install -m 644 $(TOOL_MODULES) $(INSTALLED)/lib/mqroute
-	install -m 755 $(TOOLS) $(INSTALLED)/lib/mqroute
-	ln -sf ../lib/mqroute/log_to_script.py $(INSTALLED)/bin/mqroute-log-to-script
-	ln -sf ../lib/mqroute/who_loses.py $(INSTALLED)/bin/mqroute-who-loses
-	ln -sf ../lib/mqroute/replay.py $(INSTALLED)/bin/mqroute-replay
-	ln -sf ../lib/mqroute/compare_log.py $(INSTALLED)/bin/mqroute-compare-log
+	install -m 644 $(TOOL_MODULES:%=brokers/%.py) $(INSTALLED)/lib/mqroute
+	install -m 755 $(TOOLS:%=brokers/%.py) $(INSTALLED)/lib/mqroute
+	install -d $(INSTALLED)/lib/mqroute/differences $(INSTALLED)/share/mqroute/schemas
+	install -m 644 brokers/differences/* $(INSTALLED)/lib/mqroute/differences
+	install -m 644 schemas/*.json $(INSTALLED)/share/mqroute/schemas
+	for tool in $(TOOLS); do \
+	    ln -sf ../lib/mqroute/$$tool.py $(INSTALLED)/bin/mqroute-$$(echo $$tool | tr _ -); \
+	done
+
+uninstall:
+	rm -f $(INSTALLED)/bin/mqroute $(INSTALLED)/share/man/man1/mqroute.1
+	rm -f $(INSTALLED)/share/bash-completion/completions/mqroute
+	for tool in $(TOOLS); do rm -f $(INSTALLED)/bin/mqroute-$$(echo $$tool | tr _ -); done
+	rm -rf $(INSTALLED)/lib/mqroute $(INSTALLED)/share/mqroute

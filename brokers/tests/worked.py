@@ -1,0 +1,30 @@
+"""What several tests share: the program, and the worked scripts of tests/rows and examples with its answers."""
+import json
+import os
+import subprocess
+import unittest
+from collections.abc import Iterator
+from pathlib import Path
+
+HERE = Path(__file__).parent.parent
+TOP = HERE.parent
+PROGRAM = Path(os.environ.get("MQROUTE", TOP / "crates/mqroute/out/mqroute"))
+wants_program = unittest.skipUnless(PROGRAM.exists(), f"there is no {PROGRAM}")
+LINE_FAULTS = (1, 2, 3, 4)  # codes of lines that are no commands
+
+
+def scripts() -> Iterator[tuple[Path, bytes]]:
+    for script in sorted([*TOP.glob("tests/rows/*.jsonl"), *TOP.glob("examples/*/script.jsonl")]):
+        yield script, script.read_bytes()
+
+
+def answers(script: bytes) -> list[dict]:
+    done = subprocess.run([PROGRAM], input=script, capture_output=True)
+    if done.returncode > 1:
+        raise AssertionError(done.stderr.decode())
+    return [json.loads(line) for line in done.stdout.decode("utf-8").splitlines()]
+
+
+def no_commands(found: list[dict]) -> set[int]:
+    """The lines that the program refuses as no commands."""
+    return {answer["line"] for answer in found if answer.get("code") in LINE_FAULTS}
