@@ -12,6 +12,7 @@ use crate::read::read_rows;
 use crate::row::Row;
 use mq_topic::TopicName;
 use std::alloc::Global;
+use std::fmt;
 use std::marker::Model;
 use std::snapshot::Snapshot;
 
@@ -74,5 +75,11 @@ impl Acl {
         ensures { result ≡ allowed (Some self.now) client.now (option_copied user.entry) name.now Writing }
     {
         rows_allow(&self.groups, client, user, name, Direction::Writing)
+    }
+}
+
+impl fmt::Debug for Acl {
+    fn fmt<W: fmt::Write>(&self, f: &mut fmt::Formatter<W>) -> fmt::Result {
+        fmt::Debug::fmt(&self.groups, f)
     }
 }

@@ -116,7 +116,8 @@ pub(crate) fn rows_allow(
     name: &TopicName,
     direction: Direction,
 ) -> bool
-    ensures { (rows : List AclRow) → IsGrouped rows groups.now → result ≡ rows_allow rows client.now (option_copied user.entry) name.now direction }
+    ensures { (rows : List AclRow) → IsGrouped rows groups.now
+        → result ≡ rows_allow rows client.now (option_copied user.entry) name.now direction }
 {
     match judge(groups.everyone(), false, client, user, name, direction) {
         None => false,
