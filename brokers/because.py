@@ -66,7 +66,7 @@ class Because:
         told: dict[Key, list[Found]] = {}
         refused = self.story.refusal(command, *blocks)
         of_others = None if refused else self.teller(command, blocks)
-        for key in was.keys() | now.keys():
+        for key in sorted(was.keys() | now.keys()):
             old, new = was.get(key, NONE), now.get(key, NONE)
             counts = difference(old, new)
             if counts == (0, 0, 0):

@@ -23,7 +23,7 @@ class Waited:
                 self.payloads[run][copy["topic"]].append(hash(copy["payload"]))
         self.origins: dict[str, tuple[list[Entry], list[Entry]] | None] = {}
         if self.left:
-            topics = self.payloads[BEFORE].keys() | self.payloads[AFTER].keys()
+            topics = sorted(self.payloads[BEFORE].keys() | self.payloads[AFTER].keys())
             self.origins = {topic: self.origin(topic) for topic in topics}
         self.newest = [self.newest_in(run) for run in (BEFORE, AFTER)]
 
