@@ -1,0 +1,5 @@
+mod CountLemmas
+pub mod SameLemmas
+mod HeapLemmas
+mod KeptLemmas
+mod PairLemmas
