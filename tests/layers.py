@@ -12,10 +12,8 @@ TOP = pathlib.Path(__file__).resolve().parent.parent
 
 # The folders and files of a crate that has layers, from the lowest up.
 ORDER = {
-    "mq_router": [
-        "clock", "options", "message", "texts", "replies", "sessions", "access", "subscriptions", "retained", "delivery",
-        "router",
-    ],
+    "mq_sessions": ["clock", "sessions", "access"],
+    "mq_router": ["texts", "replies", "delivery", "router"],
 }
 
 

@@ -8,21 +8,18 @@ use Rattle.std.specs.List.Sorted.{IsStrictlySortedBy}
 use Rattle.std.proofs.lemmas.Map.Text.{is_eq-slice_cmp}
 use Rattle.std.proofs.lemmas.Slice.Eq.{bytes_eq-Decides}
 use Rattle.mq_acl.specs.Rows.{AclRow}
-use Rattle.mq_world.specs.Lists.{Text, same_text}
+use Rattle.mq_world.specs.Lists.{same_text}
 use Rattle.mq_world.specs.World.{Session, Subscription, Waiting, Message, Copy, session_cmp}
 use Rattle.mq_world.specs.Clock.{deadline_of}
 use Rattle.mq_world.specs.Sessions.{is_present}
 use Rattle.mq_world.specs.Copies.{direct_copy}
 use Rattle.mq_world.specs.Waiting.{has_place, with_qos, with_waiting, waiting_copy, waiting_after, begins_to_wait}
-use Rattle.mq_router.specs.sessions.Begun.{Begin, begin_with, begins, queued, edited, queued_one, queued_all}
-use Rattle.mq_router.proofs.SameLemmas.{some_pass}
-use Rattle.mq_router.proofs.OrderLemmas.{text_flip}
+use Rattle.mq_sessions.specs.Queue.{Begin, begin_with, queued, edited, queued_one, queued_all}
+use Rattle.mq_router.specs.delivery.Copies.{begins}
+use Rattle.mq_world.proofs.SameLemmas.{some_pass}
+use Rattle.mq_world.proofs.OrderLemmas.{text_flip}
 
 module _ (limit : ℕ) (access : Option (List AclRow)) (subs : List Subscription) where
-  pub queued-id : (id : Text) (ws : List Waiting) (s : Session) → ◌≡◌ {A = Session} (record (queued limit ws s) { id = id }) (queued limit ws (record s { id = id }))
-  queued-id id ws s =
-      elim (has_place limit s) as (λ b. ◌≡◌ {A = Session} (record (if b then with_waiting s ws else s) { id = id }) (if b then with_waiting (record s { id = id }) ws else record s { id = id })) [ true ↦ refl | false ↦ refl ]
-
   -- only where there is a place does a copy begin to wait
   placed : (m : Message) (s : Session) (copy : Copy) → waiting_copy limit access subs m s ≡ Some copy → has_place limit s ≡ true
   placed m s copy h =

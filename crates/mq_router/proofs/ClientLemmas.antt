@@ -5,7 +5,7 @@ use Rattle.std.specs.Ordering.{is_eq}
 use Rattle.std.specs.Rc.{rc_str_bytes}
 use Rattle.std.specs.Cmp.Lexicographic.{nat_list_cmp_total}
 use Rattle.std.specs.List.{filter, cons_option, list_any, AllByRecursion, IsChunkByPrefix}
-use Rattle.std.specs.List.Sorted.{IsSortedBy, IsStableBy, IsStrictlySortedBy}
+use Rattle.std.specs.List.Sorted.{IsStrictlySortedBy}
 use Rattle.std.specs.Map.{lookup, keys_of}
 use Rattle.std.specs.Fn.{ComputesOnPairs}
 use Rattle.std.specs.Slice.Iter.{chunk_by_rest, chunk_by_callee, chunk_by_steps}
@@ -19,41 +19,29 @@ use Rattle.mq_acl.specs.Access.{allowed}
 use Rattle.mq_acl.specs.declared.access.Direction.TheVariants.{Reading}
 use Rattle.mq_world.specs.Sessions.{is_reader, user_of}
 use Rattle.mq_world.specs.Waiting.{with_qos}
-use Rattle.mq_router.specs.sessions.Begun.{Begin, room_for, begin_with}
-use Rattle.mq_router.specs.sessions.Ways.{is_sent, waits}
-use Rattle.mq_router.specs.declared.sessions.session.Way.{Way}
-use Rattle.mq_router.specs.declared.sessions.session.Way.TheVariants.{Sent, Waits, Nowhere}
+use Rattle.mq_sessions.specs.Queue.{Begin, room_for, begin_with}
+use Rattle.mq_sessions.specs.Ways.{is_sent, waits}
+use Rattle.mq_sessions.specs.declared.sessions.session.Way.{Way}
+use Rattle.mq_sessions.specs.declared.sessions.session.Way.TheVariants.{Sent, Waits, Nowhere}
 use Rattle.mq_router.proofs.SummaryLemmas.{summary_of-append}
 use Rattle.std.proofs.lemmas.List.{map-append, append-nil}
 use Rattle.std.proofs.lemmas.List.Elements.{filter-append}
 use Rattle.std.proofs.lemmas.Simd.{map-map}
 use Rattle.mq_world.specs.Lists.{Text, same_text, text_cmp, in_order}
 use Rattle.mq_world.specs.World.{Options, Session, Subscription, Message, Copy}
-use Rattle.mq_router.specs.subscriptions.Kept.{Member, is_text, is_empty, direct_rows, group_rows, row, options_of}
+use Rattle.mq_subscriptions.specs.Filters.{is_text, is_empty}
+use Rattle.mq_world.specs.Views.{options_of}
 use Rattle.mq_router.specs.delivery.Summaries.{Summary, summary_of, summary_for, together, copy_from}
-use Rattle.mq_router.specs.delivery.Made.{gives, gives_options, is_own_match, own_matches, copy_for, copies_by, begin_for, begins_by}
-use Rattle.mq_router.specs.delivery.Gathers.{matched, clients_of, options_among, AreAscending, AreByClient, by_client}
-use Rattle.mq_router.proofs.BoolLemmas.{pick, and_false, and_true}
-use Rattle.mq_router.proofs.ListLemmas.{map-filter}
-use Rattle.mq_router.proofs.OrderLemmas.{text_flip}
-use Rattle.mq_router.proofs.SortedLemmas.{sorted-in_order, any-in_order}
-use Rattle.mq_router.proofs.InTurn.{same_text-is, same_text-itself}
-use Rattle.mq_router.proofs.TextMaps.{is_text-is, key_text}
-use Rattle.mq_router.specs.declared.subscriptions.matches.Match.{Match}
-use Rattle.mq_router.proofs.AscendingLemmas.{lt, same, ascending-sorted, first-run, stable-kept, least-first, all-in_order}
+use Rattle.mq_router.specs.delivery.Copies.{gives, gives_options, copy_for, copies_by, begin_for, begins_by, by_client}
+use Rattle.mq_subscriptions.specs.Matches.{is_own_match, own_matches, matched, clients_of, options_among, AreAscending, AreByClient}
+use Rattle.mq_world.proofs.BoolLemmas.{pick, and_false, and_true}
+use Rattle.mq_world.proofs.OrderLemmas.{text_flip, same_text-is, same_text-itself}
+use Rattle.mq_world.proofs.SortedLemmas.{sorted-in_order, any-in_order}
+use Rattle.mq_subscriptions.proofs.TextMaps.{is_text-is, key_text}
+use Rattle.mq_subscriptions.specs.declared.subscriptions.matches.Match.{Match}
+use Rattle.mq_subscriptions.proofs.AscendingLemmas.{same, first-run, least-first, all-in_order}
 
 -- ## Sorted by client
-
-pub sorted-matches : (ms : List Match) → IsSortedBy (lt (λ (x : Match). rc_str_bytes x.client.now)) ms → AreByClient (matched ms)
-sorted-matches ms s = subst AreAscending (sym (map-map (λ (x : Text × Options). x.0) (λ (x : Match). (rc_str_bytes x.client.now, options_of x.options)) ms)) (ascending-sorted (λ (x : Match). rc_str_bytes x.client.now) ms s)
-
-pub stable-matches : (xs ys : List Match) → IsStableBy (lt (λ (x : Match). rc_str_bytes x.client.now)) xs ys → (id : Text) → options_among id (matched ys) ≡ options_among id (matched xs)
-stable-matches xs ys stable id =
-    let pair : Match → Text × Options = λ x. (rc_str_bytes x.client.now, options_of x.options) in
-    ap (map (λ (x : Text × Options). x.1))
-    (sym (map-filter pair (λ x. same_text x.0 id) ys)
-    ∙ ap (map pair) (stable-kept (λ (x : Match). rc_str_bytes x.client.now) xs ys stable id)
-    ∙ map-filter pair (λ x. same_text x.0 id) xs)
 
 -- ## By client
 
@@ -177,33 +165,6 @@ options-own m id (s ∷ rows) =
     other f =
         ap (λ b. is_none s.share && b && not (s.options.no_local && same_text id m.publisher)) f
         ∙ ap (λ b. b && not (s.options.no_local && same_text id m.publisher)) (and_false (is_none s.share))
-
--- the members of groups are no match in a client's own name
-no_group_matches : (m : Message) (f share : Text) (ms : List Member) → filter (is_own_match m) (map (row (Some share) f) ms) ≡ []
-no_group_matches m f share [] = refl
-no_group_matches m f share (x ∷ ms) = no_group_matches m f share ms
-
-no_groups_match : (m : Message) (f : Text) (gs : List (Text × List Member)) → filter (is_own_match m) (group_rows f gs) ≡ []
-no_groups_match m f [] = refl
-no_groups_match m f (g ∷ gs) =
-    filter-append (is_own_match m) (map (row (Some g.0) f) g.1) (group_rows f gs)
-    ∙ ap (λ l. l ++ filter (is_own_match m) (group_rows f gs)) (no_group_matches m f g.0 g.1) ∙ no_groups_match m f gs
-
--- by whichever filter
-by_any : (m : Message) (f : Text) (ms : List Member) → own_matches m (direct_rows [] ms) ≡ own_matches m (direct_rows f ms)
-by_any m f [] = refl
-by_any m f (x ∷ ms) =
-    let pair : Subscription → Text × Options = λ s. (s.client, s.options) in
-    elim (is_own_match m (row None [] x)) as (λ b. map pair (cond b (row None [] x ∷ filter (is_own_match m) (direct_rows [] ms)) (filter (is_own_match m) (direct_rows [] ms))) ≡ map pair (cond b (row None f x ∷ filter (is_own_match m) (direct_rows f ms)) (filter (is_own_match m) (direct_rows f ms)))) [
-      | true ↦ ap (λ l. (x.0, options_of x.1) ∷ l) (by_any m f ms)
-      | false ↦ by_any m f ms
-    ]
-
-pub matches-at : (m : Message) (f : Text) (ds : List Member) (gs : List (Text × List Member)) → own_matches m (direct_rows [] ds) ≡ own_matches m (direct_rows f ds ++ group_rows f gs)
-matches-at m f ds gs =
-    by_any m f ds
-    ∙ sym (ap (map (λ (s : Subscription). (s.client, s.options))) (filter-append (is_own_match m) (direct_rows f ds) (group_rows f gs)
-    ∙ ap (λ l. filter (is_own_match m) (direct_rows f ds) ++ l) (no_groups_match m f gs) ∙ append-nil (filter (is_own_match m) (direct_rows f ds))))
 
 -- ## One more
 

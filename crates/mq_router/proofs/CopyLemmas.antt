@@ -9,7 +9,7 @@ use Rattle.std.specs.declared.cmp.Ordering.{Ordering}
 use Rattle.std.specs.declared.cmp.Ordering.TheVariants.{Less, Equal, Greater}
 use Rattle.std.proofs.lemmas.Bool.Decides.{nat_tests}
 use Rattle.mq_world.specs.Lists.{SameElements, ascending, insert_number}
-use Rattle.mq_router.proofs.SameLemmas.{ascending-SameElements}
+use Rattle.mq_world.proofs.SameLemmas.{ascending-SameElements}
 
 permuted-same : {X : Type 0} (xs ys : List X) → IsPermutation xs ys → SameElements xs ys
 permuted-same xs ys h = λ p. length-filter p xs ∙ sym (sum_by-IsPermutation (λ x. cond (p x) 1 0) xs ys h) ∙ sym (length-filter p ys)

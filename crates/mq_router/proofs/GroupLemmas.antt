@@ -12,15 +12,15 @@ use Rattle.mq_acl.specs.Rows.{AclRow}
 use Rattle.mq_world.specs.Sessions.{is_reader}
 use Rattle.mq_world.specs.Lists.{Text, same_text, in_order}
 use Rattle.mq_world.specs.World.{Session, Row, Subscription, Group, Message, group_cmp, group_of, is_in_group, same_share}
-use Rattle.mq_router.specs.router.Applied.{groups_among, next_in, next_members}
+use Rattle.mq_subscriptions.specs.Turns.{groups_among, next_in, next_members}
 use Rattle.mq_world.specs.Copies.{filter_matches}
-use Rattle.mq_router.specs.subscriptions.Kept.{is_empty}
+use Rattle.mq_subscriptions.specs.Filters.{is_empty}
 use Rattle.mq_world.specs.Groups.{groups_of}
-use Rattle.mq_router.proofs.ListLemmas.{filter_map-map}
-use Rattle.mq_router.proofs.OrderLemmas.{group_total, level_equal, text_flip}
-use Rattle.mq_router.proofs.SortedLemmas.{sorted-in_order, any-in_order, ties, same_filtered}
-use Rattle.mq_router.proofs.BoolLemmas.{pick, left_true, right_true}
-use Rattle.mq_router.proofs.InTurn.{same_text-is}
+use Rattle.mq_world.proofs.ListLemmas.{filter_map-map}
+use Rattle.mq_world.proofs.OrderLemmas.{group_total, level_equal, text_flip}
+use Rattle.mq_world.proofs.SortedLemmas.{sorted-in_order, any-in_order, ties, same_filtered}
+use Rattle.mq_world.proofs.BoolLemmas.{pick, left_true, right_true}
+use Rattle.mq_world.proofs.OrderLemmas.{same_text-is}
 
 -- ## Groups in order
 

@@ -14,12 +14,12 @@ use Rattle.mq_world.specs.Waiting.{waiting_copy, waiting_after, with_waiting}
 use Rattle.mq_world.specs.Groups.{served_by}
 use Rattle.mq_world.specs.Retained.{retained_after, is_stored, stored, has_topic}
 use Rattle.mq_world.specs.After.{after, kept_stamp, without_client}
-use Rattle.mq_router.specs.router.Applied.{lasts}
-use Rattle.mq_router.proofs.OrderLemmas.{session_total, row_total, retained_total, sorted-with_row, all-with_row, all_weaker, all_filtered}
-use Rattle.mq_router.proofs.InTurn.{filter-swap}
-use Rattle.mq_router.proofs.JoinTurn.{AreApart, apart-joined, apart-filter, apart-from, apart-to}
+use Rattle.mq_router.specs.router.Effects.{lasts}
+use Rattle.mq_world.proofs.OrderLemmas.{session_total, row_total, retained_total, sorted-with_row, all-with_row, all_weaker, all_filtered}
+use Rattle.mq_world.proofs.SameLemmas.{filter-swap}
+use Rattle.mq_subscriptions.proofs.JoinTurn.{AreApart, apart-joined, apart-filter, apart-from, apart-to}
 use Rattle.mq_router.proofs.ServeTurn.{served-apart, restamped-sorted, restamped-below}
-use Rattle.mq_router.proofs.SessionLemmas.{sorted-map}
+use Rattle.mq_sessions.proofs.SessionLemmas.{sorted-map}
 
 -- the world after a disconnect, by whether the session stays
 abbrev pub gone : World → Text → Bool → World

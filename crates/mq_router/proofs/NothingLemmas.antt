@@ -10,10 +10,11 @@ use Rattle.mq_world.specs.World.{Session, Subscription, Message, Copy}
 use Rattle.mq_world.specs.World as world
 use Rattle.mq_world.specs.Copies.{filter_matches, options_for, copy_by, direct_copy, direct_copies}
 use Rattle.mq_world.specs.Waiting.{has_room, with_qos}
-use Rattle.mq_router.specs.sessions.Begun.{begin_with, begins, begun_by}
-use Rattle.mq_router.specs.delivery.Made.{gives_options}
-use Rattle.mq_router.specs.router.Applied.{next_members, groups_among}
-use Rattle.mq_router.proofs.SameLemmas.{some_pass}
+use Rattle.mq_sessions.specs.Queue.{begin_with}
+use Rattle.mq_router.specs.delivery.Copies.{begins, begun_by}
+use Rattle.mq_router.specs.delivery.Copies.{gives_options}
+use Rattle.mq_subscriptions.specs.Turns.{next_members, groups_among}
+use Rattle.mq_world.proofs.SameLemmas.{some_pass}
 use Rattle.mq_router.proofs.OwnCopies.{options-matching}
 use Rattle.mq_router.proofs.GroupLemmas.{members-matching}
 

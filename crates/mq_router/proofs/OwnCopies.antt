@@ -13,17 +13,18 @@ use Rattle.mq_world.specs.Lists.{Text, same_text, text_cmp}
 use Rattle.mq_world.specs.World.{Session, Subscription, Message, Copy, session_cmp, has_id}
 use Rattle.mq_world.specs.Sessions.{session_of, is_present, connected, user_of}
 use Rattle.mq_world.specs.Waiting.{has_room, with_qos}
-use Rattle.mq_router.specs.sessions.Begun.{Begin, begin_with, begins, begun_by}
+use Rattle.mq_sessions.specs.Queue.{Begin, begin_with}
+use Rattle.mq_router.specs.delivery.Copies.{begins, begun_by}
 use Rattle.mq_world.specs.Copies.{filter_matches, takes_part, options_for, copy_by, direct_copy, direct_copies}
-use Rattle.mq_router.specs.subscriptions.Kept.{is_text}
+use Rattle.mq_subscriptions.specs.Filters.{is_text}
 use Rattle.mq_router.specs.delivery.Summaries.{Summary, summary_of, summary_for, copy_from}
-use Rattle.mq_router.specs.delivery.Made.{gives, gives_options, copies_by, begins_by}
-use Rattle.mq_router.proofs.ListLemmas.{filter-same, filter_map-same, filter_map-filter, list_any-map, list_any-same, is_some-find}
-use Rattle.mq_router.proofs.SameLemmas.{filter-filter}
-use Rattle.mq_router.proofs.SortedLemmas.{same_gathered}
-use Rattle.mq_router.proofs.BoolLemmas.{pick, left_true, right_true, and_true, or_true}
-use Rattle.mq_router.proofs.InTurn.{same_text-itself}
-use Rattle.mq_router.proofs.TextMaps.{is_text-is, text-apart, key_text}
+use Rattle.mq_router.specs.delivery.Copies.{gives, gives_options, copies_by, begins_by}
+use Rattle.mq_world.proofs.ListLemmas.{filter-same, filter_map-same, filter_map-filter, list_any-map, list_any-same, is_some-find}
+use Rattle.mq_world.proofs.SameLemmas.{filter-filter}
+use Rattle.mq_world.proofs.SortedLemmas.{same_gathered}
+use Rattle.mq_world.proofs.BoolLemmas.{pick, left_true, right_true, and_true, or_true}
+use Rattle.mq_world.proofs.OrderLemmas.{same_text-itself}
+use Rattle.mq_subscriptions.proofs.TextMaps.{is_text-is, text-apart, key_text}
 use Rattle.mq_router.proofs.SummaryLemmas.{summarized, unsummarized}
 use Rattle.mq_world.specs.World as world
 

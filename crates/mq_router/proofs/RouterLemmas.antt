@@ -14,15 +14,16 @@ use Rattle.mq_world.specs.Waiting.{begins_to_wait, waiting_after, resumed_copies
 use Rattle.mq_world.specs.Refusals.{Conditions, first_refusal, client_conditions, is_client_id, is_user_name, faulty_line, refusal}
 use Rattle.mq_world.specs.Retained.{asks_for_retained, retained_copies, retained_after, is_full, unexpired}
 use Rattle.mq_world.specs.Counts.{filters_among, topics_of}
-use Rattle.mq_router.specs.Deadlines.{Indexes}
+use Rattle.mq_retained.specs.Deadlines.{Indexes}
 use Rattle.mq_world.specs.Turns.{SameInTurn}
 use Rattle.mq_world.specs.Answers.{reason, published}
 use Rattle.mq_world.specs.After.{access_of}
 use Rattle.mq_router.specs.StandsFor.{State, Refuses}
-use Rattle.mq_router.specs.router.Applied.{Applied, Does, world_of, joined, copies_held, members_held, copies_sent, counts_held, all_turned, without, lasts}
-use Rattle.mq_router.specs.subscriptions.Kept.{KeptSubscriptions, AreKeys}
-use Rattle.mq_router.specs.retained.Stored.{KeptRetained, AreFiled}
-use Rattle.mq_router.proofs.InTurn.{same-is, same-itself}
+use Rattle.mq_router.specs.router.Effects.{Applied, Does, world_of, copies_held, members_held, copies_sent, counts_held, without, lasts}
+use Rattle.mq_subscriptions.specs.Turns.{joined, all_turned}
+use Rattle.mq_subscriptions.specs.Filters.{KeptSubscriptions, AreKeys}
+use Rattle.mq_retained.specs.Stored.{KeptRetained, AreFiled}
+use Rattle.mq_subscriptions.proofs.InTurn.{same-is, same-itself}
 use Rattle.mq_world.specs.declared.answer.Answer.{Answer}
 use Rattle.mq_world.specs.declared.answer.Outcome.TheVariants.{Reason}
 use Rattle.mq_world.specs.declared.refusal.Refusal.{Refusal}

@@ -10,8 +10,8 @@ use Rattle.mq_world.specs.World.{Session, Subscription, Options, Message}
 use Rattle.mq_world.specs.Clock.{deadline_of}
 use Rattle.mq_world.specs.Copies.{takes_part, options_for, copy_by, direct_copy, direct_copies}
 use Rattle.mq_world.specs.Waiting.{has_room, with_qos, waiting_copy, with_waiting, waiting_after, begins_to_wait}
-use Rattle.mq_router.proofs.ListLemmas.{list_any-same, map-same}
-use Rattle.mq_router.proofs.SameLemmas.{SameElements-filter, SameElements-map, SameElements-filter_map, length-SameElements, list_any-SameElements, greatest-SameElements, ascending-SameElements}
+use Rattle.mq_world.proofs.ListLemmas.{list_any-same, map-same}
+use Rattle.mq_world.proofs.SameLemmas.{SameElements-filter, SameElements-map, SameElements-filter_map, length-SameElements, list_any-SameElements, greatest-SameElements, ascending-SameElements}
 
 direct_copy-same : (access : Option (List AclRow)) (xs ys : List Subscription) (m : Message) (id : Text) (user : Option Text) → SameElements xs ys → direct_copy access xs m id user ≡ direct_copy access ys m id user
 direct_copy-same access xs ys m id user same =

@@ -9,20 +9,21 @@ use Rattle.mq_world.specs.Lists.{Text, SameElements, same_text}
 use Rattle.mq_world.specs.World.{World, IsWorld, Group, Subscription, Row, Message, row_cmp, subscription_cmp, group_cmp, same_share, is_in_group, rows_in, same_key}
 use Rattle.mq_world.specs.Sessions.{can_be_served}
 use Rattle.mq_world.specs.Copies.{filter_matches}
-use Rattle.mq_router.specs.router.Applied.{all_turned}
+use Rattle.mq_subscriptions.specs.Turns.{all_turned}
 use Rattle.mq_world.specs.Groups.{groups_of, turn_of, served, served_by, restamped}
 use Rattle.mq_world.specs.Turns.{by_turn, in_turn, SameInTurn}
-use Rattle.mq_router.proofs.ListLemmas.{map-filter, filter-same}
-use Rattle.mq_router.proofs.SameLemmas.{SameElements-map}
-use Rattle.mq_router.proofs.SortedLemmas.{ties}
-use Rattle.mq_router.proofs.BoolLemmas.{pick, left_true, right_true, or_false}
-use Rattle.mq_router.proofs.OrderLemmas.{group_total, all_filtered, all_passed}
-use Rattle.mq_router.proofs.InTurn.{same_share-is, same_text-is, same_text-itself, in_group_same}
-use Rattle.mq_router.proofs.Splits.{some_same}
-use Rattle.mq_router.proofs.TurnLemmas.{StampsBelow, by_turn-filter}
-use Rattle.mq_router.proofs.JoinTurn.{AreApart, stamps, apart-from, apart-to, turn-elements}
+use Rattle.mq_world.proofs.ListLemmas.{map-filter, filter-same}
+use Rattle.mq_world.proofs.SameLemmas.{SameElements-map}
+use Rattle.mq_world.proofs.SortedLemmas.{ties}
+use Rattle.mq_world.proofs.BoolLemmas.{pick, left_true, right_true, or_false}
+use Rattle.mq_world.proofs.OrderLemmas.{group_total, all_filtered, all_passed}
+use Rattle.mq_world.proofs.OrderLemmas.{same_share-is, same_text-is, same_text-itself}
+use Rattle.mq_subscriptions.proofs.InTurn.{in_group_same}
+use Rattle.mq_world.proofs.Splits.{some_same}
+use Rattle.mq_subscriptions.proofs.TurnLemmas.{StampsBelow, by_turn-filter}
+use Rattle.mq_subscriptions.proofs.JoinTurn.{AreApart, stamps, apart-from, apart-to, turn-elements}
 use Rattle.mq_router.proofs.GroupLemmas.{group_tie, group_tied, groups_of-sorted}
-use Rattle.mq_router.proofs.OneServed.{told, Among, found_among, found_passes, alike, stamped, turned-elements, turned-group, turned-one, apart-one}
+use Rattle.mq_subscriptions.proofs.OneServed.{told, Among, found_among, found_passes, alike, stamped, turned-elements, turned-group, turned-one, apart-one}
 
 -- ## Those served in a group
 

@@ -15,21 +15,24 @@ use Rattle.mq_acl.specs.Rows.{AclRow}
 use Rattle.mq_world.specs.Sessions.{is_reader}
 use Rattle.mq_world.specs.Lists.{Text, same_text, text_cmp, in_order}
 use Rattle.mq_world.specs.World.{Session, Subscription, Group, Message, group_cmp, is_in_group, same_share}
-use Rattle.mq_router.specs.router.Applied.{groups_among, next_members}
+use Rattle.mq_subscriptions.specs.Turns.{groups_among, next_members}
 use Rattle.mq_world.specs.Copies.{filter_matches}
-use Rattle.mq_router.specs.subscriptions.Kept.{At, AreHere, AreAtFilters, is_text, is_empty}
-use Rattle.mq_router.specs.delivery.Gathers.{AreAscending, shares_of, turns_listed}
-use Rattle.mq_router.specs.router.Held.{turn_of}
-use Rattle.mq_router.specs.delivery.Made.{rows_found, turns_of, turns_at}
-use Rattle.mq_router.proofs.ListLemmas.{list_any-map, list_any-same, any-append}
-use Rattle.mq_router.proofs.OrderLemmas.{group_total, level_equal, all_append, text_flip}
-use Rattle.mq_router.proofs.SortedLemmas.{sorted-in_order, any-in_order, ties, same_gathered, any-filter, sorted-append}
-use Rattle.mq_router.proofs.BoolLemmas.{pick, or_true}
-use Rattle.mq_router.proofs.InTurn.{same_text-is, same_text-itself}
-use Rattle.mq_router.proofs.TextMaps.{is_text-is, key_text}
-use Rattle.mq_router.proofs.AscendingLemmas.{by_each_key, none_there}
+use Rattle.mq_subscriptions.specs.Filters.{At, AreHere, AreAtFilters, is_text, is_empty}
+use Rattle.mq_subscriptions.specs.Matches.{AreAscending}
+use Rattle.mq_subscriptions.specs.Turns.{shares_of, turns_listed}
+use Rattle.mq_subscriptions.specs.Turns.{turn_of}
+use Rattle.mq_subscriptions.specs.Matches.{rows_found}
+use Rattle.mq_subscriptions.specs.Turns.{turns_of}
+use Rattle.mq_router.specs.delivery.Copies.{turns_at}
+use Rattle.mq_world.proofs.ListLemmas.{list_any-map, list_any-same, any-append}
+use Rattle.mq_world.proofs.OrderLemmas.{group_total, level_equal, all_append, text_flip}
+use Rattle.mq_world.proofs.SortedLemmas.{sorted-in_order, any-in_order, ties, same_gathered, any-filter, sorted-append}
+use Rattle.mq_world.proofs.BoolLemmas.{pick, or_true}
+use Rattle.mq_world.proofs.OrderLemmas.{same_text-is, same_text-itself}
+use Rattle.mq_subscriptions.proofs.TextMaps.{is_text-is, key_text}
+use Rattle.mq_subscriptions.proofs.AscendingLemmas.{by_each_key, none_there}
 use Rattle.mq_router.proofs.GroupLemmas.{group_tie, group_tied, groups-sorted, groups-any, told, any-from_filter}
-use Rattle.mq_router.specs.declared.subscriptions.turn.Turn.{Turn}
+use Rattle.mq_subscriptions.specs.declared.subscriptions.turn.Turn.{Turn}
 
 differ : (a b : Text) → level_order (levels a) (levels b) ≡ Less → same_text a b ≡ false
 differ a b h = sym (level_equal a b) ∙ ap is_eq h

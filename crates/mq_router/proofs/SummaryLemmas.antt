@@ -4,9 +4,9 @@ use Rattle.std.specs.List.{filter_map, cons_option}
 use Rattle.mq_world.specs.Lists.{greatest}
 use Rattle.mq_world.specs.World.{Options}
 use Rattle.mq_router.specs.delivery.Summaries.{Summary, summary_of, summary_for, together}
-use Rattle.mq_router.proofs.ListLemmas.{any-append}
-use Rattle.mq_router.proofs.SameLemmas.{some_pass}
-use Rattle.mq_router.proofs.Splits.{some_same, none_some}
+use Rattle.mq_world.proofs.ListLemmas.{any-append}
+use Rattle.mq_world.proofs.SameLemmas.{some_pass}
+use Rattle.mq_world.proofs.Splits.{some_same, none_some}
 
 -- ## Of options
 

@@ -19,25 +19,26 @@ use Rattle.mq_world.specs.Copies.{direct_copies, filter_matches}
 use Rattle.mq_world.specs.Groups.{groups_of, turn_of, served, served_by}
 use Rattle.mq_world.specs.Retained.{retained_copies, retained_after, is_full, unexpired}
 use Rattle.mq_world.specs.Counts.{filters_of, topics_of, counts, steps}
-use Rattle.mq_router.specs.Deadlines.{Indexes, is_due}
-use Rattle.mq_router.specs.retained.Receivers.{steps_among}
+use Rattle.mq_retained.specs.Deadlines.{Indexes, is_due}
+use Rattle.mq_retained.specs.Receivers.{steps_among}
 use Rattle.mq_world.specs.Answers.{answer, reason, published, copies_of}
 use Rattle.mq_world.specs.After.{after, without_client}
 use Rattle.mq_world.specs.Turns.{by_turn, in_turn, SameInTurn}
 use Rattle.mq_router.specs.StandsFor.{State, Holds, StandsFor, Answers, AnswersFor, CountsFor, Refuses}
-use Rattle.mq_router.specs.router.Applied.{Applied, CountsSteps, Does, IsFiled, world_of, reply_to, counts_held, steps_to, moved, next_in, next_members, all_turned, member_copy, without, lasts}
+use Rattle.mq_router.specs.router.Effects.{Applied, CountsSteps, Does, IsFiled, world_of, reply_to, counts_held, steps_to, moved, member_copy, without, lasts}
+use Rattle.mq_subscriptions.specs.Turns.{next_in, next_members, all_turned}
 use Rattle.mq_world.specs.Views.{reply_of}
 use Rattle.mq_tree.specs.Entries.{capped}
 use Rattle.mq_tree.specs.Prefixes.{prefixes, met_by_name}
-use Rattle.mq_router.proofs.ListLemmas.{map-filter}
-use Rattle.mq_router.proofs.SameLemmas.{SameElements-map, length-SameElements, list_any-SameElements}
-use Rattle.mq_router.proofs.InTurn.{same-is, same-then, same-filter, joined-same, all_turned-same}
-use Rattle.mq_router.proofs.TurnLemmas.{by_turn-filter, least-is}
-use Rattle.mq_router.proofs.JoinTurn.{turn-elements, joins}
-use Rattle.mq_router.proofs.OneServed.{told}
+use Rattle.mq_world.proofs.ListLemmas.{map-filter}
+use Rattle.mq_world.proofs.SameLemmas.{SameElements-map, length-SameElements, list_any-SameElements}
+use Rattle.mq_subscriptions.proofs.InTurn.{same-is, same-then, same-filter, joined-same, all_turned-same}
+use Rattle.mq_subscriptions.proofs.TurnLemmas.{by_turn-filter, least-is}
+use Rattle.mq_subscriptions.proofs.JoinTurn.{turn-elements, joins}
+use Rattle.mq_subscriptions.proofs.OneServed.{told}
 use Rattle.mq_router.proofs.ServeTurn.{serves}
 use Rattle.mq_router.proofs.GroupLemmas.{groups-same, groups-told}
-use Rattle.mq_router.proofs.FiledLemmas.{filters-same}
+use Rattle.mq_subscriptions.proofs.KeyLemmas.{filters-same}
 use Rattle.mq_router.proofs.SameCopies.{direct_copies-same, begins_to_wait-same, waiting_after-same}
 use Rattle.mq_router.proofs.NextLemmas.{gone, after-is_world}
 use Rattle.mq_world.specs.declared.answer.Answer.{Answer}

@@ -1,8 +1,4 @@
-pub mod Deadlines
 pub mod StandsFor
-pub mod sessions
-pub mod subscriptions
-pub mod retained
 pub mod delivery
 pub mod router
 pub use Rattle.mq_world.specs.Lists

@@ -4,7 +4,7 @@ use Rattle.mq_acl.specs.Rows.{AclRow}
 use Rattle.mq_world.specs.World.{World, Limits, Session, Subscription, Retained, Request, Reply, IsWorld}
 use Rattle.mq_world.specs.Turns.{SameInTurn, in_turn}
 use Rattle.mq_world.specs.Counts.{filters_of, topics_of, steps}
-use Rattle.mq_router.specs.Deadlines.{Pair, Indexes}
+use Rattle.mq_retained.specs.Deadlines.{Pair, Indexes}
 use Rattle.mq_world.specs.Refusals.{refusal}
 use Rattle.mq_world.specs.Answers.{answer}
 use Rattle.mq_world.specs.After.{after}

@@ -1,4 +1,3 @@
 -- The proof's words for the copies of a message.
 pub mod Summaries
-pub mod Made
-pub mod Gathers
+pub mod Copies

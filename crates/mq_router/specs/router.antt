@@ -1,3 +1,3 @@
 -- The proof's words for the router.
-pub mod Applied
-pub mod Held
+pub mod Effects
+pub mod Views

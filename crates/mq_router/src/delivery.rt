@@ -3,25 +3,22 @@ ghost use Rattle.std.specs.Prelude.{◌≡◌, ◌+◌, IfOk, length, map};
 ghost use Rattle.mq_topic.specs.Levels.{levels};
 ghost use Rattle.mq_tree.specs.Prefixes.{prefixes, met_by_name};
 ghost use Rattle.mq_world.specs.Lists.{Text};
-ghost use Rattle.mq_router.specs.router.Held.{message_of, turn_of, begin_of};
-ghost use Rattle.mq_router.specs.sessions.Begun.{begun_by};
+ghost use Rattle.mq_world.specs.Views.{message_of};
+ghost use Rattle.mq_subscriptions.specs.Turns.{turn_of};
+ghost use Rattle.mq_sessions.specs.Views.{begin_of};
+ghost use Rattle.mq_router.specs.delivery.Copies.{begun_by};
 
 pub(crate) mod outgoing;
 pub(crate) mod summary;
 pub(crate) mod unshared;
 
-use crate::access::Readers;
 use crate::delivery::outgoing::Outgoing;
 use crate::delivery::summary::Summary;
 use crate::delivery::unshared::{Direct, direct_copies};
-use crate::message::Message;
-use crate::sessions::queued::Begun;
-use crate::subscriptions::Subscriptions;
-use crate::subscriptions::filter_entry::AtFilter;
-use crate::subscriptions::matches::{Match, sort_by_client};
-use crate::subscriptions::turn::{Turn, sort_by_share};
+use mq_sessions::{Begun, Readers};
+use mq_subscriptions::{AtFilter, Match, Subscriptions, Turn, sort_by_client, sort_by_share};
 use mq_tree::Steps;
-use mq_world::Delivery;
+use mq_world::{Delivery, Message};
 use std::alloc::{AllocError, Global};
 
 /// The copies of a message that are sent, those that begin to wait, and the members of groups that it serves.
@@ -79,10 +76,15 @@ pub(crate) fn make_copies(
 }
 
 ghost use Rattle.std.specs.Prelude.{◌++◌, OnOk, []};
-ghost use Rattle.mq_router.specs.subscriptions.Kept.{AreAtFilters};
-ghost use Rattle.mq_router.specs.delivery.Gathers.{seen, copies_in, turns_in, matched, options_among, by_client, AreByClient};
-ghost use Rattle.mq_router.specs.router.Applied.{copies_made, next_members, member_copy};
-ghost use Rattle.mq_router.specs.delivery.Made.{rows_found, own_matches, copies_by, begins_by};
+ghost use Rattle.mq_subscriptions.specs.Filters.{AreAtFilters};
+ghost use Rattle.mq_subscriptions.specs.Matches.{seen, matched, options_among, AreByClient};
+ghost use Rattle.mq_world.specs.Views.{copies_in};
+ghost use Rattle.mq_subscriptions.specs.Turns.{turns_in};
+ghost use Rattle.mq_router.specs.delivery.Copies.{by_client};
+ghost use Rattle.mq_router.specs.router.Effects.{copies_made, member_copy};
+ghost use Rattle.mq_subscriptions.specs.Turns.{next_members};
+ghost use Rattle.mq_subscriptions.specs.Matches.{rows_found, own_matches};
+ghost use Rattle.mq_router.specs.delivery.Copies.{copies_by, begins_by};
 
 // How many subscriptions of clients in their own name there are at most. It is a measure of room alone.
 fn own_count(found: &[&AtFilter]) -> usize {

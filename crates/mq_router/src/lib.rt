@@ -2,16 +2,9 @@
 //! at a time.
 #![tactic(auto)]
 
-mod access;
-mod clock;
 mod delivery;
-mod message;
-mod options;
 mod replies;
-mod retained;
 mod router;
-mod sessions;
-mod subscriptions;
 mod texts;
 
 pub use mq_world::{Answer, Command, Delivery, Limits, Outcome, Refusal};

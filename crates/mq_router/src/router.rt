@@ -5,33 +5,32 @@ ghost use Rattle.mq_world.specs.Refusals.{is_valid, takes_no_memory, client_cond
 ghost use Rattle.mq_world.specs.World as world;
 ghost use Rattle.mq_world.specs.World.{fresh_world, empty_world, within};
 ghost use Rattle.mq_router.specs.StandsFor.{StandsFor, AnswersFor, CountsFor};
-ghost use Rattle.mq_router.specs.router.Applied.{Applied, CountsSteps, refused_by, copies_sent, steps_sent, steps_to};
-ghost use Rattle.mq_router.specs.router.Applied.{counts_held, copies_held, begun_held, members_held};
+ghost use Rattle.mq_router.specs.router.Effects.{Applied, CountsSteps, refused_by, copies_sent, steps_sent, steps_to};
+ghost use Rattle.mq_router.specs.router.Effects.{counts_held, copies_held, begun_held, members_held};
 ghost use Rattle.mq_world.specs.Views.{limits_of, request_of, reply_of};
-ghost use Rattle.mq_router.specs.subscriptions.Kept.{options_of};
-ghost use Rattle.mq_router.specs.subscriptions.Asked.{wanted_row};
-ghost use Rattle.mq_router.specs.delivery.Gathers.{copies_in, turns_in};
-ghost use Rattle.mq_router.specs.router.Held.{published_message, message_of, begin_of};
+ghost use Rattle.mq_world.specs.Views.{options_of};
+ghost use Rattle.mq_subscriptions.specs.Wanted.{wanted_row};
+ghost use Rattle.mq_world.specs.Views.{copies_in};
+ghost use Rattle.mq_subscriptions.specs.Turns.{turns_in};
+ghost use Rattle.mq_router.specs.router.Views.{published_message};
+ghost use Rattle.mq_world.specs.Views.{message_of};
+ghost use Rattle.mq_sessions.specs.Views.{begin_of};
 
 mod ended;
 
-use crate::access::{Readers, may_publish};
-use crate::clock::Clock;
 use crate::delivery::{Made, make_copies};
-use crate::message::Message;
-use crate::options::Options;
 use crate::replies::{published, reason_to_leave, with_reason};
-use crate::retained::{Receiver, Retained};
-use crate::sessions::Sessions;
-use crate::subscriptions::Subscriptions;
 use crate::texts::{
     copied, is_client_id, is_shared_no_local, is_user_name, parse_filter, parse_name, read_access,
 };
 use ended::remove_ended;
 use mq_acl::Acl;
+use mq_retained::{Receiver, Retained};
+use mq_sessions::{Clock, Readers, Sessions, may_publish};
+use mq_subscriptions::Subscriptions;
 use mq_topic::SubFilter;
 use mq_tree::Steps;
-use mq_world::{Answer, Command, Delivery, Limits, Outcome, Refusal};
+use mq_world::{Answer, Command, Delivery, Limits, Message, Options, Outcome, Refusal};
 use std::alloc::{AllocError, Global};
 use std::marker::Model;
 use std::rc::RcStr;
@@ -54,9 +53,9 @@ impl Model for Router {
 
     ghost Value = { State };
 
-    ghost use Rattle.mq_router.specs.router.Held.{state_of};
-    ghost use Rattle.mq_router.specs.retained.Stored.{AreNear};
-    ghost use Rattle.mq_router.specs.sessions.Near.{AllReached};
+    ghost use Rattle.mq_router.specs.router.Views.{state_of};
+    ghost use Rattle.mq_retained.specs.Stored.{AreNear};
+    ghost use Rattle.mq_sessions.specs.Near.{AllReached};
 
     ghost view = { state_of };
 

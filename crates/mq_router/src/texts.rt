@@ -3,7 +3,7 @@ ghost use Rattle.std.specs.Prelude.{◌≡◌, ◌&&◌, None, Some, is_some, st
 ghost use Rattle.std.specs.Option.{option_copied, option_map};
 ghost use Rattle.mq_topic.specs.Texts.{contains_byte, is_name, is_subscription};
 ghost use Rattle.mq_world.specs.Refusals.{is_client_id, is_user_name, faulty_line, acl_refusal};
-ghost use Rattle.mq_router.specs.subscriptions.Asked.{IsAskedBy};
+ghost use Rattle.mq_subscriptions.specs.Wanted.{IsAskedBy};
 ghost use Rattle.mq_world.specs.After.{access_of};
 
 use mq_acl::{Acl, AclKind};

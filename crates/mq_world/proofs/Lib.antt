@@ -1,1 +1,7 @@
+pub mod BoolLemmas
+pub mod ListLemmas
+pub mod SameLemmas
+pub mod OrderLemmas
+pub mod SortedLemmas
+pub mod Splits
 mod WorkedScripts

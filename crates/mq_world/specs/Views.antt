@@ -1,5 +1,5 @@
--- What commands and answers say, as texts and numbers.
-use Rattle.std.specs.Prelude.{map, string_bytes}
+-- What commands, answers, messages and subscription options say, as texts and numbers.
+use Rattle.std.specs.Prelude.{map, string_bytes, List, Vec}
 use Rattle.std.specs.Option.{option_map}
 use Rattle.std.specs.Rc.{rc_str_bytes}
 use Rattle.std.specs.declared.alloc.Global.{Global}
@@ -13,6 +13,8 @@ use Rattle.mq_world.specs.declared.command.Command.TheVariants.{Connect, Disconn
 use Rattle.mq_world.specs.declared.limits.Limits.{Limits}
 use Rattle.mq_world.specs.declared.answer.Delivery.{Delivery}
 use Rattle.mq_world.specs.declared.answer.Answer.{Answer}
+use Rattle.mq_world.specs.declared.options.Options.{Options}
+use Rattle.mq_world.specs.declared.message.Message.{Message}
 
 abbrev pub limits_of : Limits → world.Limits
 limits_of limits = record { retained = limits.retained; queued = limits.queued }
@@ -60,3 +62,26 @@ copy_of d = record {
 
 abbrev pub reply_of : Answer → Reply
 reply_of a = record { copies = map copy_of a.copies.items; outcome = a.outcome }
+
+-- what a subscription asks for, as the definitions have it
+abbrev pub options_of : Options → world.Options
+options_of o = record {
+  qos = o.qos;
+  no_local = o.no_local;
+  retain_as_published = o.rap;
+  handling = o.handling;
+  identifier = o.id;
+}
+
+abbrev pub copies_in : Vec Delivery Global → List Copy
+copies_in copies = map copy_of copies.items
+
+abbrev pub message_of : Message → world.Message
+message_of m = record {
+  publisher = rc_str_bytes m.publisher.now;
+  topic = m.topic.now;
+  payload = m.payload.now;
+  qos = m.qos;
+  retain = m.retain;
+  expiry = m.expiry;
+}

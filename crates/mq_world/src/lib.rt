@@ -5,9 +5,13 @@
 mod answer;
 mod command;
 mod limits;
+mod message;
+mod options;
 mod refusal;
 
 pub use answer::{Answer, Delivery, Outcome};
 pub use command::Command;
 pub use limits::Limits;
+pub use message::Message;
+pub use options::Options;
 pub use refusal::Refusal;

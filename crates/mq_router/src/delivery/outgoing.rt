@@ -3,9 +3,8 @@ ghost use Rattle.std.specs.Prelude.{◌≡◌};
 ghost use Rattle.std.specs.Rc.{rc_str_bytes};
 
 use crate::delivery::summary::Summary;
-use crate::message::Message;
 use mq_topic::{LevelText, TopicFilter};
-use mq_world::Delivery;
+use mq_world::{Delivery, Message};
 use std::alloc::{AllocError, Global};
 use std::rc::{Rc, RcStr};
 
@@ -24,7 +23,7 @@ impl<'a> Outgoing<'a> {
     ghost use Rattle.std.specs.Option.{option_map};
     ghost use Rattle.mq_router.specs.delivery.Summaries.{copy_from};
     ghost use Rattle.mq_world.specs.Views.{copy_of, group_of};
-    ghost use Rattle.mq_router.specs.router.Held.{message_of};
+    ghost use Rattle.mq_world.specs.Views.{message_of};
 
     pub(crate) fn new(alloc: Global, message: &Message<'a>) -> Result<Outgoing<'a>, AllocError>
         ensures { IfOk result (λ o. o.message ≡ message.now) }

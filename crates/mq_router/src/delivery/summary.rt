@@ -1,9 +1,9 @@
 //! What the options of a client's subscriptions come to for its copy.
 ghost use Rattle.std.specs.Prelude.{◌≡◌, [], ◌∷◌, ◌++◌, IfOk, OnOk};
 ghost use Rattle.std.specs.Option.{option_to_list};
-ghost use Rattle.mq_router.specs.subscriptions.Kept.{options_of};
+ghost use Rattle.mq_world.specs.Views.{options_of};
 
-use crate::options::Options;
+use mq_world::Options;
 use std::alloc::{AllocError, Global};
 use std::marker::Model;
 

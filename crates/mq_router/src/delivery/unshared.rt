@@ -1,20 +1,20 @@
 //! The copies of a message for clients in their own name: those that are sent, and those that begin to wait.
 ghost use Rattle.std.specs.Prelude.{◌≡◌, IfOk, None, map};
 ghost use Rattle.std.specs.Rc.{rc_str_bytes};
-ghost use Rattle.mq_router.specs.subscriptions.Kept.{options_of};
-ghost use Rattle.mq_router.specs.delivery.Gathers.{copies_in, matched, by_client, AreByClient};
-ghost use Rattle.mq_router.specs.delivery.Made.{copies_by, begins_by};
+ghost use Rattle.mq_world.specs.Views.{options_of};
+ghost use Rattle.mq_world.specs.Views.{copies_in};
+ghost use Rattle.mq_subscriptions.specs.Matches.{matched, AreByClient};
+ghost use Rattle.mq_router.specs.delivery.Copies.{by_client};
+ghost use Rattle.mq_router.specs.delivery.Copies.{copies_by, begins_by};
 ghost use Rattle.mq_router.specs.delivery.Summaries.{summary_of, copy_from};
 ghost use Rattle.mq_world.specs.Views.{copy_of};
-ghost use Rattle.mq_router.specs.router.Held.{message_of, begin_of};
+ghost use Rattle.mq_world.specs.Views.{message_of};
+ghost use Rattle.mq_sessions.specs.Views.{begin_of};
 
-use crate::access::Readers;
 use crate::delivery::outgoing::Outgoing;
 use crate::delivery::summary::Summary;
-use crate::sessions::queue::begin;
-use crate::sessions::queued::Begun;
-use crate::sessions::session::Way;
-use crate::subscriptions::matches::Match;
+use mq_sessions::{Begun, Readers, Way, begin};
+use mq_subscriptions::Match;
 use mq_world::Delivery;
 use std::alloc::{AllocError, Global};
 use std::rc::RcStr;

@@ -1,11 +1,11 @@
 //! The subscriptions of the sessions that end.
 ghost use Rattle.std.specs.Prelude.{◌≡◌};
 ghost use Rattle.std.specs.List.{filter};
-ghost use Rattle.mq_router.specs.subscriptions.Kept.{AreKeys};
-ghost use Rattle.mq_router.specs.router.Applied.{lasts};
+ghost use Rattle.mq_subscriptions.specs.Filters.{AreKeys};
+ghost use Rattle.mq_router.specs.router.Effects.{lasts};
 
-use crate::sessions::Sessions;
-use crate::subscriptions::Subscriptions;
+use mq_sessions::Sessions;
+use mq_subscriptions::Subscriptions;
 
 /// Takes out the subscriptions of the sessions that have ended, and walks no other's; where none has, it looks at none. It
 /// takes no memory.

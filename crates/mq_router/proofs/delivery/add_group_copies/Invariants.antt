@@ -1,7 +1,8 @@
 use Rattle.std.proofs.Common.{◌≡◌, ◌++◌, map, take}
-use Rattle.mq_router.specs.router.Applied.{member_copy}
+use Rattle.mq_router.specs.router.Effects.{member_copy}
 use Rattle.mq_world.specs.Views.{copy_of}
-use Rattle.mq_router.specs.router.Held.{message_of, turn_of}
+use Rattle.mq_world.specs.Views.{message_of}
+use Rattle.mq_subscriptions.specs.Turns.{turn_of}
 use Rattle.mq_router.proofs.delivery.add_group_copies.Given as goal
 
 abbrev pub invariant-loop-turn : goal.invariant-loop-turn

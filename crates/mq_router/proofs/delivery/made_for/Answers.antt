@@ -1,10 +1,12 @@
 use Rattle.std.proofs.Common.{◌∙◌, ◌++◌, sym, ap, map, List}
 use Rattle.std.proofs.lemmas.Simd.{map-map}
 use Rattle.mq_world.specs.World.{Message, Copy}
-use Rattle.mq_router.specs.router.Applied.{member_copy}
-use Rattle.mq_router.specs.delivery.Made.{copies_by}
-use Rattle.mq_router.specs.delivery.Gathers.{matched, by_client}
-use Rattle.mq_router.specs.router.Held.{message_of, turn_of}
+use Rattle.mq_router.specs.router.Effects.{member_copy}
+use Rattle.mq_router.specs.delivery.Copies.{copies_by}
+use Rattle.mq_subscriptions.specs.Matches.{matched}
+use Rattle.mq_router.specs.delivery.Copies.{by_client}
+use Rattle.mq_world.specs.Views.{message_of}
+use Rattle.mq_subscriptions.specs.Turns.{turn_of}
 use Rattle.mq_router.proofs.delivery.made_for.Goals as goal
 
 pub returns-clause-copies : goal.returns-clause-copies

@@ -3,12 +3,17 @@ use Rattle.std.specs.List.{filter}
 use Rattle.std.proofs.lemmas.Result.{IfOk-weaker}
 use Rattle.mq_world.specs.World.{Subscription}
 use Rattle.mq_world.specs.Sessions.{connected}
-use Rattle.mq_router.specs.router.Applied.{next_members, member_copy}
+use Rattle.mq_subscriptions.specs.Turns.{next_members}
+use Rattle.mq_router.specs.router.Effects.{member_copy}
 use Rattle.mq_world.specs.Copies.{filter_matches, direct_copies}
-use Rattle.mq_router.specs.delivery.Made.{rows_found, gives_options}
+use Rattle.mq_subscriptions.specs.Matches.{rows_found}
+use Rattle.mq_router.specs.delivery.Copies.{gives_options}
 use Rattle.mq_router.specs.delivery.Summaries.{summary_for}
-use Rattle.mq_router.specs.router.Held.{message_of, begin_of}
-use Rattle.mq_router.specs.delivery.Gathers.{turns_in, matched, options_among, by_client}
+use Rattle.mq_world.specs.Views.{message_of}
+use Rattle.mq_sessions.specs.Views.{begin_of}
+use Rattle.mq_subscriptions.specs.Turns.{turns_in}
+use Rattle.mq_subscriptions.specs.Matches.{matched, options_among}
+use Rattle.mq_router.specs.delivery.Copies.{by_client}
 use Rattle.mq_router.proofs.ClientLemmas.{sorted-by_client, lookup-by_client, options-own}
 use Rattle.mq_router.proofs.OwnCopies.{own-copies, own-begun, options-matching}
 use Rattle.mq_router.proofs.GroupLemmas.{members-matching}

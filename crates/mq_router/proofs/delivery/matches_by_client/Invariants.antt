@@ -1,7 +1,7 @@
 use Rattle.std.proofs.Common.{◌≡◌, map, take}
-use Rattle.mq_router.specs.router.Held.{message_of}
-use Rattle.mq_router.specs.delivery.Gathers.{matched}
-use Rattle.mq_router.specs.delivery.Made.{rows_found, own_matches}
+use Rattle.mq_world.specs.Views.{message_of}
+use Rattle.mq_subscriptions.specs.Matches.{matched}
+use Rattle.mq_subscriptions.specs.Matches.{rows_found, own_matches}
 use Rattle.mq_router.proofs.delivery.matches_by_client.Given as goal
 
 abbrev pub invariant-loop-at : goal.invariant-loop-at

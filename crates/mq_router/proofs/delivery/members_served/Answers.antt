@@ -1,7 +1,7 @@
 use Rattle.std.proofs.Common.{arith, ◌≡◌, ◌∙◌, ap, map, take}
 use Rattle.std.proofs.lemmas.Grind.{common_steps}
-use Rattle.mq_router.specs.router.Held.{message_of}
-use Rattle.mq_router.specs.delivery.Made.{turns_at}
+use Rattle.mq_world.specs.Views.{message_of}
+use Rattle.mq_router.specs.delivery.Copies.{turns_at}
 use Rattle.mq_router.proofs.ServedMembers.{served-members}
 use Rattle.mq_router.proofs.delivery.members_served.Goals as goal
 

@@ -1,7 +1,7 @@
 use Rattle.std.proofs.Common.{◌≡◌, map, take}
 use Rattle.mq_world.specs.Lists.{Text}
-use Rattle.mq_router.specs.delivery.Gathers.{turns_listed}
-use Rattle.mq_router.specs.delivery.Made.{turns_at}
+use Rattle.mq_subscriptions.specs.Turns.{turns_listed}
+use Rattle.mq_router.specs.delivery.Copies.{turns_at}
 use Rattle.mq_router.proofs.delivery.members_served.Given as goal
 
 abbrev pub invariant-loop-at : goal.invariant-loop-at

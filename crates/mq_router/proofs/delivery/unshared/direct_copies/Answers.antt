@@ -3,11 +3,13 @@ use Rattle.std.specs.Option.{option_map, option_to_list}
 use Rattle.std.proofs.lemmas.List.{map-append, append-nil}
 use Rattle.std.proofs.lemmas.List.Sorted.{answers_always}
 use Rattle.mq_world.specs.Views.{copy_of}
-use Rattle.mq_router.specs.router.Held.{message_of, begin_of}
-use Rattle.mq_router.specs.sessions.Begun.{begin_with}
+use Rattle.mq_world.specs.Views.{message_of}
+use Rattle.mq_sessions.specs.Views.{begin_of}
+use Rattle.mq_sessions.specs.Queue.{begin_with}
 use Rattle.mq_world.specs.Waiting.{with_qos}
-use Rattle.mq_router.specs.delivery.Made.{copies_by, begins_by}
-use Rattle.mq_router.specs.delivery.Gathers.{matched, by_client}
+use Rattle.mq_router.specs.delivery.Copies.{copies_by, begins_by}
+use Rattle.mq_subscriptions.specs.Matches.{matched}
+use Rattle.mq_router.specs.delivery.Copies.{by_client}
 use Rattle.std.specs.Slice.Iter.{chunk_by_rest}
 use Rattle.mq_router.proofs.ClientLemmas.{next-client, sent-first, waits-first, nowhere-first}
 use Rattle.mq_router.proofs.delivery.unshared.direct_copies.Goals as goal

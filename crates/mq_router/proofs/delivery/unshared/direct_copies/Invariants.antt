@@ -1,9 +1,11 @@
 use Rattle.std.proofs.Common.{◌≡◌, ◌++◌, map}
 use Rattle.std.specs.Slice.Iter.{chunk_by_rest}
 use Rattle.mq_world.specs.Views.{copy_of}
-use Rattle.mq_router.specs.router.Held.{message_of, begin_of}
-use Rattle.mq_router.specs.delivery.Made.{copies_by, begins_by}
-use Rattle.mq_router.specs.delivery.Gathers.{matched, by_client, AreByClient}
+use Rattle.mq_world.specs.Views.{message_of}
+use Rattle.mq_sessions.specs.Views.{begin_of}
+use Rattle.mq_router.specs.delivery.Copies.{copies_by, begins_by}
+use Rattle.mq_subscriptions.specs.Matches.{matched, AreByClient}
+use Rattle.mq_router.specs.delivery.Copies.{by_client}
 use Rattle.mq_router.proofs.delivery.unshared.direct_copies.Given as goal
 
 abbrev pub invariant-loop-own : goal.invariant-loop-own

@@ -1,7 +1,7 @@
 use Rattle.std.proofs.Common.{◌∙◌, ◌∷◌, [], ap}
-use Rattle.mq_router.specs.subscriptions.Kept.{options_of}
+use Rattle.mq_world.specs.Views.{options_of}
 use Rattle.mq_router.specs.delivery.Summaries.{summary_of, together}
-use Rattle.mq_router.specs.declared.subscriptions.matches.Match.{Match}
+use Rattle.mq_subscriptions.specs.declared.subscriptions.matches.Match.{Match}
 use Rattle.mq_router.proofs.ClientLemmas.{summary-more}
 use Rattle.mq_router.proofs.delivery.unshared.summarize.Goals as goal
 

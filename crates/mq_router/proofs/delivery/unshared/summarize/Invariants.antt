@@ -1,5 +1,5 @@
 use Rattle.std.proofs.Common.{◌≡◌, map, take}
-use Rattle.mq_router.specs.subscriptions.Kept.{options_of}
+use Rattle.mq_world.specs.Views.{options_of}
 use Rattle.mq_router.specs.delivery.Summaries.{summary_of}
 use Rattle.mq_router.proofs.delivery.unshared.summarize.Given as goal
 

@@ -1,15 +1,15 @@
 use Rattle.std.proofs.Common.{◌≤◌, not, sym, subst, arith}
 use Rattle.mq_world.specs.World.{Advance}
 use Rattle.mq_router.specs.StandsFor.{State, Refuses}
-use Rattle.mq_router.specs.router.Applied.{Does, world_of}
-use Rattle.mq_router.specs.retained.Stored.{AreNear}
-use Rattle.mq_router.specs.sessions.Near.{AllReached}
+use Rattle.mq_router.specs.router.Effects.{Does, world_of}
+use Rattle.mq_retained.specs.Stored.{AreNear}
+use Rattle.mq_sessions.specs.Near.{AllReached}
 use Rattle.mq_world.specs.Sessions.{has_ended}
 use Rattle.mq_world.specs.Views.{reply_of}
-use Rattle.mq_router.specs.router.Held.{state_of}
+use Rattle.mq_router.specs.router.Views.{state_of}
 use Rattle.mq_router.proofs.RouterLemmas.{advance-refused, advance-does}
-use Rattle.mq_router.proofs.NearLemmas.{near-later}
-use Rattle.mq_router.proofs.ReachedLemmas.{reached-later}
+use Rattle.mq_retained.proofs.NearLemmas.{near-later}
+use Rattle.mq_sessions.proofs.ReachedLemmas.{reached-later}
 use Rattle.mq_world.specs.declared.refusal.Refusal.TheVariants.{ClockTooFar}
 use Rattle.mq_router.proofs.router.Router.advance.Goals as goal
 

@@ -2,7 +2,7 @@ use Rattle.std.proofs.Common.{◌≡◌, Ok, ◌∙◌, sym, ap, refl, rules, st
 use Rattle.std.specs.Option.{option_copied}
 use Rattle.mq_world.specs.Lists.{Text}
 use Rattle.mq_world.specs.World.{Request, Connect, Disconnect, Subscribe, Unsubscribe, Publish, SetAcl, Advance, Stat, Options}
-use Rattle.mq_router.specs.router.Held.{published_message}
+use Rattle.mq_router.specs.router.Views.{published_message}
 use Rattle.mq_world.specs.Views.{request_of}
 use Rattle.mq_router.proofs.RouterLemmas.{stat-does}
 use Rattle.mq_router.proofs.WorldLemmas.{applied_answers, applied_counts, none_counted}

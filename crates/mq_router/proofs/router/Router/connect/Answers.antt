@@ -3,15 +3,15 @@ use Rattle.std.specs.Option.{option_map, option_copied}
 use Rattle.mq_world.specs.Lists.{with_row}
 use Rattle.mq_world.specs.World.{Connect, Reply, session_cmp}
 use Rattle.mq_world.specs.Sessions.{new_session, resumes}
-use Rattle.mq_router.specs.sessions.Near.{AllReached}
+use Rattle.mq_sessions.specs.Near.{AllReached}
 use Rattle.mq_world.specs.Views.{copy_of, reply_of}
-use Rattle.mq_router.specs.router.Held.{state_of}
+use Rattle.mq_router.specs.router.Views.{state_of}
 use Rattle.mq_router.specs.StandsFor.{State}
-use Rattle.mq_router.specs.router.Applied.{Does}
+use Rattle.mq_router.specs.router.Effects.{Does}
 use Rattle.mq_world.specs.declared.answer.Outcome.TheVariants.{Reason}
 use Rattle.mq_router.proofs.RouterLemmas.{connect-client, connect-user, connect-does, connect_rows}
-use Rattle.mq_router.proofs.ReachedLemmas.{reached-with_row}
-use Rattle.mq_router.proofs.ResumeLemmas.{resumes-none, resumes-some, resumed-empty}
+use Rattle.mq_sessions.proofs.ReachedLemmas.{reached-with_row}
+use Rattle.mq_sessions.proofs.ResumeLemmas.{resumes-none, resumes-some, resumed-empty}
 use Rattle.mq_router.proofs.router.Router.connect.Goals as goal
 
 pub returns-then-not-is_client_id-clause-applied : goal.returns-then-not-is_client_id-clause-applied

@@ -6,10 +6,10 @@ use Rattle.mq_world.specs.World.{Subscription}
 use Rattle.mq_router.specs.StandsFor.{State}
 use Rattle.mq_world.specs.Sessions.{user_of}
 use Rattle.mq_world.specs.Retained.{asks_for_retained, retained_copies}
-use Rattle.mq_router.specs.router.Applied.{copies_sent}
-use Rattle.mq_router.specs.subscriptions.Kept.{row}
+use Rattle.mq_router.specs.router.Effects.{copies_sent}
+use Rattle.mq_subscriptions.specs.Filters.{row}
 use Rattle.mq_world.specs.Views.{copy_of}
-use Rattle.mq_router.specs.router.Held.{state_of}
+use Rattle.mq_router.specs.router.Views.{state_of}
 use Rattle.mq_router.proofs.RouterLemmas.{sent-none, sent-some}
 use Rattle.mq_router.proofs.router.Router.copies_sent.Goals as goal
 

@@ -3,13 +3,13 @@ use Rattle.std.proofs.lemmas.Result.{err_from_is_err_and}
 use Rattle.mq_world.specs.World.{Disconnect}
 use Rattle.mq_world.specs.Refusals.{first_refusal, client_conditions}
 use Rattle.mq_world.specs.World.{has_id}
-use Rattle.mq_router.specs.sessions.Near.{AllReached}
-use Rattle.mq_router.specs.router.Held.{state_of}
+use Rattle.mq_sessions.specs.Near.{AllReached}
+use Rattle.mq_router.specs.router.Views.{state_of}
 use Rattle.mq_router.specs.StandsFor.{State}
-use Rattle.mq_router.specs.router.Applied.{Does}
+use Rattle.mq_router.specs.router.Effects.{Does}
 use Rattle.mq_world.specs.Views.{reply_of}
 use Rattle.mq_router.proofs.RouterLemmas.{refused-applied, disconnect-client, disconnect-leaves, disconnect-does}
-use Rattle.mq_router.proofs.ReachedLemmas.{reached-left, reached-filter}
+use Rattle.mq_sessions.proofs.ReachedLemmas.{reached-left, reached-filter}
 use Rattle.mq_router.proofs.router.Router.disconnect.Goals as goal
 
 pub returns-in_err-check_client-clause-applied : goal.returns-in_err-check_client-clause-applied

@@ -1,6 +1,8 @@
 use Rattle.std.proofs.Common.{rules, ◌≡◌, ◌∙◌, ◌==◌, ◌<◌, ◌+◌, ◌^◌, ℕ, sym, ap, subst, map, not, length, Err, Option, None, List}
 use Rattle.std.specs.Rc.{rc_str_bytes}
-use Rattle.mq_router.specs.router.Held.{turn_of, begin_of, state_of, published_message}
+use Rattle.mq_subscriptions.specs.Turns.{turn_of}
+use Rattle.mq_sessions.specs.Views.{begin_of}
+use Rattle.mq_router.specs.router.Views.{state_of, published_message}
 use Rattle.mq_world.specs.Lists.{Text}
 use Rattle.mq_world.specs.World.{Publish, Message, Subscription}
 use Rattle.mq_world.specs.Refusals.{first_refusal, client_conditions}
@@ -8,17 +10,19 @@ use Rattle.mq_world.specs.Sessions.{user_of}
 use Rattle.mq_world.specs.Retained.{retained_after, is_full}
 use Rattle.mq_world.specs.Clock.{deadline_of}
 use Rattle.mq_world.specs.Waiting.{waiting_after, begins_to_wait}
-use Rattle.mq_router.specs.sessions.Begun.{Begin, begun_by, queued_all}
-use Rattle.mq_router.specs.sessions.Near.{AllReached}
+use Rattle.mq_sessions.specs.Queue.{Begin, queued_all}
+use Rattle.mq_router.specs.delivery.Copies.{begun_by}
+use Rattle.mq_sessions.specs.Near.{AllReached}
 use Rattle.std.specs.Option.{IfSome}
 use Rattle.mq_world.specs.Answers.{published}
 use Rattle.mq_router.specs.StandsFor.{State, Refuses}
-use Rattle.mq_router.specs.router.Applied.{Does, world_of, copies_held, begun_held, members_held, all_turned}
+use Rattle.mq_router.specs.router.Effects.{Does, world_of, copies_held, begun_held, members_held}
+use Rattle.mq_subscriptions.specs.Turns.{all_turned}
 use Rattle.mq_world.specs.Views.{reply_of}
-use Rattle.mq_router.proofs.InTurn.{same-is, same-then}
+use Rattle.mq_subscriptions.proofs.InTurn.{same-is, same-then}
 use Rattle.mq_router.proofs.RouterLemmas.{refused-applied, publish-client, publish-name, publish-write, publish-full, publish-does}
 use Rattle.mq_router.proofs.BegunLemmas.{queued-is, waits-is}
-use Rattle.mq_router.proofs.ReachedLemmas.{reached-after}
+use Rattle.mq_sessions.proofs.ReachedLemmas.{reached-after}
 use Rattle.std.proofs.lemmas.List.{length-map}
 use Rattle.std.proofs.lemmas.Result.{err_from_is_err_and}
 use Rattle.mq_acl.specs.Access.{allowed}

@@ -1,15 +1,16 @@
 use Rattle.std.proofs.Common.{◌≡◌, ◌∙◌, sym, ap, subst, Err, None}
 use Rattle.std.proofs.lemmas.Result.{err_from_is_err_and}
-use Rattle.mq_router.specs.subscriptions.Asked.{wanted_row}
+use Rattle.mq_subscriptions.specs.Wanted.{wanted_row}
 use Rattle.mq_world.specs.World.{Subscribe, Subscription, Options, asked}
 use Rattle.mq_world.specs.Lists.{Text}
 use Rattle.mq_world.specs.Refusals.{first_refusal, client_conditions}
 use Rattle.mq_router.specs.StandsFor.{State}
-use Rattle.mq_router.specs.router.Applied.{Does, joined, copies_sent}
+use Rattle.mq_router.specs.router.Effects.{Does, copies_sent}
+use Rattle.mq_subscriptions.specs.Turns.{joined}
 use Rattle.mq_world.specs.Views.{copy_of}
-use Rattle.mq_router.specs.subscriptions.Kept.{options_of}
-use Rattle.mq_router.specs.router.Held.{state_of}
-use Rattle.mq_router.proofs.InTurn.{same-is, same-then}
+use Rattle.mq_world.specs.Views.{options_of}
+use Rattle.mq_router.specs.router.Views.{state_of}
+use Rattle.mq_subscriptions.proofs.InTurn.{same-is, same-then}
 use Rattle.mq_router.proofs.RouterLemmas.{refused-applied, subscribe-client, subscribe-filter, subscribe-shared, subscribe-does}
 use Rattle.std.proofs.Common.{map, Option, Some, String, Global, is_some, ◌&&◌, refl, string_bytes}
 use Rattle.std.specs.Option.{option_map}

@@ -5,8 +5,8 @@ use Rattle.mq_world.specs.Refusals.{first_refusal, client_conditions}
 use Rattle.mq_world.specs.Answers.{reason}
 use Rattle.mq_world.specs.Views.{reply_of}
 use Rattle.mq_world.specs.declared.refusal.Refusal.TheVariants.{TopicFilter}
-use Rattle.mq_router.specs.router.Applied.{Does}
-use Rattle.mq_router.specs.router.Held.{state_of}
+use Rattle.mq_router.specs.router.Effects.{Does}
+use Rattle.mq_router.specs.router.Views.{state_of}
 use Rattle.mq_router.specs.StandsFor.{State}
 use Rattle.mq_router.proofs.RouterLemmas.{refused-applied, unsubscribe-client, unsubscribe-filter, unsubscribe-does}
 use Rattle.mq_router.proofs.router.Router.unsubscribe.Goals as goal

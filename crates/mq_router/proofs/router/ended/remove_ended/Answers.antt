@@ -3,9 +3,9 @@ use Rattle.std.specs.List.{filter}
 use Rattle.std.specs.Map.Iter.{deref_pair}
 use Rattle.std.proofs.lemmas.Map.Iter.{rest_more, rest_all}
 use Rattle.mq_world.specs.World.{Session}
-use Rattle.mq_router.specs.router.Applied.{lasts, without}
-use Rattle.mq_router.specs.router.Held.{session_in}
-use Rattle.mq_router.proofs.EndLemmas.{end-more, end-none, all-last}
+use Rattle.mq_router.specs.router.Effects.{lasts, without}
+use Rattle.mq_sessions.specs.Views.{session_in}
+use Rattle.mq_router.proofs.EndedLemmas.{end-more, end-none, all-last}
 use Rattle.mq_router.proofs.router.ended.remove_ended.Goals as goal
 
 pub returns-then-not-may_end-clause-rows : goal.returns-then-not-may_end-clause-rows

@@ -1,8 +1,8 @@
 use Rattle.std.proofs.Common.{◌≡◌, map}
 use Rattle.std.specs.List.{filter}
-use Rattle.mq_router.specs.router.Applied.{lasts}
-use Rattle.mq_router.specs.subscriptions.Kept.{AreKeys}
-use Rattle.mq_router.specs.router.Held.{session_in}
+use Rattle.mq_router.specs.router.Effects.{lasts}
+use Rattle.mq_subscriptions.specs.Filters.{AreKeys}
+use Rattle.mq_sessions.specs.Views.{session_in}
 use Rattle.mq_router.proofs.router.ended.remove_ended.Given as goal
 
 abbrev pub invariant-loop-id : goal.invariant-loop-id

@@ -1,0 +1,9 @@
+pub mod DeadlineLemmas
+pub mod RetainedLemmas
+pub mod FindLemmas
+pub mod IndexLemmas
+pub mod DueLemmas
+pub mod SendingLemmas
+pub mod NearLemmas
+pub mod MessageCounts
+pub mod FiledLemmas

@@ -1,0 +1,4 @@
+pub mod Deadlines
+pub mod Due
+pub mod Stored
+pub mod Receivers

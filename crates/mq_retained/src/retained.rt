@@ -1,0 +1,134 @@
+//! The retained messages: a tree by topic, and an index of their deadlines.
+ghost use Rattle.std.specs.Prelude.{◌≡◌, ◌+◌, ◌<◌, ◌^◌, ℕ, [], length, OnOk, OnErr, IfOk, IfSome};
+ghost use Rattle.std.specs.List.{filter};
+ghost use Rattle.mq_tree.specs.Entries.{capped};
+ghost use Rattle.mq_tree.specs.Prefixes.{prefixes};
+ghost use Rattle.mq_world.specs.Clock.{deadline_of};
+ghost use Rattle.mq_world.specs.Retained.{retained_after, unexpired, is_full};
+ghost use Rattle.mq_retained.specs.Deadlines.{is_due};
+ghost use Rattle.mq_retained.specs.Stored.{AreFiled, AreNear};
+
+mod copies;
+mod deadlines;
+mod edits;
+mod messages;
+mod stored;
+
+pub use copies::Receiver;
+use copies::copies_of;
+use deadlines::Deadlines;
+use edits::{expire, forget, has_message, is_stored, store};
+use messages::Messages;
+use mq_tree::Steps;
+use mq_world::{Delivery, Message};
+use std::alloc::{AllocError, Global};
+use std::marker::Model;
+
+/// One message for a topic, each with a deadline or none. It is seen as the list of the messages by topic in level order,
+/// with the keys of the tree and the pairs of the index.
+#[derive(Drop)]
+pub struct Retained {
+    alloc: Global,
+    tree: Messages,
+    deadlines: Deadlines,
+}
+
+impl Model for Retained {
+    ghost use Rattle.mq_retained.specs.Stored.{KeptRetained};
+
+    ghost Value = { KeptRetained };
+
+    ghost use Rattle.mq_retained.specs.Stored.{kept_retained, IsSound};
+
+    ghost view = { λ a. kept_retained a.tree a.deadlines };
+
+    ghost invariant = { λ a. IsSound a.tree a.deadlines };
+}
+
+impl Retained {
+    ghost use Rattle.mq_world.specs.Views.{message_of};
+    ghost use Rattle.mq_retained.specs.Receivers.{copies_for, steps_among};
+    ghost use Rattle.mq_world.specs.Views.{copies_in};
+
+    pub fn new(alloc: Global) -> Retained
+        ensures { result ≡ record { messages = []; keys = []; pairs = [] } }
+    {
+        Retained {
+            alloc,
+            tree: Messages::new(alloc),
+            deadlines: Deadlines::new(alloc),
+        }
+    }
+
+    /// Takes in a message that is published: with RETAIN it takes the place of the older one of its topic, or only removes
+    /// that.
+    pub fn publish(&mut self, message: &Message) -> Result<(), AllocError>
+        ensures ok { OnOk result ((moment : ℕ) → message.now.deadline ≡ deadline_of moment message.now.expiry
+            → self.new.messages ≡ retained_after moment self.old.messages (message_of message.now)) }
+        ensures filed { OnOk result (AreFiled self.old → AreFiled self.new) }
+        ensures near { OnOk result ((moment : ℕ) → IfSome message.now.deadline (λ d. d < moment + 2 ^ 32)
+            → AreNear moment self.old.messages → AreNear moment self.new.messages) }
+        ensures err { OnErr result (self.new ≡ self.old) }
+    {
+        if !message.retain {
+            return Ok(());
+        }
+        if !is_stored(message) {
+            forget(&mut self.tree, &mut self.deadlines, message.topic)?;
+            return Ok(());
+        }
+        store(self.alloc, &mut self.tree, &mut self.deadlines, message)?;
+        Ok(())
+    }
+
+    /// Removes each message whose deadline is at the moment or before it. It takes no memory.
+    pub fn advance(&mut self, moment: u64, steps: &mut Steps)
+        ensures rest { self.new.messages ≡ unexpired moment self.old.messages }
+        ensures filed { AreFiled self.new }
+        ensures count { steps.new ≡ steps.old + length (filter (is_due moment) self.old.messages) }
+    {
+        expire(&mut self.tree, &mut self.deadlines, moment, steps);
+    }
+
+    /// Whether the message would be stored for another topic, where as many are stored as may be. It takes no memory.
+    pub fn is_full(&self, limit: Option<u32>, message: &Message) -> bool
+        ensures { result ≡ is_full limit self.now.messages (message_of message.now) }
+    {
+        let Some(most) = limit else {
+            return false;
+        };
+        if !is_stored(message) || has_message(&self.tree, message.topic) {
+            return false;
+        }
+        self.len() >= most as u64
+    }
+
+    /// The copies that a client is sent, by topic in level order.
+    pub fn copies(
+        &self,
+        receiver: &Receiver,
+        steps: &mut Steps,
+    ) -> Result<Vec<Delivery>, AllocError>
+        requires { AreNear receiver.now.clock.moment self.now.messages }
+        ensures copies { IfOk result (λ copies. copies_in copies ≡ copies_for receiver.now self.now.messages) }
+        ensures count { OnOk result (steps.new ≡ steps.old + steps_among receiver.now.filter.now self.now.messages) }
+    {
+        let found = self.tree.for_filter(receiver.filter, steps)?;
+        let copies = copies_of(self.alloc, receiver, found.as_slice())?;
+        Ok(copies)
+    }
+
+    /// How many messages there are, at most `u64::MAX`. It takes no memory.
+    pub fn len(&self) -> u64
+        ensures { result ≡ capped (length self.now.messages) }
+    {
+        self.tree.len()
+    }
+
+    /// How many nodes the tree keeps, at most `u64::MAX`. It takes no memory.
+    pub fn nodes(&self) -> u64
+        ensures { result ≡ capped (length (prefixes self.now.keys)) }
+    {
+        self.tree.nodes()
+    }
+}

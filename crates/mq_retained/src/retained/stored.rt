@@ -1,0 +1,32 @@
+ghost use Rattle.std.specs.Prelude.{◌≡◌, IfOk};
+ghost use Rattle.mq_world.specs.Views.{message_of};
+ghost use Rattle.mq_retained.specs.Stored.{message_in, stored_until};
+
+use mq_topic::TopicName;
+use mq_world::Message;
+use std::alloc::{AllocError, Global};
+use std::rc::RcStr;
+
+/// The message that is retained for a topic.
+#[derive(Debug, Drop)]
+pub(crate) struct Stored {
+    pub(crate) topic: TopicName,
+    pub(crate) payload: String,
+    pub(crate) qos: u8,
+    pub(crate) publisher: RcStr,
+    pub(crate) deadline: Option<u64>,
+}
+
+impl Stored {
+    pub(crate) fn from_message(alloc: Global, message: &Message) -> Result<Stored, AllocError>
+        ensures { IfOk result (λ stored. message_in stored ≡ stored_until message.now.deadline (message_of message.now)) }
+    {
+        Ok(Stored {
+            topic: message.topic.clone()?,
+            payload: String::from_str(alloc, message.payload)?,
+            qos: message.qos,
+            publisher: message.publisher.clone()?,
+            deadline: message.deadline,
+        })
+    }
+}

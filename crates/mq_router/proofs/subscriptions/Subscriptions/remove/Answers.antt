@@ -1,5 +1,0 @@
-use Rattle.mq_router.proofs.FiledLemmas.{kept-keys}
-use Rattle.mq_router.proofs.subscriptions.Subscriptions.remove.Goals as goal
-
-pub returns-clause-keys : goal.returns-clause-keys
-returns-clause-keys c = kept-keys c.take_out.new.tree c.take_out.ensures.listed.kept

@@ -1,0 +1,5 @@
+pub mod SessionLemmas
+pub mod ReachedLemmas
+pub mod ResumeLemmas
+pub mod QueueLemmas
+pub mod EndLemmas

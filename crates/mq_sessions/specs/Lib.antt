@@ -1,0 +1,6 @@
+pub mod Views
+pub mod Ways
+pub mod Queue
+pub mod Ends
+pub mod Near
+pub mod Resumed

@@ -1,0 +1,33 @@
+-- The copies that a publish lets wait, each with its client, and the sessions when they have joined those that wait.
+use Rattle.std.specs.Prelude.{ℕ, Bool, false, List, [], ◌∷◌, map, Option, if◌then◌else◌}
+use Rattle.std.specs.Option.{option_map_or}
+use Rattle.mq_world.specs.Lists.{Text}
+use Rattle.mq_world.specs.World.{Session, Waiting, Copy, has_id}
+use Rattle.mq_world.specs.Sessions.{session_of}
+use Rattle.mq_world.specs.Waiting.{has_place, has_room, with_waiting}
+
+-- the client has a session, it is away, and fewer copies wait for it than may
+abbrev pub room_for : ℕ → List Session → Text → Bool
+room_for limit sessions id = option_map_or (has_room limit) (session_of sessions id) false
+
+-- a client and what begins to wait for it
+abbrev pub Begin : Type 0
+Begin = Text × List Waiting
+
+abbrev pub begin_with : Text → Option ℕ → Copy → Begin
+begin_with id deadline copy = (id, record { copy = copy; deadline = deadline } ∷ [])
+
+-- the session with these copies behind those that wait, if there is a place
+abbrev pub queued : ℕ → List Waiting → Session → Session
+queued limit waiting session = if has_place limit session then with_waiting session waiting else session
+
+-- the session, if it is that of the client, as this changes it
+abbrev pub edited : (Session → Session) → Text → Session → Session
+edited f id session = if has_id id session then f session else session
+
+abbrev pub queued_one : ℕ → Begin → List Session → List Session
+queued_one limit b sessions = map (edited (queued limit b.1) b.0) sessions
+
+abbrev pub queued_all : ℕ → List Begin → List Session → List Session
+queued_all limit [] sessions = sessions
+queued_all limit (b ∷ bs) sessions = queued_all limit bs (queued_one limit b sessions)

@@ -1,0 +1,198 @@
+//! The sessions of the clients, of those that are connected and of those that are away.
+ghost use Rattle.std.specs.Prelude.{◌≡◌, [], length, not, is_some, false, OnOk, OnErr, IfOk, IfSome, map, string_bytes};
+ghost use Rattle.std.specs.Option.{option_copied, option_map};
+ghost use Rattle.std.specs.List.{filter, AllByRecursion};
+ghost use Rattle.std.specs.Rc.{rc_str_bytes};
+ghost use Rattle.std.specs.List.Sorted.{IsStrictlySortedBy};
+ghost use Rattle.mq_world.specs.Lists.{with_row};
+ghost use Rattle.mq_world.specs.World.{has_id, session_cmp};
+ghost use Rattle.mq_world.specs.Sessions.{new_session, session_of, is_connected, user_of, outlives, left_by, has_ended};
+ghost use Rattle.mq_sessions.specs.Resumed.{resumed};
+ghost use Rattle.mq_sessions.specs.Queue.{queued_one, queued_all};
+ghost use Rattle.mq_sessions.specs.Near.{AllReached};
+ghost use Rattle.mq_world.specs.Views.{copy_of};
+
+mod edits;
+mod first_end;
+mod found;
+pub(crate) mod queue;
+pub(crate) mod queued;
+mod resume;
+pub(crate) mod session;
+
+use crate::clock::Clock;
+use crate::sessions::queued::Begun;
+use crate::sessions::session::Session;
+use edits::{end, join, leave};
+use first_end::{earlier, first_end, is_over};
+use found::{connected, find, learn_order, outlives, user_in, waited_copies};
+use mq_world::Delivery;
+use std::alloc::{AllocError, Global};
+use std::collections::BTreeMap;
+use std::marker::Model;
+use std::rc::RcStr;
+
+/// The sessions, by client id, and a moment before which none of them ends, if any ends.
+#[derive(Debug, Drop)]
+pub struct Sessions {
+    by_id: BTreeMap<RcStr, Session>,
+    first_end: Option<u64>,
+}
+
+impl Model for Sessions {
+    ghost use Rattle.std.specs.Prelude.{List};
+    ghost use Rattle.mq_world.specs.World.{Session};
+
+    ghost Value = { List Session };
+
+    ghost use Rattle.mq_sessions.specs.Views.{sessions_of};
+    ghost use Rattle.mq_sessions.specs.Ends.{AllEndFrom};
+
+    ghost view = { sessions_of };
+
+    ghost invariant = { λ a. AllEndFrom a.first_end (sessions_of a) };
+}
+
+impl Sessions {
+    ghost use Rattle.mq_sessions.specs.Views.{begin_of, session_at, session_in};
+
+    pub fn new(alloc: Global) -> Self
+        ensures { result ≡ [] }
+    {
+        Sessions {
+            by_id: BTreeMap::new(alloc),
+            first_end: None,
+        }
+    }
+
+    /// How many clients have a session.
+    pub fn len(&self) -> usize
+        ensures len { result ≡ length self.now }
+        ensures ordered { IsStrictlySortedBy session_cmp self.now }
+    {
+        learn_order(&self.by_id);
+        self.by_id.len()
+    }
+
+    /// The id of a client that is connected, as its session keeps it.
+    pub fn connected(&self, id: &str) -> Option<&RcStr>
+        ensures connected { is_some result ≡ is_connected self.now id.now }
+        ensures same { IfSome result (λ key. rc_str_bytes key.now ≡ id.now) }
+    {
+        connected(&self.by_id, id)
+    }
+
+    /// The user name of a client with a session, if it has one.
+    pub fn user(&self, id: &str) -> Option<&str>
+        ensures { option_copied result ≡ user_of self.now id.now }
+    {
+        user_in(&self.by_id, id)
+    }
+
+    /// Whether the client has a session that stays when its connection ends.
+    pub fn outlives(&self, id: &str) -> bool
+        ensures { result ≡ outlives self.now id.now }
+    {
+        outlives(&self.by_id, id)
+    }
+
+    /// The session of a client, if it has one.
+    pub fn get(&self, id: &str) -> Option<&Session>
+        ensures { option_map (λ session. session_at id.now session.now) result ≡ session_of self.now id.now }
+    {
+        find(&self.by_id, id)
+    }
+
+    /// The copies that waited for a client that connects, if it resumes its session.
+    pub fn resumed_copies(
+        &self,
+        alloc: Global,
+        clock: Clock,
+        id: &str,
+        clean: bool,
+    ) -> Result<Option<Vec<Delivery>>, AllocError>
+        requires { AllReached clock.moment self.now }
+        ensures { IfOk result (λ copies. option_map (λ list. map copy_of list.items) copies ≡ resumed clock.moment self.now id.now clean) }
+    {
+        if clean {
+            return Ok(None);
+        }
+        waited_copies(alloc, clock, &self.by_id, id)
+    }
+
+    /// Adds the session of a client that connects, in place of an older one.
+    pub fn put(
+        &mut self,
+        alloc: Global,
+        id: RcStr,
+        user: Option<String>,
+        interval: u32,
+    ) -> Result<(), AllocError>
+        ensures ok { OnOk result (self.new
+            ≡ with_row session_cmp (new_session (rc_str_bytes id) (option_map string_bytes user) interval) self.old) }
+        ensures err { OnErr result (self.new ≡ self.old) }
+    {
+        let session = Session::new(alloc, user, interval);
+        self.by_id.insert(id, session)?;
+        Ok(())
+    }
+
+    /// The connection of a client ends, and its session stays. It takes no memory.
+    pub fn leave(&mut self, id: &str, clock: Clock)
+        ensures { self.new ≡ map (left_by clock.moment id.now) self.old }
+    {
+        let end = leave(&mut self.by_id, id, clock);
+        self.first_end = earlier(self.first_end, end);
+    }
+
+    pub fn remove(&mut self, id: &str)
+        ensures { self.new ≡ filter (λ session. not (has_id id.now session)) self.old }
+    {
+        // Learns that the keys are in order.
+        let _count = self.by_id.len();
+        let _ = self.by_id.remove(id);
+    }
+
+    /// Ends the sessions that are due; where none is, it looks at none. It takes no memory.
+    pub fn end(&mut self, moment: u64)
+        ensures { self.new ≡ filter (λ session. not (has_ended moment session)) self.old }
+    {
+        if !is_over(moment, self.first_end) {
+            return;
+        }
+        end(&mut self.by_id, moment);
+        self.first_end = first_end(&self.by_id);
+    }
+
+    // One more copy waits for a client.
+    fn join(&mut self, limit: u32, begun: Begun)
+        ensures { self.new ≡ queued_one limit (begin_of begun) self.old }
+    {
+        join(&mut self.by_id, limit, begun);
+    }
+
+    /// The copies begin to wait, each where fewer wait than may. It takes no memory.
+    pub fn join_all(&mut self, limit: u32, all: Vec<Begun>)
+        ensures new { self.new ≡ queued_all limit (map begin_of all.items) self.old }
+        ensures ordered { IsStrictlySortedBy session_cmp self.old }
+    {
+        learn_order(&self.by_id);
+        for begun in all {
+            self.join(limit, begun);
+        }
+    }
+
+    /// Whether one may have ended at this moment; if not, none has.
+    pub fn may_end(&self, moment: u64) -> bool
+        ensures { result ≡ false → AllByRecursion (λ session. has_ended moment session ≡ false) self.now }
+    {
+        is_over(moment, self.first_end)
+    }
+
+    /// The sessions, by client id.
+    pub fn by_id(&self) -> &BTreeMap<RcStr, Session>
+        ensures { map session_in result.now.entries ≡ self.now }
+    {
+        &self.by_id
+    }
+}

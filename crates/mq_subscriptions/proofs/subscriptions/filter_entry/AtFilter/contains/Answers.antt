@@ -1,0 +1,20 @@
+use Rattle.std.proofs.Common.{◌≡◌, ◌∙◌, subst}
+use Rattle.std.specs.Option.{option_copied}
+use Rattle.std.specs.List.{list_any}
+use Rattle.mq_world.specs.World.{has_key}
+use Rattle.mq_subscriptions.specs.Filters.{At}
+use Rattle.mq_subscriptions.specs.Views.{texts}
+use Rattle.mq_subscriptions.proofs.AtLemmas.{at-any-own, at-any-shared}
+use Rattle.mq_subscriptions.proofs.subscriptions.filter_entry.AtFilter.contains.Goals as goal
+
+pub returns-in-None : goal.returns-in-None
+returns-in-None c =
+    let f = c.self.inside.filter.value in
+    subst (λ (a : At). c.has_direct.result ≡ list_any (has_key c.args.client.now (option_copied c.args.share) a.filter) a.rows) c.self.view_is
+    (rw c.in-None.is (c.has_direct.ensures f ∙ at-any-own f c.args.client.now (texts c.self.inside.direct.entries) (texts c.self.inside.groups.entries)))
+
+pub returns-in-Some : goal.returns-in-Some
+returns-in-Some c =
+    let f = c.self.inside.filter.value in
+    subst (λ (a : At). c.has_member.result ≡ list_any (has_key c.args.client.now (option_copied c.args.share) a.filter) a.rows) c.self.view_is
+    (rw c.in-Some.is (c.has_member.ensures f ∙ at-any-shared f c.args.client.now c.in-Some.share.now (texts c.self.inside.direct.entries) (texts c.self.inside.groups.entries)))

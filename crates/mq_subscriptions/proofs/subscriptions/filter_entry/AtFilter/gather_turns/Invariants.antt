@@ -1,0 +1,12 @@
+use Rattle.std.proofs.Common.{◌≡◌, ◌++◌}
+use Rattle.mq_world.specs.Lists.{Text}
+use Rattle.mq_subscriptions.specs.Turns.{next_in}
+use Rattle.mq_subscriptions.specs.Views.{texts}
+use Rattle.mq_subscriptions.specs.Turns.{turns_listed}
+use Rattle.mq_subscriptions.specs.Turns.{turns_of}
+use Rattle.mq_subscriptions.proofs.TurnsAtLemmas.{turns_left}
+use Rattle.mq_subscriptions.proofs.subscriptions.filter_entry.AtFilter.gather_turns.Given as goal
+
+abbrev pub invariant-loop-share : goal.invariant-loop-share
+invariant-loop-share l =
+    (share : Text) → turns_listed share l.turns.items ++ turns_left l.readers.access.now l.readers.sessions.now l.name l.self.filter share (texts l.share-iterator) ≡ turns_listed share l.initial.turns.items ++ turns_of (next_in l.readers.access.now l.readers.sessions.now l.self.rows l.name (record { share = share; filter = l.self.filter }))

@@ -1,0 +1,126 @@
+-- What is kept at one filter, and at all of them.
+use Rattle.std.specs.Prelude.{◌≡◌, Bool, true, false, List, [], ◌∷◌, map, Option, Some, None, string_bytes, ◌&&◌}
+use Rattle.std.specs.List.{filter, flat_map, list_any, AllByRecursion}
+use Rattle.std.specs.Map.{lookup}
+use Rattle.std.specs.Option.{option_map, option_map_or}
+use Rattle.std.specs.List.Sorted.{IsStrictlySortedBy}
+use Rattle.std.specs.Ordering.{nat_cmp, is_eq}
+use Rattle.std.specs.Cmp.Lexicographic.{slice_cmp}
+use Rattle.mq_topic.specs.Levels.{levels, level_order}
+use Rattle.mq_topic.specs.Texts.{share_of, filter_part}
+use Rattle.mq_world.specs.Lists.{Text, same_text}
+use Rattle.mq_topic.specs.declared.subscription.SubFilter.{SubFilter}
+use Rattle.mq_tree.specs.Entries.{AreInOrder}
+use Rattle.mq_world.specs.Copies.{filter_matches}
+use Rattle.mq_world.specs.World.{Subscription, same_key, same_share}
+use Rattle.mq_world.specs.Counts.{filters_among}
+use Rattle.mq_world.specs.Views.{options_of}
+use Rattle.mq_world.specs.declared.options.Options.{Options}
+
+-- a client and what its subscription asks for
+abbrev pub Member : Type 0
+Member = Text × Options
+
+abbrev pub has_client : Text → Member → Bool
+has_client client m = same_text m.0 client
+
+-- the subscription of a member
+abbrev pub row : Option Text → Text → Member → Subscription
+row share filter m = record { client = m.0; share = share; filter = filter; options = options_of m.1 }
+
+-- a filter, and the subscriptions to it
+pub record At : Type 0 where
+  pub filter : Text
+  pub rows : List Subscription
+
+abbrev pub is_empty : {X : Type 0} → List X → Bool
+is_empty [] = true
+is_empty (x ∷ xs) = false
+
+-- each subscription is to the filter
+abbrev pub AreHere : At → Type 0
+AreHere a = AllByRecursion (λ s. s.filter ≡ a.filter) a.rows
+
+-- the key of a map is the text
+abbrev pub is_text : Text → Text → Bool
+is_text text key = is_eq (slice_cmp nat_cmp text key)
+
+abbrev pub direct_rows : Text → List Member → List Subscription
+direct_rows f ms = map (row None f) ms
+
+abbrev pub group_rows : Text → List (Text × List Member) → List Subscription
+group_rows f groups = flat_map (λ g. map (row (Some g.0) f) g.1) groups
+
+-- no group is without a member
+abbrev pub NoneEmpty : List (Text × List Member) → Type 0
+NoneEmpty groups = AllByRecursion (λ g. is_empty g.1 ≡ false) groups
+
+-- ## All filters
+
+abbrev pub AtEntries : Type 0
+AtEntries = List (List Text × At)
+
+-- what stands at a key is to its filter, and something
+pub record IsKept (key : List Text) (a : At) : Type 0 where
+  pub key_is : key ≡ levels a.filter
+  pub here : AreHere a
+  pub live : is_empty a.rows ≡ false
+
+abbrev pub AllKept : AtEntries → Type 0
+AllKept es = AllByRecursion (λ e. IsKept e.0 e.1) es
+
+-- so at each key, and the keys are in order
+pub record AreKept (es : AtEntries) : Type 0 where
+  pub each : AllKept es
+  pub ordered : AreInOrder es
+
+abbrev pub all_rows : AtEntries → List Subscription
+all_rows es = flat_map (λ (e : List Text × At). e.1.rows) es
+
+-- what the subscriptions show: themselves, and the keys of their tree
+pub record KeptSubscriptions : Type 0 where
+  pub rows : List Subscription
+  pub keys : List (List Text)
+
+abbrev pub kept_at : AtEntries → KeptSubscriptions
+kept_at es = record { rows = all_rows es; keys = map (λ e. e.0) es }
+
+-- the keys are the filters of the subscriptions
+abbrev pub AreKeys : KeptSubscriptions → Type 0
+AreKeys kept = kept.keys ≡ filters_among kept.rows
+
+-- what is found for a name: matching filters in level order, each with what is to it
+pub record AreAtFilters (topic : Text) (found : List At) : Type 0 where
+  pub ordered : IsStrictlySortedBy level_order (map (λ a. levels a.filter) found)
+  pub here : AllByRecursion AreHere found
+  pub match : AllByRecursion (λ a. filter_matches a.filter topic ≡ true) found
+
+-- ## What each client has
+
+-- a share name or none, and a filter
+abbrev pub OwnKey : Type 0
+OwnKey = Option Text × Text
+
+abbrev pub wanted_key : SubFilter → OwnKey
+wanted_key wanted = (option_map string_bytes wanted.share, wanted.filter)
+
+-- that of a subscription's text
+abbrev pub text_key : Text → OwnKey
+text_key text = (share_of text, filter_part text)
+
+abbrev pub is_own : Subscription → OwnKey → Bool
+is_own s key = same_share s.share key.0 && same_text s.filter key.1
+
+-- the subscription is one of these
+abbrev pub is_in_list : List OwnKey → Subscription → Bool
+is_in_list list s = list_any (is_own s) list
+
+-- the subscription is in the list of its client
+abbrev pub is_listed : List (Text × List OwnKey) → Subscription → Bool
+is_listed lists s = option_map_or (λ list. is_in_list list s) (lookup (is_text s.client) lists) false
+
+-- the tree, with a list for each client that has subscriptions: in it stand those, and no others
+pub record AreListed (es : AtEntries) (lists : List (Text × List OwnKey)) : Type 0 where
+  pub kept : AreKept es
+  pub listed : (s : Subscription) → is_listed lists s ≡ list_any (same_key s) (all_rows es)
+  pub live : AllByRecursion (λ l. is_empty l.1 ≡ false) lists

@@ -1,0 +1,31 @@
+-- What the subscriptions' own values show.
+use Rattle.std.specs.Prelude.{List, map, ◌++◌}
+use Rattle.std.specs.Rc.{rc_str_bytes}
+use Rattle.mq_world.specs.Keys.{Key}
+use Rattle.mq_world.specs.Lists.{Text}
+use Rattle.mq_subscriptions.specs.Filters.{Member, At, direct_rows, group_rows, NoneEmpty, AreListed, KeptSubscriptions, kept_at}
+use Rattle.mq_subscriptions.specs.declared.subscriptions.group.Group.TheInside as in_group
+use Rattle.mq_subscriptions.specs.declared.subscriptions.filter_entry.AtFilter.TheInside as in_at
+use Rattle.mq_subscriptions.specs.declared.subscriptions.Subscriptions.TheInside as in_subscriptions
+
+-- the entries of a map from texts
+abbrev pub texts : {X : Type 0} → List (Key × X) → List (Text × X)
+texts es = map (λ e. (rc_str_bytes e.0, e.1)) es
+
+abbrev pub members_of : in_group.Inside → List Member
+members_of inside = texts inside.members.entries
+
+abbrev pub at_of : in_at.Inside → At
+at_of inside = record {
+  filter = inside.filter.value;
+  rows = direct_rows inside.filter.value (texts inside.direct.entries) ++ group_rows inside.filter.value (texts inside.groups.entries);
+}
+
+abbrev pub GroupsLive : in_at.Inside → Type 0
+GroupsLive inside = NoneEmpty (texts inside.groups.entries)
+
+abbrev pub subscriptions_of : in_subscriptions.Inside → KeptSubscriptions
+subscriptions_of inside = kept_at inside.tree
+
+abbrev pub AreSubscriptions : in_subscriptions.Inside → Type 0
+AreSubscriptions inside = AreListed inside.tree (texts inside.lists.entries)

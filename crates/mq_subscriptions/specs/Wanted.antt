@@ -1,0 +1,43 @@
+-- Words of the contracts: what a client asks for, and what stands in its list.
+use Rattle.std.specs.Prelude.{◌≡◌, Bool, true, false, ◌&&◌, ◌||◌, not, List, string_bytes}
+use Rattle.std.specs.Option.{option_map}
+use Rattle.std.specs.List.{AllByRecursion}
+use Rattle.mq_topic.specs.Texts.{is_subscription, share_of, filter_part}
+use Rattle.mq_topic.specs.declared.subscription.SubFilter.{SubFilter}
+use Rattle.mq_world.specs.Keys.{Key}
+use Rattle.mq_world.specs.Lists.{Text}
+use Rattle.mq_world.specs.World.{Subscription, has_key}
+use Rattle.mq_subscriptions.specs.Filters.{OwnKey, row, is_empty, is_listed}
+use Rattle.mq_subscriptions.specs.Views.{texts}
+use Rattle.mq_world.specs.declared.options.Options.{Options}
+
+-- the text is a valid subscription's, and this is its share name and its filter
+abbrev pub IsAskedBy : Text → SubFilter → Type 0
+IsAskedBy text wanted =
+    (option_map string_bytes wanted.share ≡ share_of text) × (wanted.filter ≡ filter_part text) × (is_subscription text ≡ true)
+
+abbrev pub wanted_row : Text → SubFilter → Options → Subscription
+wanted_row client wanted options = row (option_map string_bytes wanted.share) wanted.filter (client, options)
+
+-- the subscription is the client's, with this share name and filter
+abbrev pub has_wanted : Text → SubFilter → Subscription → Bool
+has_wanted client wanted s = has_key client (option_map string_bytes wanted.share) wanted.filter s
+
+-- the subscription is the client's, with this text
+abbrev pub has_asked : Text → Text → Subscription → Bool
+has_asked client text s = has_key client (share_of text) (filter_part text) s
+
+abbrev pub OwnLists : Type 0
+OwnLists = List (Key × List OwnKey)
+
+-- the lists have the key too, or no longer
+abbrev pub ListsMore : Text → OwnKey → OwnLists → OwnLists → Type 0
+ListsMore client key old new =
+    (s : Subscription) → is_listed (texts new) s ≡ (has_key client key.0 key.1 s || is_listed (texts old) s)
+
+abbrev pub ListsLess : Text → OwnKey → OwnLists → OwnLists → Type 0
+ListsLess client key old new =
+    (s : Subscription) → is_listed (texts new) s ≡ (not (has_key client key.0 key.1 s) && is_listed (texts old) s)
+
+abbrev pub NoneEmptied : OwnLists → Type 0
+NoneEmptied lists = AllByRecursion (λ l. is_empty l.1 ≡ false) (texts lists)

@@ -1,0 +1,9 @@
+//! The subscriptions of all clients, by filter with the groups, and by client.
+#![tactic(auto)]
+
+mod subscriptions;
+
+pub use subscriptions::Subscriptions;
+pub use subscriptions::filter_entry::AtFilter;
+pub use subscriptions::matches::{Match, sort_by_client};
+pub use subscriptions::turn::{Turn, sort_by_share};

@@ -1,0 +1,406 @@
+//! The subscriptions of all clients.
+ghost use Rattle.std.specs.Prelude.{◌≡◌, ◌+◌, [], length, not, IsTrue, OnOk, OnErr, IfOk, map};
+ghost use Rattle.std.specs.Option.{option_map};
+ghost use Rattle.std.specs.Rc.{rc_str_bytes};
+ghost use Rattle.std.specs.List.{filter, list_any, flat_map};
+ghost use Rattle.mq_topic.specs.Texts.{is_subscription};
+ghost use Rattle.mq_tree.specs.Entries.{capped};
+ghost use Rattle.mq_tree.specs.Prefixes.{prefixes, met_by_name};
+ghost use Rattle.mq_world.specs.Lists.{same_text};
+ghost use Rattle.mq_world.specs.World.{has_key};
+ghost use Rattle.mq_subscriptions.specs.Wanted.{wanted_row, has_wanted, has_asked, ListsMore, ListsLess, NoneEmptied, IsAskedBy};
+ghost use Rattle.mq_subscriptions.specs.Matches.{seen};
+ghost use Rattle.mq_subscriptions.specs.Matches.{rows_found};
+ghost use Rattle.mq_world.specs.Copies.{filter_matches};
+ghost use Rattle.mq_world.specs.Retained.{asks_for_retained};
+ghost use Rattle.mq_world.specs.Turns.{SameInTurn};
+ghost use Rattle.mq_subscriptions.specs.Turns.{joined, put_last, all_turned};
+ghost use Rattle.mq_subscriptions.specs.Turns.{turn_of};
+ghost use Rattle.mq_subscriptions.specs.Filters.{row, At, AreKeys};
+
+pub(crate) mod client_filters;
+pub(crate) mod filter_entry;
+pub(crate) mod group;
+pub(crate) mod matches;
+pub(crate) mod turn;
+
+use crate::subscriptions::client_filters::Own;
+use crate::subscriptions::filter_entry::AtFilter;
+use crate::subscriptions::turn::Turn;
+use mq_topic::{SubFilter, TopicFilter, TopicName};
+use mq_tree::{LevelTree, Steps};
+use mq_world::Options;
+use std::alloc::{AllocError, Global};
+use std::collections::BTreeMap;
+use std::marker::Model;
+use std::rc::{Rc, RcStr};
+
+/// The subscriptions, by their filters, and for each client that has any its own, so that its end walks no other's.
+#[derive(Drop)]
+pub struct Subscriptions {
+    alloc: Global,
+    tree: LevelTree<AtFilter>,
+    lists: BTreeMap<RcStr, Own>,
+}
+
+impl Model for Subscriptions {
+    ghost use Rattle.mq_subscriptions.specs.Filters.{KeptSubscriptions};
+
+    ghost Value = { KeptSubscriptions };
+
+    ghost use Rattle.mq_subscriptions.specs.Views.{subscriptions_of, AreSubscriptions};
+
+    ghost view = { subscriptions_of };
+
+    ghost invariant = { AreSubscriptions };
+}
+
+impl Subscriptions {
+    pub fn new(alloc: Global) -> Self
+        ensures { result ≡ record { rows = []; keys = [] } }
+    {
+        Subscriptions {
+            alloc,
+            tree: LevelTree::new(alloc),
+            lists: BTreeMap::new(alloc),
+        }
+    }
+
+    pub fn contains(&self, client: &str, wanted: &SubFilter) -> bool
+        ensures { result ≡ list_any (has_wanted client.now wanted.now) self.now.rows }
+    {
+        contains_in(&self.tree, client, wanted)
+    }
+
+    /// Whether a subscribe is sent retained messages.
+    pub fn asks_for_retained(&self, client: &str, wanted: &SubFilter, options: Options) -> bool
+        ensures { result ≡ asks_for_retained self.now.rows (wanted_row client.now wanted.now options) }
+    {
+        if wanted.share.is_some() {
+            return false;
+        }
+        match options.handling {
+            0 => true,
+            1 => !self.contains(client, wanted),
+            _ => false,
+        }
+    }
+
+    /// Adds the subscription with this text, in the place of the one with its key.
+    pub fn put(
+        &mut self,
+        client: &RcStr,
+        text: &str,
+        wanted: &SubFilter,
+        options: Options,
+    ) -> Result<(), AllocError>
+        requires { IsAskedBy text.now wanted.now }
+        ensures ok { OnOk result (SameInTurn self.new.rows
+            (joined (wanted_row (rc_str_bytes client.now) wanted.now options) self.old.rows)) }
+        ensures keys { OnOk result (AreKeys self.new) }
+        ensures err { OnErr result (self.new ≡ self.old) }
+    {
+        put_in(
+            &mut self.tree,
+            &mut self.lists,
+            self.alloc,
+            client,
+            text,
+            wanted,
+            options,
+        )
+    }
+
+    /// Takes the subscription with this text out, and says whether there was one. It takes no memory.
+    pub fn remove(&mut self, client: &str, text: &str) -> bool
+        requires { IsTrue (is_subscription text.now) }
+        ensures existed { result ≡ list_any (has_asked client.now text.now) self.old.rows }
+        ensures rows { self.new.rows ≡ filter (λ s. not (has_asked client.now text.now s)) self.old.rows }
+        ensures keys { AreKeys self.new }
+    {
+        take_out(&mut self.tree, &mut self.lists, client, text)
+    }
+
+    /// Takes a client's subscriptions out, and no other is looked at. It takes no memory.
+    pub fn remove_client(&mut self, client: &str)
+        ensures rows { self.new.rows ≡ filter (λ s. not (same_text s.client client.now)) self.old.rows }
+        ensures keys { AreKeys self.new }
+    {
+        take_all(&mut self.tree, &mut self.lists, client);
+    }
+
+    /// What is kept at the filters that match the name, in level order of the filters.
+    pub fn candidates(
+        &self,
+        name: &TopicName,
+        steps: &mut Steps,
+    ) -> Result<Vec<&AtFilter>, AllocError>
+        ensures rows { IfOk result (λ found. rows_found (seen found.items) ≡ filter (λ s. filter_matches s.filter name.now) self.now.rows) }
+        ensures order { IfOk result (λ found. AreAtFilters name.now (seen found.items)) }
+        ensures count { OnOk result (steps.new ≡ steps.old + length (met_by_name (levels name.now) (prefixes self.now.keys))) }
+    {
+        Ok(self.tree.for_name(name, steps)?)
+    }
+
+    /// A member of a group goes last. It takes no memory.
+    pub fn serve(&mut self, share: &str, wanted: &TopicFilter, client: &str)
+        ensures rows { SameInTurn self.new.rows (put_last (has_key client.now (Some share.now) wanted.now) self.old.rows) }
+        ensures keys { AreKeys self.new }
+    {
+        serve_in(&mut self.tree, share, wanted, client);
+    }
+
+    /// Each member that was served goes last in its group. It takes no memory.
+    pub fn serve_all(&mut self, served: &[Turn])
+        ensures rows { SameInTurn self.new.rows (all_turned (map turn_of served.now) self.old.rows) }
+        ensures keys { AreKeys self.old → AreKeys self.new }
+    {
+        for turn in served {
+            self.serve(turn.share.as_str(), &turn.filter, turn.client.as_str());
+        }
+    }
+
+    /// How many subscriptions there are, at most `u64::MAX`, by a walk over the tree. It takes no memory.
+    pub fn len(&self) -> u64
+        ensures { result ≡ capped (length self.now.rows) }
+    {
+        self.tree.total()
+    }
+
+    /// How many nodes the tree keeps, at most `u64::MAX`. It takes no memory.
+    pub fn nodes(&self) -> u64
+        ensures { result ≡ capped (length (prefixes self.now.keys)) }
+    {
+        self.tree.nodes()
+    }
+}
+
+ghost use Rattle.std.specs.Prelude.{Some, true, false, IsSome, None};
+ghost use Rattle.std.specs.Map.{lookup};
+ghost use Rattle.mq_topic.specs.Levels.{levels};
+ghost use Rattle.mq_tree.specs.Entries.{is_key};
+ghost use Rattle.mq_subscriptions.specs.Filters.{all_rows, AreKept, AreAtFilters, is_listed};
+ghost use Rattle.mq_subscriptions.specs.Views.{texts};
+ghost use Rattle.mq_world.specs.World.{Subscription};
+
+fn contains_in(tree: &LevelTree<AtFilter>, client: &str, wanted: &SubFilter) -> bool
+    requires { AreKept tree.now }
+    ensures { result ≡ list_any (has_wanted client.now wanted.now) (all_rows tree.now) }
+{
+    match tree.get(&wanted.filter) {
+        Some(at) => at.contains(wanted.share.as_deref(), client),
+        None => false,
+    }
+}
+
+fn join_in(
+    tree: &mut LevelTree<AtFilter>,
+    alloc: Global,
+    client: &RcStr,
+    wanted: &SubFilter,
+    options: Options,
+) -> Result<(), AllocError>
+    requires { AreKept tree.old }
+    ensures ok { OnOk result (SameInTurn (all_rows tree.new) (joined (wanted_row (rc_str_bytes client.now) wanted.now options) (all_rows tree.old))) }
+    ensures err { OnErr result (tree.new ≡ tree.old) }
+    ensures kept { AreKept tree.new }
+{
+    let client = client.clone()?;
+    match tree.get_mut(&wanted.filter) {
+        Some(at) => {
+            at.join(alloc, wanted.share.as_deref(), client, options)?;
+            Ok(())
+        }
+        None => add_in(tree, alloc, client, wanted, options),
+    }
+}
+
+// A filter with one subscription, made aside.
+fn add_in(
+    tree: &mut LevelTree<AtFilter>,
+    alloc: Global,
+    client: RcStr,
+    wanted: &SubFilter,
+    options: Options,
+) -> Result<(), AllocError>
+    requires kept { AreKept tree.old }
+    requires absent { lookup (is_key (levels wanted.now.filter)) tree.old ≡ None }
+    ensures ok { OnOk result (SameInTurn (all_rows tree.new) (joined (wanted_row (rc_str_bytes client) wanted.now options) (all_rows tree.old))) }
+    ensures err { OnErr result (tree.new ≡ tree.old) }
+    ensures kept { AreKept tree.new }
+{
+    let filter = Rc::new(alloc, wanted.filter.clone()?)?;
+    let mut at = AtFilter::new(alloc, filter);
+    at.join(alloc, wanted.share.as_deref(), client, options)?;
+    tree.put(&wanted.filter, at)?;
+    Ok(())
+}
+
+// Takes a subscription out, and the filter with its last one; says whether there was one.
+fn leave_in(tree: &mut LevelTree<AtFilter>, client: &str, text: &str) -> bool
+    requires kept { AreKept tree.old }
+    requires valid { IsTrue (is_subscription text.now) }
+    ensures existed { result ≡ list_any (has_asked client.now text.now) (all_rows tree.old) }
+    ensures rows { all_rows tree.new ≡ filter (λ s. not (has_asked client.now text.now s)) (all_rows tree.old) }
+    ensures kept { AreKept tree.new }
+{
+    let (share, filter) = SubFilter::split(text);
+    let Some(at) = tree.get_mut(&filter) else {
+        return false;
+    };
+    let existed = at.contains(share, client);
+    at.leave(share, client);
+    if at.is_bare() {
+        let _ = tree.take(&filter);
+    }
+    existed
+}
+
+fn serve_in(tree: &mut LevelTree<AtFilter>, share: &str, wanted: &TopicFilter, client: &str)
+    requires { AreKept tree.old }
+    ensures turned { SameInTurn (all_rows tree.new) (put_last (has_key client.now (Some share.now) wanted.now) (all_rows tree.old)) }
+    ensures kept { AreKept tree.new }
+{
+    match tree.get_mut(wanted) {
+        Some(at) => at.serve(share, client),
+        None => {}
+    }
+}
+
+ghost use Rattle.std.specs.Prelude.{◌&&◌, ◌||◌};
+ghost use Rattle.std.specs.List.{AllByRecursion};
+ghost use Rattle.mq_subscriptions.specs.Filters.{AreListed, is_empty, is_in_list, is_text, OwnKey};
+
+// Where there is no memory, nothing is left beside the tree that leads to no subscription.
+fn put_in(
+    tree: &mut LevelTree<AtFilter>,
+    lists: &mut BTreeMap<RcStr, Own>,
+    alloc: Global,
+    client: &RcStr,
+    text: &str,
+    wanted: &SubFilter,
+    options: Options,
+) -> Result<(), AllocError>
+    requires listed { AreListed tree.old (texts lists.old.entries) }
+    requires asked { IsAskedBy text.now wanted.now }
+    ensures ok { OnOk result (SameInTurn (all_rows tree.new)
+        (joined (wanted_row (rc_str_bytes client.now) wanted.now options) (all_rows tree.old))) }
+    ensures err { OnErr result (tree.new ≡ tree.old) }
+    ensures listed { AreListed tree.new (texts lists.new.entries) }
+{
+    let id = client.as_str();
+    if contains_in(tree, id, wanted) {
+        join_in(tree, alloc, client, wanted, options)?;
+        return Ok(());
+    }
+    list_add(lists, alloc, client, text)?;
+    match join_in(tree, alloc, client, wanted, options) {
+        Ok(()) => Ok(()),
+        Err(fault) => {
+            list_remove(lists, id, text);
+            Err(fault)
+        }
+    }
+}
+
+fn take_out(
+    tree: &mut LevelTree<AtFilter>,
+    lists: &mut BTreeMap<RcStr, Own>,
+    client: &str,
+    text: &str,
+) -> bool
+    requires listed { AreListed tree.old (texts lists.old.entries) }
+    requires valid { IsTrue (is_subscription text.now) }
+    ensures existed { result ≡ list_any (has_asked client.now text.now) (all_rows tree.old) }
+    ensures rows { all_rows tree.new ≡ filter (λ s. not (has_asked client.now text.now s)) (all_rows tree.old) }
+    ensures listed { AreListed tree.new (texts lists.new.entries) }
+{
+    let existed = leave_in(tree, client, text);
+    list_remove(lists, client, text);
+    existed
+}
+
+// Takes a client's subscriptions out of the tree.
+fn leave_all(tree: &mut LevelTree<AtFilter>, own: &Own, client: &str)
+    requires { AreKept tree.old }
+    ensures rows { all_rows tree.new ≡ filter (λ s. not (same_text s.client client.now && is_in_list own.now s)) (all_rows tree.old) }
+    ensures kept { AreKept tree.new }
+{
+    for text in own.texts() {
+        let _ = leave_in(tree, client, text.as_str());
+    }
+}
+
+fn take_all(tree: &mut LevelTree<AtFilter>, lists: &mut BTreeMap<RcStr, Own>, client: &str)
+    requires { AreListed tree.old (texts lists.old.entries) }
+    ensures rows { all_rows tree.new ≡ filter (λ s. not (same_text s.client client.now)) (all_rows tree.old) }
+    ensures listed { AreListed tree.new (texts lists.new.entries) }
+{
+    let _count = lists.len();
+    match lists.remove(client) {
+        Some(own) => leave_all(tree, &own, client),
+        None => {}
+    }
+}
+
+ghost use Rattle.mq_subscriptions.specs.Filters.{text_key};
+
+fn list_add(
+    lists: &mut BTreeMap<RcStr, Own>,
+    alloc: Global,
+    client: &RcStr,
+    text: &str,
+) -> Result<(), AllocError>
+    requires live { NoneEmptied lists.old.entries }
+    requires valid { IsTrue (is_subscription text.now) }
+    ensures ok { OnOk result (ListsMore (rc_str_bytes client.now) (text_key text.now) lists.old.entries lists.new.entries) }
+    ensures err { OnErr result (lists.new.entries ≡ lists.old.entries) }
+    ensures live { NoneEmptied lists.new.entries }
+{
+    match lists.get_mut(client) {
+        Some(own) => {
+            own.add(alloc, text)?;
+            Ok(())
+        }
+        None => list_begin(lists, alloc, client, text),
+    }
+}
+
+// A client's first one, made aside.
+fn list_begin(
+    lists: &mut BTreeMap<RcStr, Own>,
+    alloc: Global,
+    client: &RcStr,
+    text: &str,
+) -> Result<(), AllocError>
+    requires live { NoneEmptied lists.old.entries }
+    requires valid { IsTrue (is_subscription text.now) }
+    requires absent { lookup (is_text (rc_str_bytes client.now)) (texts lists.old.entries) ≡ None }
+    ensures ok { OnOk result (ListsMore (rc_str_bytes client.now) (text_key text.now) lists.old.entries lists.new.entries) }
+    ensures err { OnErr result (lists.new.entries ≡ lists.old.entries) }
+    ensures live { NoneEmptied lists.new.entries }
+{
+    let _count = lists.len();
+    let client = client.clone()?;
+    let mut own = Own::new(alloc);
+    own.add(alloc, text)?;
+    lists.insert(client, own)?;
+    Ok(())
+}
+
+// Takes a subscription out, and with its last one the client.
+fn list_remove(lists: &mut BTreeMap<RcStr, Own>, client: &str, text: &str)
+    requires live { NoneEmptied lists.old.entries }
+    requires valid { IsTrue (is_subscription text.now) }
+    ensures rest { ListsLess client.now (text_key text.now) lists.old.entries lists.new.entries }
+    ensures live { NoneEmptied lists.new.entries }
+{
+    let _count = lists.len();
+    let Some(own) = lists.get_mut(client) else {
+        return;
+    };
+    own.remove(text);
+    if own.is_empty() {
+        let _ = lists.remove(client);
+    }
+}

@@ -1,0 +1,23 @@
+//! The subscriptions of clients in their own name that take part in a message.
+ghost use Rattle.std.specs.Prelude.{◌≡◌, OnOk};
+ghost use Rattle.mq_world.specs.Lists.{Text};
+ghost use Rattle.mq_subscriptions.specs.Matches.{matched, options_among, AreByClient};
+
+use mq_world::Options;
+use std::alloc::AllocError;
+use std::rc::RcStr;
+
+/// A client's subscription in its own name that takes part in a message.
+#[derive(Clone, Copy, Debug)]
+pub struct Match<'a> {
+    pub client: &'a RcStr,
+    pub options: Options,
+}
+
+/// Sorts them by client; those of one client keep their order.
+pub fn sort_by_client(matches: &mut Vec<Match>) -> Result<(), AllocError>
+    ensures sorted { OnOk result (AreByClient (matched matches.new.items)) }
+    ensures stable { (id : Text) → options_among id (matched matches.new.items) ≡ options_among id (matched matches.old.items) }
+{
+    matches.sort_by(|a, b| a.client.cmp(b.client))
+}
