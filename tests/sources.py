@@ -17,7 +17,8 @@ import sys
 TOP = pathlib.Path(__file__).resolve().parent.parent
 
 # The crates that a router is made of, and those that may count what they like.
-ROUTER = ["mq_router", "mq_subscriptions", "mq_retained", "mq_sessions", "mq_world", "mq_acl", "mq_tree", "mq_topic"]
+ROUTER = ["mq_router", "mq_subscriptions", "mq_retained", "mq_sessions", "mq_ends", "mq_world", "mq_acl", "mq_tree",
+          "mq_topic"]
 TESTS_AND_TOOLS = {"mq_rows", "mq_refused", "mq_bench"}
 
 MADE_OF = {
@@ -27,7 +28,9 @@ MADE_OF = {
     "Limits": "retained: Option<u32>, queued: u32",
     "Clock": "moment: u64",
     "Acl": "groups: Groups, order: Snapshot<Vec<Row>>",
-    "Sessions": "by_id: BTreeMap<RcStr, Session>, first_end: Option<u64>",
+    "Sessions": "by_id: BTreeMap<RcStr, Session>, ends: Ends",
+    "Ends": "ends: Queue, gone: Queue, spare: Queue, room: usize",
+    "Queue": "heap: BinaryHeap<Reverse<u64>>",
     "Subscriptions": "alloc: Global, tree: LevelTree<AtFilter>, lists: BTreeMap<RcStr, Own>",
     "Retained": "alloc: Global, tree: Messages, deadlines: Deadlines",
     "Groups": "everyone: Vec<Row>, anonymous: Vec<Row>, named: BTreeMap<String, Vec<Row>>",

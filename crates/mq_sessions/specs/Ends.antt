@@ -1,21 +1,24 @@
--- From when on a session may have ended.
-use Rattle.std.specs.Prelude.{◌≡◌, ℕ, true, List, Option}
-use Rattle.std.specs.List.{AllByRecursion}
-use Rattle.mq_world.specs.World.{Session}
-use Rattle.mq_world.specs.Clock.{is_over}
-use Rattle.mq_world.specs.Sessions.{has_ended}
+-- When sessions end, and the index of their ends.
+use Rattle.std.specs.Prelude.{ℕ, ◌≤◌, List, length, map, Option, None}
+use Rattle.std.specs.List.{filter_map}
+use Rattle.mq_ends.specs.Counts.{SameEnds}
+use Rattle.mq_ends.specs.Moments.{Moments}
+use Rattle.mq_world.specs.World.{Session, Connected, Away}
+use Rattle.mq_world.specs.Keys.{Key}
+use Rattle.mq_sessions.specs.Views.{session_in}
+use Rattle.mq_sessions.specs.declared.sessions.session.Session as kept
 
--- when the session has ended this moment has come; without a moment it never ends
-abbrev pub EndsFrom : Option ℕ → Session → Type 0
-EndsFrom first session = (now : ℕ) → has_ended now session ≡ true → is_over now first ≡ true
+-- when the session ends, if its client is away and it ends
+abbrev pub end_of : Session → Option ℕ
+end_of session = elim session.presence [ Connected ↦ None | Away end ↦ end ]
 
-abbrev pub AllEndFrom : Option ℕ → List Session → Type 0
-AllEndFrom first sessions = AllByRecursion (EndsFrom first) sessions
+abbrev pub ends_of : List Session → List ℕ
+ends_of sessions = filter_map end_of sessions
 
--- the first has come when the second has
-abbrev pub IsSooner : Option ℕ → Option ℕ → Type 0
-IsSooner a b = (now : ℕ) → is_over now b ≡ true → is_over now a ≡ true
+abbrev pub ends_at : List (Key × kept.Session) → List ℕ
+ends_at entries = ends_of (map session_in entries)
 
--- sessions of which one may end at a moment of its own, and the others as before
-abbrev pub EndLater : Option ℕ → List Session → List Session → Type 0
-EndLater end old new = (first : Option ℕ) → IsSooner first end → AllEndFrom first old → AllEndFrom first new
+-- the index has the ends of the sessions, and room for one of each
+pub record AreIndexed (index : Moments) (sessions : List Session) : Type 0 where
+  pub same : SameEnds index.ends (ends_of sessions)
+  pub room : length sessions ≤ index.room

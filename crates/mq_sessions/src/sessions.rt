@@ -1,7 +1,7 @@
 //! The sessions of the clients, of those that are connected and of those that are away.
 ghost use Rattle.std.specs.Prelude.{◌≡◌, [], length, not, is_some, false, OnOk, OnErr, IfOk, IfSome, map, string_bytes};
 ghost use Rattle.std.specs.Option.{option_copied, option_map};
-ghost use Rattle.std.specs.List.{filter, AllByRecursion};
+ghost use Rattle.std.specs.List.{filter, list_any};
 ghost use Rattle.std.specs.Rc.{rc_str_bytes};
 ghost use Rattle.std.specs.List.Sorted.{IsStrictlySortedBy};
 ghost use Rattle.mq_world.specs.Lists.{with_row};
@@ -13,7 +13,7 @@ ghost use Rattle.mq_sessions.specs.Near.{AllReached};
 ghost use Rattle.mq_world.specs.Views.{copy_of};
 
 mod edits;
-mod first_end;
+mod ends;
 mod found;
 pub(crate) mod queue;
 pub(crate) mod queued;
@@ -23,20 +23,21 @@ pub(crate) mod session;
 use crate::clock::Clock;
 use crate::sessions::queued::Begun;
 use crate::sessions::session::Session;
-use edits::{end, join, leave};
-use first_end::{earlier, first_end, is_over};
+use edits::{EndMove, end, join, leave, put, remove};
+use ends::{add_end, has_come, remove_end};
 use found::{connected, find, learn_order, outlives, user_in, waited_copies};
+use mq_ends::Ends;
 use mq_world::Delivery;
 use std::alloc::{AllocError, Global};
 use std::collections::BTreeMap;
 use std::marker::Model;
 use std::rc::RcStr;
 
-/// The sessions, by client id, and a moment before which none of them ends, if any ends.
+/// The sessions, by client id, and the ends of those whose clients are away, with room for one of each session.
 #[derive(Debug, Drop)]
 pub struct Sessions {
     by_id: BTreeMap<RcStr, Session>,
-    first_end: Option<u64>,
+    ends: Ends,
 }
 
 impl Model for Sessions {
@@ -46,11 +47,11 @@ impl Model for Sessions {
     ghost Value = { List Session };
 
     ghost use Rattle.mq_sessions.specs.Views.{sessions_of};
-    ghost use Rattle.mq_sessions.specs.Ends.{AllEndFrom};
+    ghost use Rattle.mq_sessions.specs.Ends.{AreIndexed};
 
     ghost view = { sessions_of };
 
-    ghost invariant = { λ a. AllEndFrom a.first_end (sessions_of a) };
+    ghost invariant = { λ a. AreIndexed a.ends (sessions_of a) };
 }
 
 impl Sessions {
@@ -61,7 +62,7 @@ impl Sessions {
     {
         Sessions {
             by_id: BTreeMap::new(alloc),
-            first_end: None,
+            ends: Ends::new(alloc),
         }
     }
 
@@ -132,8 +133,9 @@ impl Sessions {
             ≡ with_row session_cmp (new_session (rc_str_bytes id) (option_map string_bytes user) interval) self.old) }
         ensures err { OnErr result (self.new ≡ self.old) }
     {
-        let session = Session::new(alloc, user, interval);
-        self.by_id.insert(id, session)?;
+        self.ends.reserve(self.by_id.len() + 1)?;
+        let older = put(&mut self.by_id, id, Session::new(alloc, user, interval))?;
+        remove_end(&mut self.ends, older);
         Ok(())
     }
 
@@ -141,27 +143,27 @@ impl Sessions {
     pub fn leave(&mut self, id: &str, clock: Clock)
         ensures { self.new ≡ map (left_by clock.moment id.now) self.old }
     {
-        let end = leave(&mut self.by_id, id, clock);
-        self.first_end = earlier(self.first_end, end);
+        let EndMove { from, to } = leave(&mut self.by_id, id, clock);
+        remove_end(&mut self.ends, from);
+        add_end(&mut self.ends, to);
     }
 
     pub fn remove(&mut self, id: &str)
         ensures { self.new ≡ filter (λ session. not (has_id id.now session)) self.old }
     {
-        // Learns that the keys are in order.
-        let _count = self.by_id.len();
-        let _ = self.by_id.remove(id);
+        let end = remove(&mut self.by_id, id);
+        remove_end(&mut self.ends, end);
     }
 
     /// Ends the sessions that are due; where none is, it looks at none. It takes no memory.
     pub fn end(&mut self, moment: u64)
         ensures { self.new ≡ filter (λ session. not (has_ended moment session)) self.old }
     {
-        if !is_over(moment, self.first_end) {
+        if !has_come(&self.ends, moment) {
             return;
         }
         end(&mut self.by_id, moment);
-        self.first_end = first_end(&self.by_id);
+        self.ends.remove_until(moment);
     }
 
     // One more copy waits for a client.
@@ -182,11 +184,11 @@ impl Sessions {
         }
     }
 
-    /// Whether one may have ended at this moment; if not, none has.
-    pub fn may_end(&self, moment: u64) -> bool
-        ensures { result ≡ false → AllByRecursion (λ session. has_ended moment session ≡ false) self.now }
+    /// Whether a session has ended at this moment. It looks at none.
+    pub fn any_ends(&self, moment: u64) -> bool
+        ensures { result ≡ list_any (has_ended moment) self.now }
     {
-        is_over(moment, self.first_end)
+        has_come(&self.ends, moment)
     }
 
     /// The sessions, by client id.

@@ -1,5 +1,6 @@
 -- Facts on lists that the definitions and the code need.
-use Rattle.std.proofs.Common.{◌≡◌, Bool, true, false, cond, ◌||◌, not, List, [], ◌∷◌, ◌++◌, map, append_assoc, Option, Some, None, is_some, Result, Ok, Err, refl, sym, ◌∙◌, ap}
+use Rattle.std.proofs.Common.{◌≡◌, Bool, true, false, cond, ◌||◌, ◌≤◌, length, not, List, [], ◌∷◌, ◌++◌, map, append_assoc, Option, Some, None, is_some, Result, Ok, Err, arith, refl, sym, ◌∙◌, ap}
+use Rattle.std.proofs.lemmas.List.Filters.{length-filter_both}
 use Rattle.std.specs.declared.cmp.Ordering.{Ordering}
 use Rattle.std.specs.declared.cmp.Ordering.TheVariants.{Less, Equal, Greater}
 use Rattle.std.specs.Ordering.{is_lt, match_ordering}
@@ -190,3 +191,15 @@ filter-kept p (x ∷ xs) h =
 pub any-none : {X : Type 0} (p : X → Bool) (xs : List X) → AllByRecursion (λ x. p x ≡ false) xs → list_any p xs ≡ false
 any-none p [] h = refl
 any-none p (x ∷ xs) h = ap (λ b. b || list_any p xs) h.0 ∙ any-none p xs h.1
+
+pub length-filter-most : {X : Type 0} (p : X → Bool) (xs : List X) → length (filter p xs) ≤ length xs
+length-filter-most p xs = omega (arith, length-filter_both p (λ x. not (p x)) (λ x. refl) xs)
+
+pub none-any : {X : Type 0} (p : X → Bool) (xs : List X) → list_any p xs ≡ false → AllByRecursion (λ x. p x ≡ false) xs
+none-any p [] h = tt
+none-any p (x ∷ xs) h =
+    let P : Bool → Type 0 = λ b. p x ≡ b → (b || list_any p xs) ≡ false → AllByRecursion (λ y. p y ≡ false) (x ∷ xs) in
+    (elim (p x) as P [
+      | true ↦ λ e k. (let no : true ≡ false = k in cc)
+      | false ↦ λ e k. (e, none-any p xs k)
+    ]) refl h

@@ -13,7 +13,7 @@ pub(crate) fn remove_ended(sessions: &Sessions, subscriptions: &mut Subscription
     ensures rows { subscriptions.new.rows ≡ filter (lasts moment sessions.now) subscriptions.old.rows }
     ensures keys { AreKeys subscriptions.old → AreKeys subscriptions.new }
 {
-    if !sessions.may_end(moment) {
+    if !sessions.any_ends(moment) {
         return;
     }
     for (id, session) in sessions.by_id() {

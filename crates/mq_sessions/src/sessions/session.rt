@@ -5,7 +5,7 @@ ghost use Rattle.mq_world.specs.World.{Away};
 ghost use Rattle.mq_world.specs.Sessions.{is_present, outlives_connection, session_end, has_ended, new_session};
 ghost use Rattle.mq_world.specs.Waiting.{has_place, has_room};
 ghost use Rattle.mq_sessions.specs.Queue.{queued};
-ghost use Rattle.mq_sessions.specs.Ends.{EndsFrom};
+ghost use Rattle.mq_sessions.specs.Ends.{end_of};
 ghost use Rattle.mq_sessions.specs.Views.{shown, waiting_of};
 
 use crate::clock::Clock;
@@ -88,7 +88,7 @@ impl Session {
 
     /// The moment at which the session ends, if the client is away and it ends.
     pub fn end(&self) -> Option<u64>
-        ensures { EndsFrom result (shown self.now) }
+        ensures { result ≡ end_of (shown self.now) }
     {
         match self.presence {
             Presence::Connected => None,

@@ -3,14 +3,17 @@ use Rattle.std.specs.List.{filter}
 use Rattle.std.specs.Map.Iter.{deref_pair}
 use Rattle.std.proofs.lemmas.Map.Iter.{rest_more, rest_all}
 use Rattle.mq_world.specs.World.{Session}
+use Rattle.mq_world.specs.Sessions.{has_ended}
+use Rattle.mq_world.proofs.ListLemmas.{none-any}
 use Rattle.mq_router.specs.router.Effects.{lasts, without}
 use Rattle.mq_sessions.specs.Views.{session_in}
 use Rattle.mq_router.proofs.EndedLemmas.{end-more, end-none, all-last}
 use Rattle.mq_router.proofs.router.ended.remove_ended.Goals as goal
 
-pub returns-then-not-may_end-clause-rows : goal.returns-then-not-may_end-clause-rows
-returns-then-not-may_end-clause-rows c =
-    all-last c.args.moment c.args.sessions.now c.args.subscriptions.now.rows (c.may_end.ensures c.if-not-may_end.true)
+pub returns-then-not-any_ends-clause-rows : goal.returns-then-not-any_ends-clause-rows
+returns-then-not-any_ends-clause-rows c =
+    all-last c.args.moment c.args.sessions.now c.args.subscriptions.now.rows
+    (none-any (has_ended c.args.moment) c.args.sessions.now (sym c.any_ends.ensures ∙ c.if-not-any_ends.true))
 
 pub loop-id-preserved-then-has_ended : goal.loop-id-preserved-then-has_ended
 loop-id-preserved-then-has_ended c =

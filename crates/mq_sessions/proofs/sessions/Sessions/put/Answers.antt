@@ -1,25 +1,27 @@
-use Rattle.std.proofs.Common.{◌≡◌, ◌∙◌, ap, sym, subst, map, true, false}
-use Rattle.mq_world.specs.Lists.{with_row}
-use Rattle.std.specs.Rc.{rc_str_bytes}
-use Rattle.mq_world.specs.World as world
-use Rattle.mq_world.specs.World.{session_cmp}
-use Rattle.mq_sessions.specs.Ends.{EndsFrom, AllEndFrom}
-use Rattle.mq_sessions.specs.Views.{session_in}
-use Rattle.mq_world.proofs.OrderLemmas.{session_total, all-with_row}
-use Rattle.mq_sessions.proofs.SessionLemmas.{put-is}
+use Rattle.std.proofs.Common.{◌≡◌, ◌++◌, ◌≤◌, map, max, length, List, ℕ, sym, ap, subst, ◌∙◌, arith}
+use Rattle.std.specs.Option.{option_to_list}
+use Rattle.std.proofs.lemmas.List.{length-map}
+use Rattle.mq_ends.specs.Counts.{SameEnds}
+use Rattle.mq_sessions.specs.Ends.{ends_at}
+use Rattle.mq_sessions.specs.Views.{session_in, sessions_of}
+use Rattle.mq_sessions.proofs.EndLemmas.{first-among, same-rest}
 use Rattle.mq_sessions.proofs.sessions.Sessions.put.Goals as goal
 
-pub returns-clause-ok : goal.returns-clause-ok
-returns-clause-ok c =
-    let es = c.self.inside.by_id.entries in
-    rw (← c.self.view_is) (ap (map session_in) c.in_ok-insert.ensures.entries ∙ put-is c.args.id c.new-session.result es c.in_ok-insert.ensures.was_ordered
-    ∙ ap (λ (x : world.Session). with_row session_cmp (record x { id = rc_str_bytes c.args.id }) (map session_in es)) c.new-session.ensures)
+pub remove_end-requires : goal.remove_end-requires
+remove_end-requires c =
+    first-among c.in_ok-older.older c.reserve.new.self.ends (ends_at c.put.new.sessions.entries)
+    (λ test. subst (λ (es : List ℕ). SameEnds es (ends_at c.self.inside.by_id.entries)) (sym c.reserve.ensures.ends) c.self.invariant.same test ∙ c.in_ok-older.ensures.end test)
 
--- a client that connects doesn't end
 pub invariant_of-self-2 : goal.invariant_of-self-2
 invariant_of-self-2 c =
-    let first = c.self.inside.first_end in
-    let es = c.self.inside.by_id.entries in
-    subst (AllEndFrom first) (sym (ap (map session_in) c.in_ok-insert.ensures.entries ∙ put-is c.args.id c.new-session.result es c.in_ok-insert.ensures.was_ordered))
-    (all-with_row session_cmp session_total (EndsFrom first) (session_in (c.args.id, c.new-session.result)) (map session_in es)
-    (subst (λ (x : world.Session). EndsFrom first x) (sym c.new-session.ensures) (λ now e. (let no : false ≡ true = e in cc))) c.self.invariant)
+    let before = c.self.inside.by_id.entries in
+    let after = c.put.new.sessions.entries in
+    record {
+      same = same-rest (option_to_list c.in_ok-older.older) c.reserve.new.self.ends c.remove_end.new.ends.ends (ends_at after)
+          c.remove_end.ensures.ends
+          (λ test. subst (λ (es : List ℕ). SameEnds es (ends_at before)) (sym c.reserve.ensures.ends) c.self.invariant.same test ∙ c.in_ok-older.ensures.end test);
+      room =
+          let count : length (map session_in after) ≡ length after = length-map after session_in in
+          let before_count : length (map session_in before) ≡ length before = length-map before session_in in
+          omega (arith, c.in_ok-older.ensures.more, c.in_ok-reserve.ensures.ok, c.len.ensures.len, c.remove_end.ensures.room);
+    }
