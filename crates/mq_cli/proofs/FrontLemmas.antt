@@ -1,14 +1,13 @@
 -- However a run ends, what was written is a front of what the whole script writes.
 use Rattle.std.proofs.Common.{◌≡◌, ℕ, List, [], ◌++◌, take, drop, Option, Some, None, Result, Ok, Err, inl, inr, refl, sym, ap, subst, ◌∙◌, append_assoc, append-nil, take-append-drop}
-use Rattle.std.specs.Io.KnownBytes.{Consumes, IsAtEnd}
+use Rattle.std.specs.Io.KnownBytes.{IsAtEnd}
 use Rattle.std.proofs.KnownBytes.{Appends-nil}
 use Rattle.mq_world.specs.World.{World}
 use Rattle.mq_cli.specs.declared.script.outcome.Summary.{Summary}
 use Rattle.mq_cli.specs.declared.script.outcome.RunFault.{RunFault}
 use Rattle.mq_cli.specs.declared.script.outcome.RunFault.TheVariants as fault
 use Rattle.mq_cli.specs.Output.{whole_lines, last_piece, piece_line, text_from, text_of_lines, output, whole_output}
-use Rattle.mq_cli.specs.Program.{IsScript, WritesFront}
-use Rattle.mq_cli.specs.Ending.{Seen, Watched, IsPrefix, AppendsSome, Ending, EndsOver}
+use Rattle.mq_cli.specs.Ending.{Seen, IsPrefix, AppendsSome, Ending}
 use Rattle.mq_cli.proofs.PieceLemmas.{whole_lines-grown}
 use Rattle.mq_cli.proofs.OutputLemmas.{text_from-append}
 use Rattle.mq_cli.proofs.RunLemmas.{AppendsSome-all}
@@ -52,7 +51,7 @@ at_end a b w given rest none p =
 whole_at : (a b : Option (List ℕ)) (w : World) (given rest : List ℕ) → AppendsSome a b (whole_output w given) → AppendsSome a b (output w (given ++ rest))
 whole_at a b w given rest p = AppendsSome-front a b (whole_output w given) (output w (given ++ rest)) p (whole_front w given rest)
 
-Ending-front : (limit : ℕ) (w : World) (result : Result Summary RunFault) (seen : Seen) (rest : List ℕ) → (IsAtEnd seen.left → rest ≡ [])
+pub Ending-front : (limit : ℕ) (w : World) (result : Result Summary RunFault) (seen : Seen) (rest : List ℕ) → (IsAtEnd seen.left → rest ≡ [])
     → Ending limit w result seen → AppendsSome seen.before seen.after (output w (seen.given ++ rest))
 Ending-front limit w (Ok summary) seen rest none end =
     at_end seen.before seen.after w seen.given rest (none end.ended) (AppendsSome-all seen.before seen.after (output w seen.given) end.written)
@@ -74,15 +73,3 @@ Ending-front limit w (Err fault.Memory) seen rest none end =
     whole_at seen.before seen.after w seen.given rest
     (AppendsSome-front seen.before seen.after (text_of_lines w (take n lines)) (whole_output w seen.given)
     (AppendsSome-all seen.before seen.after (text_of_lines w (take n lines)) end.written.2) (lines_front w n lines))
-
--- what the reader still has to give, and all that it tells
-told_at : (a b : Option (List ℕ)) (given : List ℕ) → Consumes a b given → (rest : List ℕ) × (IsAtEnd b → rest ≡ []) × IsScript None a (given ++ rest)
-told_at None b given c = ([], λ _. refl, tt)
-told_at (Some x) None given c = absurd c
-told_at (Some x) (Some y) given c = (y, λ e. e, sym c)
-
-pub EndsOver-front : (limit : ℕ) (w : World) (result : Result Summary RunFault) (reader writer : Watched) → EndsOver limit w result reader writer
-    → WritesFront w None reader.before writer.before writer.after
-EndsOver-front limit w result reader writer end =
-    let told = told_at reader.before reader.after end.0 end.1 in
-    (end.0 ++ told.0, told.2, Ending-front limit w result _ told.0 told.1 end.2)

@@ -7,10 +7,10 @@ use Rattle.mq_cli.specs.declared.script.outcome.Summary.{Summary}
 use Rattle.mq_cli.specs.declared.script.outcome.RunFault.{RunFault}
 use Rattle.mq_cli.specs.declared.script.outcome.RunFault.TheVariants as fault
 use Rattle.mq_cli.specs.Output.{output, Summarizes}
-use Rattle.mq_cli.specs.Program.{IsScript, AnswersScript}
 use Rattle.mq_cli.specs.Ending.{Seen, Watched, DidNotFail, Failed, Failures, Ending, EndsOver}
 
-whole : (a b : Option (List ℕ)) (script given : List ℕ) → a ≡ Some script → Consumes a b given → IsAtEnd b → given ≡ script
+-- all that a reader tells was given, where it is at its end
+pub whole : (a b : Option (List ℕ)) (script given : List ℕ) → a ≡ Some script → Consumes a b given → IsAtEnd b → given ≡ script
 whole None b script given e c end = absurd (let bad : None ≡ Some script = e in cc)
 whole (Some x) None script given e c end = absurd c
 whole (Some x) (Some y) script given e c end =
@@ -24,7 +24,7 @@ front (Some x) (Some y) script given e c =
     let same : x ≡ script = let f : Some x ≡ Some script = e in cc in
     rw (← same, c, length-append) (omega arith)
 
-written : (a b : Option (List ℕ)) (before text : List ℕ) → a ≡ Some before → Appends a b text → b ≡ Some (before ++ text)
+pub written : (a b : Option (List ℕ)) (before text : List ℕ) → a ≡ Some before → Appends a b text → b ≡ Some (before ++ text)
 written None b before text e c = absurd (let bad : None ≡ Some before = e in cc)
 written (Some x) None before text e c = absurd c
 written (Some x) (Some y) before text e c =
@@ -33,10 +33,6 @@ written (Some x) (Some y) before text e c =
 
 failed_not : (calls : Failures) → Failed calls → DidNotFail calls → ⊥
 failed_not calls f d = absurd (omega (arith, f, d))
-
-is_script : (a b : Option (List ℕ)) (given : List ℕ) → Consumes a b given → IsAtEnd b → IsScript None a given
-is_script None b given c end = tt
-is_script (Some x) b given c end = whole (Some x) b x given refl c end
 
 -- a run that ends well answers all of the script
 pub Ending-ok : (limit : ℕ) (w : World) (summary : Summary) (seen : Seen) (to_come : Option (List ℕ)) (script before : List ℕ)
@@ -64,13 +60,3 @@ EndsOver-honest limit w (Err fault.TooMuch) reader writer script before end e f 
     let over = end.2.over in
     absurd (omega arith)
 EndsOver-honest limit w (Err fault.Memory) reader writer script before end e f small read_well wrote_well memory = absurd (memory refl)
-
--- ended well, it answers some script, which is all that the reader tells
-pub EndsOver-script : (limit : ℕ) (w : World) (summary : Summary) (reader writer : Watched) (before : List ℕ)
-    → EndsOver limit w (Ok summary) reader writer → writer.before ≡ Some before
-    → (script : List ℕ) × IsScript None reader.before script × AnswersScript w script before writer.after summary
-EndsOver-script limit w summary reader writer before end e = (
-  end.0,
-  is_script reader.before reader.after end.0 end.1 end.2.ended,
-  record { written = written writer.before writer.after before (output w end.0) e end.2.written; counts = end.2.summary },
-)

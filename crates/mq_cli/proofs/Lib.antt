@@ -15,6 +15,7 @@ pub mod RunLemmas
 pub mod StepLemmas
 pub mod HeadlineLemmas
 pub mod FrontLemmas
+pub mod ScriptLemmas
 pub mod AclFileLemmas
 pub mod NumberLemmas
 pub mod ProgramLemmas

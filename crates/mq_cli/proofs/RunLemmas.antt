@@ -11,8 +11,8 @@ use Rattle.mq_cli.specs.declared.script.outcome.RunFault.{RunFault}
 use Rattle.mq_cli.specs.declared.script.outcome.RunFault.TheVariants as fault
 use Rattle.mq_cli.specs.declared.script.progress.Progress.{Progress}
 use Rattle.mq_cli.specs.Output.{pieces, whole_lines, last_piece, piece_line, all_lines, world_after, text_of, is_refused, text_from, refused_from, whole_output}
-use Rattle.mq_cli.specs.Ending.{Seen, IsPrefix, AppendsSome, WritesLines, Ending}
-use Rattle.mq_cli.specs.Running.{kept, world_then, Answered, Unanswered, Told, Stopped, write_failures, Finished, StoppedLast}
+use Rattle.mq_cli.specs.Ending.{Seen, IsPrefix, AppendsSome, WritesLines, write_failures, Ending}
+use Rattle.mq_cli.specs.Running.{kept, world_then, Answered, Unanswered, Told, Stopped, Finished, StoppedLast}
 use Rattle.mq_cli.proofs.PieceLemmas.{whole_lines-feed, last_piece-feed, whole_lines-text, last_piece-text, whole_lines-grown}
 use Rattle.mq_cli.proofs.OutputLemmas.{world_after-push, text_from-append, text_from-push, refused_from-push, kept_is, text_of-kept, is_refused-kept, world_then-kept, kept_more}
 

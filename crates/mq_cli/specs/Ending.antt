@@ -22,6 +22,17 @@ DidNotFail calls = calls.after ≡ calls.before
 abbrev pub Failed : Failures → Type 0
 Failed calls = calls.after ≡ calls.before + 1
 
+-- how many calls of the writer fail by an error
+abbrev pub write_failures : RunFault → ℕ
+write_failures fault.Write = 1
+write_failures fault.Read = 0
+write_failures fault.TooMuch = 0
+write_failures fault.Memory = 0
+
+abbrev pub failures_of : {T : Type 0} → Result T RunFault → ℕ
+failures_of (Ok x) = 0
+failures_of (Err e) = write_failures e
+
 -- what is known of a device: the bytes that it tells before and after, and the failures
 pub record Watched : Type 0 where
   pub before : Option (List ℕ)

@@ -57,17 +57,6 @@ Stopped w given fault.TooMuch before after = ⊥
 Stopped w given fault.Write before after = AppendsSome before after (whole_output w given)
 Stopped w given fault.Memory before after = WritesLines w given before after
 
--- how many calls of the writer fail by an error
-abbrev pub write_failures : RunFault → ℕ
-write_failures fault.Write = 1
-write_failures fault.Read = 0
-write_failures fault.TooMuch = 0
-write_failures fault.Memory = 0
-
-abbrev pub failures_of : {T : Type 0} → Result T RunFault → ℕ
-failures_of (Ok x) = 0
-failures_of (Err e) = write_failures e
-
 -- all lines are answered
 pub record Finished (w : World) (given : List ℕ) (p : Progress) (before after : Option (List ℕ)) : Type 0 where
   pub summary : Summarizes w given p.summary

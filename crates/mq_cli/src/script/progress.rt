@@ -32,7 +32,8 @@ pub struct Progress {
 }
 
 impl Progress {
-    ghost use Rattle.mq_cli.specs.Running.{Told, Answers, Takes, Ends, failures_of};
+    ghost use Rattle.mq_cli.specs.Ending.{failures_of};
+    ghost use Rattle.mq_cli.specs.Running.{Told, Answers, Takes, Ends};
 
     pub fn new(alloc: Global, router: Router) -> Progress
         ensures told { (w : World) (start : Option (List ℕ)) → StandsFor router w → Told w [] result start start }

@@ -1,8 +1,7 @@
 //! Writes to a sink.
 ghost use Rattle.std.specs.Prelude.{◌≡◌, ◌+◌, OnOk, OnErr, IfErr};
 ghost use Rattle.std.specs.Io.KnownBytes.{Appends, Keeps};
-ghost use Rattle.mq_cli.specs.Ending.{AppendsSome};
-ghost use Rattle.mq_cli.specs.Running.{failures_of};
+ghost use Rattle.mq_cli.specs.Ending.{AppendsSome, failures_of};
 
 use crate::devices::Sink;
 use crate::script::outcome::RunFault;

@@ -1,7 +1,6 @@
 use Rattle.std.proofs.Common.{Ok, Err}
 use Rattle.mq_cli.specs.Ending.{script_limit}
-use Rattle.mq_cli.proofs.HeadlineLemmas.{EndsOver-script}
-use Rattle.mq_cli.proofs.FrontLemmas.{EndsOver-front}
+use Rattle.mq_cli.proofs.ScriptLemmas.{EndsOver-script, EndsOver-front}
 use Rattle.mq_cli.proofs.program.run_source.Goals as goal
 
 pub returns-in-Ok-clause-ok : goal.returns-in-Ok-clause-ok
