@@ -1,13 +1,3 @@
-pub mod AheadLemmas
-pub mod WalkLemmas
-pub mod TakenLemmas
-pub mod FloatLemmas
-pub mod SetLemmas
-pub mod EntryLemmas
-pub mod KeptLemmas
-pub mod BehindLemmas
-pub mod RefillLemmas
-pub mod TextLemmas
 pub mod WrittenLemmas
 pub mod PieceLemmas
 pub mod OutputLemmas

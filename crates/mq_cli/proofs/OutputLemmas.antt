@@ -6,7 +6,7 @@ use Rattle.std.proofs.lemmas.List.{take_all}
 use Rattle.std.proofs.lemmas.List.Elements.{filter_map-append}
 use Rattle.mq_world.specs.World.{World, Request}
 use Rattle.mq_world.specs.After.{next, replay}
-use Rattle.mq_cli.specs.Reading.{reading, line_limit}
+use Rattle.mq_lines.specs.Reading.{reading, line_limit}
 use Rattle.mq_cli.specs.Output.{command_in, world_after, text_of, is_refused, text_from, refused_from}
 use Rattle.mq_cli.specs.Running.{kept, next_or, world_then}
 

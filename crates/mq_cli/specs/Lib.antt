@@ -1,12 +1,6 @@
 pub mod Trails
 pub mod Failures
 pub mod Wrapped
-pub mod Fields
-pub mod Ahead
-pub mod Reading
-pub mod Printed
-pub mod Kept
-pub mod Behind
 pub mod Output
 pub mod Ending
 pub mod Running

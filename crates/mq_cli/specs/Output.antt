@@ -6,10 +6,10 @@ use Rattle.mq_world.specs.Refusals.{refusal}
 use Rattle.mq_world.specs.Answers.{answer}
 use Rattle.mq_world.specs.After.{replay}
 use Rattle.mq_world.specs.declared.refusal.Refusal.{Refusal}
-use Rattle.mq_cli.specs.declared.lines.fault.LineFault.{LineFault}
+use Rattle.mq_lines.specs.declared.fault.LineFault.{LineFault}
 use Rattle.mq_cli.specs.declared.script.outcome.Summary.{Summary}
-use Rattle.mq_cli.specs.Reading.{reading}
-use Rattle.mq_cli.specs.Printed.{answer_text, refusal_text, fault_text}
+use Rattle.mq_lines.specs.Reading.{reading}
+use Rattle.mq_lines.specs.Printed.{answer_text, refusal_text, fault_text}
 
 -- ## The lines of a script
 

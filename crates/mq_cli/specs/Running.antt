@@ -7,7 +7,7 @@ use Rattle.mq_router.specs.StandsFor.{State, StandsFor}
 use Rattle.mq_cli.specs.declared.script.outcome.RunFault.{RunFault}
 use Rattle.mq_cli.specs.declared.script.outcome.RunFault.TheVariants as fault
 use Rattle.mq_cli.specs.declared.script.progress.Progress.{Progress}
-use Rattle.mq_cli.specs.Reading.{reading, line_limit}
+use Rattle.mq_lines.specs.Reading.{reading, line_limit}
 use Rattle.mq_cli.specs.Output.{whole_lines, last_piece, output, whole_output, command_in, world_after, text_of, is_refused, refused_from, Summarizes}
 use Rattle.mq_cli.specs.Ending.{AppendsSome, WritesLines}
 

@@ -9,13 +9,11 @@
 mod acl_file;
 mod command_line;
 mod devices;
-mod lines;
 mod program;
 mod script;
 
 pub use acl_file::{AclFileFault, read_acl};
 pub use command_line::{Options, UsageFault, arguments};
 pub use devices::{DeviceFault, Sink, Source, StdSink, StdSource};
-pub use lines::{LineFault, print_answer, print_line_fault, print_refusal, read_line};
 pub use program::{UNREADABLE, start};
 pub use script::{RUN_FAILED, RunFault, Summary, exit_status, run, run_within};

@@ -4,7 +4,7 @@ ghost use Rattle.mq_world.specs.World.{World};
 ghost use Rattle.mq_router.specs.StandsFor.{StandsFor};
 ghost use Rattle.mq_cli.specs.Running.{IsTold};
 
-use crate::lines::{LineFault, Printer, read_line};
+use mq_lines::{LineFault, Printer, read_line};
 use mq_router::Router;
 use mq_world::Refusal;
 use std::alloc::{AllocError, Global};

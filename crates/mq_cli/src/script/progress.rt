@@ -5,7 +5,7 @@ ghost use Rattle.mq_router.specs.StandsFor.{StandsFor};
 ghost use Rattle.mq_cli.specs.Output.{pieces};
 
 use crate::devices::Sink;
-use crate::lines::{LINE_LIMIT, Printer};
+use mq_lines::{LINE_LIMIT, Printer};
 use crate::script::answer::answer_line;
 use crate::script::keep::{keep_front, split_line};
 use crate::script::outcome::{RunFault, Summary};

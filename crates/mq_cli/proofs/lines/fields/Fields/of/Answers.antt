@@ -1,5 +1,0 @@
-use Rattle.mq_cli.proofs.AheadLemmas.{ascends_keys}
-use Rattle.mq_cli.proofs.lines.fields.Fields.of.Goals as goal
-
-pub returns-clause-ordered : goal.returns-clause-ordered
-returns-clause-ordered c = ascends_keys c.args.members.now.entries c.iter_mut-rest.ensures.ordered

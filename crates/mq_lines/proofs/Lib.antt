@@ -1,0 +1,10 @@
+pub mod AheadLemmas
+pub mod WalkLemmas
+pub mod TakenLemmas
+pub mod FloatLemmas
+pub mod SetLemmas
+pub mod EntryLemmas
+pub mod KeptLemmas
+pub mod BehindLemmas
+pub mod RefillLemmas
+pub mod TextLemmas

@@ -1,0 +1,6 @@
+pub mod Fields
+pub mod Ahead
+pub mod Reading
+pub mod Printed
+pub mod Kept
+pub mod Behind

@@ -1,0 +1,250 @@
+//! The objects of the lines that answer commands, used again from line to line.
+ghost use Rattle.std.specs.Prelude.{◌≡◌, ◌++◌, ℕ, List, Bool, false, is_some, OnOk, OnErr};
+ghost use Rattle.std.specs.Option.{option_map};
+ghost use Rattle.serde_json.specs.Data.{no_members};
+ghost use Rattle.serde_json.specs.View.{members_view};
+ghost use Rattle.mq_world.specs.Views.{reply_of};
+ghost use Rattle.mq_world.specs.declared.answer.Outcome.TheVariants.{Reason, Counts};
+ghost use Rattle.mq_lines.specs.Printed.{answer_text, line_text, closing_members};
+ghost use Rattle.mq_lines.specs.Printed.{report_members, report_text, report_of, refusal_text, fault_text};
+ghost use Rattle.mq_lines.specs.Kept.{IsFor, reason_names, report_names};
+
+use crate::copies::Copies;
+use crate::datum::Datum;
+use crate::fault::LineFault;
+use crate::object::Object;
+use crate::report::{Reported, line_fault_report, refusal_report};
+use mq_world::{Answer, Outcome, Refusal};
+use std::alloc::{AllocError, Global};
+
+#[tactic(auto, unfolding(crate::specs::Printed::closing_members, crate::specs::Kept::reason_names))]
+fn set_reason(alloc: Global, object: &mut Object, line: u64, reason: u8) -> Result<(), AllocError>
+    requires { IsFor reason_names (members_view object.old.members.entries) }
+    ensures { OnOk result (members_view object.new.members.entries ≡ closing_members line (Reason reason)) }
+{
+    let code = u64::from(reason);
+    if object.is_empty() {
+        object.number(alloc, "line", line)?;
+        object.number(alloc, "reason", code)?;
+        return Ok(());
+    }
+    object.refill(alloc, &[Datum::Number(line), Datum::Number(code)])
+}
+
+fn print_reason(
+    alloc: Global,
+    kept: &mut Object,
+    line: u64,
+    reason: u8,
+    out: &mut Vec<u8>,
+) -> Result<(), AllocError>
+    requires { IsFor reason_names (members_view kept.old.members.entries) }
+    ensures ok { OnOk result (out.new.items ≡ out.old.items ++ line_text (closing_members line (Reason reason))) }
+    ensures err { OnErr result (out.new.items ≡ out.old.items) }
+    ensures kept { IsFor reason_names (members_view kept.new.members.entries) }
+{
+    let mut object = kept.take(alloc);
+    set_reason(alloc, &mut object, line, reason)?;
+    object.print(alloc, out)?;
+    *kept = object;
+    Ok(())
+}
+
+#[tactic(auto, unfolding(crate::specs::Printed::closing_members))]
+fn print_counts(
+    alloc: Global,
+    line: u64,
+    nodes: u64,
+    retained: u64,
+    subscriptions: u64,
+    out: &mut Vec<u8>,
+) -> Result<(), AllocError>
+    ensures ok { OnOk result (out.new.items ≡ out.old.items ++ line_text (closing_members line (Counts nodes retained subscriptions))) }
+    ensures err { OnErr result (out.new.items ≡ out.old.items) }
+{
+    let mut object = Object::new(alloc);
+    object.number(alloc, "line", line)?;
+    object.number(alloc, "nodes", nodes)?;
+    object.number(alloc, "retained", retained)?;
+    object.number(alloc, "subscriptions", subscriptions)?;
+    object.print(alloc, out)
+}
+
+fn put_report(
+    alloc: Global,
+    object: &mut Object,
+    line: u64,
+    report: Reported,
+) -> Result<(), AllocError>
+    requires { IsFor (report_names (is_some report.acl_line)) (members_view object.old.members.entries) }
+    ensures { OnOk result (members_view object.new.members.entries ≡ report_members line (report_of report)) }
+{
+    object.number(alloc, "code", u64::from(report.code))?;
+    object.number(alloc, "line", line)?;
+    object.text(alloc, "refused", report.name)?;
+    object.number_if(alloc, "acl_line", report.acl_line)?;
+    Ok(())
+}
+
+fn set_report(
+    alloc: Global,
+    object: &mut Object,
+    line: u64,
+    report: Reported,
+) -> Result<(), AllocError>
+    requires { IsFor (report_names (is_some report.acl_line)) (members_view object.old.members.entries) }
+    ensures { OnOk result (members_view object.new.members.entries ≡ report_members line (report_of report)) }
+{
+    if report.acl_line.is_some() || object.is_empty() {
+        return put_report(alloc, object, line, report);
+    }
+    let code = Datum::Number(u64::from(report.code));
+    object.refill(
+        alloc,
+        &[code, Datum::Number(line), Datum::Text(report.name)],
+    )
+}
+
+fn print_report(
+    alloc: Global,
+    kept: &mut Object,
+    line: u64,
+    report: Reported,
+    out: &mut Vec<u8>,
+) -> Result<(), AllocError>
+    requires { IsFor (report_names (is_some report.acl_line)) (members_view kept.old.members.entries) }
+    ensures ok { OnOk result (out.new.items ≡ out.old.items ++ line_text (report_members line (report_of report))) }
+    ensures err { OnErr result (out.new.items ≡ out.old.items) }
+    ensures kept { IsFor (report_names (is_some report.acl_line)) (members_view kept.new.members.entries) }
+{
+    let mut object = kept.take(alloc);
+    set_report(alloc, &mut object, line, report)?;
+    object.print(alloc, out)?;
+    *kept = object;
+    Ok(())
+}
+
+/// Objects whose members are set again for each line of the same names: those for copies, one for closing lines with a
+/// reason, and one for faults without the line of an access list. Other lines have their own.
+#[derive(Drop)]
+pub struct Printer {
+    copies: Copies,
+    reason: Object,
+    ghost reason_names: { IsFor reason_names (members_view reason.members.entries) },
+    report: Object,
+    ghost report_names: { IsFor (report_names false) (members_view report.members.entries) },
+}
+
+impl Printer {
+    pub fn new(alloc: Global) -> Printer {
+        Printer {
+            copies: Copies::new(alloc),
+            reason: Object::new(alloc),
+            report: Object::new(alloc),
+        }
+    }
+
+    fn closing(
+        &mut self,
+        alloc: Global,
+        line: u64,
+        outcome: Outcome,
+        out: &mut Vec<u8>,
+    ) -> Result<(), AllocError>
+        ensures ok { OnOk result (out.new.items ≡ out.old.items ++ line_text (closing_members line outcome)) }
+        ensures err { OnErr result (out.new.items ≡ out.old.items) }
+    {
+        match outcome {
+            Outcome::Reason(reason) => print_reason(alloc, &mut self.reason, line, reason, out),
+            Outcome::Counts {
+                nodes,
+                retained,
+                subscriptions,
+            } => print_counts(alloc, line, nodes, retained, subscriptions, out),
+        }
+    }
+
+    fn lines(
+        &mut self,
+        alloc: Global,
+        line: u64,
+        answer: &Answer,
+        out: &mut Vec<u8>,
+    ) -> Result<(), AllocError>
+        ensures ok { OnOk result (out.new.items ≡ out.old.items ++ answer_text line (reply_of answer.now)) }
+        ensures err { OnErr result ((more : List ℕ) × (out.new.items ≡ out.old.items ++ more)) }
+    {
+        self.copies
+            .print_all(alloc, line, answer.copies.as_slice(), out)?;
+        self.closing(alloc, line, answer.outcome, out)?;
+        Ok(())
+    }
+
+    /// Adds the answer to line `line`, as `print_answer` does. An error leaves the text as it is.
+    pub fn answer(
+        &mut self,
+        alloc: Global,
+        line: u64,
+        answer: &Answer,
+        out: &mut Vec<u8>,
+    ) -> Result<(), AllocError>
+        ensures ok { OnOk result (out.new.items ≡ out.old.items ++ answer_text line (reply_of answer.now)) }
+        ensures err { OnErr result (out.new.items ≡ out.old.items) }
+    {
+        let before = out.len();
+        match self.lines(alloc, line, answer, out) {
+            Ok(()) => Ok(()),
+            Err(e) => {
+                out.truncate(before);
+                Err(e)
+            }
+        }
+    }
+
+    fn report(
+        &mut self,
+        alloc: Global,
+        line: u64,
+        report: Option<Reported>,
+        out: &mut Vec<u8>,
+    ) -> Result<(), AllocError>
+        ensures ok { OnOk result (out.new.items ≡ out.old.items ++ report_text line (option_map report_of report)) }
+        ensures err { OnErr result (out.new.items ≡ out.old.items) }
+    {
+        let Some(report) = report else {
+            return Ok(());
+        };
+        match report.acl_line {
+            None => print_report(alloc, &mut self.report, line, report, out),
+            Some(_) => print_report(alloc, &mut Object::new(alloc), line, report, out),
+        }
+    }
+
+    /// Adds the text line of a refusal, as `print_refusal` does. An error leaves the text as it is.
+    pub fn refusal(
+        &mut self,
+        alloc: Global,
+        line: u64,
+        refusal: &Refusal,
+        out: &mut Vec<u8>,
+    ) -> Result<(), AllocError>
+        ensures ok { OnOk result (out.new.items ≡ out.old.items ++ refusal_text line refusal.now) }
+        ensures err { OnErr result (out.new.items ≡ out.old.items) }
+    {
+        self.report(alloc, line, refusal_report(*refusal), out)
+    }
+
+    /// Adds the text line of a line that is no command, as `print_line_fault` does. An error leaves the text as it is.
+    pub fn line_fault(
+        &mut self,
+        alloc: Global,
+        line: u64,
+        fault: &LineFault,
+        out: &mut Vec<u8>,
+    ) -> Result<(), AllocError>
+        ensures ok { OnOk result (out.new.items ≡ out.old.items ++ fault_text line fault.now) }
+        ensures err { OnErr result (out.new.items ≡ out.old.items) }
+    {
+        self.report(alloc, line, line_fault_report(*fault), out)
+    }
+}

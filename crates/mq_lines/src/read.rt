@@ -1,0 +1,220 @@
+//! From a line to a command.
+ghost use Rattle.std.specs.Prelude.{◌≡◌, IfOk, IfSome, IsTrue, option_map};
+ghost use Rattle.serde_json.specs.Data.{object};
+ghost use Rattle.serde_json.specs.View.{view, members_view};
+ghost use Rattle.mq_world.specs.Views.{request_of};
+ghost use Rattle.mq_world.specs.Refusals.{is_valid};
+ghost use Rattle.mq_lines.specs.Fields.{Gives, or_fault};
+ghost use Rattle.mq_lines.specs.Reading.{connect_fields, disconnect_fields, subscribe_fields, unsubscribe_fields};
+ghost use Rattle.mq_lines.specs.Reading.{publish_fields, acl_fields, advance_fields, stat_fields};
+ghost use Rattle.mq_lines.specs.Reading.{command_of, value_of, reading, is_blank as blank};
+
+use crate::fault::LineFault;
+use crate::fields::{Fields, field};
+use crate::object::members_of;
+use mq_world::Command;
+use serde_json::{Map, Value};
+use std::alloc::Global;
+
+/// How many bytes a line may have.
+pub const LINE_LIMIT: usize = 1_048_576;
+
+const MOST_QOS: u8 = 2;
+
+const MOST_HANDLING: u8 = 2;
+
+const MOST_ID: u32 = 268_435_455;
+
+fn connect(members: &mut Map<String, Value>) -> Result<Command, LineFault>
+    ensures value { Gives request_of result (connect_fields (object (members_view members.old.entries))) }
+    ensures valid { IfOk result (λ c. IsTrue (is_valid (request_of c))) }
+{
+    let mut fields = Fields::of(members);
+    let clean = fields.flag_or("clean", true)?;
+    let client = fields.required_text("client")?;
+    fields.skip("do");
+    let session_expiry = fields.optional_number("session_expiry", 0, u32::MAX)?;
+    let user = fields.optional_text("user")?;
+    fields.end()?;
+    Ok(Command::Connect {
+        client,
+        user,
+        clean,
+        session_expiry: session_expiry.unwrap_or(0),
+    })
+}
+
+fn disconnect(members: &mut Map<String, Value>) -> Result<Command, LineFault>
+    ensures value { Gives request_of result (disconnect_fields (object (members_view members.old.entries))) }
+    ensures valid { IfOk result (λ c. IsTrue (is_valid (request_of c))) }
+{
+    let mut fields = Fields::of(members);
+    let client = fields.required_text("client")?;
+    fields.skip("do");
+    fields.end()?;
+    Ok(Command::Disconnect { client })
+}
+
+fn subscribe(members: &mut Map<String, Value>) -> Result<Command, LineFault>
+    ensures value { Gives request_of result (subscribe_fields (object (members_view members.old.entries))) }
+    ensures valid { IfOk result (λ c. IsTrue (is_valid (request_of c))) }
+{
+    let mut fields = Fields::of(members);
+    let client = fields.required_text("client")?;
+    fields.skip("do");
+    let filter = fields.required_text("filter")?;
+    let handling = fields.number_or_zero("handling", MOST_HANDLING)?;
+    let id = fields.optional_number("id", 1, MOST_ID)?;
+    let no_local = fields.is_set("no_local")?;
+    let qos = fields.number_or_zero("qos", MOST_QOS)?;
+    let rap = fields.is_set("rap")?;
+    fields.end()?;
+    Ok(Command::Subscribe {
+        client,
+        filter,
+        qos,
+        no_local,
+        rap,
+        handling,
+        id,
+    })
+}
+
+fn unsubscribe(members: &mut Map<String, Value>) -> Result<Command, LineFault>
+    ensures value { Gives request_of result (unsubscribe_fields (object (members_view members.old.entries))) }
+    ensures valid { IfOk result (λ c. IsTrue (is_valid (request_of c))) }
+{
+    let mut fields = Fields::of(members);
+    let client = fields.required_text("client")?;
+    fields.skip("do");
+    let filter = fields.required_text("filter")?;
+    fields.end()?;
+    Ok(Command::Unsubscribe { client, filter })
+}
+
+fn publish(alloc: Global, members: &mut Map<String, Value>) -> Result<Command, LineFault>
+    ensures value { Gives request_of result (publish_fields (object (members_view members.old.entries))) }
+    ensures valid { IfOk result (λ c. IsTrue (is_valid (request_of c))) }
+{
+    let mut fields = Fields::of(members);
+    let client = fields.required_text("client")?;
+    fields.skip("do");
+    let expiry = fields.optional_number("expiry", 0, u32::MAX)?;
+    let payload = fields.text_or_empty(alloc, "payload")?;
+    let qos = fields.number_or_zero("qos", MOST_QOS)?;
+    let retain = fields.is_set("retain")?;
+    let topic = fields.required_text("topic")?;
+    fields.end()?;
+    Ok(Command::Publish {
+        client,
+        topic,
+        payload,
+        qos,
+        retain,
+        expiry,
+    })
+}
+
+#[tactic(auto, using(crate::proofs::WalkLemmas::acl_walked))]
+fn acl(members: &mut Map<String, Value>) -> Result<Command, LineFault>
+    ensures value { Gives request_of result (acl_fields (object (members_view members.old.entries))) }
+    ensures valid { IfOk result (λ c. IsTrue (is_valid (request_of c))) }
+{
+    let mut fields = Fields::of(members);
+    fields.skip("do");
+    let text = fields.optional_text("text")?;
+    fields.end()?;
+    Ok(Command::SetAcl { text })
+}
+
+#[tactic(auto, using(crate::proofs::WalkLemmas::advance_walked))]
+fn advance(members: &mut Map<String, Value>) -> Result<Command, LineFault>
+    ensures value { Gives request_of result (advance_fields (object (members_view members.old.entries))) }
+    ensures valid { IfOk result (λ c. IsTrue (is_valid (request_of c))) }
+{
+    let mut fields = Fields::of(members);
+    fields.skip("do");
+    let seconds = fields.required_number("seconds")?;
+    fields.end()?;
+    Ok(Command::Advance { seconds })
+}
+
+#[tactic(auto, using(crate::proofs::WalkLemmas::stat_walked))]
+fn stat(members: &mut Map<String, Value>) -> Result<Command, LineFault>
+    ensures value { Gives request_of result (stat_fields (object (members_view members.old.entries))) }
+    ensures valid { IfOk result (λ c. IsTrue (is_valid (request_of c))) }
+{
+    let mut fields = Fields::of(members);
+    fields.skip("do");
+    fields.end()?;
+    Ok(Command::Stat)
+}
+
+#[tactic(auto, unfolding(crate::specs::Reading::command_of, crate::specs::Reading::fields_of))]
+fn command_in(alloc: Global, members: &mut Map<String, Value>) -> Result<Command, LineFault>
+    ensures value { Gives request_of result (command_of (object (members_view members.old.entries))) }
+    ensures valid { IfOk result (λ c. IsTrue (is_valid (request_of c))) }
+{
+    let Some(word) = field(members, "do").and_then(Value::as_str) else {
+        return Err(LineFault::BadCommand);
+    };
+    match word {
+        "connect" => connect(members),
+        "disconnect" => disconnect(members),
+        "subscribe" => subscribe(members),
+        "unsubscribe" => unsubscribe(members),
+        "publish" => publish(alloc, members),
+        "acl" => acl(members),
+        "advance" => advance(members),
+        "stat" => stat(members),
+        _ => Err(LineFault::BadCommand),
+    }
+}
+
+// A value that is no object has no members, and so no word.
+fn command(alloc: Global, value: Value) -> Result<Command, LineFault>
+    ensures value { Gives request_of result (command_of (view value)) }
+    ensures valid { IfOk result (λ c. IsTrue (is_valid (request_of c))) }
+{
+    let mut members = members_of(alloc, value);
+    command_in(alloc, &mut members)
+}
+
+fn is_blank(line: &[u8]) -> bool
+    ensures { result ≡ blank line.now }
+{
+    line.iter()
+        .all(|b| *b == b' ' || *b == b'\t' || *b == b'\r')
+}
+
+#[tactic(auto, unfolding(crate::specs::Reading::value_of))]
+fn value(alloc: Global, line: &[u8]) -> Result<Value, LineFault>
+    ensures { Gives view result (or_fault LineFault.BadJson (value_of line.now)) }
+{
+    match Value::from_slice(alloc, line) {
+        Ok(value) => Ok(value),
+        Err(e) => {
+            if e.is_memory() {
+                return Err(LineFault::Memory);
+            }
+            Err(LineFault::BadJson)
+        }
+    }
+}
+
+/// Reads a line of a script, without its line feed. A blank line, of spaces, tabs and carriage returns alone or of
+/// nothing, has no command. Every other line is a JSON object whose `do` names its command.
+#[tactic(auto, unfolding(crate::specs::Reading::reading))]
+pub fn read_line(alloc: Global, line: &[u8]) -> Result<Option<Command>, LineFault>
+    ensures value { Gives (option_map request_of) result (reading line.now) }
+    ensures valid { IfOk result (λ o. IfSome o (λ c. IsTrue (is_valid (request_of c)))) }
+{
+    if line.len() > LINE_LIMIT {
+        return Err(LineFault::LineTooLong);
+    }
+    if is_blank(line) {
+        return Ok(None);
+    }
+    let value = value(alloc, line)?;
+    Ok(Some(command(alloc, value)?))
+}
