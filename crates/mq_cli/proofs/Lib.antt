@@ -1,10 +1,3 @@
-pub mod WrittenLemmas
-pub mod PieceLemmas
-pub mod OutputLemmas
-pub mod RunLemmas
-pub mod StepLemmas
-pub mod HeadlineLemmas
-pub mod FrontLemmas
 pub mod ScriptLemmas
 pub mod AclFileLemmas
 pub mod NumberLemmas

@@ -1,10 +1,3 @@
-pub mod Trails
-pub mod Failures
-pub mod Wrapped
-pub mod Output
-pub mod Ending
-pub mod Running
-pub mod Status
 pub mod AclFile
 pub mod CommandLine
 pub mod Program

@@ -9,17 +9,18 @@ ghost use Rattle.mq_world.specs.Views.{limits_of};
 ghost use Rattle.mq_router.specs.StandsFor.{StandsFor};
 ghost use Rattle.mq_cli.specs.AclFile.{IsAnswerTo};
 ghost use Rattle.mq_cli.specs.CommandLine.{mqroute, given, IsFaultOf};
-ghost use Rattle.mq_cli.specs.Ending.{AppendsSome};
-ghost use Rattle.mq_cli.specs.Output.{output};
+ghost use Rattle.mq_script.specs.Ending.{AppendsSome};
+ghost use Rattle.mq_script.specs.Output.{output};
 ghost use Rattle.mq_cli.specs.Program.{script_file, failure_status, limits_by, limits_given, TellsUsage};
 ghost use Rattle.mq_cli.specs.Program.{BeginsWith, BeginsIn, IsScript, AnswersScript, AnswersAll, WritesFront};
 
 use crate::acl_file::{AclFileFault, read_acl};
 use crate::command_line::{Options, UsageFault, arguments};
-use crate::devices::{Sink, Source, StdSource};
-use crate::script::{RUN_FAILED, RunFault, Summary, exit_status, flush, run, write_all};
 use mq_acl::{Acl, AclFault, AclKind};
 use mq_router::Router;
+use mq_script::{
+    RUN_FAILED, RunFault, Sink, Source, StdSource, Summary, exit_status, flush, run, write_all,
+};
 use mq_world::Limits;
 use std::alloc::{AllocError, Global};
 use std::fs;

@@ -1,7 +1,7 @@
 //! A reader of one line a call, and a writer that compares what it takes. Neither takes memory or fails.
 ghost use Rattle.std.specs.Prelude.{None};
 
-use mq_cli::{DeviceFault, Sink, Source};
+use mq_script::{DeviceFault, Sink, Source};
 
 /// A reader that gives at most one line a call.
 #[derive(Drop)]

@@ -1,6 +1,7 @@
 //! Faults of which one is want of memory.
 use mq_acl::{AclFault, AclKind};
-use mq_cli::{AclFileFault, LineFault, UsageFault};
+use mq_cli::{AclFileFault, UsageFault};
+use mq_lines::LineFault;
 use mq_topic::TopicFault;
 use std::alloc::AllocError;
 

@@ -1,7 +1,7 @@
 //! What answers a line, and its print.
 use crate::growth::{refuse, was_refused};
 use crate::trial::{Attempt, Trial};
-use mq_cli::{LineFault, print_answer, print_line_fault, print_refusal};
+use mq_lines::{LineFault, print_answer, print_line_fault, print_refusal};
 use mq_router::{Answer, Refusal};
 use std::alloc::{AllocError, Global};
 

@@ -5,7 +5,7 @@ ghost use Rattle.mq_world.specs.Views.{request_of};
 
 use crate::reply::Reply;
 use mq_acl::Acl;
-use mq_cli::{LineFault, read_line};
+use mq_lines::{LineFault, read_line};
 use mq_router::{Command, Limits, Router};
 use std::alloc::{AllocError, Global};
 

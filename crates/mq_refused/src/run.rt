@@ -3,7 +3,7 @@ use crate::devices::{Compared, Lines};
 use crate::growth::{refuse, was_refused};
 use crate::row::Row;
 use crate::trial::{Attempt, Trial};
-use mq_cli::{RunFault, run};
+use mq_script::{RunFault, run};
 use std::alloc::{AllocError, Global};
 
 // The number of the line that a line of the output answers.

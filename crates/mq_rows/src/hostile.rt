@@ -1,8 +1,9 @@
 //! Runs over readers and writers that fail at each of their calls in turn, and scripts cut at each byte.
 use crate::hostile_devices::{Page, Script, Spaces, Trouble};
 use crate::table::{FIRST_LOOK, REFUSALS};
-use mq_cli::{AclFileFault, RunFault, Sink, Source, Summary, read_acl, run, run_within};
+use mq_cli::{AclFileFault, read_acl};
 use mq_router::Router;
+use mq_script::{RunFault, Sink, Source, Summary, run, run_within};
 use std::alloc::{AllocError, Global};
 use std::process::Abort;
 use std::test::Fail;

@@ -2,7 +2,7 @@
 //! then goes on as if nothing had happened.
 ghost use Rattle.std.specs.Prelude.{◌≡◌, ◌+◌, ◌||◌, ℕ, List, Option, None, IsTrue, false, if◌then◌else◌};
 
-use mq_cli::{DeviceFault, Sink, Source};
+use mq_script::{DeviceFault, Sink, Source};
 
 /// A reader that gives at most `most` bytes a call, and fails at the call after `calls` others.
 #[derive(Drop)]

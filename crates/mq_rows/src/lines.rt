@@ -1,5 +1,5 @@
 //! Single lines of a script, and single lines of its answer.
-use mq_cli::{LineFault, print_answer, print_line_fault, print_refusal, read_line};
+use mq_lines::{LineFault, print_answer, print_line_fault, print_refusal, read_line};
 use mq_router::{Answer, Command, Delivery, Outcome, Refusal};
 use std::alloc::{AllocError, Global};
 use std::rc::RcStr;

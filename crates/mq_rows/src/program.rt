@@ -1,7 +1,8 @@
 //! The program but its `main`: its texts and exit statuses, over files of the test's folder.
 use crate::devices::{Interrupted, Pieces, Shelf, Starved};
 use mq_acl::{AclFault, AclKind};
-use mq_cli::{AclFileFault, StdSink, StdSource, arguments, read_acl, start};
+use mq_cli::{AclFileFault, arguments, read_acl, start};
+use mq_script::{StdSink, StdSource};
 use mq_topic::TopicName;
 use std::alloc::Global;
 use std::fs::{self, Files, OpenFile};

@@ -1,8 +1,8 @@
 //! The worked rows, from bytes to bytes, in pieces of several sizes.
 use crate::devices::{Pieces, Shelf};
 use mq_acl::Acl;
-use mq_cli::{StdSink, StdSource, exit_status, run};
 use mq_router::Router;
+use mq_script::{StdSink, StdSource, exit_status, run};
 use std::alloc::Global;
 use std::process::Abort;
 use std::test::Fail;

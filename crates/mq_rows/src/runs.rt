@@ -1,7 +1,7 @@
 //! Runs whose reader or writer fails, and scripts whose lines are too long or blank.
 use crate::devices::{Interrupted, Pieces, Shelf};
-use mq_cli::{RunFault, StdSink, StdSource, Summary, exit_status, run};
 use mq_router::Router;
+use mq_script::{RunFault, StdSink, StdSource, Summary, exit_status, run};
 use std::alloc::{AllocError, Global};
 use std::test::Fail;
 

@@ -1,7 +1,8 @@
 //! The program. All but the streams stands in `mq_cli`.
 #![tactic(auto)]
 
-use mq_cli::{RUN_FAILED, StdSink, StdSource, UNREADABLE, start};
+use mq_cli::{UNREADABLE, start};
+use mq_script::{RUN_FAILED, StdSink, StdSource};
 use std::env;
 use std::io::{self, BufWriter, ErrorKind, Write};
 use std::process::ExitCode;

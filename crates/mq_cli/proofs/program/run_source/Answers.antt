@@ -1,5 +1,5 @@
 use Rattle.std.proofs.Common.{Ok, Err}
-use Rattle.mq_cli.specs.Ending.{script_limit}
+use Rattle.mq_script.specs.Ending.{script_limit}
 use Rattle.mq_cli.proofs.ScriptLemmas.{EndsOver-script, EndsOver-front}
 use Rattle.mq_cli.proofs.program.run_source.Goals as goal
 

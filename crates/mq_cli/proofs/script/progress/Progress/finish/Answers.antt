@@ -1,7 +1,0 @@
-use Rattle.std.proofs.lemmas.Result.{err_from_is_err_and}
-use Rattle.mq_cli.proofs.script.progress.Progress.finish.Goals as goal
-
-pub returns-in_err-answer_last-clause-ends : goal.returns-in_err-answer_last-clause-ends
-returns-in_err-answer_last-clause-ends g c =
-    let fault = err_from_is_err_and c.from_residual.result c.from_residual.ensures.1 in
-    rw (fault.1, fault.2) c.in_err-answer_last.ensures.ends

@@ -1,0 +1,7 @@
+pub mod WrittenLemmas
+pub mod PieceLemmas
+pub mod OutputLemmas
+pub mod RunLemmas
+pub mod StepLemmas
+pub mod HeadlineLemmas
+pub mod FrontLemmas

@@ -1,0 +1,120 @@
+use Rattle.std.proofs.Common.{◌≡◌, ◌++◌, ◌+◌, ◌-◌, ◌≤◌, [], ℕ, List, take, length, refl, ap, arith, length-append, length-take-le}
+use Rattle.std.proofs.lemmas.Result.{err_from_is_err_and}
+use Rattle.std.proofs.KnownBytes.{Consumes-nil, Consumes-trans, Consumes-kept}
+use Rattle.mq_script.specs.Running.{TakesBytes, StopsAmong}
+use Rattle.mq_script.proofs.RunLemmas.{Ending-stopped, Stopped-front, over_take}
+use Rattle.mq_script.proofs.StepLemmas.{TakesBytes-none, TakesBytes-then}
+use Rattle.mq_script.proofs.runner.read_lines.Goals as goal
+
+pub reads-init : goal.reads-init
+reads-init g c = record {
+  within = omega arith;
+  lines =
+      let lines = c.requires.lines in
+      let none : length c.args.progress.now.line.items ≡ 0 = ap length c.requires.line in
+      omega arith;
+  reader = refl;
+  writer = refl;
+  takes = ([], Consumes-nil _, refl, TakesBytes-none _ _);
+}
+
+pub reads-preserved : goal.reads-preserved
+reads-preserved g c =
+    let so_far = c.reads.invariant.takes in
+    let given : List ℕ = so_far.0 in
+    let len : length given ≡ c.reads.total = so_far.2 in
+    let n : ℕ = c.in-Ok.n in
+    let buf : List ℕ = c.read.new.buf in
+    let bound : n ≤ length buf = c.in-Ok.ensures.bound in
+    let read = c.in-Ok.ensures.bytes in
+    let part : length (take n buf) ≡ n = length-take-le n buf bound in
+    let grown : length (given ++ take n buf) ≡ length given + n = rw length-append (omega arith) in
+    record {
+      within = omega arith;
+      lines = let lines = c.in_ok-take-2.ensures.lines in omega arith;
+      reader = let counted = c.in-Ok.ensures.counted in omega arith;
+      writer = let counted = c.in_ok-take-2.ensures.counted in omega arith;
+      takes = (
+        given ++ take n buf,
+        Consumes-trans _ (g.R.Source.to_come c.reads.reader) _ given (take n buf) so_far.1 read.0,
+        omega arith,
+        TakesBytes-then c.args.progress.now c.reads.progress c.take-in-reads.new.self given (take n buf) _ _ _ so_far.3 c.in_ok-take-2.ensures.takes,
+      );
+    }
+
+pub returns-in-Err-clause-err : goal.returns-in-Err-clause-err
+unfolding TakesBytes
+returns-in-Err-clause-err g c = λ w start.
+    let so_far = c.reads.invariant.takes in
+    let now = so_far.3 w [] (g.W.Sink.taken c.args.writer.now) start in (
+      so_far.0,
+      Consumes-kept _ (g.R.Source.to_come c.reads.reader) _ so_far.0 so_far.1 c.in-Err.ensures.bytes,
+      record {
+        written = now.written;
+        reader = let counted = c.in-Err.ensures.counted in omega arith;
+        writer = c.reads.invariant.writer;
+      },
+    )
+
+pub returns-then-n-room-clause-err : goal.returns-then-n-room-clause-err
+unfolding TakesBytes
+returns-then-n-room-clause-err g c = λ w start.
+    let so_far = c.reads.invariant.takes in
+    let given : List ℕ = so_far.0 in
+    let len : length given ≡ c.reads.total = so_far.2 in
+    let n : ℕ = c.in-Ok.n in
+    let buf : List ℕ = c.read.new.buf in
+    let bound : n ≤ length buf = c.in-Ok.ensures.bound in
+    let a = g.W.Sink.taken c.args.writer.now in
+    let now = c.in_ok-take.ensures.takes w given a (so_far.3 w [] a start) in
+    let read = c.in-Ok.ensures.bytes in
+    let room : length given + (c.args.limit - c.reads.total) ≡ c.args.limit = omega arith in
+    let front = over_take given buf c.args.limit (c.args.limit - c.reads.total) n room (omega arith) in
+    let grown : length (given ++ take n buf) ≡ length given + n = rw (length-append, length-take-le n buf) in (
+      given ++ take n buf,
+      Consumes-trans _ (g.R.Source.to_come c.reads.reader) _ given (take n buf) so_far.1 read.0,
+      record {
+        over = omega arith;
+        written = rw front now.written;
+        reader = let k = c.in-Ok.ensures.counted in omega arith;
+        writer = let k = c.in_ok-take.ensures.counted in omega arith;
+      },
+    )
+
+pub returns-in_err-take-clause-err : goal.returns-in_err-take-clause-err
+unfolding TakesBytes StopsAmong
+returns-in_err-take-clause-err g c = λ w start.
+    let so_far = c.reads.invariant.takes in
+    let given : List ℕ = so_far.0 in
+    let n : ℕ = c.in-Ok.n in
+    let buf : List ℕ = c.read.new.buf in
+    let read = c.in-Ok.ensures.bytes in
+    let a = g.W.Sink.taken c.args.writer.now in
+    let now = c.in_err-take.ensures.takes w given a (so_far.3 w [] a start) in
+    let room : c.args.limit - c.reads.total ≤ n = omega arith in
+    let fault = err_from_is_err_and c.from_residual.result c.from_residual.ensures.1 in
+    rw (fault.1, fault.2) (
+      given ++ take n buf,
+      Consumes-trans _ (g.R.Source.to_come c.reads.reader) _ given (take n buf) so_far.1 read.0,
+      Ending-stopped c.args.limit w _ _
+          (Stopped-front a _ w given buf (c.args.limit - c.reads.total) n _ room now)
+          (let k = c.in-Ok.ensures.counted in omega arith) (let k = c.in_err-take.ensures.counted in omega arith),
+    )
+
+pub returns-in_err-take-2-clause-err : goal.returns-in_err-take-2-clause-err
+unfolding TakesBytes StopsAmong
+returns-in_err-take-2-clause-err g c = λ w start.
+    let so_far = c.reads.invariant.takes in
+    let given : List ℕ = so_far.0 in
+    let n : ℕ = c.in-Ok.n in
+    let buf : List ℕ = c.read.new.buf in
+    let read = c.in-Ok.ensures.bytes in
+    let a = g.W.Sink.taken c.args.writer.now in
+    let now = c.in_err-take-2.ensures.takes w given a (so_far.3 w [] a start) in
+    let fault = err_from_is_err_and c.from_residual-in_err-take-2.result c.from_residual-in_err-take-2.ensures.1 in
+    rw (fault.1, fault.2) (
+      given ++ take n buf,
+      Consumes-trans _ (g.R.Source.to_come c.reads.reader) _ given (take n buf) so_far.1 read.0,
+      Ending-stopped c.args.limit w _ _ now
+          (let k = c.in-Ok.ensures.counted in omega arith) (let k = c.in_err-take-2.ensures.counted in omega arith),
+    )

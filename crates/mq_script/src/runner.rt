@@ -1,0 +1,110 @@
+//! The run of a script.
+ghost use Rattle.std.specs.Prelude.{◌≡◌, ◌≢◌, ◌+◌, ◌≤◌, ◌<◌, ◌++◌, [], ℕ, List, Some, Ok, Err};
+ghost use Rattle.std.specs.Prelude.{OnOk, IfErr, IsOkAnd, length};
+ghost use Rattle.std.specs.Io.KnownBytes.{Consumes};
+ghost use Rattle.mq_world.specs.World.{World};
+ghost use Rattle.mq_router.specs.StandsFor.{StandsFor};
+ghost use Rattle.mq_script.specs.Output.{output, Summarizes};
+ghost use Rattle.mq_script.specs.Ending.{EndsOver, watch, script_limit};
+ghost use Rattle.mq_script.specs.Running.{Told, TakesAll};
+
+use crate::devices::{PIECE, Sink, Source};
+use crate::outcome::{RunFault, Summary};
+use crate::progress::Progress;
+use mq_router::Router;
+use std::alloc::Global;
+
+/// How many bytes a script may have.
+const SCRIPT_LIMIT: u64 = 4_294_967_296;
+
+/// Reads the script, and answers its whole lines.
+fn read_lines<R: Source, W: Sink>(
+    progress: &mut Progress,
+    reader: &mut R,
+    writer: &mut W,
+    piece: &mut [u8],
+    limit: u64,
+) -> Result<(), RunFault>
+    requires piece { 0 < length piece.old }
+    requires lines { progress.old.summary.lines ≡ 0 }
+    requires line { progress.old.line.items ≡ [] }
+    ensures ok { OnOk result ((given : List ℕ) × Consumes (R.to_come reader.old) (R.to_come reader.new) given
+        × TakesAll limit progress.old progress.new given (R.to_come reader.new) (W.taken writer.old) (W.taken writer.new)) }
+    ensures ok_count { OnOk result ((R.failures reader.new ≡ R.failures reader.old) × (W.failures writer.new ≡ W.failures writer.old)) }
+    ensures err { (w : World) → Told w [] progress.old (W.taken writer.old) (W.taken writer.old) → IfErr result (λ e.
+        EndsOver limit w (Err e) (watch R.to_come R.failures reader.old reader.new) (watch W.taken W.failures writer.old writer.new)) }
+    ensures lines { OnOk result (progress.new.summary.lines + length progress.new.line.items ≤ limit) }
+{
+    let mut total: u64 = 0;
+    'reads: loop {
+        let n = match reader.read(piece) {
+            Ok(n) => n,
+            Err(_) => return Err(RunFault::Read),
+        };
+        if n == 0 {
+            return Ok(());
+        }
+        let room = limit - total;
+        if n as u64 > room {
+            progress.take(&piece[..room as usize], writer)?;
+            return Err(RunFault::TooMuch);
+        }
+        progress.take(&piece[..n], writer)?;
+        total += n as u64;
+    }
+}
+
+/// Runs a script of at most `limit` bytes as `run` does: of a longer one the lines that end within its first `limit`
+/// bytes are answered, and then the fault is that the script is too long.
+pub fn run_within<R: Source, W: Sink>(
+    alloc: Global,
+    router: Router,
+    reader: &mut R,
+    writer: &mut W,
+    limit: u64,
+) -> Result<Summary, RunFault>
+    ensures headline { (w : World) (script before : List ℕ) → StandsFor router w
+        → R.to_come reader.old ≡ Some script → W.taken writer.old ≡ Some before
+        → length script ≤ limit
+        → R.failures reader.new ≡ R.failures reader.old → W.failures writer.new ≡ W.failures writer.old
+        → result ≢ Err RunFault.Memory
+        → IsOkAnd result (λ summary. (W.taken writer.new ≡ Some (before ++ output w script)) × Summarizes w script summary) }
+    ensures ending { (w : World) → StandsFor router w → EndsOver limit w result
+        (watch R.to_come R.failures reader.old reader.new) (watch W.taken W.failures writer.old writer.new) }
+    ensures flushed { OnOk result (W.flushed writer.new ≡ W.taken writer.new) }
+{
+    let Ok(mut piece) = vec![in alloc; 0u8; PIECE] else {
+        return Err(RunFault::Memory);
+    };
+    let mut progress = Progress::new(alloc, router);
+    read_lines(&mut progress, reader, writer, piece.as_mut_slice(), limit)?;
+    progress.finish(writer)?;
+    Ok(progress.summary)
+}
+
+/// Runs a script: each line that is not blank is answered, and written, before the next one is applied, and at the end
+/// the writer is flushed once. Memory is that of the router, of one line and of its answer. Any error ends the run.
+pub fn run<R: Source, W: Sink>(
+    alloc: Global,
+    router: Router,
+    reader: &mut R,
+    writer: &mut W,
+) -> Result<Summary, RunFault>
+    // Where the devices tell their bytes and don't fail, the script isn't too long and memory suffices, all of the
+    // script is answered, and nothing else is written.
+    ensures headline { (w : World) (script before : List ℕ) → StandsFor router w
+        → R.to_come reader.old ≡ Some script → W.taken writer.old ≡ Some before
+        → length script ≤ script_limit
+        → R.failures reader.new ≡ R.failures reader.old → W.failures writer.new ≡ W.failures writer.old
+        → result ≢ Err RunFault.Memory
+        → IsOkAnd result (λ summary. (W.taken writer.new ≡ Some (before ++ output w script)) × Summarizes w script summary) }
+
+    // And how it ends whatever happens.
+    ensures ending { (w : World) → StandsFor router w → EndsOver script_limit w result
+        (watch R.to_come R.failures reader.old reader.new) (watch W.taken W.failures writer.old writer.new) }
+
+    // After Ok the writer has handed on all that it took.
+    ensures flushed { OnOk result (W.flushed writer.new ≡ W.taken writer.new) }
+{
+    run_within(alloc, router, reader, writer, SCRIPT_LIMIT)
+}
