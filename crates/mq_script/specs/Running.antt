@@ -1,14 +1,15 @@
 -- A run on its way: what is answered so far, and what is kept of the line that has not ended.
-use Rattle.std.specs.Prelude.{◌≡◌, ◌≤◌, ℕ, ◌+◌, List, [], ◌++◌, length, take, if◌then◌else◌, Bool, Option, Some, None, Result, Ok, Err, MatchResult}
+use Rattle.std.specs.Prelude.{◌≡◌, ◌≤◌, ℕ, ◌+◌, List, [], ◌++◌, length, take, if◌then◌else◌, Bool, Option, Some, None, is_some, Result, MatchResult}
 use Rattle.std.specs.Io.KnownBytes.{Appends, IsAtEnd}
 use Rattle.mq_world.specs.World.{World, Request}
+use Rattle.mq_world.specs.Refusals.{refusal}
 use Rattle.mq_world.specs.After.{next}
 use Rattle.mq_router.specs.StandsFor.{State, StandsFor}
 use Rattle.mq_script.specs.declared.outcome.RunFault.{RunFault}
 use Rattle.mq_script.specs.declared.outcome.RunFault.TheVariants as fault
 use Rattle.mq_script.specs.declared.progress.Progress.{Progress}
 use Rattle.mq_lines.specs.Reading.{reading, line_limit}
-use Rattle.mq_script.specs.Output.{whole_lines, last_piece, output, whole_output, command_in, world_after, text_of, is_refused, refused_from, Summarizes}
+use Rattle.mq_script.specs.Output.{whole_lines, last_piece, output, whole_output, command_in, world_after, command_text, text_of, is_refused, refused_from, Summarizes}
 use Rattle.mq_script.specs.Ending.{AppendsSome, WritesLines}
 
 -- how much of a line is kept: one byte more than a line may have
@@ -22,6 +23,12 @@ next_or w (Some request) = next w request
 -- the world after one more line
 unfoldable pub world_then : World → List ℕ → World
 world_then w line = next_or w (command_in (reading line))
+
+-- command k was answered in a text, as refused or not
+pub record IsAnswered (k : ℕ) (w : World) (request : Request) (was_refused : Bool) (router : State) (old new : List ℕ) : Type 0 where
+  pub text : new ≡ old ++ command_text k w request (refusal w request)
+  pub refused : was_refused ≡ is_some (refusal w request)
+  pub stands : StandsFor router (next w request)
 
 -- line k was answered in a text, as refused or not
 pub record IsTold (k : ℕ) (w : World) (line : List ℕ) (was_refused : Bool) (router : State) (old new : List ℕ) : Type 0 where

@@ -54,6 +54,26 @@ fn read_lines<R: Source, W: Sink>(
     }
 }
 
+/// Reads the script, answers its lines and its last piece, and hands the answers on.
+fn answer_all<R: Source, W: Sink>(
+    progress: &mut Progress,
+    reader: &mut R,
+    writer: &mut W,
+    piece: &mut [u8],
+    limit: u64,
+) -> Result<Summary, RunFault>
+    requires piece { 0 < length piece.old }
+    requires lines { progress.old.summary.lines ≡ 0 }
+    requires line { progress.old.line.items ≡ [] }
+    ensures ending { (w : World) → Told w [] progress.old (W.taken writer.old) (W.taken writer.old) → EndsOver limit w result
+        (watch R.to_come R.failures reader.old reader.new) (watch W.taken W.failures writer.old writer.new) }
+    ensures flushed { OnOk result (W.flushed writer.new ≡ W.taken writer.new) }
+{
+    read_lines(progress, reader, writer, piece, limit)?;
+    progress.finish(writer)?;
+    Ok(progress.summary)
+}
+
 /// Runs a script of at most `limit` bytes as `run` does: of a longer one the lines that end within its first `limit`
 /// bytes are answered, and then the fault is that the script is too long.
 pub fn run_within<R: Source, W: Sink>(
@@ -77,9 +97,7 @@ pub fn run_within<R: Source, W: Sink>(
         return Err(RunFault::Memory);
     };
     let mut progress = Progress::new(alloc, router);
-    read_lines(&mut progress, reader, writer, piece.as_mut_slice(), limit)?;
-    progress.finish(writer)?;
-    Ok(progress.summary)
+    answer_all(&mut progress, reader, writer, piece.as_mut_slice(), limit)
 }
 
 /// Runs a script: each line that is not blank is answered, and written, before the next one is applied, and at the end

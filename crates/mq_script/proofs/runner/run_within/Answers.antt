@@ -1,62 +1,10 @@
-use Rattle.std.proofs.Common.{[], arith}
-use Rattle.std.proofs.lemmas.Result.{err_from_is_err_and}
-use Rattle.mq_script.specs.Running.{TakesBytes, EndsLines, StopsLast}
-use Rattle.mq_script.proofs.RunLemmas.{Ending-last}
 use Rattle.mq_script.proofs.HeadlineLemmas.{EndsOver-honest}
 use Rattle.mq_script.proofs.runner.run_within.Goals as goal
 
-pub returns-in_err-read_lines-clause-ending : goal.returns-in_err-read_lines-clause-ending
-returns-in_err-read_lines-clause-ending g c = λ w s.
-    let fault = err_from_is_err_and c.from_residual.result c.from_residual.ensures.1 in
-    rw (fault.1, fault.2) (c.in_err-read_lines.ensures.err w (c.new-progress.ensures.told w _ s))
-
-pub returns-in_err-finish-clause-ending : goal.returns-in_err-finish-clause-ending
-unfolding TakesBytes StopsLast
-returns-in_err-finish-clause-ending g c = λ w s.
-    let a = g.W.Sink.taken c.args.writer.now in
-    let all = c.in_ok-read_lines.ensures.ok in
-    let told = all.2.taken w [] a (c.new-progress.ensures.told w a s) in
-    let last = c.in_err-finish.ensures.ends w all.0 a told in
-    let read = c.in_ok-read_lines.ensures.ok_count in
-    let finished = c.in_err-finish.ensures.counted in
-    let fault = err_from_is_err_and c.from_residual-in_err-finish.result c.from_residual-in_err-finish.ensures.1 in
-    rw (fault.1, fault.2) (
-      all.0,
-      all.1,
-      Ending-last c.args.limit w _ _ all.2.ended last read.0 (let written = read.1 in omega arith),
-    )
-
 pub returns-clause-ending : goal.returns-clause-ending
-unfolding TakesBytes EndsLines
-returns-clause-ending g c = λ w s.
-    let a = g.W.Sink.taken c.args.writer.now in
-    let all = c.in_ok-read_lines.ensures.ok in
-    let told = all.2.taken w [] a (c.new-progress.ensures.told w a s) in
-    let done = c.in_ok-finish.ensures.ends w all.0 a told in
-    let read = c.in_ok-read_lines.ensures.ok_count in
-    let finished = c.in_ok-finish.ensures.counted in (
-      all.0,
-      all.1,
-      record {
-        ended = all.2.ended;
-        within = all.2.within;
-        written = done.written;
-        summary = done.summary;
-        reader = read.0;
-        writer = let written = read.1 in omega arith;
-      },
-    )
+returns-clause-ending g c = λ w stands. c.answer_all.ensures.ending w (c.new-progress.ensures.told w _ stands)
 
--- ## The headline follows from the end
-
-pub returns-in_err-read_lines-clause-headline : goal.returns-in_err-read_lines-clause-headline
-returns-in_err-read_lines-clause-headline g c = λ w script before stands.
-    EndsOver-honest c.args.limit w _ _ _ script before (returns-in_err-read_lines-clause-ending g c w stands)
-
-pub returns-in_err-finish-clause-headline : goal.returns-in_err-finish-clause-headline
-returns-in_err-finish-clause-headline g c = λ w script before stands.
-    EndsOver-honest c.args.limit w _ _ _ script before (returns-in_err-finish-clause-ending g c w stands)
-
+-- the headline follows from the end
 pub returns-clause-headline : goal.returns-clause-headline
 returns-clause-headline g c = λ w script before stands.
     EndsOver-honest c.args.limit w _ _ _ script before (returns-clause-ending g c w stands)
