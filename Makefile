@@ -1,6 +1,7 @@
 # run: proves and builds mqroute and what it stands on, and runs it on a sample script.
 # test: the gate: rules of the sources, every proof from nothing, the must-fail edits, the tests, then the worked rows as a
-# user runs them, each growth of memory refused in turn, and long scripts in little memory.
+# user runs them, each growth of memory refused in turn, long scripts in little memory, and a talk
+# over a pipe and a terminal.
 # bench: measures the built program (bench/README.md).
 # install: puts the built program, its man page, its completion and the tools beside real brokers below PREFIX; uninstall
 # takes them out again.
@@ -25,6 +26,7 @@ test:
 	tests/rows.sh
 	tests/refused.sh
 	tests/memory.sh
+	tests/unbuffered.py
 	tests/readme.py
 	python3 -m unittest discover -s brokers/tests
 

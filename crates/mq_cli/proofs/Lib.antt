@@ -1,4 +1,5 @@
 pub mod ScriptLemmas
 pub mod AclFileLemmas
 pub mod NumberLemmas
+pub mod FlagLemmas
 pub mod ProgramLemmas

@@ -1,9 +1,10 @@
 -- The command line of the program, in the words of `clap`.
-use Rattle.std.specs.Prelude.{◌≡◌, ◌≢◌, ℕ, ◌^◌, ◌&&◌, Bool, nat_lt, if◌then◌else◌, List, length, Option, Some, None, option_map, option_and_then, codes, string_bytes}
+use Rattle.std.specs.Prelude.{◌≡◌, ◌≢◌, ◌↔◌, ℕ, ◌^◌, ◌&&◌, Bool, nat_lt, if◌then◌else◌, List, length, Option, Some, None, option_map, option_and_then, codes, string_bytes, IsTrue}
 use Rattle.std.specs.List.{list_all}
 use Rattle.std.specs.Char.{digit_value}
 use Rattle.std.specs.Str.Parse.{digits_value, without_leading_plus}
 use Rattle.clap.specs.Words.{App, Rule, Text, Kinds, IsAmong, new_app, new_rule, with_rule, first_of, one_of, matches_of}
+use Rattle.clap.specs.declared.builder.action.ArgAction.TheVariants.{SetTrue}
 use Rattle.clap.specs.declared.builder.value_parser.ValueParser.TheVariants.{Unsigned}
 use Rattle.clap.specs.declared.error.ErrorKind.{ErrorKind}
 use Rattle.clap.specs.declared.error.ErrorKind.TheVariants.{DisplayHelp}
@@ -23,15 +24,22 @@ number_option name = record (new_rule name) {
   parser = Some (Unsigned 0 4294967295);
 }
 
+-- `--unbuffered`
+abbrev pub unbuffered : Rule
+unbuffered = record (new_rule (codes "unbuffered")) {
+  long = Some (codes "unbuffered");
+  action = Some SetTrue;
+}
+
 -- `SCRIPT`
 abbrev pub script : Rule
 script = record (new_rule (codes "script")) { value_names = 1 }
 
--- `mqroute [--acl-file FILE] [--max-retained N] [--max-queued N] [SCRIPT]`
+-- `mqroute [--acl-file FILE] [--max-retained N] [--max-queued N] [--unbuffered] [SCRIPT]`
 abbrev pub mqroute : App
 mqroute =
-    with_rule (with_rule (with_rule (with_rule (new_app (codes "mqroute")) acl_file) (number_option (codes "max-retained")))
-    (number_option (codes "max-queued"))) script
+    with_rule (with_rule (with_rule (with_rule (with_rule (new_app (codes "mqroute")) acl_file)
+    (number_option (codes "max-retained"))) (number_option (codes "max-queued"))) unbuffered) script
 
 -- the value of an option in the words
 abbrev pub given : Text → List Text → Option Text
@@ -50,11 +58,16 @@ number_in text = let digits = without_leading_plus text in if is_word digits the
 abbrev pub number_given : Text → List Text → Option ℕ
 number_given id words = option_and_then number_in (one_of id (matches_of mqroute words))
 
+-- a flag is among the words
+abbrev pub IsGiven : Text → List Text → Type 0
+IsGiven id words = one_of id (matches_of mqroute words) ≡ Some (codes "true")
+
 -- the options are those of the words
 pub record AreGiven (words : List Text) (options : Options) : Type 0 where
   pub acl_file : option_map string_bytes options.acl_file ≡ given (codes "acl-file") words
   pub max_retained : options.max_retained ≡ number_given (codes "max-retained") words
   pub max_queued : options.max_queued ≡ number_given (codes "max-queued") words
+  pub unbuffered : IsTrue options.unbuffered ↔ IsGiven (codes "unbuffered") words
   pub script : option_map string_bytes options.script ≡ given (codes "script") words
 
 -- why the words are refused, unless memory ran out: of some kind that they have

@@ -1,11 +1,11 @@
 //! The command line.
 ghost use Rattle.std.specs.Prelude.{◌≡◌, [], false, map, option_map, string_bytes, IfOk, OnOk, IfErr};
 ghost use Rattle.clap.specs.Words.{app_of, rule_of, rows_of, found_of, matches_of, fault_of, FailsBy};
-ghost use Rattle.mq_cli.specs.CommandLine.{mqroute, acl_file, number_option, script, AreGiven, IsFaultOf};
+ghost use Rattle.mq_cli.specs.CommandLine.{mqroute, acl_file, number_option, unbuffered, script, AreGiven, IsFaultOf};
 
 use clap::builder::ValueParser;
 use clap::error::ErrorKind;
-use clap::{Arg, ArgMatches, Command, Error};
+use clap::{Arg, ArgAction, ArgMatches, Command, Error};
 use std::alloc::{AllocError, Global};
 
 const ABOUT: &str = "Answers a script of MQTT 5.0 routing commands, line by line";
@@ -16,6 +16,8 @@ const ACL_FILE_HELP: &str =
 const MAX_RETAINED_HELP: &str = "Refuse a message that would be one more than N retained ones";
 
 const MAX_QUEUED_HELP: &str = "Let up to N copies wait for a client that is away, in place of 1000";
+
+const UNBUFFERED_HELP: &str = "Write the answers so far before waiting for more of the script";
 
 const SCRIPT_HELP: &str = "The script; absent or -, standard input";
 
@@ -63,6 +65,8 @@ pub struct Options {
     pub max_retained: Option<u32>,
     /// How many copies may wait for a client that is away; without it, 1,000.
     pub max_queued: Option<u32>,
+    /// Whether the answers so far are written before each read of the script.
+    pub unbuffered: bool,
     /// The file of the script.
     pub script: Option<String>,
 }
@@ -110,6 +114,16 @@ fn number_option<'a>(alloc: Global, name: &'a str, help: &'a str) -> Arg<'a>
         .help(help)
 }
 
+// `--unbuffered`
+fn unbuffered_flag<'a>(alloc: Global) -> Arg<'a>
+    ensures { (rule_of result ≡ unbuffered) × (result.global ≡ false) }
+{
+    Arg::new(alloc, "unbuffered")
+        .long("unbuffered")
+        .action(ArgAction::SetTrue)
+        .help(UNBUFFERED_HELP)
+}
+
 // `SCRIPT`
 fn script_argument<'a>(alloc: Global) -> Arg<'a>
     ensures { (rule_of result ≡ script) × (result.global ≡ false) }
@@ -119,7 +133,7 @@ fn script_argument<'a>(alloc: Global) -> Arg<'a>
         .help(SCRIPT_HELP)
 }
 
-/// `mqroute [--acl-file FILE] [--max-retained N] [--max-queued N] [SCRIPT]`.
+/// `mqroute [--acl-file FILE] [--max-retained N] [--max-queued N] [--unbuffered] [SCRIPT]`.
 fn command<'a>(alloc: Global) -> Result<Command<'a>, AllocError>
     ensures { IfOk result (λ c. app_of c ≡ mqroute) }
 {
@@ -127,7 +141,8 @@ fn command<'a>(alloc: Global) -> Result<Command<'a>, AllocError>
     let listed = empty.arg(acl_file_option(alloc))?;
     let bounded = listed.arg(number_option(alloc, "max-retained", MAX_RETAINED_HELP))?;
     let limited = bounded.arg(number_option(alloc, "max-queued", MAX_QUEUED_HELP))?;
-    let whole = limited.arg(script_argument(alloc))?;
+    let flagged = limited.arg(unbuffered_flag(alloc))?;
+    let whole = flagged.arg(script_argument(alloc))?;
     Ok(whole.about(ABOUT).after_help(AFTER_HELP))
 }
 
@@ -162,6 +177,7 @@ pub fn arguments(alloc: Global, words: &[String]) -> Result<Options, UsageFault>
                 acl_file,
                 max_retained: matches.get_one("max-retained"),
                 max_queued: matches.get_one("max-queued"),
+                unbuffered: matches.get_one("unbuffered").unwrap_or(false),
                 script,
             })
         }

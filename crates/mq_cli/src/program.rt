@@ -1,6 +1,6 @@
 //! All of the program but its `main`.
 ghost use Rattle.std.specs.Prelude.{◌≡◌, ◌≢◌, ◌≤◌, ◌⊎◌, ◌↔◌, [], ℕ, List, Some, None, Ok, if◌then◌else◌};
-ghost use Rattle.std.specs.Prelude.{OnOk, OnErr, IfOk, IsOk, IfErr, is_ok, map, option_map, string_bytes, codes};
+ghost use Rattle.std.specs.Prelude.{OnOk, OnErr, IfOk, IsOk, IfErr, IsTrue, is_ok, map, option_map, string_bytes, codes};
 ghost use Rattle.std.specs.Io.KnownBytes.{Appends};
 ghost use Rattle.std.specs.IoError.{error_kind};
 ghost use Rattle.clap.specs.Words.{fault_of};
@@ -8,8 +8,8 @@ ghost use Rattle.mq_world.specs.World.{World, empty_world, within};
 ghost use Rattle.mq_world.specs.Views.{limits_of};
 ghost use Rattle.mq_router.specs.StandsFor.{StandsFor};
 ghost use Rattle.mq_cli.specs.AclFile.{IsAnswerTo};
-ghost use Rattle.mq_cli.specs.CommandLine.{mqroute, given, IsFaultOf};
-ghost use Rattle.mq_script.specs.Ending.{AppendsSome};
+ghost use Rattle.mq_cli.specs.CommandLine.{mqroute, given, IsGiven, IsFaultOf};
+ghost use Rattle.mq_script.specs.Ending.{AppendsSome, EndsOver, script_limit, watch};
 ghost use Rattle.mq_script.specs.Output.{output};
 ghost use Rattle.mq_cli.specs.Program.{script_file, failure_status, limits_by, limits_given, TellsUsage};
 ghost use Rattle.mq_cli.specs.Program.{BeginsWith, BeginsIn, IsScript, AnswersScript, AnswersAll, WritesFront};
@@ -19,7 +19,8 @@ use crate::command_line::{Options, UsageFault, arguments};
 use mq_acl::{Acl, AclFault, AclKind};
 use mq_router::Router;
 use mq_script::{
-    RUN_FAILED, RunFault, Sink, Source, StdSource, Summary, exit_status, flush, run, write_all,
+    RUN_FAILED, RunFault, Sink, Source, StdSource, Summary, exit_status, flush, run,
+    run_unbuffered, write_all,
 };
 use mq_world::Limits;
 use std::alloc::{AllocError, Global};
@@ -168,12 +169,34 @@ fn script_of(options: &Options) -> Option<&str>
     }
 }
 
+/// Runs a script, unbuffered where that is asked for.
+fn run_as_asked<S: Source, W: Sink>(
+    alloc: Global,
+    router: Router,
+    source: &mut S,
+    out: &mut W,
+    unbuffered: bool,
+) -> Result<Summary, RunFault>
+    ensures ending { (w : World) → StandsFor router w → EndsOver script_limit w result
+        (watch S.to_come S.failures source.old source.new)
+        (watch W.taken W.failures out.old out.new) }
+    ensures flushed { OnOk result (W.flushed out.new ≡ W.taken out.new) }
+    ensures unbuffered { IsTrue unbuffered → S.failures source.new ≢ S.failures source.old
+        → W.flushed out.new ≡ W.taken out.new }
+{
+    if unbuffered {
+        return run_unbuffered(alloc, router, source, out);
+    }
+    run(alloc, router, source, out)
+}
+
 /// Runs the script that a source gives.
 fn run_source<'a, S: Source, W: Sink>(
     alloc: Global,
     router: Router,
     source: &mut S,
     out: &mut W,
+    unbuffered: bool,
 ) -> Result<Summary, Failure<'a>>
     ensures ok { (w : World) (before : List ℕ) → StandsFor router w → W.taken out.old ≡ Some before → IfOk result (λ summary.
         (script : List ℕ) × IsScript None (S.to_come source.old) script × AnswersScript w script before (W.taken out.new) summary) }
@@ -181,8 +204,10 @@ fn run_source<'a, S: Source, W: Sink>(
         → WritesFront w None (S.to_come source.old) (W.taken out.old) (W.taken out.new) }
     ensures err { IfErr result (λ failure. failure_status failure ≡ 3) }
     ensures flushed { OnOk result (W.flushed out.new ≡ W.taken out.new) }
+    ensures unbuffered { IsTrue unbuffered → S.failures source.new ≢ S.failures source.old
+        → W.flushed out.new ≡ W.taken out.new }
 {
-    match run(alloc, router, source, out) {
+    match run_as_asked(alloc, router, source, out, unbuffered) {
         Ok(summary) => Ok(summary),
         Err(fault) => Err(run_failure(fault)),
     }
@@ -195,6 +220,7 @@ fn run_file<'a, R: Files, W: Sink>(
     router: Router,
     file: &'a str,
     out: &mut W,
+    unbuffered: bool,
 ) -> Result<Summary, Failure<'a>>
     ensures ok { (w : World) (before : List ℕ) → StandsFor router w → W.taken out.old ≡ Some before → IfOk result (λ summary.
         (script : List ℕ) × AnswersScript w script before (W.taken out.new) summary) }
@@ -207,7 +233,7 @@ fn run_file<'a, R: Files, W: Sink>(
     ensures flushed { OnOk result (W.flushed out.new ≡ W.taken out.new) }
 {
     let mut source = open(rt, file, Failure::Script(file))?;
-    run_source(alloc, router, &mut source, out)
+    run_source(alloc, router, &mut source, out, unbuffered)
 }
 
 /// Runs the script that the options ask for.
@@ -232,10 +258,12 @@ fn run_with<'a, R: Files, S: Source, W: Sink>(
     ensures unreadable { IfErr result (λ failure. failure_status failure ≡ 2
         → (input.new ≡ input.old) × (out.new ≡ out.old)) }
     ensures flushed { OnOk result (W.flushed out.new ≡ W.taken out.new) }
+    ensures unbuffered { IsTrue options.now.unbuffered → S.failures input.new ≢ S.failures input.old
+        → W.flushed out.new ≡ W.taken out.new }
 {
     match script_of(options) {
-        Some(file) => run_file(rt, alloc, router, file, out),
-        None => run_source(alloc, router, input, out),
+        Some(file) => run_file(rt, alloc, router, file, out, options.unbuffered),
+        None => run_source(alloc, router, input, out, options.unbuffered),
     }
 }
 
@@ -261,6 +289,8 @@ fn run_options<'a, R: Files, S: Source, W: Sink>(
     ensures unreadable { IfErr result (λ failure. failure_status failure ≡ 2
         → (input.new ≡ input.old) × (out.new ≡ out.old)) }
     ensures flushed { OnOk result (W.flushed out.new ≡ W.taken out.new) }
+    ensures unbuffered { IsTrue options.now.unbuffered → S.failures input.new ≢ S.failures input.old
+        → W.flushed out.new ≡ W.taken out.new }
 {
     let access = access_list(rt, alloc, options)?;
     let router = Router::with_limits(alloc, access, limits(options));
@@ -359,6 +389,11 @@ pub fn start<R: Files, S: Source, W: Sink, E: Sink>(
 
     // At a status of 2 nothing was read from the input, and nothing written.
     ensures unreadable { result ≡ 2 → (input.new ≡ input.old) × (out.new ≡ out.old) }
+
+    // With `--unbuffered` the answers so far are handed on before each read: where one of the input fails, all that was
+    // written has been.
+    ensures unbuffered { IsGiven (codes "unbuffered") (map string_bytes words.now)
+        → S.failures input.new ≢ S.failures input.old → W.flushed out.new ≡ W.taken out.new }
 
     // Of words that are not understood a fault that they have is told, or that memory ran out: of help the status is 0,
     // or 3 where it can't be written, of another fault 2, and of want of memory 3.

@@ -3,7 +3,7 @@ use crate::hostile_devices::{Page, Script, Spaces, Trouble};
 use crate::table::{FIRST_LOOK, REFUSALS};
 use mq_cli::{AclFileFault, read_acl};
 use mq_router::Router;
-use mq_script::{RunFault, Sink, Source, Summary, run, run_within};
+use mq_script::{RunFault, Sink, Source, Summary, run, run_unbuffered, run_within};
 use std::alloc::{AllocError, Global};
 use std::process::Abort;
 use std::test::Fail;
@@ -66,6 +66,20 @@ fn flush_after_a_last_piece(rt: HostRuntime) -> Result<(), Fail> {
         assert!(rt; writer.is_same);
         assert_eq!(rt; (writer.flushes, writer.flushed), (1, output.len()));
     }
+    Ok(())
+}
+
+#[test]
+fn flushes_of_an_unbuffered_run(rt: HostRuntime) -> Result<(), Fail> {
+    let alloc = rt.alloc();
+    let (script, output) = (FIRST_LOOK.script.as_bytes(), FIRST_LOOK.output);
+    let mut writer = Page::new(output.as_bytes(), 100);
+    let mut reader = Script::new(script, 100);
+    run_unbuffered(alloc, Router::new(alloc), &mut reader, &mut writer)?;
+    assert!(rt; writer.is_same);
+    // One comes before each read, of which the last gives nothing, and one at the end.
+    let flushes = script.len().div_ceil(100).saturating_add(2);
+    assert_eq!(rt; (writer.flushes, writer.flushed), (flushes, output.len()));
     Ok(())
 }
 

@@ -24,7 +24,7 @@ struct Case {
     status: u8,
 }
 
-static CASES: [Case; 10] = [
+static CASES: [Case; 11] = [
     Case {
         arguments: "script",
         out: ALLOWED,
@@ -33,6 +33,12 @@ static CASES: [Case; 10] = [
     },
     Case {
         arguments: "-",
+        out: ALLOWED,
+        err: "",
+        status: 0,
+    },
+    Case {
+        arguments: "--unbuffered",
         out: ALLOWED,
         err: "",
         status: 0,
@@ -168,14 +174,15 @@ fn access_list_that_is_too_long(rt: HostRuntime) -> Result<(), Fail> {
 fn options(rt: HostRuntime) -> Result<(), Fail> {
     let none = arguments(rt.alloc(), words(rt.alloc(), "")?.as_slice())?;
     assert!(rt; none.acl_file.is_none() && none.script.is_none());
-    assert!(rt; none.max_retained.is_none() && none.max_queued.is_none());
+    assert!(rt; none.max_retained.is_none() && none.max_queued.is_none() && !none.unbuffered);
     let both = arguments(rt.alloc(), words(rt.alloc(), "--acl-file f s")?.as_slice())?;
     assert_eq!(rt; both.acl_file.as_deref(), Some("f"));
     assert_eq!(rt; both.script.as_deref(), Some("s"));
-    let limits = words(rt.alloc(), "--max-retained 5 --max-queued 0 s")?;
+    let limits = words(rt.alloc(), "--max-retained 5 --unbuffered --max-queued 0 s")?;
     let limited = arguments(rt.alloc(), limits.as_slice())?;
     assert_eq!(rt; limited.max_retained, Some(5));
     assert_eq!(rt; limited.max_queued, Some(0));
+    assert!(rt; limited.unbuffered);
     assert_eq!(rt; limited.script.as_deref(), Some("s"));
     Ok(())
 }

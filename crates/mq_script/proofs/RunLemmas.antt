@@ -2,9 +2,9 @@
 use Rattle.std.proofs.Common.{◌≡◌, ◌≤◌, ◌-◌, ℕ, zero, suc, ◌+◌, List, [], ◌∷◌, ◌++◌, Bool, true, false, cond, eqb, length, take, drop, take-append-drop, inl, inr, Err, min, Option, refl, sym, ap, subst, ◌∙◌, arith, append_assoc, append-nil, length-append, length-take}
 use Rattle.std.proofs.lemmas.Bool.Decides.{Decides-eqb}
 use Rattle.std.proofs.lemmas.List.{take_all, take-append-le}
-use Rattle.std.proofs.KnownBytes.{Appends-trans, Appends-nil}
+use Rattle.std.proofs.KnownBytes.{Appends-trans, Appends-nil, Appends-kept}
 use Rattle.std.proofs.Math.Seq.{take-append-add}
-use Rattle.std.specs.Io.KnownBytes.{Appends, IsAtEnd}
+use Rattle.std.specs.Io.KnownBytes.{Appends, Keeps, IsAtEnd}
 use Rattle.mq_world.specs.World.{World}
 use Rattle.mq_router.specs.StandsFor.{State, StandsFor}
 use Rattle.mq_script.specs.declared.outcome.RunFault.{RunFault}
@@ -201,6 +201,14 @@ Ending-last limit w fault.Memory seen end s p q = record { written = s; reader =
 
 pub AppendsSome-all : (a b : Option (List ℕ)) (text : List ℕ) → Appends a b text → AppendsSome a b text
 AppendsSome-all a b text p = (text, p, ([], sym (append-nil text)))
+
+-- a flush that fails writes nothing
+pub Stopped-flush : (a b c : Option (List ℕ)) (w : World) (g : List ℕ) (e : RunFault)
+    → Appends a b (whole_output w g) → Keeps b c → e ≡ fault.Write → Stopped w g e a c
+Stopped-flush a b c w g fault.Write h k is = AppendsSome-all a c _ (Appends-kept a b c _ h k)
+Stopped-flush a b c w g fault.Read h k is = absurd (let bad : fault.Read ≡ fault.Write = is in cc)
+Stopped-flush a b c w g fault.TooMuch h k is = absurd (let bad : fault.TooMuch ≡ fault.Write = is in cc)
+Stopped-flush a b c w g fault.Memory h k is = absurd (let bad : fault.Memory ≡ fault.Write = is in cc)
 
 -- ## The limit
 

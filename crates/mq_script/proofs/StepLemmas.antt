@@ -30,6 +30,20 @@ unfolding TakesBytes
 TakesBytes-text p q xs n a is one router summary line = λ w given start told.
     Told-text w given xs n p q start a is one told router summary line
 
+-- a flush after them writes nothing
+pub TakesBytes-kept : (p q : Progress) (xs : List ℕ) (a b c : Option (List ℕ))
+    → TakesBytes p q xs a b → Keeps b c → TakesBytes p q xs a c
+unfolding TakesBytes
+TakesBytes-kept p q xs a b c s keeps = λ w given start told.
+    let now = s w given start told in
+    record {
+      stands = now.stands;
+      lines = now.lines;
+      refused = now.refused;
+      line = now.line;
+      written = Appends-kept start b c _ now.written keeps;
+    }
+
 -- ## A run that stops among them
 
 pub StopsAmong-then : (p q : Progress) (xs ys : List ℕ) (e : RunFault) (a b c : Option (List ℕ)) → TakesBytes p q xs a b → StopsAmong q ys e b c → StopsAmong p (xs ++ ys) e a c

@@ -1,21 +1,35 @@
 //! The run of a script.
 ghost use Rattle.std.specs.Prelude.{◌≡◌, ◌≢◌, ◌+◌, ◌≤◌, ◌<◌, ◌++◌, [], ℕ, List, Some, Ok, Err};
-ghost use Rattle.std.specs.Prelude.{OnOk, IfErr, IsOkAnd, length};
-ghost use Rattle.std.specs.Io.KnownBytes.{Consumes};
+ghost use Rattle.std.specs.Prelude.{OnOk, IfErr, IsOkAnd, IsTrue, length};
+ghost use Rattle.std.specs.Io.KnownBytes.{Consumes, Keeps};
 ghost use Rattle.mq_world.specs.World.{World};
 ghost use Rattle.mq_router.specs.StandsFor.{StandsFor};
 ghost use Rattle.mq_script.specs.Output.{output, Summarizes};
-ghost use Rattle.mq_script.specs.Ending.{EndsOver, watch, script_limit};
+ghost use Rattle.mq_script.specs.Ending.{EndsOver, failures_of, watch, script_limit};
 ghost use Rattle.mq_script.specs.Running.{Told, TakesAll};
 
 use crate::devices::{PIECE, Sink, Source};
 use crate::outcome::{RunFault, Summary};
 use crate::progress::Progress;
+use crate::write::flush;
 use mq_router::Router;
 use std::alloc::Global;
 
 /// How many bytes a script may have.
 const SCRIPT_LIMIT: u64 = 4_294_967_296;
+
+/// What comes before each read: an unbuffered run hands on all that its writer has taken.
+fn before_read<W: Sink>(writer: &mut W, unbuffered: bool) -> Result<(), RunFault>
+    ensures kept { Keeps (W.taken writer.old) (W.taken writer.new) }
+    ensures flushed { IsTrue unbuffered → OnOk result (W.flushed writer.new ≡ W.taken writer.new) }
+    ensures counted { W.failures writer.new ≡ W.failures writer.old + failures_of result }
+    ensures kind { IfErr result (λ e. e ≡ RunFault.Write) }
+{
+    if !unbuffered {
+        return Ok(());
+    }
+    flush(writer)
+}
 
 /// Reads the script, and answers its whole lines.
 fn read_lines<R: Source, W: Sink>(
@@ -24,6 +38,7 @@ fn read_lines<R: Source, W: Sink>(
     writer: &mut W,
     piece: &mut [u8],
     limit: u64,
+    unbuffered: bool,
 ) -> Result<(), RunFault>
     requires piece { 0 < length piece.old }
     requires lines { progress.old.summary.lines ≡ 0 }
@@ -34,9 +49,12 @@ fn read_lines<R: Source, W: Sink>(
     ensures err { (w : World) → Told w [] progress.old (W.taken writer.old) (W.taken writer.old) → IfErr result (λ e.
         EndsOver limit w (Err e) (watch R.to_come R.failures reader.old reader.new) (watch W.taken W.failures writer.old writer.new)) }
     ensures lines { OnOk result (progress.new.summary.lines + length progress.new.line.items ≤ limit) }
+    ensures unbuffered { IsTrue unbuffered → R.failures reader.new ≢ R.failures reader.old
+        → W.flushed writer.new ≡ W.taken writer.new }
 {
     let mut total: u64 = 0;
     'reads: loop {
+        before_read(writer, unbuffered)?;
         let n = match reader.read(piece) {
             Ok(n) => n,
             Err(_) => return Err(RunFault::Read),
@@ -61,17 +79,45 @@ fn answer_all<R: Source, W: Sink>(
     writer: &mut W,
     piece: &mut [u8],
     limit: u64,
+    unbuffered: bool,
 ) -> Result<Summary, RunFault>
     requires piece { 0 < length piece.old }
     requires lines { progress.old.summary.lines ≡ 0 }
     requires line { progress.old.line.items ≡ [] }
-    ensures ending { (w : World) → Told w [] progress.old (W.taken writer.old) (W.taken writer.old) → EndsOver limit w result
-        (watch R.to_come R.failures reader.old reader.new) (watch W.taken W.failures writer.old writer.new) }
+    ensures ending { (w : World) → Told w [] progress.old (W.taken writer.old) (W.taken writer.old)
+        → EndsOver limit w result (watch R.to_come R.failures reader.old reader.new)
+        (watch W.taken W.failures writer.old writer.new) }
     ensures flushed { OnOk result (W.flushed writer.new ≡ W.taken writer.new) }
+    ensures unbuffered { IsTrue unbuffered → R.failures reader.new ≢ R.failures reader.old
+        → W.flushed writer.new ≡ W.taken writer.new }
 {
-    read_lines(progress, reader, writer, piece, limit)?;
+    read_lines(progress, reader, writer, piece, limit, unbuffered)?;
     progress.finish(writer)?;
     Ok(progress.summary)
+}
+
+/// Runs a script of at most `limit` bytes.
+fn run_as<R: Source, W: Sink>(
+    alloc: Global,
+    router: Router,
+    reader: &mut R,
+    writer: &mut W,
+    limit: u64,
+    unbuffered: bool,
+) -> Result<Summary, RunFault>
+    ensures ending { (w : World) → StandsFor router w → EndsOver limit w result
+        (watch R.to_come R.failures reader.old reader.new)
+        (watch W.taken W.failures writer.old writer.new) }
+    ensures flushed { OnOk result (W.flushed writer.new ≡ W.taken writer.new) }
+    ensures unbuffered { IsTrue unbuffered → R.failures reader.new ≢ R.failures reader.old
+        → W.flushed writer.new ≡ W.taken writer.new }
+{
+    let Ok(mut piece) = vec![in alloc; 0u8; PIECE] else {
+        return Err(RunFault::Memory);
+    };
+    let mut progress = Progress::new(alloc, router);
+    let piece = piece.as_mut_slice();
+    answer_all(&mut progress, reader, writer, piece, limit, unbuffered)
 }
 
 /// Runs a script of at most `limit` bytes as `run` does: of a longer one the lines that end within its first `limit`
@@ -93,11 +139,7 @@ pub fn run_within<R: Source, W: Sink>(
         (watch R.to_come R.failures reader.old reader.new) (watch W.taken W.failures writer.old writer.new) }
     ensures flushed { OnOk result (W.flushed writer.new ≡ W.taken writer.new) }
 {
-    let Ok(mut piece) = vec![in alloc; 0u8; PIECE] else {
-        return Err(RunFault::Memory);
-    };
-    let mut progress = Progress::new(alloc, router);
-    answer_all(&mut progress, reader, writer, piece.as_mut_slice(), limit)
+    run_as(alloc, router, reader, writer, limit, false)
 }
 
 /// Runs a script: each line that is not blank is answered, and written, before the next one is applied, and at the end
@@ -125,4 +167,31 @@ pub fn run<R: Source, W: Sink>(
     ensures flushed { OnOk result (W.flushed writer.new ≡ W.taken writer.new) }
 {
     run_within(alloc, router, reader, writer, SCRIPT_LIMIT)
+}
+
+/// Runs a script as `run` does, and hands on the answers so far before each read, so that whoever waits for them before
+/// sending more of the script gets them.
+pub fn run_unbuffered<R: Source, W: Sink>(
+    alloc: Global,
+    router: Router,
+    reader: &mut R,
+    writer: &mut W,
+) -> Result<Summary, RunFault>
+    ensures headline { (w : World) (script before : List ℕ) → StandsFor router w
+        → R.to_come reader.old ≡ Some script → W.taken writer.old ≡ Some before
+        → length script ≤ script_limit
+        → R.failures reader.new ≡ R.failures reader.old → W.failures writer.new ≡ W.failures writer.old
+        → result ≢ Err RunFault.Memory
+        → IsOkAnd result (λ summary. (W.taken writer.new ≡ Some (before ++ output w script))
+        × Summarizes w script summary) }
+    ensures ending { (w : World) → StandsFor router w → EndsOver script_limit w result
+        (watch R.to_come R.failures reader.old reader.new)
+        (watch W.taken W.failures writer.old writer.new) }
+    ensures flushed { OnOk result (W.flushed writer.new ≡ W.taken writer.new) }
+
+    // Any read may fail, and where one does, all that was written has been handed on: it was, before that read.
+    ensures unbuffered { R.failures reader.new ≢ R.failures reader.old
+        → W.flushed writer.new ≡ W.taken writer.new }
+{
+    run_as(alloc, router, reader, writer, SCRIPT_LIMIT, true)
 }

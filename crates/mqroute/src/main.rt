@@ -4,7 +4,7 @@
 use mq_cli::{UNREADABLE, start};
 use mq_script::{RUN_FAILED, StdSink, StdSource};
 use std::env;
-use std::io::{self, BufWriter, ErrorKind, Write};
+use std::io::{self, BufWriter, ErrorKind, IsTerminal, Write};
 use std::process::ExitCode;
 
 /// How many bytes of answers are gathered for a write.
@@ -41,10 +41,15 @@ fn words(rt: &HostRuntime) -> io::Result<Vec<String>> {
     Ok(words)
 }
 
+// Whoever looks on sees each line's answers at once.
+fn room(rt: &HostRuntime) -> usize {
+    if rt.stdout().is_terminal() { 0 } else { BUFFER }
+}
+
 // Runs the program, and then writes what is still gathered, whatever its status is: the answers before a fault are shown.
 fn run(rt: &HostRuntime, words: &[String]) -> io::Result<u8> {
     let mut input = StdSource::new(rt.stdin());
-    let mut out = StdSink::new(BufWriter::with_capacity(rt.alloc(), BUFFER, rt.stdout())?);
+    let mut out = StdSink::new(BufWriter::with_capacity(rt.alloc(), room(rt), rt.stdout())?);
     let mut err = StdSink::new(rt.stderr());
     let status = start(rt, rt.alloc(), words, &mut input, &mut out, &mut err);
     let mut gathered = out.into_inner();

@@ -1,9 +1,10 @@
-use Rattle.std.proofs.Common.{◌∙◌, ap, codes}
+use Rattle.std.proofs.Common.{◌∙◌, ap, sym, codes}
 use Rattle.std.specs.Prelude.{option_and_then}
 use Rattle.clap.specs.Words.{first_of, one_of, found_of}
 use Rattle.clap.proofs.WalkLemmas.{first_value-rows, one_text-rows}
 use Rattle.mq_cli.specs.CommandLine.{number_in}
 use Rattle.mq_cli.proofs.NumberLemmas.{number-given}
+use Rattle.mq_cli.proofs.FlagLemmas.{flag-given}
 use Rattle.mq_cli.proofs.command_line.arguments.Goals as goal
 
 pub returns-in-Ok-clause-ok : goal.returns-in-Ok-clause-ok
@@ -15,5 +16,8 @@ returns-in-Ok-clause-ok c =
           ∙ ap (option_and_then number_in) (one_text-rows found (codes "max-retained") ∙ ap (one_of (codes "max-retained")) c.in-Ok.ensures.rows);
       max_queued = number-given _ c.get_one-in-Ok.result c.get_one-in-Ok.ensures.none c.get_one-in-Ok.ensures.value
           ∙ ap (option_and_then number_in) (one_text-rows found (codes "max-queued") ∙ ap (one_of (codes "max-queued")) c.in-Ok.ensures.rows);
+      unbuffered =
+          let read = one_text-rows found (codes "unbuffered") ∙ ap (one_of (codes "unbuffered")) c.in-Ok.ensures.rows in
+          rw (c.unwrap_or.ensures, sym read) (flag-given _ _ c.get_one-in-Ok-2.result c.get_one-in-Ok-2.ensures.none c.get_one-in-Ok-2.ensures.value);
       script = c.in_ok-script-in-Ok.ensures ∙ c.get_str-in-Ok.ensures ∙ first_value-rows found (codes "script") ∙ ap (first_of (codes "script")) c.in-Ok.ensures.rows;
     }

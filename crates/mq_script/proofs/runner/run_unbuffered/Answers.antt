@@ -1,0 +1,13 @@
+use Rattle.mq_script.specs.Ending.{script_limit}
+use Rattle.mq_script.proofs.HeadlineLemmas.{EndsOver-honest}
+use Rattle.mq_script.proofs.runner.run_unbuffered.Goals as goal
+
+-- the headline follows from the end
+pub returns-clause-headline : goal.returns-clause-headline
+unfolding script_limit
+returns-clause-headline g c = λ w script before stands.
+    EndsOver-honest script_limit w _ _ _ script before (c.run_as.ensures.ending w stands)
+
+pub returns-clause-ending : goal.returns-clause-ending
+unfolding script_limit
+returns-clause-ending g c = c.run_as.ensures.ending
