@@ -6,7 +6,7 @@ use Rattle.std.specs.Result.{result_ok}
 use Rattle.std.proofs.lemmas.List.{take-append-le, take_all}
 use Rattle.std.proofs.lemmas.List.Elements.{filter_map-append}
 use Rattle.mq_acl.specs.Lines.{Entry, Skipped, User, Topic, Pattern, entry_of}
-use Rattle.mq_acl.specs.Rows.{Who, Anonymous, AclRow, user_name, who_of, who_after, row_of, rows_in, entries_of, fault_at, faults_of, unless_faulty, out_of_memory}
+use Rattle.mq_acl.specs.Rows.{Who, Anonymous, AclRow, user_name, who_of, who_after, row_of, rows_in, entries_of, row_line, fault_at, faults_of, unless_faulty, out_of_memory}
 use Rattle.mq_acl.specs.Views.{who_then, fault_of, Fails, IsAdded}
 use Rattle.mq_acl.specs.declared.fault.AclKind.{AclKind}
 use Rattle.mq_acl.specs.declared.fault.AclKind.TheVariants as kinds
@@ -72,20 +72,34 @@ faults_append done more e =
     ∙ filter_map-append fault_of_line (enumerate_from 1 done) (enumerate_from (1 + length done) more)
     ∙ ap (λ l. l ++ filter_map fault_of_line (enumerate_from (1 + length done) more)) e
 
--- the first n lines are read, and have given these rows; the next ones are left
-pub record IsReadTo (all left : List (List ℕ)) (n : ℕ) (who : Who) (rows : List AclRow) : Type 0 where
+-- the number of each of the lines that says a row
+abbrev row_lines_of : List (List ℕ) → List ℕ
+row_lines_of ls = filter_map (λ numbered. row_line numbered.0 (entry_of numbered.1)) (enumerate_from 1 ls)
+
+row_lines_push : (done : List (List ℕ)) (line : List ℕ) (entry : Entry) → entry_of line ≡ Ok entry
+    → row_lines_of (done ++ line ∷ []) ≡ row_lines_of done ++ option_to_list (row_line (1 + length done) (Ok entry))
+row_lines_push done line entry e =
+    let number : ℕ × List ℕ → Option ℕ = (λ numbered. row_line numbered.0 (entry_of numbered.1)) in
+    ap (filter_map number) (enumerate_from-append 1 done (line ∷ []))
+    ∙ filter_map-append number (enumerate_from 1 done) (enumerate_from (1 + length done) (line ∷ []))
+    ∙ ap (λ l. row_lines_of done ++ l) (cons_option-nil (row_line (1 + length done) (entry_of line)) ∙ ap (λ r. option_to_list (row_line (1 + length done) r)) e)
+
+-- the first n lines are read, and have given these rows and their numbers; the next ones are left
+pub record IsReadTo (all left : List (List ℕ)) (n : ℕ) (who : Who) (rows : List AclRow) (numbers : List ℕ) : Type 0 where
   pub done : List (List ℕ)
   pub count : length done ≡ n
   pub parts : done ++ left ≡ all
   pub faultless : faults_of done ≡ []
   pub rows_are : rows ≡ rows_in (entries_of done)
   pub who_is : who ≡ who_after (entries_of done)
+  pub numbers_are : numbers ≡ row_lines_of done
 
-pub read_start : (all : List (List ℕ)) → IsReadTo all all 0 Anonymous []
-read_start all = record { done = []; count = refl; parts = refl; faultless = refl; rows_are = refl; who_is = refl }
+pub read_start : (all : List (List ℕ)) → IsReadTo all all 0 Anonymous [] []
+read_start all = record { done = []; count = refl; parts = refl; faultless = refl; rows_are = refl; who_is = refl; numbers_are = refl }
 
-pub read_step : (all left more : List (List ℕ)) (line : List ℕ) (n : ℕ) (who next : Who) (rows now : List AclRow) → IsReadTo all left n who rows → left ≡ line ∷ more → IsAdded line who next rows now → IsReadTo all more (n + 1) next now
-read_step all left more line n who next rows now s cut a =
+pub read_step : (all left more : List (List ℕ)) (line : List ℕ) (n : ℕ) (who next : Who) (rows now : List AclRow) (numbers numbers_now : List ℕ)
+    → IsReadTo all left n who rows numbers → left ≡ line ∷ more → IsAdded line (n + 1) who next rows numbers now numbers_now → IsReadTo all more (n + 1) next now numbers_now
+read_step all left more line n who next rows now numbers numbers_now s cut a =
     let entries = entries_of s.done in
     let push = sym (entries_push s.done line a.entry a.says) in
     record {
@@ -95,10 +109,14 @@ read_step all left more line n who next rows now s cut a =
       faultless = faults_append s.done (line ∷ []) s.faultless ∙ ap (λ r. cons_option (fault_at (1 + length s.done) r) []) a.says;
       rows_are = a.added ∙ (λ i. s.rows_are i ++ option_to_list (row_of (s.who_is i) a.entry)) ∙ sym (rows_push entries a.entry) ∙ ap rows_in push;
       who_is = a.user ∙ ap (λ w. who_then w a.entry) s.who_is ∙ sym (who_after_push entries a.entry) ∙ ap who_after push;
+      numbers_are =
+          a.numbered ∙ (λ i. s.numbers_are i ++ option_to_list (row_line (n + 1) (Ok a.entry)))
+          ∙ ap (λ k. row_lines_of s.done ++ option_to_list (row_line k (Ok a.entry))) (let c = s.count in let e : n + 1 ≡ 1 + length s.done = omega arith in e)
+          ∙ sym (row_lines_push s.done line a.entry a.says);
     }
 
-pub read_fault : (all left more : List (List ℕ)) (line : List ℕ) (n : ℕ) (who : Who) (rows : List AclRow) (fault : AclFault) → IsReadTo all left n who rows → left ≡ line ∷ more → fault_at (n + 1) (entry_of line) ≡ Some fault → unless_faulty (faults_of all) (rows_in (entries_of all)) ≡ Err fault
-read_fault all left more line n who rows fault s cut f =
+pub read_fault : (all left more : List (List ℕ)) (line : List ℕ) (n : ℕ) (who : Who) (rows : List AclRow) (numbers : List ℕ) (fault : AclFault) → IsReadTo all left n who rows numbers → left ≡ line ∷ more → fault_at (n + 1) (entry_of line) ≡ Some fault → unless_faulty (faults_of all) (rows_in (entries_of all)) ≡ Err fault
+read_fault all left more line n who rows numbers fault s cut f =
     let later = filter_map fault_of_line (enumerate_from (1 + length s.done + 1) more) in
     let number : 1 + length s.done ≡ n + 1 = (let c = s.count in omega arith) in
     let first : faults_of all ≡ fault ∷ later =
@@ -109,15 +127,19 @@ read_fault all left more line n who rows fault s cut f =
     ∙ ap (λ o. cons_option o later) f in
     ap (λ faults. unless_faulty faults (rows_in (entries_of all))) first
 
-pub read_end : (all left : List (List ℕ)) (n : ℕ) (who : Who) (rows : List AclRow) → IsReadTo all left n who rows → left ≡ [] → unless_faulty (faults_of all) (rows_in (entries_of all)) ≡ Ok rows
-read_end all left n who rows s cut =
+pub read_end : (all left : List (List ℕ)) (n : ℕ) (who : Who) (rows : List AclRow) (numbers : List ℕ) → IsReadTo all left n who rows numbers → left ≡ [] → unless_faulty (faults_of all) (rows_in (entries_of all)) ≡ Ok rows
+read_end all left n who rows numbers s cut =
     let whole : all ≡ s.done = sym s.parts ∙ ap (λ l. s.done ++ l) cut ∙ append-nil s.done in
     ap (λ l. unless_faulty (faults_of l) (rows_in (entries_of l))) whole
     ∙ ap (λ faults. unless_faulty faults (rows_in (entries_of s.done))) s.faultless
     ∙ ap Ok (sym s.rows_are)
 
-pub read_count : (all left : List (List ℕ)) (n : ℕ) (who : Who) (rows : List AclRow) → IsReadTo all left n who rows → n + length left ≡ length all
-read_count all left n who rows s =
+pub read_lines : (all left : List (List ℕ)) (n : ℕ) (who : Who) (rows : List AclRow) (numbers : List ℕ) → IsReadTo all left n who rows numbers → left ≡ [] → numbers ≡ row_lines_of all
+read_lines all left n who rows numbers s cut =
+    s.numbers_are ∙ ap row_lines_of (sym (sym s.parts ∙ ap (λ l. s.done ++ l) cut ∙ append-nil s.done))
+
+pub read_count : (all left : List (List ℕ)) (n : ℕ) (who : Who) (rows : List AclRow) (numbers : List ℕ) → IsReadTo all left n who rows numbers → n + length left ≡ length all
+read_count all left n who rows numbers s =
     let parts = ap length s.parts in
     let both = length-append s.done left in
     let count = s.count in

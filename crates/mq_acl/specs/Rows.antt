@@ -61,6 +61,16 @@ unless_faulty (first ∷ later) rows = Err first
 abbrev pub rows_of : List ℕ → Result (List AclRow) AclFault
 rows_of text = unless_faulty (faults_of (lines text)) (rows_in (entries_of (lines text)))
 
+-- the number of a line that says a row
+abbrev pub row_line : ℕ → Result Entry AclKind → Option ℕ
+row_line number (Ok (Topic access topic)) = Some number
+row_line number (Ok (Pattern access topic)) = Some number
+row_line number answer = None
+
+-- the numbers of the lines that say the rows, in their order; lines are counted from 1
+abbrev pub row_lines : List ℕ → List ℕ
+row_lines text = filter_map (λ numbered. row_line numbered.0 (entry_of numbered.1)) (enumerate_from 1 (lines text))
+
 -- there was no memory; no line of a text has this fault
 abbrev pub out_of_memory : AclFault
 out_of_memory = record { line = 0; kind = kinds.Memory }

@@ -4,7 +4,7 @@ use denote.Ref.{Bor}
 use Rattle.std.specs.Option.{option_to_list, option_copied}
 use Rattle.mq_acl.specs.Lines.{entry_of}
 use Rattle.mq_acl.specs.Lines as lines
-use Rattle.mq_acl.specs.Rows.{Who, AclRow, who_of, row_of, out_of_memory}
+use Rattle.mq_acl.specs.Rows.{Who, AclRow, who_of, row_of, row_line, out_of_memory}
 use Rattle.mq_acl.specs.Rows as rows
 use Rattle.mq_acl.specs.declared.fault.AclFault.{AclFault}
 use Rattle.mq_acl.specs.declared.row.Row.{Row}
@@ -43,6 +43,10 @@ row_view row = record { who = owner_view row.owner; access = access_view row.acc
 abbrev pub row_views : List Row → List AclRow
 row_views all = map row_view all
 
+-- the numbers of the lines of the rows
+abbrev pub line_views : List Row → List ℕ
+line_views all = map (λ row. row.line) all
+
 -- whom `topic` lines of this user are for, or without one
 abbrev pub user_who : Option (Bor (List ℕ)) → Who
 user_who user = who_of (option_copied user)
@@ -71,9 +75,10 @@ abbrev pub Answers : Result Entry AclKind → Result lines.Entry AclKind → Typ
 Answers (Ok entry) answer = answer ≡ Ok (entry_view entry)
 Answers (Err kind) answer = Fails kind answer
 
--- the line has no fault; its row is added, and later `topic` lines are for `next`
-pub record IsAdded (line : List ℕ) (who next : Who) (old new : List AclRow) : Type 0 where
+-- the line with this number has no fault; its row is added, and later `topic` lines are for `next`
+pub record IsAdded (line : List ℕ) (number : ℕ) (who next : Who) (old : List AclRow) (old_lines : List ℕ) (new : List AclRow) (new_lines : List ℕ) : Type 0 where
   pub entry : lines.Entry
   pub says : entry_of line ≡ Ok entry
   pub added : new ≡ old ++ option_to_list (row_of who entry)
+  pub numbered : new_lines ≡ old_lines ++ option_to_list (row_line number (Ok entry))
   pub user : next ≡ who_then who entry

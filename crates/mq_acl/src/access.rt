@@ -1,9 +1,13 @@
-// What a row allows or denies.
+/// What a row grants, or that it denies (mosquitto.conf(5), `acl_file`).
 #[derive(Clone, Copy, Debug, PartialEq, Eq)]
-pub(crate) enum Access {
+pub enum Access {
+    /// `read`
     Read,
+    /// `write`
     Write,
+    /// `readwrite`, or no access word
     ReadWrite,
+    /// `deny`
     Deny,
 }
 

@@ -1,7 +1,8 @@
-ghost use Rattle.std.specs.Prelude.{◌≡◌, ◌≢◌, ◌⊎◌, ◌<◌, MatchResult, IfErr, Ok, Err, Some};
+ghost use Rattle.std.specs.Prelude.{◌≡◌, ◌≢◌, ◌⊎◌, ◌<◌, MatchResult, IfOk, IfErr, Ok, Err, Some};
 ghost use Rattle.std.specs.Option.{option_copied};
 ghost use Rattle.mq_acl.specs.Rows.{rows_of, out_of_memory};
 ghost use Rattle.mq_acl.specs.Access.{allowed};
+ghost use Rattle.mq_acl.specs.Views.{row_views};
 ghost use Rattle.mq_acl.specs.declared.access.Direction.TheVariants.{Reading, Writing};
 
 use crate::access::Direction;
@@ -11,7 +12,7 @@ use crate::groups::Groups;
 use crate::read::read_rows;
 use crate::row::Row;
 use mq_topic::TopicName;
-use std::alloc::Global;
+use std::alloc::{AllocError, Global};
 use std::fmt;
 use std::marker::Model;
 use std::snapshot::Snapshot;
@@ -49,14 +50,22 @@ impl Acl {
         ensures line { IfErr result (λ fault. fault.kind ≢ AclKind.Memory → (rows_of text.now ≡ Err fault) × (0 < fault.line)) }
     {
         let rows = read_rows(alloc, text)?;
-        let order = Snapshot::of(&rows);
-        match Groups::of(alloc, rows) {
-            Ok(groups) => Ok(Acl { groups, order }),
+        match Acl::of(alloc, rows) {
+            Ok(acl) => Ok(acl),
             Err(_) => Err(AclFault {
                 line: 0,
                 kind: AclKind::Memory,
             }),
         }
+    }
+
+    /// The access list with these rows.
+    pub fn of(alloc: Global, rows: Vec<Row>) -> Result<Acl, AllocError>
+        ensures { IfOk result (λ acl. acl ≡ row_views rows.items) }
+    {
+        let order = Snapshot::of(&rows);
+        let groups = Groups::of(alloc, rows)?;
+        Ok(Acl { groups, order })
     }
 
     /// Whether the client with this client id, and with this user name or none, may read the topic: no row denies

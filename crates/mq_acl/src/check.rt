@@ -52,7 +52,8 @@ fn covers(row: &Row, client: &str, user: Option<&str>, name: &TopicName) -> bool
     dollar_fits(filter, name) && levels_match(&levels, filter, name)
 }
 
-fn applies(user: Option<&str>, owner: &Owner) -> bool
+/// Whether a row of this owner is for clients of this user name, or without one.
+pub fn applies(user: Option<&str>, owner: &Owner) -> bool
     ensures { result ≡ applies (option_copied user.entry) (owner_view owner.now) }
 {
     match (owner, user) {
@@ -63,19 +64,22 @@ fn applies(user: Option<&str>, owner: &Owner) -> bool
     }
 }
 
-fn concerns(row: &Row, client: &str, user: Option<&str>, name: &TopicName) -> bool
+/// Whether the row is for clients of this user name, or without one, and covers the topic for this client.
+pub fn concerns(row: &Row, client: &str, user: Option<&str>, name: &TopicName) -> bool
     ensures { result ≡ concerns client.now (option_copied user.entry) name.now (row_view row.now) }
 {
     applies(user, &row.owner) && covers(row, client, user, name)
 }
 
-fn is_deny(access: Access) -> bool
+/// Whether it denies.
+pub fn is_deny(access: Access) -> bool
     ensures { result ≡ is_deny (access_view access) }
 {
     matches!(access, Access::Deny)
 }
 
-fn grants(direction: Direction, access: Access) -> bool
+/// Whether it grants this direction.
+pub fn grants(direction: Direction, access: Access) -> bool
     ensures { result ≡ grants direction (access_view access) }
 {
     match direction {

@@ -11,6 +11,9 @@ mod read;
 mod row;
 mod words;
 
-pub use access::Direction;
+pub use access::{Access, Direction};
 pub use acl::Acl;
+pub use check::{applies, concerns, grants, is_deny};
 pub use fault::{AclFault, AclKind};
+pub use read::read_rows;
+pub use row::{Owner, Row};

@@ -1,8 +1,8 @@
 ghost use Rattle.std.specs.Prelude.{◌≡◌, ℕ, ◌+◌, List, ◌++◌, ◌∷◌, ◌⊎◌, IfOk, IfErr, OnOk, MatchResult, Ok, Err, Some};
 ghost use Rattle.std.specs.Option.{option_to_list};
 ghost use Rattle.mq_acl.specs.Lines.{lines, entry_of};
-ghost use Rattle.mq_acl.specs.Rows.{rows_of, row_of, fault_at, out_of_memory};
-ghost use Rattle.mq_acl.specs.Views.{entry_view, lines_left, user_who, who_then, fault_of, owner_view, row_views, IsAdded};
+ghost use Rattle.mq_acl.specs.Rows.{rows_of, row_of, row_line, row_lines, fault_at, out_of_memory};
+ghost use Rattle.mq_acl.specs.Views.{entry_view, lines_left, user_who, who_then, fault_of, owner_view, row_views, line_views, IsAdded};
 
 use crate::entry::{Entry, read_entry};
 use crate::fault::{AclFault, AclKind};
@@ -35,9 +35,12 @@ fn add_row(
     rows: &mut Vec<Row>,
     user: Option<&str>,
     entry: Entry,
+    line: u64,
 ) -> Result<(), AllocError>
-    ensures { OnOk result (row_views rows.new.items
+    ensures rows { OnOk result (row_views rows.new.items
         ≡ row_views rows.old.items ++ option_to_list (row_of (user_who user.entry) (entry_view entry.entry))) }
+    ensures lines { OnOk result (line_views rows.new.items
+        ≡ line_views rows.old.items ++ option_to_list (row_line line (Ok (entry_view entry.entry)))) }
 {
     let (owner, access, filter) = match entry {
         Entry::Skipped | Entry::User(_) => return Ok(()),
@@ -45,6 +48,7 @@ fn add_row(
         Entry::Pattern(access, filter) => (Owner::Everyone, access, filter),
     };
     rows.push(Row {
+        line,
         owner,
         access,
         filter,
@@ -79,19 +83,21 @@ fn read_line_into<'a>(
     line: &'a str,
     number: u64,
 ) -> Result<Option<&'a str>, AclFault>
-    ensures ok { IfOk result (λ next. IsAdded line.now (user_who user.entry) (user_who next) (row_views rows.old.items) (row_views rows.new.items)) }
+    ensures ok { IfOk result (λ next. IsAdded line.now number (user_who user.entry) (user_who next) (row_views rows.old.items) (line_views rows.old.items) (row_views rows.new.items) (line_views rows.new.items)) }
     ensures fault { IfErr result (λ fault. (fault ≡ out_of_memory) ⊎ (fault_at number (entry_of line.now) ≡ Some fault)) }
 {
     let entry = read_entry(alloc, line).map_err(|kind| fault_of(number, kind))?;
     let next = user_after(user, &entry);
-    add_row(alloc, rows, user, entry).map_err(|_| fault_of(number, AclKind::Memory))?;
+    add_row(alloc, rows, user, entry, number).map_err(|_| fault_of(number, AclKind::Memory))?;
     Ok(next)
 }
 
-// The rows of the text, or its first fault.
-pub(crate) fn read_rows(alloc: Global, text: &str) -> Result<Vec<Row>, AclFault>
-    ensures { MatchResult result (λ rows. rows_of text.now ≡ Ok (row_views rows.items))
+/// The rows of the access list with this text, in the order of their lines and each with the number of its line, or the
+/// first faulty line, as `Acl::read`.
+pub fn read_rows(alloc: Global, text: &str) -> Result<Vec<Row>, AclFault>
+    ensures rows { MatchResult result (λ rows. rows_of text.now ≡ Ok (row_views rows.items))
         (λ fault. (fault ≡ out_of_memory) ⊎ (rows_of text.now ≡ Err fault)) }
+    ensures lines { IfOk result (λ rows. line_views rows.items ≡ row_lines text.now) }
 {
     let mut rows = Vec::new(alloc);
     let mut user = None;
