@@ -1,0 +1,3 @@
+pub mod Remainders
+pub mod Branches
+pub mod Names

@@ -1,0 +1,94 @@
+//! A walk over the levels of all topic names.
+ghost use Rattle.std.specs.Prelude.{◌≡◌, ℕ, Bool, List, true, IfOk, OnOk, IfNone, IfSome, ◌++◌, ◌∷◌, []};
+ghost use Rattle.mq_questions.specs.Remainders.{marks_view, marks_pass, remainders_fit, path_levels, GainsNothing, IsGain};
+ghost use Rattle.mq_questions.specs.Names.{fits_start, is_among, all_choices, are_others, is_choice};
+ghost use Rattle.mq_questions.specs.Branches.{has};
+
+pub(crate) mod branches;
+pub(crate) mod ends;
+pub(crate) mod marks;
+pub(crate) mod others;
+pub(crate) mod remainder;
+pub(crate) mod start;
+
+use crate::walk::branches::Branches;
+use crate::walk::ends::{gains_end, is_barren, is_settled};
+use crate::walk::marks::Marks;
+use crate::walk::others::Others;
+use crate::walk::remainder::Remainder;
+use crate::walk::start::Start;
+use std::alloc::{AllocError, Global};
+
+// The levels to go on with: those that the rows name here, and one that stands for all others.
+fn choices<'a>(
+    alloc: Global,
+    start: Start,
+    other: &'a str,
+    old: &Branches<'a>,
+    new: &Branches<'a>,
+) -> Result<Vec<&'a str>, AllocError>
+    ensures other { IfOk result (λ all. is_among other.now all.items ≡ true) }
+    ensures old { IfOk result (λ all. (l : List ℕ) → fits_start start l ≡ true → has l old.now ≡ true → is_among l all.items ≡ true) }
+    ensures new { IfOk result (λ all. (l : List ℕ) → fits_start start l ≡ true → has l new.now ≡ true → is_among l all.items ≡ true) }
+    ensures each { IfOk result (λ all. (p : List ℕ → Bool) → p other.now ≡ true → fits_start start other.now ≡ true
+        → ((l : List ℕ) → has l old.now ≡ true → p l ≡ true) → ((l : List ℕ) → has l new.now ≡ true → p l ≡ true)
+        → all_choices start p all.items ≡ true) }
+{
+    let mut all = Vec::new(alloc);
+    all.push(other)?;
+    old.add_levels(&mut all, start, &Branches::new(alloc))?;
+    new.add_levels(&mut all, start, old)?;
+    Ok(all)
+}
+
+fn append<'a>(path: &mut Vec<&'a str>, level: &'a str) -> Result<(), AllocError>
+    ensures { OnOk result (path.new.items ≡ path.old.items ++ level.entry ∷ []) }
+{
+    path.push(level)?;
+    Ok(())
+}
+
+/// A name that goes on from here with at most so many levels, and that the new rows allow and the old ones don't: its
+/// levels, the last one first; or that there is none.
+pub(crate) fn walk<'a>(
+    alloc: Global,
+    marks: Marks<'a>,
+    others: Others<'a>,
+    start: Start,
+    budget: usize,
+    old: &[Remainder<'a>],
+    new: &[Remainder<'a>],
+) -> Result<Option<Vec<&'a str>>, AllocError>
+    requires others { are_others others ≡ true }
+    requires marks { marks_pass (is_choice others) (marks_view marks) ≡ true }
+    requires old { remainders_fit (is_choice others) old.now ≡ true }
+    requires new { remainders_fit (is_choice others) new.now ≡ true }
+    ensures none { IfOk result (λ found. IfNone found (GainsNothing start budget (marks_view marks.entry) old.now new.now)) }
+    ensures some { IfOk result (λ found. IfSome found (λ path. IsGain start budget (marks_view marks.entry) old.now new.now (path_levels path.items))) }
+{
+    if is_barren(old, new) {
+        return Ok(None);
+    }
+    if gains_end(start, old, new) {
+        return Ok(Some(Vec::new(alloc)));
+    }
+    if budget == 0 {
+        return Ok(None);
+    }
+    if is_settled(start, old, new) {
+        return Ok(None);
+    }
+    let old_branches = Branches::of(alloc, old, marks)?;
+    let new_branches = Branches::of(alloc, new, marks)?;
+    let levels = choices(alloc, start, others.at(start), &old_branches, &new_branches)?;
+    for level in &levels {
+        let old = old_branches.behind(alloc, level)?;
+        let new = new_branches.behind(alloc, level)?;
+        let found = walk(alloc, marks, others, start.behind(level), budget - 1, &old, &new)?;
+        if let Some(mut path) = found {
+            append(&mut path, level)?;
+            return Ok(Some(path));
+        }
+    }
+    Ok(None)
+}
