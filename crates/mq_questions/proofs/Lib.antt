@@ -5,3 +5,8 @@ pub mod EndLemmas
 pub mod WalkLemmas
 pub mod Swaps
 pub mod SwapLemmas
+pub mod LiteralLemmas
+pub mod ClientLemmas
+pub mod RootLemmas
+pub mod NameLemmas
+pub mod GainLemmas

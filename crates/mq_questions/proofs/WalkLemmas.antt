@@ -81,7 +81,7 @@ no_more : (t : List ℕ) (items : List (Bor (List ℕ))) (i : ℕ) → length it
 no_more t items i h = ap (is_among t) (drop_of_length-le items {i = i} h)
 
 -- ---- the level that stands for all others
-no_dollar : (text : List ℕ) → begins_with_dollar text ≡ true → (length text == 0) ≡ false
+pub no_dollar : (text : List ℕ) → begins_with_dollar text ≡ true → (length text == 0) ≡ false
 no_dollar [] e = absurd (let f : false ≡ true = e in cc)
 no_dollar (x ∷ xs) e = grind (arith, nat_tests)
 

@@ -1,7 +1,7 @@
 -- The levels of names, as a walk goes through them.
-use Rattle.std.specs.Prelude.{ℕ, Bool, true, false, List, [], ◌∷◌, length, ◌&&◌, ◌||◌, not, ◌==◌, nat_le, if◌then◌else◌, codes}
+use Rattle.std.specs.Prelude.{ℕ, Bool, true, false, List, [], ◌∷◌, length, ◌&&◌, ◌||◌, not, ◌==◌, nat_le, if◌then◌else◌, ◌++◌, Option, Some, None}
 use denote.Ref.{Bor}
-use Rattle.std.specs.List.{list_any, list_all}
+use Rattle.std.specs.List.{list_any, list_all, flat_map}
 use Rattle.std.specs.Str.{bytes_eq}
 use Rattle.mq_topic.specs.Texts.{contains_byte, is_plain}
 use Rattle.mq_acl.specs.Access.{begins_with_dollar}
@@ -41,9 +41,23 @@ abbrev pub start_of : Bool → Start
 start_of true = Dollar
 start_of false = Plain
 
+-- the text can be a level of a name
+abbrev pub can_be_level : List ℕ → Bool
+can_be_level text = is_plain text && not (contains_byte 0 text) && not (contains_byte 47 text)
+
 -- a level of a name that is short enough: 200 of them and the slashes between them are at most 65,535 bytes
 abbrev pub is_name_level : List ℕ → Bool
-is_name_level level = is_plain level && not (contains_byte 0 level) && not (contains_byte 47 level) && nat_le (length level) 321
+is_name_level level = can_be_level level && nat_le (length level) 321
+
+-- the level that an id is, if it can be one
+abbrev pub level_of : Option (List ℕ) → Option (List ℕ)
+level_of None = None
+level_of (Some text) = if can_be_level text then Some text else None
+
+-- the levels with slashes between them
+abbrev pub joined : List (List ℕ) → List ℕ
+joined [] = []
+joined (level ∷ levels) = level ++ flat_map (λ l. 47 ∷ l) levels
 
 -- a name may go on with each of these levels, and each passes the test
 abbrev pub all_choices : Start → (List ℕ → Bool) → List (Bor (List ℕ)) → Bool

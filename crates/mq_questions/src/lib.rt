@@ -2,4 +2,5 @@
 //! and another doesn't.
 #![tactic(auto)]
 
+mod ask;
 mod walk;

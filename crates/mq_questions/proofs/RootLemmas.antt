@@ -1,0 +1,71 @@
+-- The rows that have to do with a question, one by one.
+use Rattle.std.proofs.Common.{◌≡◌, ℕ, Bool, true, false, not, ◌&&◌, ◌||◌, List, [], ◌∷◌, ◌++◌, length, Option, Some, None, refl, ap, sym, ◌∙◌, arith, ◌<◌, ◌≤◌, ◌+◌, get_or, take, map, append_assoc, append-nil, subst}
+use Rattle.std.specs.List.{list_any, list_all}
+use Rattle.std.proofs.lemmas.Grind.{take_at_read}
+use Rattle.std.proofs.lemmas.List.{take_all, map_push}
+use Rattle.std.proofs.lemmas.List.Folds.{list_any-append}
+use Rattle.mq_topic.specs.Levels.{levels}
+use Rattle.mq_acl.specs.Rows.{AclRow}
+use Rattle.mq_acl.specs.Access.{concerns, begins_with_dollar}
+use Rattle.mq_acl.specs.Views.{row_view, row_views}
+use Rattle.mq_acl.specs.declared.row.Row.{Row}
+use Rattle.mq_acl.specs.declared.access.Direction.{Direction}
+use Rattle.mq_questions.specs.Remainders.{covers, same, hit, fits, remainder_fits, remainders_fit}
+use Rattle.mq_questions.specs.Fresh.{marks_of}
+use Rattle.mq_questions.specs.Roots.{decides, rows_hit, rows_fit, AreRoots}
+use Rattle.mq_questions.specs.declared.walk.remainder.Remainder.{Remainder}
+use Rattle.mq_questions.proofs.BranchLemmas.{and_left, and_right, or_false, hit-append, list_all-append}
+
+abbrev decided : Bool → List ℕ → Option (List ℕ) → List ℕ → Direction → AclRow → Bool
+decided deny client user name direction row = concerns client user name row && decides deny direction row.access
+
+hit_more : (deny : Bool) (client : List ℕ) (user : Option (List ℕ)) (name : List ℕ) (direction : Direction) (before : List AclRow) (row : AclRow)
+    → rows_hit deny client user name direction (before ++ row ∷ []) ≡ (rows_hit deny client user name direction before || decided deny client user name direction row)
+hit_more deny client user name direction before row =
+    list_any-append (decided deny client user name direction) before (row ∷ []) ∙ ap (λ b. rows_hit deny client user name direction before || b) (or_false (decided deny client user name direction row))
+
+fit_before : (p : List ℕ → Bool) (before : List AclRow) (row : AclRow) → rows_fit p (before ++ row ∷ []) ≡ true → (rows_fit p before ≡ true) × (fits p (levels row.filter) ≡ true)
+fit_before p [] row h = (refl, and_left (fits p (levels row.filter)) true h)
+fit_before p (x ∷ xs) row h =
+    let rest = fit_before p xs row (and_right (fits p (levels x.filter)) (rows_fit p (xs ++ row ∷ [])) h) in
+    (rw (and_left (fits p (levels x.filter)) (rows_fit p (xs ++ row ∷ [])) h, rest.0) refl, rest.1)
+
+module _ (user : Option (List ℕ)) (direction : Direction) (dollar : Bool) where
+  pub no_root : (before : List AclRow) (row : AclRow) (roots : List Remainder)
+      → ((client name : List ℕ) (deny : Bool) → begins_with_dollar name ≡ dollar → decided deny client user name direction row ≡ false)
+      → AreRoots before user direction dollar roots → AreRoots (before ++ row ∷ []) user direction dollar roots
+  no_root before row roots f a = record {
+    hits = λ client name deny d.
+        a.hits client name deny d ∙ sym (hit_more deny client user name direction before row ∙ ap (λ b. rows_hit deny client user name direction before || b) (f client name deny d) ∙ or_false (rows_hit deny client user name direction before));
+    fit = λ p h. a.fit p (fit_before p before row h).0;
+  }
+
+  pub one_root : (before : List AclRow) (row : AclRow) (r : Remainder) (roots next : List Remainder)
+      → ((client name : List ℕ) (deny : Bool) → begins_with_dollar name ≡ dollar → (covers (marks_of client user) (levels name) r && same deny r.deny) ≡ decided deny client user name direction row)
+      → ((p : List ℕ → Bool) → fits p (levels row.filter) ≡ true → remainder_fits p r ≡ true) → next ≡ roots ++ r ∷ []
+      → AreRoots before user direction dollar roots → AreRoots (before ++ row ∷ []) user direction dollar next
+  one_root before row r roots next f g e a = record {
+    hits = λ client name deny d.
+        ap (hit deny (marks_of client user) (levels name)) e ∙ hit-append deny (marks_of client user) (levels name) roots (r ∷ [])
+        ∙ (λ i. a.hits client name deny d i || (or_false (covers (marks_of client user) (levels name) r && same deny r.deny) ∙ f client name deny d) i)
+        ∙ sym (hit_more deny client user name direction before row);
+    fit = λ p h. let parts = fit_before p before row h in ap (remainders_fit p) e ∙ list_all-append (remainder_fits p) roots (r ∷ []) (a.fit p parts.0) (rw (g p parts.1) refl);
+  }
+
+  -- the rows so far
+  pub rows_more : (old : List Remainder) (rows : List Row) (i : ℕ) (x : Row) (now next : List Remainder) → i < length rows → x ≡ get_or rows i x
+      → ((before : List AclRow) → AreRoots before user direction dollar now → AreRoots (before ++ row_view x ∷ []) user direction dollar next)
+      → ((before : List AclRow) → AreRoots before user direction dollar old → AreRoots (before ++ row_views (take i rows)) user direction dollar now)
+      → (before : List AclRow) → AreRoots before user direction dollar old → AreRoots (before ++ row_views (take (i + 1) rows)) user direction dollar next
+  rows_more old rows i x now next h e f g before a =
+      subst (λ l. AreRoots l user direction dollar next)
+      (append_assoc before (row_views (take i rows)) (row_view x ∷ []) ∙ ap (λ l. before ++ l) (sym (map_push row_view (take i rows) x) ∙ ap (λ y. row_views (take i rows ++ y ∷ [])) e ∙ ap row_views (sym (take_at_read rows i x h).1)))
+      (f (before ++ row_views (take i rows)) (g before a))
+
+  pub rows_all : (old : List Remainder) (rows : List Row) (i : ℕ) (now : List Remainder) → length rows ≤ i
+      → ((before : List AclRow) → AreRoots before user direction dollar old → AreRoots (before ++ row_views (take i rows)) user direction dollar now)
+      → (before : List AclRow) → AreRoots before user direction dollar old → AreRoots (before ++ row_views rows) user direction dollar now
+  rows_all old rows i now h g before a = subst (λ l. AreRoots (before ++ row_views l) user direction dollar now) (take_all i rows h) (g before a)
+
+  pub no_roots : AreRoots [] user direction dollar []
+  no_roots = record { hits = λ client name deny d. refl; fit = λ p h. refl }

@@ -1,0 +1,32 @@
+use Rattle.std.proofs.Common.{◌≡◌, refl, ap, sym, ◌∙◌, true, false, map, List, ℕ, Bor, subst, ◌≤◌, length}
+use Rattle.mq_topic.specs.Levels.{levels}
+use Rattle.mq_topic.specs.Texts.{is_memory, is_name}
+use Rattle.mq_questions.specs.Names.{joined}
+use Rattle.mq_topic.specs.declared.fault.TopicFault.{TopicFault}
+use Rattle.mq_topic.specs.declared.fault.TopicFault.TheVariants.{Empty, TooLong, Nul, Wildcard, Levels, Share, Memory}
+use Rattle.mq_questions.proofs.NameLemmas.{levels_of_joined, joined_is_name}
+use Rattle.std.proofs.lemmas.List.{length-map}
+use Rattle.mq_questions.proofs.ask.name.name_of.Goals as goal
+
+abbrev texts : List (Bor (List ℕ)) → List (List ℕ)
+texts parts = map (λ level. level.now) parts
+
+pub returns-in-Ok : goal.returns-in-Ok
+returns-in-Ok c =
+    ap levels (c.in-Ok.ensures.text ∙ c.as_str.ensures.value ∙ c.in_ok-text.ensures)
+    ∙ levels_of_joined (texts c.args.parts.now) c.requires.some.0 c.requires.valid c.requires.some.1
+
+memory_is : (fault : TopicFault) → is_memory fault ≡ true → fault ≡ Memory
+memory_is Empty e = absurd (let f : false ≡ true = e in cc)
+memory_is TooLong e = absurd (let f : false ≡ true = e in cc)
+memory_is Nul e = absurd (let f : false ≡ true = e in cc)
+memory_is Wildcard e = absurd (let f : false ≡ true = e in cc)
+memory_is Levels e = absurd (let f : false ≡ true = e in cc)
+memory_is Share e = absurd (let f : false ≡ true = e in cc)
+memory_is Memory e = refl
+
+pub unreachable-requires : goal.unreachable-requires
+unreachable-requires c =
+    let valid = ap is_name (c.as_str.ensures.value ∙ c.in_ok-text.ensures)
+        ∙ joined_is_name (texts c.args.parts.now) c.requires.some.0 c.requires.valid (subst (λ n. n ≤ 200) (sym (length-map c.args.parts.now (λ level. level.now))) c.requires.few) c.requires.some.1 in
+    c.in_default.not-Memory (memory_is c.in-Err.fault (c.in-Err.ensures.valid ∙ valid))

@@ -1,0 +1,23 @@
+-- The levels that filters name.
+use Rattle.std.specs.Prelude.{ℕ, Bool, List, ◌&&◌, not}
+use denote.Ref.{Bor}
+use Rattle.std.specs.List.{list_any}
+use Rattle.std.specs.Str.{bytes_eq}
+use Rattle.std.specs.Ordering.{nat_cmp}
+use Rattle.std.specs.BTreeSet.{BTreeSet, contains_by}
+use Rattle.std.specs.Cmp.Lexicographic.{slice_cmp}
+use Rattle.mq_topic.specs.Levels.{levels_left}
+use Rattle.mq_topic.specs.Matching.{is_wildcard}
+use Rattle.mq_questions.specs.declared.ask.literals.Literals.{Literals}
+use Rattle.mq_questions.specs.declared.walk.remainder.Remainder.{Remainder}
+
+abbrev pub is_named : List ℕ → Literals → Bool
+is_named level literals = contains_by (λ k. slice_cmp nat_cmp level k.now) literals.levels
+
+-- one of these levels, and no wildcard
+abbrev pub is_literal_in : List ℕ → List (List ℕ) → Bool
+is_literal_in level ls = list_any (λ w. bytes_eq level w && not (is_wildcard w)) ls
+
+-- one of the levels that are left, and no wildcard
+abbrev pub is_literal_of : List ℕ → List Remainder → Bool
+is_literal_of level rs = list_any (λ r. is_literal_in level (levels_left r.rest)) rs

@@ -1,0 +1,9 @@
+//! Questions about rows, by walks.
+
+pub(crate) mod clients;
+pub(crate) mod fresh;
+pub(crate) mod gain;
+pub(crate) mod literals;
+pub(crate) mod name;
+pub(crate) mod roots;
+pub(crate) mod rows;

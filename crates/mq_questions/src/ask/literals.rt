@@ -1,0 +1,115 @@
+ghost use Rattle.std.specs.Prelude.{◌≡◌, ℕ, List, [], ◌||◌, ◌&&◌, false, true, not, IfOk, OnOk};
+ghost use Rattle.std.specs.Str.{bytes_eq};
+ghost use Rattle.std.specs.Option.{option_copied};
+ghost use Rattle.mq_acl.specs.Access.{is_user};
+ghost use Rattle.mq_topic.specs.Levels.{levels, levels_left};
+ghost use Rattle.mq_topic.specs.Matching.{is_wildcard};
+ghost use Rattle.mq_questions.specs.Literals.{is_named, is_literal_in, is_literal_of};
+ghost use Rattle.mq_questions.specs.Names.{is_among};
+
+use crate::walk::remainder::Remainder;
+use mq_topic::split_first;
+use std::alloc::{AllocError, Global};
+use std::collections::BTreeSet;
+
+/// The levels that filters name: all of theirs but `+` and `#`.
+#[derive(Drop)]
+pub(crate) struct Literals<'a> {
+    levels: BTreeSet<&'a str>,
+}
+
+fn is_wildcard(level: &str) -> bool
+    ensures { result ≡ is_wildcard level.now }
+{
+    level == "+" || level == "#"
+}
+
+impl<'a> Literals<'a> {
+    pub fn new(alloc: Global) -> Literals<'a>
+        ensures { (l : List ℕ) → is_named l result ≡ false }
+    {
+        Literals {
+            levels: BTreeSet::new(alloc),
+        }
+    }
+
+    pub fn add(&mut self, level: &'a str) -> Result<(), AllocError>
+        ensures { OnOk result ((l : List ℕ) → is_named l self.new ≡ (is_named l self.old || bytes_eq l level.entry.now)) }
+    {
+        self.levels.insert(level)?;
+        Ok(())
+    }
+
+    fn add_literal(&mut self, level: &'a str) -> Result<(), AllocError>
+        ensures { OnOk result ((l : List ℕ) → is_named l self.new
+            ≡ (is_named l self.old || (bytes_eq l level.entry.now && not (is_wildcard level.entry.now)))) }
+    {
+        if is_wildcard(level) {
+            return Ok(());
+        }
+        self.add(level)?;
+        Ok(())
+    }
+
+    /// Adds the levels of this text.
+    pub fn add_levels(&mut self, text: &'a str) -> Result<(), AllocError>
+        ensures { OnOk result ((l : List ℕ) → is_named l self.new ≡ (is_named l self.old || is_literal_in l (levels text.entry.now))) }
+    {
+        let mut rest = Some(text);
+        while let Some(text) = rest {
+            let (level, after) = split_first(text);
+            self.add_literal(level)?;
+            rest = after;
+        }
+        Ok(())
+    }
+
+    /// Adds the levels that are left of these rows.
+    pub fn add_remainders(&mut self, remainders: &[Remainder<'a>]) -> Result<(), AllocError>
+        ensures { OnOk result ((l : List ℕ) → is_named l self.new ≡ (is_named l self.old || is_literal_of l remainders.now)) }
+    {
+        for remainder in remainders {
+            self.add_rest(remainder.rest)?;
+        }
+        Ok(())
+    }
+
+    fn add_rest(&mut self, rest: Option<&'a str>) -> Result<(), AllocError>
+        ensures { OnOk result ((l : List ℕ) → is_named l self.new ≡ (is_named l self.old || is_literal_in l (levels_left rest.entry))) }
+    {
+        let Some(text) = rest else {
+            return Ok(());
+        };
+        self.add_levels(text)?;
+        Ok(())
+    }
+
+    /// Adds the level that a mark stands for, if any.
+    pub fn add_mark(&mut self, mark: Option<&'a str>) -> Result<(), AllocError>
+        ensures { OnOk result ((l : List ℕ) → is_named l self.new ≡ (is_named l self.old || is_user l (option_copied mark.entry))) }
+    {
+        let Some(level) = mark else {
+            return Ok(());
+        };
+        self.add(level)?;
+        Ok(())
+    }
+
+    /// Whether this is one of the levels. It looks at each.
+    pub fn names(&self, text: &str) -> bool
+        ensures { result ≡ is_among text.now self.now.levels.keys }
+    {
+        self.levels.iter().any(|level| text == *level)
+    }
+
+    /// All levels.
+    pub fn list(&self, alloc: Global) -> Result<Vec<&'a str>, AllocError>
+        ensures { IfOk result (λ all. (l : List ℕ) → is_among l all.items ≡ is_named l self.now) }
+    {
+        let mut all = Vec::new(alloc);
+        for level in self.levels.iter() {
+            all.push(*level)?;
+        }
+        Ok(all)
+    }
+}
