@@ -25,7 +25,7 @@ use Rattle.mq_questions.proofs.LiteralLemmas.{all_fit_mono, all_fit_both, litera
 pub literal_is_choice : (f : Fresh) (w : List ℕ) → is_literal f w ≡ true → is_choice f.others w ≡ true
 literal_is_choice f w h = and_left (is_choice f.others w) (is_no_client f w) (and_left (is_choice f.others w && is_no_client f w) (is_no_user f w) h)
 
-literal_is_no_client : (f : Fresh) (w : List ℕ) → is_literal f w ≡ true → is_no_client f w ≡ true
+pub literal_is_no_client : (f : Fresh) (w : List ℕ) → is_literal f w ≡ true → is_no_client f w ≡ true
 literal_is_no_client f w h = and_right (is_choice f.others w) (is_no_client f w) (and_left (is_choice f.others w && is_no_client f w) (is_no_user f w) h)
 
 pub literal_is_no_user : (f : Fresh) (w : List ℕ) → is_literal f w ≡ true → is_no_user f w ≡ true

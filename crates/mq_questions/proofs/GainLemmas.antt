@@ -10,13 +10,14 @@ use Rattle.mq_acl.specs.Access.{allowed, begins_with_dollar, is_user}
 use Rattle.mq_acl.specs.declared.access.Direction.{Direction}
 use Rattle.mq_acl.proofs.AccessLemmas.{allowed_by_list}
 use Rattle.mq_questions.specs.Names.{can_be_level, is_name_level, level_of, start_of, suits}
-use Rattle.mq_questions.specs.Remainders.{MarkLevels, passes, covers, same, hit, allow, gains, fits, mark_passes, GainsNothing, IsGain}
+use Rattle.mq_questions.specs.Remainders.{MarkLevels, passes, covers, same, hit, allow, gains, fits, mark_passes, path_levels, GainsNothing, IsGain}
 use Rattle.mq_questions.specs.Fresh.{marks_of, is_user_level, is_no_client}
-use Rattle.mq_questions.specs.Roots.{rows_hit, AreRoots, gained}
+use Rattle.mq_questions.specs.Roots.{rows_hit, alike, AreRoots, gained}
 use Rattle.mq_questions.specs.declared.ask.fresh.Fresh.{Fresh}
 use Rattle.mq_questions.specs.declared.walk.remainder.Remainder.{Remainder}
 use Rattle.mq_questions.specs.declared.walk.start.Start.{Start}
 use Rattle.mq_questions.proofs.SwapLemmas.{match_by}
+use Rattle.mq_questions.proofs.RootLemmas.{alike_self}
 use Rattle.mq_questions.proofs.WalkLemmas.{gains_by}
 use Rattle.mq_questions.proofs.BranchLemmas.{text_is, and_left, and_right}
 use Rattle.mq_questions.proofs.NameLemmas.{name_is, name_suits, suits_dollar, some_name, all_by}
@@ -62,23 +63,33 @@ level_gains client user ls old new h =
     gains_by (marks_of client user) (marks_of client (level_of user)) ls ls old new old new (λ deny. level_hit deny client user ls old h) (λ deny. level_hit deny client user ls new h)
 
 -- ---- rows and names
-roots_allow : (rows : List AclRow) (roots : List Remainder) (user : Option (List ℕ)) (direction : Direction) (dollar : Bool) → AreRoots rows user direction dollar roots
-    → (client name : List ℕ) → begins_with_dollar name ≡ dollar → allowed (Some rows) client user name direction ≡ allow (marks_of client user) (levels name) roots
-roots_allow rows roots user direction dollar a client name d =
-    allowed_by_list rows client user name direction ∙ sym (λ i. not (a.hits client name true d i) && a.hits client name false d i)
+roots_allow : (rows : List AclRow) (roots : List Remainder) (user other : Option (List ℕ)) (direction : Direction) (dollar : Bool) → AreRoots rows user direction dollar roots → alike other user rows ≡ true
+    → (client name : List ℕ) → begins_with_dollar name ≡ dollar → allowed (Some rows) client other name direction ≡ allow (marks_of client other) (levels name) roots
+roots_allow rows roots user other direction dollar a like client name d =
+    allowed_by_list rows client other name direction ∙ sym (λ i. not (a.hits client name other true like d i) && a.hits client name other false like d i)
 
-pub gained_is : (old new : List AclRow) (olds news : List Remainder) (user : Option (List ℕ)) (direction : Direction) (dollar : Bool) → AreRoots old user direction dollar olds → AreRoots new user direction dollar news
-    → (client name : List ℕ) → begins_with_dollar name ≡ dollar → gained old new client user name direction ≡ gains (marks_of client user) (levels name) olds news
-gained_is old new olds news user direction dollar a b client name d =
-    (λ i. roots_allow new news user direction dollar b client name d i && not (roots_allow old olds user direction dollar a client name d i))
+pub gained_is : (old new : List AclRow) (olds news : List Remainder) (user other : Option (List ℕ)) (direction : Direction) (dollar : Bool) → AreRoots old user direction dollar olds → AreRoots new user direction dollar news
+    → alike other user old ≡ true → alike other user new ≡ true
+    → (client name : List ℕ) → begins_with_dollar name ≡ dollar → gained old new client other name direction ≡ gains (marks_of client other) (levels name) olds news
+gained_is old new olds news user other direction dollar a b l m client name d =
+    (λ i. roots_allow new news user other direction dollar b m client name d i && not (roots_allow old olds user other direction dollar a l client name d i))
 
 pub nothing_gained : (old new : List AclRow) (olds news : List Remainder) (user : Option (List ℕ)) (direction : Direction) (dollar : Bool) (start : Start) → AreRoots old user direction dollar olds → AreRoots new user direction dollar news
     → start ≡ start_of dollar → ((c : List ℕ) → GainsNothing start 200 (marks_of c (level_of user)) olds news)
     → (client name : List ℕ) → IsTrue (is_name name) → begins_with_dollar name ≡ dollar → gained old new client user name direction ≡ false
 nothing_gained old new olds news user direction dollar start a b st h client name valid d =
     let is = name_is name valid in
-    gained_is old new olds news user direction dollar a b client name d
+    gained_is old new olds news user user direction dollar a b (alike_self user old) (alike_self user new) client name d
     ∙ level_gains client user (levels name) olds news is.can
+    ∙ h client (levels name) (ap (λ s. suits s (levels name)) st ∙ name_suits name dollar is.some d) is.few
+
+-- the same for another user that the rows apply to as to this one
+pub nothing_gained_by : (old new : List AclRow) (olds news : List Remainder) (user other : Option (List ℕ)) (direction : Direction) (dollar : Bool) (start : Start) → AreRoots old user direction dollar olds → AreRoots new user direction dollar news
+    → alike other user old ≡ true → alike other user new ≡ true → start ≡ start_of dollar → ((c : List ℕ) → GainsNothing start 200 (marks_of c other) olds news)
+    → (client name : List ℕ) → IsTrue (is_name name) → begins_with_dollar name ≡ dollar → gained old new client other name direction ≡ false
+nothing_gained_by old new olds news user other direction dollar start a b l m st h client name valid d =
+    let is = name_is name valid in
+    gained_is old new olds news user other direction dollar a b l m client name d
     ∙ h client (levels name) (ap (λ s. suits s (levels name)) st ∙ name_suits name dollar is.some d) is.few
 
 level_can : (l : List ℕ) → is_name_level l ≡ true → can_be_level l ≡ true
@@ -88,9 +99,17 @@ pub name_gained : (old new : List AclRow) (olds news : List Remainder) (user : O
     → start ≡ start_of dollar → (client name : List ℕ) (ls : List (List ℕ)) → levels name ≡ ls → IsGain start 200 (marks_of client (level_of user)) olds news ls → gained old new client user name direction ≡ true
 name_gained old new olds news user direction dollar start a b st client name ls e h =
     let fit : suits (start_of dollar) (levels name) ≡ true = (λ i. suits (sym st i) (e i)) ∙ h.suitable in
-    gained_is old new olds news user direction dollar a b client name (suits_dollar name dollar (some_name name dollar fit) fit)
+    gained_is old new olds news user user direction dollar a b (alike_self user old) (alike_self user new) client name (suits_dollar name dollar (some_name name dollar fit) fit)
     ∙ ap (λ k. gains (marks_of client user) k olds news) e
     ∙ level_gains client user ls olds news (all_by is_name_level can_be_level level_can ls h.valid)
+    ∙ h.gained
+
+pub name_gained_by : (old new : List AclRow) (olds news : List Remainder) (user other : Option (List ℕ)) (direction : Direction) (dollar : Bool) (start : Start) → AreRoots old user direction dollar olds → AreRoots new user direction dollar news
+    → alike other user old ≡ true → alike other user new ≡ true → start ≡ start_of dollar → (client name : List ℕ) (ls : List (List ℕ)) → levels name ≡ ls → IsGain start 200 (marks_of client other) olds news ls → gained old new client other name direction ≡ true
+name_gained_by old new olds news user other direction dollar start a b l m st client name ls e h =
+    let fit : suits (start_of dollar) (levels name) ≡ true = (λ i. suits (sym st i) (e i)) ∙ h.suitable in
+    gained_is old new olds news user other direction dollar a b l m client name (suits_dollar name dollar (some_name name dollar fit) fit)
+    ∙ ap (λ k. gains (marks_of client other) k olds news) e
     ∙ h.gained
 
 pub user_level : (f : Fresh) (p : List ℕ → Bool) → ((l : List ℕ) → is_user_level f l ≡ true → p l ≡ true) → (mark : Option (List ℕ)) → mark_passes (is_user_level f) mark ≡ true → mark_passes p mark ≡ true
@@ -101,3 +120,6 @@ pub map_reverse : (f : Bor (List ℕ) → List ℕ) (xs : List (Bor (List ℕ)))
 map_reverse f [] = refl
 map_reverse f (x ∷ xs) =
     ap (map f) (reverse-append (x ∷ []) xs) ∙ map_push f (reverse xs) x ∙ ap (λ l. l ++ f x ∷ []) (map_reverse f xs) ∙ sym (reverse-append (f x ∷ []) (map f xs))
+
+pub path_texts : (parts levels path : List (Bor (List ℕ))) → parts ≡ levels → levels ≡ reverse path → map (λ l. l.now) parts ≡ path_levels path
+path_texts parts levels path e f = ap (map (λ l. l.now)) (e ∙ f) ∙ map_reverse (λ l. l.now) path

@@ -10,3 +10,4 @@ pub mod ClientLemmas
 pub mod RootLemmas
 pub mod NameLemmas
 pub mod GainLemmas
+pub mod UserLemmas

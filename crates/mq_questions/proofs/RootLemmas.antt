@@ -6,13 +6,13 @@ use Rattle.std.proofs.lemmas.List.{take_all, map_push}
 use Rattle.std.proofs.lemmas.List.Folds.{list_any-append}
 use Rattle.mq_topic.specs.Levels.{levels}
 use Rattle.mq_acl.specs.Rows.{AclRow}
-use Rattle.mq_acl.specs.Access.{concerns, begins_with_dollar}
+use Rattle.mq_acl.specs.Access.{applies, concerns, begins_with_dollar}
 use Rattle.mq_acl.specs.Views.{row_view, row_views}
 use Rattle.mq_acl.specs.declared.row.Row.{Row}
 use Rattle.mq_acl.specs.declared.access.Direction.{Direction}
 use Rattle.mq_questions.specs.Remainders.{covers, same, hit, fits, remainder_fits, remainders_fit}
 use Rattle.mq_questions.specs.Fresh.{marks_of}
-use Rattle.mq_questions.specs.Roots.{decides, rows_hit, rows_fit, AreRoots}
+use Rattle.mq_questions.specs.Roots.{decides, rows_hit, rows_fit, alike, AreRoots}
 use Rattle.mq_questions.specs.declared.walk.remainder.Remainder.{Remainder}
 use Rattle.mq_questions.proofs.BranchLemmas.{and_left, and_right, or_false, hit-append, list_all-append}
 
@@ -30,25 +30,46 @@ fit_before p (x ∷ xs) row h =
     let rest = fit_before p xs row (and_right (fits p (levels x.filter)) (rows_fit p (xs ++ row ∷ [])) h) in
     (rw (and_left (fits p (levels x.filter)) (rows_fit p (xs ++ row ∷ [])) h, rest.0) refl, rest.1)
 
+kind_is : (a b : Bool) → same a b ≡ true → a ≡ b
+kind_is true b e = sym e
+kind_is false true e = absurd (let f : false ≡ true = e in cc)
+kind_is false false e = refl
+
+alike_before : (other user : Option (List ℕ)) (before : List AclRow) (row : AclRow) → alike other user (before ++ row ∷ []) ≡ true → (alike other user before ≡ true) × (applies other row.who ≡ applies user row.who)
+alike_before other user [] row h = (refl, kind_is (applies other row.who) (applies user row.who) (and_left (same (applies other row.who) (applies user row.who)) true h))
+alike_before other user (x ∷ xs) row h =
+    let rest = alike_before other user xs row (and_right (same (applies other x.who) (applies user x.who)) (alike other user (xs ++ row ∷ [])) h) in
+    (rw (and_left (same (applies other x.who) (applies user x.who)) (alike other user (xs ++ row ∷ [])) h, rest.0) refl, rest.1)
+
+same_self : (b : Bool) → same b b ≡ true
+same_self true = refl
+same_self false = refl
+
+pub alike_self : (user : Option (List ℕ)) (rows : List AclRow) → alike user user rows ≡ true
+alike_self user [] = refl
+alike_self user (row ∷ rows) = rw (same_self (applies user row.who)) (alike_self user rows)
+
 module _ (user : Option (List ℕ)) (direction : Direction) (dollar : Bool) where
   pub no_root : (before : List AclRow) (row : AclRow) (roots : List Remainder)
-      → ((client name : List ℕ) (deny : Bool) → begins_with_dollar name ≡ dollar → decided deny client user name direction row ≡ false)
+      → ((client name : List ℕ) (other : Option (List ℕ)) (deny : Bool) → applies other row.who ≡ applies user row.who → begins_with_dollar name ≡ dollar → decided deny client other name direction row ≡ false)
       → AreRoots before user direction dollar roots → AreRoots (before ++ row ∷ []) user direction dollar roots
   no_root before row roots f a = record {
-    hits = λ client name deny d.
-        a.hits client name deny d ∙ sym (hit_more deny client user name direction before row ∙ ap (λ b. rows_hit deny client user name direction before || b) (f client name deny d) ∙ or_false (rows_hit deny client user name direction before));
+    hits = λ client name other deny like d.
+        let parts = alike_before other user before row like in
+        a.hits client name other deny parts.0 d ∙ sym (hit_more deny client other name direction before row ∙ ap (λ b. rows_hit deny client other name direction before || b) (f client name other deny parts.1 d) ∙ or_false (rows_hit deny client other name direction before));
     fit = λ p h. a.fit p (fit_before p before row h).0;
   }
 
   pub one_root : (before : List AclRow) (row : AclRow) (r : Remainder) (roots next : List Remainder)
-      → ((client name : List ℕ) (deny : Bool) → begins_with_dollar name ≡ dollar → (covers (marks_of client user) (levels name) r && same deny r.deny) ≡ decided deny client user name direction row)
+      → ((client name : List ℕ) (other : Option (List ℕ)) (deny : Bool) → applies other row.who ≡ applies user row.who → begins_with_dollar name ≡ dollar → (covers (marks_of client other) (levels name) r && same deny r.deny) ≡ decided deny client other name direction row)
       → ((p : List ℕ → Bool) → fits p (levels row.filter) ≡ true → remainder_fits p r ≡ true) → next ≡ roots ++ r ∷ []
       → AreRoots before user direction dollar roots → AreRoots (before ++ row ∷ []) user direction dollar next
   one_root before row r roots next f g e a = record {
-    hits = λ client name deny d.
-        ap (hit deny (marks_of client user) (levels name)) e ∙ hit-append deny (marks_of client user) (levels name) roots (r ∷ [])
-        ∙ (λ i. a.hits client name deny d i || (or_false (covers (marks_of client user) (levels name) r && same deny r.deny) ∙ f client name deny d) i)
-        ∙ sym (hit_more deny client user name direction before row);
+    hits = λ client name other deny like d.
+        let parts = alike_before other user before row like in
+        ap (hit deny (marks_of client other) (levels name)) e ∙ hit-append deny (marks_of client other) (levels name) roots (r ∷ [])
+        ∙ (λ i. a.hits client name other deny parts.0 d i || (or_false (covers (marks_of client other) (levels name) r && same deny r.deny) ∙ f client name other deny parts.1 d) i)
+        ∙ sym (hit_more deny client other name direction before row);
     fit = λ p h. let parts = fit_before p before row h in ap (remainders_fit p) e ∙ list_all-append (remainder_fits p) roots (r ∷ []) (a.fit p parts.0) (rw (g p parts.1) refl);
   }
 
@@ -68,4 +89,4 @@ module _ (user : Option (List ℕ)) (direction : Direction) (dollar : Bool) wher
   rows_all old rows i now h g before a = subst (λ l. AreRoots (before ++ row_views l) user direction dollar now) (take_all i rows h) (g before a)
 
   pub no_roots : AreRoots [] user direction dollar []
-  no_roots = record { hits = λ client name deny d. refl; fit = λ p h. refl }
+  no_roots = record { hits = λ client name other deny like d. refl; fit = λ p h. refl }

@@ -47,6 +47,7 @@ pub record AreFresh (f : Fresh) : Type 0 where
   pub dollar_user_first : begins_with_dollar f.dollar_user.now ≡ true
   pub client_some : (length f.client.now == 0) ≡ false
   pub user_some : (length f.user.now == 0) ≡ false
+  pub dollar_user_some : (length f.dollar_user.now == 0) ≡ false
   pub user_apart : is_no_client f f.user.now ≡ true
   pub dollar_user_apart : is_no_client f f.dollar_user.now ≡ true
   pub empty_apart : is_no_client f [] ≡ true
@@ -64,3 +65,8 @@ marks_of client user = record { client = Some client; user = user }
 -- the level that a user name is, which may be one that stands for others
 abbrev pub is_user_level : Fresh → List ℕ → Bool
 is_user_level f text = is_choice f.others text && is_no_client f text
+
+-- the user names that are tried for all that no list names: others behave as one of the first two
+abbrev pub is_tried_user : Fresh → List Remainder → List Remainder → List ℕ → Bool
+is_tried_user f old new user =
+    bytes_eq user f.user.now || bytes_eq user f.dollar_user.now || bytes_eq user [] || is_literal_of user old || is_literal_of user new

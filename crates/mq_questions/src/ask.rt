@@ -5,5 +5,6 @@ pub(crate) mod fresh;
 pub(crate) mod gain;
 pub(crate) mod literals;
 pub(crate) mod name;
+pub(crate) mod others;
 pub(crate) mod roots;
 pub(crate) mod rows;

@@ -1,13 +1,15 @@
-ghost use Rattle.std.specs.Prelude.{◌≡◌, ℕ, Bool, List, IfOk, IfNone, IfSome, IsTrue, true, false, string_bytes, Option};
+ghost use Rattle.std.specs.Prelude.{◌≡◌, ℕ, Bool, List, IfOk, IfNone, IfSome, IsTrue, true, false, string_bytes, Option, length, ◌≤◌};
 ghost use Rattle.std.specs.Option.{option_copied};
 ghost use Rattle.mq_topic.specs.Texts.{is_name, contains_byte};
 ghost use Rattle.mq_acl.specs.Access.{begins_with_dollar};
 ghost use Rattle.mq_questions.specs.Fresh.{AreFresh, is_literal, is_user_level};
-ghost use Rattle.mq_questions.specs.Names.{can_be_level, level_of};
-ghost use Rattle.mq_questions.specs.Remainders.{mark_passes};
+ghost use Rattle.std.specs.List.{list_all};
+ghost use Rattle.mq_topic.specs.Levels.{levels};
+ghost use Rattle.mq_questions.specs.Names.{can_be_level, level_of, is_name_level, suits, start_of};
+ghost use Rattle.mq_questions.specs.Remainders.{mark_passes, path_levels};
 ghost use Rattle.mq_questions.specs.Roots.{all_rows, rows_fit, gained};
 
-use crate::ask::clients::any_client;
+use crate::ask::clients::{Gain, any_client};
 use crate::ask::fresh::Fresh;
 use crate::ask::name::name_of;
 use crate::ask::roots::{Scope, roots};
@@ -45,6 +47,21 @@ fn level_of(id: Option<&str>) -> Option<&str>
     id.filter(|text| can_be_level(text))
 }
 
+// The client id, and the name with these levels.
+pub(crate) fn shown<'a>(alloc: Global, dollar: bool, gain: Gain<'a>) -> Result<Witness, AllocError>
+    requires valid { list_all is_name_level (path_levels gain.path.items) ≡ true }
+    requires few { length (path_levels gain.path.items) ≤ 200 }
+    requires suitable { suits (start_of dollar) (path_levels gain.path.items) ≡ true }
+    ensures client { IfOk result (λ witness. string_bytes witness.client ≡ gain.entry.client.now) }
+    ensures name { IfOk result (λ witness. levels witness.name ≡ path_levels gain.entry.path.items) }
+{
+    let mut levels = gain.path;
+    levels.reverse();
+    let name = name_of(alloc, dollar, &levels)?;
+    let client = String::from_str(alloc, gain.client)?;
+    Ok(Witness { client, name })
+}
+
 // A client of this scope, and a name, that the new rows allow it and the old ones don't; or that there is none.
 fn gain_in<'a>(
     alloc: Global,
@@ -69,11 +86,7 @@ fn gain_in<'a>(
     let Some(gain) = any_client(alloc, fresh, user, start, &old_roots, &new_roots)? else {
         return Ok(None);
     };
-    let mut levels = gain.path;
-    levels.reverse();
-    let name = name_of(alloc, &levels)?;
-    let client = String::from_str(alloc, gain.client)?;
-    Ok(Some(Witness { client, name }))
+    Ok(Some(shown(alloc, scope.dollar, gain)?))
 }
 
 /// A client of this user name, or without one, and a name, that the new rows allow it in this direction and the old ones

@@ -33,6 +33,12 @@ impl<'a> Literals<'a> {
         }
     }
 
+    pub fn has(&self, level: &'a str) -> bool
+        ensures { result ≡ is_named level.now self.now }
+    {
+        self.levels.contains(&level)
+    }
+
     pub fn add(&mut self, level: &'a str) -> Result<(), AllocError>
         ensures { OnOk result ((l : List ℕ) → is_named l self.new ≡ (is_named l self.old || bytes_eq l level.entry.now)) }
     {

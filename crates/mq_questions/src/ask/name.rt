@@ -21,11 +21,11 @@ fn joined(alloc: Global, parts: &[&str]) -> Result<String, AllocError>
     Ok(text)
 }
 
-/// The name with these levels.
-pub(crate) fn name_of(alloc: Global, parts: &[&str]) -> Result<TopicName, AllocError>
+/// The name with these levels, which begins with `$` or not.
+pub(crate) fn name_of(alloc: Global, dollar: bool, parts: &[&str]) -> Result<TopicName, AllocError>
     requires valid { list_all is_name_level (map (λ level. level.now) parts.now) ≡ true }
     requires few { length parts.now ≤ 200 }
-    requires some { (dollar : Bool) × (suits (start_of dollar) (map (λ level. level.now) parts.now) ≡ true) }
+    requires suitable { suits (start_of dollar) (map (λ level. level.now) parts.now) ≡ true }
     ensures { IfOk result (λ name. levels name ≡ map (λ level. level.now) parts.now) }
 {
     let text = joined(alloc, parts)?;

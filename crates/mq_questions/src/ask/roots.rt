@@ -1,7 +1,7 @@
 ghost use Rattle.std.specs.Prelude.{◌≡◌, ℕ, Bool, List, ◌&&◌, ◌++◌, ◌∷◌, [], true, false, IfOk, OnOk, IfSome, MatchOption, Option};
 ghost use Rattle.std.specs.Option.{option_copied};
 ghost use Rattle.mq_topic.specs.Levels.{levels};
-ghost use Rattle.mq_acl.specs.Access.{concerns, begins_with_dollar, row_level_matches};
+ghost use Rattle.mq_acl.specs.Access.{applies, concerns, begins_with_dollar, row_level_matches};
 ghost use Rattle.mq_topic.specs.Matching.{levels_match_by};
 ghost use Rattle.mq_acl.specs.Rows.{AclRow};
 ghost use Rattle.mq_acl.specs.Groups.{is_everyones};
@@ -51,10 +51,11 @@ fn whole<'a>(row: &'a Row, deny: bool) -> Remainder<'a>
 
 // The row, with all of its filter left, where it has to do with the scope.
 fn root<'a>(row: &'a Row, scope: Scope<'a>) -> Option<Remainder<'a>>
-    ensures hits { (client name : List ℕ) (deny : Bool) → begins_with_dollar name ≡ scope.entry.dollar → MatchOption result
-        ((concerns client (option_copied scope.entry.user) name (row_view row.now) && decides deny scope.entry.direction (row_view row.now).access) ≡ false)
-        (λ r. (covers (marks_of client (option_copied scope.entry.user)) (levels name) r && same deny r.deny)
-        ≡ (concerns client (option_copied scope.entry.user) name (row_view row.now) && decides deny scope.entry.direction (row_view row.now).access)) }
+    ensures hits { (client name : List ℕ) (user : Option (List ℕ)) (deny : Bool)
+        → applies user (row_view row.now).who ≡ applies (option_copied scope.entry.user) (row_view row.now).who → begins_with_dollar name ≡ scope.entry.dollar → MatchOption result
+        ((concerns client user name (row_view row.now) && decides deny scope.entry.direction (row_view row.now).access) ≡ false)
+        (λ r. (covers (marks_of client user) (levels name) r && same deny r.deny)
+        ≡ (concerns client user name (row_view row.now) && decides deny scope.entry.direction (row_view row.now).access)) }
     ensures fits { (p : List ℕ → Bool) → fits p (levels row.now.filter) ≡ true → IfSome result (λ r. remainder_fits p r ≡ true) }
 {
     if !applies(scope.user, &row.owner) {

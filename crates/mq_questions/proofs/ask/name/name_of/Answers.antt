@@ -14,7 +14,7 @@ texts parts = map (λ level. level.now) parts
 pub returns-in-Ok : goal.returns-in-Ok
 returns-in-Ok c =
     ap levels (c.in-Ok.ensures.text ∙ c.as_str.ensures.value ∙ c.in_ok-text.ensures)
-    ∙ levels_of_joined (texts c.args.parts.now) c.requires.some.0 c.requires.valid c.requires.some.1
+    ∙ levels_of_joined (texts c.args.parts.now) c.args.dollar c.requires.valid c.requires.suitable
 
 memory_is : (fault : TopicFault) → is_memory fault ≡ true → fault ≡ Memory
 memory_is Empty e = absurd (let f : false ≡ true = e in cc)
@@ -28,5 +28,5 @@ memory_is Memory e = refl
 pub unreachable-requires : goal.unreachable-requires
 unreachable-requires c =
     let valid = ap is_name (c.as_str.ensures.value ∙ c.in_ok-text.ensures)
-        ∙ joined_is_name (texts c.args.parts.now) c.requires.some.0 c.requires.valid (subst (λ n. n ≤ 200) (sym (length-map c.args.parts.now (λ level. level.now))) c.requires.few) c.requires.some.1 in
+        ∙ joined_is_name (texts c.args.parts.now) c.args.dollar c.requires.valid (subst (λ n. n ≤ 200) (sym (length-map c.args.parts.now (λ level. level.now))) c.requires.few) c.requires.suitable in
     c.in_default.not-Memory (memory_is c.in-Err.fault (c.in-Err.ensures.valid ∙ valid))

@@ -1,0 +1,101 @@
+-- A few user names stand for all that no list names.
+use Rattle.std.proofs.Common.{◌≡◌, ℕ, ◌==◌, Bool, true, false, not, ◌&&◌, ◌||◌, List, [], ◌∷◌, length, bytes_eq, refl, ap, sym, ◌∙◌, subst, Option, Some, None}
+use Rattle.std.specs.Option.{option_map}
+use Rattle.std.specs.List.{list_any, list_all}
+use Rattle.mq_acl.specs.Rows.{Who, Anonymous, Named, Everyone, AclRow}
+use Rattle.mq_acl.specs.Access.{begins_with_dollar, applies}
+use Rattle.mq_questions.specs.Names.{is_among, is_choice, is_name_level}
+use Rattle.mq_questions.specs.Remainders.{MarkLevels, remainders_fit, same, GainsNothing}
+use Rattle.mq_questions.specs.Literals.{is_literal_of}
+use Rattle.mq_questions.specs.Fresh.{AreFresh, is_tried_user, is_no_client, is_no_user, is_literal, marks_of}
+use Rattle.mq_questions.specs.Roots.{alike, is_name_of, is_user_of}
+use Rattle.mq_questions.specs.declared.ask.fresh.Fresh.{Fresh}
+use Rattle.mq_questions.specs.declared.walk.remainder.Remainder.{Remainder}
+use Rattle.mq_questions.specs.declared.walk.start.Start.{Start}
+use Rattle.mq_questions.proofs.Swaps.{swap, is_apart}
+use Rattle.mq_questions.proofs.SwapLemmas.{AreAlike, swap_first, swap_nothing}
+use Rattle.mq_questions.proofs.BranchLemmas.{and_left, and_right, text_is}
+use Rattle.mq_questions.proofs.WalkLemmas.{same_text}
+use Rattle.mq_questions.proofs.LiteralLemmas.{all_fit_both, literals_pass, apart_rows, or_left, or_right}
+use Rattle.mq_questions.proofs.ClientLemmas.{literal_is_choice, literal_is_no_client, literal_is_no_user, literal_is_no_wildcard, not_empty, apart_by}
+
+-- ---- rows that name neither of two users apply to both alike
+one_alike : (u v : List ℕ) (who : Who) → is_name_of u who ≡ false → is_name_of v who ≡ false → same (applies (Some u) who) (applies (Some v) who) ≡ true
+one_alike u v Anonymous e f = refl
+one_alike u v (Named name) e f = rw (e, f) refl
+one_alike u v Everyone e f = refl
+
+pub others_alike : (u v : List ℕ) (rows : List AclRow) → is_user_of u rows ≡ false → is_user_of v rows ≡ false → alike (Some u) (Some v) rows ≡ true
+others_alike u v [] e f = refl
+others_alike u v (row ∷ rows) e f =
+    rw (one_alike u v row.who (or_left (is_name_of u row.who) (is_user_of u rows) e) (or_left (is_name_of v row.who) (is_user_of v rows) f),
+    others_alike u v rows (or_right (is_name_of u row.who) (is_user_of u rows) e) (or_right (is_name_of v row.who) (is_user_of v rows) f)) refl
+
+-- ---- the user names that are tried
+tried_by : (f : Fresh) (old new : List Remainder) (p : List ℕ → Bool) → p f.user.now ≡ true → p f.dollar_user.now ≡ true → p [] ≡ true
+    → ((l : List ℕ) → is_literal f l ≡ true → p l ≡ true) → remainders_fit (is_literal f) old ≡ true → remainders_fit (is_literal f) new ≡ true
+    → (u : List ℕ) → is_tried_user f old new u ≡ true → p u ≡ true
+tried_by f old new p a b c d o n u h =
+    one (bytes_eq u f.user.now) (bytes_eq u f.dollar_user.now) (bytes_eq u []) (is_literal_of u old) (is_literal_of u new) (p u)
+    (λ e. ap p (text_is u f.user.now e) ∙ a) (λ e. ap p (text_is u f.dollar_user.now e) ∙ b) (λ e. ap p (text_is u [] e) ∙ c)
+    (λ e. d u (literals_pass (is_literal f) old o u e)) (λ e. d u (literals_pass (is_literal f) new n u e)) h
+  where
+    one : (p q r t v w : Bool) → (p ≡ true → w ≡ true) → (q ≡ true → w ≡ true) → (r ≡ true → w ≡ true) → (t ≡ true → w ≡ true) → (v ≡ true → w ≡ true) → (p || q || r || t || v) ≡ true → w ≡ true
+    one true q r t v w a b c e f h = a refl
+    one false true r t v w a b c e f h = b refl
+    one false false true t v w a b c e f h = c refl
+    one false false false true v w a b c e f h = e refl
+    one false false false false v w a b c e f h = f h
+
+pub tried_user_is_choice : (f : Fresh) (old new : List Remainder) → AreFresh f → remainders_fit (is_literal f) old ≡ true → remainders_fit (is_literal f) new ≡ true
+    → (u : List ℕ) → is_tried_user f old new u ≡ true → is_choice f.others u ≡ true
+tried_user_is_choice f old new a o n u h = tried_by f old new (is_choice f.others) a.user a.dollar_user a.empty (literal_is_choice f) o n u h
+
+pub tried_user_is_no_client : (f : Fresh) (old new : List Remainder) → AreFresh f → remainders_fit (is_literal f) old ≡ true → remainders_fit (is_literal f) new ≡ true
+    → (u : List ℕ) → is_tried_user f old new u ≡ true → is_no_client f u ≡ true
+tried_user_is_no_client f old new a o n u h = tried_by f old new (is_no_client f) a.user_apart a.dollar_user_apart a.empty_apart (literal_is_no_client f) o n u h
+
+stand_in : (f : Fresh) (old new : List Remainder) (start : Start) (u b c : List ℕ)
+    → remainders_fit (is_literal f) old ≡ true → remainders_fit (is_literal f) new ≡ true → bytes_eq u [] ≡ false → is_literal_of u old ≡ false → is_literal_of u new ≡ false
+    → begins_with_dollar u ≡ begins_with_dollar b → (length b == 0) ≡ false
+    → ((w : List ℕ) → is_no_user f w ≡ true → not (bytes_eq w b) ≡ true)
+    → ((c : List ℕ) → GainsNothing start 200 (marks_of c (Some b)) old new) → GainsNothing start 200 (marks_of c (Some u)) old new
+stand_in f old new start u b c o n some lo ln d s other h =
+    swap_nothing start 200 (marks_of c (Some u)) u b old new (record { dollar = d; some = not_empty u some; other_some = s })
+    (all_fit_both (λ w. not (bytes_eq w u)) (is_literal f) (is_apart u b) old (λ w e g. apart_by u b w e (other w (literal_is_no_user f w g))) (apart_rows (is_literal f) (literal_is_no_wildcard f) u old o lo) o)
+    (all_fit_both (λ w. not (bytes_eq w u)) (is_literal f) (is_apart u b) new (λ w e g. apart_by u b w e (other w (literal_is_no_user f w g))) (apart_rows (is_literal f) (literal_is_no_wildcard f) u new n ln) n)
+    (subst (λ m. GainsNothing start 200 m old new) (sym (λ i. record { client = Some (swap u b c); user = Some (swap_first u b i) })) (h (swap u b c)))
+
+-- where none of those that are tried gains anything, no other user does
+pub no_user_gains : (f : Fresh) (P : List ℕ → Type 0) (old new : List Remainder) (start : Start) → AreFresh f → P f.user.now → P f.dollar_user.now
+    → remainders_fit (is_literal f) old ≡ true → remainders_fit (is_literal f) new ≡ true
+    → ((u : List ℕ) → is_tried_user f old new u ≡ true → P u → (c : List ℕ) → GainsNothing start 200 (marks_of c (Some u)) old new)
+    → (u : List ℕ) → P u → (c : List ℕ) → GainsNothing start 200 (marks_of c (Some u)) old new
+no_user_gains f P old new start a p q o n h u pu c = at (is_tried_user f old new u) refl (begins_with_dollar u) refl
+  where
+    first_tried : is_tried_user f old new f.user.now ≡ true
+    first_tried = ap (λ b. b || bytes_eq f.user.now f.dollar_user.now || bytes_eq f.user.now [] || is_literal_of f.user.now old || is_literal_of f.user.now new) (same_text f.user.now)
+
+    second : (p q r s t : Bool) → q ≡ true → (p || q || r || s || t) ≡ true
+    second true q r s t e = refl
+    second false q r s t e = rw e refl
+
+    untried : is_tried_user f old new u ≡ false → (bytes_eq u [] ≡ false) × ((is_literal_of u old ≡ false) × (is_literal_of u new ≡ false))
+    untried e =
+        let e4 = or_left (bytes_eq u f.user.now || bytes_eq u f.dollar_user.now || bytes_eq u [] || is_literal_of u old) (is_literal_of u new) e in
+        let e3 = or_left (bytes_eq u f.user.now || bytes_eq u f.dollar_user.now || bytes_eq u []) (is_literal_of u old) e4 in
+        (or_right (bytes_eq u f.user.now || bytes_eq u f.dollar_user.now) (bytes_eq u []) e3,
+        (or_right (bytes_eq u f.user.now || bytes_eq u f.dollar_user.now || bytes_eq u []) (is_literal_of u old) e4,
+        or_right (bytes_eq u f.user.now || bytes_eq u f.dollar_user.now || bytes_eq u [] || is_literal_of u old) (is_literal_of u new) e))
+
+    at : (t : Bool) → is_tried_user f old new u ≡ t → (d : Bool) → begins_with_dollar u ≡ d → GainsNothing start 200 (marks_of c (Some u)) old new
+    at true e d k = h u e pu c
+    at false e false k =
+        let facts = untried e in
+        stand_in f old new start u f.user.now c o n facts.0 facts.1.0 facts.1.1 (k ∙ sym a.user_first) a.user_some
+        (λ w g. and_left (not (bytes_eq w f.user.now)) (not (bytes_eq w f.dollar_user.now)) g) (h f.user.now first_tried p)
+    at false e true k =
+        let facts = untried e in
+        stand_in f old new start u f.dollar_user.now c o n facts.0 facts.1.0 facts.1.1 (k ∙ sym a.dollar_user_first) a.dollar_user_some
+        (λ w g. and_right (not (bytes_eq w f.user.now)) (not (bytes_eq w f.dollar_user.now)) g)
+        (h f.dollar_user.now (second (bytes_eq f.dollar_user.now f.user.now) (bytes_eq f.dollar_user.now f.dollar_user.now) (bytes_eq f.dollar_user.now []) (is_literal_of f.dollar_user.now old) (is_literal_of f.dollar_user.now new) (same_text f.dollar_user.now)) q)
