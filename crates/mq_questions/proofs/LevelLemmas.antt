@@ -1,10 +1,9 @@
 -- The levels that a walk goes on with.
-use Rattle.std.proofs.Common.{◌≡◌, ℕ, Bool, true, false, not, ◌&&◌, ◌||◌, List, [], ◌∷◌, ◌++◌, refl, ap, sym, ◌∙◌, bytes_eq, subst, Some, None, Option, cond, map}
+use Rattle.std.proofs.Common.{◌≡◌, ℕ, Bool, true, false, ◌&&◌, ◌||◌, List, [], ◌∷◌, ◌++◌, refl, ap, sym, ◌∙◌, bytes_eq, Some, cond, map}
 use Rattle.std.specs.Prelude.{is_some}
-use Rattle.std.specs.Ordering.{nat_cmp, is_eq}
-use Rattle.std.specs.List.{list_any, list_all}
+use Rattle.std.specs.Ordering.{nat_cmp}
 use Rattle.std.specs.Cmp.Lexicographic.{slice_cmp}
-use Rattle.std.specs.BTreeMap.{is_at, get_by, keys}
+use Rattle.std.specs.BTreeMap.{is_at, keys}
 use Rattle.std.specs.Map.{lookup}
 use Rattle.std.proofs.lemmas.Map.Text.{is_eq-slice_cmp}
 use Rattle.std.proofs.lemmas.List.Folds.{list_any-append}
@@ -14,7 +13,6 @@ use denote.Ref.{Bor}
 use Rattle.mq_questions.specs.Names.{fits_start, is_among, all_choices}
 use Rattle.mq_questions.specs.Branches.{has}
 use Rattle.mq_questions.specs.declared.walk.branches.Branches.{Branches}
-use Rattle.mq_questions.specs.declared.walk.remainder.Remainder.{Remainder}
 use Rattle.mq_questions.specs.declared.walk.start.Start.{Start}
 
 -- a key is found just where it is one of the keys

@@ -11,3 +11,7 @@ pub mod RootLemmas
 pub mod NameLemmas
 pub mod GainLemmas
 pub mod UserLemmas
+pub mod FreshLemmas
+pub mod WhyLemmas
+pub mod ListLemmas
+pub mod ReadyLemmas

@@ -1,6 +1,6 @@
 -- The levels that filters name.
-use Rattle.std.proofs.Common.{◌≡◌, ℕ, ◌==◌, Bool, true, false, not, ◌&&◌, ◌||◌, List, [], ◌∷◌, ◌++◌, length, codes, bytes_eq, refl, ap, sym, ◌∙◌, Bor, subst}
-use Rattle.std.specs.List.{list_any, list_all}
+use Rattle.std.proofs.Common.{◌≡◌, ℕ, ◌==◌, Bool, true, false, not, ◌&&◌, ◌||◌, List, [], ◌∷◌, length, codes, bytes_eq, refl, ap, sym, ◌∙◌, Bor}
+use Rattle.std.specs.List.{list_any}
 use Rattle.std.specs.Ordering.{nat_cmp}
 use Rattle.std.specs.BTreeMap.{is_at}
 use Rattle.std.specs.Cmp.Lexicographic.{slice_cmp}
@@ -13,7 +13,7 @@ use Rattle.mq_questions.specs.Remainders.{fits, remainder_fits, remainders_fit}
 use Rattle.mq_questions.specs.declared.ask.literals.Literals.{Literals}
 use Rattle.mq_questions.specs.declared.walk.remainder.Remainder.{Remainder}
 use Rattle.mq_questions.proofs.BranchLemmas.{and_left, and_right, text_is}
-use Rattle.mq_questions.proofs.WalkLemmas.{same_text, not_true}
+use Rattle.mq_questions.proofs.WalkLemmas.{same_text}
 
 -- a level is found just where it is one of the keys
 keys_found : (l : List ℕ) (ks : List (Bor (List ℕ))) → list_any (is_at (λ k. slice_cmp nat_cmp l k.now)) ks ≡ is_among l ks
@@ -52,15 +52,17 @@ all_fit_mono p q (r ∷ rs) h e = rw (fits_mono p q (levels_left r.rest) h (and_
 pub all_fit_both : (p q r : List ℕ → Bool) (rs : List Remainder) → ((w : List ℕ) → p w ≡ true → q w ≡ true → r w ≡ true) → remainders_fit p rs ≡ true → remainders_fit q rs ≡ true → remainders_fit r rs ≡ true
 all_fit_both p q r [] h e f = refl
 all_fit_both p q r (x ∷ xs) h e f =
-    rw (fits_both p q r (levels_left x.rest) h (and_left (remainder_fits p x) (remainders_fit p xs) e) (and_left (remainder_fits q x) (remainders_fit q xs) f),
-    all_fit_both p q r xs h (and_right (remainder_fits p x) (remainders_fit p xs) e) (and_right (remainder_fits q x) (remainders_fit q xs) f)) refl
+    rw (
+      fits_both p q r (levels_left x.rest) h (and_left (remainder_fits p x) (remainders_fit p xs) e) (and_left (remainder_fits q x) (remainders_fit q xs) f),
+      all_fit_both p q r xs h (and_right (remainder_fits p x) (remainders_fit p xs) e) (and_right (remainder_fits q x) (remainders_fit q xs) f),
+    ) refl
 
 -- a level that is named passes what all levels that fit do
-or_cases : {A : Type 0} (a b : Bool) → (a || b) ≡ true → (a ≡ true → A) → (b ≡ true → A) → A
+pub or_cases : {A : Type 0} (a b : Bool) → (a || b) ≡ true → (a ≡ true → A) → (b ≡ true → A) → A
 or_cases true b e f g = f refl
 or_cases false b e f g = g e
 
-literal_passes : (p : List ℕ → Bool) (ws : List (List ℕ)) → fits p ws ≡ true → (l : List ℕ) → is_literal_in l ws ≡ true → p l ≡ true
+pub literal_passes : (p : List ℕ → Bool) (ws : List (List ℕ)) → fits p ws ≡ true → (l : List ℕ) → is_literal_in l ws ≡ true → p l ≡ true
 literal_passes p [] e l h = absurd (let n : false ≡ true = h in cc)
 literal_passes p (w ∷ ws) e l h =
     or_cases (bytes_eq l w && not (is_wildcard w)) (is_literal_in l ws) h
@@ -111,5 +113,7 @@ apart_levels p plain l (w ∷ ws) e h =
 pub apart_rows : (p : List ℕ → Bool) → ((w : List ℕ) → p w ≡ true → is_wildcard w ≡ false) → (l : List ℕ) (rs : List Remainder) → remainders_fit p rs ≡ true → is_literal_of l rs ≡ false → remainders_fit (λ w. not (bytes_eq w l)) rs ≡ true
 apart_rows p plain l [] e h = refl
 apart_rows p plain l (r ∷ rs) e h =
-    rw (apart_levels p plain l (levels_left r.rest) (and_left (remainder_fits p r) (remainders_fit p rs) e) (or_left (is_literal_in l (levels_left r.rest)) (is_literal_of l rs) h),
-    apart_rows p plain l rs (and_right (remainder_fits p r) (remainders_fit p rs) e) (or_right (is_literal_in l (levels_left r.rest)) (is_literal_of l rs) h)) refl
+    rw (
+      apart_levels p plain l (levels_left r.rest) (and_left (remainder_fits p r) (remainders_fit p rs) e) (or_left (is_literal_in l (levels_left r.rest)) (is_literal_of l rs) h),
+      apart_rows p plain l rs (and_right (remainder_fits p r) (remainders_fit p rs) e) (or_right (is_literal_in l (levels_left r.rest)) (is_literal_of l rs) h),
+    ) refl

@@ -1,7 +1,7 @@
 -- Levels of names, and the names that they make.
-use Rattle.std.proofs.Common.{◌≡◌, ℕ, ◌==◌, Bool, true, false, cond, not, ◌&&◌, ◌||◌, List, [], ◌∷◌, ◌++◌, length, refl, ap, sym, ◌∙◌, arith, ◌<◌, ◌≤◌, ◌+◌, ◌*◌, append-nil, length-append, Result, Ok, Err, suc, codes}
+use Rattle.std.proofs.Common.{◌≡◌, ℕ, ◌==◌, Bool, true, false, cond, not, ◌&&◌, ◌||◌, List, [], ◌∷◌, ◌++◌, length, refl, ap, sym, ◌∙◌, arith, ◌<◌, ◌≤◌, ◌*◌, append-nil, length-append, suc}
 use Rattle.std.specs.Prelude.{nat_le, nat_lt}
-use Rattle.std.specs.List.{list_any, list_all, flat_map, onto_first}
+use Rattle.std.specs.List.{list_all, flat_map, onto_first}
 use Rattle.std.proofs.lemmas.Bool.Decides.{nat_tests}
 use Rattle.std.proofs.lemmas.List.Folds.{list_any-append}
 use Rattle.mq_topic.specs.Levels.{levels, is_slash}
@@ -9,8 +9,7 @@ use Rattle.mq_topic.specs.Texts.{contains_byte, is_plain, is_text, is_name}
 use Rattle.mq_acl.specs.Access.{begins_with_dollar}
 use Rattle.mq_topic.proofs.TextLemmas.{levels_lack}
 use Rattle.mq_topic.proofs.Walk.{levels-nonempty}
-use Rattle.mq_questions.specs.Names.{can_be_level, is_name_level, joined, suits, start_of, fits_start, behind, ends}
-use Rattle.mq_questions.specs.declared.walk.start.Start.{Start}
+use Rattle.mq_questions.specs.Names.{can_be_level, is_name_level, joined, suits, start_of}
 use Rattle.mq_questions.specs.declared.walk.start.Start.TheVariants.{Plain, Dollar, Slash, Inside}
 use Rattle.mq_questions.proofs.BranchLemmas.{and_left, and_right}
 use Rattle.mq_questions.proofs.WalkLemmas.{not_true, suits_inside}
@@ -167,7 +166,7 @@ slash_onto : (x : ℕ) (ls : List (List ℕ)) → (x == 47) ≡ false → all_la
 slash_onto x [] n h = rw n refl
 slash_onto x (l ∷ ls) n h = rw n h
 
-levels_without : (text : List ℕ) → all_lack 47 (levels text) ≡ true
+pub levels_without : (text : List ℕ) → all_lack 47 (levels text) ≡ true
 levels_without [] = refl
 levels_without (x ∷ xs) = at (is_slash x) refl (levels_without xs)
   where
@@ -178,8 +177,13 @@ levels_without (x ∷ xs) = at (is_slash x) refl (levels_without xs)
 all_can : (ls : List (List ℕ)) → all_lack 43 ls ≡ true → all_lack 35 ls ≡ true → all_lack 0 ls ≡ true → all_lack 47 ls ≡ true → list_all can_be_level ls ≡ true
 all_can [] a b c d = refl
 all_can (l ∷ ls) a b c d =
-    rw (and_left (not (contains_byte 43 l)) (all_lack 43 ls) a, and_left (not (contains_byte 35 l)) (all_lack 35 ls) b, and_left (not (contains_byte 0 l)) (all_lack 0 ls) c, and_left (not (contains_byte 47 l)) (all_lack 47 ls) d,
-    all_can ls (and_right (not (contains_byte 43 l)) (all_lack 43 ls) a) (and_right (not (contains_byte 35 l)) (all_lack 35 ls) b) (and_right (not (contains_byte 0 l)) (all_lack 0 ls) c) (and_right (not (contains_byte 47 l)) (all_lack 47 ls) d)) refl
+    rw (
+      and_left (not (contains_byte 43 l)) (all_lack 43 ls) a,
+      and_left (not (contains_byte 35 l)) (all_lack 35 ls) b,
+      and_left (not (contains_byte 0 l)) (all_lack 0 ls) c,
+      and_left (not (contains_byte 47 l)) (all_lack 47 ls) d,
+      all_can ls (and_right (not (contains_byte 43 l)) (all_lack 43 ls) a) (and_right (not (contains_byte 35 l)) (all_lack 35 ls) b) (and_right (not (contains_byte 0 l)) (all_lack 0 ls) c) (and_right (not (contains_byte 47 l)) (all_lack 47 ls) d),
+    ) refl
 
 -- what is known of a name
 pub record IsValid (name : List ℕ) : Type 0 where

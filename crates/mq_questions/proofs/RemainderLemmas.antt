@@ -1,5 +1,5 @@
 -- What is left of a row, level by level.
-use Rattle.std.proofs.Common.{◌≡◌, ℕ, ◌==◌, Bool, true, false, not, ◌&&◌, ◌||◌, List, [], ◌∷◌, length, refl, ap, sym, ◌∙◌, codes, bytes_eq, suc}
+use Rattle.std.proofs.Common.{◌≡◌, ℕ, ◌==◌, Bool, true, false, ◌&&◌, ◌||◌, List, [], ◌∷◌, length, refl, ap, sym, ◌∙◌, codes, bytes_eq, suc}
 use Rattle.std.proofs.lemmas.Bool.Decides.{nat_tests}
 use Rattle.std.proofs.Common.{arith}
 use Rattle.std.specs.Prelude.{Option, Some, None}
@@ -8,7 +8,7 @@ use denote.Ref.{Bor}
 use Rattle.mq_topic.specs.Levels.{levels_left}
 use Rattle.mq_topic.specs.Matching.{level_matches}
 use Rattle.mq_acl.specs.Access.{is_user}
-use Rattle.mq_questions.specs.Remainders.{MarkLevels, passes, covers, fits, remainder_fits, mark_passes, marks_pass, GoesOn, NextFits, at_mark}
+use Rattle.mq_questions.specs.Remainders.{MarkLevels, passes, covers, fits, remainder_fits, mark_passes, GoesOn, NextFits, at_mark}
 use Rattle.mq_questions.specs.declared.walk.remainder.Remainder.{Remainder}
 use Rattle.mq_topic.proofs.Walk.{levels_match_cons}
 use Rattle.mq_topic.specs.Matching.{levels_match_by}

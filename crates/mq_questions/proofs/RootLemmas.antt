@@ -1,6 +1,5 @@
 -- The rows that have to do with a question, one by one.
-use Rattle.std.proofs.Common.{◌≡◌, ℕ, Bool, true, false, not, ◌&&◌, ◌||◌, List, [], ◌∷◌, ◌++◌, length, Option, Some, None, refl, ap, sym, ◌∙◌, arith, ◌<◌, ◌≤◌, ◌+◌, get_or, take, map, append_assoc, append-nil, subst}
-use Rattle.std.specs.List.{list_any, list_all}
+use Rattle.std.proofs.Common.{◌≡◌, ℕ, Bool, true, false, ◌&&◌, ◌||◌, List, [], ◌∷◌, ◌++◌, length, Option, refl, ap, sym, ◌∙◌, ◌<◌, ◌≤◌, ◌+◌, get_or, take, append_assoc, subst}
 use Rattle.std.proofs.lemmas.Grind.{take_at_read}
 use Rattle.std.proofs.lemmas.List.{take_all, map_push}
 use Rattle.std.proofs.lemmas.List.Folds.{list_any-append}

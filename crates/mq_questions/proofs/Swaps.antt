@@ -1,5 +1,5 @@
 -- Two texts in each other's place.
-use Rattle.std.specs.Prelude.{ℕ, Bool, List, ◌&&◌, not, if◌then◌else◌, Option}
+use Rattle.std.specs.Prelude.{ℕ, Bool, List, ◌&&◌, not, if◌then◌else◌}
 use Rattle.std.specs.Str.{bytes_eq}
 use Rattle.std.specs.Option.{option_map}
 use Rattle.mq_questions.specs.Remainders.{MarkLevels}

@@ -1,19 +1,18 @@
 -- A few user names stand for all that no list names.
-use Rattle.std.proofs.Common.{◌≡◌, ℕ, ◌==◌, Bool, true, false, not, ◌&&◌, ◌||◌, List, [], ◌∷◌, length, bytes_eq, refl, ap, sym, ◌∙◌, subst, Option, Some, None}
-use Rattle.std.specs.Option.{option_map}
-use Rattle.std.specs.List.{list_any, list_all}
+use Rattle.std.proofs.Common.{◌≡◌, ℕ, ◌==◌, Bool, true, false, not, ◌||◌, List, [], ◌∷◌, length, bytes_eq, refl, ap, sym, ◌∙◌, subst, Some}
 use Rattle.mq_acl.specs.Rows.{Who, Anonymous, Named, Everyone, AclRow}
 use Rattle.mq_acl.specs.Access.{begins_with_dollar, applies}
-use Rattle.mq_questions.specs.Names.{is_among, is_choice, is_name_level}
-use Rattle.mq_questions.specs.Remainders.{MarkLevels, remainders_fit, same, GainsNothing}
+use Rattle.mq_questions.specs.Names.{is_choice}
+use Rattle.mq_questions.specs.Remainders.{remainders_fit, same, GainsNothing}
 use Rattle.mq_questions.specs.Literals.{is_literal_of}
 use Rattle.mq_questions.specs.Fresh.{AreFresh, is_tried_user, is_no_client, is_no_user, is_literal, marks_of}
-use Rattle.mq_questions.specs.Roots.{alike, is_name_of, is_user_of}
+use Rattle.mq_questions.specs.Roots.{alike}
+use Rattle.mq_questions.specs.Users.{is_name_of, is_user_of}
 use Rattle.mq_questions.specs.declared.ask.fresh.Fresh.{Fresh}
 use Rattle.mq_questions.specs.declared.walk.remainder.Remainder.{Remainder}
 use Rattle.mq_questions.specs.declared.walk.start.Start.{Start}
 use Rattle.mq_questions.proofs.Swaps.{swap, is_apart}
-use Rattle.mq_questions.proofs.SwapLemmas.{AreAlike, swap_first, swap_nothing}
+use Rattle.mq_questions.proofs.SwapLemmas.{swap_first, swap_nothing}
 use Rattle.mq_questions.proofs.BranchLemmas.{and_left, and_right, text_is}
 use Rattle.mq_questions.proofs.WalkLemmas.{same_text}
 use Rattle.mq_questions.proofs.LiteralLemmas.{all_fit_both, literals_pass, apart_rows, or_left, or_right}
@@ -28,8 +27,10 @@ one_alike u v Everyone e f = refl
 pub others_alike : (u v : List ℕ) (rows : List AclRow) → is_user_of u rows ≡ false → is_user_of v rows ≡ false → alike (Some u) (Some v) rows ≡ true
 others_alike u v [] e f = refl
 others_alike u v (row ∷ rows) e f =
-    rw (one_alike u v row.who (or_left (is_name_of u row.who) (is_user_of u rows) e) (or_left (is_name_of v row.who) (is_user_of v rows) f),
-    others_alike u v rows (or_right (is_name_of u row.who) (is_user_of u rows) e) (or_right (is_name_of v row.who) (is_user_of v rows) f)) refl
+    rw (
+      one_alike u v row.who (or_left (is_name_of u row.who) (is_user_of u rows) e) (or_left (is_name_of v row.who) (is_user_of v rows) f),
+      others_alike u v rows (or_right (is_name_of u row.who) (is_user_of u rows) e) (or_right (is_name_of v row.who) (is_user_of v rows) f),
+    ) refl
 
 -- ---- the user names that are tried
 tried_by : (f : Fresh) (old new : List Remainder) (p : List ℕ → Bool) → p f.user.now ≡ true → p f.dollar_user.now ≡ true → p [] ≡ true
@@ -83,10 +84,13 @@ no_user_gains f P old new start a p q o n h u pu c = at (is_tried_user f old new
     untried : is_tried_user f old new u ≡ false → (bytes_eq u [] ≡ false) × ((is_literal_of u old ≡ false) × (is_literal_of u new ≡ false))
     untried e =
         let e4 = or_left (bytes_eq u f.user.now || bytes_eq u f.dollar_user.now || bytes_eq u [] || is_literal_of u old) (is_literal_of u new) e in
-        let e3 = or_left (bytes_eq u f.user.now || bytes_eq u f.dollar_user.now || bytes_eq u []) (is_literal_of u old) e4 in
-        (or_right (bytes_eq u f.user.now || bytes_eq u f.dollar_user.now) (bytes_eq u []) e3,
-        (or_right (bytes_eq u f.user.now || bytes_eq u f.dollar_user.now || bytes_eq u []) (is_literal_of u old) e4,
-        or_right (bytes_eq u f.user.now || bytes_eq u f.dollar_user.now || bytes_eq u [] || is_literal_of u old) (is_literal_of u new) e))
+        let e3 = or_left (bytes_eq u f.user.now || bytes_eq u f.dollar_user.now || bytes_eq u []) (is_literal_of u old) e4 in (
+          or_right (bytes_eq u f.user.now || bytes_eq u f.dollar_user.now) (bytes_eq u []) e3,
+          (
+            or_right (bytes_eq u f.user.now || bytes_eq u f.dollar_user.now || bytes_eq u []) (is_literal_of u old) e4,
+            or_right (bytes_eq u f.user.now || bytes_eq u f.dollar_user.now || bytes_eq u [] || is_literal_of u old) (is_literal_of u new) e,
+          ),
+        )
 
     at : (t : Bool) → is_tried_user f old new u ≡ t → (d : Bool) → begins_with_dollar u ≡ d → GainsNothing start 200 (marks_of c (Some u)) old new
     at true e d k = h u e pu c

@@ -1,15 +1,14 @@
 -- A walk over the levels of all names.
-use Rattle.std.proofs.Common.{◌≡◌, ℕ, ◌==◌, Bool, true, false, cond, not, ◌&&◌, ◌||◌, List, [], ◌∷◌, ◌++◌, length, Option, Some, None, refl, ap, sym, ◌∙◌, bytes_eq, arith, subst, suc, ◌<◌, ◌≤◌, ◌+◌, ◌-◌, add-one, drop, get_or, map, reverse, Bor, Vec, Global}
+use Rattle.std.proofs.Common.{◌≡◌, ℕ, ◌==◌, Bool, true, false, cond, not, ◌&&◌, ◌||◌, List, [], ◌∷◌, ◌++◌, length, Option, Some, None, refl, ap, sym, ◌∙◌, bytes_eq, arith, subst, ◌<◌, ◌≤◌, ◌+◌, ◌-◌, add-one, drop, get_or, map, reverse, Bor, Vec, Global}
 use Rattle.std.proofs.lemmas.Bool.Decides.{nat_tests}
 use Rattle.std.specs.Prelude.{is_some}
-use Rattle.std.specs.List.{list_all}
 use Rattle.std.specs.Option.{option_map_or}
 use Rattle.std.proofs.Math.Seq.{drop-cons}
 use Rattle.std.proofs.Math.ListN.{drop_of_length-le}
 use Rattle.std.proofs.lemmas.List.{map_push, reverse-append}
 use Rattle.std.proofs.lemmas.Slice.Eq.{bytes_eq-Decides}
 use Rattle.mq_acl.specs.Access.{begins_with_dollar}
-use Rattle.mq_questions.specs.Remainders.{MarkLevels, no_marks, hit, allow, gains, remainders_fit, remainder_fits, path_levels, GainsNothing, IsGain}
+use Rattle.mq_questions.specs.Remainders.{MarkLevels, no_marks, hit, gains, remainders_fit, remainder_fits, path_levels, GainsNothing, IsGain}
 use Rattle.mq_questions.specs.Branches.{at, has, IsBranched, BranchesFit}
 use Rattle.mq_questions.specs.Names.{is_among, fits_start, behind, ends, suits, is_name_level, all_choices, other_at, are_others, is_choice}
 use Rattle.mq_questions.specs.declared.walk.remainder.Remainder.{Remainder}
@@ -154,7 +153,7 @@ unnamed_hits : (marks : MarkLevels) (rs : List Remainder) (b : Branches) (l m : 
 unnamed_hits marks rs b l m h nl nm deny ls =
     h.hits deny l ls ∙ ap (λ k. hit deny marks ls k || hit deny marks ls b.any.items) (nothing_at _ nl ∙ sym (nothing_at _ nm)) ∙ sym (h.hits deny m ls)
 
-false_is : (a b : Bool) → (a ≡ true → b ≡ true) → b ≡ false → a ≡ false
+pub false_is : (a b : Bool) → (a ≡ true → b ≡ true) → b ≡ false → a ≡ false
 false_is true b f e = sym (f refl) ∙ e
 false_is false b f e = refl
 

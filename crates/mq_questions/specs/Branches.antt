@@ -1,7 +1,6 @@
 -- The remainders of rows behind one more level of a name.
-use Rattle.std.specs.Prelude.{◌≡◌, ℕ, Bool, true, List, [], ◌∷◌, ◌++◌, ◌||◌, is_some, Option}
-use denote.Ref.{Bor}
-use Rattle.std.specs.BTreeMap.{BTreeMap, get_by}
+use Rattle.std.specs.Prelude.{◌≡◌, ℕ, Bool, true, List, [], ◌∷◌, ◌||◌, is_some}
+use Rattle.std.specs.BTreeMap.{get_by}
 use Rattle.std.specs.Cmp.Lexicographic.{slice_cmp}
 use Rattle.std.specs.Option.{option_map_or}
 use Rattle.std.specs.Ordering.{nat_cmp}

@@ -1,7 +1,5 @@
 -- Texts that no row names, and which client ids stand for all.
-use Rattle.std.specs.Prelude.{◌≡◌, ◌≤◌, ℕ, Bool, true, false, List, [], ◌∷◌, ◌++◌, length, ◌&&◌, ◌||◌, not, ◌==◌, nat_le, replicate, Option, Some, None}
-use denote.Ref.{Bor}
-use Rattle.std.specs.Option.{option_copied}
+use Rattle.std.specs.Prelude.{◌≡◌, ◌≤◌, ℕ, Bool, true, false, List, [], ◌++◌, length, ◌&&◌, ◌||◌, not, ◌==◌, nat_le, replicate, Option, Some}
 use Rattle.std.specs.Str.{bytes_eq}
 use Rattle.mq_topic.specs.Texts.{contains_byte, is_plain}
 use Rattle.mq_acl.specs.Access.{begins_with_dollar, is_user}

@@ -4,3 +4,6 @@ pub mod Names
 pub mod Literals
 pub mod Fresh
 pub mod Roots
+pub mod Made
+pub mod Users
+pub mod Comparison

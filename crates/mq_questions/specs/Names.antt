@@ -1,5 +1,5 @@
 -- The levels of names, as a walk goes through them.
-use Rattle.std.specs.Prelude.{ℕ, Bool, true, false, List, [], ◌∷◌, length, ◌&&◌, ◌||◌, not, ◌==◌, nat_le, if◌then◌else◌, ◌++◌, Option, Some, None}
+use Rattle.std.specs.Prelude.{ℕ, Bool, true, false, List, [], ◌∷◌, length, ◌&&◌, not, ◌==◌, nat_le, if◌then◌else◌, ◌++◌, Option, Some, None}
 use denote.Ref.{Bor}
 use Rattle.std.specs.List.{list_any, list_all, flat_map}
 use Rattle.std.specs.Str.{bytes_eq}

@@ -2,7 +2,7 @@
 use Rattle.std.specs.Prelude.{◌≡◌, ◌≤◌, ℕ, Bool, true, false, List, [], ◌∷◌, length, codes, ◌&&◌, ◌||◌, not, ◌==◌, if◌then◌else◌, Option, Some, None, reverse, map}
 use denote.Ref.{Bor}
 use Rattle.std.specs.List.{list_any, list_all}
-use Rattle.std.specs.Option.{option_copied, option_map_or}
+use Rattle.std.specs.Option.{option_copied}
 use Rattle.std.specs.Str.{bytes_eq}
 use Rattle.mq_topic.specs.Levels.{levels_left}
 use Rattle.mq_topic.specs.Matching.{level_matches, levels_match_by}

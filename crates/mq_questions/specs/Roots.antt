@@ -2,8 +2,8 @@
 use Rattle.std.specs.Prelude.{◌≡◌, ℕ, Bool, true, false, List, ◌&&◌, ◌++◌, not, Option, Some}
 use Rattle.std.specs.List.{list_any, list_all}
 use Rattle.mq_topic.specs.Levels.{levels}
-use Rattle.std.specs.Str.{bytes_eq}
-use Rattle.mq_acl.specs.Rows.{Who, Anonymous, Named, Everyone, AclRow}
+use Rattle.mq_acl.specs.Rows.{AclRow}
+use Rattle.mq_questions.specs.Users.{is_user_of}
 use Rattle.mq_questions.specs.Literals.{is_named}
 use Rattle.mq_questions.specs.declared.ask.literals.Literals.{Literals}
 use Rattle.mq_acl.specs.Lines.{Access}
@@ -46,15 +46,6 @@ pub record AreRoots (rows : List AclRow) (user : Option (List ℕ)) (direction :
 -- the new rows allow it, and the old ones don't
 abbrev pub gained : List AclRow → List AclRow → List ℕ → Option (List ℕ) → List ℕ → Direction → Bool
 gained old new client user name direction = allowed (Some new) client user name direction && not (allowed (Some old) client user name direction)
-
-abbrev pub is_name_of : List ℕ → Who → Bool
-is_name_of user Anonymous = false
-is_name_of user (Named name) = bytes_eq user name
-is_name_of user Everyone = false
-
--- some row is for the clients of this user name alone
-abbrev pub is_user_of : List ℕ → List AclRow → Bool
-is_user_of user rows = list_any (λ row. is_name_of user row.who) rows
 
 -- among these names are all user names of both lists
 abbrev pub HasUsers : Literals → List AclRow → List AclRow → Type 0

@@ -3,8 +3,10 @@
 pub(crate) mod clients;
 pub(crate) mod fresh;
 pub(crate) mod gain;
+pub(crate) mod lists;
 pub(crate) mod literals;
 pub(crate) mod name;
 pub(crate) mod others;
 pub(crate) mod roots;
 pub(crate) mod rows;
+pub(crate) mod texts;

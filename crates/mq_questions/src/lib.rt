@@ -3,4 +3,13 @@
 #![tactic(auto)]
 
 mod ask;
+mod comparison;
 mod walk;
+mod way;
+mod why;
+
+pub use ask::gain::Witness;
+pub use ask::others::OtherWitness;
+pub use comparison::{Comparison, ComparisonFault};
+pub use way::Way;
+pub use why::{Decision, decide};

@@ -84,7 +84,15 @@ pub(crate) fn walk<'a>(
     for level in &levels {
         let old = old_branches.behind(alloc, level)?;
         let new = new_branches.behind(alloc, level)?;
-        let found = walk(alloc, marks, others, start.behind(level), budget - 1, &old, &new)?;
+        let found = walk(
+            alloc,
+            marks,
+            others,
+            start.behind(level),
+            budget - 1,
+            &old,
+            &new,
+        )?;
         if let Some(mut path) = found {
             append(&mut path, level)?;
             return Ok(Some(path));

@@ -5,10 +5,13 @@ ghost use Rattle.mq_acl.specs.Access.{is_user};
 ghost use Rattle.mq_topic.specs.Levels.{levels, levels_left};
 ghost use Rattle.mq_topic.specs.Matching.{is_wildcard};
 ghost use Rattle.mq_questions.specs.Literals.{is_named, is_literal_in, is_literal_of};
+ghost use Rattle.mq_acl.specs.Views.{owner_view, row_view, row_views};
 ghost use Rattle.mq_questions.specs.Names.{is_among};
+ghost use Rattle.mq_questions.specs.Users.{is_name_of, is_user_of, row_names, rows_name};
 
 use crate::walk::remainder::Remainder;
-use mq_topic::split_first;
+use mq_acl::{Owner, Row};
+use mq_topic::{LevelText, split_first};
 use std::alloc::{AllocError, Global};
 use std::collections::BTreeSet;
 
@@ -31,12 +34,6 @@ impl<'a> Literals<'a> {
         Literals {
             levels: BTreeSet::new(alloc),
         }
-    }
-
-    pub fn has(&self, level: &'a str) -> bool
-        ensures { result ≡ is_named level.now self.now }
-    {
-        self.levels.contains(&level)
     }
 
     pub fn add(&mut self, level: &'a str) -> Result<(), AllocError>
@@ -117,5 +114,44 @@ impl<'a> Literals<'a> {
             all.push(*level)?;
         }
         Ok(all)
+    }
+
+    /// Adds the user name of a row, if it has one.
+    fn add_owner(&mut self, owner: &'a Owner) -> Result<(), AllocError>
+        ensures { OnOk result ((l : List ℕ) → is_named l self.new ≡ (is_named l self.old || is_name_of l (owner_view owner.entry.now))) }
+    {
+        let Owner::Named(name) = owner else {
+            return Ok(());
+        };
+        self.add(name.as_str())?;
+        Ok(())
+    }
+
+    fn add_row(&mut self, row: &'a Row) -> Result<(), AllocError>
+        ensures { OnOk result ((l : List ℕ) → is_named l self.new ≡ (is_named l self.old || row_names l (row_view row.entry.now))) }
+    {
+        self.add_levels(row.filter.text())?;
+        self.add_owner(&row.owner)?;
+        Ok(())
+    }
+
+    /// Adds the levels of the rows, and their user names.
+    pub fn add_rows(&mut self, rows: &'a [Row]) -> Result<(), AllocError>
+        ensures { OnOk result ((l : List ℕ) → is_named l self.new ≡ (is_named l self.old || rows_name l (row_views rows.entry.now))) }
+    {
+        for row in rows {
+            self.add_row(row)?;
+        }
+        Ok(())
+    }
+
+    /// Adds the user names of the rows.
+    pub fn add_users(&mut self, rows: &'a [Row]) -> Result<(), AllocError>
+        ensures { OnOk result ((l : List ℕ) → is_named l self.new ≡ (is_named l self.old || is_user_of l (row_views rows.entry.now))) }
+    {
+        for row in rows {
+            self.add_owner(&row.owner)?;
+        }
+        Ok(())
     }
 }

@@ -21,8 +21,10 @@ use std::alloc::{AllocError, Global};
 
 /// A user name that no list names, and what a client with it gains.
 #[derive(Drop)]
-pub(crate) struct OtherGain {
+pub struct OtherWitness {
+    /// The user name.
     pub user: String,
+    /// The client and the topic.
     pub witness: Witness,
 }
 
@@ -47,11 +49,11 @@ fn users<'a>(
 fn other_in<'a>(
     alloc: Global,
     fresh: Fresh<'a>,
-    named: &Literals<'a>,
+    named: &Literals,
     scope: Scope<'a>,
     old: Rows<'a>,
     new: Rows<'a>,
-) -> Result<Option<OtherGain>, AllocError>
+) -> Result<Option<OtherWitness>, AllocError>
     requires fresh { AreFresh fresh }
     requires scope { option_copied scope.user ≡ Some fresh.user.now }
     requires user { is_named fresh.user.now named.now ≡ false }
@@ -70,14 +72,14 @@ fn other_in<'a>(
     let new_roots = roots(alloc, new, scope)?;
     let users = users(alloc, fresh, &old_roots, &new_roots)?;
     for user in &users {
-        if named.has(user) {
+        if named.names(user) {
             continue;
         }
         let found = any_client(alloc, fresh, Some(user), start, &old_roots, &new_roots)?;
         if let Some(gain) = found {
             let witness = shown(alloc, scope.dollar, gain)?;
             let user = String::from_str(alloc, user)?;
-            return Ok(Some(OtherGain { user, witness }));
+            return Ok(Some(OtherWitness { user, witness }));
         }
     }
     Ok(None)
@@ -88,11 +90,11 @@ fn other_in<'a>(
 pub(crate) fn any_other<'a>(
     alloc: Global,
     fresh: Fresh<'a>,
-    named: &Literals<'a>,
+    named: &Literals,
     direction: Direction,
     old: Rows<'a>,
     new: Rows<'a>,
-) -> Result<Option<OtherGain>, AllocError>
+) -> Result<Option<OtherWitness>, AllocError>
     requires fresh { AreFresh fresh }
     requires user { is_named fresh.user.now named.now ≡ false }
     requires dollar_user { is_named fresh.dollar_user.now named.now ≡ false }

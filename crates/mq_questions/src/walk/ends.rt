@@ -35,7 +35,9 @@ pub(crate) fn gains_end(start: Start, old: &[Remainder], new: &[Remainder]) -> b
 fn are_same_in_turn(old: &[Remainder], new: &[Remainder]) -> bool
     ensures { result ≡ list_all (λ pair. is_same pair.0 pair.1) (zip old.now new.now) }
 {
-    old.iter().zip(new.iter()).all(|(old, new)| old.is_same(new))
+    old.iter()
+        .zip(new.iter())
+        .all(|(old, new)| old.is_same(new))
 }
 
 fn are_same(old: &[Remainder], new: &[Remainder]) -> bool

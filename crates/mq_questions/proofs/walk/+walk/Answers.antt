@@ -1,7 +1,6 @@
-use Rattle.std.proofs.Common.{◌≡◌, ℕ, List, ◌∷◌, [], true, false, sym, ◌∙◌, ap, ◌-◌, ◌<◌, drop, get_or, subst, Bor, Bool, arith, ◌++◌, refl}
-use Rattle.mq_questions.specs.Remainders.{marks_view, marks_pass, remainders_fit, hit, gains, path_levels, GainsNothing, IsGain}
-use Rattle.mq_questions.specs.Names.{is_among, is_choice, is_name_level, all_choices, fits_start, other_at, behind}
-use Rattle.mq_questions.specs.Branches.{BranchesFit}
+use Rattle.std.proofs.Common.{ℕ, List, [], sym, ◌∙◌, ap, ◌-◌, get_or, subst, Bor, arith}
+use Rattle.mq_questions.specs.Remainders.{marks_view, path_levels, GainsNothing, IsGain}
+use Rattle.mq_questions.specs.Names.{is_among, is_choice, is_name_level, all_choices, fits_start, other_at}
 use Rattle.mq_questions.proofs.WalkLemmas.{behind_hits, behind_fits, gain_longer, tried_more, other_is, tried_all, gain_here, nothing_here, nothing_settled, choice_is_level, choice_at}
 use Rattle.mq_questions.proofs.walk.+walk.Goals as goal
 
@@ -23,10 +22,19 @@ returns-then-is_settled-clause-none t c =
 pub walk-requires : goal.walk-requires
 walk-requires t c =
     let level = (get_or c.deref-level-items.result.now c.loop-level.level-index none).now in
-    let p = is_choice c.args.others in
-    (omega (arith, c.decreases, c.if-budget-eq0.false), (c.requires.others, (c.requires.marks,
-    (behind_fits p c.in_ok-old_branches.old_branches level c.deref.result.now (c.in_ok-old_branches.ensures.fit p c.requires.marks c.requires.old) (c.deref.ensures.value ∙ c.in_ok-old.ensures),
-    behind_fits p c.in_ok-new_branches.new_branches level c.deref-in-loop-level.result.now (c.in_ok-new_branches.ensures.fit p c.requires.marks c.requires.new) (c.deref-in-loop-level.ensures.value ∙ c.in_ok-new.ensures)))))
+    let p = is_choice c.args.others in (
+      omega (arith, c.decreases, c.if-budget-eq0.false),
+      (
+        c.requires.others,
+        (
+          c.requires.marks,
+          (
+            behind_fits p c.in_ok-old_branches.old_branches level c.deref.result.now (c.in_ok-old_branches.ensures.fit p c.requires.marks c.requires.old) (c.deref.ensures.value ∙ c.in_ok-old.ensures),
+            behind_fits p c.in_ok-new_branches.new_branches level c.deref-in-loop-level.result.now (c.in_ok-new_branches.ensures.fit p c.requires.marks c.requires.new) (c.deref-in-loop-level.ensures.value ∙ c.in_ok-new.ensures),
+          ),
+        ),
+      ),
+    )
 
 pub returns-in-Some-clause-some : goal.returns-in-Some-clause-some
 returns-in-Some-clause-some t c =
@@ -37,10 +45,10 @@ returns-in-Some-clause-some t c =
     let i = c.loop-level.level-index in
     let level = get_or items i none in
     let choice = choice_at c.args.start is_name_level items i none c.loop-level-test.true
-        (ap (all_choices c.args.start is_name_level) c.deref-level-items.ensures.value
-        ∙ c.in_ok-levels.ensures.each is_name_level (ap is_name_level c.at.ensures ∙ other.valid) (ap (fits_start c.args.start) c.at.ensures ∙ other.fit)
-        (λ l h. choice_is_level c.args.others l ((c.in_ok-old_branches.ensures.fit p c.requires.marks c.requires.old).named l h))
-        (λ l h. choice_is_level c.args.others l ((c.in_ok-new_branches.ensures.fit p c.requires.marks c.requires.new).named l h))) in
+    (ap (all_choices c.args.start is_name_level) c.deref-level-items.ensures.value
+    ∙ c.in_ok-levels.ensures.each is_name_level (ap is_name_level c.at.ensures ∙ other.valid) (ap (fits_start c.args.start) c.at.ensures ∙ other.fit)
+    (λ l h. choice_is_level c.args.others l ((c.in_ok-old_branches.ensures.fit p c.requires.marks c.requires.old).named l h))
+    (λ l h. choice_is_level c.args.others l ((c.in_ok-new_branches.ensures.fit p c.requires.marks c.requires.new).named l h))) in
     gain_longer marks c.args.start c.args.budget (c.args.budget - 1) c.args.old.now c.args.new.now c.deref.result.now c.deref-in-loop-level.result.now level c.in-Some.path.items c.append.new.path.items
     (omega (arith, c.if-budget-eq0.false)) choice.0 choice.1
     (behind_hits marks c.args.old.now c.in_ok-old_branches.old_branches level.now c.deref.result.now c.in_ok-old_branches.ensures.branched (c.deref.ensures.value ∙ c.in_ok-old.ensures))

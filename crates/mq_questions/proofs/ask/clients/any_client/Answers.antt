@@ -1,6 +1,6 @@
-use Rattle.std.proofs.Common.{◌≡◌, ℕ, List, [], refl, ap, sym, ◌∙◌, true, false, get_or, Bor, ◌&&◌, subst, drop}
+use Rattle.std.proofs.Common.{ℕ, List, [], refl, ap, sym, ◌∙◌, get_or, Bor}
 use Rattle.std.specs.Option.{option_copied}
-use Rattle.mq_questions.specs.Fresh.{is_tried_client, is_literal, marks_of}
+use Rattle.mq_questions.specs.Fresh.{is_literal, marks_of}
 use Rattle.mq_questions.specs.Names.{is_among, is_choice}
 use Rattle.mq_questions.specs.Remainders.{GainsNothing}
 use Rattle.mq_questions.proofs.LiteralLemmas.{all_fit_mono}

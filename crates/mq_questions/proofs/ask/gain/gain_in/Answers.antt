@@ -1,6 +1,6 @@
-use Rattle.std.proofs.Common.{◌≡◌, ℕ, List, refl, ap, sym, ◌∙◌, true, false, Bor, subst, Bool}
+use Rattle.std.proofs.Common.{ap, sym, ◌∙◌, subst}
 use Rattle.std.specs.Option.{option_copied}
-use Rattle.mq_questions.specs.Names.{level_of, suits, start_of}
+use Rattle.mq_questions.specs.Names.{suits}
 use Rattle.mq_questions.specs.Remainders.{path_levels, GainsNothing, IsGain}
 use Rattle.mq_questions.specs.Fresh.{marks_of}
 use Rattle.mq_questions.specs.Roots.{AreRoots, all_rows, gained}

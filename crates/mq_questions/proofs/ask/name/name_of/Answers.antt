@@ -1,7 +1,6 @@
-use Rattle.std.proofs.Common.{◌≡◌, refl, ap, sym, ◌∙◌, true, false, map, List, ℕ, Bor, subst, ◌≤◌, length}
+use Rattle.std.proofs.Common.{◌≡◌, refl, ap, sym, ◌∙◌, true, false, map, List, ℕ, Bor, subst, ◌≤◌}
 use Rattle.mq_topic.specs.Levels.{levels}
 use Rattle.mq_topic.specs.Texts.{is_memory, is_name}
-use Rattle.mq_questions.specs.Names.{joined}
 use Rattle.mq_topic.specs.declared.fault.TopicFault.{TopicFault}
 use Rattle.mq_topic.specs.declared.fault.TopicFault.TheVariants.{Empty, TooLong, Nul, Wildcard, Levels, Share, Memory}
 use Rattle.mq_questions.proofs.NameLemmas.{levels_of_joined, joined_is_name}
@@ -28,5 +27,5 @@ memory_is Memory e = refl
 pub unreachable-requires : goal.unreachable-requires
 unreachable-requires c =
     let valid = ap is_name (c.as_str.ensures.value ∙ c.in_ok-text.ensures)
-        ∙ joined_is_name (texts c.args.parts.now) c.args.dollar c.requires.valid (subst (λ n. n ≤ 200) (sym (length-map c.args.parts.now (λ level. level.now))) c.requires.few) c.requires.suitable in
+    ∙ joined_is_name (texts c.args.parts.now) c.args.dollar c.requires.valid (subst (λ n. n ≤ 200) (sym (length-map c.args.parts.now (λ level. level.now))) c.requires.few) c.requires.suitable in
     c.in_default.not-Memory (memory_is c.in-Err.fault (c.in-Err.ensures.valid ∙ valid))

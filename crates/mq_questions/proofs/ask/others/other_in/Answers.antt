@@ -1,23 +1,24 @@
-use Rattle.std.proofs.Common.{◌≡◌, ℕ, List, [], refl, ap, sym, ◌∙◌, true, false, Bor, subst, get_or, Bool, Some}
+use Rattle.std.proofs.Common.{◌≡◌, ℕ, List, [], ap, sym, ◌∙◌, true, false, Bor, subst, get_or, Some}
 use Rattle.std.specs.Option.{option_copied}
-use Rattle.mq_questions.specs.Names.{suits, start_of, is_among}
+use Rattle.mq_questions.specs.Names.{is_among}
 use Rattle.mq_questions.specs.Literals.{is_named}
 use Rattle.mq_questions.specs.Remainders.{path_levels, remainders_fit, GainsNothing, IsGain}
 use Rattle.mq_questions.specs.Fresh.{marks_of, is_literal, is_tried_user}
-use Rattle.mq_questions.specs.Roots.{AreRoots, all_rows, gained, alike}
+use Rattle.mq_questions.specs.Roots.{all_rows, gained, alike}
 use Rattle.mq_questions.proofs.GainLemmas.{nothing_gained_by, name_gained_by}
 use Rattle.mq_questions.proofs.ClientLemmas.{among_at, one_more_done, all_done}
+use Rattle.mq_questions.proofs.LiteralLemmas.{named_is}
 use Rattle.mq_questions.proofs.UserLemmas.{others_alike, tried_user_is_choice, tried_user_is_no_client, no_user_gains}
 use Rattle.mq_questions.proofs.ask.others.other_in.Goals as goal
 
 abbrev none : Bor (List ℕ)
 none = record { ref_ptr = (0, 0); now = [] }
 
-pub loop-user-preserved-then-has : goal.loop-user-preserved-then-has
-loop-user-preserved-then-has c =
+pub loop-user-preserved-then-names : goal.loop-user-preserved-then-names
+loop-user-preserved-then-names c =
     one_more_done (λ t. is_named t c.args.named.now ≡ false → (c' : List ℕ) → GainsNothing c.of-start.result 200 (marks_of c' (Some t)) c.in_ok-old_roots.old_roots.items c.in_ok-new_roots.new_roots.items)
     c.deref-user-items.result.now c.loop-user.user-index none c.loop-user-test.true
-    (λ unnamed. absurd (let e : true ≡ false = sym c.if-has.true ∙ c.has.ensures ∙ unnamed in cc)) c.loop-user.invariant
+    (λ unnamed. absurd (let e : true ≡ false = sym c.if-names.true ∙ c.names.ensures ∙ sym (named_is (get_or c.deref-user-items.result.now c.loop-user.user-index none).now c.args.named.now) ∙ unnamed in cc)) c.loop-user.invariant
 
 pub any_client-requires-clause-user : goal.any_client-requires-clause-user
 any_client-requires-clause-user c =
@@ -51,7 +52,7 @@ returns-in-Some-clause-some c =
     let user = (get_or c.deref-user-items.result.now c.loop-user.user-index none).now in
     let first = option_copied c.args.scope.user in
     let h = rw c.in-Some.is at c.in_ok-found.ensures.some in
-    let unnamed = sym c.has.ensures ∙ c.if-has.false in
+    let unnamed = named_is user c.args.named.now ∙ sym c.names.ensures ∙ c.if-names.false in
     let apart = c.requires.named user unnamed in
     let apart_first = c.requires.named c.args.fresh.user.now c.requires.user in
     (λ i. gained (all_rows c.args.old) (all_rows c.args.new) (c.in_ok-witness.ensures.client i) (Some (c.in_ok-user.ensures.ok i)) c.in_ok-witness.witness.name c.args.scope.direction)
@@ -82,3 +83,8 @@ returns-clause-none c = λ user client name unnamed valid d.
     (ap (is_among t) c.deref-user-items.ensures.value ∙ c.in_ok-users.ensures t ∙ (λ i. is_tried_user c.args.fresh (c.deref.ensures.value i) (c.deref-2.ensures.value i) t) ∙ h))
     user unnamed)
     client name valid d
+
+pub returns-in-Some-clause-named : goal.returns-in-Some-clause-named
+returns-in-Some-clause-named c =
+    let user = (get_or c.deref-user-items.result.now c.loop-user.user-index none).now in
+    ap (λ t. is_named t c.args.named.now) c.in_ok-user.ensures.ok ∙ named_is user c.args.named.now ∙ sym c.names.ensures ∙ c.if-names.false

@@ -1,4 +1,3 @@
-use Rattle.std.proofs.Common.{◌≡◌, refl, ap, sym, ◌∙◌}
 use Rattle.std.specs.Option.{option_copied}
 use Rattle.mq_acl.specs.Views.{row_view}
 use Rattle.mq_questions.proofs.RootLemmas.{no_root, one_root}

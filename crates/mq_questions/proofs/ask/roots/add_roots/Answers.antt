@@ -1,4 +1,4 @@
-use Rattle.std.proofs.Common.{◌≡◌, refl, ap, sym, ◌∙◌, subst, append-nil, [], ◌++◌}
+use Rattle.std.proofs.Common.{sym, subst, append-nil}
 use Rattle.std.specs.Option.{option_copied}
 use Rattle.mq_questions.specs.Roots.{AreRoots}
 use Rattle.mq_questions.proofs.RootLemmas.{rows_more, rows_all}

@@ -1,4 +1,4 @@
-use Rattle.std.proofs.Common.{◌≡◌, sym, subst, []}
+use Rattle.std.proofs.Common.{sym, subst, []}
 use Rattle.std.specs.Option.{option_copied}
 use Rattle.mq_acl.specs.Views.{row_views}
 use Rattle.mq_questions.specs.Roots.{AreRoots}

@@ -1,4 +1,4 @@
-use Rattle.std.proofs.Common.{sym, ◌∙◌, ◌≡◌, true, false}
+use Rattle.std.proofs.Common.{sym, ◌∙◌}
 use Rattle.mq_questions.proofs.EndLemmas.{no_gain, same_gain, same_hit}
 use Rattle.mq_questions.proofs.walk.ends.is_barren.Goals as goal
 

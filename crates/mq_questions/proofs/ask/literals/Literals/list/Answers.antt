@@ -1,4 +1,4 @@
-use Rattle.std.proofs.Common.{refl, ap, sym, ◌∙◌, map, ◌++◌, append-nil}
+use Rattle.std.proofs.Common.{ap, sym, ◌∙◌, map, ◌++◌, append-nil}
 use Rattle.std.specs.Map.Iter.{deref}
 use Rattle.std.proofs.lemmas.Map.Iter.{rest_so_far, rest_all}
 use Rattle.mq_questions.specs.Names.{is_among}

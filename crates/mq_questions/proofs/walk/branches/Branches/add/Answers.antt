@@ -1,5 +1,5 @@
-use Rattle.std.proofs.Common.{refl, ap, sym, ◌∙◌, subst}
-use Rattle.mq_questions.specs.Remainders.{marks_view, GoesOn, NextFits}
+use Rattle.std.proofs.Common.{refl}
+use Rattle.mq_questions.specs.Remainders.{marks_view}
 use Rattle.mq_questions.proofs.BranchLemmas.{at_level, fit_level}
 use Rattle.mq_questions.proofs.walk.branches.Branches.add.Goals as goal
 

@@ -1,6 +1,5 @@
-use Rattle.std.proofs.Common.{refl, ap, sym, ◌∙◌, subst, map, ◌++◌, ◌∷◌, [], List, ℕ, Bor, ◌≡◌, not, true, false, Bool, append-nil}
+use Rattle.std.proofs.Common.{ap, sym, ◌∙◌, subst, map, ◌++◌, ◌≡◌, true, false, append-nil}
 use Rattle.std.specs.Map.Iter.{deref}
-use Rattle.std.specs.BTreeMap.{keys}
 use Rattle.std.proofs.lemmas.List.{map_push}
 use Rattle.std.proofs.lemmas.Map.Iter.{rest_so_far, rest_more, rest_all}
 use Rattle.mq_questions.proofs.LevelLemmas.{IsAddedTo, added_none, added_skip, added_push, added_all, key_is_named}

@@ -1,7 +1,5 @@
-use Rattle.std.proofs.Common.{◌≡◌, ℕ, Bool, List, true, ◌||◌, ◌==◌, map}
+use Rattle.std.proofs.Common.{map}
 use Rattle.std.specs.Map.Iter.{deref}
-use Rattle.mq_questions.specs.Names.{fits_start, is_among, all_choices}
-use Rattle.mq_questions.specs.Branches.{has}
 use Rattle.mq_questions.proofs.LevelLemmas.{IsAddedTo}
 use Rattle.mq_questions.proofs.walk.branches.Branches.add_levels.Given as goal
 

@@ -1,4 +1,3 @@
-use Rattle.std.proofs.Common.{refl, ap, sym, ◌∙◌}
 use Rattle.mq_questions.specs.Remainders.{marks_view}
 use Rattle.mq_questions.proofs.BranchLemmas.{branched_more, branched_all}
 use Rattle.mq_questions.proofs.walk.branches.Branches.of.Goals as goal

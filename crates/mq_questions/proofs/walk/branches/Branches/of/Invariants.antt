@@ -1,6 +1,5 @@
-use Rattle.std.proofs.Common.{◌≡◌, ℕ, Bool, List, true, take}
-use Rattle.mq_questions.specs.Remainders.{marks_view, remainders_fit, marks_pass}
-use Rattle.mq_questions.specs.Branches.{IsBranched, BranchesFit}
+use Rattle.std.proofs.Common.{take}
+use Rattle.mq_questions.specs.Remainders.{marks_view}
 use Rattle.mq_questions.proofs.BranchLemmas.{IsBranchedTo}
 use Rattle.mq_questions.proofs.walk.branches.Branches.of.Given as goal
 

@@ -1,0 +1,51 @@
+ghost use Rattle.std.specs.Prelude.{◌≡◌, ◌≤◌, ℕ, List, IfOk, true, length};
+ghost use Rattle.mq_questions.specs.Literals.{is_named};
+ghost use Rattle.mq_questions.specs.Made.{AreMade, IsSeen};
+
+use crate::ask::fresh::{Fresh, fresh_text};
+use crate::ask::literals::Literals;
+use crate::walk::others::Others;
+use std::alloc::{AllocError, Global};
+
+/// The texts that `Fresh` lends.
+#[derive(Drop)]
+pub(crate) struct FreshTexts {
+    plain: String,
+    dollar: String,
+    client: String,
+    dollar_client: String,
+    user: String,
+    dollar_user: String,
+}
+
+impl FreshTexts {
+    /// Texts that are none of these levels.
+    pub fn find(alloc: Global, literals: &Literals) -> Result<FreshTexts, AllocError>
+        requires short { (l : List ℕ) → is_named l literals.now ≡ true → length l ≤ 300 }
+        ensures { IfOk result (λ texts. AreMade texts literals.now) }
+    {
+        Ok(FreshTexts {
+            plain: fresh_text(alloc, "x", literals)?,
+            dollar: fresh_text(alloc, "$x", literals)?,
+            client: fresh_text(alloc, "client", literals)?,
+            dollar_client: fresh_text(alloc, "$client", literals)?,
+            user: fresh_text(alloc, "user", literals)?,
+            dollar_user: fresh_text(alloc, "$user", literals)?,
+        })
+    }
+
+    pub fn fresh(&self) -> Fresh<'_>
+        ensures { IsSeen self.now result }
+    {
+        Fresh {
+            others: Others {
+                plain: self.plain.as_str(),
+                dollar: self.dollar.as_str(),
+            },
+            client: self.client.as_str(),
+            dollar_client: self.dollar_client.as_str(),
+            user: self.user.as_str(),
+            dollar_user: self.dollar_user.as_str(),
+        }
+    }
+}
