@@ -34,7 +34,7 @@ MADE_OF = {
     "Subscriptions": "alloc: Global, tree: LevelTree<AtFilter>, lists: BTreeMap<RcStr, Own>",
     "Retained": "alloc: Global, tree: Messages, deadlines: Deadlines",
     "Groups": "everyone: Vec<Row>, anonymous: Vec<Row>, named: BTreeMap<String, Vec<Row>>",
-    "Row": "owner: Owner, access: Access, filter: TopicFilter",
+    "Row": "line: u64, owner: Owner, access: Access, filter: TopicFilter",
     "Session": "user: Option<String>, interval: u32, presence: Presence, waiting: LinkedList<Waiting>",
     "LevelTree": "alloc: Global, root: Node<V>",
     "AtFilter": "filter: Rc<TopicFilter>, direct: BTreeMap<RcStr, Options>, groups: BTreeMap<RcStr, Group>",

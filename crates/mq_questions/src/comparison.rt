@@ -121,14 +121,9 @@ impl<'a> Comparison<'a> {
             changed way self.now (string_bytes witness.client) None witness.name direction ≡ true)) }
     {
         let fresh = self.texts.fresh();
-        any_gain(
-            alloc,
-            fresh,
-            None,
-            direction,
-            self.without(way),
-            self.with(way),
-        )
+        let old = self.without(way);
+        let new = self.with(way);
+        any_gain(alloc, fresh, None, direction, old, new)
     }
 
     /// A client of this user name, and a topic, that is gained or lost; or none is, of all client ids and topic names.
@@ -147,14 +142,9 @@ impl<'a> Comparison<'a> {
             changed way self.now (string_bytes witness.client) (Some user.now) witness.name direction ≡ true)) }
     {
         let fresh = self.texts.fresh();
-        any_gain(
-            alloc,
-            fresh,
-            Some(user),
-            direction,
-            self.without(way),
-            self.with(way),
-        )
+        let old = self.without(way);
+        let new = self.with(way);
+        any_gain(alloc, fresh, Some(user), direction, old, new)
     }
 
     /// A user name that neither list names, a client with it, and a topic, that is gained or lost; or none is, of all
@@ -173,13 +163,8 @@ impl<'a> Comparison<'a> {
             changed way self.now (string_bytes other.witness.client) (Some (string_bytes other.user)) other.witness.name direction ≡ true)) }
     {
         let fresh = self.texts.fresh();
-        any_other(
-            alloc,
-            fresh,
-            &self.named,
-            direction,
-            self.without(way),
-            self.with(way),
-        )
+        let old = self.without(way);
+        let new = self.with(way);
+        any_other(alloc, fresh, &self.named, direction, old, new)
     }
 }
