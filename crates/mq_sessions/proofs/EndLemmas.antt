@@ -140,7 +140,7 @@ ended-any moment (s ∷ ss) =
     let rest = ended-any moment ss in
     let any : List ℕ → Bool = list_any (λ end. nat_le end moment) in
     elim s.presence as (λ p. (elim p [ Connected ↦ false | Away end ↦ is_over moment end ] || list_any (has_ended moment) ss)
-        ≡ any (cons_option (elim p [ Connected ↦ None | Away end ↦ end ]) (ends_of ss))) [
+    ≡ any (cons_option (elim p [ Connected ↦ None | Away end ↦ end ]) (ends_of ss))) [
       | Connected ↦ rest
       | Away end ↦ elim end as (λ o. (is_over moment o || list_any (has_ended moment) ss) ≡ any (cons_option o (ends_of ss))) [
         | None ↦ rest
@@ -156,7 +156,7 @@ ends-left moment (s ∷ ss) =
     let later : List ℕ → List ℕ = filter (λ end. not (nat_le end moment)) in
     let rest : ends_of stay ≡ later (ends_of ss) = ends-left moment ss in
     let P : Option ℕ → Type 0 = λ o. end_of s ≡ o →
-        ends_of (cond (not (is_over moment o)) (s ∷ stay) stay) ≡ later (cons_option o (ends_of ss)) in
+    ends_of (cond (not (is_over moment o)) (s ∷ stay) stay) ≡ later (cons_option o (ends_of ss)) in
     let by_end : (o : Option ℕ) → P o = λ o. elim o as P [
       | None ↦ λ h. ap (λ e. cons_option e (ends_of stay)) h ∙ rest
       | Some e ↦ λ h. elim (nat_le e moment) as (λ b. ends_of (cond (not b) (s ∷ stay) stay) ≡ cond (not b) (e ∷ later (ends_of ss)) (later (ends_of ss))) [
@@ -165,8 +165,8 @@ ends-left moment (s ∷ ss) =
       ]
     ] in
     (elim s.presence as (λ p. elim p [ Connected ↦ None | Away end ↦ end ] ≡ end_of s →
-        ends_of (cond (not (elim p [ Connected ↦ false | Away end ↦ is_over moment end ])) (s ∷ stay) stay)
-        ≡ later (cons_option (elim p [ Connected ↦ None | Away end ↦ end ]) (ends_of ss))) [
+    ends_of (cond (not (elim p [ Connected ↦ false | Away end ↦ is_over moment end ])) (s ∷ stay) stay)
+    ≡ later (cons_option (elim p [ Connected ↦ None | Away end ↦ end ]) (ends_of ss))) [
       | Connected ↦ λ h. by_end None (sym h)
       | Away end ↦ λ h. by_end end (sym h)
     ]) refl
