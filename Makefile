@@ -10,11 +10,8 @@
 PREFIX ?= /usr/local
 INSTALLED = $(DESTDIR)$(PREFIX)
 
-# The programs beside real brokers, each installed as mqroute-NAME, and the modules that they import.
+# The programs beside real brokers, each installed as mqroute-NAME; they import what stands in tools/mqroute_tools.
 TOOLS = log_to_script who_loses replay compare_log check search
-TOOL_MODULES = agreement because causes conversion ending evidence inference kinds live live_side mosquitto_log mqroute \
-	notes output page picture quick random_scripts rows safe sessions shrinking stamps state story strict_json style tables \
-	topics waited writing
 
 run:
 	cd crates/mqroute && rt run < ../../tests/rows/first-look.jsonl
@@ -28,7 +25,7 @@ test:
 	tests/memory.sh
 	tests/unbuffered.py
 	tests/readme.py
-	python3 -m unittest discover -s brokers/tests
+	python3 -m unittest discover -s tools/tests
 
 bench:
 	bench/run.sh
@@ -39,11 +36,11 @@ install:
 	install -D -m 755 crates/mqroute/out/mqroute $(INSTALLED)/bin/mqroute
 	install -D -m 644 docs/mqroute.1 $(INSTALLED)/share/man/man1/mqroute.1
 	install -D -m 644 docs/mqroute.bash-completion $(INSTALLED)/share/bash-completion/completions/mqroute
-	install -d $(INSTALLED)/lib/mqroute
-	install -m 644 $(TOOL_MODULES:%=brokers/%.py) $(INSTALLED)/lib/mqroute
-	install -m 755 $(TOOLS:%=brokers/%.py) $(INSTALLED)/lib/mqroute
-	install -d $(INSTALLED)/lib/mqroute/differences $(INSTALLED)/share/mqroute/schemas
-	install -m 644 brokers/differences/* $(INSTALLED)/lib/mqroute/differences
+	install -d $(INSTALLED)/lib/mqroute/mqroute_tools $(INSTALLED)/lib/mqroute/differences $(INSTALLED)/share/mqroute/schemas
+	install -m 644 tools/mqroute_tools/*.py $(INSTALLED)/lib/mqroute/mqroute_tools
+	install -m 644 tools/mqroute.py $(INSTALLED)/lib/mqroute
+	install -m 755 $(TOOLS:%=tools/%.py) $(INSTALLED)/lib/mqroute
+	install -m 644 brokers/differences/*.* $(INSTALLED)/lib/mqroute/differences
 	install -m 644 schemas/*.json $(INSTALLED)/share/mqroute/schemas
 	for tool in $(TOOLS); do \
 	    ln -sf ../lib/mqroute/$$tool.py $(INSTALLED)/bin/mqroute-$$(echo $$tool | tr _ -); \

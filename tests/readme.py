@@ -51,7 +51,7 @@ def main() -> int:
         return 1
     faults, sessions, scripts = [], 0, 0
     with tempfile.TemporaryDirectory() as folder:
-        for name in ("examples", "brokers"):
+        for name in ("examples", "brokers", "tools"):
             shutil.copytree(TOP / name, pathlib.Path(folder, name))
         for block in blocks():
             if block.startswith("$ ") and "jq " in block and shutil.which("jq") is None:

@@ -20,10 +20,10 @@ check() { # NAME WANTED_OUTPUT WANTED_STATUS, with what was written in $written 
     fi
 }
 
-tools/rows_table.py --check || exit 1
-tools/worked_scripts.py --check || exit 1
-tools/three_hundred.py --check || exit 1
-tools/plain_router.py --check || exit 1
+dev/rows_table.py --check || exit 1
+dev/worked_scripts.py --check || exit 1
+dev/three_hundred.py --check || exit 1
+dev/plain_router.py --check || exit 1
 if [ ! -x "$program" ]; then
     echo "rows: there is no $program: run 'rt ci' first"
     exit 1

@@ -1,4 +1,4 @@
-//! The worked rows. Made by tools/rows_table.py from tests/rows.
+//! The worked rows. Made by dev/rows_table.py from tests/rows.
 use crate::rows::{Row, run_row};
 use std::test::Fail;
 

@@ -1,4 +1,4 @@
--- The worked rows of tests/rows, computed from the definitions alone. Made by tools/worked_scripts.py.
+-- The worked rows of tests/rows, computed from the definitions alone. Made by dev/worked_scripts.py.
 use Rattle.std.specs.Prelude.{◌≡◌, ℕ, Bool, true, false, List, [], ◌∷◌, map, Option, Some, None, is_some, Result, Ok, Err, codes, slice_index_or, if◌then◌else◌}
 use Rattle.std.proofs.Common.{refl}
 use Rattle.std.specs.Option.{option_map_or}

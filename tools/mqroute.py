@@ -1,0 +1,86 @@
+"""mqroute as an oracle for tests of a broker.
+
+    with Oracle(acl="topic readwrite #\n") as oracle:
+        answers = oracle.run([{"do": "connect", "client": "a"}, {"do": "publish", "client": "a", "topic": "x"}])
+
+`answers[n]` is what the n-th command is answered with: its copies, and last the closing line or the refusal.
+The program is `program`, or $MQROUTE, or the one that stands in the same clone or installation, or `mqroute` on the PATH.
+"""
+import io
+import json
+import os
+import shutil
+import subprocess
+import tempfile
+from collections.abc import Iterable
+from pathlib import Path
+from typing import Any
+
+from mqroute_tools.ending import Fault
+from mqroute_tools.output import Block, blocks_of
+
+Command = dict[str, Any]
+Answer = dict[str, Any]
+BUILT = Path(__file__).resolve().parents[1] / "crates/mqroute/out/mqroute"
+INSTALLED = Path(__file__).resolve().parents[2] / "bin/mqroute"
+
+
+class OracleFault(Exception):
+    """The program is not there, or it ended with another status than 0 and 1."""
+
+
+def found_program() -> str:
+    named = os.environ.get("MQROUTE")
+    if named:
+        return named
+    for built in (BUILT, INSTALLED):
+        if os.access(built, os.X_OK):
+            return str(built)
+    return shutil.which("mqroute") or "mqroute"
+
+
+class Oracle:
+    """Answers whole scripts, each from a world without sessions.
+
+    `acl` is the text of an access list; without one everything is allowed. The limits are those of the program's options.
+    """
+
+    def __init__(self, acl: str | None = None, max_retained: int | None = None, max_queued: int | None = None, program: str | None = None) -> None:
+        self.words = [program or found_program()]
+        for name, limit in (("--max-retained", max_retained), ("--max-queued", max_queued)):
+            if limit is not None:
+                self.words.append(f"{name}={limit}")
+        self.folder: tempfile.TemporaryDirectory[str] | None = None
+        if acl is not None:
+            self.folder = tempfile.TemporaryDirectory(prefix="mqroute-")
+            file = Path(self.folder.name, "acl")
+            file.write_text(acl, encoding="utf-8", newline="")
+            self.words.append(f"--acl-file={file}")
+
+    def __enter__(self) -> "Oracle":
+        return self
+
+    def __exit__(self, *_: object) -> None:
+        self.close()
+
+    def close(self) -> None:
+        if self.folder is not None:
+            self.folder.cleanup()
+
+    def run(self, commands: Iterable[Command]) -> list[list[Answer]]:
+        """The answers to each command: its copies, then the closing line or the refusal."""
+        return [block.answers() for block in self.blocks(commands)]
+
+    def blocks(self, commands: Iterable[Command]) -> list[Block]:
+        """The same, as the lines that mqroute wrote."""
+        lines = [json.dumps(command) + "\n" for command in commands]
+        try:
+            done = subprocess.run(self.words, input="".join(lines).encode(), capture_output=True)
+        except OSError as fault:
+            raise OracleFault(f"cannot run {self.words[0]}: {fault.strerror}") from fault
+        if done.returncode not in (0, 1):
+            raise OracleFault(done.stderr.decode("utf-8", "replace").strip() or f"mqroute ended with status {done.returncode}")
+        try:
+            return list(blocks_of(io.StringIO(done.stdout.decode("utf-8"), newline="\n"), "the answer"))
+        except (Fault, UnicodeDecodeError) as fault:
+            raise OracleFault(str(fault)) from fault

@@ -1,0 +1,157 @@
+"""What a broker's answer to one line of a script has in common with mqroute's."""
+import json
+from collections import defaultdict
+from collections.abc import Iterable
+from dataclasses import dataclass, field
+from typing import Any, NamedTuple
+
+from .output import Block, Key, read_json
+from .topics import matches
+
+Command = dict[str, Any]
+EXPIRY_SLACK = 2  # seconds
+NOT_AUTHORIZED = 135  # the reason code of what mqroute refuses as NotAuthorized
+NO_SUBSCRIBERS = 16  # which a broker may leave at 0 (3.4.2.1)
+FOREVER = 4_294_967_295
+
+
+class Copy(NamedTuple):
+    client: str
+    topic: str
+    qos: int
+    retain: bool
+    payload: str
+    ids: list[int]
+    expiry: int | None
+    shared: bool = False  # of a group; the broker doesn't tell it
+
+
+@dataclass
+class Joined:
+    """All that one client got of one topic for one line."""
+    qos: int = 0
+    retain: bool = False
+    ids: list[int] = field(default_factory=list)
+    payloads: set[str] = field(default_factory=set)
+    expiry: int | None = None
+    count: int = 0
+
+    def add(self, copy: Copy) -> None:
+        self.qos = max(self.qos, copy.qos)
+        self.retain = self.retain or bool(copy.retain)
+        self.ids = sorted(self.ids + copy.ids)
+        self.payloads.add(copy.payload)
+        self.expiry = copy.expiry
+        self.count += 1
+
+    def agrees(self, other: "Joined") -> bool:
+        if (self.expiry is None) != (other.expiry is None):
+            return False
+        near = self.expiry is None or abs(self.expiry - other.expiry) <= EXPIRY_SLACK
+        return near and (self.qos, self.retain, self.ids, self.payloads) == (other.qos, other.retain, other.ids, other.payloads)
+
+    def __str__(self) -> str:
+        parts = [f"qos {self.qos}", f"retain {str(self.retain).lower()}", "payload " + ", ".join(map(json.dumps, sorted(self.payloads)))]
+        parts += [f"ids {self.ids}"] if self.ids else []
+        parts += [f"expiry {self.expiry}"] if self.expiry is not None else []
+        return ", ".join(parts)
+
+
+def joined(copies: Iterable[Copy]) -> dict[Key, Joined]:
+    found: defaultdict[Key, Joined] = defaultdict(Joined)
+    for copy in copies:
+        found[copy.client, copy.topic].add(copy)
+    return found
+
+
+def copies_of(block: Block) -> list[Copy]:
+    return [Copy(c["client"], c["topic"], c["qos"], c["retain"], c["payload"], c.get("ids", []), c.get("expiry"), "share" in c)
+            for c in map(read_json, block.copies)]
+
+
+class Sessions:
+    """Which sessions and filters there are, by the commands that mqroute accepted."""
+
+    def __init__(self) -> None:
+        self.now = 0
+        self.live: dict[str, int] = {}  # clients that are connected, and their Session Expiry Interval
+        self.away: dict[str, int | None] = {}  # clients with a session, and until when they have it
+        self.filters: defaultdict[str, set[str]] = defaultdict(set)
+
+    def has(self, client: str) -> bool:
+        if client in self.live:
+            return self.live[client] > 0
+        return client in self.away and (self.away[client] is None or self.now < self.away[client])
+
+    def present(self, command: Command) -> bool:
+        """What CONNACK has to say: whether the connect resumes a session."""
+        return not command.get("clean", True) and self.has(command["client"])
+
+    def spread(self, client: str, topic: str) -> int:
+        """The greatest number of copies of one message: one for each of the client's subscriptions (3.3.4)."""
+        return max(1, sum(matches(name, topic) for name in self.filters[client]))
+
+    def follow(self, command: Command) -> None:
+        do, client = command["do"], command.get("client", "")
+        if do == "connect":
+            if not self.present(command):
+                self.filters.pop(client, None)
+            self.away.pop(client, None)
+            self.live[client] = command.get("session_expiry", 0)
+        elif do == "disconnect":
+            expiry = self.live.pop(client, 0)
+            if expiry:
+                self.away[client] = None if expiry == FOREVER else self.now + expiry
+        elif do == "subscribe":
+            self.filters[client].add(command["filter"])
+        elif do == "unsubscribe":
+            self.filters[client].discard(command["filter"])
+        elif do == "advance":
+            self.now += command["seconds"]
+
+
+class Acknowledged(NamedTuple):
+    """What the broker's CONNACK, SUBACK, UNSUBACK, PUBACK or PUBREC says; None where there was none."""
+    reason: int | None = None
+    present: bool | None = None
+
+
+def plural(count: int) -> str:
+    return "1 copy" if count == 1 else f"{count} copies"
+
+
+def different_copies(ours: list[Copy], theirs: list[Copy], sessions: Sessions) -> list[str]:
+    """What differs of the copies, as texts to print. A broker may send one for each subscription, joined here."""
+    want, got, found = joined(ours), joined(theirs), []
+    for key in sorted(want.keys() | got.keys()):
+        mine, other = want.get(key), got.get(key)
+        if mine is None or other is None or not mine.agrees(other):
+            found += [f"   {key[0]} {key[1]}", f"      mqroute: {mine or 'nothing'}", f"      broker:  {other or 'nothing'}"]
+        elif not mine.count <= other.count <= mine.count * sessions.spread(*key):
+            found += [f"   {key[0]} {key[1]}", f"      mqroute: {plural(mine.count)}", f"      broker:  {plural(other.count)}"]
+    return found
+
+
+def different_order(ours: list[Copy], theirs: list[Copy]) -> list[str]:
+    """What waited for a client has to come in its order, of each QoS (4.6); repeats are of overlapping subscriptions."""
+    found = []
+    for client, qos in sorted({(c.client, c.qos) for c in ours} & {(c.client, c.qos) for c in theirs}):
+        here, there = ([(c.topic, c.payload) for c in side if (c.client, c.qos) == (client, qos)] for side in (ours, theirs))
+        here, there = (list(dict.fromkeys(messages)) for messages in (here, there))
+        if here != there and sorted(here) == sorted(there):
+            shown = [", ".join(f"{topic} {json.dumps(payload)}" for topic, payload in messages) for messages in (here, there)]
+            found += [f"   {client} order", f"      mqroute: {shown[0]}", f"      broker:  {shown[1]}"]
+    return found
+
+
+def different_reasons(command: Command, block: Block, said: Acknowledged, present: bool, greatest_qos: int = 2) -> list[str]:
+    found = []
+    if said.present is not None and said.present != present:
+        found.append(f"   session present: mqroute {int(present)}, broker {int(said.present)}")
+    ours = NOT_AUTHORIZED if block.refused else block.reason
+    if command["do"] == "subscribe" and ours is not None:
+        ours = min(ours, greatest_qos)
+    free = command["do"] == "publish" and (ours, said.reason) == (NO_SUBSCRIBERS, 0)
+    if said.reason is not None and said.reason != ours and not free:
+        found.append(f"   reason: mqroute {ours}, broker {said.reason}")
+    return found

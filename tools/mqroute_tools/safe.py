@@ -1,0 +1,20 @@
+"""Names of other people's on a page: what they hold is text, and neither markup nor a direction of writing."""
+import html
+from typing import Any
+
+from .tables import shown, user_shown
+
+
+def visible(text: str) -> str:
+    """A client id or topic for a page. Characters that aren't seen, or that turn text round, are told by their numbers."""
+    return escaped(shown(text))
+
+
+def escaped(text: str) -> str:
+    seen = "".join(c if c == " " or c.isprintable() else f"\\u{ord(c):04x}" for c in text)
+    return html.escape(seen, quote=True)
+
+
+def marked(row: dict[str, Any]) -> str:
+    """The client or the user name of a row."""
+    return escaped(user_shown(row["user"])) if "user" in row else visible(row["client"])

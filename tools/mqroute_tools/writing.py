@@ -1,0 +1,132 @@
+"""The second reading of a log: the script, with what it begins with."""
+import argparse
+import json
+import tempfile
+from collections.abc import Iterator
+from typing import BinaryIO, TypeVar
+
+from . import mosquitto_log as log
+from .conversion import Converter
+from .ending import Fault
+from .inference import Beginning, beginning
+from .sessions import FOREVER, NONE, Command
+from .state import State
+
+PIECE = 1 << 20
+
+
+class Writer(Converter):
+    """Converts, and counts what explains the broker's copies."""
+
+    def __init__(self, session_expiry: int | None, form: str | None, begins: Beginning) -> None:
+        super().__init__(session_expiry or 0, form)
+        self.given = session_expiry is not None
+        self.begins = begins
+        self.state: State | None = None  # that the commands lead to, if it is wanted
+        self.topics: set[str] = set(begins.state.retained)  # that the script publishes
+        self.explained = [0, 0, 0]
+        self.know(begins.state, begins.inferred)
+        self.tell_before()
+
+    def tell_before(self) -> None:
+        for client in self.begins.inferred:
+            self.seen_before.add(client)
+            self.notes.add("clients were connected before the log began: their subscriptions are inferred from what they were sent", client)
+        for client in self.begins.nameless:
+            self.notes.add("of them have no user name in the log, and so none in the script", client)
+
+    def start_with(self, follow: bool) -> None:
+        """Writes the commands of before the log."""
+        if follow:
+            self.state = State()
+        for command in self.begins.state.commands():
+            self.emit(0, command)
+
+    def emit(self, place: int, command: Command, routed: bool | None = True) -> None:
+        written = len(self.commands)
+        super().emit(place, command, routed)
+        if command["do"] == "publish":
+            self.topics.add(command["topic"])
+        if self.state:
+            for _, each in self.commands[written:]:
+                self.state.follow(each, routed)
+
+    def expiry(self, place: int, client: str, clean: bool, protocol: int) -> int:
+        """As the next CONNACK tells it: whether the session was there."""
+        if protocol < 5 or self.given:
+            return super().expiry(place, client, clean, protocol)
+        if place in self.begins.kept:
+            return FOREVER
+        if not clean and place not in self.begins.ended:
+            self.notes.add("MQTT 5 sessions may be kept after their connection, and no later CONNACK tells: they are not (--session-expiry)",
+                           f"line {place}: {client}")
+        return 0
+
+    def taken_over(self, client: str) -> None:
+        """The copies of the will, if there is to be one, stand before the line that tells whether there is."""
+        super().taken_over(client)
+        will = self.connected[client].will
+        if will:
+            self.topics.add(will["topic"])
+
+    def copied(self, sent: log.Publish) -> None:
+        super().copied(sent)
+        session = self.connected.get(sent.client)
+        if not sent.dup and not sent.topic.startswith("$SYS/"):
+            known = session is not None and sent.topic in self.topics
+            self.explained[session.reason(sent.topic) if session and known else NONE] += 1
+
+    def unsubscribe(self, place: int, client: str, name: str) -> None:
+        super().unsubscribe(place, client, name)
+        for other in self.begins.ends.pop(place, ()):
+            super().unsubscribe(place, client, other)
+
+
+Kind = TypeVar("Kind", bound=Writer)
+
+
+def add_options(parser: argparse.ArgumentParser) -> None:
+    parser.add_argument("--time-format", metavar="FORMAT", help="log_timestamp_format as in mosquitto.conf (seconds, ISO and none are found without)")
+    parser.add_argument("--session-expiry", metavar="SECONDS", type=int,
+                        help="Session Expiry Interval of MQTT 5 clients that connect without Clean Start; without it the next CONNACK tells")
+    parser.add_argument("--no-inference", action="store_true", help="nothing of before the log but what --begin has")
+    parser.add_argument("--begin", metavar="FILE", help="a script to begin with, such as what --state wrote for the log before this one")
+
+
+class Logs:
+    """Log files, or standard input, of which a copy is kept if it is read twice."""
+
+    def __init__(self, names: list[str], twice: bool = True) -> None:
+        self.names: list[str | None] = list(names) or [None]
+        self.copy = tempfile.NamedTemporaryFile(prefix="mqroute-") if twice and not names else None
+        if self.copy:
+            with log.open_log(None) as stream:
+                while piece := stream.read(PIECE):
+                    self.copy.write(piece)
+            self.copy.flush()
+            self.names = [self.copy.name]
+
+    def streams(self) -> Iterator[BinaryIO]:
+        return map(log.open_log, self.names)
+
+
+def read_state(name: str | None) -> State:
+    state = State()
+    if name:
+        with open(name, "rb") as stream:
+            for number, line in enumerate(stream, 1):
+                try:
+                    state.follow(json.loads(line))
+                except (ValueError, KeyError, TypeError) as fault:
+                    raise Fault(f"line {number} of {name} is no command") from fault
+    return state
+
+
+def writer(kind: type[Kind], options: argparse.Namespace, logs: Logs, follow: bool = False) -> Kind:
+    """What reads the logs a second time."""
+    state = read_state(options.begin)
+    begins = Beginning(state) if options.no_inference else beginning(logs.streams(), options.time_format, state)
+    found = kind(options.session_expiry, options.time_format, begins)
+    found.start_with(follow)
+    return found
+

@@ -1,0 +1,80 @@
+"""A broker that answers as mqroute, but for a planted bug: it takes some commands for others."""
+import sys
+from collections.abc import Callable
+
+from worked import HERE, PROGRAM
+
+sys.path.insert(0, str(HERE))
+from mqroute_tools.agreement import Acknowledged, Sessions, copies_of, different_copies, different_order, different_reasons  # noqa: E402
+from mqroute_tools.kinds import Difference, apart  # noqa: E402
+from mqroute import Oracle  # noqa: E402
+from mqroute_tools.random_scripts import Use  # noqa: E402
+from search import Script  # noqa: E402
+
+
+class Fake:
+    """`taken` gives what the broker takes the commands of a script for, line by line."""
+
+    def __init__(self, taken: Callable[[Script], Script], use: Use = Use()) -> None:
+        self.taken, self.use = taken, use
+        self.oracle = Oracle(program=str(PROGRAM))
+        self.scripts: list[Script] = []
+
+    def can_run(self, script: Script) -> bool:
+        return True
+
+    def run(self, script: Script, blocks: list) -> list[Difference]:
+        self.scripts.append(script)
+        sessions, found = Sessions(), []
+        for number, (command, block, theirs) in enumerate(zip(script, blocks, self.oracle.blocks(self.taken(script))), 1):
+            present = command["do"] == "connect" and sessions.present(command)
+            sessions.follow(command)
+            ours, copies = copies_of(block), copies_of(theirs)
+            texts = different_copies(ours, copies, sessions) + different_order(ours, copies)
+            found += apart(number, command["do"], texts + different_reasons(command, block, Acknowledged(theirs.reason), present))
+        return found
+
+
+def keeps_first_options(script: Script) -> Script:
+    """Subscribing again changes neither No Local nor Retain As Published."""
+    first: dict[tuple[str, str], dict] = {}
+    taken = []
+    for command in script:
+        if command["do"] == "subscribe":
+            kept = first.setdefault((command["client"], command["filter"]), {name: command[name] for name in ("no_local", "rap") if name in command})
+            command = {name: value for name, value in command.items() if name not in ("no_local", "rap")} | kept
+        elif command["do"] in ("unsubscribe", "connect"):
+            first = {key: kept for key, kept in first.items() if key[0] != command["client"]}
+        taken.append(command)
+    return taken
+
+
+def expiry_0_is_none(script: Script) -> Script:
+    return [{name: value for name, value in command.items() if (name, value) != ("expiry", 0)} for command in script]
+
+
+def keeps_what_is_cleared(script: Script) -> Script:
+    """An empty retained message of QoS 1 or 2 clears nothing."""
+    return [command | {"retain": False} if command.get("retain") and not command["payload"] and command.get("qos") else command for command in script]
+
+
+def forgets_sessions(script: Script) -> Script:
+    """A client that was away for a publish begins anew."""
+    away: set[str] = set()
+    forgotten: set[str] = set()
+    taken = []
+    for command in script:
+        if command["do"] == "disconnect":
+            away.add(command["client"])
+        if command["do"] == "publish":
+            forgotten |= away
+        if command["do"] == "connect":
+            away.discard(command["client"])
+            if command["client"] in forgotten:
+                command = command | {"clean": True}
+                forgotten.discard(command["client"])
+        taken.append(command)
+    return taken
+
+
+BUGS = (keeps_first_options, expiry_0_is_none, keeps_what_is_cleared, forgets_sessions)

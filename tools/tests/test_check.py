@@ -1,0 +1,115 @@
+"""What is said of lines that are no commands; and that these are the lines that the program refuses so."""
+import json
+import random
+import subprocess
+import sys
+import tempfile
+import unittest
+from pathlib import Path
+
+from worked import HERE, answers, no_commands, scripts, wants_program
+
+sys.path.insert(0, str(HERE))
+from mqroute_tools.commands import COMMANDS, faults, line_faults  # noqa: E402
+
+SAID = [
+    ({"do": "publish", "client": "a", "topic": "x", "payloud": ""}, ['publish has no field "payloud" (payload?)']),
+    ({"do": "publish", "client": "a", "topic": "x", "QoS": 1}, ['publish has no field "QoS" (qos?)']),
+    ({"do": "publish", "client": "a", "topic": "x", "when": 1}, ['publish has no field "when"']),
+    ({"do": "stat", "client": "a"}, ['stat has no field "client"']),
+    ({"do": "publish", "topic": 1}, ['publish wants the field "client"', "topic is 1: no text"]),
+    ({"do": "subscribe", "client": "a", "filter": "x", "qos": 3}, ["qos is 3: not from 0 to 2"]),
+    ({"do": "subscribe", "client": "a", "filter": "x", "id": 0}, ["id is 0: not from 1 to 268,435,455"]),
+    ({"do": "subscribe", "client": "a", "filter": "x", "rap": 1}, ["rap is 1: neither true nor false"]),
+    ({"do": "advance", "seconds": 1.5}, ["seconds is 1.5: no whole number"]),
+    ({"do": "advance", "seconds": True}, ["seconds is true: no whole number"]),
+    ({"do": "advance"}, ['advance wants the field "seconds"']),
+    ({"do": "publsh", "client": "a"}, ['there is no command "publsh" (publish?)']),
+    ({"do": 5}, ["there is no command 5"]),
+    ({"client": "a", "command": "connect"}, ['"do" is missing ("command" is "connect")']),
+    ({"client": "a"}, ['"do" is missing']),
+    ([{"do": "stat"}], ['[{"do": "stat"}] is no object']),
+    ({"do": "acl", "text": "x" * 100, "texts": None}, ['acl has no field "texts"']),
+    ({"do": "publish", "client": "a", "topic": ["x" * 100]}, ['topic is ["' + "x" * 58 + "..: no text"]),
+]
+TEXTS = [
+    (b'{"do":"stat"', "no JSON: expecting ',' delimiter, column 13"),
+    (b"{", "no JSON: each command is an object on one line"),
+    (b'\xef\xbb\xbf{"do":"stat"}', "no JSON: it begins with a byte order mark"),
+    (b'{"do":"\xff"}', "no JSON: byte 8 is not UTF-8"),
+    (b'{"do":"advance","seconds":NaN}', "no JSON: NaN is no number in JSON"),
+    (b'{"do":"advance","seconds":1e999}', "no JSON: the number 1e999 is too great"),
+    (b'{"do":"connect","client":"\\ud800"}', "no JSON: half of a surrogate pair stands alone in a text"),
+    (b"[" * 128 + b"]" * 128, "no JSON: nested deeper than 127"),
+    (b" " * 1_048_577, "1,048,577 bytes, where 1,048,576 may be"),
+]
+ODD = [b"0", b"1", b"2", b"3", b"-0", b"-1", b"1.0", b"1e0", b"268435455", b"268435456", b"4294967295", b"4294967296", b"18446744073709551615",
+       b"18446744073709551616", b"9" * 400, b"1e308", b"1e309", b"-1e309", b"1e-999", b"01", b"+1", b"NaN", b"Infinity", b"true", b"false", b"null", b"[]", b"{}",
+       b'""', b'"x"', b'"\\u0000"', b'"\\ud800"', b'"\\ud83d\\ude00"', b'"\\ude00\\ud83d"', b'"\\x41"', b'"\x01"', b'"\x7f"', b'"\xff"', b'"\xed\xa0\x80"', b"'x'",
+       b"[" * 126 + b"]" * 126, b"[" * 127 + b"]" * 127, b'[["\\udfff"]]', b'{"a":[["\\ud800"]]}', b'{"a":1,"a":"\\ud800","a":2}']
+
+
+def random_line(chance: random.Random) -> bytes:
+    """Mostly a command, of which something may be odd."""
+    do = chance.choice(sorted(COMMANDS))
+    fields = COMMANDS[do]
+    parts = [(b'"do"', json.dumps(do).encode())]
+    for name, field in fields.items():
+        if chance.random() < (0.97 if field.required else 0.4):
+            usual = {"text": b'"x"', "flag": b"true", "number": b"%d" % field.low}[field.kind]
+            parts.append((json.dumps(name).encode(), chance.choice(ODD) if chance.random() < 0.2 else usual))
+    if chance.random() < 0.1:
+        parts.append((chance.choice([b'"y"', b'"do"', b'"client"', b'"\\u0064o"', b'"\\ud800"', b"do"]), chance.choice(ODD + [b'"stat"'])))
+    chance.shuffle(parts)
+    space = chance.choice([b"", b" ", b"\t", b"\r", b"\x0c", b"\xc2\xa0"]) if chance.random() < 0.2 else b""
+    line = b"{" + b",".join(name + space + b":" + value for name, value in parts) + b"}" + space
+    if chance.random() < 0.1:
+        at = chance.randrange(len(line))
+        line = line[:at] + chance.choice([b"", b'"', b"\\", b"}", b"[", b",", b"\xff", b" "]) + line[at + chance.randrange(2):]
+    return line
+
+
+class Said(unittest.TestCase):
+    def test_fields(self):
+        for value, said in SAID:
+            self.assertEqual(line_faults(json.dumps(value).encode()), said)
+
+    def test_texts(self):
+        for line, said in TEXTS:
+            self.assertEqual(line_faults(line), [said])
+
+    def run_tool(self, script: bytes, *words: str) -> tuple[int, str]:
+        with tempfile.TemporaryDirectory() as folder:
+            Path(folder, "script").write_bytes(script)
+            done = subprocess.run([sys.executable, HERE / "check.py", *words], input=script, cwd=folder, capture_output=True)
+            return done.returncode, done.stdout.decode("utf-8") + done.stderr.decode("utf-8")
+
+    def test_the_tool(self):
+        for words in (["script"], ["-"], []):
+            self.assertEqual(self.run_tool(b'{"do":"stat"}\n\n \r\n{"do":"stat","x":1,"y":1}\n{"do":"\xc3\xa4"}', *words),
+                             (1, 'line 4: stat has no field "x"\nline 4: stat has no field "y"\nline 5: there is no command "ä"\n'))
+        self.assertEqual(self.run_tool(b'{"do":"stat"}\n', "script"), (0, ""))
+        self.assertEqual(self.run_tool(b"", "nowhere"), (2, "check: [Errno 2] No such file or directory: 'nowhere'\n"))
+
+
+@wants_program
+class Agrees(unittest.TestCase):
+    def agrees(self, name: str, script: bytes) -> int:
+        refused = no_commands(answers(script))
+        found = {number for number, _ in faults(line + b"\n" for line in script.split(b"\n"))}
+        lines = script.split(b"\n")
+        for number in sorted(found ^ refused):
+            self.fail(f"{name} line {number}: {lines[number - 1][:200]!r}: the program {'refuses' if number in refused else 'takes'} it")
+        return len(refused)
+
+    def test_worked_scripts(self):
+        self.assertGreater(sum(self.agrees(str(name), script) for name, script in scripts()), 5)
+
+    def test_random_lines(self):
+        chance = random.Random(7)
+        refused = self.agrees("random", b"\n".join(random_line(chance) for _ in range(20_000)))
+        self.assertTrue(4_000 < refused < 16_000, refused)
+
+
+if __name__ == "__main__":
+    unittest.main()

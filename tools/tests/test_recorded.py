@@ -1,0 +1,131 @@
+"""The recorded logs under the built mqroute, the broker's own lines against its copies, and the READMEs' numbers.
+
+The program is $MQROUTE, or the one that `make run` builds; without one the tests that want it are skipped.
+"""
+import io
+import os
+import re
+import shutil
+import subprocess
+import sys
+import tempfile
+import unittest
+from pathlib import Path
+
+HERE = Path(__file__).parent.parent
+RECORDED = HERE.parent / "brokers/recorded"
+PROGRAM = Path(os.environ.get("MQROUTE", HERE.parent / "crates/mqroute/out/mqroute"))
+SESSIONS = ["--session-expiry", "3600"]  # as record_clients.py asks for
+wants_program = unittest.skipUnless(PROGRAM.exists(), f"there is no {PROGRAM}")
+
+
+def mqroute(script: bytes, *words: str) -> bytes:
+    done = subprocess.run([PROGRAM, *words], input=script, capture_output=True)
+    if done.returncode > 1:
+        raise AssertionError(done.stderr.decode())
+    return done.stdout
+
+
+def tool(name: str, *words: str | Path) -> tuple[int, str]:
+    done = subprocess.run([sys.executable, HERE / name, *words], capture_output=True, text=True, encoding="utf-8")
+    return done.returncode, done.stdout
+
+
+def walk_through(text: str) -> list[tuple[str, str]]:
+    """The commands in a document's blocks, each with what it prints."""
+    blocks = re.findall(r"```\n(\$ .*?)```", text, re.S)
+    return re.findall(r"^\$ (.*)\n((?:(?!\$ ).*\n)*)", "".join(blocks), re.M)
+
+
+class Recorded(unittest.TestCase):
+    def convert(self, kind: str, *words: str) -> None:
+        status, script = tool("log_to_script.py", RECORDED / f"{kind}.log", *words)
+        self.assertEqual((status, script), (0, (RECORDED / f"{kind}.jsonl").read_text(encoding="utf-8")))
+
+    def differ(self, kind: str, *words: str) -> None:
+        script = (RECORDED / f"{kind}.jsonl").read_bytes()
+        with tempfile.TemporaryDirectory() as folder:
+            output = Path(folder, "output")
+            output.write_bytes(mqroute(script, "--acl-file", RECORDED / f"{kind}.acl"))
+            _, found = tool("compare_log.py", RECORDED / f"{kind}.log", output, *words)
+        listed = (RECORDED / f"{kind}.differences").read_text(encoding="utf-8").splitlines()
+        self.assertEqual(found.splitlines(), [line for line in listed if not line.startswith("#")])
+        self.assertNotIn("\ndifferent:", found)
+
+    def test_scripts(self):
+        self.convert("plain")
+        self.convert("sessions", *SESSIONS)
+
+    @wants_program
+    def test_plain(self):
+        self.differ("plain")
+
+    @wants_program
+    def test_sessions(self):
+        self.differ("sessions", *SESSIONS)
+
+    def test_time_stamps_of_other_forms(self):
+        """The same log without stamps gives the same script without `advance`."""
+        sys.path.insert(0, str(HERE))
+        from mqroute_tools.conversion import Converter, placed_commands
+        from log_to_script import text_of
+        plain = re.sub(rb"(?m)^\d+: ", b"", (RECORDED / "plain.log").read_bytes())
+        found = [text_of(c) for _, c in placed_commands(Converter(), [io.BytesIO(plain)])]
+        wanted = (RECORDED / "plain.jsonl").read_text(encoding="utf-8").splitlines()
+        self.assertEqual(found, [line for line in wanted if '"do":"advance"' not in line])
+
+
+class Scripts(unittest.TestCase):
+    @wants_program
+    def test_outputs(self):
+        """Each script of differences/ gives the output that the broker was compared with."""
+        for script in sorted((HERE.parent / "brokers/differences").glob("*.jsonl")):
+            words = ["--acl-file", script.with_suffix(".acl")] if script.with_suffix(".acl").exists() else []
+            if script.with_suffix(".options").exists():
+                words += script.with_suffix(".options").read_text().split()
+            done = subprocess.run([PROGRAM, *words, script], capture_output=True)
+            with self.subTest(script.stem):
+                self.assertEqual(done.stdout, script.with_suffix(".out").read_bytes())
+
+    def test_each_is_told_of(self):
+        """docs/BROKERS.md names each script, and stands the ones that differ in its table."""
+        text = (HERE.parent / "docs/BROKERS.md").read_text(encoding="utf-8")
+        table = text.split("## Where it agrees")[0]
+        for script in (HERE.parent / "brokers/differences").glob("*.jsonl"):
+            differs = script.with_suffix(".diff").stat().st_size > 0
+            self.assertIn(f"`{script.stem}`", table if differs else text)
+        for refused in (HERE.parent / "brokers/differences").glob("refused-*.acl"):
+            self.assertIn(f"`{refused.stem}`", table)
+
+    @wants_program
+    def test_lists_that_the_broker_refuses(self):
+        """mqroute reads each."""
+        lists = sorted((HERE.parent / "brokers/differences").glob("refused-*.acl"))
+        self.assertGreater(len(lists), 3)
+        for name in lists:
+            self.assertEqual(mqroute(b'{"do":"connect","client":"a"}\n', "--acl-file", name), b'{"line":1,"reason":0}\n')
+
+
+class Readme(unittest.TestCase):
+    def check(self, commands: list[tuple[str, str]]) -> None:
+        """Runs commands in order in the folder of the recorded logs, and compares what they print."""
+        with tempfile.TemporaryDirectory() as folder:
+            for name in ("tools", "brokers"):
+                shutil.copytree(HERE.parent / name, Path(folder, name), ignore=shutil.ignore_patterns("__pycache__"))
+            Path(folder, "mqroute").symlink_to(PROGRAM)
+            around = os.environ | {"PATH": f"{folder}:{os.environ['PATH']}"}
+            for command, printed in commands:
+                done = subprocess.run(command, shell=True, cwd=Path(folder, "brokers/recorded"), text=True, encoding="utf-8",
+                                      stdout=subprocess.PIPE, stderr=subprocess.STDOUT, env=around)
+                self.assertEqual(done.stdout, printed, command)
+
+    @wants_program
+    def test_walk_through(self):
+        text = (HERE / "README.md").read_text(encoding="utf-8")
+        commands = walk_through(text.split("## Walk-through")[1].split("\n## ")[0])
+        self.assertGreater(len(commands), 4)
+        self.check(commands)
+
+
+if __name__ == "__main__":
+    unittest.main()

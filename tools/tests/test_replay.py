@@ -1,0 +1,220 @@
+"""What is compared with a live broker; and a run on one, where mosquitto and paho are there."""
+import json
+import os
+import shutil
+import socket
+import subprocess
+import sys
+import tempfile
+import time
+import unittest
+from pathlib import Path
+
+HERE = Path(__file__).parent.parent
+sys.path.insert(0, str(HERE))
+from mqroute_tools.agreement import Acknowledged, Copy, Sessions, different_copies, different_order, different_reasons  # noqa: E402
+from mqroute_tools.output import Block  # noqa: E402
+
+PYTHON = "/usr/bin/python3"  # which has Debian's python3-paho-mqtt
+MOSQUITTO = os.environ.get("MOSQUITTO") or shutil.which("mosquitto") or "/usr/sbin/mosquitto"
+
+
+def has_paho(python: str) -> bool:
+    return Path(python).exists() and subprocess.run([python, "-c", "import paho.mqtt.client"], capture_output=True).returncode == 0
+
+
+PAHO = next((p for p in (sys.executable, PYTHON) if has_paho(p)), None)
+COPY = Copy("b", "x", 1, True, "p", [3, 7], 9)
+
+
+class Copies(unittest.TestCase):
+    OURS = [COPY._replace(qos=0, ids=[7]), COPY._replace(retain=False, ids=[3])]
+
+    def differ(self, ours: list[Copy], theirs: list[Copy], *filters: str) -> list[str]:
+        sessions = Sessions()
+        for name in filters:
+            sessions.follow({"do": "subscribe", "client": "b", "filter": name})
+        return different_copies(ours, theirs, sessions)
+
+    def test_joined(self):
+        for theirs in (self.OURS, self.OURS[::-1], [c._replace(expiry=8) for c in self.OURS]):
+            self.assertEqual(self.differ(self.OURS, theirs), [])
+
+    def test_differs(self):
+        for more in ({"qos": 0}, {"retain": False}, {"ids": [3]}, {"payload": "q"}, {"expiry": 5}, {"expiry": None}):
+            self.assertEqual(len(self.differ([COPY], [COPY._replace(**more)])), 3, more)
+        self.assertEqual(self.differ([COPY], [])[2], "      broker:  nothing")
+        self.assertEqual(self.differ([], [COPY])[1], "      mqroute: nothing")
+
+    def test_how_many(self):
+        """One copy for each subscription that matches, and no more."""
+        plain = COPY._replace(ids=[])
+        self.assertEqual(self.differ([plain], [plain] * 3), ["   b x", "      mqroute: 1 copy", "      broker:  3 copies"])
+        self.assertEqual(self.differ([plain], [plain] * 3, "x", "#", "+"), [])
+        self.assertEqual(len(self.differ([plain], [plain] * 3, "x", "#", "y")), 3)
+        self.assertEqual(len(self.differ([plain] * 2, [plain])), 3)
+
+    def test_order_of_what_waited(self):
+        def messages(*texts: str, qos: int = 1) -> list[Copy]:
+            return [COPY._replace(payload=t, qos=qos) for t in texts]
+        self.assertEqual(different_order(messages("1", "2"), messages("1", "1", "2")), [])
+        self.assertEqual(different_order(messages("1", "2"), messages("2", "1")),
+                         ["   b order", '      mqroute: x "1", x "2"', '      broker:  x "2", x "1"'])
+        self.assertEqual(different_order(messages("1") + messages("2", qos=2), messages("2", qos=2) + messages("1")), [])
+
+
+class Reasons(unittest.TestCase):
+    def differ(self, do: str, ours: int | None, theirs: int | None, **more) -> list[str]:
+        refused = "NotAuthorized" if ours is None else None
+        return different_reasons({"do": do}, Block(1, [], ours, refused), Acknowledged(theirs), False, **more)
+
+    def test_same(self):
+        for do, ours, theirs in (("unsubscribe", 17, 17), ("subscribe", 1, 1), ("publish", 16, 16), ("publish", None, 135), ("publish", 16, 0), ("publish", 16, None)):
+            self.assertEqual(self.differ(do, ours, theirs), [], (do, ours, theirs))
+        self.assertEqual(self.differ("subscribe", 2, 1, greatest_qos=1), [])
+
+    def test_differs(self):
+        for do, ours, theirs in (("unsubscribe", 0, 17), ("unsubscribe", 17, 0), ("subscribe", 1, 128), ("publish", 0, 16), ("publish", 0, 135), ("publish", 16, 135)):
+            self.assertEqual(self.differ(do, ours, theirs), [f"   reason: mqroute {ours}, broker {theirs}"])
+        self.assertEqual(self.differ("publish", None, 0), ["   reason: mqroute 135, broker 0"])
+
+    def test_session_present(self):
+        block, connect = Block(1, [], 0, None), {"do": "connect", "client": "b"}
+        self.assertEqual(different_reasons(connect, block, Acknowledged(0, True), True), [])
+        self.assertEqual(different_reasons(connect, block, Acknowledged(0, True), False), ["   session present: mqroute 0, broker 1"])
+
+    def test_which_sessions_there_are(self):
+        sessions = Sessions()
+        again, leave = {"do": "connect", "client": "b", "clean": False, "session_expiry": 9}, {"do": "disconnect", "client": "b"}
+        for command, present in ((again, True), (leave, True), (again, True), (leave, True), ({"do": "advance", "seconds": 9}, False),
+                                 (again | {"session_expiry": 0}, False), (leave, False), (again, True), (again | {"clean": True, "session_expiry": 0}, False)):
+            sessions.follow(command)
+            self.assertEqual(sessions.present(again), present, command)
+
+
+class WithoutPaho(unittest.TestCase):
+    def test_status(self):
+        with tempfile.TemporaryDirectory() as folder:
+            Path(folder, "paho.py").write_text("raise ImportError")
+            done = subprocess.run([sys.executable, HERE / "replay.py", "x", "y"], capture_output=True, text=True, env=os.environ | {"PYTHONPATH": folder})
+            self.assertEqual((done.returncode, done.stderr), (2, "replay: wants the package python3-paho-mqtt\n"))
+
+
+@unittest.skipUnless(PAHO, "there is no python3-paho-mqtt")
+class Runs(unittest.TestCase):
+    CONF = "listener {port} 127.0.0.1\nallow_anonymous true\nuser {user}\npersistence false\nsys_interval 0\nlog_dest none\nacl_file {folder}/acl\n"
+
+    def setUp(self):
+        self.folder = tempfile.TemporaryDirectory()
+        self.addCleanup(self.folder.cleanup)
+        os.chmod(self.folder.name, 0o755)
+        with socket.socket() as free:
+            free.bind(("127.0.0.1", 0))
+            self.port = free.getsockname()[1]
+
+    def start(self, more: str = "", access: str = "pattern readwrite #\n") -> int:
+        if not Path(MOSQUITTO).exists():
+            self.skipTest("there is no mosquitto")
+        folder = self.folder.name
+        Path(folder, "acl").write_text(access)
+        Path(folder, "conf").write_text(self.CONF.format(port=self.port, folder=folder, user=subprocess.getoutput("id -un")) + more)
+        broker = subprocess.Popen([MOSQUITTO, "-c", f"{folder}/conf"], stderr=subprocess.DEVNULL)
+        self.addCleanup(broker.wait)
+        self.addCleanup(broker.kill)
+        for _ in range(100):
+            with socket.socket() as probe:
+                if probe.connect_ex(("127.0.0.1", self.port)) == 0:
+                    return broker.pid
+            time.sleep(0.05)
+        raise AssertionError("the broker doesn't start")
+
+    def run_script(self, script: list, output: list, *words: str) -> tuple[int, str, str]:
+        for name, lines in (("script", script), ("output", output)):
+            texts = (line if isinstance(line, str) else json.dumps(line, separators=(",", ":")) for line in lines)
+            Path(self.folder.name, name).write_text("".join(text + "\n" for text in texts))
+        done = subprocess.run([PAHO, HERE / "replay.py", "--port", str(self.port), *words, "script", "output"],
+                              cwd=self.folder.name, capture_output=True, text=True, timeout=60)
+        return done.returncode, done.stdout, done.stderr
+
+    CONNECT, PUBLISH = {"do": "connect", "client": "a"}, {"do": "publish", "client": "a", "topic": "x", "payload": "p", "qos": 1}
+    SUBSCRIBE = {"do": "subscribe", "client": "a", "filter": "#", "qos": 1}
+    GOT = {"client": "a", "line": 3, "payload": "p", "qos": 1, "retain": False, "topic": "x"}
+
+    def done(self, *reasons: int) -> list[dict]:
+        return [{"line": n, "reason": r} for n, r in enumerate(reasons, 1)]
+
+    def test_outputs_that_are_not_of_the_script(self):
+        script = [self.CONNECT, "", self.PUBLISH]
+        for output in ([], self.done(0), [{"line": 1, "reason": 0}, {"line": 3, "reason": 17}], self.done(0, 0, 0),
+                       [{"line": 1, "reason": 0}, self.GOT | {"topic": "y"}, {"line": 3, "reason": 0}], ["no"]):
+            status, out, told = self.run_script(script, output)  # there is no broker: it isn't asked
+            self.assertEqual((status, out, len(told.splitlines())), (2, "", 1), output)
+            self.assertNotIn("refused", told)
+
+    def test_what_is_sent(self):
+        self.start()
+        faulty = {"do": "publish", "client": "a", "topic": "+"}
+        refused = {"code": 8, "line": 3, "refused": "TopicName"}
+        self.assertEqual(self.run_script([self.CONNECT, self.SUBSCRIBE, faulty, {"do": "stat"}], [*self.done(0, 1), refused, {"line": 4, "nodes": 1, "retained": 0, "subscriptions": 1}]), (0, "", ""))
+
+    def test_the_same_and_not(self):
+        self.start()
+        script = [self.CONNECT, self.SUBSCRIBE, self.PUBLISH]
+        self.assertEqual(self.run_script(script, [*self.done(0, 1), self.GOT, {"line": 3, "reason": 0}]), (0, "", ""))
+        status, out, _ = self.run_script(script, [*self.done(0, 1), {"line": 3, "reason": 16}])
+        self.assertEqual((status, out.splitlines()[1:]), (1, ["   a x", "      mqroute: nothing", '      broker:  qos 1, retain false, payload "p"']))
+        status, out, _ = self.run_script([self.CONNECT, self.PUBLISH], self.done(0, 0))
+        self.assertEqual((status, out.splitlines()[1:]), (1, ["   reason: mqroute 0, broker 16"]))
+
+    def test_access_lists(self):
+        pid = self.start()
+        script = [self.CONNECT, self.SUBSCRIBE, {"do": "acl", "text": "topic read #"}, self.PUBLISH, {"do": "acl"}, self.PUBLISH]
+        output = [*self.done(0, 1, 0), {"code": 11, "line": 4, "refused": "NotAuthorized"}, {"line": 5, "reason": 0}, self.GOT | {"line": 6}, {"line": 6, "reason": 0}]
+        command = f'cp "$MQROUTE_ACL" "{self.folder.name}/acl" && kill -HUP {pid}'
+        self.assertEqual(self.run_script(script, output, "--on-acl", command), (0, "", ""))
+        self.assertEqual(self.run_script(script, output)[0], 2)
+        self.assertEqual(self.run_script(script, output, "--on-acl", "false")[0], 2)
+
+    def test_user_and_password(self):
+        names = f"{self.folder.name}/passwords"
+        Path(names).write_text("me:secret\nops:secret\n")
+        if not shutil.which("mosquitto_passwd") or subprocess.run(["mosquitto_passwd", "-U", names]).returncode:
+            self.skipTest("there is no mosquitto_passwd")
+        os.chmod(names, 0o644)
+        self.start(f"password_file {names}\nallow_anonymous false\n")
+        script, output = [self.CONNECT, self.CONNECT | {"client": "b", "user": "ops"}], self.done(0, 0)
+        self.assertEqual(self.run_script(script, output)[0], 2)
+        self.assertEqual(self.run_script(script, output, "--username", "me", "--password", "secret"), (0, "", ""))
+
+    def test_denied_publishes(self):
+        self.start(access="topic read #\n")
+        script = [self.CONNECT] + [self.PUBLISH | {"qos": q} for q in (0, 1, 2)]
+        output = [{"line": 1, "reason": 0}] + [{"code": 11, "line": n, "refused": "NotAuthorized"} for n in (2, 3, 4)]
+        self.assertEqual(self.run_script(script, output), (0, "", ""))
+        status, out, _ = self.run_script(script, self.done(0, 16, 16, 16))
+        self.assertEqual((status, out.count("   reason: mqroute 16, broker 135\n")), (1, 2))
+
+    def test_what_a_connack_does_not_offer(self):
+        """mosquitto can't do without these."""
+        code = """if True:
+            from types import SimpleNamespace
+            from mqroute_tools.live import Offer
+            poor = Offer(SimpleNamespace(SharedSubscriptionAvailable=0, WildcardSubscriptionAvailable=0, SubscriptionIdentifierAvailable=0))
+            for command, wanted in (({"filter": "$share/g/x"}, "shared subscriptions"), ({"filter": "x/+"}, "wildcards in filters"),
+                                    ({"filter": "x", "id": 1}, "subscription identifiers"), ({"filter": "x"}, "")):
+                command["do"] = "subscribe"
+                assert poor.lacks(command) == wanted and Offer().lacks(command) == "", command
+        """
+        done = subprocess.run([PAHO, "-c", code], cwd=HERE, capture_output=True, text=True)
+        self.assertEqual((done.returncode, done.stderr), (0, ""))
+
+    def test_what_is_not_offered(self):
+        self.start("max_qos 1\nretain_available false\n")
+        script = [self.CONNECT, self.SUBSCRIBE, self.PUBLISH | {"qos": 2}, self.PUBLISH | {"retain": True}, self.PUBLISH]
+        output = [*self.done(0, 1), self.GOT, {"line": 3, "reason": 0}, self.GOT | {"line": 4}, {"line": 4, "reason": 0}, self.GOT | {"line": 5}, {"line": 5, "reason": 0}]
+        told = "".join(f"replay: the broker doesn't offer {what}: 1 lines left out\n" for what in ("QoS over 1", "retained messages"))
+        self.assertEqual(self.run_script(script, output), (0, "", told))
+
+
+if __name__ == "__main__":
+    unittest.main()

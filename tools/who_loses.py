@@ -1,0 +1,244 @@
+#!/usr/bin/env python3
+"""Tells who loses (and who gains) what between two outputs of mqroute for one script.
+
+usage: who_loses.py [--by user] [--why] [--depth N] [--json] [--html FILE] SCRIPT BEFORE AFTER
+Exit status: 0 nothing changes; 1 something does; 2 usage, a file, or outputs that aren't of this script.
+"""
+import argparse
+import json
+import sys
+from collections import Counter, defaultdict
+from dataclasses import dataclass, field
+from functools import lru_cache
+from typing import Any
+
+from mqroute_tools import ending
+from mqroute_tools import page
+from mqroute_tools.because import Grouped, difference
+from mqroute_tools.ending import Fault
+from mqroute_tools.output import Block, blocks, by_key, command_of, is_blank, misfit
+from mqroute_tools.rows import Reasons, Row, all_causes, because_of, by_user_table, copies_of, refused_of, row_order
+from mqroute_tools.tables import shown, table, user_shown
+
+
+@dataclass
+class Copies:
+    """The copies of one client and topic. `changed` are those with another QoS, RETAIN flag, payload or the like."""
+    before: int = 0
+    after: int = 0
+    lost: int = 0
+    gained: int = 0
+    changed: int = 0
+
+
+@dataclass
+class Refusals:
+    """The lines of one client and topic that are refused. `newly` and `no_longer` count by the refusal's name."""
+    before: int = 0
+    after: int = 0
+    newly: Counter[str] = field(default_factory=Counter)
+    no_longer: Counter[str] = field(default_factory=Counter)
+
+
+class Losses:
+    """What differs, by client and topic. With `reasons` its causes too, and where they want it by user name and topic."""
+
+    def __init__(self, depth: int | None) -> None:
+        self.depth = depth
+        self.gathered = lru_cache(1 << 14)(self.gathered)
+        self.reasons: Reasons | None = None
+        self.copies: defaultdict[Row, Copies] = defaultdict(Copies)
+        self.refusals: defaultdict[Row, Refusals] = defaultdict(Refusals)
+
+    def gathered(self, topic: str) -> str:
+        """The topic, or the filter that stands for all topics with the same first levels."""
+        levels = topic.split("/", self.depth) if self.depth else []
+        return "/".join(levels[:-1]) + "/#" if self.depth and len(levels) > self.depth else topic
+
+    def add(self, text: bytes, before: Block, after: Block) -> str | bool:
+        """Counts what one line of the script was answered in both runs. Says why, if an answer can't be of that line."""
+        was = by_key(before.copies)
+        now = was if before.copies == after.copies else by_key(after.copies)
+        said = was or now or before.reason or after.reason or before.refused or after.refused
+        if said or self.reasons:
+            command = command_of(text)
+            why = said and (misfit(command, before, was) or (after != before and misfit(command, after, now)))
+            if why:
+                return str(why)
+            self.count(command or {}, (before, after), was, now)
+        return False
+
+    def count(self, command: dict[str, Any], blocks: tuple[Block, Block], was: Grouped, now: Grouped) -> None:
+        if self.reasons:
+            self.reasons.take(command, blocks, was, now)
+        self.add_copies(was, now)
+        self.add_refusals(command, blocks[0].line, blocks[0].refused, blocks[1].refused)
+        if self.reasons:
+            self.reasons.because.end(command, *blocks, was)
+
+    def who(self, client: str) -> str | None:
+        return self.reasons.who(client) if self.reasons else client
+
+    def add_refusals(self, command: dict[str, Any], line: int, was: str | None, now: str | None) -> None:
+        if was or now:
+            subject = self.subject(command)
+            entry = self.refusals[subject]
+            entry.before += was is not None
+            entry.after += now is not None
+            if was != now:
+                if self.reasons:
+                    self.reasons.refused(subject, line, command)
+                entry.newly.update([now] if now else [])
+                entry.no_longer.update([was] if was else [])
+
+    def add_copies(self, was: Grouped, now: Grouped) -> None:
+        for key in was.keys() | now.keys():
+            entry, old, new = self.copies[self.who(key[0]), self.gathered(key[1])], was.get(key, []), now.get(key, [])
+            entry.before += len(old)
+            entry.after += len(new)
+            if old is not new:
+                lost, gained, changed = difference(old, new)
+                entry.lost += lost
+                entry.gained += gained
+                entry.changed += changed
+
+    def subject(self, command: dict[str, Any]) -> Row:
+        """Whom a refusal concerns: the client, and the topic or filter, or what the command does."""
+        try:
+            return self.who(str(command["client"])), self.gathered(str(command.get("topic", command.get("filter", command["do"]))))
+        except KeyError:
+            return "", "(no command)"
+
+    def changed_copies(self) -> list[tuple[Row, Copies]]:
+        return sorted(((k, c) for k, c in self.copies.items() if c.lost or c.gained or c.changed), key=row_order)
+
+    def changed_refusals(self) -> list[tuple[Row, Refusals]]:
+        return sorted(((k, r) for k, r in self.refusals.items() if r.newly or r.no_longer), key=row_order)
+
+    def totals(self) -> dict[str, int]:
+        of_copies = {name: sum(getattr(c, name) for c in self.copies.values()) for name in ("before", "after", "lost", "gained", "changed")}
+        return of_copies | {"refused_before": sum(r.before for r in self.refusals.values()),
+                            "refused_after": sum(r.after for r in self.refusals.values())}
+
+
+class Run:
+    """One output, answer by answer."""
+
+    def __init__(self, name: str) -> None:
+        self.name = name
+        self.blocks = blocks(name)
+        self.head = next(self.blocks, None)
+
+    def take(self, number: int) -> Block | None:
+        """The answer to this line of the script, if it has one."""
+        head = self.head
+        if head is None or head.line != number:
+            return None
+        self.head = next(self.blocks, None)
+        return head
+
+
+def compare(losses: Losses, script: str, before: str, after: str) -> None:
+    runs = [Run(before), Run(after)]
+    with open(script, "rb") as commands:
+        for number, text in enumerate(commands, 1):
+            here = [run.take(number) for run in runs]
+            if is_blank(text):
+                for run in (r for r, block in zip(runs, here) if block):
+                    raise Fault(f"line {number} of {script} is blank, and {run.name} has an answer to it: it is the output of another script")
+                continue
+            if None in here:
+                raise unanswered(script, number, [run.name for run, block in zip(runs, here) if block is None])
+            why = losses.add(text, *here)
+            if why:
+                raise Fault(f"line {number} of {script}: an output is of another script: {why}")
+    for run in runs:
+        if run.head:
+            raise Fault(f"{run.name} has answers to lines that {script} doesn't have")
+
+
+def unanswered(script: str, number: int, names: list[str]) -> Fault:
+    where = "answered in neither output" if len(names) == 2 else f"not answered in {names[0]}"
+    return Fault(f"line {number} of {script} is {where}: a run failed or is cut short" + (", or is of another script" if len(names) == 1 else ""))
+
+
+# -- showing
+
+def why(newly: Counter[str], no_longer: Counter[str]) -> str:
+    parts = [f"{name} {count}" for name, count in sorted(newly.items())]
+    return ", ".join(parts + [f"no longer {name} {count}" for name, count in sorted(no_longer.items())])
+
+
+def report(found: dict[str, Any]) -> str:
+    copies, refusals = found["copies"], found["refused"]
+    if not (copies or refusals):
+        return ""
+    parts = []
+    if copies:
+        parts.append("Copies\n" + (by_user_table(copies, shown) if found.get("by") == "user" else copies_table(copies)))
+    if refusals:
+        parts.append("Refused\n" + refused_table(refusals))
+    parts.append("In all {before} copies before and {after} after: {lost} lost, {gained} gained, {changed} changed. "
+                 "{refused_before} lines refused before, {refused_after} after.".format(**found["totals"]))
+    return "\n\n".join(parts) + "\n"
+
+
+def copies_table(copies: list[dict[str, Any]]) -> str:
+    head = ["before", "after", "lost", "gained", "changed"]
+    rows = [[shown(c["client"]), shown(c["topic"]), *(str(c[name]) for name in head)] + ([because_of(c)] if "causes" in c else []) for c in copies]
+    return table(["client", "topic", *head] + (["because"] if "causes" in copies[0] else []), rows)
+
+
+def refused_table(refusals: list[dict[str, Any]]) -> str:
+    head = ["user", "clients", "topic"] if "user" in refusals[0] else ["client", "topic"]
+    rows = []
+    for r in refusals:
+        names = [user_shown(r["user"]), str(r["clients"])] if "user" in r else [shown(r["client"])]
+        rows.append([*names, shown(r["topic"]), str(r["before"]), str(r["after"]), why(r["newly"], r["no_longer"])])
+    return table([*head, "before", "after", "why"], rows)
+
+
+def findings(losses: Losses) -> dict[str, Any]:
+    """All that is told, as JSON has it."""
+    def entry(key: Row, value: Copies | Refusals) -> dict[str, Any]:
+        return {"client": key[0], "topic": key[1], **vars(value)}
+    copies, refusals, reasons = losses.changed_copies(), losses.changed_refusals(), losses.reasons
+    if not reasons:
+        return {"copies": [entry(*c) for c in copies], "refused": [entry(*r) for r in refusals], "totals": losses.totals()}
+    rows = [copies_of(reasons, key, vars(value)) for key, value in copies]
+    return {"by": "user" if reasons.by_user else "client", "copies": rows, "causes": all_causes(rows),
+            "refused": [refused_of(reasons, key, vars(value)) for key, value in refusals], "totals": losses.totals()}
+
+
+def arguments() -> argparse.Namespace:
+    def positive(text: str) -> int:
+        if not text.isdigit() or int(text) == 0:
+            raise argparse.ArgumentTypeError("want a whole number from 1")
+        return int(text)
+    parser = argparse.ArgumentParser(description="Tells who loses what between two outputs of mqroute for one script.")
+    parser.add_argument("script"), parser.add_argument("before"), parser.add_argument("after")
+    parser.add_argument("--depth", type=positive, metavar="N", help="gather topics by their first N levels")
+    parser.add_argument("--by", choices=["client", "user"], help="gather rows by user name, with causes (client without it; with --html user)")
+    parser.add_argument("--why", action="store_true", help="the causes by client, too")
+    parser.add_argument("--json", action="store_true", help="JSON, also where nothing changes")
+    parser.add_argument("--html", metavar="FILE", help="write a page with causes and script lines, too")
+    return parser.parse_args()
+
+
+def main() -> int:
+    options = arguments()
+    by_user = options.by == "user" or (options.html is not None and options.by is None)
+    losses = Losses(options.depth)
+    if by_user or options.why or options.html is not None:
+        losses.reasons = Reasons(by_user, losses.gathered)
+    compare(losses, options.script, options.before, options.after)
+    found = findings(losses)
+    if options.html is not None:
+        page.write(options.html, found, options.script, options.before, options.after)
+    text = json.dumps(found, ensure_ascii=False, indent=1) + "\n" if options.json else report(found)
+    sys.stdout.buffer.write(text.encode("utf-8"))
+    return 1 if found["copies"] or found["refused"] else 0
+
+
+if __name__ == "__main__":
+    sys.exit(ending.run(main))
