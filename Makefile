@@ -3,8 +3,8 @@
 # user runs them, each growth of memory refused in turn, long scripts in little memory, and a talk
 # over a pipe and a terminal.
 # bench: measures the built program (bench/README.md).
-# install: puts the built program, its man page, its completion and the tools beside real brokers below PREFIX; uninstall
-# takes them out again.
+# install: puts the built program and the tools beside real brokers below PREFIX, with a man page each and completion;
+# uninstall takes them out again.
 .PHONY: run test bench install uninstall
 
 PREFIX ?= /usr/local
@@ -12,6 +12,8 @@ INSTALLED = $(DESTDIR)$(PREFIX)
 
 # The programs beside real brokers, each installed as mqroute-NAME; they import what stands in tools/mqroute_tools.
 TOOLS = log_to_script who_loses replay compare_log check search
+TOOL_NAMES = $(subst _,-,$(TOOLS:%=mqroute-%))
+COMPLETIONS = $(INSTALLED)/share/bash-completion/completions
 
 run:
 	cd crates/mqroute && rt run < ../../tests/rows/first-look.jsonl
@@ -34,8 +36,9 @@ bench:
 install:
 	@[ -x crates/mqroute/out/mqroute ] || { echo "there is no crates/mqroute/out/mqroute: run 'make run' first"; exit 1; }
 	install -D -m 755 crates/mqroute/out/mqroute $(INSTALLED)/bin/mqroute
-	install -D -m 644 docs/mqroute.1 $(INSTALLED)/share/man/man1/mqroute.1
-	install -D -m 644 docs/mqroute.bash-completion $(INSTALLED)/share/bash-completion/completions/mqroute
+	install -d $(INSTALLED)/share/man/man1
+	install -m 644 docs/mqroute.1 $(TOOL_NAMES:%=docs/%.1) $(INSTALLED)/share/man/man1
+	install -D -m 644 docs/mqroute.bash-completion $(COMPLETIONS)/mqroute
 	install -d $(INSTALLED)/lib/mqroute/mqroute_tools $(INSTALLED)/lib/mqroute/differences $(INSTALLED)/share/mqroute/schemas
 	install -m 644 tools/mqroute_tools/*.py $(INSTALLED)/lib/mqroute/mqroute_tools
 	install -m 644 tools/mqroute.py $(INSTALLED)/lib/mqroute
@@ -43,11 +46,14 @@ install:
 	install -m 644 brokers/differences/*.* $(INSTALLED)/lib/mqroute/differences
 	install -m 644 schemas/*.json $(INSTALLED)/share/mqroute/schemas
 	for tool in $(TOOLS); do \
-	    ln -sf ../lib/mqroute/$$tool.py $(INSTALLED)/bin/mqroute-$$(echo $$tool | tr _ -); \
+	    name=mqroute-$$(echo $$tool | tr _ -); \
+	    ln -sf ../lib/mqroute/$$tool.py $(INSTALLED)/bin/$$name; \
+	    install -m 644 docs/mqroute-tools.bash-completion $(COMPLETIONS)/$$name; \
 	done
 
 uninstall:
-	rm -f $(INSTALLED)/bin/mqroute $(INSTALLED)/share/man/man1/mqroute.1
-	rm -f $(INSTALLED)/share/bash-completion/completions/mqroute
-	for tool in $(TOOLS); do rm -f $(INSTALLED)/bin/mqroute-$$(echo $$tool | tr _ -); done
+	rm -f $(INSTALLED)/bin/mqroute $(INSTALLED)/share/man/man1/mqroute.1 $(COMPLETIONS)/mqroute
+	for name in $(TOOL_NAMES); do \
+	    rm -f $(INSTALLED)/bin/$$name $(INSTALLED)/share/man/man1/$$name.1 $(COMPLETIONS)/$$name; \
+	done
 	rm -rf $(INSTALLED)/lib/mqroute $(INSTALLED)/share/mqroute

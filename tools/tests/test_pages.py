@@ -1,0 +1,107 @@
+"""Each tool's manual page has the options that its --help has, and no other; and what is installed is what is taken out."""
+import os
+import re
+import shutil
+import subprocess
+import sys
+import tempfile
+import unittest
+from pathlib import Path
+
+from worked import HERE, TOP
+
+BUILT = TOP / "crates/mqroute/out/mqroute"  # which make install wants
+TOOLS = ("log_to_script", "who_loses", "replay", "compare_log", "check", "search")
+SECTIONS = ["NAME", "SYNOPSIS", "DESCRIPTION", "OPTIONS", "EXIT STATUS", "EXAMPLE", "SEE ALSO"]
+# What a tool imports before it reads its arguments; --help wants no broker.
+PAHO = {"mqtt/__init__.py": "", "mqtt/client.py": "class Client: ...\nclass MQTTMessage: ...\nMQTTv5 = 5\n", "mqtt/packettypes.py": "class PacketTypes: ...\n",
+        "mqtt/properties.py": "class Properties: ...\n", "mqtt/subscribeoptions.py": "class SubscribeOptions: ...\n", "__init__.py": ""}
+
+
+def installed_name(tool: str) -> str:
+    return "mqroute-" + tool.replace("_", "-")
+
+
+def page(tool: str) -> str:
+    """The page as it is read: without escapes."""
+    return (TOP / f"docs/{installed_name(tool)}.1").read_text("utf-8").replace("\\-", "-")
+
+
+def options(text: str) -> set[str]:
+    return set(re.findall(r"(?<![\w-])--[a-z]+(?:-[a-z]+)*", text))
+
+
+def options_of(tool: str) -> set[str]:
+    """Those that its --help explains."""
+    return set(re.findall(r"^  (?:-h, )?(--[a-z-]+)", help_of(tool), re.M))
+
+
+def help_of(tool: str) -> str:
+    with tempfile.TemporaryDirectory() as folder:
+        for name, text in PAHO.items():
+            file = Path(folder, "paho", name)
+            file.parent.mkdir(parents=True, exist_ok=True)
+            file.write_text(text)
+        done = subprocess.run([sys.executable, HERE / f"{tool}.py", "--help"], capture_output=True, text=True, env=os.environ | {"PYTHONPATH": folder})
+    assert done.returncode == 0, done.stderr
+    return done.stdout
+
+
+class Pages(unittest.TestCase):
+    def test_options(self):
+        for tool in TOOLS:
+            with self.subTest(tool):
+                text, known = page(tool), options_of(tool)
+                described = options("\n".join(re.findall(r"^\.TP\n(\.BI? .*)$", text, re.M)))
+                self.assertIn("--help", known)
+                self.assertEqual(described, known)
+                self.assertEqual(options(text.split(".SH SYNOPSIS")[1].split(".SH")[0]), known)
+
+    def test_sections(self):
+        for tool in TOOLS:
+            with self.subTest(tool):
+                self.assertEqual([name.strip('"') for name in re.findall(r"^\.SH (.*)$", page(tool), re.M)], SECTIONS)
+
+    @unittest.skipUnless(shutil.which("man"), "there is no man")
+    def test_man_takes_them(self):
+        for tool in TOOLS:
+            done = subprocess.run(["man", "--warnings", "-l", f"docs/{installed_name(tool)}.1"], cwd=TOP, capture_output=True, text=True,
+                                  env=os.environ | {"MANWIDTH": "80", "LC_ALL": "C.UTF-8"})
+            self.assertEqual((done.returncode, done.stderr), (0, ""))
+            self.assertIn(installed_name(tool), done.stdout)
+
+
+@unittest.skipUnless(BUILT.exists() and shutil.which("make") and shutil.which("bash"), "nothing is built, or there is no make or bash")
+class Installed(unittest.TestCase):
+    def make(self, word: str, folder: str) -> None:
+        done = subprocess.run(["make", word, f"PREFIX={folder}"], cwd=TOP, capture_output=True, text=True)
+        self.assertEqual(done.returncode, 0, done.stderr)
+
+    def test_install(self):
+        with tempfile.TemporaryDirectory() as folder:
+            self.make("install", folder)
+            for tool in map(installed_name, TOOLS):
+                self.assertTrue(Path(folder, f"share/man/man1/{tool}.1").exists())
+            self.named_as_installed(folder)
+            self.completed(folder)
+            self.make("uninstall", folder)
+            self.assertEqual([str(file) for file in Path(folder).rglob("*") if not file.is_dir()], [])
+
+    def named_as_installed(self, folder: str) -> None:
+        for words, said in ((["mqroute-check", "/nowhere/script"], r"mqroute-check: .*/nowhere/script"),
+                            (["mqroute-log-to-script", "/nowhere/log"], r"mqroute-log-to-script: .*/nowhere/log"),
+                            (["mqroute-who-loses", "one"], r"usage: mqroute-who-loses (?s:.)*\nmqroute-who-loses: error: ")):
+            done = subprocess.run([f"{folder}/bin/{words[0]}", *words[1:]], capture_output=True, text=True)
+            self.assertEqual((done.returncode, done.stdout), (2, ""))
+            self.assertRegex(done.stderr, "^" + said)
+
+    def completed(self, folder: str) -> None:
+        for tool in TOOLS:
+            name = installed_name(tool)
+            code = f'. {folder}/share/bash-completion/completions/{name}; COMP_WORDS=({name} --); COMP_CWORD=1; _mqroute_tools; echo "${{COMPREPLY[*]}}"'
+            done = subprocess.run(["bash", "-c", code], capture_output=True, text=True)
+            self.assertEqual((set(done.stdout.split()), done.stderr), (options_of(tool), ""))
+
+
+if __name__ == "__main__":
+    unittest.main()
