@@ -39,11 +39,12 @@ install:
 	install -d $(INSTALLED)/share/man/man1
 	install -m 644 docs/mqroute.1 $(TOOL_NAMES:%=docs/%.1) $(INSTALLED)/share/man/man1
 	install -D -m 644 docs/mqroute.bash-completion $(COMPLETIONS)/mqroute
-	install -d $(INSTALLED)/lib/mqroute/mqroute_tools $(INSTALLED)/lib/mqroute/differences $(INSTALLED)/share/mqroute/schemas
+	install -d $(INSTALLED)/lib/mqroute/mqroute_tools $(INSTALLED)/lib/mqroute/differences/ejabberd $(INSTALLED)/share/mqroute/schemas
 	install -m 644 tools/mqroute_tools/*.py $(INSTALLED)/lib/mqroute/mqroute_tools
 	install -m 644 tools/mqroute.py $(INSTALLED)/lib/mqroute
 	install -m 755 $(TOOLS:%=tools/%.py) $(INSTALLED)/lib/mqroute
 	install -m 644 brokers/differences/*.* $(INSTALLED)/lib/mqroute/differences
+	install -m 644 brokers/differences/ejabberd/* $(INSTALLED)/lib/mqroute/differences/ejabberd
 	install -m 644 schemas/*.json $(INSTALLED)/share/mqroute/schemas
 	for tool in $(TOOLS); do \
 	    name=mqroute-$$(echo $$tool | tr _ -); \

@@ -27,7 +27,8 @@ from mqroute_tools.random_scripts import PARTS, Command, Maker, Use, fresh
 from mqroute_tools.shrinking import connected, shrink
 
 HERE = Path(__file__).resolve().parent
-KNOWN = [folder for folder in (HERE / "differences", HERE.parent / "brokers/differences") if folder.is_dir()]  # installed, in a clone
+KNOWN = [folder / name for folder in (HERE, HERE.parent / "brokers") for name in ("differences", "differences/ejabberd")  # installed, in a clone
+         if (folder / name).is_dir()]
 MARK = "Z"  # around numbers, behind the names of a script
 TRIES = 2  # a broker may do the same thing now and then
 LOOK_AGAIN = 10  # one in so many scripts whose differences all seem known is made small all the same

@@ -79,7 +79,7 @@ class Scripts(unittest.TestCase):
     @wants_program
     def test_outputs(self):
         """Each script of differences/ gives the output that the broker was compared with."""
-        for script in sorted((HERE.parent / "brokers/differences").glob("*.jsonl")):
+        for script in sorted((HERE.parent / "brokers/differences").rglob("*.jsonl")):
             words = ["--acl-file", script.with_suffix(".acl")] if script.with_suffix(".acl").exists() else []
             if script.with_suffix(".options").exists():
                 words += script.with_suffix(".options").read_text().split()
@@ -88,13 +88,18 @@ class Scripts(unittest.TestCase):
                 self.assertEqual(done.stdout, script.with_suffix(".out").read_bytes())
 
     def test_each_is_told_of(self):
-        """docs/BROKERS.md names each script, and stands the ones that differ in its table."""
+        """docs/BROKERS.md names each script in its broker's section, and stands the ones that differ in its table."""
         text = (HERE.parent / "docs/BROKERS.md").read_text(encoding="utf-8")
-        table = text.split("## Where it agrees")[0]
-        for script in (HERE.parent / "brokers/differences").glob("*.jsonl"):
+        mosquitto, rest = text.split("\n## ejabberd")
+        ejabberd, agreement = rest.split("\n## Where mosquitto agrees")
+        self.are_named("brokers/differences", mosquitto, agreement)
+        self.are_named("brokers/differences/ejabberd", "\n".join(line for line in ejabberd.splitlines() if line.startswith("|")), ejabberd)
+
+    def are_named(self, folder: str, table: str, agreement: str) -> None:
+        for script in (HERE.parent / folder).glob("*.jsonl"):
             differs = script.with_suffix(".diff").stat().st_size > 0
-            self.assertIn(f"`{script.stem}`", table if differs else text)
-        for refused in (HERE.parent / "brokers/differences").glob("refused-*.acl"):
+            self.assertIn(f"`{script.stem}`", table if differs else table + agreement)
+        for refused in (HERE.parent / folder).glob("refused-*.acl"):
             self.assertIn(f"`{refused.stem}`", table)
 
     @wants_program
