@@ -1,9 +1,11 @@
 """mqroute as an oracle for tests of a broker.
 
     with Oracle(acl="topic readwrite #\n") as oracle:
-        answers = oracle.run([{"do": "connect", "client": "a"}, {"do": "publish", "client": "a", "topic": "x"}])
+        oracle.answers({"do": "connect", "client": "a"})
+        [*copies, end] = oracle.answers({"do": "publish", "client": "a", "topic": "x"})
 
-`answers[n]` is what the n-th command is answered with: its copies, and last the closing line or the refusal.
+`answers` takes one command after another, and gives what each is answered with: its copies, and last the closing line or the
+refusal. `run` takes a whole script, from a world of its own, and gives such a list for each of its commands.
 The program is `program`, or $MQROUTE, or the one that stands in the same clone or installation, or `mqroute` on the PATH.
 """
 import io
@@ -12,7 +14,7 @@ import os
 import shutil
 import subprocess
 import tempfile
-from collections.abc import Iterable
+from collections.abc import Iterable, Iterator
 from pathlib import Path
 from typing import Any
 
@@ -39,8 +41,39 @@ def found_program() -> str:
     return shutil.which("mqroute") or "mqroute"
 
 
+class Conversation:
+    """A program that runs: a line in, its answers out."""
+
+    def __init__(self, words: list[str]) -> None:
+        self.program = subprocess.Popen([*words, "--unbuffered"], stdin=subprocess.PIPE, stdout=subprocess.PIPE, stderr=subprocess.PIPE)
+        self.output = io.TextIOWrapper(self.program.stdout, "utf-8", newline="\n")
+        self.blocks: Iterator[Block] = blocks_of(self.output, "the answer")
+
+    def block(self, line: str) -> Block:
+        try:
+            self.program.stdin.write(line.encode())
+            self.program.stdin.flush()
+            return next(self.blocks)
+        except (OSError, Fault, StopIteration) as fault:
+            raise OracleFault(self.end() or f"mqroute ended with status {self.program.returncode}") from fault
+
+    def end(self) -> str:
+        """Lets the program end; what it said on standard error, once."""
+        if self.output.closed:
+            return ""
+        try:
+            self.program.stdin.close()
+        except OSError:
+            pass  # the program has ended before it read all
+        self.output.close()
+        with self.program.stderr as stream:
+            told = stream.read().decode("utf-8", "replace").strip()
+        self.program.wait()
+        return told
+
+
 class Oracle:
-    """Answers whole scripts, each from a world without sessions.
+    """Answers commands one by one, in a world that lasts until `close`; and whole scripts, each in a world of its own.
 
     `acl` is the text of an access list; without one everything is allowed. The limits are those of the program's options.
     """
@@ -50,6 +83,7 @@ class Oracle:
         for name, limit in (("--max-retained", max_retained), ("--max-queued", max_queued)):
             if limit is not None:
                 self.words.append(f"{name}={limit}")
+        self.conversation: Conversation | None = None
         self.folder: tempfile.TemporaryDirectory[str] | None = None
         if acl is not None:
             self.folder = tempfile.TemporaryDirectory(prefix="mqroute-")
@@ -64,8 +98,23 @@ class Oracle:
         self.close()
 
     def close(self) -> None:
+        if self.conversation is not None:
+            self.conversation.end()
+            self.conversation = None
         if self.folder is not None:
             self.folder.cleanup()
+
+    def answers(self, command: Command) -> list[Answer]:
+        """The answers to a command after those before it: its copies, then the closing line or the refusal.
+
+        Their line is the number of commands so far. After OracleFault nothing more is answered before `close`.
+        """
+        if self.conversation is None:
+            try:
+                self.conversation = Conversation(self.words)
+            except OSError as fault:
+                raise OracleFault(f"cannot run {self.words[0]}: {fault.strerror}") from fault
+        return self.conversation.block(json.dumps(command) + "\n").answers()
 
     def run(self, commands: Iterable[Command]) -> list[list[Answer]]:
         """The answers to each command: its copies, then the closing line or the refusal."""

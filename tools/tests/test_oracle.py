@@ -3,11 +3,12 @@ import json
 import os
 import re
 import sys
+import tempfile
 import unittest
 from pathlib import Path
 from unittest import mock
 
-from worked import HERE, PROGRAM, answers, wants_program
+from worked import HERE, PROGRAM, UNBUFFERED, answers, wants_program, wants_unbuffered
 
 sys.path.insert(0, str(HERE))
 import mqroute  # noqa: E402
@@ -69,33 +70,98 @@ class Answers(unittest.TestCase):
         self.assertEqual(found[-1][-1], answers("".join(json.dumps(command) + "\n" for command in script).encode())[-1])
 
 
+@wants_unbuffered
+class OneByOne(unittest.TestCase):
+    def oracle(self, **more) -> Oracle:
+        found = Oracle(program=str(PROGRAM), **more)
+        self.addCleanup(found.close)
+        return found
+
+    def test_each_goes_on_from_there(self):
+        oracle = self.oracle()
+        for number, command in enumerate([*CONNECT, SUBSCRIBE], 1):
+            self.assertEqual(oracle.answers(command)[0]["line"], number)
+        self.assertEqual(oracle.answers(PUBLISH), [COPY, {"line": 4, "reason": 0}])
+        self.assertEqual(oracle.answers({"do": "fly"}), [{"code": 3, "line": 5, "refused": "BadCommand"}])
+        self.assertEqual(oracle.answers({"do": "stat"})[0]["line"], 6)
+        self.assertEqual(oracle.run([*CONNECT, SUBSCRIBE])[2], [{"line": 3, "reason": 1}])  # of a world of its own
+        self.assertEqual(oracle.answers(PUBLISH), [COPY | {"line": 7}, {"line": 7, "reason": 0}])
+
+    def test_as_a_whole_script(self):
+        """With an access list and limits, and answers larger than a pipe holds."""
+        script = [{"do": "connect", "client": f"c{n}"} for n in range(300)] + [{"do": "subscribe", "client": f"c{n}", "filter": "x/#"} for n in range(300)]
+        script += [{"do": "publish", "client": "c0", "topic": topic, "payload": "é" * size, "retain": True}
+                   for topic, size in (("x/1", 1000), ("y", 1), ("x/2", 200_000 // 300), ("x/3", 1))]
+        more = {"acl": "topic readwrite x/#\n", "max_retained": 2}
+        oracle = self.oracle(**more)
+        self.assertEqual([oracle.answers(command) for command in script], self.oracle(**more).run(script))
+
+    def test_begun_anew_after_the_end(self):
+        oracle = self.oracle()
+        for _ in range(2):
+            self.assertEqual(oracle.answers(CONNECT[0]), [{"line": 1, "reason": 0}])
+            oracle.close()
+
+    def test_faults(self):
+        with self.assertRaisesRegex(OracleFault, "cannot run /nowhere"):
+            Oracle(program="/nowhere").answers(CONNECT[0])
+        oracle = self.oracle(acl="topick #\n")
+        with self.assertRaisesRegex(OracleFault, "line 1: Keyword"):
+            oracle.answers(CONNECT[0])
+
+    def test_a_program_that_ends(self):
+        oracle = self.oracle()
+        oracle.answers(CONNECT[0])
+        oracle.conversation.program.kill()
+        oracle.conversation.program.wait()
+        with self.assertRaisesRegex(OracleFault, "ended with status -9"):
+            oracle.answers(CONNECT[1])
+
+
+@wants_program
+class WithoutTheOption(unittest.TestCase):
+    def test_it_is_said(self):
+        with tempfile.TemporaryDirectory() as folder:
+            old = Path(folder, "mqroute")
+            old.write_text("#!/bin/sh\necho 'mqroute: unknown option --unbuffered' >&2\nexit 2\n")
+            old.chmod(0o755)
+            with Oracle(program=str(old)) as oracle, self.assertRaisesRegex(OracleFault, "unknown option --unbuffered"):
+                oracle.answers(CONNECT[0])
+
+
 @wants_program
 class Example(unittest.TestCase):
-    """The block of the README is a whole file for pytest. Here its functions are called without."""
+    """The blocks of the README are files for pytest. Here their functions are called without."""
+    BY_LINE, WHOLE = "test_as_mqroute", "test_whole_script"
 
     def example(self) -> dict:
         text = (HERE / "README.md").read_text("utf-8")
-        [code] = re.findall(r"^```python\n(.*?)^```$", text, re.S | re.M)
         names: dict = {}
         with mock.patch.dict(os.environ, MQROUTE=str(PROGRAM)):
-            exec(compile(code, "README.md", "exec"), names)
+            for code in re.findall(r"^```python\n(.*?)^```$", text, re.S | re.M):
+                exec(compile(code, "README.md", "exec"), names)
         return names
 
-    def test_it_finds_the_bug(self):
-        names = self.example()
-        with mock.patch.dict(os.environ, MQROUTE=str(PROGRAM)), self.assertRaises(AssertionError) as found:
-            names["test_as_mqroute"]()
-        self.assertIn("E       AssertionError: " + str(found.exception) + "\n", (HERE / "README.md").read_text("utf-8"))
+    def chosen(self, names: dict) -> list:
+        self.assertLessEqual({self.BY_LINE, self.WHOLE}, names.keys())
+        return [names[name] for name in ([self.BY_LINE] if UNBUFFERED else []) + [self.WHOLE]]
 
-    def test_it_passes_without(self):
+    def test_they_find_the_bug(self):
+        for test in self.chosen(self.example()):
+            with mock.patch.dict(os.environ, MQROUTE=str(PROGRAM)), self.assertRaises(AssertionError) as found:
+                test()
+            self.assertIn("E       AssertionError: " + str(found.exception) + "\n", (HERE / "README.md").read_text("utf-8"))
+
+    def test_they_pass_without(self):
         names = self.example()
         right = names["Toy"].matches
 
         def mended(self, filter: str, topic: str) -> bool:
             return not (topic.startswith("$") and filter[0] in "+#") and right(self, filter, topic)
         names["Toy"].matches = mended
-        with mock.patch.dict(os.environ, MQROUTE=str(PROGRAM)):
-            names["test_as_mqroute"]()
+        for test in self.chosen(names):
+            with mock.patch.dict(os.environ, MQROUTE=str(PROGRAM)):
+                test()
 
 
 if __name__ == "__main__":
