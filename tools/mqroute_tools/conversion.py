@@ -32,6 +32,7 @@ class Converter(Clients):
         self.asked: tuple[str, int] | None = None  # filter and QoS, until the broker has granted it
         self.addresses: dict[str, None] = {}  # that connected over TCP: the broker has no such line of a websocket
         self.sys_topics: set[str] = set()  # below $SYS/, that clients publish
+        self.parting: tuple[str, int] | None = None  # who sent DISCONNECT and has a will, and where the broker told the end
         self.silent = False  # the broker tells neither who connects nor whose connection ends
 
     # -- reading
@@ -45,6 +46,7 @@ class Converter(Clients):
             self.lost(raw.decode("utf-8", "replace"), len(raw))
             return
         time, text = self.stamps.split(line)
+        self.part(text)
         if time is not None:
             if self.time is not None and time < self.time:
                 self.notes.add("times went back: the script's clock stands still there", f"line {self.place}: {line}")
@@ -279,6 +281,31 @@ class Converter(Clients):
             self.closed(named[0])
         return bool(named) or taken is not None
 
+    def closed(self, client: str) -> None:
+        session = self.connected.get(client)
+        if session and session.leaves and session.will and client not in self.closing:
+            self.part("")
+            self.parting = (client, self.place)
+        else:
+            super().closed(client)
+
+    def part(self, text: str) -> None:
+        """The end of a connection after DISCONNECT, of which `text` is the line that follows.
+
+        MQTT 5 clients can ask for their will (reason 4). No line has the reason, but then the will's copies come at once.
+        """
+        if self.parting is None:
+            return
+        (client, place), self.parting = self.parting, None
+        session = self.connected[client]
+        sent = log.read_publish(text[19:], self.connected) if text.startswith("Sending PUBLISH to ") else None
+        copy = publish(client, sent.topic, sent.size, 0, False) if sent else {}
+        if sent and all(copy.get(name) == session.will.get(name) for name in ("topic", "payload")):
+            session.leaves = False
+        here, self.place = self.place, place
+        self.end(client, willed=True)
+        self.place = here
+
     def end(self, client: str, willed: bool) -> None:
         super().end(client, willed)
         if self.packet and self.packet[1] == client:
@@ -296,4 +323,7 @@ def placed_commands(converter: Converter, streams: Iterable[BinaryIO]) -> Iterat
             for raw in chain(first, lines):
                 converter.read(raw)
                 yield from converter.commands
+    converter.commands = []
+    converter.part("")
+    yield from converter.commands
     converter.finish()

@@ -114,6 +114,17 @@ class Leaving(Case):
     def test_no_will_after_disconnect(self):
         self.gives(arrival("a", will=self.WILL) + "Received DISCONNECT from a\nClient a disconnected.\n", [{"do": "disconnect", "client": "a"}])
 
+    def test_will_that_disconnect_asks_for(self):
+        """Its copies come at once. The line has no reason; others' copies after it, or later ones, aren't of the will."""
+        ends = "Received DISCONNECT from a\nClient a disconnected.\n"
+        copy, gone = published("b", "last/words", size=3, word="Sending").replace("from", "to"), {"do": "disconnect", "client": "a"}
+        before = arrival("b") + arrival("a", will=self.WILL)
+        for after, wanted in ((copy, [self.SENT, gone]), (copy + "Client b disconnected.\n", [self.SENT, gone, {"do": "disconnect", "client": "b"}]),
+                              (copy.replace("(3", "(4"), [gone]), (copy.replace("words", "word"), [gone]), ("", [gone]),
+                              ("Received PINGREQ from b\n" + copy, [gone]), (arrival("a") + copy, [gone])):
+            self.gives(before + ends + after, [{"do": "connect", "client": "b"}, *wanted])
+        self.gives(before + subscribing("a", ("#", 0)) + ends + copy, [{"do": "connect", "client": "b"}, {"do": "subscribe", "client": "a", "filter": "#"}, self.SENT, gone])
+
     def test_will_of_a_session_taken_over(self):
         text = arrival("a", will=self.WILL) + "Client a already connected, closing old connection.\n" + arrival("a")
         self.gives(text, [self.SENT])
@@ -255,7 +266,7 @@ class Memory(Case):
             text = arrival(f"c{i}") + published(f"c{i}", f"t/{i}", "d0, q2, r0, m1") + f"Client c{i} disconnected.\n"
             for _ in placed_commands(converter, [io.BytesIO(text.encode())]):
                 pass
-        self.assertEqual((len(converter.connected), len(converter.away), len(converter.commands)), (0, 0, 1))
+        self.assertEqual((len(converter.connected), len(converter.away), len(converter.commands)), (0, 0, 0))
 
 
 if __name__ == "__main__":

@@ -38,9 +38,9 @@ def walk_through(text: str) -> list[tuple[str, str]]:
 
 
 class Recorded(unittest.TestCase):
-    def convert(self, kind: str, *words: str) -> None:
+    def convert(self, kind: str, *words: str, wanted: int = 0) -> None:
         status, script = tool("log_to_script.py", RECORDED / f"{kind}.log", *words)
-        self.assertEqual((status, script), (0, (RECORDED / f"{kind}.jsonl").read_text(encoding="utf-8")))
+        self.assertEqual((status, script), (wanted, (RECORDED / f"{kind}.jsonl").read_text(encoding="utf-8")))
 
     def differ(self, kind: str, *words: str) -> None:
         script = (RECORDED / f"{kind}.jsonl").read_bytes()
@@ -55,6 +55,7 @@ class Recorded(unittest.TestCase):
     def test_scripts(self):
         self.convert("plain")
         self.convert("sessions", *SESSIONS)
+        self.convert("mixed", wanted=1)  # it tells of MQTT 5 sessions that may have been kept
 
     @wants_program
     def test_plain(self):
@@ -63,6 +64,10 @@ class Recorded(unittest.TestCase):
     @wants_program
     def test_sessions(self):
         self.differ("sessions", *SESSIONS)
+
+    @wants_program
+    def test_mixed(self):
+        self.differ("mixed")
 
     def test_time_stamps_of_other_forms(self):
         """The same log without stamps gives the same script without `advance`."""
