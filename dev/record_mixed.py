@@ -106,7 +106,7 @@ class Machines:
 
 def main() -> None:
     port, web = int(sys.argv[1]), int(sys.argv[2])
-    dice = random.Random(11)
+    dice = random.Random(23)
     pages = [Page(*page, (port, web)) for page in PAGES]
     machines = Machines(port)
     for words in MACHINES:

@@ -22,6 +22,8 @@ from mqroute_tools.sessions import Command
 from mqroute_tools.topics import matches, plain_filter
 from mqroute_tools.writing import Logs, Writer, add_options, writer
 
+OWN_WILL = "own will in a session that is kept"
+
 
 @dataclass(frozen=True, order=True)
 class Copy:
@@ -138,6 +140,13 @@ def joined(copies: list[Copy]) -> Copy | None:
     return Copy(max(c.qos for c in copies), max(c.retain for c in copies)) if copies else None
 
 
+def own_will(step: Step, key: Key) -> bool:
+    """Whether the client publishes to the topic and then leaves: a script has no other way for the will of a session that is kept."""
+    client, topic = key
+    published = [at for at, c in enumerate(step.commands) if c["do"] == "publish" and (c["client"], c["topic"]) == key]
+    return bool(published) and any(c == {"do": "disconnect", "client": client} for c in step.commands[published[-1]:])
+
+
 def kind(step: Step, key: Key) -> str:
     """Names the differences that docs/BROKERS.md explains; the others are `different`."""
     client, topic = key
@@ -169,6 +178,7 @@ class Comparison:
         self.copies: list[str] = []
         self.refusals: list[str] = []
         self.sent = self.refused = 0
+        self.own_wills: set[Key] = set()  # of which the broker's copy waits, while mqroute's was sent
 
     def add(self, step: Step) -> None:
         broker, mqroute = step.broker, step.mqroute
@@ -177,10 +187,21 @@ class Comparison:
         for key in sorted(broker.copies.keys() | mqroute.copies.keys()):
             theirs, ours = broker.copies.get(key, []), mqroute.copies.get(key, [])
             if sorted((c.qos, c.retain) for c in theirs) != sorted((c.qos, c.retain) for c in ours):
-                self.copies.append(f"{kind(step, key)}: line {step.place}: {key[0]!r} {key[1]!r}: broker {shown(theirs)}; mqroute {shown(ours)}")
+                self.copies.append(f"{self.kind(step, key)}: line {step.place}: {key[0]!r} {key[1]!r}: broker {shown(theirs)}; mqroute {shown(ours)}")
         for key in sorted((broker.refused - mqroute.refused) + (mqroute.refused - broker.refused)):
             who = "the broker" if broker.refused[key] else "mqroute"
             self.refusals.append(f"refused by {who} alone: line {step.place}: {key[0]!r} {key[1]!r}")
+
+    def kind(self, step: Step, key: Key) -> str:
+        """As `kind`, with what waits since an earlier step."""
+        found, broker, mqroute = kind(step, key), step.broker.copies.get(key), step.mqroute.copies.get(key)
+        if found == "different" and mqroute and not broker and own_will(step, key):
+            self.own_wills.add(key)
+            return OWN_WILL
+        if found == "different" and broker and key in self.own_wills and any(c["do"] == "connect" and c["client"] == key[0] for c in step.commands):
+            self.own_wills.discard(key)
+            return OWN_WILL
+        return found
 
     def lines(self) -> list[str]:
         return self.copies + self.refusals

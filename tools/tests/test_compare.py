@@ -70,6 +70,19 @@ class OfALog(unittest.TestCase):
             found = self.compared([log], "".join('{"line":%d,"reason":%d}\n' % (n, n == 2) for n in (1, 2, 3, 4)))
             self.assertEqual((found[0], found[1].split(":")[0]), (1, kind))
 
+    def test_own_will(self):
+        """Of a session that is kept: the broker's copy comes when the client returns. So it is told once, and of that client and topic alone."""
+        def coming(present: int) -> str:
+            return f"New client connected from 1.2.3.4:5 as m (p2, c0, k60).\nWill message specified (2 bytes) (r0, q1).\n\tx\nSending CONNACK to m ({present}, 0)\n"
+        log = coming(0) + "Received SUBSCRIBE from m\n\tx (QoS 1)\nm 1 x\nSending SUBACK to m\nClient m closed its connection.\n" + coming(1)
+        copy = '{"client":"m","line":3,"payload":"2 bytes","qos":1,"retain":false,"topic":"x"}\n'
+        output = "".join('{"line":%d,"reason":%d}\n' % (n, n == 2) for n in (1, 2)) + copy + "".join('{"line":%d,"reason":0}\n' % n for n in (3, 4, 5))
+        own, other = "own will in a session that is kept", "different"
+        for after, wanted in ((sent("m", 1, 0), [own, own]), ("", [own]), (sent("m", 1, 0).replace("'x'", "'y'"), [own, other])):
+            found = self.compared([log + after], output)
+            self.assertEqual((found[0], [line.split(":")[0] for line in found[1].splitlines()]), (1, wanted))
+        self.assertEqual(self.compared([log + sent("m", 1, 0)], output.replace(copy, ""))[1].split(":")[0], other)
+
     def compared(self, logs: list[str], output: str, *words: str) -> tuple[int, str, str]:
         with tempfile.TemporaryDirectory() as folder:
             names = [f"log.{i}" for i in range(len(logs))]
