@@ -3,7 +3,7 @@
 it goes on differing in that way.
 
 usage: search.py [--host H] [--port P] [--minutes N] [--seed N] [--without PART,..] [--known FOLDER].. [--save FOLDER]
-The broker must be one that may be tried with anything, with no access list and no other clients: sessions and retained messages
+The broker must be one that may be tried with anything, with no access list (but those of --on-acl) and no other clients: sessions and retained messages
 are made and removed. What its CONNACK doesn't offer isn't asked for. Differences that the scripts in differences/, or in
 FOLDER, show are passed over.
 Exit status: 0 nothing new was found; 1 something was; 2 usage, a file, the broker.
@@ -23,7 +23,7 @@ from mqroute_tools.commands import faults
 from mqroute_tools.ending import Fault
 from mqroute_tools.kinds import Difference, Kind, kind
 from mqroute_tools.output import Block
-from mqroute_tools.random_scripts import PARTS, Command, Maker, Use, fresh
+from mqroute_tools.random_scripts import ACCESS, PARTS, Command, Maker, Use, fresh
 from mqroute_tools.shrinking import connected, shrink
 
 HERE = Path(__file__).resolve().parent
@@ -184,8 +184,8 @@ def show(find: Find, number: int, folder: Path | None) -> None:
 def parts(text: str) -> list[str]:
     names = text.split(",")
     for name in names:
-        if name not in PARTS:
-            raise argparse.ArgumentTypeError(f"{name!r} is none of {', '.join(PARTS)}")
+        if name not in (*PARTS, ACCESS):
+            raise argparse.ArgumentTypeError(f"{name!r} is none of {', '.join((*PARTS, ACCESS))}")
     return names
 
 
@@ -194,10 +194,12 @@ def arguments() -> argparse.Namespace:
     parser.add_argument("--host", default="127.0.0.1"), parser.add_argument("--port", type=int, default=1883)
     parser.add_argument("--username", metavar="NAME", help="user name of all clients")
     parser.add_argument("--password", metavar="TEXT", help="password of all clients")
+    parser.add_argument("--on-acl", metavar="COMMAND", help="try access lists too: what the shell does to let the broker read the one in the file $MQROUTE_ACL, "
+                        "as by: cp \"$MQROUTE_ACL\" /tmp/acl && kill -HUP 123")
     parser.add_argument("--minutes", type=float, default=10, metavar="N", help="how long to search (default 10)")
     parser.add_argument("--seed", type=int, default=1, metavar="N", help="of the random scripts (default 1)")
     parser.add_argument("--without", type=parts, action="extend", default=[], metavar="PART,..",
-                        help=f"leave these out of the scripts: {', '.join(PARTS)}")
+                        help=f"leave these out of the scripts: {', '.join((*PARTS, ACCESS))}")
     parser.add_argument("--known", type=Path, action="append", default=[], metavar="FOLDER",
                         help="pass over what the scripts NAME.jsonl in it show, too")
     parser.add_argument("--save", type=Path, metavar="FOLDER", help="write each find there as find-N.jsonl, .out and .diff")
@@ -226,7 +228,6 @@ def main() -> int:
     if options.save:
         options.save.mkdir(parents=True, exist_ok=True)
     from mqroute_tools.live_side import LiveBroker  # wants paho
-    options.on_acl = None
     try:
         with Oracle() as oracle:
             return 1 if searched(Search(LiveBroker(options), oracle, time.monotonic() + 60 * options.minutes), options) else 0

@@ -100,6 +100,12 @@ def of_publish(command: Command) -> set[str]:
     return uses
 
 
+def of_access(text: str) -> set[str]:
+    """What an access list says, and the signs that its names have."""
+    lines = [line.split(" ") for line in text.splitlines()]
+    return {"acl"} | {" ".join(words[:-1]) for words in lines} | {"acl " + sign for sign in ("#", "+", "%c") for words in lines if sign in words[-1]}
+
+
 def uses(script: list[Command]) -> frozenset[str]:
     """What of MQTT the script uses."""
     found: set[str] = set()
@@ -115,6 +121,8 @@ def uses(script: list[Command]) -> frozenset[str]:
             found |= ({"taken over"} if command["client"] in live else set()) | ({"session"} if command.get("session_expiry") else set())
             found |= set() if command.get("clean", True) else {"resumes"}
             live.add(command["client"])
+        elif do == "acl":
+            found |= of_access(command.get("text", ""))
         else:
             found.add(do)
             live -= {command.get("client")} if do == "disconnect" else set()

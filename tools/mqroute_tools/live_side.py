@@ -7,17 +7,18 @@ from .ending import Fault
 from .kinds import Difference, apart
 from .live import Offer
 from .output import Block
-from .random_scripts import Use
+from .random_scripts import ACCESS, PARTS, Use
 from .live_run import Closed, Replay
 
 CLEANER = "mqroute-search"
 
 
-def offered(offer: Offer) -> Use:
-    """What the CONNACK says that the broker has."""
+def offered(offer: Offer, lists: bool) -> Use:
+    """What the CONNACK says that the broker has. With access lists no topic that begins with `$` is for all."""
     lacks = {"retained": not offer.retain, "groups": not offer.shared, "wildcards": not offer.wildcards, "identifiers": not offer.identifiers,
              "qos2": offer.greatest_qos < 2, "qos": offer.greatest_qos < 1}
-    return Use().without(part for part, lacking in lacks.items() if lacking)
+    use = Use(frozenset([*PARTS, ACCESS])).without(["dollar"]) if lists else Use()
+    return use.without(part for part, lacking in lacks.items() if lacking)
 
 
 def sent(script: list[Command], blocks: list[Block]) -> Iterator[tuple[int, Command, Block]]:
@@ -34,11 +35,13 @@ class LiveBroker:
         try:
             replay.connect({"do": "connect", "client": CLEANER})
             self.offer = replay.offer
+            if options.on_acl:
+                replay.set_access(None)
         except (OSError, Closed) as fault:
             raise Fault(f"no broker at {options.host} port {options.port}: {fault}") from fault
         finally:
             replay.end()
-        self.use = offered(self.offer)
+        self.use = offered(self.offer, options.on_acl is not None)
 
     def session(self) -> Replay:
         return Replay(self.options)
@@ -65,6 +68,8 @@ class LiveBroker:
     def clean(self, script: list[Command]) -> None:
         replay = self.session()
         try:
+            if any(command["do"] == "acl" for command in script):
+                replay.set_access(None)
             for client in sorted({command["client"] for command in script if command.get("session_expiry")}):
                 replay.do({"do": "connect", "client": client})
                 replay.do({"do": "disconnect", "client": client})

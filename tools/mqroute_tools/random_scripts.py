@@ -1,6 +1,6 @@
 """Random scripts of few names, in which much comes together; and what of MQTT they may use."""
 import random
-from collections.abc import Iterable
+from collections.abc import Callable, Iterable
 from typing import Any, NamedTuple
 
 Command = dict[str, Any]
@@ -12,6 +12,7 @@ FEWEST, MOST = 6, 20  # lines
 MOST_NAMES = 4  # topics, and filters
 LEFT_OUT = 0.25  # how often a script leaves a part out
 KEPT = 1000  # seconds that a session or a message is kept; the clock isn't moved
+ACCESS = "access"  # lists that begin a script, where the broker can be given them
 PARTS = ("groups", "retained", "wildcards", "identifiers", "sessions", "expiry", "options", "dollar", "qos2", "qos")
 
 
@@ -37,6 +38,18 @@ class Maker:
     def __init__(self, chance: random.Random, use: Use) -> None:
         self.chance, self.all = chance, use
         self.choose()
+
+    def access(self) -> Command:
+        """A list of a few lines that speak of the script's names."""
+        lines = []
+        for _ in range(self.chance.randint(1, MOST_NAMES)):
+            name, keyword = self.chance.choice(self.topics + self.filters), self.chance.choice(["topic", "topic", "pattern"])
+            if keyword == "pattern" and self.chance.random() < 0.5:
+                levels = name.split("/")
+                levels[self.chance.randrange(len(levels))] = "%c"
+                name = "/".join(levels) if "#" not in levels[:-1] else name
+            lines.append(" ".join([keyword, *self.chance.choice([["read"], ["write"], ["readwrite"], ["deny"], []]), name]))
+        return {"do": "acl", "text": "".join(line + "\n" for line in lines)}
 
     def choose(self) -> None:
         """What the next script has."""
@@ -93,7 +106,7 @@ class Maker:
         self.choose()
         live: set[str] = set()
         away: set[str] = set()
-        made: list[Command] = []
+        made: list[Command] = [self.access()] if self.use.has(ACCESS) and self.chance.random() > LEFT_OUT else []
         for _ in range(self.chance.randint(FEWEST, MOST)):
             do = self.chance.choices(["connect", "disconnect", "subscribe", "unsubscribe", "publish"], [4, 3, 10, 2, 12])[0]
             if do == "connect" or not live:
@@ -118,10 +131,17 @@ def fresh_name(name: str, mark: str) -> str:
     levels = name.split("/")
     if levels[0] == "$share" and len(levels) > 2:
         return "/".join(["$share", *(fresh_name(level, mark) for level in levels[1:])])
-    return "/".join(level if level in ("", "+", "#") else level + mark for level in levels)
+    return "/".join(level if level in ("", "+", "#", "%c") else level + mark for level in levels)
+
+
+def with_names(text: str, named: Callable[[str], str]) -> str:
+    """An access list whose lines speak of other names."""
+    lines = [line.rsplit(" ", 1) for line in text.splitlines()]
+    return "".join(f"{words} {named(name)}\n" for words, name in lines)
 
 
 def fresh(script: list[Command], mark: str) -> list[Command]:
     """The script with names of its own, so that nothing that a broker still keeps of others is met."""
     return [command | {field: fresh_name(command[field], mark) if field != "client" else command[field] + mark
-                       for field in ("client", "topic", "filter") if field in command} for command in script]
+                       for field in ("client", "topic", "filter") if field in command}
+            | ({"text": with_names(command["text"], lambda name: fresh_name(name, mark))} if "text" in command else {}) for command in script]

@@ -3,6 +3,8 @@ import json
 from collections.abc import Callable, Iterator
 from typing import Any
 
+from .random_scripts import with_names
+
 Command = dict[str, Any]
 Script = list[Command]
 Test = Callable[[Script], bool]
@@ -74,7 +76,8 @@ def with_simpler_names(script: Script) -> Iterator[Script]:
             changed = []
             for command in script:
                 parts = {field: split_share(command[field]) for field in ("topic", "filter") if field in command}
-                changed.append(command | {field: share + plain for field, (share, text) in parts.items() if text == name})
+                lists = {"text": with_names(command["text"], lambda held: plain if held == name else held)} if "text" in command else {}
+                changed.append(command | {field: share + plain for field, (share, text) in parts.items() if text == name} | lists)
             yield changed
 
 
@@ -93,7 +96,15 @@ def with_simpler_fields(script: Script) -> Iterator[Script]:
                 yield from ([*script[:at], command | {field: value}, *script[at + 1:]] for value in ahead)
 
 
-WAYS = (with_fewer_lines, with_fewer_clients, with_simpler_names, with_fewer_fields, with_simpler_fields, first_names)
+def with_shorter_lists(script: Script) -> Iterator[Script]:
+    """Access lists with a line less."""
+    for at, command in enumerate(script):
+        lines = command.get("text", "").splitlines(True)
+        for left_out in range(len(lines) if len(lines) > 1 else 0):
+            yield [*script[:at], command | {"text": "".join(lines[:left_out] + lines[left_out + 1:])}, *script[at + 1:]]
+
+
+WAYS = (with_fewer_lines, with_shorter_lists, with_fewer_clients, with_simpler_names, with_fewer_fields, with_simpler_fields, first_names)
 
 
 def simplified(script: Script, way: Callable[[Script], Iterator[Script]], still: Test) -> Script:

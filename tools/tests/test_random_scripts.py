@@ -9,7 +9,7 @@ from worked import HERE, PROGRAM, wants_program
 sys.path.insert(0, str(HERE))
 from mqroute_tools.kinds import Kind, apart, uses  # noqa: E402
 from mqroute import Oracle  # noqa: E402
-from mqroute_tools.random_scripts import PARTS, Maker, Use, fresh  # noqa: E402
+from mqroute_tools.random_scripts import ACCESS, PARTS, Maker, Use, fresh, with_names  # noqa: E402
 from mqroute_tools.shrinking import connected, shrink  # noqa: E402
 
 A = {"do": "connect", "client": "a"}
@@ -103,6 +103,27 @@ class Kinds(unittest.TestCase):
                   PUBLISH | {"topic": "$x", "expiry": 0}]
         self.assertEqual(uses(script), {"taken over", "resumes", "session", "subscribe", "group", "plain", "$ filter", "#", "qos", "subscribes again",
                                         "handling 2", "publish", "$ topic", "expiry 0"})
+
+
+
+class AccessLists(unittest.TestCase):
+    def test_names(self):
+        """A list speaks of the names that its script has."""
+        text = "topic read x/+\npattern write %c/y\ntopic #\n"
+        [made] = fresh([{"do": "acl", "text": text}], "Z")
+        self.assertEqual(made["text"], "topic read xZ/+\npattern write %c/yZ\ntopic #\n")
+        self.assertEqual(with_names(made["text"], lambda name: name.replace("Z", "")), text)
+
+    def test_only_where_they_are_asked_for(self):
+        def lists(use: Use) -> int:
+            maker = Maker(random.Random(1), use)
+            return sum(any(command["do"] == "acl" for command in maker.script()) for _ in range(100))
+        self.assertEqual(lists(Use()), 0)
+        self.assertGreater(lists(Use(frozenset([*PARTS, ACCESS]))), 50)
+
+    def test_a_line_that_decides_nothing_is_left_out(self):
+        script = [{"do": "acl", "text": "topic read y\ntopic deny x\n"}]
+        self.assertEqual(shrink(script, lambda one: "deny x" in one[0].get("text", "")), [{"do": "acl", "text": "topic deny x\n"}])
 
 
 if __name__ == "__main__":
