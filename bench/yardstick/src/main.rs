@@ -9,11 +9,11 @@ mod tree;
 mod world;
 
 use crate::access::read_acl;
+use crate::fields::read;
 use crate::output::print;
 use crate::refused::{Refused, R};
 use crate::tree::Node;
 use crate::world::{Copy, Outcome, World};
-use serde_json::Value;
 use std::collections::{BTreeMap, BTreeSet};
 use std::io::{self, BufRead, BufWriter, Read, Write};
 
@@ -38,6 +38,7 @@ fn begin(args: &[String]) -> World {
         subs: Node::new(),
         retained: Node::new(),
         by_deadline: BTreeSet::new(),
+        ends: BTreeSet::new(),
         kept: 0,
         count: 0,
         max_retained: option(args, "--max-retained").map(|n| n.parse().unwrap()),
@@ -53,12 +54,7 @@ fn answer(world: &mut World, line: &[u8], copies: &mut Vec<Copy>) -> R<Outcome> 
     if line.len() > 1_048_576 {
         return Err(Refused(1, 0));
     }
-    let text = std::str::from_utf8(line).map_err(|_| Refused(2, 0))?;
-    match serde_json::from_str::<Value>(text) {
-        Err(_) => Err(Refused(2, 0)),
-        Ok(Value::Object(fields)) => world.apply(&fields, copies),
-        Ok(_) => Err(Refused(3, 0)),
-    }
+    read(line, |fields| world.apply(fields, copies))
 }
 
 fn main() {
@@ -68,6 +64,7 @@ fn main() {
     let mut input = io::BufReader::with_capacity(1 << 16, stdin.lock());
     let mut out = BufWriter::with_capacity(1 << 16, io::stdout());
     let (mut number, mut refused, mut line) = (0u64, false, Vec::new());
+    let mut copies = vec![];
     loop {
         line.clear();
         if input.read_until(b'\n', &mut line).unwrap() == 0 {
@@ -80,7 +77,7 @@ fn main() {
         if line.len() <= 1_048_576 && is_blank(&line) {
             continue;
         }
-        let mut copies = vec![];
+        copies.clear();
         let outcome = answer(&mut world, &line, &mut copies);
         refused |= outcome.is_err();
         print(&mut out, number, &copies, &outcome).unwrap();

@@ -1,23 +1,21 @@
 //! A publish: who gets a copy, and what is retained.
 use crate::access::allowed;
-use crate::fields::{flag, num, only, opt, text};
+use crate::fields::{num, only, text, Line};
 use crate::refused::{Refused, R};
 use crate::topics::bad_text;
-use crate::world::{AtFilter, Copy, Outcome, Retained, World};
-use serde_json::{Map, Value};
-use std::collections::BTreeMap;
+use crate::world::{AtFilter, Copy, Outcome, Retained, Sub, World};
 use std::rc::Rc;
 
 impl World {
-    pub(crate) fn publish(&mut self, o: &Map<String, Value>, out: &mut Vec<Copy>) -> R<Outcome> {
+    pub(crate) fn publish(&mut self, o: &Line, out: &mut Vec<Copy>) -> R<Outcome> {
         only(o, &["client", "topic", "payload", "qos", "retain", "expiry"])?;
         let (c, t, p, qos, retain, expiry) = (
-            text(o, "client")?,
-            text(o, "topic")?,
-            opt(o, "payload")?.unwrap_or(""),
-            num(o, "qos", 0, 2)?.unwrap_or(0) as u8,
-            flag(o, "retain", false)?,
-            num(o, "expiry", 0, 4294967295)?,
+            text(&o.client)?,
+            text(&o.topic)?,
+            o.payload.as_deref().unwrap_or(""),
+            num(o.qos, 0, 2)?.unwrap_or(0) as u8,
+            o.retain.unwrap_or(false),
+            num(o.expiry, 0, 4294967295)?,
         );
         let c = self.client(c, true)?;
         if bad_text(t, false) {
@@ -38,7 +36,7 @@ impl World {
         let (topic, payload): (Rc<str>, Rc<str>) = (Rc::from(t), Rc::from(p));
         let mut found = vec![];
         self.subs.for_name(Some(t), true, &mut found);
-        let mut by: BTreeMap<Rc<str>, (u8, bool, Vec<u32>)> = BTreeMap::new();
+        let mut by: Vec<(&Rc<str>, &Sub)> = vec![];
         let mut picked: Vec<(String, Rc<str>, Rc<str>)> = vec![];
         let mut group_copies = vec![];
         for at in &found {
@@ -46,10 +44,7 @@ impl World {
                 if s.no_local && *k == c {
                     continue;
                 }
-                let e = by.entry(k.clone()).or_insert((0, false, vec![]));
-                e.0 = e.0.max(s.qos);
-                e.1 |= s.rap;
-                e.2.extend(s.id);
+                by.push((k, s));
             }
         }
         let mut groups: Vec<(&String, &AtFilter)> = found
@@ -78,11 +73,22 @@ impl World {
             }
         }
         let mut waits = 0;
-        for (k, (q, rap, mut ids)) in by {
-            let ses = self.sessions.get_mut(&k).unwrap();
-            if !allowed(&self.acl, &k, ses.user.as_deref(), t, 1) {
+        by.sort_by(|a, b| a.0.cmp(b.0));
+        let mut at = 0;
+        while at < by.len() {
+            let from = at;
+            let k = by[at].0;
+            while at < by.len() && (Rc::ptr_eq(by[at].0, k) || by[at].0 == k) {
+                at += 1
+            }
+            let ses = self.sessions.get_mut(k).unwrap();
+            if !allowed(&self.acl, k, ses.user.as_deref(), t, 1) {
                 continue;
             }
+            let own = &by[from..at];
+            let q = own.iter().map(|x| x.1.qos).max().unwrap();
+            let rap = own.iter().any(|x| x.1.rap);
+            let mut ids: Vec<u32> = own.iter().filter_map(|x| x.1.id).collect();
             ids.sort();
             let copy = Copy {
                 client: k.clone(),

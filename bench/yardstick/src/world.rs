@@ -1,11 +1,10 @@
 //! What a broker knows, and its answers.
-use crate::access::{allowed, read_acl, Row};
-use crate::fields::{flag, num, only, opt, text};
+use crate::access::{allowed, read_acl, Acl};
+use crate::fields::{num, only, text, Line};
 use crate::refused::{Refused, R};
 use crate::topics::parse_sub;
 use crate::tree::Node;
 use indexmap::IndexMap;
-use serde_json::{Map, Value};
 use std::collections::{BTreeMap, BTreeSet, VecDeque};
 use std::rc::Rc;
 
@@ -52,11 +51,12 @@ pub(crate) struct Session {
 
 pub(crate) struct World {
     pub(crate) moment: u64,
-    pub(crate) acl: Option<Vec<Row>>,
+    pub(crate) acl: Option<Acl>,
     pub(crate) sessions: BTreeMap<Rc<str>, Session>,
     pub(crate) subs: Node<AtFilter>,
     pub(crate) retained: Node<Retained>,
     pub(crate) by_deadline: BTreeSet<(u64, Rc<str>)>,
+    pub(crate) ends: BTreeSet<(u64, Rc<str>)>,
     pub(crate) kept: u64,
     pub(crate) count: u64,
     pub(crate) max_retained: Option<u64>,
@@ -109,6 +109,9 @@ impl World {
     }
     fn end(&mut self, c: &Rc<str>) {
         if let Some(s) = self.sessions.remove(c) {
+            if let Some(e) = s.end {
+                self.ends.remove(&(e, c.clone()));
+            }
             for (share, f) in s.filters {
                 self.drop_sub(c, &share, &f);
             }
@@ -124,13 +127,14 @@ impl World {
             s.end = if s.interval == u32::MAX {
                 None
             } else {
+                self.ends.insert((m + s.interval as u64, c.clone()));
                 Some(m + s.interval as u64)
             }
         }
     }
 
-    pub(crate) fn apply(&mut self, o: &Map<String, Value>, out: &mut Vec<Copy>) -> R<Outcome> {
-        match o.get("do").and_then(Value::as_str).ok_or(Refused(3, 0))? {
+    pub(crate) fn apply(&mut self, o: &Line, out: &mut Vec<Copy>) -> R<Outcome> {
+        match &*o.word {
             "connect" => self.connect(o, out),
             "disconnect" => self.disconnect(o),
             "subscribe" => self.subscribe(o, out),
@@ -143,13 +147,13 @@ impl World {
         }
     }
 
-    fn connect(&mut self, o: &Map<String, Value>, out: &mut Vec<Copy>) -> R<Outcome> {
+    fn connect(&mut self, o: &Line, out: &mut Vec<Copy>) -> R<Outcome> {
         only(o, &["client", "user", "clean", "session_expiry"])?;
         let (c, u, clean, iv) = (
-            text(o, "client")?,
-            opt(o, "user")?,
-            flag(o, "clean", true)?,
-            num(o, "session_expiry", 0, 4294967295)?.unwrap_or(0) as u32,
+            text(&o.client)?,
+            o.user.as_deref(),
+            o.clean.unwrap_or(true),
+            num(o.session_expiry, 0, 4294967295)?.unwrap_or(0) as u32,
         );
         let c = self.client(c, false)?;
         if let Some(u) = u {
@@ -176,7 +180,9 @@ impl World {
                 s.user = user;
                 s.interval = iv;
                 s.connected = true;
-                s.end = None;
+                if let Some(e) = s.end.take() {
+                    self.ends.remove(&(e, c));
+                }
             }
             _ => {
                 self.end(&c);
@@ -196,25 +202,25 @@ impl World {
         Ok(Outcome::Reason(0))
     }
 
-    fn disconnect(&mut self, o: &Map<String, Value>) -> R<Outcome> {
+    fn disconnect(&mut self, o: &Line) -> R<Outcome> {
         only(o, &["client"])?;
-        let c = self.client(text(o, "client")?, true)?;
+        let c = self.client(text(&o.client)?, true)?;
         self.leave(&c);
         Ok(Outcome::Reason(0))
     }
 
-    fn subscribe(&mut self, o: &Map<String, Value>, out: &mut Vec<Copy>) -> R<Outcome> {
+    fn subscribe(&mut self, o: &Line, out: &mut Vec<Copy>) -> R<Outcome> {
         only(
             o,
             &["client", "filter", "qos", "no_local", "rap", "handling", "id"],
         )?;
-        let (c, f) = (text(o, "client")?, text(o, "filter")?);
+        let (c, f) = (text(&o.client)?, text(&o.filter)?);
         let (qos, no_local, rap, h, id) = (
-            num(o, "qos", 0, 2)?.unwrap_or(0) as u8,
-            flag(o, "no_local", false)?,
-            flag(o, "rap", false)?,
-            num(o, "handling", 0, 2)?.unwrap_or(0),
-            num(o, "id", 1, 268435455)?.map(|x| x as u32),
+            num(o.qos, 0, 2)?.unwrap_or(0) as u8,
+            o.no_local.unwrap_or(false),
+            o.rap.unwrap_or(false),
+            num(o.handling, 0, 2)?.unwrap_or(0),
+            num(o.id, 1, 268435455)?.map(|x| x as u32),
         );
         let c = self.client(c, true)?;
         let (share, f) = parse_sub(f)?;
@@ -274,9 +280,9 @@ impl World {
         Ok(Outcome::Reason(qos))
     }
 
-    fn unsubscribe(&mut self, o: &Map<String, Value>) -> R<Outcome> {
+    fn unsubscribe(&mut self, o: &Line) -> R<Outcome> {
         only(o, &["client", "filter"])?;
-        let (c, f) = (text(o, "client")?, text(o, "filter")?);
+        let (c, f) = (text(&o.client)?, text(&o.filter)?);
         let c = self.client(c, true)?;
         let (share, f) = parse_sub(f)?;
         let share = share.map(String::from);
@@ -288,18 +294,18 @@ impl World {
         Ok(Outcome::Reason(0))
     }
 
-    fn acl(&mut self, o: &Map<String, Value>) -> R<Outcome> {
+    fn acl(&mut self, o: &Line) -> R<Outcome> {
         only(o, &["text"])?;
-        self.acl = match opt(o, "text")? {
+        self.acl = match o.text.as_deref() {
             None => None,
             Some(t) => Some(read_acl(t)?),
         };
         Ok(Outcome::Reason(0))
     }
 
-    fn advance(&mut self, o: &Map<String, Value>) -> R<Outcome> {
+    fn advance(&mut self, o: &Line) -> R<Outcome> {
         only(o, &["seconds"])?;
-        let s = num(o, "seconds", 0, u64::MAX)?.ok_or(Refused(4, 0))?;
+        let s = num(o.seconds, 0, u64::MAX)?.ok_or(Refused(4, 0))?;
         if self.moment.checked_add(s).map_or(true, |m| m > CLOCK_MAX) {
             return Err(Refused(13, 0));
         }
@@ -312,19 +318,20 @@ impl World {
             self.retained.take(&t);
             self.kept -= 1
         }
-        let gone: Vec<Rc<str>> = self
-            .sessions
-            .iter()
-            .filter(|(_, s)| !s.connected && s.end.map_or(false, |e| e <= self.moment))
-            .map(|(k, _)| k.clone())
-            .collect();
+        let mut gone = vec![];
+        for (e, c) in &self.ends {
+            if *e > self.moment {
+                break;
+            }
+            gone.push(c.clone());
+        }
         for c in gone {
             self.end(&c)
         }
         Ok(Outcome::Reason(0))
     }
 
-    fn stat(&mut self, o: &Map<String, Value>) -> R<Outcome> {
+    fn stat(&mut self, o: &Line) -> R<Outcome> {
         only(o, &[])?;
         Ok(Outcome::Counts(
             self.subs.nodes() + self.retained.nodes(),
