@@ -5,6 +5,8 @@ five                          100,000 publishes to 5 subscribers of one filter
 big BYTES                     publishes that nobody receives, until the script has BYTES bytes
 rules LINES PUBLISHES         PUBLISHES publishes for an access list of LINES lines, as `list` writes it
 list LINES                    that access list
+users PUBLISHES               publishes to 5 subscribers for the access list that `userlist` writes
+userlist USERS                an access list of ten lines each for USERS users
 others OTHERS PUBLISHES       publishes to 5 subscribers beside OTHERS subscriptions that don't match
 overlapping PUBLISHES         publishes to 5 subscribers, each by three filters with identifiers
 groups GROUPS PUBLISHES       publishes to one of GROUPS shared subscriptions
@@ -64,6 +66,21 @@ def access_list(lines):
     write("user user-1\n")
     for i in range(lines - 1):
         write(f"topic readwrite area/{i}/+\n")
+
+
+def users(publishes):
+    for i in range(5):
+        line(do="connect", client=f"client-{i}", user=f"user-{i}")
+        line(do="subscribe", client=f"client-{i}", filter="site/+/temperature", qos=1)
+    for i in range(publishes):
+        line(do="publish", client="client-0", topic=f"site/{i % 100}/temperature", payload=f"v={i}", qos=1)
+
+
+def user_list(users):
+    for user in range(users):
+        write(f"user user-{user}\ntopic readwrite site/#\n")
+        for i in range(9):
+            write(f"topic readwrite area/{user}/{i}/+\n")
 
 
 def overlapping(publishes):
@@ -149,6 +166,7 @@ def resuming(away, resumes):
 
 
 kinds = {"overlapping": overlapping, "lasting": lasting, "sessions": sessions, "resuming": resuming,
-         "five": five, "big": big, "rules": rules, "list": access_list, "others": others, "groups": groups,
+         "five": five, "big": big, "users": users, "userlist": user_list,
+         "rules": rules, "list": access_list, "others": others, "groups": groups,
          "leaving": leaving, "retained": retained, "expiring": expiring}
 kinds[sys.argv[1]](*(int(n) for n in sys.argv[2:]))
