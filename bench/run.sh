@@ -8,19 +8,8 @@ scratch=$(mktemp -d)
 trap 'rm -rf "$scratch"' EXIT
 TIMEFORMAT=%U
 
-# The same job in ordinary Rust, built from Debian's crates.
-yardstick=
-registry=/usr/share/cargo/registry
-if command -v cargo > /dev/null && compgen -G "$registry/serde_json-1*" > /dev/null && compgen -G "$registry/indexmap-1*" > /dev/null; then
-    cp -r bench/yardstick "$scratch/yardstick"
-    mkdir "$scratch/yardstick/.cargo"
-    printf '[source.crates-io]\nreplace-with = "debian"\n[source.debian]\ndirectory = "%s"\n' "$registry" \
-        > "$scratch/yardstick/.cargo/config.toml"
-    (cd "$scratch/yardstick" && cargo build --release --offline --quiet)
-    yardstick=$scratch/yardstick/target/release/yardstick
-else
-    echo "The yardstick wants cargo, librust-serde-json-dev and librust-indexmap-dev: the program alone is measured."
-fi
+# The same job in ordinary Rust.
+yardstick=$(bench/yardstick.sh "$scratch") || echo "The program alone is measured."
 
 seconds() { # PROGRAM SCRIPT ARGUMENTS..: user seconds
     local program=$1 script=$2
@@ -100,6 +89,8 @@ python3 bench/scripts.py groups 10 100000 > "$scratch/groups"
 whole "100,000 publishes to a group" "$scratch/groups"
 python3 bench/scripts.py lasting 100000 10000 > "$scratch/lasting"
 whole "100,000 retained topics, 10,000 subscribers, 10,000 advances" "$scratch/lasting"
+python3 bench/scripts.py retained 1000 30000 > "$scratch/retained"
+whole "30,000 subscribes that are sent 10 of 1,000 retained messages each" "$scratch/retained"
 python3 bench/scripts.py resuming 1000 1000 > "$scratch/resuming"
 whole "1,000 clients for which 1,000 copies wait, and that come back" "$scratch/resuming"
 python3 bench/scripts.py big 20000000 > "$scratch/small"
@@ -109,22 +100,26 @@ whole "a script of 200 MB" "$scratch/big"
 python3 bench/scripts.py list 10000 > "$scratch/list"
 python3 bench/scripts.py rules 10000 1000 > "$scratch/rules"
 whole "1,000 publishes under an access list of 10,000 lines" "$scratch/rules" --acl-file "$scratch/list"
+python3 bench/scripts.py userlist 10000 > "$scratch/list"
+python3 bench/scripts.py users 1000 > "$scratch/users"
+whole "1,000 publishes to 5 subscribers under an access list of 10,000 users, ten lines each" "$scratch/users" --acl-file "$scratch/list"
+python3 bench/plant.py list 100 > "$scratch/list"
+python3 bench/plant.py day 1000 100 20000 > "$scratch/day"
+whole "a plant's day: 1,000 clients, 100,000 subscriptions, 20,000 publishes" "$scratch/day" --acl-file "$scratch/list"
+
+if command -v valgrind > /dev/null; then
+    python3 bench/instructions.py "$program" ${yardstick:+"$yardstick"}
+else
+    echo "Instructions are counted where there is Debian's package valgrind."
+fi
+python3 bench/growth.py 100000 "$program" ${yardstick:+"$yardstick"}
 
 for topics in 1000 100000; do
     each "a subscribe that is sent 10 of $topics retained messages" 100000 retained "$topics"
     each "an advance that ends 10 retained messages beside $topics others" 10000 expiring "$topics"
 done
-for others in 100 10000 1000000; do
-    each "a publish to 5 subscribers beside $others other subscriptions" 300000 others "$others"
-done
-for away in 100 100000; do
-    each "a publish to 5 subscribers, two of them away, beside $away clients that are away" 300000 sessions "$away"
-done
 for away in 10 1000; do
     each "the return of one of $away clients for which 1,000 copies wait" 10 resuming "$away"
-done
-for groups in 10 10000; do
-    each "a publish to one of $groups groups" 300000 groups "$groups"
 done
 for filters in 10000 100000; do
     each "leaving one of a client's $filters filters" "$filters" leaving "$filters"
