@@ -10,6 +10,7 @@ TIMEFORMAT=%U
 
 # The same job in ordinary Rust.
 yardstick=$(bench/yardstick.sh "$scratch") || echo "The program alone is measured."
+[ -z "$yardstick" ] || bench/same.sh "$yardstick"
 
 seconds() { # PROGRAM SCRIPT ARGUMENTS..: user seconds
     local program=$1 script=$2
