@@ -21,7 +21,8 @@ fn first_deny<'a>(
     user: Option<&str>,
     name: &TopicName,
 ) -> Option<&'a Row>
-    ensures { option_copied result ≡ find (λ row. concerns client.now (option_copied user.entry) name.now (row_view row) && is_deny (row_view row).access) rows.entry.now }
+    ensures { option_copied result
+        ≡ find (λ row. concerns client.now (option_copied user.entry) name.now (row_view row) && is_deny (row_view row).access) rows.entry.now }
 {
     rows.iter().find(|row| concerns(row, client, user, name) && is_deny(row.access))
 }
@@ -33,7 +34,9 @@ fn first_grant<'a>(
     name: &TopicName,
     direction: Direction,
 ) -> Option<&'a Row>
-    ensures { option_copied result ≡ find (λ row. concerns client.now (option_copied user.entry) name.now (row_view row) && grants direction (row_view row).access) rows.entry.now }
+    ensures { option_copied result
+        ≡ find (λ row. concerns client.now (option_copied user.entry) name.now (row_view row)
+        && grants direction (row_view row).access) rows.entry.now }
 {
     rows.iter().find(|row| concerns(row, client, user, name) && grants(direction, row.access))
 }
@@ -49,7 +52,8 @@ pub fn decide<'a>(
     ensures deny { option_copied result.deny
         ≡ find (λ row. concerns client.now (option_copied user.entry) name.now (row_view row) && is_deny (row_view row).access) rows.entry.now }
     ensures grant { option_copied result.grant
-        ≡ find (λ row. concerns client.now (option_copied user.entry) name.now (row_view row) && grants direction (row_view row).access) rows.entry.now }
+        ≡ find (λ row. concerns client.now (option_copied user.entry) name.now (row_view row)
+        && grants direction (row_view row).access) rows.entry.now }
     ensures allowed { allowed (Some (row_views rows.entry.now)) client.now (option_copied user.entry) name.now direction
         ≡ (is_none result.deny && is_some result.grant) }
 {

@@ -61,7 +61,8 @@ fn other_in<'a>(
     requires named { HasUsers named.now (all_rows old) (all_rows new) }
     requires old { rows_fit (is_literal fresh) (all_rows old) ≡ true }
     requires new { rows_fit (is_literal fresh) (all_rows new) ≡ true }
-    ensures none { IfOk result (λ found. IfNone found ((user client name : List ℕ) → is_named user named.now ≡ false → IsTrue (is_name name) → begins_with_dollar name ≡ scope.entry.dollar
+    ensures none { IfOk result (λ found. IfNone found ((user client name : List ℕ)
+        → is_named user named.now ≡ false → IsTrue (is_name name) → begins_with_dollar name ≡ scope.entry.dollar
         → gained (all_rows old.entry) (all_rows new.entry) client (Some user) name scope.entry.direction ≡ false)) }
     ensures named { IfOk result (λ found. IfSome found (λ gain. is_named (string_bytes gain.user) named.now ≡ false)) }
     ensures some { IfOk result (λ found. IfSome found (λ gain.

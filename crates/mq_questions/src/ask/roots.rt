@@ -52,7 +52,8 @@ fn whole<'a>(row: &'a Row, deny: bool) -> Remainder<'a>
 // The row, with all of its filter left, where it has to do with the scope.
 fn root<'a>(row: &'a Row, scope: Scope<'a>) -> Option<Remainder<'a>>
     ensures hits { (client name : List ℕ) (user : Option (List ℕ)) (deny : Bool)
-        → applies user (row_view row.now).who ≡ applies (option_copied scope.entry.user) (row_view row.now).who → begins_with_dollar name ≡ scope.entry.dollar → MatchOption result
+        → applies user (row_view row.now).who
+        ≡ applies (option_copied scope.entry.user) (row_view row.now).who → begins_with_dollar name ≡ scope.entry.dollar → MatchOption result
         ((concerns client user name (row_view row.now) && decides deny scope.entry.direction (row_view row.now).access) ≡ false)
         (λ r. (covers (marks_of client user) (levels name) r && same deny r.deny)
         ≡ (concerns client user name (row_view row.now) && decides deny scope.entry.direction (row_view row.now).access)) }
@@ -78,7 +79,8 @@ fn add_root<'a>(
     row: &'a Row,
     scope: Scope<'a>,
 ) -> Result<(), AllocError>
-    ensures { OnOk result ((before : List AclRow) → AreRoots before (option_copied scope.entry.user) scope.entry.direction scope.entry.dollar roots.old.items
+    ensures { OnOk result ((before : List AclRow)
+        → AreRoots before (option_copied scope.entry.user) scope.entry.direction scope.entry.dollar roots.old.items
         → AreRoots (before ++ row_view row.now ∷ []) (option_copied scope.entry.user) scope.entry.direction scope.entry.dollar roots.new.items) }
 {
     let Some(root) = root(row, scope) else {
@@ -93,7 +95,8 @@ fn add_roots<'a>(
     rows: &'a [Row],
     scope: Scope<'a>,
 ) -> Result<(), AllocError>
-    ensures { OnOk result ((before : List AclRow) → AreRoots before (option_copied scope.entry.user) scope.entry.direction scope.entry.dollar roots.old.items
+    ensures { OnOk result ((before : List AclRow)
+        → AreRoots before (option_copied scope.entry.user) scope.entry.direction scope.entry.dollar roots.old.items
         → AreRoots (before ++ row_views rows.entry.now) (option_copied scope.entry.user) scope.entry.direction scope.entry.dollar roots.new.items) }
 {
     for row in rows {

@@ -1,7 +1,8 @@
 ghost use Rattle.std.specs.Prelude.{◌≡◌, ℕ, Bool, List, [], length, ◌==◌, ◌&&◌, true, false, codes, MatchOption};
 ghost use Rattle.std.specs.Str.{bytes_eq};
 ghost use Rattle.mq_topic.specs.Levels.{levels_left};
-ghost use Rattle.mq_questions.specs.Remainders.{MarkLevels, marks_view, passes, covers, hit, allow, fits, remainder_fits, marks_pass, GoesOn, NextFits, at_mark, no_marks, is_open, is_same};
+ghost use Rattle.mq_questions.specs.Remainders.{MarkLevels, marks_view, passes, covers, hit, allow, fits};
+ghost use Rattle.mq_questions.specs.Remainders.{remainder_fits, marks_pass, GoesOn, NextFits, at_mark, no_marks, is_open, is_same};
 
 use crate::walk::marks::Marks;
 use mq_topic::split_first;
