@@ -64,7 +64,8 @@ pub(crate) fn walk<'a>(
     requires old { remainders_fit (is_choice others) old.now ≡ true }
     requires new { remainders_fit (is_choice others) new.now ≡ true }
     ensures none { IfOk result (λ found. IfNone found (GainsNothing start budget (marks_view marks.entry) old.now new.now)) }
-    ensures some { IfOk result (λ found. IfSome found (λ path. IsGain start budget (marks_view marks.entry) old.now new.now (path_levels path.items))) }
+    ensures some { IfOk result (λ found. IfSome found (λ path. IsGain start budget (marks_view marks.entry)
+        old.now new.now (path_levels path.items))) }
 {
     if is_barren(old, new) {
         return Ok(None);

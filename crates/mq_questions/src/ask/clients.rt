@@ -57,7 +57,8 @@ pub(crate) fn any_client<'a>(
     requires new { remainders_fit (is_literal fresh) new.now ≡ true }
     ensures none { IfOk result (λ found. IfNone found ((c : List ℕ)
         → GainsNothing start 200 (marks_of c (option_copied user.entry)) old.now new.now)) }
-    ensures some { IfOk result (λ found. IfSome found (λ gain. IsGain start 200 (marks_of gain.client.now (option_copied user.entry)) old.now new.now (path_levels gain.path.items))) }
+    ensures some { IfOk result (λ found. IfSome found (λ gain. IsGain start 200
+        (marks_of gain.client.now (option_copied user.entry)) old.now new.now (path_levels gain.path.items))) }
 {
     if is_barren(old, new) {
         return Ok(None);

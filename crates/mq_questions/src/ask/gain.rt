@@ -77,7 +77,8 @@ fn gain_in<'a>(
     ensures none { IfOk result (λ found. IfNone found ((client name : List ℕ) → IsTrue (is_name name) → begins_with_dollar name ≡ scope.entry.dollar
         → gained (all_rows old.entry) (all_rows new.entry) client (option_copied scope.entry.user) name scope.entry.direction ≡ false)) }
     ensures some { IfOk result (λ found. IfSome found (λ witness.
-        gained (all_rows old.entry) (all_rows new.entry) (string_bytes witness.client) (option_copied scope.entry.user) witness.name scope.entry.direction ≡ true)) }
+        gained (all_rows old.entry) (all_rows new.entry)
+        (string_bytes witness.client) (option_copied scope.entry.user) witness.name scope.entry.direction ≡ true)) }
 {
     let user = level_of(scope.user);
     let start = Start::of(scope.dollar);

@@ -66,7 +66,8 @@ fn other_in<'a>(
         → gained (all_rows old.entry) (all_rows new.entry) client (Some user) name scope.entry.direction ≡ false)) }
     ensures named { IfOk result (λ found. IfSome found (λ gain. is_named (string_bytes gain.user) named.now ≡ false)) }
     ensures some { IfOk result (λ found. IfSome found (λ gain.
-        gained (all_rows old.entry) (all_rows new.entry) (string_bytes gain.witness.client) (Some (string_bytes gain.user)) gain.witness.name scope.entry.direction ≡ true)) }
+        gained (all_rows old.entry) (all_rows new.entry) (string_bytes gain.witness.client) (Some
+        (string_bytes gain.user)) gain.witness.name scope.entry.direction ≡ true)) }
 {
     let start = Start::of(scope.dollar);
     let old_roots = roots(alloc, old, scope)?;
@@ -106,7 +107,8 @@ pub(crate) fn any_other<'a>(
         → gained (all_rows old.entry) (all_rows new.entry) client (Some user) name direction ≡ false)) }
     ensures named { IfOk result (λ found. IfSome found (λ gain. is_named (string_bytes gain.user) named.now ≡ false)) }
     ensures some { IfOk result (λ found. IfSome found (λ gain.
-        gained (all_rows old.entry) (all_rows new.entry) (string_bytes gain.witness.client) (Some (string_bytes gain.user)) gain.witness.name direction ≡ true)) }
+        gained (all_rows old.entry) (all_rows new.entry) (string_bytes gain.witness.client) (Some
+        (string_bytes gain.user)) gain.witness.name direction ≡ true)) }
 {
     let plain = Scope {
         user: Some(fresh.user),

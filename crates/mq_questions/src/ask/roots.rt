@@ -111,7 +111,8 @@ pub(crate) fn roots<'a>(
     rows: Rows<'a>,
     scope: Scope<'a>,
 ) -> Result<Vec<Remainder<'a>>, AllocError>
-    ensures { IfOk result (λ roots. AreRoots (all_rows rows.entry) (option_copied scope.entry.user) scope.entry.direction scope.entry.dollar roots.items) }
+    ensures { IfOk result (λ roots. AreRoots (all_rows
+        rows.entry) (option_copied scope.entry.user) scope.entry.direction scope.entry.dollar roots.items) }
 {
     let mut roots = Vec::new(alloc);
     add_roots(&mut roots, rows.front, scope)?;

@@ -31,7 +31,8 @@ fn add_named<'a>(
     next: Remainder<'a>,
 ) -> Result<(), AllocError>
     ensures at { OnOk result ((l : List ℕ) → option_map_or (λ v. v.items) (get_by (λ k. slice_cmp nat_cmp l k.now) named.new) []
-        ≡ option_map_or (λ v. v.items) (get_by (λ k. slice_cmp nat_cmp l k.now) named.old) [] ++ (if bytes_eq l level.entry.now then next.entry ∷ [] else [])) }
+        ≡ option_map_or (λ v. v.items) (get_by
+        (λ k. slice_cmp nat_cmp l k.now) named.old) [] ++ (if bytes_eq l level.entry.now then next.entry ∷ [] else [])) }
     ensures has { OnOk result ((l : List ℕ) → is_some (get_by (λ k. slice_cmp nat_cmp l k.now) named.new)
         ≡ (is_some (get_by (λ k. slice_cmp nat_cmp l k.now) named.old) || bytes_eq l level.entry.now)) }
 {
