@@ -196,12 +196,16 @@ publish-full s m h n e full =
     ∙ skip (allowed s.access m.publisher (user_of s.sessions m.publisher) m.topic Writing) NotAuthorized (full_condition s m) e
     ∙ ap (λ b. first_refusal ((b, RetainedFull) ∷ [])) full)
 
-pub publish-does : (s : State) (m : Message) (sessions : List Session) (subs : KeptSubscriptions) (kept : KeptRetained) (reply : Reply) → None ≡ first_refusal (client_conditions s.sessions m.publisher) → is_name m.topic ≡ true → allowed s.access m.publisher (user_of s.sessions m.publisher) m.topic Writing ≡ true → is_full s.limits.retained s.retained m ≡ false → reply ≡ published (copies_held s m) (begins_to_wait s.limits.queued s.access s.sessions s.subscriptions m) → sessions ≡ map (waiting_after s.limits.queued s.access s.subscriptions s.moment m) s.sessions → SameInTurn subs.rows (all_turned (members_held s m) s.subscriptions) → (s.filter_keys ≡ filters_among s.subscriptions → AreKeys subs) → kept.messages ≡ retained_after s.moment s.retained m → (s.topic_keys ≡ topics_of s.retained → Indexes s.deadlines s.retained → AreFiled kept) → Does s (Publish m) reply (record s { sessions = sessions; subscriptions = subs.rows; filter_keys = subs.keys; retained = kept.messages; topic_keys = kept.keys; deadlines = kept.pairs })
+pub publish-accepted : (s : State) (m : Message) → None ≡ first_refusal (client_conditions s.sessions m.publisher) → is_name m.topic ≡ true → allowed s.access m.publisher (user_of s.sessions m.publisher) m.topic Writing ≡ true → is_full s.limits.retained s.retained m ≡ false → refusal (world_of s) (Publish m) ≡ None
 unfolding refusal
-publish-does s m sessions subs kept reply h n e room r ss xs keys rs filed = record {
-  accepted = passed-behind (client_conditions s.sessions m.publisher) (write_condition s m) TopicName (is_name m.topic) h n
-      ∙ skip (allowed s.access m.publisher (user_of s.sessions m.publisher) m.topic Writing) NotAuthorized (full_condition s m) e
-      ∙ ap (λ b. first_refusal ((b, RetainedFull) ∷ [])) room;
+publish-accepted s m h n e room =
+    passed-behind (client_conditions s.sessions m.publisher) (write_condition s m) TopicName (is_name m.topic) h n
+    ∙ skip (allowed s.access m.publisher (user_of s.sessions m.publisher) m.topic Writing) NotAuthorized (full_condition s m) e
+    ∙ ap (λ b. first_refusal ((b, RetainedFull) ∷ [])) room
+
+pub publish-does : (s : State) (m : Message) (sessions : List Session) (subs : KeptSubscriptions) (kept : KeptRetained) (reply : Reply) → refusal (world_of s) (Publish m) ≡ None → reply ≡ published (copies_held s m) (begins_to_wait s.limits.queued s.access s.sessions s.subscriptions m) → sessions ≡ map (waiting_after s.limits.queued s.access s.subscriptions s.moment m) s.sessions → SameInTurn subs.rows (all_turned (members_held s m) s.subscriptions) → (s.filter_keys ≡ filters_among s.subscriptions → AreKeys subs) → kept.messages ≡ retained_after s.moment s.retained m → (s.topic_keys ≡ topics_of s.retained → Indexes s.deadlines s.retained → AreFiled kept) → Does s (Publish m) reply (record s { sessions = sessions; subscriptions = subs.rows; filter_keys = subs.keys; retained = kept.messages; topic_keys = kept.keys; deadlines = kept.pairs })
+publish-does s m sessions subs kept reply accepted r ss xs keys rs filed = record {
+  accepted = accepted;
   reply_is = r;
   rows = record { limits = refl; moment = refl; access = refl; sessions = ss; subscriptions = xs; retained = rs };
   filed = λ old. (let now : AreFiled kept = filed old.topic_keys old.deadlines in record { filter_keys = keys old.filter_keys; topic_keys = now.keys; deadlines = now.pairs });

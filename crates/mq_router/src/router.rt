@@ -1,11 +1,12 @@
-ghost use Rattle.std.specs.Prelude.{◌≡◌, ◌≢◌, ◌+◌, [], Some, IsTrue, IfOk, OnOk, OnErr, IfErr, map};
+ghost use Rattle.std.specs.Prelude.{◌≡◌, ◌≢◌, ◌+◌, ◌<◌, ◌^◌, [], Some, None, IsTrue, IfOk, OnOk, OnErr, IfErr, IfSome, map};
 ghost use Rattle.std.specs.Option.{option_copied};
 ghost use Rattle.std.specs.Rc.{rc_str_bytes};
-ghost use Rattle.mq_world.specs.Refusals.{is_valid, takes_no_memory, client_conditions, first_refusal};
+ghost use Rattle.mq_world.specs.Refusals.{is_valid, takes_no_memory, client_conditions, first_refusal, refusal};
+ghost use Rattle.mq_world.specs.Clock.{deadline_of};
 ghost use Rattle.mq_world.specs.World as world;
 ghost use Rattle.mq_world.specs.World.{fresh_world, empty_world, within};
 ghost use Rattle.mq_router.specs.StandsFor.{StandsFor, AnswersFor, CountsFor};
-ghost use Rattle.mq_router.specs.router.Effects.{Applied, CountsSteps, refused_by, copies_sent, steps_sent, steps_to};
+ghost use Rattle.mq_router.specs.router.Effects.{Applied, CountsSteps, Does, world_of, refused_by, copies_sent, steps_sent, steps_to};
 ghost use Rattle.mq_router.specs.router.Effects.{counts_held, copies_held, begun_held, members_held};
 ghost use Rattle.mq_world.specs.Views.{limits_of, request_of, reply_of};
 ghost use Rattle.mq_world.specs.Views.{options_of};
@@ -282,8 +283,7 @@ impl Router {
         Ok(with_reason(self.alloc, reason_to_leave(existed)))
     }
 
-    // All copies are made before anything changes; then the message is stored, or nothing changes; the turns and the copies
-    // that begin to wait, which cannot fail, come last.
+    // All that refuses it comes first.
     fn publish(
         &mut self,
         client: &str,
@@ -317,8 +317,22 @@ impl Router {
         if self.retained.is_full(self.limits.retained, &message) {
             return Err(Refusal::RetainedFull);
         }
-        let made = self.make_copies(&message, steps)?;
-        self.retained.publish(&message)?;
+        let answer = self.deliver(&message, steps)?;
+        Ok(answer)
+    }
+
+    // All copies are made before anything changes; then the message is stored, or nothing changes; the turns and the copies
+    // that begin to wait, which cannot fail, come last.
+    fn deliver(&mut self, message: &Message, steps: &mut Steps) -> Result<Answer, AllocError>
+        requires value { message.now.deadline ≡ deadline_of self.old.moment message.now.expiry }
+        requires near { IfSome message.now.deadline (λ deadline. deadline < self.old.moment + 2 ^ 32) }
+        ensures done { refusal (world_of self.old) (world.Publish (message_of message.now)) ≡ None
+            → IfOk result (λ answer. Does self.old (world.Publish (message_of message.now)) (reply_of answer) self.new) }
+        ensures count { OnOk result (steps.new ≡ steps.old + steps_to self.old (world.Publish (message_of message.now))) }
+        ensures err { OnErr result (self.new ≡ self.old) }
+    {
+        let made = self.make_copies(message, steps)?;
+        self.retained.publish(message)?;
         self.subscriptions.serve_all(made.served.as_slice());
         let waits = !made.begun.is_empty();
         self.sessions.join_all(self.limits.queued, made.begun);
