@@ -1,5 +1,5 @@
 #!/usr/bin/env python3
-"""Writes crates/mq_rows/src/table.rt: the worked rows of tests/rows, since a test reads no files.
+"""Writes crates/mq_rows/src/tests/table.rt: the worked rows of tests/rows, since a test reads no files.
 
 A row that begins with an access list has it in NAME.acl. Of each row the lines of more than 1,000 bytes are left out, and
 the others renumbered. One with other arguments (NAME.args), or still with more than 20,000 bytes, is left out whole.
@@ -11,7 +11,7 @@ import re
 import sys
 
 ROWS = pathlib.Path("tests/rows")
-TABLE = pathlib.Path("crates/mq_rows/src/table.rt")
+TABLE = pathlib.Path("crates/mq_rows/src/tests/table.rt")
 MOST = 6_000
 LONGEST_LINE = 1_000
 LONGEST_ROW = 20_000
@@ -73,7 +73,7 @@ def part(number, rows):
 
 
 text = """//! The worked rows. Made by dev/rows_table.py from tests/rows.
-use crate::rows::{Row, run_row};
+use crate::tests::rows::{Row, run_row};
 use std::test::Fail;
 """ + "".join(part(number, rows) for number, rows in enumerate(tables(), 1))
 if "--check" in sys.argv:

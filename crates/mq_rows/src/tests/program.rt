@@ -1,5 +1,5 @@
 //! The program but its `main`: its texts and exit statuses, over files of the test's folder.
-use crate::devices::{Interrupted, Pieces, Shelf, Starved};
+use crate::tests::devices::{Interrupted, Pieces, Shelf, Starved};
 use mq_acl::{AclFault, AclKind};
 use mq_cli::{AclFileFault, arguments, read_acl, start};
 use mq_script::{StdSink, StdSource};

@@ -1,5 +1,5 @@
 //! The worked rows, from bytes to bytes, in pieces of several sizes.
-use crate::devices::{Pieces, Shelf};
+use crate::tests::devices::{Pieces, Shelf};
 use mq_acl::Acl;
 use mq_router::Router;
 use mq_script::{StdSink, StdSource, exit_status, run};

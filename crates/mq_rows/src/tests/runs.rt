@@ -1,5 +1,5 @@
 //! Runs whose reader or writer fails, and scripts whose lines are too long or blank.
-use crate::devices::{Interrupted, Pieces, Shelf};
+use crate::tests::devices::{Interrupted, Pieces, Shelf};
 use mq_router::Router;
 use mq_script::{RunFault, StdSink, StdSource, Summary, exit_status, run};
 use std::alloc::{AllocError, Global};

@@ -1,5 +1,5 @@
 //! The worked rows. Made by dev/rows_table.py from tests/rows.
-use crate::rows::{Row, run_row};
+use crate::tests::rows::{Row, run_row};
 use std::test::Fail;
 
 pub(crate) static ACCESS_LIST_FILE: Row = Row {

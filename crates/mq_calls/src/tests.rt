@@ -1,0 +1,5 @@
+//! Calls of single crates.
+
+mod access;
+mod topics;
+mod tree;
