@@ -17,6 +17,7 @@ from mqroute_tools.agreement import Command
 from mqroute_tools.ending import Fault
 from mqroute_tools.live_run import Closed, Replay
 from mqroute_tools.output import Block, blocks, by_key, is_blank, misfit
+from mqroute_tools.wills import Wills
 
 
 def runnable(script: str, output: str) -> Iterator[tuple[int, Command, Block]]:
@@ -42,7 +43,10 @@ def runnable(script: str, output: str) -> Iterator[tuple[int, Command, Block]]:
 
 def differences(replay: Replay, script: str, output: str) -> Iterator[list[str]]:
     """For each line that differs, the texts to print."""
-    for number, command, block in list(runnable(script, output)):  # a fault is told before the broker is asked anything
+    lines = list(runnable(script, output))  # a fault is told before the broker is asked anything
+    if replay.options.wills:
+        replay.wills = Wills(lines)
+    for number, command, block in lines:
         head = f"line {number}: {json.dumps(command, ensure_ascii=False)}"
         try:
             found = replay.answer(number, command, block)
@@ -61,6 +65,8 @@ def arguments() -> argparse.Namespace:
     parser.add_argument("--password", metavar="TEXT", help="password of all clients")
     parser.add_argument("--on-acl", metavar="COMMAND", help="what the shell does for an `acl` line: it lets the broker read the access list in the file "
                         "$MQROUTE_ACL, as by: cp \"$MQROUTE_ACL\" /tmp/acl && kill -HUP 123")
+    parser.add_argument("--wills", action="store_true", help="run as a will what a client publishes with the payload `will` and then disconnects: it goes with "
+                        "the CONNECT, and the connection ends without a DISCONNECT")
     parser.add_argument("--patience", type=float, default=5, metavar="SECONDS", help="how long to wait for an acknowledgement (default 5)")
     parser.add_argument("--settle", type=float, default=0, metavar="SECONDS",
                         help="wait after each line, for brokers that acknowledge before they route (default 0)")

@@ -3,6 +3,8 @@ import re
 from collections.abc import Iterator
 from typing import Any, NamedTuple
 
+from .wills import PAYLOAD
+
 Command = dict[str, Any]
 OURS, THEIRS = "      mqroute: ", "      broker:  "
 NOBODY = "   reason: mqroute 0, broker 16"
@@ -95,6 +97,8 @@ def of_publish(command: Command) -> set[str]:
         uses.add("$SYS topic" if command["topic"].startswith("$SYS") else "$ topic")
     if "expiry" in command:
         uses.add("expiry" if command["expiry"] else "expiry 0")
+    if command.get("payload") == PAYLOAD:
+        uses.add("will")
     if command.get("retain") and not command.get("payload"):
         uses.add("clear")
     return uses

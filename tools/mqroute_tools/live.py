@@ -74,7 +74,7 @@ class Offer:
 class Connection:
     """What it receives goes to `got`, acknowledgements to `answered`."""
 
-    def __init__(self, command: Command, host: str, port: int, user: str | None, password: str | None) -> None:
+    def __init__(self, command: Command, host: str, port: int, user: str | None, password: str | None, will: Command | None = None) -> None:
         self.name = command["client"]
         self.got: list[mqtt.MQTTMessage] = []
         self.answered: dict[int | str, Acknowledged] = {}
@@ -83,6 +83,8 @@ class Connection:
         user = command.get("user", user)
         if user is not None:
             client.username_pw_set(user, password)
+        if will:
+            client.will_set(will["topic"], will["payload"], will.get("qos", 0), will.get("retain", False), message_properties(will, PacketTypes.WILLMESSAGE))
         client.on_message = lambda _c, _u, message: self.got.append(message)
         client.on_connect = self.connected
         client.on_disconnect = lambda *_: self.answered.update(closed=Acknowledged())
@@ -115,10 +117,12 @@ class Connection:
             self.client.loop_write()
 
     def publish(self, command: Command) -> int:
-        properties = Properties(PacketTypes.PUBLISH)
-        if "expiry" in command:
-            properties.MessageExpiryInterval = command["expiry"]
+        properties = message_properties(command, PacketTypes.PUBLISH)
         return self.client.publish(command["topic"], command.get("payload", ""), command.get("qos", 0), command.get("retain", False), properties).mid
+
+    def drop(self) -> None:
+        """Ends the connection without a DISCONNECT."""
+        self.client.socket().shutdown(socket.SHUT_RDWR)
 
     def subscribe(self, command: Command) -> int:
         properties = Properties(PacketTypes.SUBSCRIBE)
@@ -134,6 +138,13 @@ class Connection:
                  for m in self.got]
         self.got.clear()
         return found
+
+
+def message_properties(command: Command, packet: int) -> Properties:
+    properties = Properties(packet)
+    if "expiry" in command:
+        properties.MessageExpiryInterval = command["expiry"]
+    return properties
 
 
 def first(reasons: Any) -> Any:

@@ -12,10 +12,12 @@ from .agreement import Acknowledged, Command, Copy, Sessions, copies_of, differe
 from .ending import Fault
 from .live import Connection, Offer
 from .output import Block
+from .wills import Wills
 
 FENCE = "mqroute/fence"  # nobody subscribes to it; its UNSUBACK tells that all that was sent before has come
 QUIET_ROUNDS = 2  # a copy of QoS 2 wants two fences: one for PUBLISH, one for PUBREL
 ACL_PAUSE = 0.3  # seconds that a broker gets to read an access list
+WILL_PAUSE = 0.1  # and to see that a connection is gone
 ALL_ALLOWED = "pattern readwrite #\npattern readwrite $SYS/#\n"  # in place of no access list
 
 
@@ -30,6 +32,7 @@ class Replay:
         self.sessions = Sessions()
         self.offer = Offer()
         self.left_out: Counter[str] = Counter()
+        self.wills = Wills()
         self.line = 0
 
     # -- waiting
@@ -82,7 +85,11 @@ class Replay:
             return Acknowledged()
         connection = self.live[command["client"]]
         if do == "disconnect":
-            connection.client.disconnect()
+            if self.line in self.wills.due:
+                connection.drop()
+                time.sleep(WILL_PAUSE)
+            else:
+                connection.client.disconnect()
             self.pump(lambda: "closed" in connection.answered, "end of the connection")
             del self.live[command["client"]]
             return Acknowledged()
@@ -96,12 +103,17 @@ class Replay:
     def connect(self, command: Command) -> Acknowledged:
         self.live.pop(command["client"], None)  # the broker takes the old one's session over
         options = self.options
-        connection = self.live[command["client"]] = Connection(command, options.host, options.port, options.username, options.password)
+        connection = self.live[command["client"]] = Connection(
+            command, options.host, options.port, options.username, options.password, self.will())
         said = self.wait(connection, "connect", "CONNACK")
         if said.reason != 0:
             raise Fault(f"line {self.line}: the broker refused the connection, reason {said.reason}")
         self.offer = connection.offer
         return said
+
+    def will(self) -> Command | None:
+        """What goes with the connection that this line makes."""
+        return self.wills.given[self.line].message if self.line in self.wills.given else None
 
     def set_access(self, text: str | None) -> None:
         """Lets the user's command give the broker an access list."""
@@ -119,6 +131,8 @@ class Replay:
     def answer(self, number: int, command: Command, block: Block) -> list[str]:
         """Runs a line, and gives what differs as texts to print."""
         self.line = number
+        if number in self.wills.published:
+            return []
         lacking = self.offer.lacks(command)
         if lacking:
             self.left_out[lacking] += 1
@@ -128,6 +142,8 @@ class Replay:
         self.quiet()
         if not block.refused:
             self.sessions.follow(command)
+        if number in self.wills.due:
+            block = self.wills.due[number].block
         theirs: list[Copy] = [copy for connection in self.live.values() for copy in connection.copies()]
         ours = [copy for copy in copies_of(block) if self.offer.shared or not copy.shared]
         return (different_copies(ours, theirs, self.sessions) + (different_order(ours, theirs) if command["do"] == "connect" else [])

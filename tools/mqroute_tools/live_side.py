@@ -8,6 +8,7 @@ from .kinds import Difference, apart
 from .live import Offer
 from .output import Block
 from .random_scripts import ACCESS, PARTS, Use
+from .wills import Wills
 from .live_run import Closed, Replay
 
 CLEANER = "mqroute-search"
@@ -51,15 +52,17 @@ class LiveBroker:
 
     def run(self, script: list[Command], blocks: list[Block]) -> list[Difference]:
         """What differs; afterwards the broker has forgotten the script's sessions and retained messages."""
-        replay, found = self.session(), []
+        replay, found, lines = self.session(), [], list(sent(script, blocks))
+        replay.wills = Wills(lines)
         try:
-            for number, command, block in sent(script, blocks):
+            for number, command, block in lines:
+                do = "will" if number in replay.wills.due else command["do"]
                 try:
-                    found += apart(number, command["do"], replay.answer(number, command, block))
+                    found += apart(number, do, replay.answer(number, command, block))
                 except Closed as fault:
-                    return [*found, Difference(number, f"{command['do']}: closed", [f"   {fault}"])]
+                    return [*found, Difference(number, f"{do}: closed", [f"   {fault}"])]
                 except Fault as fault:
-                    return [*found, Difference(number, f"{command['do']}: no answer", [f"   {fault}"])]
+                    return [*found, Difference(number, f"{do}: no answer", [f"   {fault}"])]
             return found
         finally:
             replay.end()

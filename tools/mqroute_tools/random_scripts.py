@@ -3,6 +3,8 @@ import random
 from collections.abc import Callable, Iterable
 from typing import Any, NamedTuple
 
+from .wills import PAYLOAD
+
 Command = dict[str, Any]
 CLIENTS = "abc"
 TOPICS = ["x", "x", "x/y", "x/y", "y", "/", "x/", "x/y/z"]
@@ -13,7 +15,7 @@ MOST_NAMES = 4  # topics, and filters
 LEFT_OUT = 0.25  # how often a script leaves a part out
 KEPT = 1000  # seconds that a session or a message is kept; the clock isn't moved
 ACCESS = "access"  # lists that begin a script, where the broker can be given them
-PARTS = ("groups", "retained", "wildcards", "identifiers", "sessions", "expiry", "options", "dollar", "qos2", "qos")
+PARTS = ("groups", "retained", "wildcards", "identifiers", "sessions", "expiry", "options", "dollar", "wills", "qos2", "qos")
 
 
 class Use(NamedTuple):
@@ -93,8 +95,8 @@ class Maker:
             command["id"] = self.chance.randint(1, 9)
         return command
 
-    def publish(self, client: str) -> Command:
-        command: Command = {"do": "publish", "client": client, "topic": self.chance.choice(self.topics), "payload": self.chance.choice(["1", "2", "3", ""])}
+    def publish(self, client: str, payloads: tuple[str, ...] = ("1", "2", "3", "")) -> Command:
+        command: Command = {"do": "publish", "client": client, "topic": self.chance.choice(self.topics), "payload": self.chance.choice(payloads)}
         command = self.with_qos(command)
         if self.may("retained", 0.45):
             command["retain"] = True
@@ -116,6 +118,7 @@ class Maker:
                 continue
             client = self.chance.choice(sorted(live))
             if do == "disconnect":
+                made += [self.publish(client, (PAYLOAD,))] if self.may("wills", 0.4) else []
                 made.append({"do": do, "client": client})
                 live.discard(client)
                 away.add(client)

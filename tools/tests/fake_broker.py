@@ -9,6 +9,7 @@ from mqroute_tools.agreement import Acknowledged, Sessions, copies_of, different
 from mqroute_tools.kinds import Difference, apart  # noqa: E402
 from mqroute import Oracle  # noqa: E402
 from mqroute_tools.random_scripts import Use  # noqa: E402
+from mqroute_tools.wills import Wills  # noqa: E402
 from search import Script  # noqa: E402
 
 
@@ -24,14 +25,20 @@ class Fake:
         return True
 
     def run(self, script: Script, blocks: list) -> list[Difference]:
+        """What a will does is compared where its connection ends."""
         self.scripts.append(script)
-        sessions, found = Sessions(), []
-        for number, (command, block, theirs) in enumerate(zip(script, blocks, self.oracle.blocks(self.taken(script))), 1):
+        sessions, found, answers = Sessions(), [], self.oracle.blocks(self.taken(script))
+        wills = Wills(zip(range(1, len(script) + 1), script, blocks))
+        for number, (command, block, theirs) in enumerate(zip(script, blocks, answers), 1):
+            if number in wills.published:
+                continue
+            if number in wills.due:
+                block, theirs = wills.due[number].block, answers[number - 2]
             present = command["do"] == "connect" and sessions.present(command)
             sessions.follow(command)
             ours, copies = copies_of(block), copies_of(theirs)
             texts = different_copies(ours, copies, sessions) + different_order(ours, copies)
-            found += apart(number, command["do"], texts + different_reasons(command, block, Acknowledged(theirs.reason), present))
+            found += apart(number, "will" if number in wills.due else command["do"], texts + different_reasons(command, block, Acknowledged(theirs.reason), present))
         return found
 
 
@@ -77,4 +84,6 @@ def forgets_sessions(script: Script) -> Script:
     return taken
 
 
-BUGS = (keeps_first_options, expiry_0_is_none, keeps_what_is_cleared, forgets_sessions)
+def drops_wills(script: Script) -> Script:
+    """A connection that ends without a DISCONNECT leaves no will."""
+    return [{"do": "stat"} if now.get("payload") == "will" and then["do"] == "disconnect" else now for now, then in zip(script, [*script[1:], {"do": "stat"}])]

@@ -23,7 +23,7 @@ class Scripts(unittest.TestCase):
         return "\n".join(json.dumps(maker.script()) for _ in range(300))
 
     SIGNS = {"groups": r"\$share", "retained": '"retain"', "wildcards": '"filter": "[^"]*[+#]', "identifiers": '"id"',
-             "sessions": '"session_expiry"|"clean"', "expiry": '"expiry"', "options": '"no_local"|"rap"|"handling"', "dollar": r'[/"]\$x', "qos2": '"qos": 2', "qos": '"qos"'}
+             "sessions": '"session_expiry"|"clean"', "expiry": '"expiry"', "options": '"no_local"|"rap"|"handling"', "dollar": r'[/"]\$x', "wills": '"payload": "will"', "qos2": '"qos": 2', "qos": '"qos"'}
 
     def test_parts(self):
         self.assertEqual(set(self.SIGNS), set(PARTS))

@@ -186,6 +186,39 @@ class Runs(unittest.TestCase):
         self.assertEqual(self.run_script(script, output)[0], 2)
         self.assertEqual(self.run_script(script, output, "--username", "me", "--password", "secret"), (0, "", ""))
 
+    def test_wills(self):
+        """What a client publishes and is gone at once is sent by the broker, when it sees that the connection is gone."""
+        self.start()
+        will = {"do": "publish", "client": "b", "topic": "x", "payload": "will", "qos": 1, "retain": True}
+        clear = {"do": "publish", "client": "a", "topic": "x", "retain": True}
+        script = [self.CONNECT, self.SUBSCRIBE, {"do": "connect", "client": "b"}, will, {"do": "disconnect", "client": "b"}, self.SUBSCRIBE, clear]
+        got = self.GOT | {"payload": "will"}
+        output = [*self.done(0, 1, 0), got | {"line": 4}, {"line": 4, "reason": 0}, {"line": 5, "reason": 0},
+                  got | {"line": 6, "retain": True}, {"line": 6, "reason": 1}, self.GOT | {"line": 7, "payload": "", "qos": 0}, {"line": 7, "reason": 0}]
+        for words in ((), ("--wills",)):
+            self.assertEqual(self.run_script(script, output, *words), (0, "", ""))
+        status, out, _ = self.run_script(script, [*output[:3], *output[4:]], "--wills")
+        self.assertEqual((status, out.splitlines()[0]), (1, 'line 5: {"do": "disconnect", "client": "b"}'))
+        self.assertIn('      broker:  qos 1, retain false, payload "will"', out)
+
+    def test_which_are_wills(self):
+        code = """if True:
+            from mqroute_tools.output import Block
+            from mqroute_tools.wills import Wills
+            def lines(*commands, mine=False):
+                copies = ['{"client":"a","line":2,"payload":"will","qos":0,"retain":false,"topic":"x"}'] if mine else []
+                return [(n, c, Block(n, copies if c["do"] == "publish" else [], 0, None)) for n, c in enumerate(commands, 1)]
+            a, gone, other = {"do": "connect", "client": "a"}, {"do": "disconnect", "client": "a"}, {"do": "disconnect", "client": "b"}
+            will = {"do": "publish", "client": "a", "topic": "x", "payload": "will"}
+            found = Wills(lines(a, will, gone))
+            assert (set(found.given), found.published, set(found.due)) == ({1}, {2}, {3}), vars(found)
+            for not_one in (lines(a, will, gone, mine=True), lines(a, will | {"payload": "x"}, gone), lines(a, will, {"do": "stat"}, gone), lines(will, gone),
+                            lines(a, will, other)):
+                assert not vars(Wills(not_one))["due"], not_one
+        """
+        done = subprocess.run([sys.executable, "-c", code], cwd=HERE, capture_output=True, text=True)
+        self.assertEqual((done.returncode, done.stderr), (0, ""))
+
     def test_denied_publishes(self):
         self.start(access="topic read #\n")
         script = [self.CONNECT] + [self.PUBLISH | {"qos": q} for q in (0, 1, 2)]

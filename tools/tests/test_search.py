@@ -17,7 +17,7 @@ from worked import HERE, PROGRAM, wants_program
 sys.path.insert(0, str(HERE))
 import search  # noqa: E402
 from mqroute_tools.ending import Fault  # noqa: E402
-from fake_broker import Fake, expiry_0_is_none, forgets_sessions, keeps_first_options, keeps_what_is_cleared  # noqa: E402
+from fake_broker import Fake, drops_wills, expiry_0_is_none, forgets_sessions, keeps_first_options, keeps_what_is_cleared  # noqa: E402
 from mqroute_tools.kinds import Difference, Kind  # noqa: E402
 from mqroute import Oracle  # noqa: E402
 from mqroute_tools.random_scripts import Maker, Use  # noqa: E402
@@ -77,6 +77,11 @@ class Finds(unittest.TestCase):
         found = self.first(forgets_sessions, 500)
         self.assertLessEqual(len(found.script), 7, found.script)
         self.assertTrue({"disconnect", "session", "publish"} <= found.kind.uses, found.kind)
+
+    def test_wills(self):
+        found = self.first(drops_wills, 500)
+        self.assertEqual(found.kind.what, "will: missing")
+        self.assertTrue({"disconnect", "will"} <= found.kind.uses and len(found.script) <= 6, found.script)
 
     def test_no_bug(self):
         self.assertEqual(searched(Fake(lambda script: script), 60), [])
@@ -214,7 +219,7 @@ class Live(unittest.TestCase):
         self.assertRegex(told, r"search: \d+ kinds of differences are known .*\nsearch: \d+ scripts, \d+ runs in \d+ s; 0 new kinds")
 
     def test_faults(self):
-        for words, said in ((("--port", "1"), "no broker at 127.0.0.1 port 1"), (("--without", "groups,wills"), "'wills' is none of")):
+        for words, said in ((("--port", "1"), "no broker at 127.0.0.1 port 1"), (("--without", "groups,testaments"), "'testaments' is none of")):
             status, _, told = self.run_tool(*words)
             self.assertEqual(status, 2, told)
             self.assertIn(said, told)
