@@ -41,10 +41,13 @@ def with_fewer_lines(script: Script) -> Iterator[Script]:
 
 
 def with_fewer_clients(script: Script) -> Iterator[Script]:
+    """What one client does another does, in a connection that it has or in one that it makes."""
     names = sorted({command["client"] for command in script if "client" in command})
     for at, name in enumerate(names):
         for other in names[:at]:
-            yield [command | {"client": other} if command.get("client") == name else command for command in script]
+            renamed = [command | {"client": other} if command.get("client") == name else command for command in script]
+            yield [now for now, then in zip(renamed, script) if then.get("client") != name or then["do"] not in ("connect", "disconnect")]
+            yield renamed
 
 
 def first_names(script: Script) -> Iterator[Script]:
