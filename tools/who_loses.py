@@ -1,7 +1,7 @@
 #!/usr/bin/env python3
 """Tells who loses (and who gains) what between two outputs of mqroute for one script.
 
-usage: who_loses.py [--by user] [--why] [--depth N] [--json] [--html FILE] SCRIPT BEFORE AFTER
+usage: who_loses.py [--by user] [--why] [--depth N] [--acl-before FILE --acl-after FILE] [--json] [--html FILE] SCRIPT BEFORE AFTER
 Exit status: 0 nothing changes; 1 something does; 2 usage, a file, or outputs that aren't of this script.
 """
 import argparse
@@ -15,6 +15,7 @@ from typing import Any
 from mqroute_tools import ending
 from mqroute_tools import page
 from mqroute_tools.because import Grouped, difference
+from mqroute_tools.deciding import Lists, add_deciding, in_words
 from mqroute_tools.ending import Fault
 from mqroute_tools.output import Block, blocks, by_key, command_of, is_blank, misfit
 from mqroute_tools.rows import Reasons, Row, all_causes, because_of, by_user_table, copies_of, refused_of, row_order
@@ -195,7 +196,10 @@ def refused_table(refusals: list[dict[str, Any]]) -> str:
     for r in refusals:
         names = [user_shown(r["user"]), str(r["clients"])] if "user" in r else [shown(r["client"])]
         rows.append([*names, shown(r["topic"]), str(r["before"]), str(r["after"]), why(r["newly"], r["no_longer"])])
-    return table([*head, "before", "after", "why"], rows)
+    decided = ["decided by"] if any("decided" in r for r in refusals) else []
+    for r, row in zip(refusals, rows if decided else []):
+        row.append(shown(in_words(r["decided"])) if "decided" in r else "")
+    return table([*head, "before", "after", "why", *decided], rows)
 
 
 def findings(losses: Losses) -> dict[str, Any]:
@@ -220,19 +224,26 @@ def arguments() -> argparse.Namespace:
     parser.add_argument("--depth", type=positive, metavar="N", help="gather topics by their first N levels")
     parser.add_argument("--by", choices=["client", "user"], help="gather rows by user name, with causes (client without it; with --html user)")
     parser.add_argument("--why", action="store_true", help="the causes by client, too")
+    parser.add_argument("--acl-before", metavar="FILE", help="with --acl-after: the lines of both lists that decide (by mqroute-acl why), with the causes")
+    parser.add_argument("--acl-after", metavar="FILE", help="the list of the second run")
     parser.add_argument("--json", action="store_true", help="JSON, also where nothing changes")
     parser.add_argument("--html", metavar="FILE", help="write a page with causes and script lines, too")
-    return parser.parse_args()
+    options = parser.parse_args()
+    if (options.acl_before is None) != (options.acl_after is None):
+        parser.error("--acl-before and --acl-after go together")
+    return options
 
 
 def main() -> int:
     options = arguments()
     by_user = options.by == "user" or (options.html is not None and options.by is None)
     losses = Losses(options.depth)
-    if by_user or options.why or options.html is not None:
+    if by_user or options.why or options.html is not None or options.acl_before is not None:
         losses.reasons = Reasons(by_user, losses.gathered)
     compare(losses, options.script, options.before, options.after)
     found = findings(losses)
+    if options.acl_before is not None:
+        add_deciding(found, options.script, Lists(options.acl_before, options.acl_after), losses.reasons.because.story.users)
     if options.html is not None:
         page.write(options.html, found, options.script, options.before, options.after)
     text = json.dumps(found, ensure_ascii=False, indent=1) + "\n" if options.json else report(found)

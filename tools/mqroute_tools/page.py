@@ -2,6 +2,7 @@
 from collections.abc import Iterator
 from typing import Any
 
+from .deciding import line_of
 from .picture import picture
 from .safe import escaped, marked, visible
 from .style import STYLE
@@ -93,7 +94,7 @@ def copies(found: dict[str, Any], texts: dict[int, str]) -> Iterator[str]:
             values = first_cells(row, cause.get("clients")) | {
                 "what": f"<i class='{cause['what']}'>{cause['what']}</i>", "copies": cause["copies"],
                 "because": f"<bdi>{escaped(cause['because'])}</bdi>", "first-line": cause["lines"][0]["line"]}
-            yield f"<details>{cells(kind, values)}{script_lines(cause['lines'], cause['copies'], 'copies', texts)}</details>\n"
+            yield f"<details>{cells(kind, values)}{decided(cause)}{script_lines(cause['lines'], cause['copies'], 'copies', texts)}</details>\n"
     yield "</section>\n"
 
 
@@ -104,8 +105,16 @@ def refused(found: dict[str, Any], texts: dict[int, str]) -> Iterator[str]:
         reasons = [f"{name} {count}" for name, count in sorted(row["newly"].items())]
         reasons += [f"no longer {name} {count}" for name, count in sorted(row["no_longer"].items())]
         values = first_cells(row, row.get("clients")) | {"before": row["before"], "after": row["after"], "why": escaped(", ".join(reasons))}
-        yield f"<details>{cells(kind, values)}{script_lines(row['lines'], row['lines_in_all'], 'lines', texts)}</details>\n"
+        yield f"<details>{cells(kind, values)}{decided(row)}{script_lines(row['lines'], row['lines_in_all'], 'lines', texts)}</details>\n"
     yield "</section>\n"
+
+
+def decided(one: dict[str, Any]) -> str:
+    """The lines of both access lists that decide it, where they were given."""
+    if "decided" not in one:
+        return ""
+    lines = (f"<div>{when}: <code><bdi>{escaped(line_of(one['decided'][when]))}</bdi></code></div>" for when in ("before", "after"))
+    return f"<div class='decided'>{''.join(lines)}</div>"
 
 
 def script_lines(lines: list[dict[str, Any]], count: int, of: str, texts: dict[int, str]) -> str:

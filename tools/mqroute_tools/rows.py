@@ -5,6 +5,7 @@ from typing import Any
 
 from .because import WHAT, Because, Grouped
 from .causes import Cause, Names, Tally, words
+from .deciding import in_words
 from .output import Block
 from .tables import table, user_shown
 
@@ -95,14 +96,18 @@ def all_causes(copies: list[dict[str, Any]]) -> list[dict[str, Any]]:
 
 def because_of(row: dict[str, Any]) -> str:
     """The causes of a row, in one cell."""
-    sums: Counter[str] = Counter()
+    sums: Counter[tuple[str, str]] = Counter()
     for cause in row["causes"]:
-        sums[cause["because"]] += cause["copies"]
-    return ", ".join(f"{because} {count}" for because, count in sums.items())
+        sums[cause["because"], f" ({in_words(cause['decided'])})" if "decided" in cause else ""] += cause["copies"]
+    return ", ".join(f"{because} {count}{decided}" for (because, decided), count in sums.items())
 
 
 def by_user_table(copies: list[dict[str, Any]], shown: Callable[[str], str]) -> str:
     rows = [[user_shown(row["user"]), str(cause["clients"]), shown(row["topic"]), cause["what"], str(cause["copies"]),
              cause["because"], str(cause["lines"][0]["line"])] for row in copies for cause in row["causes"]]
-    return table(["user", "clients", "topic", "what", "copies", "because", "first line"], rows)
+    causes = [cause for row in copies for cause in row["causes"]]
+    decided = ["decided by"] if any("decided" in cause for cause in causes) else []
+    for cause, row in zip(causes, rows if decided else []):
+        row.append(shown(in_words(cause["decided"])) if "decided" in cause else "")
+    return table(["user", "clients", "topic", "what", "copies", "because", "first line", *decided], rows)
 

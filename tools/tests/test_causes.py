@@ -1,10 +1,12 @@
 """The cause of each copy that is lost, gained or changed, on small scripts that the built program answers."""
 import json
 import os
+import re
 import subprocess
 import sys
 import tempfile
 import unittest
+import unittest.mock
 from pathlib import Path
 
 HERE = Path(__file__).parent.parent
@@ -246,6 +248,57 @@ class Sessions(unittest.TestCase):
                 Path(folder, name).write_text("".join(line + "\n" for line in text))
             done = subprocess.run([sys.executable, HERE / "who_loses.py", "--why", "script", "before", "after"], cwd=folder, capture_output=True, text=True)
         self.assertIn("r       x           1      0     1       0        0  connect refused (ClientId) 1\n", done.stdout)
+
+
+class Deciding(Compared):
+    """The lines of both lists, by a program that stands for mqroute-acl."""
+    ASKED = '''#!/usr/bin/env python3
+import json, sys
+why, file, client, topic, flag, *user = sys.argv[1:]
+assert (why, flag) == ("why", "--json"), sys.argv
+lines = [line for line in open(file).read().splitlines() if "deny" in line and line.endswith(" " + topic)]
+for access in ("read", "write"):
+    grant = {"file": file, "line": 1, "text": "pattern readwrite #"}
+    deny = {"file": file, "line": 3, "text": f"{lines[0]}  "} if lines and user and user[0] in ("--user=ops", "--user=meter") else None
+    print(json.dumps({"access": access, "allowed": not deny, "deny": deny, "grant": grant}))
+'''
+
+    def told(self, script: list[dict], after: str, *words: str) -> subprocess.CompletedProcess:
+        with tempfile.NamedTemporaryFile("w", suffix=".py", delete=False) as program:
+            program.write(self.ASKED)
+        self.addCleanup(os.unlink, program.name)
+        os.chmod(program.name, 0o755)
+        with unittest.mock.patch.dict(os.environ, MQROUTE_ACL_PROGRAM=program.name):
+            return self.compared(script, ALL, after, "--acl-before", "before.acl", "--acl-after", "after.acl", *words)
+
+    def test_readers_and_publishers(self):
+        script = [P, R, subscribe("r"), publish("p")]
+        told = "1: pattern readwrite # -> 3: topic deny x"
+        for after, cause in ((NO_READING, "may no longer read 1"), (NO_WRITING, "publish by meter refused (NotAuthorized) 1")):
+            self.assertIn(f"{cause} ({told})", self.told(script, after).stdout)
+            by_user = self.told(script, after, "--by", "user").stdout
+            self.assertRegex(by_user, rf"lost +1 +.* 4  {re.escape(told)}\n")
+            [row] = json.loads(self.told(script, after, "--json").stdout)["copies"]
+            self.assertEqual(row["causes"][0]["decided"]["after"]["deny"]["line"], 3)
+        self.assertRegex(self.told(script, NO_WRITING).stdout, rf"NotAuthorized 1  {re.escape(told)}\n")
+
+    def test_on_the_page(self):
+        with tempfile.TemporaryDirectory() as folder:
+            self.told([P, R, subscribe("r"), publish("p")], NO_READING, "--html", f"{folder}/page")
+            page = Path(folder, "page").read_text("utf-8")
+        self.assertIn("<div>before: <code><bdi>1: pattern readwrite #</bdi></code></div><div>after: <code><bdi>3: topic deny x</bdi></code></div>", page)
+
+    def test_not_under_another_list(self):
+        done = self.told([P, R, {"do": "acl", "text": NO_READING}, subscribe("r"), publish("p")], NO_WRITING, "--why")
+        self.assertNotIn("->", done.stdout)
+        done = self.told([P, R, subscribe("r"), publish("p"), {"do": "acl"}], NO_READING, "--why")
+        self.assertIn("->", done.stdout)
+
+    def test_faults(self):
+        with unittest.mock.patch.dict(os.environ, MQROUTE_ACL_PROGRAM="/nowhere/mqroute-acl"):
+            done = self.compared([P, R, subscribe("r"), publish("p")], ALL, NO_READING, "--acl-before", "before.acl", "--acl-after", "after.acl")
+        self.assertEqual((done.returncode, done.stderr), (2, "who_loses: cannot run /nowhere/mqroute-acl: No such file or directory\n"))
+        self.assertEqual(self.compared([P], ALL, ALL, "--acl-before", "before.acl").returncode, 2)
 
 
 if __name__ == "__main__":
