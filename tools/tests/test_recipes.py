@@ -53,7 +53,7 @@ class Sessions(unittest.TestCase):
 
     @unittest.skipUnless(JQ, "there is no jq")
     def test_recipes(self):
-        self.check("Recipes", 5)
+        self.check("Recipes", 6)
 
 
 if __name__ == "__main__":
