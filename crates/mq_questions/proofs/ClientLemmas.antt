@@ -161,3 +161,16 @@ one_more_done P items i d p here before t all rest = at (bytes_eq t (get_or item
 
 pub all_done : (P : List ℕ → Type 0) (items : List (Bor (List ℕ))) (i : ℕ) → length items ≤ i → ((t : List ℕ) → is_among t items ≡ true → is_among t (drop i items) ≡ false → P t) → (t : List ℕ) → is_among t items ≡ true → P t
 all_done P items i h done t e = done t e (ap (is_among t) (drop_of_length-le items {i = i} h))
+
+-- ---- the client ids that are tried, as they are listed
+pub tried_as_listed : (f : Fresh) (user : Option (List ℕ)) (old new : List Remainder) (c : List ℕ)
+    → (bytes_eq c f.client.now || (bytes_eq c f.dollar_client.now || ((((false || bytes_eq c []) || is_user c user) || is_literal_of c old) || is_literal_of c new))) ≡ is_tried_client f user old new c
+tried_as_listed f user old new c = at (bytes_eq c f.client.now) (bytes_eq c f.dollar_client.now) (bytes_eq c []) (is_user c user) (is_literal_of c old) (is_literal_of c new)
+  where
+    at : (p q r s t v : Bool) → (p || (q || ((((false || r) || s) || t) || v))) ≡ (p || q || r || s || t || v)
+    at true q r s t v = refl
+    at false true r s t v = refl
+    at false false true s t v = refl
+    at false false false true t v = refl
+    at false false false false true v = refl
+    at false false false false false v = refl

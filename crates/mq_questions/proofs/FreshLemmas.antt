@@ -1,6 +1,7 @@
 -- Texts that are made to be named by no row.
 use Rattle.std.proofs.Common.{◌≡◌, ℕ, ◌==◌, Bool, true, false, not, ◌&&◌, ◌||◌, List, [], ◌++◌, length, codes, bytes_eq, refl, ap, sym, ◌∙◌, arith, ◌≤◌, ◌+◌, replicate, zero, suc, length-append, subst, string_bytes}
 use Rattle.std.specs.Prelude.{nat_le}
+use Rattle.std.specs.List.{list_any}
 use Rattle.std.proofs.lemmas.Bool.Decides.{nat_tests}
 use Rattle.std.proofs.lemmas.List.{length-replicate}
 use Rattle.std.proofs.lemmas.List.Folds.{list_any-append}
@@ -8,7 +9,7 @@ use Rattle.mq_topic.specs.Texts.{contains_byte, is_plain}
 use Rattle.mq_acl.specs.Access.{begins_with_dollar}
 use Rattle.mq_questions.specs.Names.{is_name_level, is_choice}
 use Rattle.mq_questions.specs.Fresh.{is_base, IsMade, AreFresh}
-use Rattle.mq_questions.specs.Made.{AreMade, IsSeen, is_no_fresh}
+use Rattle.mq_questions.specs.Made.{AreMade, IsSeen, is_no_fresh, made_texts}
 use Rattle.mq_questions.specs.Literals.{is_named}
 use Rattle.mq_questions.specs.declared.ask.fresh.Fresh.{Fresh}
 use Rattle.mq_questions.specs.declared.ask.literals.Literals.{Literals}
@@ -106,3 +107,21 @@ named_no_fresh t f literals m s l h =
       apart_from literals l (string_bytes t.user) f.user.now h s.user m.user.unnamed,
       apart_from literals l (string_bytes t.dollar_user) f.dollar_user.now h s.dollar_user m.dollar_user.unnamed,
     ) refl
+
+-- none of them is named
+pub made_unnamed : (t : FreshTexts) (literals : Literals) → AreMade t literals → (text : List ℕ) → list_any (bytes_eq text) (made_texts t) ≡ true → is_named text literals ≡ false
+made_unnamed t literals m text h =
+    one (bytes_eq text (string_bytes t.plain)) (bytes_eq text (string_bytes t.dollar)) (bytes_eq text (string_bytes t.client)) (bytes_eq text (string_bytes t.dollar_client)) (bytes_eq text (string_bytes t.user)) (bytes_eq text (string_bytes t.dollar_user))
+    (same (string_bytes t.plain) m.plain.unnamed) (same (string_bytes t.dollar) m.dollar.unnamed) (same (string_bytes t.client) m.client.unnamed) (same (string_bytes t.dollar_client) m.dollar_client.unnamed) (same (string_bytes t.user) m.user.unnamed) (same (string_bytes t.dollar_user) m.dollar_user.unnamed) h
+  where
+    same : (other : List ℕ) → is_named other literals ≡ false → bytes_eq text other ≡ true → is_named text literals ≡ false
+    same other n e = ap (λ x. is_named x literals) (text_is text other e) ∙ n
+
+    one : {A : Type 0} (p q r s t u : Bool) → (p ≡ true → A) → (q ≡ true → A) → (r ≡ true → A) → (s ≡ true → A) → (t ≡ true → A) → (u ≡ true → A) → (p || (q || (r || (s || (t || (u || false)))))) ≡ true → A
+    one true q r s t u a b c d e f h = a refl
+    one false true r s t u a b c d e f h = b refl
+    one false false true s t u a b c d e f h = c refl
+    one false false false true t u a b c d e f h = d refl
+    one false false false false true u a b c d e f h = e refl
+    one false false false false false true a b c d e f h = f refl
+    one false false false false false false a b c d e f h = absurd (let k : false ≡ true = h in cc)

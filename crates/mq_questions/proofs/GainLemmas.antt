@@ -23,7 +23,7 @@ use Rattle.mq_questions.proofs.BranchLemmas.{text_is, and_left}
 use Rattle.mq_questions.proofs.NameLemmas.{name_is, name_suits, suits_dollar, some_name, all_by}
 
 -- ---- an id that can't be a level
-same_user : (user : Option (List ℕ)) (l : List ℕ) → can_be_level l ≡ true → is_user l user ≡ is_user l (level_of user)
+pub same_user : (user : Option (List ℕ)) (l : List ℕ) → can_be_level l ≡ true → is_user l user ≡ is_user l (level_of user)
 same_user None l h = refl
 same_user (Some u) l h = at (can_be_level u) refl
   where
@@ -39,7 +39,7 @@ same_passes : (pattern : Bool) (client : List ℕ) (user : Option (List ℕ)) (w
 same_passes pattern client user w l h =
     ap (λ b. cond (pattern && bytes_eq w (codes "%c")) (bytes_eq l client) (cond (pattern && bytes_eq w (codes "%u")) b (level_matches w l))) (same_user user l h)
 
-any_fits : (ws : List (List ℕ)) → fits (λ w. true) ws ≡ true
+pub any_fits : (ws : List (List ℕ)) → fits (λ w. true) ws ≡ true
 any_fits [] = refl
 any_fits (w ∷ ws) = rw (any_fits ws) (or_true (bytes_eq w (codes "+") || (bytes_eq w (codes "#") && (length ws == 0))))
   where
@@ -47,7 +47,7 @@ any_fits (w ∷ ws) = rw (any_fits ws) (or_true (bytes_eq w (codes "+") || (byte
     or_true true = refl
     or_true false = refl
 
-map_same : (ls : List (List ℕ)) → map (λ l. l) ls ≡ ls
+pub map_same : (ls : List (List ℕ)) → map (λ l. l) ls ≡ ls
 map_same [] = refl
 map_same (l ∷ ls) = ap (λ k. l ∷ k) (map_same ls)
 
@@ -63,7 +63,7 @@ level_gains client user ls old new h =
     gains_by (marks_of client user) (marks_of client (level_of user)) ls ls old new old new (λ deny. level_hit deny client user ls old h) (λ deny. level_hit deny client user ls new h)
 
 -- ---- rows and names
-roots_allow : (rows : List AclRow) (roots : List Remainder) (user other : Option (List ℕ)) (direction : Direction) (dollar : Bool) → AreRoots rows user direction dollar roots → alike other user rows ≡ true
+pub roots_allow : (rows : List AclRow) (roots : List Remainder) (user other : Option (List ℕ)) (direction : Direction) (dollar : Bool) → AreRoots rows user direction dollar roots → alike other user rows ≡ true
     → (client name : List ℕ) → begins_with_dollar name ≡ dollar → allowed (Some rows) client other name direction ≡ allow (marks_of client other) (levels name) roots
 roots_allow rows roots user other direction dollar a like client name d =
     allowed_by_list rows client other name direction ∙ sym (λ i. not (a.hits client name other true like d i) && a.hits client name other false like d i)
@@ -92,7 +92,7 @@ nothing_gained_by old new olds news user other direction dollar start a b l m st
     gained_is old new olds news user other direction dollar a b l m client name d
     ∙ h client (levels name) (ap (λ s. suits s (levels name)) st ∙ name_suits name dollar is.some d) is.few
 
-level_can : (l : List ℕ) → is_name_level l ≡ true → can_be_level l ≡ true
+pub level_can : (l : List ℕ) → is_name_level l ≡ true → can_be_level l ≡ true
 level_can l h = and_left (can_be_level l) _ h
 
 pub name_gained : (old new : List AclRow) (olds news : List Remainder) (user : Option (List ℕ)) (direction : Direction) (dollar : Bool) (start : Start) → AreRoots old user direction dollar olds → AreRoots new user direction dollar news

@@ -10,8 +10,15 @@ pub mod ClientLemmas
 pub mod RootLemmas
 pub mod NameLemmas
 pub mod GainLemmas
+pub mod GainListLemmas
+pub mod MarkLemmas
 pub mod UserLemmas
+pub mod OtherLemmas
 pub mod FreshLemmas
 pub mod WhyLemmas
 pub mod ListLemmas
 pub mod ReadyLemmas
+pub mod DifferLemmas
+pub mod NeedlessLemmas
+pub mod ReachLemmas
+pub mod ReachReadyLemmas

@@ -2,14 +2,14 @@
 use Rattle.std.proofs.Common.{◌≡◌, ℕ, Bool, true, false, ◌||◌, List, length, refl, ap, sym, ◌∙◌, ◌≤◌}
 use Rattle.std.specs.List.{list_all}
 use Rattle.mq_acl.specs.Rows.{AclRow}
-use Rattle.mq_questions.specs.Comparison.{IsReady, old_rows, new_rows, lists_user}
+use Rattle.mq_questions.specs.Ready.{IsReady}
 use Rattle.mq_questions.specs.Literals.{is_named}
 use Rattle.mq_questions.specs.Made.{AreMade, IsSeen, is_no_fresh}
 use Rattle.mq_questions.specs.Users.{is_user_of, rows_name, usable}
 use Rattle.mq_questions.specs.declared.ask.fresh.Fresh.{Fresh}
 use Rattle.mq_questions.specs.declared.ask.literals.Literals.{Literals}
-use Rattle.mq_questions.specs.declared.comparison.Comparison.{Comparison}
-use Rattle.mq_questions.proofs.FreshLemmas.{seen_fresh, named_no_fresh}
+use Rattle.mq_questions.specs.declared.ask.texts.FreshTexts.{FreshTexts}
+use Rattle.mq_questions.proofs.FreshLemmas.{seen_fresh, named_no_fresh, made_unnamed}
 use Rattle.mq_questions.proofs.ListLemmas.{names_short, user_is_named, rows_literal, user_fits}
 use Rattle.mq_questions.proofs.LiteralLemmas.{or_cases}
 use Rattle.mq_questions.proofs.WalkLemmas.{false_is}
@@ -26,22 +26,27 @@ pub both_short : (old new : List AclRow) (literals : Literals) → ((l : List �
     → (l : List ℕ) → is_named l literals ≡ true → length l ≤ 300
 both_short old new literals e u v l h = or_cases (rows_name l old) (rows_name l new) (sym (e l) ∙ h) (names_short old u l) (names_short new v l)
 
-pub ready : (c : Comparison) (literals : Literals) → ((l : List ℕ) → is_named l literals ≡ (rows_name l (old_rows c) || rows_name l (new_rows c)))
-    → ((l : List ℕ) → is_named l c.named ≡ lists_user c l) → list_all usable (old_rows c) ≡ true → list_all usable (new_rows c) ≡ true → AreMade c.texts literals → IsReady c
-ready c literals e n u v m = record {
-  fresh = λ f s. seen_fresh c.texts f literals m s;
-  old_fits = λ f s. rows_literal f (old_rows c) u (λ l h. no_fresh f s l (or_first (rows_name l (old_rows c)) (rows_name l (new_rows c)) h));
-  new_fits = λ f s. rows_literal f (new_rows c) v (λ l h. no_fresh f s l (or_second (rows_name l (old_rows c)) (rows_name l (new_rows c)) h));
-  user = λ f s. false_is (is_named f.user.now c.named) (is_named f.user.now literals) (users_named f.user.now) (ap (λ t. is_named t literals) s.user ∙ m.user.unnamed);
-  dollar_user = λ f s. false_is (is_named f.dollar_user.now c.named) (is_named f.dollar_user.now literals) (users_named f.dollar_user.now) (ap (λ t. is_named t literals) s.dollar_user ∙ m.dollar_user.unnamed);
+pub ready : (old new : List AclRow) (texts : FreshTexts) (named literals : Literals) → ((l : List ℕ) → is_named l literals ≡ (rows_name l old || rows_name l new))
+    → ((l : List ℕ) → is_named l named ≡ (is_user_of l old || is_user_of l new)) → list_all usable old ≡ true → list_all usable new ≡ true → AreMade texts literals → IsReady old new texts named
+ready old new texts named literals e n u v m = record {
+  fresh = λ f s. seen_fresh texts f literals m s;
+  old_fits = λ f s. rows_literal f old u (λ l h. no_fresh f s l (or_first (rows_name l old) (rows_name l new) h));
+  new_fits = λ f s. rows_literal f new v (λ l h. no_fresh f s l (or_second (rows_name l old) (rows_name l new) h));
+  user = λ f s. false_is (is_named f.user.now named) (is_named f.user.now literals) (users_named f.user.now) (ap (λ t. is_named t literals) s.user ∙ m.user.unnamed);
+  dollar_user = λ f s. false_is (is_named f.dollar_user.now named) (is_named f.dollar_user.now literals) (users_named f.dollar_user.now) (ap (λ t. is_named t literals) s.dollar_user ∙ m.dollar_user.unnamed);
   named = n;
-  level = λ f s user h. user_fits f user (both_short (old_rows c) (new_rows c) literals e u v user (users_named user h)) (named_no_fresh c.texts f literals m s user (users_named user h));
+  level = λ f s user h. user_fits f user (both_short old new literals e u v user (users_named user h)) (named_no_fresh texts f literals m s user (users_named user h));
+  unnamed = λ text h. sym (e text) ∙ made_unnamed texts literals m text h;
 }
   where
-    no_fresh : (f : Fresh) → IsSeen c.texts f → (l : List ℕ) → (rows_name l (old_rows c) || rows_name l (new_rows c)) ≡ true → is_no_fresh f l ≡ true
-    no_fresh f s l h = named_no_fresh c.texts f literals m s l (e l ∙ h)
+    no_fresh : (f : Fresh) → IsSeen texts f → (l : List ℕ) → (rows_name l old || rows_name l new) ≡ true → is_no_fresh f l ≡ true
+    no_fresh f s l h = named_no_fresh texts f literals m s l (e l ∙ h)
 
-    users_named : (l : List ℕ) → is_named l c.named ≡ true → is_named l literals ≡ true
-    users_named l h = e l ∙ or_cases (is_user_of l (old_rows c)) (is_user_of l (new_rows c)) (sym (n l) ∙ h)
-        (λ k. or_first (rows_name l (old_rows c)) (rows_name l (new_rows c)) (user_is_named (old_rows c) l k))
-        (λ k. or_second (rows_name l (old_rows c)) (rows_name l (new_rows c)) (user_is_named (new_rows c) l k))
+    users_named : (l : List ℕ) → is_named l named ≡ true → is_named l literals ≡ true
+    users_named l h = e l ∙ or_cases (is_user_of l old) (is_user_of l new) (sym (n l) ∙ h)
+        (λ k. or_first (rows_name l old) (rows_name l new) (user_is_named old l k))
+        (λ k. or_second (rows_name l old) (rows_name l new) (user_is_named new l k))
+
+pub twice : (b : Bool) → (false || b) ≡ (b || b)
+twice true = refl
+twice false = refl

@@ -104,7 +104,7 @@ swap_passes pattern marks a b w l h = plus (bytes_eq w (codes "+")) refl
         ap (λ k. passes pattern marks k l) is ∙ plus_passes pattern marks l ∙ sym (plus_passes pattern (swap_marks a b marks) (swap a b l)) ∙ sym (ap (λ k. passes pattern (swap_marks a b marks) k (swap a b l)) is)
     plus false e = named (pattern && bytes_eq w (codes "%c")) (pattern && bytes_eq w (codes "%u")) (ap (λ k. k || is_apart a b w) (sym e) ∙ h)
 
-all_pass : (ls : List (List ℕ)) → list_all (λ l. true) ls ≡ true
+pub all_pass : (ls : List (List ℕ)) → list_all (λ l. true) ls ≡ true
 all_pass [] = refl
 all_pass (l ∷ ls) = all_pass ls
 

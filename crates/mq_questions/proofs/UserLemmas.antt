@@ -103,3 +103,15 @@ no_user_gains f P old new start a p q o n h u pu c = at (is_tried_user f old new
         stand_in f old new start u f.dollar_user.now c o n facts.0 facts.1.0 facts.1.1 (k ∙ sym a.dollar_user_first) a.dollar_user_some
         (λ w g. and_right (not (bytes_eq w f.user.now)) (not (bytes_eq w f.dollar_user.now)) g)
         (h f.dollar_user.now (second (bytes_eq f.dollar_user.now f.user.now) (bytes_eq f.dollar_user.now f.dollar_user.now) (bytes_eq f.dollar_user.now []) (is_literal_of f.dollar_user.now old) (is_literal_of f.dollar_user.now new) (same_text f.dollar_user.now)) q)
+
+-- ---- the user names that are tried, as they are listed
+pub tried_as_listed : (f : Fresh) (old new : List Remainder) (u : List ℕ)
+    → (bytes_eq u f.user.now || (bytes_eq u f.dollar_user.now || (((false || bytes_eq u []) || is_literal_of u old) || is_literal_of u new))) ≡ is_tried_user f old new u
+tried_as_listed f old new u = at (bytes_eq u f.user.now) (bytes_eq u f.dollar_user.now) (bytes_eq u []) (is_literal_of u old) (is_literal_of u new)
+  where
+    at : (p q r t v : Bool) → (p || (q || (((false || r) || t) || v))) ≡ (p || q || r || t || v)
+    at true q r t v = refl
+    at false true r t v = refl
+    at false false true t v = refl
+    at false false false true v = refl
+    at false false false false v = refl

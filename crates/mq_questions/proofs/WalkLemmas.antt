@@ -1,19 +1,22 @@
 -- A walk over the levels of all names.
-use Rattle.std.proofs.Common.{◌≡◌, ℕ, ◌==◌, Bool, true, false, cond, not, ◌&&◌, ◌||◌, List, [], ◌∷◌, ◌++◌, length, Option, Some, None, refl, ap, sym, ◌∙◌, bytes_eq, arith, subst, ◌<◌, ◌≤◌, ◌+◌, ◌-◌, add-one, drop, get_or, map, reverse, Bor, Vec, Global}
+use Rattle.std.proofs.Common.{◌≡◌, ℕ, ◌==◌, Bool, true, false, cond, not, ◌&&◌, ◌||◌, List, [], ◌∷◌, ◌++◌, length, Option, Some, None, refl, ap, sym, ◌∙◌, bytes_eq, arith, subst, ◌<◌, ◌≤◌, ◌+◌, ◌-◌, add-one, drop, get_or, map, Bor, Vec, Global, if◌then◌else◌}
 use Rattle.std.proofs.lemmas.Bool.Decides.{nat_tests}
 use Rattle.std.specs.Prelude.{is_some}
 use Rattle.std.specs.Option.{option_map_or}
 use Rattle.std.proofs.Math.Seq.{drop-cons}
 use Rattle.std.proofs.Math.ListN.{drop_of_length-le}
-use Rattle.std.proofs.lemmas.List.{map_push, reverse-append}
+use Rattle.std.specs.List.{All}
+use Rattle.std.proofs.lemmas.List.Elements.{All-same, All-append, All-map, All-weaker, All-cons, All-nil}
 use Rattle.std.proofs.lemmas.Slice.Eq.{bytes_eq-Decides}
 use Rattle.mq_acl.specs.Access.{begins_with_dollar}
-use Rattle.mq_questions.specs.Remainders.{MarkLevels, no_marks, hit, gains, remainders_fit, remainder_fits, path_levels, GainsNothing, IsGain}
+use Rattle.mq_questions.specs.Remainders.{MarkLevels, no_marks, hit, gains, remainders_fit, remainder_fits, GainsNothing, IsGain}
 use Rattle.mq_questions.specs.Branches.{at, has, IsBranched, BranchesFit}
 use Rattle.mq_questions.specs.Names.{is_among, fits_start, behind, ends, suits, is_name_level, all_choices, other_at, are_others, is_choice}
 use Rattle.mq_questions.specs.declared.walk.remainder.Remainder.{Remainder}
 use Rattle.mq_questions.specs.declared.walk.branches.Branches.{Branches}
+use Rattle.mq_questions.specs.Paths.{all_levels}
 use Rattle.mq_questions.specs.declared.walk.others.Others.{Others}
+use Rattle.mq_questions.specs.declared.walk.path.Path.{Path}
 use Rattle.mq_questions.specs.declared.walk.start.Start.{Start}
 use Rattle.mq_questions.specs.declared.walk.start.Start.TheVariants.{Plain, Dollar, Slash, Inside}
 use Rattle.mq_questions.proofs.BranchLemmas.{and_left, and_right, all_at, hit-append, list_all-append, text_is}
@@ -32,25 +35,37 @@ behind_hits marks rs b level left h e deny ls = h.hits deny level ls ∙ sym (ap
 pub behind_fits : (p : List ℕ → Bool) (b : Branches) (level : List ℕ) (left : List Remainder) → BranchesFit p b → left ≡ at level b ++ b.any.items → remainders_fit p left ≡ true
 behind_fits p b level left h e = ap (remainders_fit p) e ∙ list_all-append (remainder_fits p) (at level b) b.any.items (h.behind level) h.any
 
-pub path_more : (path next : List (Bor (List ℕ))) (level : Bor (List ℕ)) → next ≡ path ++ level ∷ [] → path_levels next ≡ level.now ∷ path_levels path
-path_more path next level e =
-    ap path_levels e ∙ ap reverse (map_push (λ (l : Bor (List ℕ)). l.now) path level) ∙ reverse-append (map (λ l. l.now) path) (level.now ∷ [])
-
 pub suits_inside : (ls : List (List ℕ)) → suits Inside ls ≡ true
 suits_inside [] = refl
 suits_inside (l ∷ ls) = suits_inside ls
 
 -- a name that is gained behind a level is gained
-pub gain_longer : (marks : MarkLevels) (start : Start) (n k : ℕ) (old new olds news : List Remainder) (level : Bor (List ℕ)) (path next : List (Bor (List ℕ)))
-    → k + 1 ≤ n → fits_start start level.now ≡ true → is_name_level level.now ≡ true
-    → ((deny : Bool) (ls : List (List ℕ)) → hit deny marks (level.now ∷ ls) old ≡ hit deny marks ls olds) → ((deny : Bool) (ls : List (List ℕ)) → hit deny marks (level.now ∷ ls) new ≡ hit deny marks ls news)
-    → next ≡ path ++ level ∷ [] → IsGain (behind start level.now) k marks olds news (path_levels path) → IsGain start n marks old new (path_levels next)
-gain_longer marks start n k old new olds news level path next room fit valid f g e h = subst (IsGain start n marks old new) (sym (path_more path next level e)) (record {
+gain_longer : (marks : MarkLevels) (start : Start) (n k : ℕ) (old new olds news : List Remainder) (level : List ℕ) (ls : List (List ℕ))
+    → k + 1 ≤ n → fits_start start level ≡ true → is_name_level level ≡ true
+    → ((deny : Bool) (ls : List (List ℕ)) → hit deny marks (level ∷ ls) old ≡ hit deny marks ls olds) → ((deny : Bool) (ls : List (List ℕ)) → hit deny marks (level ∷ ls) new ≡ hit deny marks ls news)
+    → IsGain (behind start level) k marks olds news ls → IsGain start n marks old new (level ∷ ls)
+gain_longer marks start n k old new olds news level ls room fit valid f g h = record {
   suitable = rw (fit, h.suitable) refl;
   few = (let s = h.few in omega arith);
-  gained = gains_by marks marks (level.now ∷ path_levels path) (path_levels path) old new olds news (λ deny. f deny (path_levels path)) (λ deny. g deny (path_levels path)) ∙ h.gained;
+  gained = gains_by marks marks (level ∷ ls) ls old new olds news (λ deny. f deny ls) (λ deny. g deny ls) ∙ h.gained;
   valid = rw (valid, h.valid) refl;
-})
+}
+
+pub gains_longer : (marks : MarkLevels) (start : Start) (n k : ℕ) (old new olds news : List Remainder) (level : List ℕ) (all more next : List (List (List ℕ)))
+    → k + 1 ≤ n → fits_start start level ≡ true → is_name_level level ≡ true
+    → ((deny : Bool) (ls : List (List ℕ)) → hit deny marks (level ∷ ls) old ≡ hit deny marks ls olds) → ((deny : Bool) (ls : List (List ℕ)) → hit deny marks (level ∷ ls) new ≡ hit deny marks ls news)
+    → next ≡ all ++ map (λ ls. level ∷ ls) more → All (IsGain start n marks old new) all → All (IsGain (behind start level) k marks olds news) more → All (IsGain start n marks old new) next
+gains_longer marks start n k old new olds news level all more next room fit valid f g e a m =
+    All-same (IsGain start n marks old new) next (all ++ map (λ ls. level ∷ ls) more) e
+    (All-append (IsGain start n marks old new) all (map (λ ls. level ∷ ls) more) a
+    (All-map (IsGain start n marks old new) (λ ls. level ∷ ls) more
+    (All-weaker (IsGain (behind start level) k marks olds news) (λ ls. IsGain start n marks old new (level ∷ ls)) (λ ls h. gain_longer marks start n k old new olds news level ls room fit valid f g h) more m)))
+
+-- lists that are joined to none are none
+pub no_parts : {A B : Type 0} (f : A → B) (old more next : List A) (g : B → B) → map f next ≡ map f old ++ map g (map f more) → next ≡ [] → (old ≡ []) × (more ≡ [])
+no_parts f [] [] next g e h = (refl, refl)
+no_parts f [] (y ∷ ys) next g e h = absurd (let k = sym (ap (map f) h) ∙ e in cc)
+no_parts f (x ∷ xs) ys next g e h = absurd (let k = sym (ap (map f) h) ∙ e in cc)
 
 -- ---- the levels one by one
 items_at : (items : List (Bor (List ℕ))) (i : ℕ) (d : Bor (List ℕ)) → i < length items → drop i items ≡ get_or items i d ∷ drop (i + 1) items
@@ -60,6 +75,9 @@ items_at items i d p = rw add-one (drop-cons items i d p)
 abbrev pub Tried : Start → ℕ → MarkLevels → List Remainder → List Remainder → List (Bor (List ℕ)) → ℕ → Type 0
 Tried start n marks old new items i =
     (t : List ℕ) (ls : List (List ℕ)) → is_among t items ≡ true → is_among t (drop i items) ≡ false → suits start (t ∷ ls) ≡ true → length ls ≤ n → gains marks (t ∷ ls) old new ≡ false
+
+pub tried_none : (marks : MarkLevels) (start : Start) (n : ℕ) (old new : List Remainder) (items : List (Bor (List ℕ))) → Tried start n marks old new items 0
+tried_none marks start n old new items t ls all rest fit h = absurd (let e : true ≡ false = sym all ∙ rest in cc)
 
 pub tried_more : (marks : MarkLevels) (start : Start) (n : ℕ) (old new olds news : List Remainder) (items : List (Bor (List ℕ))) (i : ℕ) (d : Bor (List ℕ)) → i < length items
     → ((deny : Bool) (ls : List (List ℕ)) → hit deny marks ((get_or items i d).now ∷ ls) old ≡ hit deny marks ls olds) → ((deny : Bool) (ls : List (List ℕ)) → hit deny marks ((get_or items i d).now ∷ ls) new ≡ hit deny marks ls news)
@@ -180,13 +198,23 @@ tried_all marks start n others old new olds news items i o p end bo bn fo fn amo
         ∙ done other ls among (no_more other items i p) (suits_other start other ls is_other.fit is_other.some) (omega arith)
 
 -- ---- where the walk ends
-pub gain_here : (marks : MarkLevels) (start : Start) (n : ℕ) (old new : List Remainder) (path : List (Bor (List ℕ))) → path ≡ [] → (ends start && gains no_marks [] old new) ≡ true → IsGain start n marks old new (path_levels path)
-gain_here marks start n old new path e h = subst (IsGain start n marks old new) (sym (ap path_levels e)) (record {
+-- a name that ends here, where it is gained
+gain_here : (marks : MarkLevels) (start : Start) (n : ℕ) (old new : List Remainder) (b : Bool) → (ends start && gains no_marks [] old new) ≡ b → All (IsGain start n marks old new) (if b then [] ∷ [] else [])
+gain_here marks start n old new true h = All-cons (IsGain start n marks old new) [] [] (record {
   suitable = and_left (ends start) (gains no_marks [] old new) h;
   few = omega arith;
   gained = gains_end marks old new ∙ and_right (ends start) (gains no_marks [] old new) h;
   valid = refl;
-})
+}) (All-nil (IsGain start n marks old new))
+gain_here marks start n old new false h = All-nil (IsGain start n marks old new)
+
+pub each_here : (marks : MarkLevels) (start : Start) (n : ℕ) (old new : List Remainder) (paths : List Path) → all_levels paths ≡ (if ends start && gains no_marks [] old new then [] ∷ [] else [])
+    → All (IsGain start n marks old new) (all_levels paths)
+each_here marks start n old new paths e = subst (All (IsGain start n marks old new)) (sym e) (gain_here marks start n old new (ends start && gains no_marks [] old new) refl)
+
+pub no_gain_here : {A : Type 0} (f : A → List (List ℕ)) (paths : List A) (b : Bool) → map f paths ≡ (if b then [] ∷ [] else []) → paths ≡ [] → b ≡ false
+no_gain_here f paths true e h = absurd (let k = sym (ap (map f) h) ∙ e in cc)
+no_gain_here f paths false e h = refl
 
 pub nothing_here : (marks : MarkLevels) (start : Start) (n : ℕ) (old new : List Remainder) → n ≡ 0 → (ends start && gains no_marks [] old new) ≡ false → GainsNothing start n marks old new
 nothing_here marks start n old new z end [] s h = gains_end marks old new ∙ sym (ap (λ b. b && gains no_marks [] old new) s) ∙ end
@@ -205,3 +233,9 @@ pub choice_at : (start : Start) (p : List ℕ → Bool) (items : List (Bor (List
 choice_at start p items i d h e =
     let both = all_at (λ (level : Bor (List ℕ)). fits_start start level.now && p level.now) items i d h e in
     (and_left (fits_start start (get_or items i d).now) (p (get_or items i d).now) both, and_right (fits_start start (get_or items i d).now) (p (get_or items i d).now) both)
+
+-- ---- the walk so far
+pub record IsWalked (start : Start) (n : ℕ) (marks : MarkLevels) (old new : List Remainder) (items : List (Bor (List ℕ))) (i : ℕ) (paths : List Path) : Type 0 where
+  pub here : paths ≡ [] → (ends start && gains no_marks [] old new) ≡ false
+  pub tried : paths ≡ [] → Tried start (n - 1) marks old new items i
+  pub each : All (IsGain start n marks old new) (all_levels paths)

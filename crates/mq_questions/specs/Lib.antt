@@ -1,9 +1,14 @@
 pub mod Remainders
+pub mod Paths
 pub mod Branches
 pub mod Names
 pub mod Literals
 pub mod Fresh
+pub mod Gains
 pub mod Roots
 pub mod Made
 pub mod Users
+pub mod Differ
+pub mod Reach
+pub mod Ready
 pub mod Comparison

@@ -20,3 +20,7 @@ is_literal_in level ls = list_any (λ w. bytes_eq level w && not (is_wildcard w)
 -- one of the levels that are left, and no wildcard
 abbrev pub is_literal_of : List ℕ → List Remainder → Bool
 is_literal_of level rs = list_any (λ r. is_literal_in level (levels_left r.rest)) rs
+
+-- some `pattern` row has the mark as a level
+abbrev pub has_mark : List ℕ → List Remainder → Bool
+has_mark mark rs = list_any (λ r. r.pattern && list_any (λ w. bytes_eq w mark) (levels_left r.rest)) rs

@@ -1,18 +1,25 @@
-ghost use Rattle.std.specs.Prelude.{◌≡◌, ◌||◌, ℕ, Bool, List, IfOk, IfNone, IfSome, IsTrue, true, false, string_bytes, Some, None};
+ghost use Rattle.std.specs.Prelude.{◌≡◌, ◌≤◌, ◌||◌, ℕ, List, [], IfOk, IsTrue, true, false, length, string_bytes, Some, None};
+ghost use Rattle.std.specs.List.{All};
 ghost use Rattle.mq_topic.specs.Texts.{is_name};
-ghost use Rattle.mq_questions.specs.Comparison.{IsReady, changed, lists_user, rows_with, rows_without};
+ghost use Rattle.mq_acl.specs.Views.{row_views};
+ghost use Rattle.mq_questions.specs.Comparison.{changed, is_made_up, lists_user, rows_with, rows_without};
 ghost use Rattle.mq_questions.specs.Names.{is_among};
 ghost use Rattle.mq_questions.specs.Roots.{all_rows};
+ghost use Rattle.mq_questions.specs.Users.{rows_name};
 
-use crate::ask::gain::{Witness, any_gain};
+use crate::ask::gain::{Witness, gains};
 use crate::ask::lists::long_line;
 use crate::ask::literals::Literals;
-use crate::ask::others::{OtherWitness, any_other};
+use crate::ask::others::{OtherWitness, all_others};
 use crate::ask::rows::Rows;
 use crate::ask::texts::FreshTexts;
 use crate::way::Way;
 use mq_acl::{Direction, Row};
 use std::alloc::{AllocError, Global};
+use std::marker::Model;
+
+/// How many witnesses an answer has at most. Where it has as many there may be more.
+pub const MAX_WITNESSES: usize = 1_000;
 
 /// Why two lists can't be compared.
 #[derive(Clone, Copy, Debug, PartialEq, Eq)]
@@ -33,13 +40,31 @@ impl From<AllocError> for ComparisonFault {
 
 /// Two lists that are compared for every client id, user name or none, and topic name: what the one allows and the other
 /// doesn't. Each answer is for clients without a user name, for those of a user name that a list names, or for those of
-/// all others.
+/// all others. An answer without a witness says that there is no difference; else it has all that are found, but for
+/// those that are the same up to the client id or the user name, and at most `MAX_WITNESSES`.
 #[derive(Drop)]
 pub struct Comparison<'a> {
     old: &'a [Row],
     new: &'a [Row],
     texts: FreshTexts,
     named: Literals<'a>,
+}
+
+impl<'a> Model for Comparison<'a> {
+    ghost use Rattle.mq_acl.specs.Views.{row_views};
+    ghost use Rattle.mq_questions.specs.Comparison.{Compared};
+    ghost use Rattle.mq_questions.specs.Made.{made_texts};
+    ghost use Rattle.mq_questions.specs.Ready.{IsReady};
+
+    ghost Value = { Compared };
+
+    ghost view = { λ c. record {
+      old = row_views c.old.now;
+      new = row_views c.new.now;
+      made_up = made_texts c.texts;
+    } };
+
+    ghost invariant = { λ c. IsReady (row_views c.old.now) (row_views c.new.now) c.texts c.named };
 }
 
 impl<'a> Comparison<'a> {
@@ -50,9 +75,8 @@ impl<'a> Comparison<'a> {
         old: &'a [Row],
         new: &'a [Row],
     ) -> Result<Comparison<'a>, ComparisonFault>
-        ensures ready { IfOk result (λ c. IsReady c) }
-        ensures old { IfOk result (λ c. c.old.now ≡ old.entry.now) }
-        ensures new { IfOk result (λ c. c.new.now ≡ new.entry.now) }
+        ensures old { IfOk result (λ c. c.old ≡ row_views old.entry.now) }
+        ensures new { IfOk result (λ c. c.new ≡ row_views new.entry.now) }
     {
         if let Some(line) = long_line(old) {
             return Err(ComparisonFault::OldLine(line));
@@ -77,10 +101,19 @@ impl<'a> Comparison<'a> {
 
     /// The user names that either list names.
     pub fn users(&self, alloc: Global) -> Result<Vec<&'a str>, AllocError>
-        requires { IsReady self.now }
-        ensures { IfOk result (λ all. (user : List ℕ) → is_among user all.items ≡ lists_user self.now user) }
+        ensures { IfOk result (λ all. (user : List ℕ) → is_among user all.items
+            ≡ lists_user self.now user) }
     {
         self.named.list(alloc)
+    }
+
+    /// Whether a witness has this client id, user name or level of its topic for any that no row of either list names.
+    pub fn is_made_up(&self, text: &str) -> bool
+        ensures made_up { result ≡ is_made_up text.now self.now }
+        ensures unnamed { result ≡ true
+            → (rows_name text.now self.now.old || rows_name text.now self.now.new) ≡ false }
+    {
+        self.texts.has(text)
     }
 
     fn without(&self, way: Way) -> Rows<'_>
@@ -107,64 +140,76 @@ impl<'a> Comparison<'a> {
         }
     }
 
-    /// A client without a user name, and a topic, that is gained or lost; or none is, of all client ids and topic names.
+    /// Clients without a user name, and topics, that are gained or lost; none where nothing is, of all client ids and
+    /// topic names.
     pub fn anonymous(
         &self,
         alloc: Global,
         direction: Direction,
         way: Way,
-    ) -> Result<Option<Witness>, AllocError>
-        requires { IsReady self.now }
-        ensures none { IfOk result (λ found. IfNone found ((client name : List ℕ) → IsTrue (is_name name)
-            → changed way self.now client None name direction ≡ false)) }
-        ensures some { IfOk result (λ found. IfSome found (λ witness.
-            changed way self.now (string_bytes witness.client) None witness.name direction ≡ true)) }
+    ) -> Result<Vec<Witness>, AllocError>
+        ensures none { IfOk result (λ found. found.items ≡ [] → (client name : List ℕ)
+            → IsTrue (is_name name)
+            → changed way self.now client None name direction ≡ false) }
+        ensures each { IfOk result (λ found. All (λ witness.
+            changed way self.now (string_bytes witness.client) None witness.name direction
+            ≡ true) found.items) }
+        ensures few { IfOk result (λ found. length found.items ≤ MAX_WITNESSES) }
     {
         let fresh = self.texts.fresh();
         let old = self.without(way);
         let new = self.with(way);
-        any_gain(alloc, fresh, None, direction, old, new)
+        gains(alloc, fresh, None, direction, MAX_WITNESSES, old, new)
     }
 
-    /// A client of this user name, and a topic, that is gained or lost; or none is, of all client ids and topic names.
+    /// Clients of this user name, which a list names, and topics, that are gained or lost; none where nothing is, of all
+    /// client ids and topic names.
     pub fn user(
         &self,
         alloc: Global,
         user: &str,
         direction: Direction,
         way: Way,
-    ) -> Result<Option<Witness>, AllocError>
-        requires ready { IsReady self.now }
-        requires listed { lists_user self.now user.now ≡ true }
-        ensures none { IfOk result (λ found. IfNone found ((client name : List ℕ) → IsTrue (is_name name)
-            → changed way self.now client (Some user.now) name direction ≡ false)) }
-        ensures some { IfOk result (λ found. IfSome found (λ witness.
-            changed way self.now (string_bytes witness.client) (Some user.now) witness.name direction ≡ true)) }
+    ) -> Result<Vec<Witness>, AllocError>
+        requires { lists_user self.now user.now ≡ true }
+        ensures none { IfOk result (λ found. found.items ≡ [] → (client name : List ℕ)
+            → IsTrue (is_name name)
+            → changed way self.now client (Some user.now) name direction ≡ false) }
+        ensures each { IfOk result (λ found. All (λ witness.
+            changed way self.now (string_bytes witness.client)
+            (Some user.now) witness.name direction
+            ≡ true) found.items) }
+        ensures few { IfOk result (λ found. length found.items ≤ MAX_WITNESSES) }
     {
         let fresh = self.texts.fresh();
         let old = self.without(way);
         let new = self.with(way);
-        any_gain(alloc, fresh, Some(user), direction, old, new)
+        gains(alloc, fresh, Some(user), direction, MAX_WITNESSES, old, new)
     }
 
-    /// A user name that neither list names, a client with it, and a topic, that is gained or lost; or none is, of all
-    /// such user names, client ids and topic names.
+    /// User names that neither list names, clients with them, and topics, that are gained or lost; none where nothing is,
+    /// of all such user names, client ids and topic names.
     pub fn others(
         &self,
         alloc: Global,
         direction: Direction,
         way: Way,
-    ) -> Result<Option<OtherWitness>, AllocError>
-        requires { IsReady self.now }
-        ensures none { IfOk result (λ found. IfNone found ((user client name : List ℕ) → lists_user self.now user ≡ false → IsTrue (is_name name)
-            → changed way self.now client (Some user) name direction ≡ false)) }
-        ensures unlisted { IfOk result (λ found. IfSome found (λ other. lists_user self.now (string_bytes other.user) ≡ false)) }
-        ensures some { IfOk result (λ found. IfSome found (λ other.
-            changed way self.now (string_bytes other.witness.client) (Some (string_bytes other.user)) other.witness.name direction ≡ true)) }
+    ) -> Result<Vec<OtherWitness>, AllocError>
+        ensures none { IfOk result (λ found. found.items ≡ [] → (user client name : List ℕ)
+            → lists_user self.now user ≡ false → IsTrue (is_name name)
+            → changed way self.now client (Some user) name direction ≡ false) }
+        ensures unlisted { IfOk result (λ found.
+            All (λ other. lists_user self.now (string_bytes other.user) ≡ false) found.items) }
+        ensures each { IfOk result (λ found. All (λ other.
+            changed way self.now (string_bytes other.witness.client)
+            (Some (string_bytes other.user))
+            other.witness.name direction ≡ true) found.items) }
+        ensures few { IfOk result (λ found. length found.items ≤ MAX_WITNESSES) }
     {
         let fresh = self.texts.fresh();
         let old = self.without(way);
         let new = self.with(way);
-        any_other(alloc, fresh, &self.named, direction, old, new)
+        let most = MAX_WITNESSES;
+        all_others(alloc, fresh, &self.named, direction, most, old, new)
     }
 }

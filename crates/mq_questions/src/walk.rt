@@ -1,13 +1,16 @@
 //! A walk over the levels of all topic names.
-ghost use Rattle.std.specs.Prelude.{◌≡◌, ℕ, Bool, List, true, IfOk, OnOk, IfNone, IfSome, ◌++◌, ◌∷◌, []};
-ghost use Rattle.mq_questions.specs.Remainders.{marks_view, marks_pass, remainders_fit, path_levels, GainsNothing, IsGain};
-ghost use Rattle.mq_questions.specs.Names.{fits_start, is_among, all_choices, are_others, is_choice};
+ghost use Rattle.std.specs.Prelude.{◌≡◌, ◌<◌, ℕ, Bool, List, true, IfOk, ◌&&◌, ◌∷◌, [], if◌then◌else◌};
+ghost use Rattle.std.specs.List.{All};
+ghost use Rattle.mq_questions.specs.Remainders.{marks_view, marks_pass, remainders_fit, no_marks, gains, GainsNothing, IsGain};
+ghost use Rattle.mq_questions.specs.Paths.{all_levels};
+ghost use Rattle.mq_questions.specs.Names.{fits_start, is_among, all_choices, are_others, is_choice, ends};
 ghost use Rattle.mq_questions.specs.Branches.{has};
 
 pub(crate) mod branches;
 pub(crate) mod ends;
 pub(crate) mod marks;
 pub(crate) mod others;
+pub(crate) mod path;
 pub(crate) mod remainder;
 pub(crate) mod start;
 
@@ -15,6 +18,7 @@ use crate::walk::branches::Branches;
 use crate::walk::ends::{gains_end, is_barren, is_settled};
 use crate::walk::marks::Marks;
 use crate::walk::others::Others;
+use crate::walk::path::{Path, add_longer};
 use crate::walk::remainder::Remainder;
 use crate::walk::start::Start;
 use std::alloc::{AllocError, Global};
@@ -28,10 +32,14 @@ fn choices<'a>(
     new: &Branches<'a>,
 ) -> Result<Vec<&'a str>, AllocError>
     ensures other { IfOk result (λ all. is_among other.now all.items ≡ true) }
-    ensures old { IfOk result (λ all. (l : List ℕ) → fits_start start l ≡ true → has l old.now ≡ true → is_among l all.items ≡ true) }
-    ensures new { IfOk result (λ all. (l : List ℕ) → fits_start start l ≡ true → has l new.now ≡ true → is_among l all.items ≡ true) }
-    ensures each { IfOk result (λ all. (p : List ℕ → Bool) → p other.now ≡ true → fits_start start other.now ≡ true
-        → ((l : List ℕ) → has l old.now ≡ true → p l ≡ true) → ((l : List ℕ) → has l new.now ≡ true → p l ≡ true)
+    ensures old { IfOk result (λ all. (l : List ℕ) → fits_start start l ≡ true
+        → has l old.now ≡ true → is_among l all.items ≡ true) }
+    ensures new { IfOk result (λ all. (l : List ℕ) → fits_start start l ≡ true
+        → has l new.now ≡ true → is_among l all.items ≡ true) }
+    ensures each { IfOk result (λ all. (p : List ℕ → Bool) → p other.now ≡ true
+        → fits_start start other.now ≡ true
+        → ((l : List ℕ) → has l old.now ≡ true → p l ≡ true)
+        → ((l : List ℕ) → has l new.now ≡ true → p l ≡ true)
         → all_choices start p all.items ≡ true) }
 {
     let mut all = Vec::new(alloc);
@@ -41,63 +49,79 @@ fn choices<'a>(
     Ok(all)
 }
 
-fn append<'a>(path: &mut Vec<&'a str>, level: &'a str) -> Result<(), AllocError>
-    ensures { OnOk result (path.new.items ≡ path.old.items ++ level.entry ∷ []) }
+// The path of a name that ends here, where it is gained.
+fn ends_here<'a>(
+    alloc: Global,
+    start: Start,
+    old: &[Remainder<'a>],
+    new: &[Remainder<'a>],
+) -> Result<Vec<Path<'a>>, AllocError>
+    ensures { IfOk result (λ paths. all_levels paths.items
+        ≡ (if ends start && gains no_marks [] old.now new.now then [] ∷ [] else [])) }
 {
-    path.push(level)?;
-    Ok(())
+    let mut paths = Vec::new(alloc);
+    if !gains_end(start, old, new) {
+        return Ok(paths);
+    }
+    paths.push(Path {
+        levels: Vec::new(alloc),
+    })?;
+    Ok(paths)
 }
 
-/// A name that goes on from here with at most so many levels, and that the new rows allow and the old ones don't: its
-/// levels, the last one first; or that there is none.
+/// Names that go on from here with at most so many levels, and that the new rows allow and the old ones don't: all of
+/// them, but for those that are alike to one, or the first that are found, about `most`; or that there is none.
 pub(crate) fn walk<'a>(
     alloc: Global,
     marks: Marks<'a>,
     others: Others<'a>,
     start: Start,
     budget: usize,
+    most: usize,
     old: &[Remainder<'a>],
     new: &[Remainder<'a>],
-) -> Result<Option<Vec<&'a str>>, AllocError>
+) -> Result<Vec<Path<'a>>, AllocError>
     requires others { are_others others ≡ true }
     requires marks { marks_pass (is_choice others) (marks_view marks) ≡ true }
+    requires most { 0 < most }
     requires old { remainders_fit (is_choice others) old.now ≡ true }
     requires new { remainders_fit (is_choice others) new.now ≡ true }
-    ensures none { IfOk result (λ found. IfNone found (GainsNothing start budget (marks_view marks.entry) old.now new.now)) }
-    ensures some { IfOk result (λ found. IfSome found (λ path. IsGain start budget (marks_view marks.entry)
-        old.now new.now (path_levels path.items))) }
+    ensures none { IfOk result (λ found. found.items ≡ []
+        → GainsNothing start budget (marks_view marks.entry) old.now new.now) }
+    ensures each { IfOk result (λ found.
+        All (IsGain start budget (marks_view marks.entry) old.now new.now)
+        (all_levels found.items)) }
 {
     if is_barren(old, new) {
-        return Ok(None);
+        return Ok(Vec::new(alloc));
     }
-    if gains_end(start, old, new) {
-        return Ok(Some(Vec::new(alloc)));
-    }
+    let mut paths = ends_here(alloc, start, old, new)?;
     if budget == 0 {
-        return Ok(None);
+        return Ok(paths);
     }
     if is_settled(start, old, new) {
-        return Ok(None);
+        return Ok(paths);
     }
     let old_branches = Branches::of(alloc, old, marks)?;
     let new_branches = Branches::of(alloc, new, marks)?;
     let levels = choices(alloc, start, others.at(start), &old_branches, &new_branches)?;
     for level in &levels {
+        if paths.len() >= most {
+            return Ok(paths);
+        }
         let old = old_branches.behind(alloc, level)?;
         let new = new_branches.behind(alloc, level)?;
-        let found = walk(
+        let behind = walk(
             alloc,
             marks,
             others,
             start.behind(level),
             budget - 1,
+            most - paths.len(),
             &old,
             &new,
         )?;
-        if let Some(mut path) = found {
-            append(&mut path, level)?;
-            return Ok(Some(path));
-        }
+        add_longer(&mut paths, level, behind)?;
     }
-    Ok(None)
+    Ok(paths)
 }

@@ -22,7 +22,8 @@ fn first_deny<'a>(
     name: &TopicName,
 ) -> Option<&'a Row>
     ensures { option_copied result
-        ≡ find (λ row. concerns client.now (option_copied user.entry) name.now (row_view row) && is_deny (row_view row).access) rows.entry.now }
+        ≡ find (λ row. concerns client.now (option_copied user.entry) name.now (row_view row)
+        && is_deny (row_view row).access) rows.entry.now }
 {
     rows.iter().find(|row| concerns(row, client, user, name) && is_deny(row.access))
 }
@@ -50,11 +51,13 @@ pub fn decide<'a>(
     direction: Direction,
 ) -> Decision<'a>
     ensures deny { option_copied result.deny
-        ≡ find (λ row. concerns client.now (option_copied user.entry) name.now (row_view row) && is_deny (row_view row).access) rows.entry.now }
+        ≡ find (λ row. concerns client.now (option_copied user.entry) name.now (row_view row)
+        && is_deny (row_view row).access) rows.entry.now }
     ensures grant { option_copied result.grant
         ≡ find (λ row. concerns client.now (option_copied user.entry) name.now (row_view row)
         && grants direction (row_view row).access) rows.entry.now }
-    ensures allowed { allowed (Some (row_views rows.entry.now)) client.now (option_copied user.entry) name.now direction
+    ensures allowed { allowed (Some (row_views rows.entry.now)) client.now
+        (option_copied user.entry) name.now direction
         ≡ (is_none result.deny && is_some result.grant) }
 {
     Decision {

@@ -1,26 +1,52 @@
-ghost use Rattle.std.specs.Prelude.{◌≡◌, ℕ, List, IfOk, IfNone, IfSome, true};
+ghost use Rattle.std.specs.Prelude.{◌≡◌, ◌<◌, ◌||◌, ℕ, List, [], IfOk, OnOk, true, false, if◌then◌else◌, codes, Option};
+ghost use Rattle.std.specs.List.{All};
 ghost use Rattle.std.specs.Option.{option_copied};
+ghost use Rattle.std.specs.Str.{bytes_eq};
 ghost use Rattle.mq_questions.specs.Fresh.{AreFresh, is_tried_client, is_no_client, is_literal, marks_of};
+ghost use Rattle.mq_questions.specs.Gains.{IsGainOf};
+ghost use Rattle.mq_questions.specs.Literals.{is_named, has_mark};
 ghost use Rattle.mq_questions.specs.Names.{is_among, is_choice};
-ghost use Rattle.mq_questions.specs.Remainders.{mark_passes, remainders_fit, path_levels, GainsNothing, IsGain};
+ghost use Rattle.mq_questions.specs.Paths.{all_levels};
+ghost use Rattle.mq_questions.specs.Remainders.{mark_passes, remainders_fit, GainsNothing, IsGain};
 
 use crate::ask::fresh::Fresh;
-use crate::ask::literals::Literals;
+use crate::ask::literals::{Literals, has_mark, only};
 use crate::walk::ends::is_barren;
 use crate::walk::marks::Marks;
+use crate::walk::path::Path;
 use crate::walk::remainder::Remainder;
 use crate::walk::start::Start;
 use crate::walk::walk;
 use std::alloc::{AllocError, Global};
 
-/// A client id, and the levels of a name, the last one first, that this client gains.
+/// A client id, and a name that this client gains.
 #[derive(Drop)]
 pub(crate) struct Gain<'a> {
     pub client: &'a str,
-    pub path: Vec<&'a str>,
+    pub path: Path<'a>,
 }
 
-// The client ids to try: each level that a row names, the user name, and some that stand for all others.
+// Each level that a row names, the user name, and some that stand for all others, those first.
+fn named_clients<'a>(
+    alloc: Global,
+    fresh: Fresh<'a>,
+    user: Option<&'a str>,
+    old: &[Remainder<'a>],
+    new: &[Remainder<'a>],
+) -> Result<Vec<&'a str>, AllocError>
+    ensures { IfOk result (λ all. (c : List ℕ) → is_among c all.items
+        ≡ is_tried_client fresh.entry (option_copied user.entry) old.now new.now c) }
+{
+    let mut named = Literals::new(alloc);
+    named.add("")?;
+    named.add_mark(user)?;
+    named.add_remainders(old)?;
+    named.add_remainders(new)?;
+    let all = named.list_behind(alloc, fresh.client, fresh.dollar_client)?;
+    Ok(all)
+}
+
+// The client ids to try: one alone where no row has `%c`.
 fn clients<'a>(
     alloc: Global,
     fresh: Fresh<'a>,
@@ -28,50 +54,103 @@ fn clients<'a>(
     old: &[Remainder<'a>],
     new: &[Remainder<'a>],
 ) -> Result<Vec<&'a str>, AllocError>
-    ensures { IfOk result (λ all. (c : List ℕ) → is_among c all.items ≡ is_tried_client fresh.entry (option_copied user.entry) old.now new.now c) }
+    ensures { IfOk result (λ all. (c : List ℕ) → is_among c all.items
+        ≡ (if has_mark (codes "%c") old.now || has_mark (codes "%c") new.now
+        then is_tried_client fresh.entry (option_copied user.entry) old.now new.now c
+        else bytes_eq c fresh.entry.client.now)) }
 {
-    let mut clients = Literals::new(alloc);
-    clients.add(fresh.client)?;
-    clients.add(fresh.dollar_client)?;
-    clients.add("")?;
-    clients.add_mark(user)?;
-    clients.add_remainders(old)?;
-    clients.add_remainders(new)?;
-    clients.list(alloc)
+    if has_mark("%c", old) {
+        return named_clients(alloc, fresh, user, old, new);
+    }
+    if has_mark("%c", new) {
+        return named_clients(alloc, fresh, user, old, new);
+    }
+    only(alloc, fresh.client)
 }
 
-/// A client and a name that the new rows allow it and the old ones don't, or that no client gains one. The user name is
-/// the level that `%u` stands for, if any.
-pub(crate) fn any_client<'a>(
+// Whether the names are the same, but for the client ids.
+fn is_like(path: &Path, client: &str, other: &Gain) -> bool {
+    path.levels.len() == other.path.levels.len()
+        && path
+            .levels
+            .iter()
+            .zip(other.path.levels.iter())
+            .all(|(a, b)| a == b || (*a == client && *b == other.client))
+}
+
+// Whether one of these gains is the same, but for the client id.
+fn has_like(gains: &[Gain], client: &str, path: &Path) -> bool
+    ensures { gains.now ≡ [] → result ≡ false }
+{
+    for other in gains {
+        if is_like(path, client, other) {
+            return true;
+        }
+    }
+    false
+}
+
+// Adds the names that this client gains, but for those that are like one.
+fn add_gains<'a>(
+    gains: &mut Vec<Gain<'a>>,
+    client: &'a str,
+    paths: Vec<Path<'a>>,
+) -> Result<(), AllocError>
+    ensures kept { OnOk result (gains.new.items ≡ [] → gains.old.items ≡ []) }
+    ensures none { OnOk result (gains.new.items ≡ [] → paths.entry.items ≡ []) }
+    ensures each { OnOk result ((start : Start) (user : Option (List ℕ)) (old new : List Remainder)
+        → All (IsGainOf start user old new) gains.old.items
+        → All (IsGain start 200 (marks_of client.entry.now user) old new)
+        (all_levels paths.entry.items)
+        → All (IsGainOf start user old new) gains.new.items) }
+{
+    for path in paths {
+        if has_like(gains, client, &path) {
+            continue;
+        }
+        gains.push(Gain { client, path })?;
+    }
+    Ok(())
+}
+
+/// Clients and names that the new rows allow them and the old ones don't, or that no client gains one. The user name is
+/// the level that `%u` stands for, if any. Of gains that are the same but for the client id it tells the first. Where it
+/// has `most` it looks for no further ones.
+pub(crate) fn client_gains<'a>(
     alloc: Global,
     fresh: Fresh<'a>,
     user: Option<&'a str>,
     start: Start,
+    most: usize,
     old: &[Remainder<'a>],
     new: &[Remainder<'a>],
-) -> Result<Option<Gain<'a>>, AllocError>
+) -> Result<Vec<Gain<'a>>, AllocError>
     requires fresh { AreFresh fresh }
     requires user { mark_passes (is_choice fresh.others) (option_copied user) ≡ true }
     requires apart { mark_passes (is_no_client fresh) (option_copied user) ≡ true }
+    requires most { 0 < most }
     requires old { remainders_fit (is_literal fresh) old.now ≡ true }
     requires new { remainders_fit (is_literal fresh) new.now ≡ true }
-    ensures none { IfOk result (λ found. IfNone found ((c : List ℕ)
-        → GainsNothing start 200 (marks_of c (option_copied user.entry)) old.now new.now)) }
-    ensures some { IfOk result (λ found. IfSome found (λ gain. IsGain start 200
-        (marks_of gain.client.now (option_copied user.entry)) old.now new.now (path_levels gain.path.items))) }
+    ensures none { IfOk result (λ found. found.items ≡ [] → (c : List ℕ)
+        → GainsNothing start 200 (marks_of c (option_copied user.entry)) old.now new.now) }
+    ensures each { IfOk result (λ found.
+        All (IsGainOf start (option_copied user.entry) old.now new.now) found.items) }
 {
+    let mut gains = Vec::new(alloc);
     if is_barren(old, new) {
-        return Ok(None);
+        return Ok(gains);
     }
     let clients = clients(alloc, fresh, user, old, new)?;
     for client in &clients {
+        if gains.len() >= most {
+            return Ok(gains);
+        }
         let marks = Marks {
             client: Some(client),
             user,
         };
-        if let Some(path) = walk(alloc, marks, fresh.others, start, 200, old, new)? {
-            return Ok(Some(Gain { client, path }));
-        }
+        let paths = walk(alloc, marks, fresh.others, start, 200, most, old, new)?;
+        add_gains(&mut gains, client, paths)?;
     }
-    Ok(None)
+    Ok(gains)
 }

@@ -8,8 +8,8 @@ ghost use Rattle.mq_questions.specs.Users.{short_who, usable};
 use mq_acl::{Owner, Row};
 use mq_topic::LevelText;
 
-// Whether no level is longer than 300 bytes.
-fn is_short(text: &str) -> bool
+/// Whether no level is longer than 300 bytes.
+pub(crate) fn is_short(text: &str) -> bool
     ensures { result ≡ list_all (λ level. nat_le (length level) 300) (levels text.now) }
 {
     text.split('/').all(|level| level.len() <= 300)

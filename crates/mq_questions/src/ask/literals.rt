@@ -1,10 +1,11 @@
 ghost use Rattle.std.specs.Prelude.{◌≡◌, ℕ, List, [], ◌||◌, ◌&&◌, false, true, not, IfOk, OnOk};
+ghost use Rattle.std.specs.List.{list_any};
 ghost use Rattle.std.specs.Str.{bytes_eq};
 ghost use Rattle.std.specs.Option.{option_copied};
 ghost use Rattle.mq_acl.specs.Access.{is_user};
 ghost use Rattle.mq_topic.specs.Levels.{levels, levels_left};
 ghost use Rattle.mq_topic.specs.Matching.{is_wildcard};
-ghost use Rattle.mq_questions.specs.Literals.{is_named, is_literal_in, is_literal_of};
+ghost use Rattle.mq_questions.specs.Literals.{is_named, is_literal_in, is_literal_of, has_mark};
 ghost use Rattle.mq_acl.specs.Views.{owner_view, row_view, row_views};
 ghost use Rattle.mq_questions.specs.Names.{is_among};
 ghost use Rattle.mq_questions.specs.Users.{is_name_of, is_user_of, row_names, rows_name};
@@ -21,10 +22,38 @@ pub(crate) struct Literals<'a> {
     levels: BTreeSet<&'a str>,
 }
 
-fn is_wildcard(level: &str) -> bool
+pub(crate) fn is_wildcard(level: &str) -> bool
     ensures { result ≡ is_wildcard level.now }
 {
     level == "+" || level == "#"
+}
+
+// Whether the mark is a level of what is left.
+fn has_level(rest: Option<&str>, mark: &str) -> bool
+    ensures { result ≡ list_any (λ w. bytes_eq w mark.now) (levels_left rest.entry) }
+{
+    let Some(text) = rest else {
+        return false;
+    };
+    text.split('/').any(|level| level == mark)
+}
+
+/// Whether some `pattern` row has the mark as a level.
+pub(crate) fn has_mark(mark: &str, remainders: &[Remainder]) -> bool
+    ensures { result ≡ has_mark mark.now remainders.now }
+{
+    remainders
+        .iter()
+        .any(|r| r.pattern && has_level(r.rest, mark))
+}
+
+/// The text alone.
+pub(crate) fn only(alloc: Global, text: &str) -> Result<Vec<&str>, AllocError>
+    ensures { IfOk result (λ all. (l : List ℕ) → is_among l all.items ≡ bytes_eq l text.entry.now) }
+{
+    let mut all = Vec::new(alloc);
+    all.push(text)?;
+    Ok(all)
 }
 
 impl<'a> Literals<'a> {
@@ -37,7 +66,8 @@ impl<'a> Literals<'a> {
     }
 
     pub fn add(&mut self, level: &'a str) -> Result<(), AllocError>
-        ensures { OnOk result ((l : List ℕ) → is_named l self.new ≡ (is_named l self.old || bytes_eq l level.entry.now)) }
+        ensures { OnOk result ((l : List ℕ) → is_named l self.new
+            ≡ (is_named l self.old || bytes_eq l level.entry.now)) }
     {
         self.levels.insert(level)?;
         Ok(())
@@ -45,7 +75,8 @@ impl<'a> Literals<'a> {
 
     fn add_literal(&mut self, level: &'a str) -> Result<(), AllocError>
         ensures { OnOk result ((l : List ℕ) → is_named l self.new
-            ≡ (is_named l self.old || (bytes_eq l level.entry.now && not (is_wildcard level.entry.now)))) }
+            ≡ (is_named l self.old || (bytes_eq l level.entry.now
+            && not (is_wildcard level.entry.now)))) }
     {
         if is_wildcard(level) {
             return Ok(());
@@ -56,7 +87,8 @@ impl<'a> Literals<'a> {
 
     /// Adds the levels of this text.
     pub fn add_levels(&mut self, text: &'a str) -> Result<(), AllocError>
-        ensures { OnOk result ((l : List ℕ) → is_named l self.new ≡ (is_named l self.old || is_literal_in l (levels text.entry.now))) }
+        ensures { OnOk result ((l : List ℕ) → is_named l self.new
+            ≡ (is_named l self.old || is_literal_in l (levels text.entry.now))) }
     {
         let mut rest = Some(text);
         while let Some(text) = rest {
@@ -69,7 +101,8 @@ impl<'a> Literals<'a> {
 
     /// Adds the levels that are left of these rows.
     pub fn add_remainders(&mut self, remainders: &[Remainder<'a>]) -> Result<(), AllocError>
-        ensures { OnOk result ((l : List ℕ) → is_named l self.new ≡ (is_named l self.old || is_literal_of l remainders.now)) }
+        ensures { OnOk result ((l : List ℕ) → is_named l self.new
+            ≡ (is_named l self.old || is_literal_of l remainders.now)) }
     {
         for remainder in remainders {
             self.add_rest(remainder.rest)?;
@@ -78,7 +111,8 @@ impl<'a> Literals<'a> {
     }
 
     fn add_rest(&mut self, rest: Option<&'a str>) -> Result<(), AllocError>
-        ensures { OnOk result ((l : List ℕ) → is_named l self.new ≡ (is_named l self.old || is_literal_in l (levels_left rest.entry))) }
+        ensures { OnOk result ((l : List ℕ) → is_named l self.new
+            ≡ (is_named l self.old || is_literal_in l (levels_left rest.entry))) }
     {
         let Some(text) = rest else {
             return Ok(());
@@ -89,7 +123,8 @@ impl<'a> Literals<'a> {
 
     /// Adds the level that a mark stands for, if any.
     pub fn add_mark(&mut self, mark: Option<&'a str>) -> Result<(), AllocError>
-        ensures { OnOk result ((l : List ℕ) → is_named l self.new ≡ (is_named l self.old || is_user l (option_copied mark.entry))) }
+        ensures { OnOk result ((l : List ℕ) → is_named l self.new
+            ≡ (is_named l self.old || is_user l (option_copied mark.entry))) }
     {
         let Some(level) = mark else {
             return Ok(());
@@ -116,9 +151,28 @@ impl<'a> Literals<'a> {
         Ok(all)
     }
 
+    /// These two, and all levels behind them.
+    pub fn list_behind(
+        &self,
+        alloc: Global,
+        first: &'a str,
+        second: &'a str,
+    ) -> Result<Vec<&'a str>, AllocError>
+        ensures { IfOk result (λ all. (l : List ℕ) → is_among l all.items
+            ≡ (bytes_eq l first.now || (bytes_eq l second.now || is_named l self.now))) }
+    {
+        let mut all = Vec::new(alloc);
+        all.push(first)?;
+        all.push(second)?;
+        let mut levels = self.list(alloc)?;
+        all.append(&mut levels)?;
+        Ok(all)
+    }
+
     /// Adds the user name of a row, if it has one.
     fn add_owner(&mut self, owner: &'a Owner) -> Result<(), AllocError>
-        ensures { OnOk result ((l : List ℕ) → is_named l self.new ≡ (is_named l self.old || is_name_of l (owner_view owner.entry.now))) }
+        ensures { OnOk result ((l : List ℕ) → is_named l self.new
+            ≡ (is_named l self.old || is_name_of l (owner_view owner.entry.now))) }
     {
         let Owner::Named(name) = owner else {
             return Ok(());
@@ -128,7 +182,8 @@ impl<'a> Literals<'a> {
     }
 
     fn add_row(&mut self, row: &'a Row) -> Result<(), AllocError>
-        ensures { OnOk result ((l : List ℕ) → is_named l self.new ≡ (is_named l self.old || row_names l (row_view row.entry.now))) }
+        ensures { OnOk result ((l : List ℕ) → is_named l self.new
+            ≡ (is_named l self.old || row_names l (row_view row.entry.now))) }
     {
         self.add_levels(row.filter.text())?;
         self.add_owner(&row.owner)?;
@@ -137,7 +192,8 @@ impl<'a> Literals<'a> {
 
     /// Adds the levels of the rows, and their user names.
     pub fn add_rows(&mut self, rows: &'a [Row]) -> Result<(), AllocError>
-        ensures { OnOk result ((l : List ℕ) → is_named l self.new ≡ (is_named l self.old || rows_name l (row_views rows.entry.now))) }
+        ensures { OnOk result ((l : List ℕ) → is_named l self.new
+            ≡ (is_named l self.old || rows_name l (row_views rows.entry.now))) }
     {
         for row in rows {
             self.add_row(row)?;
@@ -147,7 +203,8 @@ impl<'a> Literals<'a> {
 
     /// Adds the user names of the rows.
     pub fn add_users(&mut self, rows: &'a [Row]) -> Result<(), AllocError>
-        ensures { OnOk result ((l : List ℕ) → is_named l self.new ≡ (is_named l self.old || is_user_of l (row_views rows.entry.now))) }
+        ensures { OnOk result ((l : List ℕ) → is_named l self.new
+            ≡ (is_named l self.old || is_user_of l (row_views rows.entry.now))) }
     {
         for row in rows {
             self.add_owner(&row.owner)?;

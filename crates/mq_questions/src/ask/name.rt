@@ -2,13 +2,17 @@ ghost use Rattle.std.specs.Prelude.{◌≡◌, ◌≤◌, Bool, true, length, If
 ghost use Rattle.std.specs.List.{list_all};
 ghost use Rattle.mq_topic.specs.Levels.{levels};
 ghost use Rattle.mq_questions.specs.Names.{joined, suits, start_of, is_name_level};
+ghost use Rattle.mq_questions.specs.Paths.{levels_of};
+ghost use Rattle.mq_questions.specs.Reach.{IsNamedBy};
 
+use crate::walk::path::Path;
 use mq_topic::{TopicFault, TopicName};
 use std::alloc::{AllocError, Global};
 
 // The levels with slashes between them.
 fn joined(alloc: Global, parts: &[&str]) -> Result<String, AllocError>
-    ensures { IfOk result (λ text. string_bytes text ≡ joined (map (λ level. level.now) parts.now)) }
+    ensures { IfOk result (λ text. string_bytes text
+        ≡ joined (map (λ level. level.now) parts.now)) }
 {
     let Some((first, rest)) = parts.split_first() else {
         return Ok(String::new(alloc));
@@ -21,8 +25,8 @@ fn joined(alloc: Global, parts: &[&str]) -> Result<String, AllocError>
     Ok(text)
 }
 
-/// The name with these levels, which begins with `$` or not.
-pub(crate) fn name_of(alloc: Global, dollar: bool, parts: &[&str]) -> Result<TopicName, AllocError>
+// The name with these levels, which begins with `$` or not.
+fn name_of(alloc: Global, dollar: bool, parts: &[&str]) -> Result<TopicName, AllocError>
     requires valid { list_all is_name_level (map (λ level. level.now) parts.now) ≡ true }
     requires few { length parts.now ≤ 200 }
     requires suitable { suits (start_of dollar) (map (λ level. level.now) parts.now) ≡ true }
@@ -36,4 +40,16 @@ pub(crate) fn name_of(alloc: Global, dollar: bool, parts: &[&str]) -> Result<Top
             _ => unreachable!(),
         },
     }
+}
+
+/// The name on this path, which begins with `$` or not.
+pub(crate) fn name_on(alloc: Global, dollar: bool, path: &Path) -> Result<TopicName, AllocError>
+    requires { IsNamedBy dollar (levels_of path.now) }
+    ensures { IfOk result (λ name. levels name ≡ levels_of path.now) }
+{
+    let mut levels = Vec::new(alloc);
+    levels.extend_from_slice(&path.levels)?;
+    levels.reverse();
+    let name = name_of(alloc, dollar, &levels)?;
+    Ok(name)
 }

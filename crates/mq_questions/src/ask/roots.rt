@@ -38,8 +38,10 @@ fn begins_with_dollar(text: &str) -> bool
 
 fn whole<'a>(row: &'a Row, deny: bool) -> Remainder<'a>
     ensures deny { result.deny ≡ deny }
-    ensures covers { (client name : List ℕ) (user : Option (List ℕ)) → covers (marks_of client user) (levels name) result
-        ≡ levels_match_by (row_level_matches (owner_view row.now.owner) client user) (levels row.now.filter) (levels name) }
+    ensures covers { (client name : List ℕ) (user : Option (List ℕ))
+        → covers (marks_of client user) (levels name) result
+        ≡ levels_match_by (row_level_matches (owner_view row.now.owner) client user)
+        (levels row.now.filter) (levels name) }
     ensures fits { (p : List ℕ → Bool) → remainder_fits p result ≡ fits p (levels row.now.filter) }
 {
     Remainder {
@@ -53,11 +55,15 @@ fn whole<'a>(row: &'a Row, deny: bool) -> Remainder<'a>
 fn root<'a>(row: &'a Row, scope: Scope<'a>) -> Option<Remainder<'a>>
     ensures hits { (client name : List ℕ) (user : Option (List ℕ)) (deny : Bool)
         → applies user (row_view row.now).who
-        ≡ applies (option_copied scope.entry.user) (row_view row.now).who → begins_with_dollar name ≡ scope.entry.dollar → MatchOption result
-        ((concerns client user name (row_view row.now) && decides deny scope.entry.direction (row_view row.now).access) ≡ false)
+        ≡ applies (option_copied scope.entry.user) (row_view row.now).who
+        → begins_with_dollar name ≡ scope.entry.dollar → MatchOption result
+        ((concerns client user name (row_view row.now)
+        && decides deny scope.entry.direction (row_view row.now).access) ≡ false)
         (λ r. (covers (marks_of client user) (levels name) r && same deny r.deny)
-        ≡ (concerns client user name (row_view row.now) && decides deny scope.entry.direction (row_view row.now).access)) }
-    ensures fits { (p : List ℕ → Bool) → fits p (levels row.now.filter) ≡ true → IfSome result (λ r. remainder_fits p r ≡ true) }
+        ≡ (concerns client user name (row_view row.now)
+        && decides deny scope.entry.direction (row_view row.now).access)) }
+    ensures fits { (p : List ℕ → Bool) → fits p (levels row.now.filter) ≡ true
+        → IfSome result (λ r. remainder_fits p r ≡ true) }
 {
     if !applies(scope.user, &row.owner) {
         return None;
@@ -80,8 +86,10 @@ fn add_root<'a>(
     scope: Scope<'a>,
 ) -> Result<(), AllocError>
     ensures { OnOk result ((before : List AclRow)
-        → AreRoots before (option_copied scope.entry.user) scope.entry.direction scope.entry.dollar roots.old.items
-        → AreRoots (before ++ row_view row.now ∷ []) (option_copied scope.entry.user) scope.entry.direction scope.entry.dollar roots.new.items) }
+        → AreRoots before
+        (option_copied scope.entry.user) scope.entry.direction scope.entry.dollar roots.old.items
+        → AreRoots (before ++ row_view row.now ∷ [])
+        (option_copied scope.entry.user) scope.entry.direction scope.entry.dollar roots.new.items) }
 {
     let Some(root) = root(row, scope) else {
         return Ok(());
@@ -96,8 +104,10 @@ fn add_roots<'a>(
     scope: Scope<'a>,
 ) -> Result<(), AllocError>
     ensures { OnOk result ((before : List AclRow)
-        → AreRoots before (option_copied scope.entry.user) scope.entry.direction scope.entry.dollar roots.old.items
-        → AreRoots (before ++ row_views rows.entry.now) (option_copied scope.entry.user) scope.entry.direction scope.entry.dollar roots.new.items) }
+        → AreRoots before
+        (option_copied scope.entry.user) scope.entry.direction scope.entry.dollar roots.old.items
+        → AreRoots (before ++ row_views rows.entry.now)
+        (option_copied scope.entry.user) scope.entry.direction scope.entry.dollar roots.new.items) }
 {
     for row in rows {
         add_root(roots, row, scope)?;
@@ -111,8 +121,8 @@ pub(crate) fn roots<'a>(
     rows: Rows<'a>,
     scope: Scope<'a>,
 ) -> Result<Vec<Remainder<'a>>, AllocError>
-    ensures { IfOk result (λ roots. AreRoots (all_rows
-        rows.entry) (option_copied scope.entry.user) scope.entry.direction scope.entry.dollar roots.items) }
+    ensures { IfOk result (λ roots. AreRoots (all_rows rows.entry)
+        (option_copied scope.entry.user) scope.entry.direction scope.entry.dollar roots.items) }
 {
     let mut roots = Vec::new(alloc);
     add_roots(&mut roots, rows.front, scope)?;

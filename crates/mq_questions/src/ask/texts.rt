@@ -1,6 +1,8 @@
 ghost use Rattle.std.specs.Prelude.{◌≡◌, ◌≤◌, ℕ, List, IfOk, true, length};
+ghost use Rattle.std.specs.List.{list_any};
+ghost use Rattle.std.specs.Str.{bytes_eq};
 ghost use Rattle.mq_questions.specs.Literals.{is_named};
-ghost use Rattle.mq_questions.specs.Made.{AreMade, IsSeen};
+ghost use Rattle.mq_questions.specs.Made.{AreMade, IsSeen, made_texts};
 
 use crate::ask::fresh::{Fresh, fresh_text};
 use crate::ask::literals::Literals;
@@ -32,6 +34,18 @@ impl FreshTexts {
             user: fresh_text(alloc, "user", literals)?,
             dollar_user: fresh_text(alloc, "$user", literals)?,
         })
+    }
+
+    /// Whether the text is one of them.
+    pub fn has(&self, text: &str) -> bool
+        ensures { result ≡ list_any (bytes_eq text.now) (made_texts self.now) }
+    {
+        text == self.plain.as_str()
+            || text == self.dollar.as_str()
+            || text == self.client.as_str()
+            || text == self.dollar_client.as_str()
+            || text == self.user.as_str()
+            || text == self.dollar_user.as_str()
     }
 
     pub fn fresh(&self) -> Fresh<'_>

@@ -30,11 +30,15 @@ fn add_named<'a>(
     level: &'a str,
     next: Remainder<'a>,
 ) -> Result<(), AllocError>
-    ensures at { OnOk result ((l : List ℕ) → option_map_or (λ v. v.items) (get_by (λ k. slice_cmp nat_cmp l k.now) named.new) []
+    ensures at { OnOk result ((l : List ℕ)
+        → option_map_or (λ v. v.items) (get_by (λ k. slice_cmp nat_cmp l k.now) named.new) []
         ≡ option_map_or (λ v. v.items) (get_by
-        (λ k. slice_cmp nat_cmp l k.now) named.old) [] ++ (if bytes_eq l level.entry.now then next.entry ∷ [] else [])) }
-    ensures has { OnOk result ((l : List ℕ) → is_some (get_by (λ k. slice_cmp nat_cmp l k.now) named.new)
-        ≡ (is_some (get_by (λ k. slice_cmp nat_cmp l k.now) named.old) || bytes_eq l level.entry.now)) }
+        (λ k. slice_cmp nat_cmp l k.now) named.old) []
+        ++ (if bytes_eq l level.entry.now then next.entry ∷ [] else [])) }
+    ensures has { OnOk result ((l : List ℕ)
+        → is_some (get_by (λ k. slice_cmp nat_cmp l k.now) named.new)
+        ≡ (is_some (get_by (λ k. slice_cmp nat_cmp l k.now) named.old)
+        || bytes_eq l level.entry.now)) }
 {
     named.entry(level)?.or_default().push(next)?;
     Ok(())
@@ -52,9 +56,11 @@ impl<'a> Branches<'a> {
     }
 
     fn add(&mut self, remainder: &Remainder<'a>, marks: Marks<'a>) -> Result<(), AllocError>
-        ensures branched { OnOk result ((rs : List Remainder) → IsBranched rs (marks_view marks.entry) self.old
+        ensures branched { OnOk result ((rs : List Remainder)
+            → IsBranched rs (marks_view marks.entry) self.old
             → IsBranched (rs ++ remainder.now ∷ []) (marks_view marks.entry) self.new) }
-        ensures fit { OnOk result ((p : List ℕ → Bool) → marks_pass p (marks_view marks.entry) ≡ true → remainder_fits p remainder.now ≡ true
+        ensures fit { OnOk result ((p : List ℕ → Bool) → marks_pass p (marks_view marks.entry)
+            ≡ true → remainder_fits p remainder.now ≡ true
             → BranchesFit p self.old → BranchesFit p self.new) }
     {
         match remainder.next(marks) {
@@ -72,7 +78,8 @@ impl<'a> Branches<'a> {
         marks: Marks<'a>,
     ) -> Result<Branches<'a>, AllocError>
         ensures branched { IfOk result (λ b. IsBranched remainders.now (marks_view marks.entry) b) }
-        ensures fit { IfOk result (λ b. (p : List ℕ → Bool) → marks_pass p (marks_view marks.entry) ≡ true
+        ensures fit { IfOk result (λ b. (p : List ℕ → Bool) → marks_pass p (marks_view marks.entry)
+            ≡ true
             → remainders_fit p remainders.now ≡ true → BranchesFit p b) }
     {
         let mut branches = Branches::new(alloc);
@@ -107,11 +114,15 @@ impl<'a> Branches<'a> {
         start: Start,
         known: &Branches<'a>,
     ) -> Result<(), AllocError>
-        ensures kept { OnOk result ((l : List ℕ) → is_among l levels.old.items ≡ true → is_among l levels.new.items ≡ true) }
-        ensures named { OnOk result ((l : List ℕ) → fits_start start l ≡ true → has l self.now ≡ true
+        ensures kept { OnOk result ((l : List ℕ) → is_among l levels.old.items ≡ true
+            → is_among l levels.new.items ≡ true) }
+        ensures named { OnOk result ((l : List ℕ) → fits_start start l ≡ true → has l self.now
+            ≡ true
             → (is_among l levels.new.items || has l known.now) ≡ true) }
-        ensures each { OnOk result ((p : List ℕ → Bool) → ((l : List ℕ) → has l self.now ≡ true → p l ≡ true)
-            → all_choices start p levels.old.items ≡ true → all_choices start p levels.new.items ≡ true) }
+        ensures each { OnOk result ((p : List ℕ → Bool)
+            → ((l : List ℕ) → has l self.now ≡ true → p l ≡ true)
+            → all_choices start p levels.old.items ≡ true → all_choices start p levels.new.items
+            ≡ true) }
     {
         for level in self.named.keys() {
             if !start.fits(level) {

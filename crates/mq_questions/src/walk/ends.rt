@@ -41,7 +41,8 @@ fn are_same_in_turn(old: &[Remainder], new: &[Remainder]) -> bool
 }
 
 fn are_same(old: &[Remainder], new: &[Remainder]) -> bool
-    ensures { result ≡ ((length old.now == length new.now) && list_all (λ pair. is_same pair.0 pair.1) (zip old.now new.now)) }
+    ensures { result ≡ ((length old.now == length new.now)
+        && list_all (λ pair. is_same pair.0 pair.1) (zip old.now new.now)) }
 {
     old.len() == new.len() && are_same_in_turn(old, new)
 }
@@ -54,7 +55,8 @@ fn all_deny(remainders: &[Remainder]) -> bool
 
 /// Whether no name that goes on from here can be gained: the new rows are the old ones, or none of them grants.
 pub(crate) fn is_barren(old: &[Remainder], new: &[Remainder]) -> bool
-    ensures { result ≡ true → (marks : MarkLevels) (ls : List (List ℕ)) → gains marks ls old.now new.now ≡ false }
+    ensures { result ≡ true → (marks : MarkLevels) (ls : List (List ℕ))
+        → gains marks ls old.now new.now ≡ false }
 {
     all_deny(new) || are_same(old, new)
 }
@@ -68,7 +70,8 @@ fn all_open(remainders: &[Remainder]) -> bool
 /// Whether all names that go on from here are gained as the one that ends here.
 pub(crate) fn is_settled(start: Start, old: &[Remainder], new: &[Remainder]) -> bool
     ensures ends { result ≡ true → ends start ≡ true }
-    ensures same { result ≡ true → (marks : MarkLevels) (ls : List (List ℕ)) → gains marks ls old.now new.now ≡ gains marks [] old.now new.now }
+    ensures same { result ≡ true → (marks : MarkLevels) (ls : List (List ℕ))
+        → gains marks ls old.now new.now ≡ gains marks [] old.now new.now }
 {
     if !start.ends() {
         return false;

@@ -47,7 +47,8 @@ impl<'a> Remainder<'a> {
     #[tactic(auto, using(crate::proofs::RemainderLemmas::covers_none, crate::proofs::RemainderLemmas::covers_hash))]
     pub fn next(&self, marks: Marks<'a>) -> Next<'a>
         ensures goes_on { GoesOn (marks_view marks.entry) self.now result }
-        ensures fits { (p : List ℕ → Bool) → marks_pass p (marks_view marks.entry) ≡ true → remainder_fits p self.now ≡ true → NextFits p result }
+        ensures fits { (p : List ℕ → Bool) → marks_pass p (marks_view marks.entry) ≡ true
+            → remainder_fits p self.now ≡ true → NextFits p result }
     {
         let Some(rest) = self.rest else {
             return Next::Never;

@@ -1,0 +1,34 @@
+-- What a filter reaches of what a client may read.
+use Rattle.std.specs.Prelude.{◌≡◌, ◌≤◌, ℕ, Bool, true, List, length, nat_le, Option, Some}
+use Rattle.std.specs.List.{list_all}
+use Rattle.mq_topic.specs.Levels.{levels}
+use Rattle.mq_acl.specs.Rows.{AclRow}
+use Rattle.mq_questions.specs.Names.{are_others, is_choice, level_of, is_name_level, suits, start_of}
+use Rattle.mq_questions.specs.Remainders.{MarkLevels, fits, mark_passes, marks_pass}
+use Rattle.mq_questions.specs.Roots.{rows_fit}
+use Rattle.mq_questions.specs.declared.walk.others.Others.{Others}
+use Rattle.mq_questions.specs.Users.{is_short_level, usable}
+
+-- no level or id is longer than 300 bytes
+pub record AreShort (rows : List AclRow) (client : List ℕ) (user : Option (List ℕ)) (filter : List ℕ) : Type 0 where
+  pub rows_usable : list_all usable rows ≡ true
+  pub client_short : length client ≤ 300
+  pub user_short : mark_passes (λ u. nat_le (length u) 300) user ≡ true
+  pub filter_short : fits is_short_level (levels filter) ≡ true
+
+-- the levels that a client id and a user name are, as far as they can be levels
+abbrev pub level_marks : List ℕ → Option (List ℕ) → MarkLevels
+level_marks client user = record { client = level_of (Some client); user = level_of user }
+
+-- the texts that stand for others are named by none of these
+pub record AreApart (rows : List AclRow) (client : List ℕ) (user : Option (List ℕ)) (filter : List ℕ) (others : Others) : Type 0 where
+  pub usable : are_others others ≡ true
+  pub marks_fit : marks_pass (is_choice others) (level_marks client user) ≡ true
+  pub all_fit : rows_fit (is_choice others) rows ≡ true
+  pub filter_fits : fits (is_choice others) (levels filter) ≡ true
+
+-- a valid name has these levels
+pub record IsNamedBy (dollar : Bool) (ls : List (List ℕ)) : Type 0 where
+  pub valid : list_all is_name_level ls ≡ true
+  pub few : length ls ≤ 200
+  pub suitable : suits (start_of dollar) ls ≡ true

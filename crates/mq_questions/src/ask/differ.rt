@@ -1,0 +1,238 @@
+//! Whether two lists allow the same.
+ghost use Rattle.std.specs.Prelude.{◌≡◌, ℕ, List, IfOk, IsTrue, true, false, None, Some, Option};
+ghost use Rattle.std.specs.Option.{option_copied};
+ghost use Rattle.mq_topic.specs.Texts.{is_name};
+ghost use Rattle.mq_acl.specs.Access.{applies};
+ghost use Rattle.mq_acl.specs.Views.{owner_view};
+ghost use Rattle.mq_questions.specs.Differ.{AllowSame, AllowSameIn, Differ};
+ghost use Rattle.mq_questions.specs.Fresh.{AreFresh, is_literal, is_user_level};
+ghost use Rattle.mq_questions.specs.Literals.{is_named};
+ghost use Rattle.mq_questions.specs.Names.{level_of};
+ghost use Rattle.mq_questions.specs.Remainders.{mark_passes};
+ghost use Rattle.mq_questions.specs.Roots.{all_rows, rows_fit, HasUsers};
+ghost use Rattle.mq_questions.specs.Users.{is_name_of};
+
+use crate::ask::fresh::Fresh;
+use crate::ask::gain::{Witness, gains};
+use crate::ask::literals::Literals;
+use crate::ask::others::all_others;
+use crate::ask::rows::Rows;
+use mq_acl::{Direction, Owner};
+use mq_topic::LevelText;
+use std::alloc::{AllocError, Global};
+
+// Whether the witness shows a difference: each does, under a valid name.
+fn shows(witness: &Witness) -> bool
+    ensures shows { result ≡ true }
+    ensures valid { IsTrue (is_name witness.now.name) }
+{
+    let _name = witness.name.text();
+    true
+}
+
+fn user_differs_in<'a>(
+    alloc: Global,
+    fresh: Fresh<'a>,
+    user: Option<&'a str>,
+    direction: Direction,
+    one: Rows<'a>,
+    other: Rows<'a>,
+) -> Result<bool, AllocError>
+    requires fresh { AreFresh fresh }
+    requires user { mark_passes (is_user_level fresh) (level_of (option_copied user)) ≡ true }
+    requires one { rows_fit (is_literal fresh) (all_rows one) ≡ true }
+    requires other { rows_fit (is_literal fresh) (all_rows other) ≡ true }
+    ensures same { IfOk result (λ differ. differ ≡ false
+        → AllowSameIn (all_rows one.entry) (all_rows other.entry)
+        (option_copied user.entry) direction) }
+    ensures differ { IfOk result (λ differ. differ ≡ true
+        → Differ (all_rows one.entry) (all_rows other.entry)) }
+{
+    let more = gains(alloc, fresh, user, direction, 1, one, other)?;
+    if let Some(witness) = more.first() {
+        return Ok(shows(witness));
+    }
+    let fewer = gains(alloc, fresh, user, direction, 1, other, one)?;
+    if let Some(witness) = fewer.first() {
+        return Ok(shows(witness));
+    }
+    Ok(false)
+}
+
+/// Whether the lists differ for some client of this user name, or without one.
+pub(crate) fn user_differs<'a>(
+    alloc: Global,
+    fresh: Fresh<'a>,
+    user: Option<&'a str>,
+    one: Rows<'a>,
+    other: Rows<'a>,
+) -> Result<bool, AllocError>
+    requires fresh { AreFresh fresh }
+    requires user { mark_passes (is_user_level fresh) (level_of (option_copied user)) ≡ true }
+    requires one { rows_fit (is_literal fresh) (all_rows one) ≡ true }
+    requires other { rows_fit (is_literal fresh) (all_rows other) ≡ true }
+    ensures same { IfOk result (λ differ. differ ≡ false
+        → AllowSame (all_rows one.entry) (all_rows other.entry) (option_copied user.entry)) }
+    ensures differ { IfOk result (λ differ. differ ≡ true
+        → Differ (all_rows one.entry) (all_rows other.entry)) }
+{
+    if user_differs_in(alloc, fresh, user, Direction::Reading, one, other)? {
+        return Ok(true);
+    }
+    let writing = user_differs_in(alloc, fresh, user, Direction::Writing, one, other)?;
+    Ok(writing)
+}
+
+fn others_differ_in<'a>(
+    alloc: Global,
+    fresh: Fresh<'a>,
+    named: &Literals,
+    direction: Direction,
+    one: Rows<'a>,
+    other: Rows<'a>,
+) -> Result<bool, AllocError>
+    requires fresh { AreFresh fresh }
+    requires user { is_named fresh.user.now named.now ≡ false }
+    requires dollar_user { is_named fresh.dollar_user.now named.now ≡ false }
+    requires forth { HasUsers named.now (all_rows one) (all_rows other) }
+    requires back { HasUsers named.now (all_rows other) (all_rows one) }
+    requires one { rows_fit (is_literal fresh) (all_rows one) ≡ true }
+    requires other { rows_fit (is_literal fresh) (all_rows other) ≡ true }
+    ensures same { IfOk result (λ differ. differ ≡ false → (user : List ℕ)
+        → is_named user named.now ≡ false
+        → AllowSameIn (all_rows one.entry) (all_rows other.entry) (Some user) direction) }
+    ensures differ { IfOk result (λ differ. differ ≡ true
+        → Differ (all_rows one.entry) (all_rows other.entry)) }
+{
+    let more = all_others(alloc, fresh, named, direction, 1, one, other)?;
+    if let Some(other) = more.first() {
+        return Ok(shows(&other.witness));
+    }
+    let fewer = all_others(alloc, fresh, named, direction, 1, other, one)?;
+    if let Some(other) = fewer.first() {
+        return Ok(shows(&other.witness));
+    }
+    Ok(false)
+}
+
+// Whether the lists differ for some client of a user name that neither names.
+fn others_differ<'a>(
+    alloc: Global,
+    fresh: Fresh<'a>,
+    named: &Literals,
+    one: Rows<'a>,
+    other: Rows<'a>,
+) -> Result<bool, AllocError>
+    requires fresh { AreFresh fresh }
+    requires user { is_named fresh.user.now named.now ≡ false }
+    requires dollar_user { is_named fresh.dollar_user.now named.now ≡ false }
+    requires forth { HasUsers named.now (all_rows one) (all_rows other) }
+    requires back { HasUsers named.now (all_rows other) (all_rows one) }
+    requires one { rows_fit (is_literal fresh) (all_rows one) ≡ true }
+    requires other { rows_fit (is_literal fresh) (all_rows other) ≡ true }
+    ensures same { IfOk result (λ differ. differ ≡ false → (user : List ℕ)
+        → is_named user named.now ≡ false
+        → AllowSame (all_rows one.entry) (all_rows other.entry) (Some user)) }
+    ensures differ { IfOk result (λ differ. differ ≡ true
+        → Differ (all_rows one.entry) (all_rows other.entry)) }
+{
+    if others_differ_in(alloc, fresh, named, Direction::Reading, one, other)? {
+        return Ok(true);
+    }
+    let writing = others_differ_in(alloc, fresh, named, Direction::Writing, one, other)?;
+    Ok(writing)
+}
+
+// Whether the lists differ for some client of one of these user names.
+fn users_differ<'a, 'b: 'a>(
+    alloc: Global,
+    fresh: Fresh<'a>,
+    named: &Literals<'b>,
+    one: Rows<'a>,
+    other: Rows<'a>,
+) -> Result<bool, AllocError>
+    requires fresh { AreFresh fresh }
+    requires level { (user : List ℕ) → is_named user named.now ≡ true
+        → mark_passes (is_user_level fresh) (level_of (Some user)) ≡ true }
+    requires one { rows_fit (is_literal fresh) (all_rows one) ≡ true }
+    requires other { rows_fit (is_literal fresh) (all_rows other) ≡ true }
+    ensures same { IfOk result (λ differ. differ ≡ false → (user : List ℕ)
+        → is_named user named.now ≡ true
+        → AllowSame (all_rows one.entry) (all_rows other.entry) (Some user)) }
+    ensures differ { IfOk result (λ differ. differ ≡ true
+        → Differ (all_rows one.entry) (all_rows other.entry)) }
+{
+    let users = named.list(alloc)?;
+    for user in &users {
+        if user_differs(alloc, fresh, Some(user), one, other)? {
+            return Ok(true);
+        }
+    }
+    Ok(false)
+}
+
+// Whether the lists differ for some client.
+fn all_differ<'a, 'b: 'a>(
+    alloc: Global,
+    fresh: Fresh<'a>,
+    named: &Literals<'b>,
+    one: Rows<'a>,
+    other: Rows<'a>,
+) -> Result<bool, AllocError>
+    requires fresh { AreFresh fresh }
+    requires user { is_named fresh.user.now named.now ≡ false }
+    requires dollar_user { is_named fresh.dollar_user.now named.now ≡ false }
+    requires level { (user : List ℕ) → is_named user named.now ≡ true
+        → mark_passes (is_user_level fresh) (level_of (Some user)) ≡ true }
+    requires forth { HasUsers named.now (all_rows one) (all_rows other) }
+    requires back { HasUsers named.now (all_rows other) (all_rows one) }
+    requires one { rows_fit (is_literal fresh) (all_rows one) ≡ true }
+    requires other { rows_fit (is_literal fresh) (all_rows other) ≡ true }
+    ensures same { IfOk result (λ differ. differ ≡ false → (user : Option (List ℕ))
+        → AllowSame (all_rows one.entry) (all_rows other.entry) user) }
+    ensures differ { IfOk result (λ differ. differ ≡ true
+        → Differ (all_rows one.entry) (all_rows other.entry)) }
+{
+    if user_differs(alloc, fresh, None, one, other)? {
+        return Ok(true);
+    }
+    if users_differ(alloc, fresh, named, one, other)? {
+        return Ok(true);
+    }
+    let others = others_differ(alloc, fresh, named, one, other)?;
+    Ok(others)
+}
+
+/// Whether the lists differ for some client that a row of this owner is for. `named` has all user names of the lists,
+/// and that of the owner.
+pub(crate) fn owner_differs<'a, 'b: 'a>(
+    alloc: Global,
+    fresh: Fresh<'a>,
+    named: &Literals<'b>,
+    owner: &'a Owner,
+    one: Rows<'a>,
+    other: Rows<'a>,
+) -> Result<bool, AllocError>
+    requires fresh { AreFresh fresh }
+    requires user { is_named fresh.user.now named.now ≡ false }
+    requires dollar_user { is_named fresh.dollar_user.now named.now ≡ false }
+    requires level { (user : List ℕ) → is_named user named.now ≡ true
+        → mark_passes (is_user_level fresh) (level_of (Some user)) ≡ true }
+    requires owner { (user : List ℕ) → is_name_of user (owner_view owner.now) ≡ true
+        → is_named user named.now ≡ true }
+    requires forth { HasUsers named.now (all_rows one) (all_rows other) }
+    requires back { HasUsers named.now (all_rows other) (all_rows one) }
+    requires one { rows_fit (is_literal fresh) (all_rows one) ≡ true }
+    requires other { rows_fit (is_literal fresh) (all_rows other) ≡ true }
+    ensures same { IfOk result (λ differ. differ ≡ false → (user : Option (List ℕ))
+        → applies user (owner_view owner.entry.now) ≡ true
+        → AllowSame (all_rows one.entry) (all_rows other.entry) user) }
+    ensures differ { IfOk result (λ differ. differ ≡ true
+        → Differ (all_rows one.entry) (all_rows other.entry)) }
+{
+    match owner {
+        Owner::Anonymous => user_differs(alloc, fresh, None, one, other),
+        Owner::Named(name) => user_differs(alloc, fresh, Some(name.as_str()), one, other),
+        Owner::Everyone => all_differ(alloc, fresh, named, one, other),
+    }
+}
