@@ -1,0 +1,6 @@
+pub mod AnyLemmas
+pub mod ChangeLemmas
+pub mod GroupLemmas
+pub mod LintLemmas
+pub mod WitnessLemmas
+pub mod NeedlessLemmas

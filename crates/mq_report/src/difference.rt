@@ -1,0 +1,70 @@
+ghost use Rattle.std.specs.Prelude.{◌≡◌, ◌&&◌, string_bytes};
+ghost use Rattle.std.specs.Str.{bytes_eq};
+ghost use Rattle.mq_report.specs.Differences.{same_direction, same_class, same_reasons, is_like};
+
+use crate::class::Class;
+use crate::reason::Reason;
+use mq_acl::Direction;
+use mq_questions::Way;
+use mq_topic::TopicName;
+
+/// A topic that a client may read or write by one list, and may not by another.
+#[derive(Debug, Drop)]
+pub struct Difference {
+    /// Of which clients it is told.
+    pub class: Class,
+    /// Whether it is read or written.
+    pub direction: Direction,
+    /// Whether it is gained or lost.
+    pub way: Way,
+    /// The client id of one of these clients; its user name is `class.user()`.
+    pub client: String,
+    /// The topic.
+    pub topic: TopicName,
+    /// Those of the client id, the user name and the levels of the topic that stand for any others: no line of either
+    /// list names them.
+    pub made_up: Vec<String>,
+    /// What decides it in the old list.
+    pub old_reason: Reason,
+    /// What decides it in the new list.
+    pub new_reason: Reason,
+}
+
+pub(crate) fn same_direction(left: Direction, right: Direction) -> bool
+    ensures { result ≡ same_direction left right }
+{
+    match left {
+        Direction::Reading => matches!(right, Direction::Reading),
+        Direction::Writing => matches!(right, Direction::Writing),
+    }
+}
+
+fn same_class(left: &Class, right: &Class) -> bool
+    ensures { result ≡ same_class left.now right.now }
+{
+    match (left, right) {
+        (Class::Anonymous, Class::Anonymous) => true,
+        (Class::User(name), Class::User(other)) => name == other,
+        (Class::Others(_), Class::Others(_)) => true,
+        _ => false,
+    }
+}
+
+impl Difference {
+    /// Whether the same lines decide both.
+    pub(crate) fn same_reasons(&self, other: &Difference) -> bool
+        ensures { result ≡ same_reasons self.now other.now }
+    {
+        self.old_reason == other.old_reason && self.new_reason == other.new_reason
+    }
+
+    /// Whether both are of the same class, direction and way, and the same lines decide them.
+    pub(crate) fn is_like(&self, other: &Difference) -> bool
+        ensures { result ≡ is_like self.now other.now }
+    {
+        same_class(&self.class, &other.class)
+            && same_direction(self.direction, other.direction)
+            && self.way == other.way
+            && self.same_reasons(other)
+    }
+}
