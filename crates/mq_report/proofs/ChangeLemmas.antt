@@ -1,6 +1,5 @@
 -- Differences that are told.
-use Rattle.std.proofs.Common.{◌≡◌, ℕ, ◌+◌, ◌<◌, ◌≤◌, Bool, true, false, not, ◌&&◌, ◌||◌, List, [], ◌∷◌, ◌++◌, length, drop, get_or, Option, Some, None, All, IsTrue, refl, ap, sym, ◌∙◌, subst, Bor}
-use Rattle.std.specs.List.{list_any}
+use Rattle.std.proofs.Common.{◌≡◌, ℕ, ◌+◌, ◌<◌, ◌≤◌, Bool, true, false, not, ◌&&◌, List, [], ◌∷◌, ◌++◌, length, drop, get_or, Option, Some, None, All, IsTrue, refl, ap, sym, ◌∙◌, subst, Bor}
 use Rattle.std.proofs.lemmas.List.Elements.{All-append, All-nil, All-cons}
 use Rattle.mq_topic.specs.Texts.{is_name}
 use Rattle.mq_acl.specs.Access.{allowed}
@@ -17,19 +16,22 @@ use Rattle.mq_report.specs.Classes.{is_listed}
 use Rattle.mq_report.specs.Differences.{is_told_of, IsReal, Adds, Tells}
 use Rattle.mq_report.specs.declared.difference.Difference.{Difference}
 
-pub adds_many : (old new : List Row) (before after more : List Difference) → after ≡ before ++ more → All (IsReal old new) more → Adds old new before after
+pub adds_many : (old new : List Row) (before after more : List Difference)
+    → after ≡ before ++ more → All (IsReal old new) more → Adds old new before after
 adds_many old new before after more e r = record {
   real = λ all. subst (All (IsReal old new)) (sym e) (All-append (IsReal old new) before more all r);
   kept = λ p h. any_kept p before more after e h;
 }
 
-pub adds_one : (old new : List Row) (before after : List Difference) (d : Difference) → after ≡ before ++ d ∷ [] → IsReal old new d → Adds old new before after
+pub adds_one : (old new : List Row) (before after : List Difference) (d : Difference)
+    → after ≡ before ++ d ∷ [] → IsReal old new d → Adds old new before after
 adds_one old new before after d e r = adds_many old new before after (d ∷ []) e (All-cons (IsReal old new) d [] r (All-nil (IsReal old new)))
 
 pub adds_none : (old new : List Row) (before : List Difference) → Adds old new before before
 adds_none old new before = record { real = λ all. all; kept = λ p h. h }
 
-pub adds_both : (old new : List Row) (a b c : List Difference) → Adds old new a b → Adds old new b c → Adds old new a c
+pub adds_both : (old new : List Row) (a b c : List Difference) → Adds old new a b
+    → Adds old new b c → Adds old new a c
 adds_both old new a b c f g = record { real = λ all. g.real (f.real all); kept = λ p h. g.kept p (f.kept p h) }
 
 -- ---- all classes
@@ -43,31 +45,39 @@ pub record IsTold (old new : List Row) (names : List (Bor (List ℕ))) (n : ℕ)
   pub anonymous : ToldFor old new None all
   pub users : (t : List ℕ) → is_among t names ≡ true → is_among t (drop n names) ≡ false → ToldFor old new (Some t) all
 
-pub told_kept : (old new : List Row) (user : Option (List ℕ)) (before after : List Difference) → Adds old new before after → ToldFor old new user before → ToldFor old new user after
+pub told_kept : (old new : List Row) (user : Option (List ℕ)) (before after : List Difference)
+    → Adds old new before after → ToldFor old new user before → ToldFor old new user after
 told_kept old new user before after a h way direction client topic valid change =
     a.kept (is_told_of (row_views old) (row_views new) way direction user) (h way direction client topic valid change)
 
-not_among : (names : List (Bor (List ℕ))) (t : List ℕ) → is_among t names ≡ true → is_among t (drop 0 names) ≡ false → ⊥
+not_among : (names : List (Bor (List ℕ))) (t : List ℕ) → is_among t names ≡ true
+    → is_among t (drop 0 names) ≡ false → ⊥
 not_among names t e f = let q : true ≡ false = sym e ∙ f in cc
 
-pub told_start : (old new : List Row) (names : List (Bor (List ℕ))) (all : List Difference) → Adds old new [] all → ToldFor old new None all → IsTold old new names 0 all
+pub told_start : (old new : List Row) (names : List (Bor (List ℕ))) (all : List Difference)
+    → Adds old new [] all → ToldFor old new None all → IsTold old new names 0 all
 told_start old new names all a h = record {
   real = a.real (All-nil (IsReal old new));
   anonymous = h;
   users = λ t e f. absurd (not_among names t e f);
 }
 
-pub told_one : (old new : List Row) (names : List (Bor (List ℕ))) (n : ℕ) (d : Bor (List ℕ)) (before after : List Difference) → n < length names
-    → Adds old new before after → ToldFor old new (Some (get_or names n d).now) after → IsTold old new names n before → IsTold old new names (n + 1) after
+pub told_one : (old new : List Row) (names : List (Bor (List ℕ))) (n : ℕ) (d : Bor (List ℕ))
+    (before after : List Difference) → n < length names
+    → Adds old new before after → ToldFor old new (Some (get_or names n d).now) after
+    → IsTold old new names n before → IsTold old new names (n + 1) after
 told_one old new names n d before after h a here s = record {
   real = a.real s.real;
   anonymous = told_kept old new None before after a s.anonymous;
   users = one_more_done (λ t. ToldFor old new (Some t) after) names n d h here (λ t e f. told_kept old new (Some t) before after a (s.users t e f));
 }
 
-pub told_all : (old new : List Row) (names : List (Bor (List ℕ))) (n : ℕ) (before after : List Difference) → length names ≤ n
+pub told_all : (old new : List Row) (names : List (Bor (List ℕ))) (n : ℕ)
+    (before after : List Difference) → length names ≤ n
     → ((t : List ℕ) → is_among t names ≡ is_listed (row_views old) (row_views new) t)
-    → Adds old new before after → ((t : List ℕ) → is_listed (row_views old) (row_views new) t ≡ false → ToldFor old new (Some t) after) → IsTold old new names n before
+    → Adds old new before after → ((t : List ℕ)
+    → is_listed (row_views old) (row_views new) t ≡ false → ToldFor old new (Some t) after)
+    → IsTold old new names n before
     → (user : Option (List ℕ)) → ToldFor old new user after
 told_all old new names n before after h listed a others s None = told_kept old new None before after a s.anonymous
 told_all old new names n before after h listed a others s (Some t) = at (is_listed (row_views old) (row_views new) t) refl
@@ -77,8 +87,11 @@ told_all old new names n before after h listed a others s (Some t) = at (is_list
     at false e = others t e
 
 -- ---- where nothing is told, nothing changed
-pub same_allowed : (old new : List Row) (client topic : List ℕ) (user : Option (List ℕ)) (direction : Direction) → IsTrue (is_name topic)
-    → ToldFor old new user [] → allowed (Some (row_views old)) client user topic direction ≡ allowed (Some (row_views new)) client user topic direction
+pub same_allowed : (old new : List Row) (client topic : List ℕ) (user : Option (List ℕ))
+    (direction : Direction) → IsTrue (is_name topic)
+    → ToldFor old new user []
+    → allowed (Some (row_views old)) client user topic direction
+    ≡ allowed (Some (row_views new)) client user topic direction
 same_allowed old new client topic user direction valid h =
     at (allowed (Some (row_views old)) client user topic direction) (allowed (Some (row_views new)) client user topic direction)
     (h Gained direction client topic valid) (h Lost direction client topic valid)
@@ -90,6 +103,8 @@ same_allowed old new client topic user direction valid h =
     at false false f g = refl
 
 -- ---- the names that a comparison lists
-pub listed_by : (old new : List Row) (c : Compared) (names items : List (Bor (List ℕ))) (t : List ℕ) → c.old ≡ row_views old → c.new ≡ row_views new → items ≡ names
-    → is_among t names ≡ lists_user c t → is_among t items ≡ is_listed (row_views old) (row_views new) t
+pub listed_by : (old new : List Row) (c : Compared) (names items : List (Bor (List ℕ)))
+    (t : List ℕ) → c.old ≡ row_views old → c.new ≡ row_views new → items ≡ names
+    → is_among t names ≡ lists_user c t
+    → is_among t items ≡ is_listed (row_views old) (row_views new) t
 listed_by old new c names items t e f g h = ap (is_among t) g ∙ h ∙ (λ i. is_listed (e i) (f i) t)

@@ -1,5 +1,5 @@
 -- Groups of differences that are alike.
-use Rattle.std.proofs.Common.{◌≡◌, ℕ, zero, suc, ◌<◌, Bool, true, false, List, [], ◌∷◌, ◌++◌, length, get_or, Option, Some, All, arith, refl, ap, sym, ◌∙◌, subst, append_assoc, append-nil}
+use Rattle.std.proofs.Common.{◌≡◌, ℕ, zero, suc, ◌<◌, true, false, List, [], ◌∷◌, ◌++◌, length, get_or, Some, All, arith, sym, ◌∙◌, subst, append_assoc}
 use Rattle.std.specs.Prelude.{AllPairs, IsPermutation, map, position}
 use Rattle.std.proofs.Math.ListN.{set}
 use Rattle.std.proofs.Math.Seq.{map-set_same}
@@ -15,12 +15,14 @@ use Rattle.mq_report.specs.declared.group.Group.{Group}
 abbrev in_group : Group → List Difference
 in_group group = group.first ∷ group.others.items
 
-push_inside : (a b : List Difference) (d : Difference) → IsPermutation ((a ++ b) ++ d ∷ []) ((a ++ d ∷ []) ++ b)
+push_inside : (a b : List Difference) (d : Difference)
+    → IsPermutation ((a ++ b) ++ d ∷ []) ((a ++ d ∷ []) ++ b)
 push_inside a b d =
     subst (λ l. IsPermutation l ((a ++ d ∷ []) ++ b)) (sym (append_assoc a b (d ∷ [])))
     (subst (λ r. IsPermutation (a ++ (b ++ d ∷ [])) r) (sym (append_assoc a (d ∷ []) b)) (IsPermutation-append_right a (b ++ d ∷ []) (d ∷ b) (IsPermutation-to_front b d)))
 
-members_joined : (groups : List Group) (i : ℕ) (old new : Group) (d : Difference) → i < length groups → JoinsGroup (get_or groups i old) d new
+members_joined : (groups : List Group) (i : ℕ) (old new : Group) (d : Difference)
+    → i < length groups → JoinsGroup (get_or groups i old) d new
     → IsPermutation (members groups ++ d ∷ []) (members (set groups i new))
 members_joined [] i old new d h j = absurd (omega arith)
 members_joined (group ∷ groups) zero old new d h j =
@@ -31,8 +33,10 @@ members_joined (group ∷ groups) (suc i) old new d h j =
     (IsPermutation-append_right (in_group group) (members groups ++ d ∷ []) (members (set groups i new)) (members_joined groups i old new d (omega arith) j))
 
 -- the difference is one more of the group at this place
-pub gathering_joined : (all : List Difference) (groups : List Group) (i : ℕ) (old new : Group) (d : Difference) → position (λ group. is_alike group.first d) groups ≡ Some i
-    → JoinsGroup (get_or groups i old) d new → IsGathering all groups → IsGathering (all ++ d ∷ []) (set groups i new)
+pub gathering_joined : (all : List Difference) (groups : List Group) (i : ℕ) (old new : Group)
+    (d : Difference) → position (λ group. is_alike group.first d) groups ≡ Some i
+    → JoinsGroup (get_or groups i old) d new → IsGathering all groups
+    → IsGathering (all ++ d ∷ []) (set groups i new)
 gathering_joined all groups i old new d found j s =
     let place = position-Some (λ group. is_alike group.first d) groups i old found in
     let group = get_or groups i old in
@@ -48,7 +52,8 @@ gathering_joined all groups i old new d found j s =
     }
 
 -- it is the first of a group of its own
-pub gathering_begun : (all : List Difference) (groups : List Group) (new : Group) → new.others.items ≡ [] → All (λ group. is_alike group.first new.first ≡ false) groups
+pub gathering_begun : (all : List Difference) (groups : List Group) (new : Group)
+    → new.others.items ≡ [] → All (λ group. is_alike group.first new.first ≡ false) groups
     → IsGathering all groups → IsGathering (all ++ new.first ∷ []) (groups ++ new ∷ [])
 gathering_begun all groups new alone unlike s =
     let d = new.first in

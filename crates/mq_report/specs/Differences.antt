@@ -23,7 +23,8 @@ use Rattle.mq_report.specs.declared.reason.Reason.{Reason}
 use Rattle.mq_report.specs.declared.reason.Reason.TheVariants.{Deny, Grant, NoGrant}
 
 -- the new list allows it and the old one doesn't, or the other way round
-abbrev pub is_change : Way → List AclRow → List AclRow → List ℕ → Option (List ℕ) → List ℕ → Direction → Bool
+abbrev pub is_change : Way → List AclRow → List AclRow → List ℕ → Option (List ℕ) → List ℕ
+    → Direction → Bool
 is_change Gained old new client user topic direction = gained old new client user topic direction
 is_change Lost old new client user topic direction = gained new old client user topic direction
 
@@ -60,7 +61,8 @@ abbrev pub is_like : Difference → Difference → Bool
 is_like d e = same_class d.class e.class && same_direction d.direction e.direction && same_way d.way e.way && same_reasons d e
 
 -- the difference is of this way and direction, and of the class of this user name, or of none
-abbrev pub is_told_of : List AclRow → List AclRow → Way → Direction → Option (List ℕ) → Difference → Bool
+abbrev pub is_told_of : List AclRow → List AclRow → Way → Direction → Option (List ℕ)
+    → Difference → Bool
 is_told_of old new way direction user d = same_way way d.way && same_direction direction d.direction && is_in old new user d.class
 
 -- no row names any of the texts
@@ -81,7 +83,8 @@ pub record Compares (old new : List Row) (c : Compared) : Type 0 where
   pub new_list : c.new ≡ row_views new
 
 -- what changes in this way and direction for a client of this user name, or of none, is told of its class
-abbrev pub Tells : List AclRow → List AclRow → Way → Direction → Option (List ℕ) → List Difference → Type 0
+abbrev pub Tells : List AclRow → List AclRow → Way → Direction → Option (List ℕ)
+    → List Difference → Type 0
 Tells old new way direction user all =
     (client topic : List ℕ) → IsTrue (is_name topic) → is_change way old new client user topic direction ≡ true
     → list_any (is_told_of old new way direction user) all ≡ true

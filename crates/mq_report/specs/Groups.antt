@@ -1,5 +1,5 @@
 -- Differences that are alike.
-use Rattle.std.specs.Prelude.{◌≡◌, ℕ, Bool, true, false, List, [], ◌∷◌, ◌++◌, ◌==◌, ◌&&◌, All, AllPairs, IsPermutation, map}
+use Rattle.std.specs.Prelude.{◌≡◌, Bool, true, false, List, [], ◌∷◌, ◌++◌, ◌&&◌, All, AllPairs, IsPermutation, map}
 use Rattle.std.specs.List.{flat_map}
 use Rattle.std.specs.Str.{bytes_eq}
 use Rattle.mq_report.specs.Differences.{same_direction, same_way, same_reasons}

@@ -1,8 +1,8 @@
 -- Lines without which a list allows the same.
-use Rattle.std.specs.Prelude.{◌≡◌, ◌≢◌, ◌<◌, ◌⊎◌, ℕ, Bool, true, false, List, [], ◌∷◌, ◌==◌, ◌&&◌, not, length, slice_index_or, Option, Some, None, IfSome, IfNone}
+use Rattle.std.specs.Prelude.{◌≡◌, ◌≢◌, ◌<◌, ◌⊎◌, ℕ, true, false, List, [], ◌∷◌, ◌==◌, ◌&&◌, not, length, slice_index_or, Option, Some, None}
 use Rattle.std.specs.List.{list_any}
 use Rattle.mq_acl.specs.Access.{is_deny}
-use Rattle.mq_acl.specs.Lines.{Access, Read, Write, ReadWrite, Deny}
+use Rattle.mq_acl.specs.Lines.{Access, ReadWrite, Deny}
 use Rattle.mq_acl.specs.Rows.{AclRow}
 use Rattle.mq_acl.specs.Views.{row_view, row_views}
 use Rattle.mq_acl.specs.declared.row.Row.{Row}

@@ -27,8 +27,11 @@ fn add_changes(
     requires lists { Compares lists.old.now lists.new.now lists.comparison.now }
     requires listed { AreListed (row_views lists.old.now) (row_views lists.new.now) clients }
     ensures adds { OnOk result (Adds lists.entry.old.now lists.entry.new.now all.old.items all.new.items) }
-    ensures told { OnOk result ((user : Option (List ℕ)) → is_asked (row_views lists.entry.old.now) (row_views lists.entry.new.now) user clients.entry ≡ true
-        → Tells (row_views lists.entry.old.now) (row_views lists.entry.new.now) question.way question.direction user all.new.items) }
+    ensures told { OnOk result ((user : Option (List ℕ))
+        → is_asked (row_views lists.entry.old.now)
+        (row_views lists.entry.new.now) user clients.entry ≡ true
+        → Tells (row_views lists.entry.old.now)
+        (row_views lists.entry.new.now) question.way question.direction user all.new.items) }
 {
     let mut told = of_clients(alloc, lists, clients, question)?;
     all.append(&mut told)?;
@@ -47,8 +50,10 @@ fn add_direction(
     requires listed { AreListed (row_views lists.old.now) (row_views lists.new.now) clients }
     ensures adds { OnOk result (Adds lists.entry.old.now lists.entry.new.now all.old.items all.new.items) }
     ensures told { OnOk result ((way : Way) (user : Option (List ℕ))
-        → is_asked (row_views lists.entry.old.now) (row_views lists.entry.new.now) user clients.entry ≡ true
-        → Tells (row_views lists.entry.old.now) (row_views lists.entry.new.now) way direction user all.new.items) }
+        → is_asked (row_views lists.entry.old.now)
+        (row_views lists.entry.new.now) user clients.entry ≡ true
+        → Tells (row_views lists.entry.old.now)
+        (row_views lists.entry.new.now) way direction user all.new.items) }
 {
     let gained = Question {
         direction,
@@ -74,8 +79,10 @@ fn add_clients(
     requires listed { AreListed (row_views lists.old.now) (row_views lists.new.now) clients }
     ensures adds { OnOk result (Adds lists.entry.old.now lists.entry.new.now all.old.items all.new.items) }
     ensures told { OnOk result ((way : Way) (direction : Direction) (user : Option (List ℕ))
-        → is_asked (row_views lists.entry.old.now) (row_views lists.entry.new.now) user clients.entry ≡ true
-        → Tells (row_views lists.entry.old.now) (row_views lists.entry.new.now) way direction user all.new.items) }
+        → is_asked (row_views lists.entry.old.now)
+        (row_views lists.entry.new.now) user clients.entry ≡ true
+        → Tells (row_views lists.entry.old.now)
+        (row_views lists.entry.new.now) way direction user all.new.items) }
 {
     add_direction(alloc, all, lists, clients, Direction::Reading)?;
     add_direction(alloc, all, lists, clients, Direction::Writing)?;
@@ -93,8 +100,10 @@ pub fn compare<'a>(
     ensures told { IfOk result (λ all. (way : Way) (direction : Direction) (user : Option (List ℕ))
         → Tells (row_views old.entry.now) (row_views new.entry.now) way direction user all.items) }
     ensures real { IfOk result (λ all. All (IsReal old.entry.now new.entry.now) all.items) }
-    ensures same { IfOk result (λ all. all.items ≡ [] → (client topic : List ℕ) (user : Option (List ℕ)) (direction : Direction)
-        → IsTrue (is_name topic) → allowed (Some (row_views old.entry.now)) client user topic direction
+    ensures same { IfOk result (λ all. all.items ≡ []
+        → (client topic : List ℕ) (user : Option (List ℕ)) (direction : Direction)
+        → IsTrue (is_name topic)
+        → allowed (Some (row_views old.entry.now)) client user topic direction
         ≡ allowed (Some (row_views new.entry.now)) client user topic direction) }
 {
     let comparison = Comparison::new(alloc, old, new)?;

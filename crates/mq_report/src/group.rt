@@ -26,7 +26,8 @@ fn is_alike(left: &Difference, right: &Difference) -> bool
 // The place of the group that the difference belongs to.
 fn place_of(groups: &[Group], difference: &Difference) -> Option<usize>
     ensures found { result ≡ position (λ group. is_alike group.first difference.now) groups.now }
-    ensures none { IfNone result (All (λ group. is_alike group.first difference.now ≡ false) groups.now) }
+    ensures none { IfNone result (All (λ group. is_alike group.first difference.now
+        ≡ false) groups.now) }
 {
     groups
         .iter()
@@ -41,7 +42,8 @@ fn add_to(group: &mut Group, difference: Difference) -> Result<(), AllocError>
 }
 
 fn add(alloc: Global, groups: &mut Vec<Group>, difference: Difference) -> Result<(), AllocError>
-    ensures { OnOk result ((all : List Difference) → IsGathering all groups.old.items → IsGathering (all ++ difference ∷ []) groups.new.items) }
+    ensures { OnOk result ((all : List Difference) → IsGathering all groups.old.items
+        → IsGathering (all ++ difference ∷ []) groups.new.items) }
 {
     let Some(place) = place_of(groups, &difference) else {
         groups.push(Group {

@@ -89,7 +89,8 @@ fn add_line(
 /// `pattern` lines without a mark; and what mosquitto 2.0 reads otherwise, or doesn't start with.
 pub fn remarks(alloc: Global, text: &str) -> Result<Vec<Remark>, AllocError>
     ensures all { IfOk result (λ remarks. remarks.items ≡ remarks_of text.now) }
-    ensures faults { IfOk result (λ remarks. faults_told remarks.items ≡ faults_of (lines text.now)) }
+    ensures faults { IfOk result (λ remarks. faults_told remarks.items
+        ≡ faults_of (lines text.now)) }
 {
     let mut remarks = Vec::new(alloc);
     let mut number = 0u64;

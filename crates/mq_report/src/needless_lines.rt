@@ -42,7 +42,8 @@ fn as_grant(row: &Row) -> Result<Row, AllocError>
 }
 
 fn pair_of(alloc: Global, row: &Row, other: &Row) -> Result<Vec<Row>, AllocError>
-    ensures { IfOk result (λ pair. row_views pair.items ≡ as_grant (row_view row.now) ∷ (as_grant (row_view other.now) ∷ [])) }
+    ensures { IfOk result (λ pair. row_views pair.items
+        ≡ as_grant (row_view row.now) ∷ (as_grant (row_view other.now) ∷ [])) }
 {
     let mut pair = Vec::new(alloc);
     pair.push(as_grant(row)?)?;
@@ -52,8 +53,10 @@ fn pair_of(alloc: Global, row: &Row, other: &Row) -> Result<Vec<Row>, AllocError
 
 // Whether the other row makes the row needless.
 fn makes_needless(alloc: Global, row: &Row, other: &Row) -> Result<bool, NeedlessFault>
-    ensures yes { IfOk result (λ b. b ≡ true → MakesNeedless (row_view other.now) (row_view row.now)) }
-    ensures no { IfOk result (λ b. b ≡ false → MakesNeedless (row_view other.now) (row_view row.now) → ⊥) }
+    ensures yes { IfOk result (λ b. b ≡ true
+        → MakesNeedless (row_view other.now) (row_view row.now)) }
+    ensures no { IfOk result (λ b. b ≡ false
+        → MakesNeedless (row_view other.now) (row_view row.now) → ⊥) }
 {
     if is_deny(row.access) && !is_deny(other.access) {
         return Ok(false);
@@ -66,8 +69,10 @@ fn makes_needless(alloc: Global, row: &Row, other: &Row) -> Result<bool, Needles
 
 // The line of the first other row that makes the row at this place needless.
 fn maker(alloc: Global, rows: &[Row], index: usize, row: &Row) -> Result<Option<u64>, NeedlessFault>
-    ensures some { IfOk result (λ found. IfSome found (λ line. IsMaker rows.now index (row_view row.now) line)) }
-    ensures none { IfOk result (λ found. IfNone found (MakesNone rows.now index (row_view row.now))) }
+    ensures some { IfOk result (λ found. IfSome found
+        (λ line. IsMaker rows.now index (row_view row.now) line)) }
+    ensures none { IfOk result
+        (λ found. IfNone found (MakesNone rows.now index (row_view row.now))) }
 {
     for (place, other) in rows.iter().enumerate() {
         if place == index {
@@ -81,7 +86,8 @@ fn maker(alloc: Global, rows: &[Row], index: usize, row: &Row) -> Result<Option<
 }
 
 fn add(remarks: &mut Vec<Remark>, line: u64, by: Option<u64>) -> Result<(), AllocError>
-    ensures { OnOk result (remarks.new.items ≡ remarks.old.items ++ (record { line = line; kind = RemarkKind.Needless by } ∷ [])) }
+    ensures { OnOk result (remarks.new.items
+        ≡ remarks.old.items ++ (record { line = line; kind = RemarkKind.Needless by } ∷ [])) }
 {
     let kind = RemarkKind::Needless(by);
     remarks.push(Remark { line, kind })?;

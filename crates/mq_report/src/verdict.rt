@@ -35,7 +35,8 @@ pub fn why(
     topic: &TopicName,
     direction: Direction,
 ) -> Verdict
-    ensures reason { result.reason ≡ reason_of rows.now client.now (option_copied user.entry) topic.now direction }
+    ensures reason { result.reason
+        ≡ reason_of rows.now client.now (option_copied user.entry) topic.now direction }
     ensures grant { result.grant
         ≡ option_map (λ row. row.line) (first_grant rows.now client.now (option_copied user.entry) topic.now direction) }
     ensures allowed { is_grant result.reason

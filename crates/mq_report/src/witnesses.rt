@@ -49,8 +49,10 @@ fn add_made_up(
     text: &str,
 ) -> Result<(), AllocError>
     requires { Compares lists.old.now lists.new.now lists.comparison.now }
-    ensures { OnOk result (AreUnnamed (row_views lists.entry.old.now) (row_views lists.entry.new.now) made_up.old.items
-        → AreUnnamed (row_views lists.entry.old.now) (row_views lists.entry.new.now) made_up.new.items) }
+    ensures { OnOk result (AreUnnamed (row_views lists.entry.old.now)
+        (row_views lists.entry.new.now) made_up.old.items
+        → AreUnnamed (row_views lists.entry.old.now)
+        (row_views lists.entry.new.now) made_up.new.items) }
 {
     if !lists.comparison.is_made_up(text) {
         return Ok(());
@@ -70,7 +72,8 @@ fn made_up(
     witness: &Witness,
 ) -> Result<Vec<String>, AllocError>
     requires { Compares lists.old.now lists.new.now lists.comparison.now }
-    ensures { IfOk result (λ made_up. AreUnnamed (row_views lists.entry.old.now) (row_views lists.entry.new.now) made_up.items) }
+    ensures { IfOk result (λ made_up. AreUnnamed (row_views lists.entry.old.now)
+        (row_views lists.entry.new.now) made_up.items) }
 {
     let mut made_up = Vec::new(alloc);
     add_made_up(alloc, &mut made_up, lists, witness.client.as_str())?;
@@ -90,7 +93,8 @@ fn difference_of(
     witness: Witness,
 ) -> Result<Difference, AllocError>
     requires lists { Compares lists.old.now lists.new.now lists.comparison.now }
-    requires class { is_in (row_views lists.old.now) (row_views lists.new.now) (user_of class) class ≡ true }
+    requires class { is_in (row_views lists.old.now)
+        (row_views lists.new.now) (user_of class) class ≡ true }
     requires change { is_change question.way (row_views lists.old.now) (row_views lists.new.now)
         (string_bytes witness.client) (user_of class) witness.name question.direction ≡ true }
     ensures real { IfOk result (λ d. IsReal lists.entry.old.now lists.entry.new.now d) }
@@ -132,12 +136,16 @@ fn add_witness(
     witness: Witness,
 ) -> Result<(), AllocError>
     requires lists { Compares lists.old.now lists.new.now lists.comparison.now }
-    requires class { is_in (row_views lists.old.now) (row_views lists.new.now) (user_of class) class ≡ true }
+    requires class { is_in (row_views lists.old.now)
+        (row_views lists.new.now) (user_of class) class ≡ true }
     requires change { is_change question.way (row_views lists.old.now) (row_views lists.new.now)
         (string_bytes witness.client) (user_of class) witness.name question.direction ≡ true }
     ensures adds { OnOk result (Adds lists.entry.old.now lists.entry.new.now told.old.items told.new.items) }
-    ensures told { OnOk result ((user : Option (List ℕ)) → is_in (row_views lists.entry.old.now) (row_views lists.entry.new.now) user class ≡ true
-        → list_any (is_told_of (row_views lists.entry.old.now) (row_views lists.entry.new.now) question.way question.direction user) told.new.items ≡ true) }
+    ensures told { OnOk result ((user : Option (List ℕ))
+        → is_in (row_views lists.entry.old.now) (row_views lists.entry.new.now) user class ≡ true
+        → list_any (is_told_of (row_views lists.entry.old.now)
+        (row_views lists.entry.new.now) question.way question.direction user) told.new.items
+        ≡ true) }
 {
     let difference = difference_of(alloc, lists, class, question, witness)?;
     if has_like(told, &difference) {
@@ -150,8 +158,10 @@ fn add_witness(
 // What clients without a user name gain, or lose, in a direction.
 fn anonymous(alloc: Global, lists: Lists, question: Question) -> Result<Vec<Difference>, AllocError>
     requires { Compares lists.old.now lists.new.now lists.comparison.now }
-    ensures real { IfOk result (λ told. All (IsReal lists.entry.old.now lists.entry.new.now) told.items) }
-    ensures told { IfOk result (λ told. Tells (row_views lists.entry.old.now) (row_views lists.entry.new.now)
+    ensures real { IfOk result
+        (λ told. All (IsReal lists.entry.old.now lists.entry.new.now) told.items) }
+    ensures told { IfOk result (λ told. Tells (row_views lists.entry.old.now)
+        (row_views lists.entry.new.now)
         question.way question.direction None told.items) }
 {
     let Question { direction, way } = question;
@@ -170,9 +180,12 @@ fn of_user(
     question: Question,
 ) -> Result<Vec<Difference>, AllocError>
     requires lists { Compares lists.old.now lists.new.now lists.comparison.now }
-    requires listed { is_listed (row_views lists.old.now) (row_views lists.new.now) user.now ≡ true }
-    ensures real { IfOk result (λ told. All (IsReal lists.entry.old.now lists.entry.new.now) told.items) }
-    ensures told { IfOk result (λ told. Tells (row_views lists.entry.old.now) (row_views lists.entry.new.now)
+    requires listed { is_listed (row_views lists.old.now) (row_views lists.new.now) user.now
+        ≡ true }
+    ensures real { IfOk result
+        (λ told. All (IsReal lists.entry.old.now lists.entry.new.now) told.items) }
+    ensures told { IfOk result (λ told. Tells (row_views lists.entry.old.now)
+        (row_views lists.entry.new.now)
         question.way question.direction (Some user.now) told.items) }
 {
     let Question { direction, way } = question;
@@ -187,9 +200,12 @@ fn of_user(
 // What clients of all other user names do.
 fn of_others(alloc: Global, lists: Lists, question: Question) -> Result<Vec<Difference>, AllocError>
     requires { Compares lists.old.now lists.new.now lists.comparison.now }
-    ensures real { IfOk result (λ told. All (IsReal lists.entry.old.now lists.entry.new.now) told.items) }
-    ensures told { IfOk result (λ told. (user : List ℕ) → is_listed (row_views lists.entry.old.now) (row_views lists.entry.new.now) user ≡ false
-        → Tells (row_views lists.entry.old.now) (row_views lists.entry.new.now) question.way question.direction (Some user) told.items) }
+    ensures real { IfOk result
+        (λ told. All (IsReal lists.entry.old.now lists.entry.new.now) told.items) }
+    ensures told { IfOk result (λ told. (user : List ℕ)
+        → is_listed (row_views lists.entry.old.now) (row_views lists.entry.new.now) user ≡ false
+        → Tells (row_views lists.entry.old.now)
+        (row_views lists.entry.new.now) question.way question.direction (Some user) told.items) }
 {
     let Question { direction, way } = question;
     let mut told = Vec::new(alloc);
@@ -209,9 +225,13 @@ pub(crate) fn of_clients(
 ) -> Result<Vec<Difference>, AllocError>
     requires lists { Compares lists.old.now lists.new.now lists.comparison.now }
     requires listed { AreListed (row_views lists.old.now) (row_views lists.new.now) clients }
-    ensures real { IfOk result (λ told. All (IsReal lists.entry.old.now lists.entry.new.now) told.items) }
-    ensures told { IfOk result (λ told. (user : Option (List ℕ)) → is_asked (row_views lists.entry.old.now) (row_views lists.entry.new.now) user clients.entry ≡ true
-        → Tells (row_views lists.entry.old.now) (row_views lists.entry.new.now) question.way question.direction user told.items) }
+    ensures real { IfOk result
+        (λ told. All (IsReal lists.entry.old.now lists.entry.new.now) told.items) }
+    ensures told { IfOk result (λ told. (user : Option (List ℕ))
+        → is_asked (row_views lists.entry.old.now)
+        (row_views lists.entry.new.now) user clients.entry ≡ true
+        → Tells (row_views lists.entry.old.now)
+        (row_views lists.entry.new.now) question.way question.direction user told.items) }
 {
     match clients {
         Clients::Anonymous => anonymous(alloc, lists, question),

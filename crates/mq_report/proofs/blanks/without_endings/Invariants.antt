@@ -1,4 +1,4 @@
-use Rattle.std.proofs.Common.{◌≡◌, ◌+◌, ◌<◌, ◌≤◌, length, take, get_or, true}
+use Rattle.std.proofs.Common.{◌≡◌, ◌+◌, ◌≤◌, length, take}
 use Rattle.std.specs.List.{suffix_len}
 use Rattle.mq_acl.specs.Words.{is_ending}
 use Rattle.mq_report.proofs.blanks.without_endings.Given as goal

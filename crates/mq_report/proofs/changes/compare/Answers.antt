@@ -1,4 +1,4 @@
-use Rattle.std.proofs.Common.{◌≡◌, ℕ, List, [], Bor, get_or, ap, not, sym, ◌∙◌, subst, Option, Some, refl, true}
+use Rattle.std.proofs.Common.{ℕ, List, [], Bor, get_or, ap, not, sym, ◌∙◌, subst, Option, Some, refl}
 use Rattle.mq_report.specs.Differences.{Adds}
 use Rattle.mq_report.proofs.ChangeLemmas.{ToldFor, told_start, told_one, told_all, same_allowed, listed_by}
 use Rattle.mq_questions.proofs.ClientLemmas.{among_at}

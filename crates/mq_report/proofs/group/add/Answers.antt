@@ -1,4 +1,4 @@
-use Rattle.std.proofs.Common.{◌≡◌, ◌++◌, ◌∷◌, [], List, false, Some, All, sym, ◌∙◌, subst, ap}
+use Rattle.std.proofs.Common.{◌≡◌, ◌++◌, ◌∷◌, [], false, Some, All, sym, ◌∙◌, subst, ap}
 use Rattle.std.specs.Prelude.{position}
 use Rattle.mq_report.specs.Groups.{is_alike, JoinsGroup, IsGathering}
 use Rattle.mq_report.specs.declared.group.Group.{Group}

@@ -1,4 +1,4 @@
-use Rattle.std.proofs.Common.{ap, sym, ◌∙◌}
+use Rattle.std.proofs.Common.{ap, ◌∙◌}
 use Rattle.std.specs.List.{list_any}
 use Rattle.mq_acl.specs.Views.{row_view}
 use Rattle.mq_report.specs.Remarks.{is_unmarked, kind_if}

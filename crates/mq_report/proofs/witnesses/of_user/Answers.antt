@@ -1,4 +1,4 @@
-use Rattle.std.proofs.Common.{◌≡◌, length, ap, sym, ◌∙◌, refl, true, Some, string_bytes}
+use Rattle.std.proofs.Common.{◌≡◌, length, ap, sym, ◌∙◌, true, Some, string_bytes}
 use Rattle.std.proofs.lemmas.Iterator.Adapters.{YieldsList-from_vec}
 use Rattle.std.proofs.lemmas.Iterator.Consumers.{YieldsList-turn, YieldsList-end}
 use Rattle.mq_acl.specs.Views.{row_views}
