@@ -1,0 +1,4 @@
+pub mod ListFileLemmas
+pub mod CompareLemmas
+pub mod LintLemmas
+pub mod ReachLemmas

@@ -1,0 +1,6 @@
+pub mod CommandLine
+pub mod ListFile
+pub mod Statuses
+pub mod Answers
+pub mod Lint
+pub mod Program

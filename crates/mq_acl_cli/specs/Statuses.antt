@@ -1,0 +1,22 @@
+-- Exit statuses.
+use Rattle.std.specs.Prelude.{ℕ}
+use Rattle.mq_acl_cli.specs.declared.failure.Failure.{Failure}
+use Rattle.mq_acl_cli.specs.declared.failure.Failure.TheVariants as failure
+use Rattle.mq_acl_cli.specs.declared.outcome.Outcome.{Outcome}
+use Rattle.mq_acl_cli.specs.declared.outcome.Outcome.TheVariants.{Clear, Remark}
+
+abbrev pub outcome_status : Outcome → ℕ
+outcome_status Clear = 0
+outcome_status Remark = 1
+
+abbrev pub failure_status : Failure → ℕ
+failure_status failure.Write = 3
+failure_status failure.Memory = 3
+failure_status (failure.Read file) = 2
+failure_status (failure.TooLong file) = 2
+failure_status (failure.Utf8 file) = 2
+failure_status (failure.Line file line words) = 2
+failure_status (failure.Long file line) = 2
+failure_status failure.LongWord = 2
+failure_status (failure.Topic text) = 2
+failure_status (failure.Filter text) = 2

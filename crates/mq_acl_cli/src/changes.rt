@@ -1,0 +1,75 @@
+//! Where two lists differ.
+ghost use Rattle.std.specs.Prelude.{◌≡◌, [], IfOk};
+ghost use Rattle.mq_acl_cli.specs.Answers.{AreChanges, HasDifference};
+
+use crate::failure::Failure;
+use crate::list::ListText;
+use crate::outcome::Outcome;
+use mq_acl::Row;
+use mq_questions::ComparisonFault;
+use mq_report::{Difference, compare};
+use mq_topic::LevelText;
+use std::alloc::Global;
+
+/// Two lists, and where they differ.
+#[derive(Debug, Drop)]
+pub struct Changes {
+    /// The rows of the old list.
+    pub old: Vec<Row>,
+    /// The rows of the new list.
+    pub new: Vec<Row>,
+    /// Where they differ.
+    pub differences: Vec<Difference>,
+}
+
+fn comparison_failure<'a>(
+    old: ListText<'a, '_>,
+    new: ListText<'a, '_>,
+    fault: ComparisonFault,
+) -> Failure<'a> {
+    match fault {
+        ComparisonFault::Memory => Failure::Memory,
+        ComparisonFault::OldLine(line) => Failure::Long {
+            file: old.file,
+            line,
+        },
+        ComparisonFault::NewLine(line) => Failure::Long {
+            file: new.file,
+            line,
+        },
+    }
+}
+
+/// Where the lists with these texts differ.
+pub fn find_changes<'a>(
+    alloc: Global,
+    old: ListText<'a, '_>,
+    new: ListText<'a, '_>,
+) -> Result<Changes, Failure<'a>>
+    ensures { IfOk result (AreChanges old.entry.text.now new.entry.text.now) }
+{
+    let old_rows = old.rows(alloc)?;
+    let new_rows = new.rows(alloc)?;
+    match compare(alloc, &old_rows, &new_rows) {
+        Ok(differences) => Ok(Changes {
+            old: old_rows,
+            new: new_rows,
+            differences,
+        }),
+        Err(fault) => Err(comparison_failure(old, new, fault)),
+    }
+}
+
+/// Whether there are differences.
+pub(crate) fn outcome_of(differences: &[Difference]) -> Outcome
+    ensures clear { result ≡ Outcome.Clear → differences.now ≡ [] }
+    ensures remark { result ≡ Outcome.Remark → HasDifference differences.now }
+{
+    match differences.first() {
+        None => Outcome::Clear,
+        Some(first) => {
+            let _topic = first.topic.text();
+            Outcome::Remark
+        }
+    }
+}

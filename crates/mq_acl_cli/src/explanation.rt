@@ -1,0 +1,48 @@
+//! Which lines decide whether a client may read and write a topic.
+ghost use Rattle.std.specs.Prelude.{◌≡◌, IfOk};
+ghost use Rattle.std.specs.Option.{option_copied};
+ghost use Rattle.mq_acl_cli.specs.Answers.{Explains};
+
+use crate::failure::Failure;
+use crate::list::ListText;
+use crate::request::Client;
+use mq_acl::Direction;
+use mq_report::{Verdict, why};
+use mq_topic::{TopicFault, TopicName};
+use std::alloc::Global;
+
+/// Whether a client may read and write a topic, and why.
+#[derive(Clone, Copy, Debug, Drop)]
+pub struct Explanation {
+    /// Whether it may read the topic.
+    pub reading: Verdict,
+    /// Whether it may write it.
+    pub writing: Verdict,
+}
+
+fn topic_name(alloc: Global, text: &str) -> Result<TopicName, Failure<'_>>
+    ensures { IfOk result (λ name. name ≡ text.entry.now) }
+{
+    match TopicName::parse(alloc, text) {
+        Ok(name) => Ok(name),
+        Err(TopicFault::Memory) => Err(Failure::Memory),
+        Err(_) => Err(Failure::Topic(text)),
+    }
+}
+
+/// Whether this client may read and write the topic with this text by the list, and which of its lines decide it.
+pub fn explain<'a>(
+    alloc: Global,
+    list: ListText<'a, '_>,
+    client: Client<'a>,
+    topic: &'a str,
+) -> Result<Explanation, Failure<'a>>
+    ensures { IfOk result (Explains list.entry.text.now client.entry.id.now (option_copied client.entry.user) topic.entry.now) }
+{
+    let name = topic_name(alloc, topic)?;
+    let rows = list.rows(alloc)?;
+    Ok(Explanation {
+        reading: why(&rows, client.id, client.user, &name, Direction::Reading),
+        writing: why(&rows, client.id, client.user, &name, Direction::Writing),
+    })
+}

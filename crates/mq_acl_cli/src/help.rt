@@ -1,0 +1,80 @@
+//! The texts of help.
+
+pub(crate) const ABOUT: &str =
+    "Answers questions to access lists of mosquitto, for every client, user and topic";
+
+pub(crate) const AFTER_HELP: &str = "\
+An access list is a file in the form of mosquitto.conf(5)'s acl_file. What is
+answered holds for every client id, every user name or none, and every topic.
+
+Exit status:
+  0  both lists allow the same, no line is remarked on, a subscription can be
+     sent a topic, or why was answered
+  1  the lists differ, a line is remarked on, or a subscription is in vain
+  2  the arguments aren't understood, or an access list can't be opened, read or
+     understood
+  3  a write failed, or memory ran out
+
+Example:
+  mqroute-acl compare current.acl proposed.acl";
+
+pub(crate) const OLD_HELP: &str = "The access list that is in force";
+
+pub(crate) const NEW_HELP: &str = "The access list to compare with it";
+
+pub(crate) const FILE_HELP: &str = "The access list";
+
+pub(crate) const CLIENT_HELP: &str = "The client id";
+
+pub(crate) const TOPIC_HELP: &str = "The topic that is read or written";
+
+pub(crate) const FILTER_HELP: &str = "The topic filter of the subscription; $share/NAME/FILTER too";
+
+pub(crate) const USER_HELP: &str = "The user name of the client; without it the client has none";
+
+pub(crate) const JSON_HELP: &str = "Write JSON, one object a line";
+
+pub(crate) const COMPARE_ABOUT: &str = "Tells what one list allows and the other doesn't";
+
+pub(crate) const COMPARE_AFTER_HELP: &str = "\
+Each difference is told with a topic, and with the line of each list that
+decides it. A level, a client id or a user name that no line names stands for
+any other.
+
+With --json each difference is an object with
+  access    read or write
+  change    gained or lost
+  client    the client id
+  user      its user name, or null
+  topic     the topic
+  made_up   which of these, and of the levels of the topic, stand for others
+  old, new  the line that decides it, with file, line and text; or null, where
+            no line allows it";
+
+pub(crate) const WHY_ABOUT: &str =
+    "Tells whether a client may read and write a topic, and which line decides it";
+
+pub(crate) const WHY_AFTER_HELP: &str = "\
+With --json one object tells of reading and one of writing, each with
+  access   read or write
+  allowed  true or false
+  deny     the first line that denies it, with file, line and text; or null
+  grant    the first line that grants it, or null";
+
+pub(crate) const LINT_ABOUT: &str = "Tells lines that have a fault, are odd or are needless";
+
+pub(crate) const LINT_AFTER_HELP: &str = "\
+With --json each remark is an object with
+  file, line, text  the line
+  kind              fault, no mark, indented comment, tab or needless
+  words             what is told of it";
+
+pub(crate) const REACH_ABOUT: &str = "Tells whether a subscription can be sent anything";
+
+pub(crate) const REACH_AFTER_HELP: &str = "\
+A client is sent what its filter matches and the list lets it read. A topic that
+a subscription to FILTER can be sent is told, or that there is none.
+
+With --json the answer is an object with
+  filter  the subscription
+  topic   a topic that it can be sent, or null";

@@ -1,0 +1,38 @@
+//! Questions to access lists, asked on a command line.
+#![tactic(auto)]
+
+mod changes;
+mod command_line;
+mod compare;
+mod explanation;
+mod failure;
+mod fault_words;
+mod help;
+mod lint;
+mod list;
+mod list_file;
+mod outcome;
+mod print;
+mod program;
+mod reach;
+mod reached;
+mod remarks;
+mod request;
+mod why;
+mod words;
+
+pub use changes::{Changes, find_changes};
+pub use command_line::{UsageFault, arguments};
+pub use compare::tell_changes;
+pub use explanation::{Explanation, explain};
+pub use failure::{FAILED, Failure, UNREADABLE};
+pub use lint::tell_remarks;
+pub use list::ListText;
+pub use list_file::{FileFault, read_text};
+pub use outcome::Outcome;
+pub use program::start;
+pub use reach::tell_reach;
+pub use reached::find_topic;
+pub use remarks::{Remarks, find_remarks};
+pub use request::{Client, Question, Request};
+pub use why::tell_why;

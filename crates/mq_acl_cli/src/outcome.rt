@@ -1,0 +1,23 @@
+ghost use Rattle.std.specs.Prelude.{◌≡◌};
+ghost use Rattle.mq_acl_cli.specs.Statuses.{outcome_status};
+
+/// What a question that was answered comes to.
+#[derive(Clone, Copy, Debug, Drop, PartialEq, Eq)]
+pub enum Outcome {
+    /// Nothing is to be remarked.
+    Clear,
+    /// Lists differ, a line is remarked on, or a subscription is in vain.
+    Remark,
+}
+
+impl Outcome {
+    /// The exit status.
+    pub fn status(self) -> u8
+        ensures { result ≡ outcome_status self }
+    {
+        match self {
+            Outcome::Clear => 0,
+            Outcome::Remark => 1,
+        }
+    }
+}

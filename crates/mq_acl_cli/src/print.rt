@@ -1,0 +1,20 @@
+ghost use Rattle.std.specs.Prelude.{◌≡◌, OnOk, IfErr};
+ghost use Rattle.std.specs.Io.KnownBytes.{Appends};
+ghost use Rattle.mq_acl_cli.specs.Statuses.{failure_status};
+
+use crate::failure::Failure;
+use std::io::Write;
+
+/// Writes all of a text at once.
+pub(crate) fn print<'a, W: Write>(out: &mut W, text: &str) -> Result<(), Failure<'a>>
+    ensures ok { OnOk result (Appends (W.contents out.old) (W.contents out.new) text.now) }
+    ensures err { IfErr result (λ failure. failure_status failure ≡ 3) }
+{
+    if out.write_all(text.as_bytes()).is_err() {
+        return Err(Failure::Write);
+    }
+    match out.flush() {
+        Ok(()) => Ok(()),
+        Err(_) => Err(Failure::Write),
+    }
+}

@@ -1,0 +1,65 @@
+//! What a subscription can be sent.
+ghost use Rattle.std.specs.Prelude.{◌≡◌, ℕ, List, IfOk, Some, None, IsTrue};
+ghost use Rattle.std.specs.Option.{option_copied};
+ghost use Rattle.mq_topic.specs.Texts.{filter_part, is_name};
+ghost use Rattle.mq_acl_cli.specs.Answers.{IsReach};
+
+use crate::failure::Failure;
+use crate::list::ListText;
+use crate::outcome::Outcome;
+use crate::request::Client;
+use mq_questions::{ReachFault, reach};
+use mq_topic::{LevelText, SubFilter, TopicFault, TopicFilter, TopicName};
+use std::alloc::Global;
+
+fn filter_in(alloc: Global, subscription: &str) -> Result<TopicFilter, Failure<'_>>
+    ensures { IfOk result (λ filter. filter ≡ filter_part subscription.entry.now) }
+{
+    match SubFilter::parse(alloc, subscription) {
+        Ok(parts) => Ok(parts.filter),
+        Err(TopicFault::Memory) => Err(Failure::Memory),
+        Err(_) => Err(Failure::Filter(subscription)),
+    }
+}
+
+fn reach_failure<'a>(file: &'a str, fault: ReachFault) -> Failure<'a> {
+    match fault {
+        ReachFault::Memory => Failure::Memory,
+        ReachFault::Line(line) => Failure::Long { file, line },
+        ReachFault::Client | ReachFault::User | ReachFault::Filter => Failure::LongWord,
+    }
+}
+
+/// A topic that a subscription of this client can be sent by the list, or that there is none. A subscription is a topic
+/// filter, or `$share/NAME/FILTER`.
+pub fn find_topic<'a>(
+    alloc: Global,
+    list: ListText<'a, '_>,
+    client: Client<'a>,
+    subscription: &'a str,
+) -> Result<Option<TopicName>, Failure<'a>>
+    ensures { IfOk result (IsReach list.entry.text.now client.entry.id.now
+        (option_copied client.entry.user) subscription.entry.now) }
+{
+    let filter = filter_in(alloc, subscription)?;
+    let rows = list.rows(alloc)?;
+    match reach(alloc, &rows, client.id, client.user, &filter) {
+        Ok(found) => Ok(found),
+        Err(fault) => Err(reach_failure(list.file, fault)),
+    }
+}
+
+/// Whether there is a topic.
+pub(crate) fn outcome_of(found: &Option<TopicName>) -> Outcome
+    ensures clear { result ≡ Outcome.Clear
+        → (topic : List ℕ) × (found.now ≡ Some topic) × IsTrue (is_name topic) }
+    ensures remark { result ≡ Outcome.Remark → found.now ≡ None }
+{
+    match found {
+        None => Outcome::Remark,
+        Some(topic) => {
+            let _text = topic.text();
+            Outcome::Clear
+        }
+    }
+}

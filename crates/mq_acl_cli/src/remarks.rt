@@ -1,0 +1,76 @@
+//! What is odd or needless in a list.
+ghost use Rattle.std.specs.Prelude.{◌≡◌, ◌≢◌, ◌⊎◌, [], IfOk, false};
+ghost use Rattle.mq_acl_cli.specs.Lint.{AreRemarks, IsNeedlessIn};
+
+use crate::failure::Failure;
+use crate::list::ListText;
+use crate::outcome::Outcome;
+use mq_questions::NeedlessFault;
+use mq_report::{Remark, RemarkKind, needless, remarks};
+use std::alloc::Global;
+
+/// The remarks on a list.
+#[derive(Debug, Drop)]
+pub struct Remarks {
+    /// Lines that are faulty or odd.
+    pub odd: Vec<Remark>,
+    /// Lines that are needless, where none is faulty.
+    pub needless: Vec<Remark>,
+}
+
+fn has_fault(odd: &[Remark]) -> bool
+    ensures { odd.now ≡ [] → result ≡ false }
+{
+    odd.iter()
+        .any(|remark| matches!(remark.kind, RemarkKind::Fault(_)))
+}
+
+fn needless_in<'a>(alloc: Global, list: ListText<'a, '_>) -> Result<Vec<Remark>, Failure<'a>>
+    ensures { IfOk result (λ told. IsNeedlessIn list.entry.text.now told.items) }
+{
+    let rows = list.rows(alloc)?;
+    match needless(alloc, &rows) {
+        Ok(told) => Ok(told),
+        Err(NeedlessFault::Memory) => Err(Failure::Memory),
+        Err(NeedlessFault::Line(line)) => Err(Failure::Long {
+            file: list.file,
+            line,
+        }),
+    }
+}
+
+fn needless_unless_faulty<'a>(
+    alloc: Global,
+    list: ListText<'a, '_>,
+    odd: &[Remark],
+) -> Result<Vec<Remark>, Failure<'a>>
+    ensures some { IfOk result (λ told. (told.items ≡ []) ⊎ IsNeedlessIn list.entry.text.now told.items) }
+    ensures all { IfOk result (λ told. odd.now ≡ [] → IsNeedlessIn list.entry.text.now told.items) }
+{
+    if has_fault(odd) {
+        return Ok(Vec::new(alloc));
+    }
+    needless_in(alloc, list)
+}
+
+/// What is odd or needless in the list.
+pub fn find_remarks<'a>(alloc: Global, list: ListText<'a, '_>) -> Result<Remarks, Failure<'a>>
+    ensures { IfOk result (AreRemarks list.entry.text.now) }
+{
+    let odd = remarks(alloc, list.text)?;
+    let needless = needless_unless_faulty(alloc, list, &odd)?;
+    Ok(Remarks { odd, needless })
+}
+
+/// Whether there are remarks.
+pub(crate) fn outcome_of(remarks: &Remarks) -> Outcome
+    ensures clear { result ≡ Outcome.Clear
+        → (remarks.now.odd.items ≡ []) × (remarks.now.needless.items ≡ []) }
+    ensures remark { result ≡ Outcome.Remark
+        → (remarks.now.odd.items ≢ []) ⊎ (remarks.now.needless.items ≢ []) }
+{
+    match (remarks.odd.is_empty(), remarks.needless.is_empty()) {
+        (true, true) => Outcome::Clear,
+        _ => Outcome::Remark,
+    }
+}

@@ -1,0 +1,152 @@
+//! What the command line asks for.
+ghost use Rattle.std.specs.Prelude.{◌≡◌, Some, None, IfSome, IfNone, codes, option_map};
+ghost use Rattle.std.specs.Option.{option_copied};
+ghost use Rattle.clap.specs.Words.{first_of, rows_of, found_of, subcommand_rows_of};
+ghost use Rattle.mq_acl_cli.specs.CommandLine.{Why, Reach, question_view, asked, asked_by, IsAskedBy};
+ghost use Rattle.mq_acl_cli.specs.CommandLine.{compare_asked, lint_asked, about_client};
+
+use clap::ArgMatches;
+
+/// A client.
+#[derive(Clone, Copy, Debug, Drop)]
+pub struct Client<'a> {
+    /// Its client id.
+    pub id: &'a str,
+    /// Its user name, if it has one.
+    pub user: Option<&'a str>,
+}
+
+/// A question to access lists, each in a file.
+#[derive(Clone, Copy, Debug, Drop)]
+pub enum Question<'a> {
+    /// What one list allows and the other doesn't.
+    Compare {
+        old: &'a str,
+        new: &'a str,
+    },
+    /// Which lines decide whether a client may read and write a topic.
+    Why {
+        file: &'a str,
+        client: Client<'a>,
+        topic: &'a str,
+    },
+    /// Which lines have a fault or change nothing.
+    Lint {
+        file: &'a str,
+    },
+    /// Whether a subscription of a client can be sent anything.
+    Reach {
+        /// The file of the list.
+        file: &'a str,
+        /// The client.
+        client: Client<'a>,
+        /// The filter, or a shared subscription.
+        filter: &'a str,
+    },
+}
+
+/// What the command line asks for.
+#[derive(Clone, Copy, Debug, Drop)]
+pub struct Request<'a> {
+    /// The question.
+    pub question: Question<'a>,
+    /// Whether the answer is to be JSON.
+    pub json: bool,
+}
+
+// The value with this id.
+fn value<'a>(matches: &ArgMatches<'a>, id: &str) -> Option<&'a str>
+    ensures { option_copied result ≡ first_of id.now (rows_of (found_of matches.now)) }
+{
+    matches.get_str(id)
+}
+
+fn compare_in<'a>(matches: &ArgMatches<'a>) -> Option<Question<'a>>
+    ensures { let rows = rows_of (found_of matches.now) in
+        option_map question_view result ≡ compare_asked (first_of (codes "OLD") rows) (first_of (codes "NEW") rows) }
+{
+    match (value(matches, "OLD"), value(matches, "NEW")) {
+        (Some(old), Some(new)) => Some(Question::Compare { old, new }),
+        _ => None,
+    }
+}
+
+fn why_in<'a>(matches: &ArgMatches<'a>) -> Option<Question<'a>>
+    ensures { option_map question_view result ≡ about_client Why (codes "TOPIC") (rows_of (found_of matches.now)) }
+{
+    let user = value(matches, "user");
+    match (
+        value(matches, "FILE"),
+        value(matches, "CLIENT"),
+        value(matches, "TOPIC"),
+    ) {
+        (Some(file), Some(id), Some(topic)) => Some(Question::Why {
+            file,
+            client: Client { id, user },
+            topic,
+        }),
+        _ => None,
+    }
+}
+
+fn lint_in<'a>(matches: &ArgMatches<'a>) -> Option<Question<'a>>
+    ensures { option_map question_view result ≡ lint_asked (first_of (codes "FILE") (rows_of (found_of matches.now))) }
+{
+    match value(matches, "FILE") {
+        Some(file) => Some(Question::Lint { file }),
+        None => None,
+    }
+}
+
+fn reach_in<'a>(matches: &ArgMatches<'a>) -> Option<Question<'a>>
+    ensures { option_map question_view result ≡ about_client Reach (codes "FILTER") (rows_of (found_of matches.now)) }
+{
+    let user = value(matches, "user");
+    match (
+        value(matches, "FILE"),
+        value(matches, "CLIENT"),
+        value(matches, "FILTER"),
+    ) {
+        (Some(file), Some(id), Some(filter)) => Some(Question::Reach {
+            file,
+            client: Client { id, user },
+            filter,
+        }),
+        _ => None,
+    }
+}
+
+fn question_in<'a>(name: &str, matches: &ArgMatches<'a>) -> Option<Question<'a>>
+    ensures { option_map question_view result ≡ asked name.now (rows_of (found_of matches.now)) }
+{
+    match name {
+        "compare" => compare_in(matches),
+        "why" => why_in(matches),
+        "lint" => lint_in(matches),
+        "reach" => reach_in(matches),
+        _ => None,
+    }
+}
+
+// The same, with whether JSON is asked for.
+fn request_of<'a>(name: &str, matches: &ArgMatches<'a>) -> Option<Request<'a>>
+    ensures some { IfSome result (IsAskedBy (Some (name.now, rows_of (found_of matches.now)))) }
+    ensures none { IfNone result (asked name.now (rows_of (found_of matches.now)) ≡ None) }
+{
+    let json = matches.get_flag("json");
+    match question_in(name, matches) {
+        Some(question) => Some(Request { question, json }),
+        None => None,
+    }
+}
+
+/// What is asked for by the values of a command line, if anything is.
+pub(crate) fn request_in<'a>(matches: &ArgMatches<'a>) -> Option<Request<'a>>
+    ensures some { IfSome result (IsAskedBy (subcommand_rows_of matches.now)) }
+    ensures none { IfNone result (asked_by (subcommand_rows_of matches.now) ≡ None) }
+{
+    match matches.subcommand() {
+        Some((name, values)) => request_of(name, values),
+        None => None,
+    }
+}

@@ -1,0 +1,69 @@
+//! What stands for others in a difference.
+use mq_acl::{Owner, Row};
+use mq_report::{Class, Difference};
+use mq_topic::LevelText;
+use std::alloc::{AllocError, Global};
+
+fn row_names(row: &Row, text: &str) -> bool {
+    let named = match &row.owner {
+        Owner::Named(name) => name.as_str() == text,
+        _ => false,
+    };
+    named || row.filter.text().split('/').any(|level| level == text)
+}
+
+/// Whether no row of either list names the text as a level or a user name, so that it stands for others.
+pub(crate) fn is_made_up(old: &[Row], new: &[Row], text: &str) -> bool {
+    !text.is_empty()
+        && !old.iter().any(|row| row_names(row, text))
+        && !new.iter().any(|row| row_names(row, text))
+}
+
+// What a level stands for, if it stands for others.
+fn meaning(old: &[Row], new: &[Row], difference: &Difference, level: &str) -> Option<&'static str> {
+    if !is_made_up(old, new, level) {
+        return None;
+    }
+    if level == difference.client.as_str() {
+        return Some("any client id");
+    }
+    match &difference.class {
+        Class::Others(name) if name.as_str() == level => Some("any other user name"),
+        _ => Some("any other level"),
+    }
+}
+
+fn add_note(notes: &mut String, text: &str, meaning: &str) -> Result<(), AllocError> {
+    if !notes.is_empty() {
+        notes.push_str(", ")?;
+    }
+    notes.push_str(text)?;
+    notes.push_str(": ")?;
+    notes.push_str(meaning)
+}
+
+/// What stands for others in a difference, in words, and the client id where it stands for itself alone.
+pub(crate) fn notes_on(
+    alloc: Global,
+    old: &[Row],
+    new: &[Row],
+    difference: &Difference,
+) -> Result<String, AllocError> {
+    let mut notes = String::new(alloc);
+    let mut seen = Vec::new(alloc);
+    for level in difference.topic.text().split('/') {
+        if seen.contains(&level) {
+            continue;
+        }
+        seen.push(level)?;
+        if let Some(meaning) = meaning(old, new, difference, level) {
+            add_note(&mut notes, level, meaning)?;
+        }
+    }
+    let client = difference.client.as_str();
+    if !is_made_up(old, new, client) {
+        let client = format!(in alloc; "{client:?}")?;
+        add_note(&mut notes, "client id", client.as_str())?;
+    }
+    Ok(notes)
+}

@@ -1,0 +1,100 @@
+//! Remarks on lines, in words and as JSON.
+use crate::fault_words::fault_words;
+use crate::list::ListText;
+use crate::remarks::Remarks;
+use mq_report::{Remark, RemarkKind};
+use serde_json::json;
+use std::alloc::{AllocError, Global};
+
+const NO_MARK: &str = "a pattern line without %c and %u is for all clients alike";
+
+const INDENTED: &str = "mosquitto 2.0 takes # for a comment in the first column alone";
+
+const TAB: &str = "mosquitto 2.0 parts words at spaces alone, not at tabs";
+
+const NEEDLESS: &str = "needless: without it the list allows the same";
+
+fn kind_name(kind: RemarkKind) -> &'static str {
+    match kind {
+        RemarkKind::Fault(_) => "fault",
+        RemarkKind::NoMark => "no mark",
+        RemarkKind::IndentedComment => "indented comment",
+        RemarkKind::Tab => "tab",
+        RemarkKind::Needless(_) => "needless",
+    }
+}
+
+fn kind_words(alloc: Global, line: &str, kind: RemarkKind) -> Result<String, AllocError> {
+    match kind {
+        RemarkKind::Fault(kind) => fault_words(alloc, line, kind),
+        RemarkKind::NoMark => String::from_str(alloc, NO_MARK),
+        RemarkKind::IndentedComment => String::from_str(alloc, INDENTED),
+        RemarkKind::Tab => String::from_str(alloc, TAB),
+        RemarkKind::Needless(None) => String::from_str(alloc, NEEDLESS),
+        RemarkKind::Needless(Some(other)) => {
+            format!(in alloc; "{NEEDLESS}, because of line {other}")
+        }
+    }
+}
+
+fn add_words(
+    alloc: Global,
+    text: &mut String,
+    list: ListText<'_, '_>,
+    remark: Remark,
+) -> Result<(), AllocError> {
+    let file = list.file;
+    let number = remark.line;
+    let words = kind_words(alloc, list.line(number), remark.kind)?;
+    let line = format!(in alloc; "{file}:{number}: {words}\n")?;
+    text.push_str(line.as_str())
+}
+
+fn add_json(
+    alloc: Global,
+    text: &mut String,
+    list: ListText<'_, '_>,
+    remark: Remark,
+) -> Result<(), AllocError> {
+    let file = list.file;
+    let number = remark.line;
+    let kind = kind_name(remark.kind);
+    let line = list.line(number);
+    let words = kind_words(alloc, line, remark.kind)?;
+    let words = words.as_str();
+    let value =
+        json!(in alloc; {"file": file, "kind": kind, "line": number, "text": line, "words": words})?;
+    let line = value.to_string(alloc)?;
+    text.push_str(line.as_str())?;
+    text.push('\n')
+}
+
+fn add_all(
+    alloc: Global,
+    text: &mut String,
+    list: ListText<'_, '_>,
+    remarks: &[Remark],
+    json: bool,
+) -> Result<(), AllocError> {
+    for remark in remarks {
+        if json {
+            add_json(alloc, text, list, *remark)?;
+        } else {
+            add_words(alloc, text, list, *remark)?;
+        }
+    }
+    Ok(())
+}
+
+/// The remarks on the lines of a list, one a line; needless lines come last.
+pub(crate) fn remarks_text(
+    alloc: Global,
+    list: ListText<'_, '_>,
+    remarks: &Remarks,
+    json: bool,
+) -> Result<String, AllocError> {
+    let mut text = String::new(alloc);
+    add_all(alloc, &mut text, list, &remarks.odd, json)?;
+    add_all(alloc, &mut text, list, &remarks.needless, json)?;
+    Ok(text)
+}

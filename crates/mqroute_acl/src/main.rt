@@ -1,0 +1,40 @@
+//! The program. All but the streams stands in `mq_acl_cli`.
+#![tactic(auto)]
+
+use mq_acl_cli::{FAILED, UNREADABLE, start};
+use std::env;
+use std::io::{self, ErrorKind, Write};
+use std::process::ExitCode;
+
+const NO_TEXT: &str = "mqroute-acl: an argument is not UTF-8\n";
+
+const OUT_OF_MEMORY: &str = "mqroute-acl: out of memory\n";
+
+fn main(rt: HostRuntime) -> ExitCode {
+    ExitCode::from(match words(&rt) {
+        Ok(words) => run(&rt, words.as_slice()),
+        Err(e) if e.kind() == ErrorKind::InvalidData => complain(&rt, NO_TEXT, UNREADABLE),
+        Err(_) => complain(&rt, OUT_OF_MEMORY, FAILED),
+    })
+}
+
+// The program's name and its arguments. One that is not UTF-8 is invalid data.
+fn words(rt: &HostRuntime) -> io::Result<Vec<String>> {
+    let mut words = Vec::new(rt.alloc());
+    for word in env::args(rt)? {
+        words.push(word)?;
+    }
+    Ok(words)
+}
+
+fn run(rt: &HostRuntime, words: &[String]) -> u8 {
+    let mut out = rt.stdout();
+    let mut err = rt.stderr();
+    start(rt, rt.alloc(), words, &mut out, &mut err)
+}
+
+// Tells why the program fails, and answers its status. A failed write on standard error is passed over.
+fn complain(rt: &HostRuntime, text: &str, status: u8) -> u8 {
+    let _ = rt.stderr().write_all(text.as_bytes());
+    status
+}

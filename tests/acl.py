@@ -1,0 +1,369 @@
+#!/usr/bin/env python3
+"""Runs the built mqroute-acl on the example of examples/access-list and on faulty lists, and compares what it writes and its
+statuses; then on random small lists, beside a check of every client, user and topic of few levels.
+"""
+import itertools
+import json
+import pathlib
+import random
+import subprocess
+import sys
+import tempfile
+
+TOP = pathlib.Path(__file__).resolve().parent.parent
+PROGRAM = TOP / "crates/mqroute_acl/out/mqroute_acl"
+EXAMPLE = TOP / "examples/access-list"
+
+# The walk-through: arguments, status, and what is written.
+WALK = [
+    (["compare", "current.acl", "proposed.acl"], 1, """\
+no user name               may no longer read  mill/energy
+    current.acl:4    topic read mill/energy/#
+    proposed.acl     no line allows it
+no user name; user plc; other users  may now read  mill/notes
+    current.acl      no line allows it
+    proposed.acl:15  pattern read mill/notes
+user plc  may now write  mill/x/x/state  x: any other level
+    current.acl      no line allows it
+    proposed.acl:10  topic write mill/+/+/state
+3 differences
+"""),
+    (["compare", "current.acl", "current.acl"], 0, "both lists allow the same to every client, user and topic\n"),
+    (["why", "current.acl", "screen", "mill/energy/east"], 0, """\
+may read: current.acl:4  topic read mill/energy/#
+may not write: no line allows it
+"""),
+    (["why", "current.acl", "press", "mill/line1/press/secret", "--user", "plc"], 0, """\
+may not read: current.acl:13  topic deny mill/+/+/secret
+may not write: current.acl:13  topic deny mill/+/+/secret
+    would be allowed by current.acl:11  topic write mill/line1/#
+"""),
+    (["why", "--json", "current.acl", "press", "mill/line1/press/secret", "--user=plc"], 0, """\
+{"access":"read","allowed":false,"deny":{"file":"current.acl","line":13,"text":"topic deny mill/+/+/secret"},"grant":null}
+{"access":"write","allowed":false,"deny":{"file":"current.acl","line":13,"text":"topic deny mill/+/+/secret"},\
+"grant":{"file":"current.acl","line":11,"text":"topic write mill/line1/#"}}
+"""),
+    (["lint", "current.acl"], 0, ""),
+    (["lint", "proposed.acl"], 1, "proposed.acl:15: a pattern line without %c and %u is for all clients alike\n"),
+    (["lint", "--json", "proposed.acl"], 1, """\
+{"file":"proposed.acl","kind":"no mark","line":15,"text":"pattern read mill/notes",\
+"words":"a pattern line without %c and %u is for all clients alike"}
+"""),
+    (["reach", "current.acl", "screen", "mill/+/east"], 0, "mill/energy/east\n"),
+    (["reach", "current.acl", "press", "mill/line1/#", "--user", "plc"], 1, "a subscription to mill/line1/# can be sent nothing\n"),
+    (["reach", "--json", "current.acl", "press", "$share/g/mill/orders/+", "--user=plc"], 0,
+     '{"filter":"$share/g/mill/orders/+","topic":"mill/orders/press"}\n'),
+]
+
+# What is told of lines by lint: their text, and what is told.
+REMARKED = """\
+topic rw a
+pattern read a
+  # indented
+topic\tread b
+user
+"""
+REMARKS = """\
+a.acl:1: "rw" is no access: read, write, readwrite or deny
+a.acl:2: a pattern line without %c and %u is for all clients alike
+a.acl:3: mosquitto 2.0 takes # for a comment in the first column alone
+a.acl:4: mosquitto 2.0 parts words at spaces alone, not at tabs
+a.acl:5: the user name is missing
+"""
+NEEDLESS = """\
+topic read a/#
+topic read a/b
+topic deny c/+
+topic deny c/d
+topic read c/d
+"""
+
+# Lists that are refused: their text, and what is told of the first faulty line.
+FAULTY = [
+    ("topic rw a\n", 'line 1: "rw" is no access: read, write, readwrite or deny'),
+    ("\ntopics read a\n", 'line 2: "topics" is no keyword: topic, pattern or user'),
+    ("topic read\n\ntopic\n", "line 3: the topic is missing"),
+    ("topic read a/#/b\n", 'line 1: "a/#/b" is no topic filter'),
+    ("user\n", "line 1: the user name is missing"),
+    ("pattern read a%c/b\n", 'line 1: %c or %u is no whole level of "a%c/b"'),
+    ("topic read a\ntopic read " + "b" * 301 + "\n", "line 2: a level or a user name of more than 300 bytes"),
+]
+
+# Words that are not understood, and a part of what is told.
+MISUSED = [
+    ([], "requires a subcommand"),
+    (["compare", "current.acl"], "<NEW>"),
+    (["melt", "current.acl"], "melt"),
+    (["why", "current.acl", "c", "a/#"], '"a/#" is no topic name'),
+    (["reach", "current.acl", "c", "a/#/b"], '"a/#/b" is no topic filter'),
+    (["reach", "current.acl", "c", "$share/g"], '"$share/g" is no topic filter'),
+    (["reach", "current.acl", "c" * 301, "a"], "a client id, a user name or a level of more than 300 bytes"),
+    (["why", "nowhere.acl", "c", "a"], "cannot read access list nowhere.acl"),
+    (["compare", "current.acl", "."], "cannot read access list ."),
+]
+
+
+def run(words, folder=EXAMPLE):
+    return subprocess.run([PROGRAM, *words], cwd=folder, capture_output=True, text=True, timeout=60)
+
+
+def faults_of_walk():
+    for words, status, wanted in WALK:
+        done = run(words)
+        if (done.returncode, done.stdout, done.stderr) != (status, wanted, ""):
+            yield f"{' '.join(words)}: status {done.returncode}\n{done.stdout}{done.stderr}"
+
+
+def faults_of_remarks(folder):
+    pathlib.Path(folder, "a.acl").write_text(REMARKED)
+    done = run(["lint", "a.acl"], folder)
+    if (done.returncode, done.stdout, done.stderr) != (1, REMARKS, ""):
+        yield f"lint: status {done.returncode}:\n{done.stdout}{done.stderr}"
+    pathlib.Path(folder, "a.acl").write_text(NEEDLESS)
+    done = run(["lint", "--json", "a.acl"], folder)
+    told = [(each["line"], each["words"]) for each in map(json.loads, done.stdout.splitlines())]
+    needless = "needless: without it the list allows the same"
+    wanted = [(2, needless + ", because of line 1"), (4, needless + ", because of line 3"), (5, needless + ", because of line 3")]
+    if (done.returncode, [each for each in told if each[0] in (2, 4, 5)]) != (1, wanted):
+        yield f"lint: status {done.returncode}: {told}"
+
+
+def faults_of_refusals(folder):
+    for text, told in FAULTY:
+        pathlib.Path(folder, "a.acl").write_text(text)
+        for words in (["compare", "a.acl", "a.acl"], ["why", "a.acl", "c", "t"]):
+            if len(text) > 300 and words[0] == "why":
+                continue
+            done = run(words, folder)
+            if (done.returncode, done.stdout, done.stderr) != (2, "", f"mqroute-acl: access list a.acl {told}\n"):
+                yield f"{' '.join(words)} of {text[:40]!r}: status {done.returncode}: {done.stdout}{done.stderr}"
+    pathlib.Path(folder, "latin.acl").write_bytes(b"topic read \xe9\n")
+    done = run(["compare", "latin.acl", "latin.acl"], folder)
+    if (done.returncode, done.stderr) != (2, "mqroute-acl: access list latin.acl is not UTF-8\n"):
+        yield f"not UTF-8: status {done.returncode}: {done.stderr}"
+    for words, told in MISUSED:
+        done = run(words)
+        if done.returncode != 2 or done.stdout or told not in done.stderr:
+            yield f"{' '.join(words)}: status {done.returncode}: {done.stdout}{done.stderr}"
+    for words in (["--help"], ["help"], ["compare", "--help"], ["help", "why"]):
+        done = run(words)
+        if done.returncode != 0 or done.stderr or "Usage: " not in done.stdout:
+            yield f"{' '.join(words)}: status {done.returncode}: {done.stderr}"
+
+
+# What a list allows, as plainly as it can be said (mosquitto.conf(5), `acl_file`; docs/DECISIONS.md has our own rules).
+
+
+def rows_of(text):
+    user, rows = None, []
+    for number, line in enumerate(text.split("\n"), 1):
+        word, _, rest = line.partition(" ")
+        if word == "user":
+            user = rest
+        elif word in ("topic", "pattern"):
+            access, _, topic = rest.partition(" ")
+            owner = None if word == "pattern" else user
+            rows.append((number, word == "pattern", owner, access, topic, topic.split("/")))
+    return rows
+
+
+def level_fits(wanted, level, is_pattern, client, user):
+    if is_pattern and wanted == "%c":
+        return level == client
+    if is_pattern and wanted == "%u":
+        return user is not None and level == user
+    return wanted in ("+", level)
+
+
+def covers(row, client, user, levels):
+    _, is_pattern, owner, _, text, wanted = row
+    if not is_pattern and owner != user:
+        return False
+    if levels[0].startswith("$") and not text.startswith("$"):
+        return False
+    if wanted[-1] == "#":
+        wanted = wanted[:-1]
+        levels = levels[:len(wanted)]
+    return len(wanted) == len(levels) and all(level_fits(w, l, is_pattern, client, user) for w, l in zip(wanted, levels))
+
+
+def deciding(rows, client, user, topic, access):
+    """The number of the first line that denies, and of the first that grants."""
+    levels = topic.split("/")
+    concerned = [row for row in rows if covers(row, client, user, levels)]
+    deny = next((row[0] for row in concerned if row[3] == "deny"), None)
+    return deny, next((row[0] for row in concerned if row[3] in (access, "readwrite")), None)
+
+
+def allowed(rows, client, user, topic, access):
+    deny, grant = deciding(rows, client, user, topic, access)
+    return deny is None and grant is not None
+
+
+def accesses(rows, client, user, topic):
+    """Which of reading and writing are allowed."""
+    levels = topic.split("/")
+    words = {row[3] for row in rows if covers(row, client, user, levels)}
+    if "deny" in words:
+        return set()
+    return {access for access in ("read", "write") if access in words or "readwrite" in words}
+
+
+LEVELS = ["a", "b", "", "$s", "c1", "u1"]
+USERS = [None, "u1", "u2", "zz"]
+CLIENTS = ["c1", "a", "u1", "q"]
+TOPICS = sorted({"/".join(levels) for count in (1, 2) for levels in itertools.product(LEVELS + ["x", "$x"], repeat=count)} - {""}
+                | {"/".join(levels) for levels in itertools.product(["a", "", "$s", "c1", "u1"], repeat=3)})
+
+
+def random_filter(chance, is_pattern):
+    levels = [chance.choice(LEVELS + ["+", "+"] + (["%c", "%u"] if is_pattern else [])) for _ in range(chance.randint(1, 3))]
+    if chance.random() < 0.35:
+        levels[-1] = "#"
+    return "/".join(levels) or "a"
+
+
+def random_list(chance):
+    lines = []
+    for _ in range(chance.randint(0, 6)):
+        if chance.random() < 0.2:
+            lines.append("user " + chance.choice(["u1", "u2", "a"]))
+        is_pattern = chance.random() < 0.4
+        access = chance.choice(["read", "write", "readwrite", "deny"])
+        lines.append(f"{'pattern' if is_pattern else 'topic'} {access} {random_filter(chance, is_pattern)}")
+    return lines
+
+
+def near(chance, lines):
+    """The list, with a line or two more or less."""
+    lines = list(lines)
+    for _ in range(chance.randint(0, 2)):
+        if lines and chance.random() < 0.5:
+            lines.pop(chance.randrange(len(lines)))
+        else:
+            lines[chance.randint(0, len(lines)):0] = random_list(chance)[:1]
+    return lines
+
+
+def faults_of_told(told, old, new):
+    """What is wrong with a difference that is told."""
+    client, user, topic, access = told["client"], told["user"], told["topic"], told["access"]
+    by_old, by_new = (allowed(rows, client, user, topic, access) for rows in (old, new))
+    if (by_old, by_new) != ((False, True) if told["change"] == "gained" else (True, False)):
+        yield "is none"
+    for rows, line in ((old, told["old"]), (new, told["new"])):
+        deny, grant = deciding(rows, client, user, topic, access)
+        if (line and line["line"]) != (deny if deny is not None else grant):
+            yield f"is decided by line {deny} or {grant}"
+
+
+def faults_of_compare(folder, old, new):
+    done = run(["compare", "--json", "old.acl", "new.acl"], folder)
+    told = [json.loads(line) for line in done.stdout.splitlines()]
+    old_rows, new_rows = rows_of(old), rows_of(new)
+    for difference in told:
+        for fault in faults_of_told(difference, old_rows, new_rows):
+            yield f"{difference} {fault}"
+    if done.returncode != (1 if told else 0) or done.stderr:
+        yield f"status {done.returncode}: {done.stderr}"
+    kinds = {(d["user"], d["access"], d["change"]) for d in told}
+    named = {row[2] for row in old_rows + new_rows} - {None}
+    others = {kind[1:] for kind in kinds if kind[0] is not None and kind[0] not in named}
+    for user, client, topic in itertools.product(USERS, CLIENTS, TOPICS):
+        by_old, by_new = accesses(old_rows, client, user, topic), accesses(new_rows, client, user, topic)
+        for access in by_old ^ by_new:
+            change = "gained" if access in by_new else "lost"
+            is_told = (access, change) in others if user is not None and user not in named else (user, access, change) in kinds
+            if not is_told:
+                yield f"{user} {change} {access} {topic} as {client} and isn't told"
+                return
+
+
+def faults_of_why(folder, chance, text):
+    rows = rows_of(text)
+    client, user, topic = chance.choice(CLIENTS), chance.choice(USERS), chance.choice(TOPICS)
+    words = ["why", "--json", "old.acl"] + ([] if user is None else [f"--user={user}"]) + ["--", client, topic]
+    done = run(words, folder)
+    told = [json.loads(line) for line in done.stdout.splitlines()]
+    if done.returncode != 0 or [each["access"] for each in told] != ["read", "write"]:
+        yield f"{words}: status {done.returncode}: {done.stdout}{done.stderr}"
+        return
+    for each in told:
+        deny, grant = deciding(rows, client, user, topic, each["access"])
+        if ((each["deny"] and each["deny"]["line"]), (each["grant"] and each["grant"]["line"])) != (deny, grant):
+            yield f"{words}: {each}, not {deny} and {grant}"
+        if each["allowed"] != allowed(rows, client, user, topic, each["access"]):
+            yield f"{words}: {each}"
+
+
+def filter_matches(text, topic):
+    """MQTT 5.0, section 4.7."""
+    wanted, levels = text.split("/"), topic.split("/")
+    if levels[0].startswith("$") and wanted[0] in ("+", "#"):
+        return False
+    if wanted[-1] == "#":
+        wanted.pop()
+        levels = levels[:len(wanted)]
+    return len(wanted) == len(levels) and all(w in ("+", l) for w, l in zip(wanted, levels))
+
+
+def faults_of_reach(folder, chance, text):
+    rows = rows_of(text)
+    client, user, wanted = chance.choice(CLIENTS), chance.choice(USERS), random_filter(chance, False)
+    share = chance.choice(["", "", "$share/g/"])
+    words = ["reach", "--json", "old.acl"] + ([] if user is None else [f"--user={user}"]) + ["--", client, share + wanted]
+    done = run(words, folder)
+    told = json.loads(done.stdout)
+    if told["filter"] != share + wanted or done.returncode != (1 if told["topic"] is None else 0):
+        yield f"{words}: status {done.returncode}: {done.stdout}{done.stderr}"
+    for topic in TOPICS if told["topic"] is None else [told["topic"]]:
+        is_reached = filter_matches(wanted, topic) and allowed(rows, client, user, topic, "read")
+        if is_reached == (told["topic"] is None):
+            yield f"{words}: {told}, and {topic} is {'' if is_reached else 'not '}reached"
+            return
+
+
+def faults_of_needless(folder, lines):
+    """Without a line that is told as needless a list allows the same."""
+    done = run(["lint", "--json", "old.acl"], folder)
+    told = [json.loads(line) for line in done.stdout.splitlines()]
+    if done.returncode != (1 if told else 0) or any(each["kind"] not in ("needless", "no mark") for each in told):
+        yield f"lint: status {done.returncode}: {done.stdout}{done.stderr}"
+    rows = rows_of("\n".join(lines))
+    for number in (each["line"] for each in told if each["kind"] == "needless"):
+        others = [row for row in rows if row[0] != number]
+        for user, client, topic in itertools.product(USERS, CLIENTS, TOPICS):
+            if accesses(rows, client, user, topic) != accesses(others, client, user, topic):
+                yield f"lint: line {number} isn't needless: {user} {topic} as {client}"
+                break
+
+
+def faults_of_random(folder, count):
+    for seed in range(count):
+        chance = random.Random(seed)
+        lines = random_list(chance)
+        others = near(chance, lines) if chance.random() < 0.7 else random_list(chance)
+        old, new = "\n".join(lines), "\n".join(others)
+        pathlib.Path(folder, "old.acl").write_text(old)
+        pathlib.Path(folder, "new.acl").write_text(new)
+        faults = itertools.chain(faults_of_compare(folder, old, new), faults_of_why(folder, chance, old), faults_of_reach(folder, chance, old),
+                                 faults_of_needless(folder, lines))
+        for fault in faults:
+            yield f"seed {seed}: {fault}\n{old}\n--\n{new}"
+
+
+def main():
+    if not PROGRAM.exists():
+        print(f"acl: there is no {PROGRAM}: run 'rt ci' first")
+        return 1
+    count = int(sys.argv[1]) if len(sys.argv) > 1 else 300
+    with tempfile.TemporaryDirectory() as folder:
+        faults = [*faults_of_walk(), *faults_of_remarks(folder), *faults_of_refusals(folder), *faults_of_random(folder, count)]
+    for fault in faults:
+        print(f"acl: {fault}")
+    print(f"acl: {len(WALK)} examples, {len(FAULTY) + len(MISUSED)} refusals, {count} random pairs of lists, {len(faults)} faults")
+    return 1 if faults else 0
+
+
+if __name__ == "__main__":
+    sys.exit(main())
