@@ -17,13 +17,13 @@ EXAMPLE = TOP / "examples/access-list"
 # The walk-through: arguments, status, and what is written.
 WALK = [
     (["compare", "current.acl", "proposed.acl"], 1, """\
-no user name               may no longer read  mill/energy
-    current.acl:4    topic read mill/energy/#
-    proposed.acl     no line allows it
-no user name; user plc; other users  may now read  mill/notes
+no user name; user plc; other users  may now read        mill/notes
     current.acl      no line allows it
     proposed.acl:15  pattern read mill/notes
-user plc  may now write  mill/x/x/state  x: any other level
+no user name                         may no longer read  mill/energy
+    current.acl:4    topic read mill/energy/#
+    proposed.acl     no line allows it
+user plc                             may now write       mill/x/x/state  x: any other level
     current.acl      no line allows it
     proposed.acl:10  topic write mill/+/+/state
 3 differences
