@@ -14,6 +14,7 @@ import tempfile
 
 TOP = pathlib.Path(__file__).resolve().parent.parent
 PROGRAM = TOP / "crates/mqroute/out/mqroute"
+ACL_PROGRAM = TOP / "crates/mqroute_acl/out/mqroute_acl"
 
 
 def blocks():
@@ -23,7 +24,7 @@ def blocks():
 
 def told(command, folder):
     """What one command after those before it prints, standard error too."""
-    around = os.environ | {"PATH": f"{PROGRAM.parent}:{os.environ['PATH']}"}
+    around = os.environ | {"PATH": f"{folder}/bin:{os.environ['PATH']}"}
     return subprocess.run(["bash", "-c", command], cwd=folder, env=around, text=True, stdout=subprocess.PIPE,
                           stderr=subprocess.STDOUT).stdout
 
@@ -46,13 +47,17 @@ def script_faults(block):
 
 
 def main() -> int:
-    if not PROGRAM.exists():
-        print(f"readme: there is no {PROGRAM}: run 'rt ci' first")
-        return 1
+    for program in (PROGRAM, ACL_PROGRAM):
+        if not program.exists():
+            print(f"readme: there is no {program}: run 'rt ci' first")
+            return 1
     faults, sessions, scripts = [], 0, 0
     with tempfile.TemporaryDirectory() as folder:
         for name in ("examples", "brokers", "tools"):
             shutil.copytree(TOP / name, pathlib.Path(folder, name))
+        pathlib.Path(folder, "bin").mkdir()
+        for name, program in (("mqroute", PROGRAM), ("mqroute-acl", ACL_PROGRAM)):
+            pathlib.Path(folder, "bin", name).symlink_to(program)
         for block in blocks():
             if block.startswith("$ ") and "jq " in block and shutil.which("jq") is None:
                 print("readme: there is no jq: its session was not run")

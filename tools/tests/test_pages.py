@@ -10,7 +10,7 @@ from pathlib import Path
 
 from worked import HERE, TOP
 
-BUILT = TOP / "crates/mqroute/out/mqroute"  # which make install wants
+BUILT = [TOP / f"crates/{name}/out/{name}" for name in ("mqroute", "mqroute_acl")]  # which make install wants
 TOOLS = ("log_to_script", "who_loses", "replay", "compare_log", "check", "search")
 SECTIONS = ["NAME", "SYNOPSIS", "DESCRIPTION", "OPTIONS", "EXIT STATUS", "EXAMPLE", "SEE ALSO"]
 # What a tool imports before it reads its arguments; --help wants no broker.
@@ -71,7 +71,7 @@ class Pages(unittest.TestCase):
             self.assertIn(installed_name(tool), done.stdout)
 
 
-@unittest.skipUnless(BUILT.exists() and shutil.which("make") and shutil.which("bash"), "nothing is built, or there is no make or bash")
+@unittest.skipUnless(all(file.exists() for file in BUILT) and shutil.which("make") and shutil.which("bash"), "nothing is built, or there is no make or bash")
 class Installed(unittest.TestCase):
     def make(self, word: str, folder: str) -> None:
         done = subprocess.run(["make", word, f"PREFIX={folder}"], cwd=TOP, capture_output=True, text=True)
@@ -82,6 +82,8 @@ class Installed(unittest.TestCase):
             self.make("install", folder)
             for tool in map(installed_name, TOOLS):
                 self.assertTrue(Path(folder, f"share/man/man1/{tool}.1").exists())
+            for name in ("mqroute", "mqroute-acl"):
+                self.assertTrue(Path(folder, f"share/man/man1/{name}.1").exists() and os.access(f"{folder}/bin/{name}", os.X_OK))
             self.named_as_installed(folder)
             self.completed(folder)
             self.make("uninstall", folder)

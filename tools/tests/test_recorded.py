@@ -15,6 +15,7 @@ from pathlib import Path
 HERE = Path(__file__).parent.parent
 RECORDED = HERE.parent / "brokers/recorded"
 PROGRAM = Path(os.environ.get("MQROUTE", HERE.parent / "crates/mqroute/out/mqroute"))
+ACL_PROGRAM = HERE.parent / "crates/mqroute_acl/out/mqroute_acl"
 SESSIONS = ["--session-expiry", "3600"]  # as record_clients.py asks for
 wants_program = unittest.skipUnless(PROGRAM.exists(), f"there is no {PROGRAM}")
 
@@ -123,6 +124,7 @@ class Readme(unittest.TestCase):
             for name in ("tools", "brokers"):
                 shutil.copytree(HERE.parent / name, Path(folder, name), ignore=shutil.ignore_patterns("__pycache__"))
             Path(folder, "mqroute").symlink_to(PROGRAM)
+            Path(folder, "mqroute-acl").symlink_to(ACL_PROGRAM)
             around = os.environ | {"PATH": f"{folder}:{os.environ['PATH']}"}
             for command, printed in commands:
                 done = subprocess.run(command, shell=True, cwd=Path(folder, "brokers/recorded"), text=True, encoding="utf-8",
@@ -130,6 +132,7 @@ class Readme(unittest.TestCase):
                 self.assertEqual(done.stdout, printed, command)
 
     @wants_program
+    @unittest.skipUnless(ACL_PROGRAM.exists(), f"there is no {ACL_PROGRAM}")
     def test_walk_through(self):
         text = (HERE / "README.md").read_text(encoding="utf-8")
         commands = walk_through(text.split("## Walk-through")[1].split("\n## ")[0])
