@@ -23,6 +23,7 @@ from mqroute_tools.topics import matches, plain_filter
 from mqroute_tools.writing import Logs, Writer, add_options, writer
 
 OWN_WILL = "own will in a session that is kept"
+LOGGED_WILL = "own will of a client that is gone"
 
 
 @dataclass(frozen=True, order=True)
@@ -178,7 +179,7 @@ class Comparison:
         self.copies: list[str] = []
         self.refusals: list[str] = []
         self.sent = self.refused = 0
-        self.own_wills: set[Key] = set()  # of which the broker's copy waits, while mqroute's was sent
+        self.own_wills: set[Key] = set()  # of which mqroute's copy was sent, while the broker's may wait
 
     def add(self, step: Step) -> None:
         broker, mqroute = step.broker, step.mqroute
@@ -186,6 +187,8 @@ class Comparison:
         self.refused += broker.refused.total()
         for key in sorted(broker.copies.keys() | mqroute.copies.keys()):
             theirs, ours = broker.copies.get(key, []), mqroute.copies.get(key, [])
+            if ours and own_will(step, key):
+                self.own_wills.add(key)
             if sorted((c.qos, c.retain) for c in theirs) != sorted((c.qos, c.retain) for c in ours):
                 self.copies.append(f"{self.kind(step, key)}: line {step.place}: {key[0]!r} {key[1]!r}: broker {shown(theirs)}; mqroute {shown(ours)}")
         for key in sorted((broker.refused - mqroute.refused) + (mqroute.refused - broker.refused)):
@@ -196,11 +199,12 @@ class Comparison:
         """As `kind`, with what waits since an earlier step."""
         found, broker, mqroute = kind(step, key), step.broker.copies.get(key), step.mqroute.copies.get(key)
         if found == "different" and mqroute and not broker and own_will(step, key):
-            self.own_wills.add(key)
             return OWN_WILL
         if found == "different" and broker and key in self.own_wills and any(c["do"] == "connect" and c["client"] == key[0] for c in step.commands):
             self.own_wills.discard(key)
             return OWN_WILL
+        if found == "different" and broker and not mqroute and all(copy.qos == 0 for copy in broker) and own_will(step, key):
+            return LOGGED_WILL
         return found
 
     def lines(self) -> list[str]:

@@ -43,11 +43,11 @@ class Recorded(unittest.TestCase):
         status, script = tool("log_to_script.py", RECORDED / f"{kind}.log", *words)
         self.assertEqual((status, script), (wanted, (RECORDED / f"{kind}.jsonl").read_text(encoding="utf-8")))
 
-    def differ(self, kind: str, *words: str) -> None:
+    def differ(self, kind: str, *words: str, acl: str | None = None) -> None:
         script = (RECORDED / f"{kind}.jsonl").read_bytes()
         with tempfile.TemporaryDirectory() as folder:
             output = Path(folder, "output")
-            output.write_bytes(mqroute(script, "--acl-file", RECORDED / f"{kind}.acl"))
+            output.write_bytes(mqroute(script, "--acl-file", RECORDED / f"{acl or kind}.acl"))
             _, found = tool("compare_log.py", RECORDED / f"{kind}.log", output, *words)
         listed = (RECORDED / f"{kind}.differences").read_text(encoding="utf-8").splitlines()
         self.assertEqual(found.splitlines(), [line for line in listed if not line.startswith("#")])
@@ -56,7 +56,8 @@ class Recorded(unittest.TestCase):
     def test_scripts(self):
         self.convert("plain")
         self.convert("sessions", *SESSIONS)
-        self.convert("mixed", wanted=1)  # it tells of MQTT 5 sessions that may have been kept
+        for kind in ("mixed", "trixie"):
+            self.convert(kind, wanted=1)  # it tells of MQTT 5 sessions that may have been kept
 
     @wants_program
     def test_plain(self):
@@ -69,6 +70,7 @@ class Recorded(unittest.TestCase):
     @wants_program
     def test_mixed(self):
         self.differ("mixed")
+        self.differ("trixie", acl="mixed")  # the same clients
 
     def test_time_stamps_of_other_forms(self):
         """The same log without stamps gives the same script without `advance`."""
