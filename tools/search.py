@@ -27,8 +27,9 @@ from mqroute_tools.random_scripts import ACCESS, PARTS, Command, Maker, Use, fre
 from mqroute_tools.shrinking import connected, shrink
 
 HERE = Path(__file__).resolve().parent
-KNOWN = [folder / name for folder in (HERE, HERE.parent / "brokers") for name in ("differences", "differences/ejabberd")  # installed, in a clone
-         if (folder / name).is_dir()]
+KNOWN = [folder for found in (HERE / "differences", HERE.parent / "brokers/differences")  # installed, in a clone
+         for folder in (found, *sorted(found.glob("*/")))
+         if folder.is_dir()]
 MARK = "Z"  # around numbers, behind the names of a script
 TRIES = 2  # a broker may do the same thing now and then
 LOOK_AGAIN = 10  # one in so many scripts whose differences all seem known is made small all the same

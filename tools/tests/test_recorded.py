@@ -97,11 +97,15 @@ class Scripts(unittest.TestCase):
 
     def test_each_is_told_of(self):
         """docs/BROKERS.md names each script in its broker's section, and stands the ones that differ in its table."""
-        text = (HERE.parent / "docs/BROKERS.md").read_text(encoding="utf-8")
-        mosquitto, rest = text.split("\n## ejabberd")
-        ejabberd, agreement = rest.split("\n## Where mosquitto agrees")
-        self.are_named("brokers/differences", mosquitto, agreement)
-        self.are_named("brokers/differences/ejabberd", "\n".join(line for line in ejabberd.splitlines() if line.startswith("|")), ejabberd)
+        sections = (HERE.parent / "docs/BROKERS.md").read_text(encoding="utf-8").split("\n## ")
+        by_broker = {section.split(" ")[0].lower(): section for section in sections}
+        agreement = next(section for section in sections if section.startswith("Where mosquitto agrees"))
+        folders = sorted(path for path in (HERE.parent / "brokers/differences").iterdir() if path.is_dir())
+        self.are_named("brokers/differences", by_broker["mosquitto"], agreement)
+        for folder in folders:
+            section = by_broker[folder.name]
+            self.are_named(f"brokers/differences/{folder.name}", "\n".join(line for line in section.splitlines() if line.startswith("|")), section)
+        self.assertGreater(len(folders), 1)
 
     def are_named(self, folder: str, table: str, agreement: str) -> None:
         for script in (HERE.parent / folder).glob("*.jsonl"):
