@@ -20,7 +20,7 @@ check() { # NAME WANTED_OUTPUT WANTED_STATUS, with what was written in $written 
     fi
 }
 
-dev/rows_table.py --check || exit 1
+dev/hostile_scripts.py --check || exit 1
 dev/worked_scripts.py --check || exit 1
 dev/three_hundred.py --check || exit 1
 dev/plain_router.py --check || exit 1

@@ -6,7 +6,7 @@ use crate::trial::{Attempt, Trial};
 use mq_router::{Command, Outcome, Router};
 use std::alloc::{AllocError, Global};
 
-/// What comes after a command that answered want of memory.
+/// What comes after a command that answered that memory ran out.
 #[derive(Clone, Copy)]
 pub enum Then {
     /// The same command.
@@ -20,9 +20,9 @@ pub enum Then {
 enum Met {
     /// It was answered, though a growth may have been refused.
     Answer { was_refused: bool },
-    /// It answered want of memory, and the counts are as before.
+    /// It answered that memory ran out, and the counts are as before.
     Memory,
-    /// It answered want of memory without reason, or the counts are others, or it took memory and takes none.
+    /// It answered that memory ran out without reason, or the counts are others, or it took memory and takes none.
     Fault,
 }
 
@@ -84,7 +84,7 @@ impl Replay {
         }
     }
 
-    // Applies a command while its nth growth is refused, and writes what it answers, but for want of memory.
+    // Applies a command while its nth growth is refused, and writes what it answers, but for lack of memory.
     fn answer_refused(&mut self, command: &ValidCommand, nth: u32) -> Result<Met, AllocError> {
         let counts = self.counts();
         refuse(self.alloc, nth);

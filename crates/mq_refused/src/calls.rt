@@ -27,7 +27,7 @@ pub enum Call<'a> {
     ForFilter(&'a LevelTree<u32>, &'a TopicFilter),
 }
 
-/// What a call answered, none for want of memory, and whether a growth was refused.
+/// What a call answered, none for lack of memory, and whether a growth was refused.
 #[derive(Drop)]
 struct CallAnswer {
     text: Option<String>,
@@ -47,25 +47,79 @@ fn answered<T: Debug, E: Debug + Fault>(
     Ok(CallAnswer { text, was_refused })
 }
 
+fn parse_name(alloc: Global, text: &str) -> Result<CallAnswer, AllocError> {
+    answered(alloc, &TopicName::parse(alloc, text))
+}
+
+fn parse_filter(alloc: Global, text: &str) -> Result<CallAnswer, AllocError> {
+    answered(alloc, &TopicFilter::parse(alloc, text))
+}
+
+fn parse_subscription(alloc: Global, text: &str) -> Result<CallAnswer, AllocError> {
+    answered(alloc, &SubFilter::parse(alloc, text))
+}
+
+fn clone_name(alloc: Global, name: &TopicName) -> Result<CallAnswer, AllocError> {
+    answered(alloc, &TopicName::clone(name))
+}
+
+fn clone_filter(alloc: Global, filter: &TopicFilter) -> Result<CallAnswer, AllocError> {
+    answered(alloc, &TopicFilter::clone(filter))
+}
+
+fn clone_subscription(alloc: Global, wanted: &SubFilter) -> Result<CallAnswer, AllocError> {
+    answered(alloc, &SubFilter::clone(wanted))
+}
+
+fn read_list(alloc: Global, text: &str) -> Result<CallAnswer, AllocError> {
+    answered(alloc, &Acl::read(alloc, text))
+}
+
+fn read_list_file(alloc: Global, bytes: &[u8]) -> Result<CallAnswer, AllocError> {
+    answered(alloc, &read_acl(alloc, &mut Lines::new(bytes)))
+}
+
+fn read_command(alloc: Global, line: &[u8]) -> Result<CallAnswer, AllocError> {
+    answered(alloc, &read_line(alloc, line))
+}
+
+fn read_words(alloc: Global, words: &[String]) -> Result<CallAnswer, AllocError> {
+    answered(alloc, &arguments(alloc, words))
+}
+
+fn look_up_name(
+    alloc: Global,
+    tree: &LevelTree<u32>,
+    name: &TopicName,
+) -> Result<CallAnswer, AllocError> {
+    answered(alloc, &tree.for_name(name, &mut Steps::new()))
+}
+
+fn look_up_filter(
+    alloc: Global,
+    tree: &LevelTree<u32>,
+    filter: &TopicFilter,
+) -> Result<CallAnswer, AllocError> {
+    answered(alloc, &tree.for_filter(filter, &mut Steps::new()))
+}
+
 impl<'a> Call<'a> {
     // Makes the call while its nth growth is refused.
     fn answer(&self, alloc: Global, nth: u32) -> Result<CallAnswer, AllocError> {
         refuse(alloc, nth);
         match self {
-            Call::ParseName(text) => answered(alloc, &TopicName::parse(alloc, text)),
-            Call::ParseFilter(text) => answered(alloc, &TopicFilter::parse(alloc, text)),
-            Call::ParseSubscription(text) => answered(alloc, &SubFilter::parse(alloc, text)),
-            Call::CloneName(name) => answered(alloc, &TopicName::clone(name)),
-            Call::CloneFilter(filter) => answered(alloc, &TopicFilter::clone(filter)),
-            Call::CloneSubscription(wanted) => answered(alloc, &SubFilter::clone(wanted)),
-            Call::ReadList(text) => answered(alloc, &Acl::read(alloc, text)),
-            Call::ReadListFile(bytes) => answered(alloc, &read_acl(alloc, &mut Lines::new(bytes))),
-            Call::ReadLine(line) => answered(alloc, &read_line(alloc, line)),
-            Call::ReadWords(words) => answered(alloc, &arguments(alloc, words)),
-            Call::ForName(tree, name) => answered(alloc, &tree.for_name(name, &mut Steps::new())),
-            Call::ForFilter(tree, filter) => {
-                answered(alloc, &tree.for_filter(filter, &mut Steps::new()))
-            }
+            Call::ParseName(text) => parse_name(alloc, text),
+            Call::ParseFilter(text) => parse_filter(alloc, text),
+            Call::ParseSubscription(text) => parse_subscription(alloc, text),
+            Call::CloneName(name) => clone_name(alloc, name),
+            Call::CloneFilter(filter) => clone_filter(alloc, filter),
+            Call::CloneSubscription(wanted) => clone_subscription(alloc, wanted),
+            Call::ReadList(text) => read_list(alloc, text),
+            Call::ReadListFile(bytes) => read_list_file(alloc, bytes),
+            Call::ReadLine(line) => read_command(alloc, line),
+            Call::ReadWords(words) => read_words(alloc, words),
+            Call::ForName(tree, name) => look_up_name(alloc, tree, name),
+            Call::ForFilter(tree, filter) => look_up_filter(alloc, tree, filter),
         }
     }
 }
@@ -85,7 +139,7 @@ impl<'a> Asked<'a> {
 }
 
 impl<'a> Trial for Asked<'a> {
-    // The answer is the one that is wanted, or want of memory, and then the next call answers what is wanted.
+    // The answer is the one that is wanted, or lack of memory, and then the next call answers what is wanted.
     fn attempt(&self, alloc: Global, nth: u32) -> Result<Attempt, AllocError> {
         let first = self.call.answer(alloc, nth)?;
         let next = self.call.answer(alloc, 0)?;

@@ -1,11 +1,11 @@
-//! Faults of which one is want of memory.
+//! Faults of which one is lack of memory.
 use mq_acl::{AclFault, AclKind};
 use mq_cli::{AclFileFault, UsageFault};
 use mq_lines::LineFault;
 use mq_topic::TopicFault;
 use std::alloc::AllocError;
 
-/// A fault that may be want of memory.
+/// A fault that may be lack of memory.
 pub trait Fault {
     fn is_memory(&self) -> bool;
 }

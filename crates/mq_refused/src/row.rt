@@ -73,16 +73,21 @@ pub struct Row<'a> {
     pub output: &'a str,
 }
 
+// The access list of this text, if there is one.
+fn access_list(alloc: Global, text: Option<&str>) -> Result<Option<Acl>, AllocError> {
+    let Some(text) = text else {
+        return Ok(None);
+    };
+    match Acl::read(alloc, text) {
+        Ok(acl) => Ok(Some(acl)),
+        Err(_) => Err(AllocError),
+    }
+}
+
 impl<'a> Row<'a> {
     /// The router that the script begins with.
     pub fn router(self, alloc: Global) -> Result<Router, AllocError> {
-        let acl = match self.acl {
-            None => None,
-            Some(text) => match Acl::read(alloc, text) {
-                Ok(acl) => Some(acl),
-                Err(_) => return Err(AllocError),
-            },
-        };
+        let acl = access_list(alloc, self.acl)?;
         Ok(Router::with_limits(alloc, acl, self.limits))
     }
 

@@ -31,7 +31,7 @@ pub struct Run<'a> {
 }
 
 impl<'a> Trial for Run<'a> {
-    // What is written is the output or, for want of memory, the answers to all lines before the one that met it.
+    // What is written is the output or, for lack of memory, the answers to all lines before the one that met it.
     fn attempt(&self, alloc: Global, nth: u32) -> Result<Attempt, AllocError> {
         let router = self.row.router(alloc)?;
         let mut reader = Lines::new(self.row.script.as_bytes());

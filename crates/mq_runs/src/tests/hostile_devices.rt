@@ -1,6 +1,8 @@
-//! Readers and writers that implement `Source` and `Sink` and misbehave where they are told to. Each fails once, and
+//! Readers and writers that implement `Source` and `Sink` and misbehave where they are told to.
+//! Each fails once, and
 //! then goes on as if nothing had happened.
-ghost use Rattle.std.specs.Prelude.{◌≡◌, ◌+◌, ◌||◌, ℕ, List, Option, None, IsTrue, false, if◌then◌else◌};
+ghost use Rattle.std.specs.Prelude.{◌≡◌, ◌+◌, ◌||◌, ℕ, List, Option, None, IsTrue, false};
+ghost use Rattle.std.specs.Prelude.{if◌then◌else◌};
 
 use mq_script::{DeviceFault, Sink, Source};
 
@@ -102,7 +104,8 @@ impl Countdown {
     }
 }
 
-/// A writer that takes at most `most` bytes a call and compares them with what is wanted. It is in trouble at the call
+/// A writer that takes at most `most` bytes a call and compares them with what is wanted. It is in
+/// trouble at the call
 /// of that kind after `calls` others.
 #[derive(Drop)]
 pub(crate) struct Page<'a> {

@@ -1,8 +1,8 @@
-//! Runs whose reader or writer fails, and scripts whose lines are too long or blank.
+//! Runs whose reader or writer fails.
 use crate::tests::devices::{Interrupted, Pieces, Shelf};
 use mq_router::Router;
 use mq_script::{RunFault, StdSink, StdSource, Summary, exit_status, run};
-use std::alloc::{AllocError, Global};
+use std::alloc::Global;
 use std::test::Fail;
 
 const CONNECT: &str = "{\"do\":\"connect\",\"client\":\"a\"}\n";
@@ -20,42 +20,6 @@ fn written(
     let mut writer = StdSink::new(shelf);
     let result = run(alloc, Router::new(alloc), &mut reader, &mut writer);
     (writer.into_inner().bytes, result)
-}
-
-#[test]
-fn empty_and_blank_lines(rt: HostRuntime) -> Result<(), Fail> {
-    let cases = [
-        ("", "", 0, 0),
-        ("\n \n\r\n", "", 3, 0),
-        (
-            "\n\n{\"do\":\"connect\",\"client\":\"a\"}",
-            "{\"line\":3,\"reason\":0}\n",
-            3,
-            0,
-        ),
-        (
-            "[]\r\n \t",
-            "{\"code\":3,\"line\":1,\"refused\":\"BadCommand\"}\n",
-            2,
-            1,
-        ),
-    ];
-    for (script, want, lines, refused) in cases {
-        let (bytes, result) = written(
-            rt.alloc(),
-            script.as_bytes(),
-            usize::MAX,
-            Shelf::new(rt.alloc()),
-        );
-        let summary = result?;
-        assert_eq!(rt; bytes.as_slice(), want.as_bytes(), "{script:?}");
-        assert_eq!(rt;
-            (summary.lines, summary.refused),
-            (lines, refused),
-            "{script:?}"
-        );
-    }
-    Ok(())
 }
 
 #[test]
@@ -112,43 +76,6 @@ fn interrupted_devices(rt: HostRuntime) -> Result<(), Fail> {
         let bytes = writer.into_inner().into_inner().bytes;
         assert_eq!(rt; bytes.as_slice(), want.as_bytes(), "{calls}");
         assert!(rt; matches!(&result, Err(RunFault::Write)), "{calls}");
-    }
-    Ok(())
-}
-
-// The line, with blanks behind it up to so many bytes, and a line feed.
-fn padded(alloc: Global, line: &str, bytes: usize) -> Result<Vec<u8>, AllocError> {
-    let mut script = Vec::new(alloc);
-    script.extend_from_slice(line.as_bytes())?;
-    for _ in script.len()..bytes {
-        script.push(b' ')?;
-    }
-    script.push(b'\n')?;
-    Ok(script)
-}
-
-#[test]
-fn long_lines(rt: HostRuntime) -> Result<(), Fail> {
-    let too_long = "{\"code\":1,\"line\":1,\"refused\":\"LineTooLong\"}\n";
-    let line = "{\"do\":\"connect\",\"client\":\"a\"}";
-    for (bytes, want) in [
-        (1_048_576, ANSWER),
-        (1_048_577, too_long),
-        (1_100_000, too_long),
-    ] {
-        let script = padded(rt.alloc(), line, bytes)?;
-        let (written, _) = {
-            let mut reader = StdSource::new(Pieces::new(script.as_slice(), 65_536));
-            let mut writer = StdSink::new(Shelf::new(rt.alloc()));
-            let result = run(
-                rt.alloc(),
-                Router::new(rt.alloc()),
-                &mut reader,
-                &mut writer,
-            );
-            (writer.into_inner().bytes, result)
-        };
-        assert_eq!(rt; written.as_slice(), want.as_bytes(), "{bytes}");
     }
     Ok(())
 }

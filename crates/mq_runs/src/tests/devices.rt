@@ -1,4 +1,5 @@
-//! Readers and writers over memory that give or take little at a time, and fail where they are told to.
+//! Readers and writers over memory that give or take little at a time, and fail where they are told
+//! to.
 use std::alloc::{Allocator, Global};
 use std::fs::{File, Files, Metadata, OpenOptions};
 use std::io::{self, ErrorKind, Read, Write};
@@ -35,7 +36,8 @@ impl<'a> Read for Pieces<'a> {
     }
 }
 
-/// A writer into memory that takes at most `most` bytes a call. When it has taken `room` bytes it fails, or takes
+/// A writer into memory that takes at most `most` bytes a call. When it has taken `room` bytes it
+/// fails, or takes
 /// nothing from then on if `stalls` is set. Its flush fails if `stuck` is set.
 #[derive(Drop)]
 pub(crate) struct Shelf {
@@ -77,7 +79,8 @@ impl Write for Shelf {
     }
 }
 
-/// A reader or a writer that is interrupted once, at the call after `calls` others, and then goes on.
+/// A reader or a writer that is interrupted once, at the call after `calls` others, and then goes
+/// on.
 #[derive(Drop)]
 pub(crate) struct Interrupted<D> {
     inner: D,

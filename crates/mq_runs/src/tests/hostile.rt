@@ -1,6 +1,7 @@
-//! Runs over readers and writers that fail at each of their calls in turn, and scripts cut at each byte.
+//! Runs over readers and writers that fail at each of their calls in turn, and scripts cut at each
+//! byte.
 use crate::tests::hostile_devices::{Page, Script, Spaces, Trouble};
-use crate::tests::table::{FIRST_LOOK, REFUSALS};
+use crate::tests::scripts::{FIRST_LOOK, REFUSALS};
 use mq_cli::{AclFileFault, read_acl};
 use mq_router::Router;
 use mq_script::{RunFault, Sink, Source, Summary, run, run_unbuffered, run_within};
