@@ -10,14 +10,13 @@ use std::alloc::{AllocError, Global};
 
 const ABOUT: &str = "Answers a script of MQTT 5.0 routing commands, line by line";
 
-const ACL_FILE_HELP: &str =
-    "Begin with the access list in FILE, in the form of mosquitto.conf(5)'s acl_file";
+const ACL_FILE_HELP: &str = "Begin with this access list, in mosquitto's form";
 
-const MAX_RETAINED_HELP: &str = "Refuse a message that would be one more than N retained ones";
+const MAX_RETAINED_HELP: &str = "Let up to N messages be retained (no limit)";
 
-const MAX_QUEUED_HELP: &str = "Let up to N copies wait for a client that is away, in place of 1000";
+const MAX_QUEUED_HELP: &str = "Let up to N copies wait for a client (1000)";
 
-const UNBUFFERED_HELP: &str = "Write the answers so far before waiting for more of the script";
+const UNBUFFERED_HELP: &str = "Write each line's answers before the next is read";
 
 const SCRIPT_HELP: &str = "The script; absent or -, standard input";
 
