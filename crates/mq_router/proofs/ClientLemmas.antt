@@ -28,7 +28,7 @@ use Rattle.std.proofs.lemmas.List.{map-append, append-nil}
 use Rattle.std.proofs.lemmas.List.Elements.{filter-append}
 use Rattle.std.proofs.lemmas.Simd.{map-map}
 use Rattle.mq_world.specs.Lists.{Text, same_text, text_cmp, in_order}
-use Rattle.mq_world.specs.World.{Options, Session, Subscription, Message, Copy}
+use Rattle.mq_world.specs.World.{SubscriptionOptions, Session, Subscription, Message, Copy}
 use Rattle.mq_subscriptions.specs.Filters.{is_text, is_empty}
 use Rattle.mq_world.specs.Views.{options_of}
 use Rattle.mq_router.specs.delivery.Summaries.{Summary, summary_of, summary_for, together, copy_from}
@@ -45,26 +45,26 @@ use Rattle.mq_subscriptions.proofs.AscendingLemmas.{same, first-run, least-first
 
 -- ## By client
 
-pub keys-by_client : (xs : List (Text × Options)) → keys_of (by_client xs) ≡ in_order text_cmp (clients_of xs)
+pub keys-by_client : (xs : List (Text × SubscriptionOptions)) → keys_of (by_client xs) ≡ in_order text_cmp (clients_of xs)
 keys-by_client xs = keyed (in_order text_cmp (clients_of xs))
   where
     keyed : (ids : List Text) → keys_of (map (λ id. (id, summary_of (options_among id xs))) ids) ≡ ids
     keyed [] = refl
     keyed (id ∷ ids) = ap (λ l. id ∷ l) (keyed ids)
 
-pub sorted-by_client : (xs : List (Text × Options)) → IsStrictlySortedBy text_cmp (keys_of (by_client xs))
+pub sorted-by_client : (xs : List (Text × SubscriptionOptions)) → IsStrictlySortedBy text_cmp (keys_of (by_client xs))
 sorted-by_client xs = subst (IsStrictlySortedBy text_cmp) (sym (keys-by_client xs)) (sorted-in_order text_cmp nat_list_cmp_total (clients_of xs))
 
-among-any : (id : Text) (xs : List (Text × Options)) → list_any (is_text id) (clients_of xs) ≡ not (is_empty (options_among id xs))
+among-any : (id : Text) (xs : List (Text × SubscriptionOptions)) → list_any (is_text id) (clients_of xs) ≡ not (is_empty (options_among id xs))
 among-any id [] = refl
 among-any id (x ∷ xs) =
     ap (λ b. b || list_any (is_text id) (clients_of xs)) (is_text-is id x.0 ∙ text_flip id x.0)
-    ∙ (elim (same_text x.0 id) as (λ b. (b || list_any (is_text id) (clients_of xs)) ≡ not (is_empty (map (λ (y : Text × Options). y.1) (cond b (x ∷ filter (λ y. same_text y.0 id) xs) (filter (λ y. same_text y.0 id) xs))))) [
+    ∙ (elim (same_text x.0 id) as (λ b. (b || list_any (is_text id) (clients_of xs)) ≡ not (is_empty (map (λ (y : Text × SubscriptionOptions). y.1) (cond b (x ∷ filter (λ y. same_text y.0 id) xs) (filter (λ y. same_text y.0 id) xs))))) [
       | true ↦ refl
       | false ↦ among-any id xs
     ])
 
-pub lookup-by_client : (id : Text) (xs : List (Text × Options)) → lookup (is_text id) (by_client xs) ≡ summary_for (options_among id xs)
+pub lookup-by_client : (id : Text) (xs : List (Text × SubscriptionOptions)) → lookup (is_text id) (by_client xs) ≡ summary_for (options_among id xs)
 lookup-by_client id xs =
     looked (in_order text_cmp (clients_of xs))
     ∙ ap (λ b. cond b (Some (given id)) None) (any-in_order text_cmp nat_list_cmp_total key_text id (clients_of xs) ∙ among-any id xs)
@@ -82,13 +82,13 @@ lookup-by_client id xs =
         (λ f. ap (λ b. cond b (Some (given k)) (lookup (is_text id) (map (λ k. (k, given k)) ids))) f ∙ looked ids
         ∙ sym (ap (λ b. cond (b || list_any (is_text id) ids) (Some (given id)) None) f))
 
-    some : (os : List Options) → cond (not (is_empty os)) (Some (summary_of os)) None ≡ summary_for os
+    some : (os : List SubscriptionOptions) → cond (not (is_empty os)) (Some (summary_of os)) None ≡ summary_for os
     some [] = refl
     some (o ∷ os) = refl
 
 -- the subscriptions of one client, before those of greater ones
 module _ (c : Text) where
-  all-own : (own : List (Text × Options)) → AllByRecursion (λ u. u ≡ c) (clients_of own) → filter (λ x. same_text x.0 c) own ≡ own
+  all-own : (own : List (Text × SubscriptionOptions)) → AllByRecursion (λ u. u ≡ c) (clients_of own) → filter (λ x. same_text x.0 c) own ≡ own
   all-own [] h = refl
   all-own (x ∷ own) h =
       ap (λ b. cond b (x ∷ filter (λ y. same_text y.0 c) own) (filter (λ y. same_text y.0 c) own)) (ap (λ u. same_text u c) h.0 ∙ same_text-itself c)
@@ -97,37 +97,37 @@ module _ (c : Text) where
   less-apart : (u : Text) → text_cmp c u ≡ Less → same_text c u ≡ false
   less-apart u less = sym (is_text-is c u) ∙ ap is_eq less
 
-  none-own : (rest : List (Text × Options)) → AllByRecursion (λ u. text_cmp c u ≡ Less) (clients_of rest) → filter (λ x. same_text x.0 c) rest ≡ []
+  none-own : (rest : List (Text × SubscriptionOptions)) → AllByRecursion (λ u. text_cmp c u ≡ Less) (clients_of rest) → filter (λ x. same_text x.0 c) rest ≡ []
   none-own [] h = refl
   none-own (x ∷ rest) h =
       ap (λ b. cond b (x ∷ filter (λ y. same_text y.0 c) rest) (filter (λ y. same_text y.0 c) rest)) (text_flip x.0 c ∙ less-apart x.0 h.0) ∙ none-own rest h.1
 
-  none-other : (id : Text) → text_cmp c id ≡ Less → (own : List (Text × Options)) → AllByRecursion (λ u. u ≡ c) (clients_of own) → filter (λ x. same_text x.0 id) own ≡ []
+  none-other : (id : Text) → text_cmp c id ≡ Less → (own : List (Text × SubscriptionOptions)) → AllByRecursion (λ u. u ≡ c) (clients_of own) → filter (λ x. same_text x.0 id) own ≡ []
   none-other id less [] h = refl
   none-other id less (x ∷ own) h =
       ap (λ b. cond b (x ∷ filter (λ y. same_text y.0 id) own) (filter (λ y. same_text y.0 id) own)) (ap (λ u. same_text u id) h.0 ∙ less-apart id less) ∙ none-other id less own h.1
 
-  pub first-client : (x : Text × Options) (own rest : List (Text × Options)) → AllByRecursion (λ u. u ≡ c) (clients_of (x ∷ own)) → AllByRecursion (λ u. text_cmp c u ≡ Less) (clients_of rest) → by_client ((x ∷ own) ++ rest) ≡ (c, summary_of (map (λ y. y.1) (x ∷ own))) ∷ by_client rest
+  pub first-client : (x : Text × SubscriptionOptions) (own rest : List (Text × SubscriptionOptions)) → AllByRecursion (λ u. u ≡ c) (clients_of (x ∷ own)) → AllByRecursion (λ u. text_cmp c u ≡ Less) (clients_of rest) → by_client ((x ∷ own) ++ rest) ≡ (c, summary_of (map (λ y. y.1) (x ∷ own))) ∷ by_client rest
   first-client x own rest mine far =
-      let all : List (Text × Options) = (x ∷ own) ++ rest in
+      let all : List (Text × SubscriptionOptions) = (x ∷ own) ++ rest in
       let summed : Text → Text × Summary = λ id. (id, summary_of (options_among id all)) in
       ap (map summed)
-      (ap (in_order text_cmp) (map-append (λ (y : Text × Options). y.0) (x ∷ own) rest) ∙ least-first c x.0 (clients_of own) (clients_of rest) mine far)
+      (ap (in_order text_cmp) (map-append (λ (y : Text × SubscriptionOptions). y.0) (x ∷ own) rest) ∙ least-first c x.0 (clients_of own) (clients_of rest) mine far)
       ∙ ap (λ os. with_first os (map summed (in_order text_cmp (clients_of rest))))
-      (ap (map (λ (y : Text × Options). y.1)) (filter-append (λ y. same_text y.0 c) (x ∷ own) rest
+      (ap (map (λ (y : Text × SubscriptionOptions). y.1)) (filter-append (λ y. same_text y.0 c) (x ∷ own) rest
       ∙ ap (λ l. filter (λ y. same_text y.0 c) (x ∷ own) ++ l) (none-own rest far) ∙ append-nil (filter (λ y. same_text y.0 c) (x ∷ own)) ∙ all-own (x ∷ own) mine))
       ∙ ap (with_first (map (λ y. y.1) (x ∷ own))) (others (in_order text_cmp (clients_of rest)) (all-in_order (λ u. text_cmp c u ≡ Less) (clients_of rest) far))
     where
-      with_first : List Options → List (Text × Summary) → List (Text × Summary)
+      with_first : List SubscriptionOptions → List (Text × Summary) → List (Text × Summary)
       with_first os l = (c, summary_of os) ∷ l
 
-      summed_in : List (Text × Options) → Text → Text × Summary
+      summed_in : List (Text × SubscriptionOptions) → Text → Text × Summary
       summed_in ys id = (id, summary_of (options_among id ys))
 
       others : (ids : List Text) → AllByRecursion (λ u. text_cmp c u ≡ Less) ids → map (summed_in ((x ∷ own) ++ rest)) ids ≡ map (summed_in rest) ids
       others [] h = refl
       others (id ∷ ids) h =
-          let one : List (Text × Options) → Text × Summary = λ os. (id, summary_of (map (λ y. y.1) os)) in
+          let one : List (Text × SubscriptionOptions) → Text × Summary = λ os. (id, summary_of (map (λ y. y.1) os)) in
           ap (λ os. one os ∷ map (summed_in ((x ∷ own) ++ rest)) ids)
           (filter-append (λ y. same_text y.0 id) (x ∷ own) rest ∙ ap (λ l. l ++ filter (λ y. same_text y.0 id) rest) (none-other id h.0 (x ∷ own) mine))
           ∙ ap (λ l. summed_in rest id ∷ l) (others ids h.1)
@@ -144,13 +144,13 @@ options-own m id (s ∷ rows) =
     (λ t. (let one : s.client ≡ id = same_text-is s.client id t in
     subst (λ b. P (is_own_match m s) b) (sym (mine t one))
     (elim (is_own_match m s) as (λ a. P a a) [
-      | true ↦ ap (λ b. map (λ (x : Text × Options). x.1) (cond b ((s.client, s.options) ∷ filter (λ x. same_text x.0 id) (own_matches m rows)) (filter (λ x. same_text x.0 id) (own_matches m rows)))) t
+      | true ↦ ap (λ b. map (λ (x : Text × SubscriptionOptions). x.1) (cond b ((s.client, s.options) ∷ filter (λ x. same_text x.0 id) (own_matches m rows)) (filter (λ x. same_text x.0 id) (own_matches m rows)))) t
           ∙ ap (λ l. s.options ∷ l) rest
       | false ↦ rest
     ])))
     (λ f. subst (λ b. P (is_own_match m s) b) (sym (other f))
     (elim (is_own_match m s) as (λ a. P a false) [
-      | true ↦ ap (λ b. map (λ (x : Text × Options). x.1) (cond b ((s.client, s.options) ∷ filter (λ x. same_text x.0 id) (own_matches m rows)) (filter (λ x. same_text x.0 id) (own_matches m rows)))) f
+      | true ↦ ap (λ b. map (λ (x : Text × SubscriptionOptions). x.1) (cond b ((s.client, s.options) ∷ filter (λ x. same_text x.0 id) (own_matches m rows)) (filter (λ x. same_text x.0 id) (own_matches m rows)))) f
           ∙ rest
       | false ↦ rest
     ]))
@@ -170,8 +170,8 @@ options-own m id (s ∷ rows) =
 
 pub summary-more : (xs : List Match) (i : ℕ) (d : Match) (old new : Summary) → i < length xs → old ≡ summary_of (map (λ x. options_of x.options) (take i xs)) → new ≡ together old (summary_of (options_of (get_or xs i d).options ∷ [])) → new ≡ summary_of (map (λ x. options_of x.options) (take (i + 1) xs))
 summary-more xs i d old new h start sum =
-    let before : List Options = map (λ x. options_of x.options) (take i xs) in
-    let o : Options = options_of (get_or xs i d).options in
+    let before : List SubscriptionOptions = map (λ x. options_of x.options) (take i xs) in
+    let o : SubscriptionOptions = options_of (get_or xs i d).options in
     let more : before ++ o ∷ [] ≡ map (λ x. options_of x.options) (take (i + 1) xs) = grind (arith, common_steps) in
     sum ∙ ap (λ s. together s (summary_of (o ∷ []))) start ∙ sym (summary_of-append before (o ∷ [])) ∙ ap summary_of more
 
@@ -182,11 +182,11 @@ next-client g s t r own d is steps computes up =
     let step = subst (λ (o : Option (Bor (List Match))). chunk_by_steps g s o t) is steps in
     cut own.now (chunk_by_rest t) (chunk_by_rest s) step.0 step.1 (step.2 (same (λ (x : Match). rc_str_bytes x.client.now)) computes).1 up
   where
-    pair : Match → Text × Options
+    pair : Match → Text × SubscriptionOptions
     pair x = (rc_str_bytes x.client.now, options_of x.options)
 
     clients : (xs : List Match) → clients_of (matched xs) ≡ map (λ x. rc_str_bytes x.client.now) xs
-    clients xs = map-map (λ (x : Text × Options). x.0) pair xs
+    clients xs = map-map (λ (x : Text × SubscriptionOptions). x.0) pair xs
 
     behind : (xs ys : List Text) → AreAscending (xs ++ ys) → AreAscending ys
     behind [] ys h = h
@@ -205,10 +205,10 @@ next-client g s t r own d is steps computes up =
               ∙ first-client c (pair x) (matched own) (matched rest)
               (subst (AllByRecursion (λ u. u ≡ c)) (sym (clients (x ∷ own))) parts.0)
               (subst (AllByRecursion (λ u. text_cmp c u ≡ Less)) (sym (clients rest)) parts.1)
-              ∙ ap (λ os. summed_first c os (by_client (matched rest))) (map-map (λ (y : Text × Options). y.1) pair (x ∷ own)),
+              ∙ ap (λ os. summed_first c os (by_client (matched rest))) (map-map (λ (y : Text × SubscriptionOptions). y.1) pair (x ∷ own)),
         )
       where
-        summed_first : Text → List Options → List (Text × Summary) → List (Text × Summary)
+        summed_first : Text → List SubscriptionOptions → List (Text × Summary) → List (Text × Summary)
         summed_first c os l = (c, summary_of os) ∷ l
 
 -- ## Where a copy goes

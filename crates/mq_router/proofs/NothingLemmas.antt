@@ -32,7 +32,7 @@ module _ (access : Option (List AclRow)) (sessions : List Session) (subscription
 
   no-copy : (id : Text) (user : Option Text) → direct_copy access subscriptions m id user ≡ None
   no-copy id user =
-      ap (λ (os : List world.Options). if not (length os == 0) && allowed access id user m.topic Reading then Some (copy_by id None m os) else None) (no-options id)
+      ap (λ (os : List world.SubscriptionOptions). if not (length os == 0) && allowed access id user m.topic Reading then Some (copy_by id None m os) else None) (no-options id)
 
   pub no-copies : direct_copies access sessions subscriptions m ≡ []
   unfolding direct_copies

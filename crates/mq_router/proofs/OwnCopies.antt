@@ -88,7 +88,7 @@ unfound key (l ∷ L) h =
 
 -- what is made for the clients of sessions that pass a test, by the options of their subscriptions
 module _ {X : Type 0} (test : Session → Bool) (make : Text → Summary → Option X) (access : Option (List AclRow)) (sessions : List Session) (subscriptions : List Subscription) (m : Message) where
-  abbrev O : Text → List world.Options
+  abbrev O : Text → List world.SubscriptionOptions
   O id = options_for subscriptions m id
 
   abbrev may : Text → Option Text → Bool
@@ -182,7 +182,7 @@ own-begun limit access sessions subscriptions m deadline L s t found =
 
     each : (x : Session) → made_for (has_room limit) begin access sessions subscriptions m x ≡ begins limit access subscriptions m deadline x
     each x =
-        let os : List world.Options = options_for subscriptions m x.id in
+        let os : List world.SubscriptionOptions = options_for subscriptions m x.id in
         onto (has_room limit x) (not (length os == 0) && allowed access x.id x.user m.topic Reading) x.id (copy_by x.id None m os)
 
 -- ## What takes part among those that match

@@ -7,7 +7,7 @@ use Rattle.mq_topic.specs.Texts.{is_name, is_shared, is_subscription, share_of, 
 use Rattle.mq_acl.specs.Access.{allowed}
 use Rattle.mq_acl.specs.declared.access.Direction.TheVariants.{Writing}
 use Rattle.mq_world.specs.Lists.{Text, with_row}
-use Rattle.mq_world.specs.World.{Session, Subscription, Options, Message, Copy, Reply, Request, Connect, Disconnect, Subscribe, Unsubscribe, Publish, SetAcl, Advance, Stat, asked, session_cmp, has_id, has_key}
+use Rattle.mq_world.specs.World.{Session, Subscription, SubscriptionOptions, Message, Copy, Reply, Request, Connect, Disconnect, Subscribe, Unsubscribe, Publish, SetAcl, Advance, Stat, asked, session_cmp, has_id, has_key}
 use Rattle.mq_world.specs.Clock.{last_moment}
 use Rattle.mq_world.specs.Sessions.{new_session, user_of, outlives, resumes, left_by, has_ended}
 use Rattle.mq_world.specs.Waiting.{begins_to_wait, waiting_after, resumed_copies}
@@ -113,24 +113,24 @@ disconnect-does s id sessions subs reply h ends r ss xs keys = record {
 shared-is : (text : Text) → is_some (share_of text) ≡ is_shared text
 shared-is text = elim (is_shared text) as (λ b. is_some (if b then Some (share_name text) else None) ≡ b) [ true ↦ refl | false ↦ refl ]
 
-abbrev shared_condition : Text → Options → Conditions
+abbrev shared_condition : Text → SubscriptionOptions → Conditions
 shared_condition text options = (is_shared text && options.no_local, SharedNoLocal) ∷ []
 
-pub subscribe-client : (s : State) (id text : Text) (options : Options) (r : Refusal) → Some r ≡ first_refusal (client_conditions s.sessions id) → Refuses (world_of s) (Subscribe id text options) r
+pub subscribe-client : (s : State) (id text : Text) (options : SubscriptionOptions) (r : Refusal) → Some r ≡ first_refusal (client_conditions s.sessions id) → Refuses (world_of s) (Subscribe id text options) r
 unfolding refusal
 subscribe-client s id text options r h = inr (first-refused (client_conditions s.sessions id) ((not (is_subscription text), TopicFilter) ∷ shared_condition text options) r h)
 
-pub subscribe-filter : (s : State) (id text : Text) (options : Options) (r : Refusal) → None ≡ first_refusal (client_conditions s.sessions id) → (r ≡ Memory) ⊎ ((r ≡ TopicFilter) × (is_subscription text ≡ false)) → Refuses (world_of s) (Subscribe id text options) r
+pub subscribe-filter : (s : State) (id text : Text) (options : SubscriptionOptions) (r : Refusal) → None ≡ first_refusal (client_conditions s.sessions id) → (r ≡ Memory) ⊎ ((r ≡ TopicFilter) × (is_subscription text ≡ false)) → Refuses (world_of s) (Subscribe id text options) r
 unfolding refusal
 subscribe-filter s id text options r h why = refused-behind (client_conditions s.sessions id) (shared_condition text options) r TopicFilter (is_subscription text) h why
 
-pub subscribe-shared : (s : State) (id text : Text) (options : Options) → None ≡ first_refusal (client_conditions s.sessions id) → is_subscription text ≡ true → (is_some (share_of text) && options.no_local) ≡ true → Refuses (world_of s) (Subscribe id text options) SharedNoLocal
+pub subscribe-shared : (s : State) (id text : Text) (options : SubscriptionOptions) → None ≡ first_refusal (client_conditions s.sessions id) → is_subscription text ≡ true → (is_some (share_of text) && options.no_local) ≡ true → Refuses (world_of s) (Subscribe id text options) SharedNoLocal
 unfolding refusal
 subscribe-shared s id text options h f e =
     inr (passed-behind (client_conditions s.sessions id) (shared_condition text options) TopicFilter (is_subscription text) h f
     ∙ ap (λ v. first_refusal ((v, SharedNoLocal) ∷ [])) (sym (ap (λ b. b && options.no_local) (shared-is text)) ∙ e))
 
-pub subscribe-does : (s : State) (id text : Text) (options : Options) (subs : KeptSubscriptions) (reply : Reply) → None ≡ first_refusal (client_conditions s.sessions id) → is_subscription text ≡ true → (is_some (share_of text) && options.no_local) ≡ false → reply ≡ record { copies = copies_sent s (asked id text options); outcome = Reason options.qos } → SameInTurn subs.rows (joined (asked id text options) s.subscriptions) → AreKeys subs → Does s (Subscribe id text options) reply (record s { subscriptions = subs.rows; filter_keys = subs.keys })
+pub subscribe-does : (s : State) (id text : Text) (options : SubscriptionOptions) (subs : KeptSubscriptions) (reply : Reply) → None ≡ first_refusal (client_conditions s.sessions id) → is_subscription text ≡ true → (is_some (share_of text) && options.no_local) ≡ false → reply ≡ record { copies = copies_sent s (asked id text options); outcome = Reason options.qos } → SameInTurn subs.rows (joined (asked id text options) s.subscriptions) → AreKeys subs → Does s (Subscribe id text options) reply (record s { subscriptions = subs.rows; filter_keys = subs.keys })
 unfolding refusal
 subscribe-does s id text options subs reply h f e r xs keys = record {
   accepted = passed-behind (client_conditions s.sessions id) (shared_condition text options) TopicFilter (is_subscription text) h f

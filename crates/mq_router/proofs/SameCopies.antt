@@ -6,7 +6,7 @@ use Rattle.mq_acl.specs.Rows.{AclRow}
 use Rattle.mq_acl.specs.Access.{allowed}
 use Rattle.mq_acl.specs.declared.access.Direction.TheVariants.{Reading}
 use Rattle.mq_world.specs.Lists.{SameElements, Text, greatest, ascending}
-use Rattle.mq_world.specs.World.{Session, Subscription, Options, Message}
+use Rattle.mq_world.specs.World.{Session, Subscription, SubscriptionOptions, Message}
 use Rattle.mq_world.specs.Clock.{deadline_of}
 use Rattle.mq_world.specs.Copies.{takes_part, options_for, copy_by, direct_copy, direct_copies}
 use Rattle.mq_world.specs.Waiting.{has_room, with_qos, waiting_copy, with_waiting, waiting_after, begins_to_wait}
@@ -16,13 +16,13 @@ use Rattle.mq_world.proofs.SameLemmas.{SameElements-filter, SameElements-map, Sa
 direct_copy-same : (access : Option (List AclRow)) (xs ys : List Subscription) (m : Message) (id : Text) (user : Option Text) → SameElements xs ys → direct_copy access xs m id user ≡ direct_copy access ys m id user
 direct_copy-same access xs ys m id user same =
     let part : Subscription → Bool = takes_part m id in
-    let ox : List Options = options_for xs m id in
-    let oy : List Options = options_for ys m id in
+    let ox : List SubscriptionOptions = options_for xs m id in
+    let oy : List SubscriptionOptions = options_for ys m id in
     let options : SameElements ox oy = SameElements-map (λ (x : Subscription). x.options) (filter part xs) (filter part ys) (SameElements-filter part xs ys same) in
     let able : Bool = allowed access id user m.topic Reading in
-    let qos : greatest (map (λ o. o.qos) ox) ≡ greatest (map (λ o. o.qos) oy) = greatest-SameElements _ _ (SameElements-map (λ (o : Options). o.qos) ox oy options) in
-    let ids : ascending (filter_map (λ o. o.identifier) ox) ≡ ascending (filter_map (λ o. o.identifier) oy) = ascending-SameElements _ _ (SameElements-filter_map (λ (o : Options). o.identifier) ox oy options) in
-    let keeps : list_any (λ o. o.retain_as_published) ox ≡ list_any (λ o. o.retain_as_published) oy = list_any-SameElements (λ (o : Options). o.retain_as_published) ox oy options in
+    let qos : greatest (map (λ o. o.qos) ox) ≡ greatest (map (λ o. o.qos) oy) = greatest-SameElements _ _ (SameElements-map (λ (o : SubscriptionOptions). o.qos) ox oy options) in
+    let ids : ascending (filter_map (λ o. o.identifier) ox) ≡ ascending (filter_map (λ o. o.identifier) oy) = ascending-SameElements _ _ (SameElements-filter_map (λ (o : SubscriptionOptions). o.identifier) ox oy options) in
+    let keeps : list_any (λ o. o.retain_as_published) ox ≡ list_any (λ o. o.retain_as_published) oy = list_any-SameElements (λ (o : SubscriptionOptions). o.retain_as_published) ox oy options in
     let copy : copy_by id None m ox ≡ copy_by id None m oy = rw (qos, keeps, ids) refl in
     ap (λ n. if not (n == 0) && able then Some (copy_by id None m ox) else None) (length-SameElements ox oy options)
     ∙ ap (λ k. if not (length oy == 0) && able then Some k else None) copy

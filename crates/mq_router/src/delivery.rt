@@ -15,28 +15,28 @@ pub(crate) mod unshared;
 use crate::delivery::outgoing::Outgoing;
 use crate::delivery::summary::Summary;
 use crate::delivery::unshared::{Direct, direct_copies};
-use mq_sessions::{Begun, Readers};
-use mq_subscriptions::{AtFilter, Match, Subscriptions, Turn, sort_by_client, sort_by_share};
+use mq_sessions::{QueuedCopy, Readers};
+use mq_subscriptions::{FilterEntry, Match, Subscriptions, Turn, sort_by_client, sort_by_share};
 use mq_tree::Steps;
 use mq_world::{Delivery, Message};
 use std::alloc::{AllocError, Global};
 
 /// The copies of a message that are sent, those that begin to wait, and the members of groups that it serves.
 #[derive(Debug, Drop)]
-pub(crate) struct Made {
+pub(crate) struct Deliveries {
     pub(crate) copies: Vec<Delivery>,
-    pub(crate) begun: Vec<Begun>,
+    pub(crate) begun: Vec<QueuedCopy>,
     pub(crate) served: Vec<Turn>,
 }
 
-impl Made {
+impl Deliveries {
     // What is made of a message that nobody gets.
-    fn nothing(alloc: Global) -> Made
+    fn nothing(alloc: Global) -> Deliveries
         ensures copies { copies_in result.copies ≡ [] }
         ensures begun { result.begun.items ≡ [] }
         ensures served { turns_in result.served ≡ [] }
     {
-        Made {
+        Deliveries {
             copies: Vec::new(alloc),
             begun: Vec::new(alloc),
             served: Vec::new(alloc),
@@ -52,7 +52,7 @@ pub(crate) fn make_copies(
     message: &Message,
     limit: u32,
     steps: &mut Steps,
-) -> Result<Made, AllocError>
+) -> Result<Deliveries, AllocError>
     ensures copies { IfOk result (λ m. copies_in m.copies
         ≡ copies_made readers.now.access.now readers.now.sessions.now subscriptions.now.rows (message_of message.now)) }
     ensures begun { IfOk result (λ m. map begin_of m.begun.items
@@ -66,7 +66,7 @@ pub(crate) fn make_copies(
     let candidates = subscriptions.candidates(message.topic, steps)?;
     let found = candidates.as_slice();
     if found.is_empty() {
-        return Ok(Made::nothing(alloc));
+        return Ok(Deliveries::nothing(alloc));
     }
     let matches = matches_by_client(alloc, found, message)?;
     // Learns that the sessions are in order.
@@ -87,7 +87,7 @@ ghost use Rattle.mq_subscriptions.specs.Matches.{rows_found, own_matches};
 ghost use Rattle.mq_router.specs.delivery.Copies.{copies_by, begins_by};
 
 // How many subscriptions of clients in their own name there are at most. It is a measure of room alone.
-fn own_count(found: &[&AtFilter]) -> usize {
+fn own_count(found: &[&FilterEntry]) -> usize {
     let mut count: usize = 0;
     for at in found {
         count = count.saturating_add(at.own_count());
@@ -98,7 +98,7 @@ fn own_count(found: &[&AtFilter]) -> usize {
 // The subscriptions of clients in their own name that take part, by client, and by filter for each client.
 fn matches_by_client<'a>(
     alloc: Global,
-    found: &[&'a AtFilter],
+    found: &[&'a FilterEntry],
     message: &Message,
 ) -> Result<Vec<Match<'a>>, AllocError>
     ensures sorted { IfOk result (λ ms. AreByClient (matched ms.items)) }
@@ -117,7 +117,7 @@ fn matches_by_client<'a>(
 fn members_served(
     alloc: Global,
     readers: &Readers,
-    found: &[&AtFilter],
+    found: &[&FilterEntry],
     message: &Message,
 ) -> Result<Vec<Turn>, AllocError>
     requires { AreAtFilters message.now.topic.now (seen found.now) }
@@ -140,7 +140,7 @@ fn made_for(
     served: Vec<Turn>,
     message: &Message,
     limit: u32,
-) -> Result<Made, AllocError>
+) -> Result<Deliveries, AllocError>
     requires { AreByClient (matched matches.now) }
     ensures copies { IfOk result (λ m. copies_in m.copies
         ≡ copies_by readers.now.access.now readers.now.sessions.now (message_of message.now) (by_client (matched matches.now))
@@ -151,15 +151,15 @@ fn made_for(
     ensures served { IfOk result (λ m. m.served ≡ served) }
 {
     if matches.is_empty() && served.is_empty() {
-        return Ok(Made {
+        return Ok(Deliveries {
             served,
-            ..Made::nothing(alloc)
+            ..Deliveries::nothing(alloc)
         });
     }
     let outgoing = Outgoing::new(alloc, message)?;
     let Direct { mut copies, begun } = direct_copies(alloc, readers, matches, &outgoing, limit)?;
     add_group_copies(alloc, served.as_slice(), &outgoing, &mut copies)?;
-    Ok(Made {
+    Ok(Deliveries {
         copies,
         begun,
         served,

@@ -19,7 +19,7 @@ ghost use Rattle.mq_sessions.specs.Views.{begin_of};
 
 mod ended;
 
-use crate::delivery::{Made, make_copies};
+use crate::delivery::{Deliveries, make_copies};
 use crate::replies::{published, reason_to_leave, with_reason};
 use crate::texts::{
     copied, is_client_id, is_shared_no_local, is_user_name, parse_filter, parse_name, read_access,
@@ -31,7 +31,7 @@ use mq_sessions::{Clock, Readers, Sessions, may_publish};
 use mq_subscriptions::Subscriptions;
 use mq_topic::SubFilter;
 use mq_tree::Steps;
-use mq_world::{Answer, Command, Delivery, Limits, Message, Options, Outcome, Refusal};
+use mq_world::{Answer, Command, Delivery, Limits, Message, SubscriptionOptions, Outcome, Refusal};
 use std::alloc::{AllocError, Global};
 use std::marker::Model;
 use std::rc::RcStr;
@@ -133,7 +133,7 @@ impl Router {
                 handling,
                 id,
             } => {
-                let options = Options {
+                let options = SubscriptionOptions {
                     qos: *qos,
                     no_local: *no_local,
                     rap: *rap,
@@ -220,7 +220,7 @@ impl Router {
         &mut self,
         client: &str,
         text: &str,
-        options: Options,
+        options: SubscriptionOptions,
         steps: &mut Steps,
     ) -> Result<Answer, Refusal>
         ensures applied { Applied self.old (world.Subscribe client.now text.now (options_of options)) result self.new }
@@ -245,7 +245,7 @@ impl Router {
         &self,
         client: &RcStr,
         wanted: &SubFilter,
-        options: Options,
+        options: SubscriptionOptions,
         steps: &mut Steps,
     ) -> Result<Vec<Delivery>, AllocError>
         ensures copies { IfOk result (λ copies. copies_in copies
@@ -340,7 +340,7 @@ impl Router {
     }
 
     // The copies that a publish sends, and those that begin to wait.
-    fn make_copies(&self, message: &Message, steps: &mut Steps) -> Result<Made, AllocError>
+    fn make_copies(&self, message: &Message, steps: &mut Steps) -> Result<Deliveries, AllocError>
         ensures copies { IfOk result (λ m. copies_in m.copies ≡ copies_held self.now (message_of message.now)) }
         ensures begun { IfOk result (λ m. map begin_of m.begun.items ≡ begun_held self.now (message_of message.now) message.now.deadline) }
         ensures served { IfOk result (λ m. turns_in m.served ≡ members_held self.now (message_of message.now)) }

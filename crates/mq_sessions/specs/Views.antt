@@ -11,7 +11,7 @@ use Rattle.mq_sessions.specs.declared.sessions.session.Session.{Session}
 use Rattle.mq_sessions.specs.declared.sessions.session.Waiting.{Waiting}
 use Rattle.mq_sessions.specs.declared.sessions.session.Presence.{Presence}
 use Rattle.mq_sessions.specs.declared.sessions.session.Presence.TheVariants.{Connected, Away}
-use Rattle.mq_sessions.specs.declared.sessions.queued.Begun.{Begun}
+use Rattle.mq_sessions.specs.declared.sessions.queued.QueuedCopy.{QueuedCopy}
 use Rattle.mq_sessions.specs.declared.sessions.Sessions.TheInside as in_sessions
 
 abbrev pub waiting_of : Waiting → world.Waiting
@@ -40,5 +40,5 @@ session_in entry = session_at (rc_str_bytes entry.0) entry.1
 abbrev pub sessions_of : in_sessions.Inside → List world.Session
 sessions_of inside = map session_in inside.by_id.entries
 
-abbrev pub begin_of : Begun → Begin
+abbrev pub begin_of : QueuedCopy → Begin
 begin_of b = (rc_str_bytes b.client, map waiting_of b.copies)

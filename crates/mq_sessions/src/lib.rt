@@ -9,5 +9,5 @@ pub use access::{Readers, may_publish, may_read};
 pub use clock::Clock;
 pub use sessions::Sessions;
 pub use sessions::queue::begin;
-pub use sessions::queued::Begun;
+pub use sessions::queued::QueuedCopy;
 pub use sessions::session::{Presence, Session, Waiting, Way};

@@ -21,7 +21,7 @@ mod resume;
 pub(crate) mod session;
 
 use crate::clock::Clock;
-use crate::sessions::queued::Begun;
+use crate::sessions::queued::QueuedCopy;
 use crate::sessions::session::Session;
 use edits::{EndMove, end, join, leave, put, remove};
 use ends::{add_end, has_come, remove_end};
@@ -167,14 +167,14 @@ impl Sessions {
     }
 
     // One more copy waits for a client.
-    fn join(&mut self, limit: u32, begun: Begun)
+    fn join(&mut self, limit: u32, begun: QueuedCopy)
         ensures { self.new ≡ queued_one limit (begin_of begun) self.old }
     {
         join(&mut self.by_id, limit, begun);
     }
 
     /// The copies begin to wait, each where fewer wait than may. It takes no memory.
-    pub fn join_all(&mut self, limit: u32, all: Vec<Begun>)
+    pub fn join_all(&mut self, limit: u32, all: Vec<QueuedCopy>)
         ensures new { self.new ≡ queued_all limit (map begin_of all.items) self.old }
         ensures ordered { IsStrictlySortedBy session_cmp self.old }
     {

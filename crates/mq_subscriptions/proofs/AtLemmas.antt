@@ -23,7 +23,7 @@ use Rattle.mq_world.proofs.Splits.{some_same, Split, split, Put, put_gap, put_fo
 use Rattle.mq_subscriptions.proofs.Cuts.{cut-any, absent-any, cut-joined, cut-turned, cut-left, cut-out, live-set, live-out, absent-left, absent-turned, put-joined, live-put}
 use Rattle.mq_subscriptions.proofs.TextMaps.{is_text-is, text-apart, lookup-texts, set_value-texts, remove_entry-texts, insert_entry-texts, ordered-texts}
 use Rattle.mq_world.specs.World as world
-use Rattle.mq_world.specs.declared.options.Options as held
+use Rattle.mq_world.specs.declared.options.SubscriptionOptions as held
 use Rattle.std.proofs.lemmas.List.{append-nil}
 
 pub same_share-itself : (a : Option Text) → same_share a a ≡ true
@@ -47,7 +47,7 @@ key_is : (bs k : Text) → is_text bs k ≡ true → k ≡ bs
 key_is bs k h = sym (same_text-is bs k (sym (is_text-is bs k) ∙ h))
 
 -- what asks for nothing: a key is told by it
-abbrev pub nothing : world.Options
+abbrev pub nothing : world.SubscriptionOptions
 nothing = record { qos = 0; no_local = false; retain_as_published = false; handling = 0; identifier = None }
 
 -- ## Groups
@@ -107,7 +107,7 @@ module _ (bs : Text) (es : List (Key × List Member)) (live : NoneEmpty (texts e
     group-live h = subst (λ (l : List (Text × List Member)). NoneEmpty l) (sym set_is) (live-set (rows_of []) IsLive (is_text bs) (record { client = []; share = Some bs; filter = []; options = nothing }) (group_unlike [] bs (record { client = []; share = Some bs; filter = []; options = nothing }) refl) (texts es) live v cut w h)
 
     module _ (f c : Text) where
-      pub group-joined : (o : held.Options) → w ≡ with_one (has_client c) (c, o) v → SameInTurn (group_rows f (texts new)) (joined (row (Some bs) f (c, o)) (group_rows f (texts es)))
+      pub group-joined : (o : held.SubscriptionOptions) → w ≡ with_one (has_client c) (c, o) v → SameInTurn (group_rows f (texts new)) (joined (row (Some bs) f (c, o)) (group_rows f (texts es)))
       group-joined o h =
           let s : Subscription = row (Some bs) f (c, o) in
           let here : map (row (Some cut.key) f) w ≡ joined s (map (row (Some cut.key) f) v) =
@@ -174,7 +174,7 @@ module _ (bs : Text) (es : List (Key × List Member)) (live : NoneEmpty (texts e
     put_is : texts new ≡ insert_entry text_cmp (texts es) bs one
     put_is = ap texts put ∙ insert_entry-texts es name one ∙ ap (λ k. insert_entry text_cmp (texts es) k one) named
 
-    pub group-added : (f c : Text) (o : held.Options) → one ≡ with_one (has_client c) (c, o) [] → SameInTurn (group_rows f (texts new)) (joined (row (Some bs) f (c, o)) (group_rows f (texts es)))
+    pub group-added : (f c : Text) (o : held.SubscriptionOptions) → one ≡ with_one (has_client c) (c, o) [] → SameInTurn (group_rows f (texts new)) (joined (row (Some bs) f (c, o)) (group_rows f (texts es)))
     group-added f c o h =
         let s : Subscription = row (Some bs) f (c, o) in
         subst (λ (l : List (Text × List Member)). SameInTurn (group_rows f l) (joined s (group_rows f (texts es)))) (sym put_is)
@@ -204,11 +204,11 @@ rows-flat f (m ∷ ms) = ap (λ l. row None f m ∷ l) (rows-flat f ms)
 own_unlike : (f bs : Text) (s : Subscription) → s.share ≡ None → s.client ≡ bs → (m : Member) → Any m → is_text bs m.0 ≡ false → AllByRecursion (Unlike s) (one_row f m)
 own_unlike f bs s own client m live h = (unlike-own s (row None f m) own (ap (same_text m.0) client ∙ other_text bs m.0 h), tt)
 
-module _ (f bs : Text) (o : held.Options) (es : List (Key × held.Options)) (sorted : IsStrictlySortedBy key_cmp (keys_of es)) where
+module _ (f bs : Text) (o : held.SubscriptionOptions) (es : List (Key × held.SubscriptionOptions)) (sorted : IsStrictlySortedBy key_cmp (keys_of es)) where
   abbrev mine : Subscription
   mine = row None f (bs, o)
 
-  replaced : (v : held.Options) → lookup (is_text bs) (texts es) ≡ Some v → SameInTurn (flat_map (one_row f) (insert_entry text_cmp (texts es) bs o)) (joined mine (flat_map (one_row f) (texts es)))
+  replaced : (v : held.SubscriptionOptions) → lookup (is_text bs) (texts es) ≡ Some v → SameInTurn (flat_map (one_row f) (insert_entry text_cmp (texts es) bs o)) (joined mine (flat_map (one_row f) (texts es)))
   replaced v found =
       let cut : Split (is_text bs) (texts es) v = split text_cmp (is_text bs) (text-apart bs) (texts es) v (ordered-texts es sorted) found in
       let key : cut.key ≡ bs = key_is bs cut.key cut.passes in
@@ -217,27 +217,27 @@ module _ (f bs : Text) (o : held.Options) (es : List (Key × held.Options)) (sor
       subst (λ (l : List Member). SameInTurn (flat_map (one_row f) l) (joined mine (flat_map (one_row f) (texts es)))) (sym (put_found' v found))
       (cut-joined (one_row f) Any (is_text bs) mine (own_unlike f bs mine refl refl) (texts es) (all_any (texts es)) v cut o (same-is _ _ here))
     where
-      put_found' : (u : held.Options) → lookup (is_text bs) (texts es) ≡ Some u → insert_entry text_cmp (texts es) bs o ≡ set_value (is_text bs) (texts es) o
+      put_found' : (u : held.SubscriptionOptions) → lookup (is_text bs) (texts es) ≡ Some u → insert_entry text_cmp (texts es) bs o ≡ set_value (is_text bs) (texts es) o
       put_found' u h = put_found text_cmp nat_list_cmp_total bs (texts es) u o (ordered-texts es sorted) h
 
-      taken : (u : held.Options) → joined mine (one_row f (bs, u)) ≡ one_row f (bs, o)
+      taken : (u : held.SubscriptionOptions) → joined mine (one_row f (bs, u)) ≡ one_row f (bs, o)
       taken u = ap (λ b. (if b then mine else row None f (bs, u)) ∷ (if b || false then [] else mine ∷ [])) (own_key None f bs (bs, u) ∙ same_text-itself bs)
 
   added : lookup (is_text bs) (texts es) ≡ None → SameInTurn (flat_map (one_row f) (insert_entry text_cmp (texts es) bs o)) (joined mine (flat_map (one_row f) (texts es)))
   added none = put-joined (one_row f) Any text_cmp bs mine (own_unlike f bs mine refl refl) (texts es) (all_any (texts es)) (put_gap text_cmp bs (texts es) none) o (same-itself (mine ∷ []))
 
-  pub direct-joined : (name : Key) (new : List (Key × held.Options)) → rc_str_bytes name ≡ bs → new ≡ insert_entry key_cmp es name o → SameInTurn (direct_rows f (texts new)) (joined mine (direct_rows f (texts es)))
+  pub direct-joined : (name : Key) (new : List (Key × held.SubscriptionOptions)) → rc_str_bytes name ≡ bs → new ≡ insert_entry key_cmp es name o → SameInTurn (direct_rows f (texts new)) (joined mine (direct_rows f (texts es)))
   direct-joined name new named put =
       let put_is : texts new ≡ insert_entry text_cmp (texts es) bs o = ap texts put ∙ insert_entry-texts es name o ∙ ap (λ k. insert_entry text_cmp (texts es) k o) named in
-      let P : Option held.Options → Type 0 = λ r. lookup (is_text bs) (texts es) ≡ r → SameInTurn (flat_map (one_row f) (insert_entry text_cmp (texts es) bs o)) (joined mine (flat_map (one_row f) (texts es))) in
+      let P : Option held.SubscriptionOptions → Type 0 = λ r. lookup (is_text bs) (texts es) ≡ r → SameInTurn (flat_map (one_row f) (insert_entry text_cmp (texts es) bs o)) (joined mine (flat_map (one_row f) (texts es))) in
       let flat = (elim (lookup (is_text bs) (texts es)) as P [ Some v ↦ replaced v | None ↦ added ]) refl in
       subst (λ (l : List Subscription). SameInTurn l (joined mine (direct_rows f (texts es)))) (sym (ap (direct_rows f) put_is ∙ rows-flat f (insert_entry text_cmp (texts es) bs o)))
       (subst (λ (l : List Subscription). SameInTurn (flat_map (one_row f) (insert_entry text_cmp (texts es) bs o)) (joined mine l)) (sym (rows-flat f (texts es))) flat)
 
-pub direct-left : (f bs : Text) (es new : List (Key × held.Options)) → IsStrictlySortedBy key_cmp (keys_of es) → new ≡ remove_entry (finds bs) es → direct_rows f (texts new) ≡ filter (λ x. not (has_key bs None f x)) (direct_rows f (texts es))
+pub direct-left : (f bs : Text) (es new : List (Key × held.SubscriptionOptions)) → IsStrictlySortedBy key_cmp (keys_of es) → new ≡ remove_entry (finds bs) es → direct_rows f (texts new) ≡ filter (λ x. not (has_key bs None f x)) (direct_rows f (texts es))
 direct-left f bs es new sorted out =
     ap (λ l. direct_rows f (texts l)) (out ∙ map_remove_entry-filter key_cmp (finds bs) (apart bs) es sorted ∙ filter-same (λ e. not (finds bs e.0)) (λ e. not (has_key bs None f (row None f (rc_str_bytes e.0, e.1)))) (λ e. ap not (finds-is bs e.0 ∙ sym (own_key None f bs (rc_str_bytes e.0, e.1)))) es)
-    ∙ ap (direct_rows f) (map-filter (λ (e : Key × held.Options). (rc_str_bytes e.0, e.1)) (λ m. not (has_key bs None f (row None f m))) es)
+    ∙ ap (direct_rows f) (map-filter (λ (e : Key × held.SubscriptionOptions). (rc_str_bytes e.0, e.1)) (λ m. not (has_key bs None f (row None f m))) es)
     ∙ map-filter (row None f) (λ x. not (has_key bs None f x)) (texts es)
 
 -- ## Both
@@ -254,7 +254,7 @@ all_shared f s e (g ∷ gs) = all_append (Unlike s) (rows_of f g) (group_rows f 
     go [] = tt
     go (m ∷ ms) = (unlike-share s (row (Some g.0) f m) (ap (same_share (Some g.0)) e), go ms)
 
-module _ (f c : Text) (o : held.Options) where
+module _ (f c : Text) (o : held.SubscriptionOptions) where
   pub at-joined-own : (d new : List Member) (gs : List (Text × List Member)) → SameInTurn (direct_rows f new) (joined (row None f (c, o)) (direct_rows f d)) → SameInTurn (direct_rows f new ++ group_rows f gs) (joined (row None f (c, o)) (direct_rows f d ++ group_rows f gs))
   at-joined-own d new gs h = joined-among (row None f (c, o)) [] (direct_rows f d) (direct_rows f new) (group_rows f gs) tt (all_shared f (row None f (c, o)) refl gs) h
 
@@ -298,11 +298,11 @@ here-is f d gs = all_append (λ s. s.filter ≡ f) (direct_rows f d) (group_rows
     of_groups [] = tt
     of_groups (g ∷ hs) = all_append (λ s. s.filter ≡ f) (rows_of f g) (group_rows f hs) (of (Some g.0) g.1) (of_groups hs)
 
-pub direct-any : (f bs : Text) (es : List (Key × held.Options)) → is_some (lookup (finds bs) es) ≡ list_any (has_key bs None f) (direct_rows f (texts es))
+pub direct-any : (f bs : Text) (es : List (Key × held.SubscriptionOptions)) → is_some (lookup (finds bs) es) ≡ list_any (has_key bs None f) (direct_rows f (texts es))
 direct-any f bs es =
     is_some-lookup (finds bs) es
     ∙ list_any-same (λ e. finds bs e.0) (λ e. has_key bs None f (row None f (rc_str_bytes e.0, e.1))) (λ e. finds-is bs e.0 ∙ sym (own_key None f bs (rc_str_bytes e.0, e.1))) es
-    ∙ sym (list_any-map (λ (e : Key × held.Options). (rc_str_bytes e.0, e.1)) (λ m. has_key bs None f (row None f m)) es)
+    ∙ sym (list_any-map (λ (e : Key × held.SubscriptionOptions). (rc_str_bytes e.0, e.1)) (λ m. has_key bs None f (row None f m)) es)
     ∙ sym (list_any-map (row None f) (has_key bs None f) (texts es))
 
 pub at-any-own : (f c : Text) (d : List Member) (gs : List (Text × List Member)) → list_any (has_key c None f) (direct_rows f d) ≡ list_any (has_key c None f) (direct_rows f d ++ group_rows f gs)
@@ -322,7 +322,7 @@ at-any-shared f c share d gs =
     ∙ ap (λ b. b || list_any (same_key s) (group_rows f gs)) (any-none (same_key s) (direct_rows f d) (none_same s _ (all_own f s share refl d))))
 
 -- nothing is here where both maps are empty
-pub bare-is : (f : Text) (d : List (Key × held.Options)) (gs : List (Key × List Member)) → NoneEmpty (texts gs) → (b : Bool) → (IsTrue b ↔ (length gs ≡ 0)) → length d ≡ 0 → b ≡ is_empty (direct_rows f (texts d) ++ group_rows f (texts gs))
+pub bare-is : (f : Text) (d : List (Key × held.SubscriptionOptions)) (gs : List (Key × List Member)) → NoneEmpty (texts gs) → (b : Bool) → (IsTrue b ↔ (length gs ≡ 0)) → length d ≡ 0 → b ≡ is_empty (direct_rows f (texts d) ++ group_rows f (texts gs))
 bare-is f [] [] live b h e = h.1 refl
 bare-is f [] ((k, m ∷ ms) ∷ gs) live b h e = false_from b (λ t. (let no : suc (length gs) ≡ 0 = h.0 t in cc))
   where
@@ -332,6 +332,6 @@ bare-is f [] ((k, m ∷ ms) ∷ gs) live b h e = false_from b (λ t. (let no : s
 bare-is f [] ((k, []) ∷ gs) live b h e = absurd (true≢false live.0)
 bare-is f (m ∷ d) gs live b h e = absurd (let no : suc (length d) ≡ 0 = e in cc)
 
-pub not_bare : (f : Text) (d : List (Key × held.Options)) (gs : List (Text × List Member)) → (length d ≡ 0 → ⊥) → false ≡ is_empty (direct_rows f (texts d) ++ group_rows f gs)
+pub not_bare : (f : Text) (d : List (Key × held.SubscriptionOptions)) (gs : List (Text × List Member)) → (length d ≡ 0 → ⊥) → false ≡ is_empty (direct_rows f (texts d) ++ group_rows f gs)
 not_bare f [] gs h = absurd (h refl)
 not_bare f (m ∷ d) gs h = refl

@@ -10,7 +10,7 @@ use Rattle.mq_world.specs.Keys.{Key}
 use Rattle.mq_world.specs.Lists.{Text}
 use Rattle.mq_subscriptions.specs.Filters.{Member, At, AtEntries, row, direct_rows, group_rows, all_rows}
 use Rattle.mq_subscriptions.specs.Views.{texts}
-use Rattle.mq_world.specs.declared.options.Options.{Options}
+use Rattle.mq_world.specs.declared.options.SubscriptionOptions.{SubscriptionOptions}
 
 group-number : (f : Text) (groups : List (Key × List Member)) → length (group_rows f (texts groups)) ≡ sum_by length (values_of groups)
 group-number f [] = refl
@@ -19,7 +19,7 @@ group-number f (g ∷ groups) =
     ∙ ap₂ (λ a b. a + b) (length-map g.1 (row (Some (rc_str_bytes g.0)) f)) (group-number f groups)
     ∙ sym (sum_by-cons length g.1 (values_of groups))
 
-pub at-number : (f : Text) (direct : List (Key × Options)) (groups : List (Key × List Member)) → length (direct_rows f (texts direct) ++ group_rows f (texts groups)) ≡ length direct + sum_by length (values_of groups)
+pub at-number : (f : Text) (direct : List (Key × SubscriptionOptions)) (groups : List (Key × List Member)) → length (direct_rows f (texts direct) ++ group_rows f (texts groups)) ≡ length direct + sum_by length (values_of groups)
 at-number f direct groups =
     length-append (direct_rows f (texts direct)) (group_rows f (texts groups))
     ∙ ap₂ (λ a b. a + b) (length-map (texts direct) (row None f) ∙ length-map direct (λ e. (rc_str_bytes e.0, e.1))) (group-number f groups)

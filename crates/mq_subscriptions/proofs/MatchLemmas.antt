@@ -7,7 +7,7 @@ use Rattle.std.proofs.lemmas.List.{append-nil}
 use Rattle.std.proofs.lemmas.List.Elements.{filter-append}
 use Rattle.std.proofs.lemmas.Simd.{map-map}
 use Rattle.mq_world.specs.Lists.{Text, same_text}
-use Rattle.mq_world.specs.World.{Options, Subscription, Message}
+use Rattle.mq_world.specs.World.{SubscriptionOptions, Subscription, Message}
 use Rattle.mq_subscriptions.specs.Filters.{Member, direct_rows, group_rows, row}
 use Rattle.mq_world.specs.Views.{options_of}
 use Rattle.mq_subscriptions.specs.Matches.{is_own_match, own_matches, matched, options_among, AreAscending, AreByClient}
@@ -16,12 +16,12 @@ use Rattle.mq_subscriptions.specs.declared.subscriptions.matches.Match.{Match}
 use Rattle.mq_subscriptions.proofs.AscendingLemmas.{lt, ascending-sorted, stable-kept}
 
 pub sorted-matches : (ms : List Match) → IsSortedBy (lt (λ (x : Match). rc_str_bytes x.client.now)) ms → AreByClient (matched ms)
-sorted-matches ms s = subst AreAscending (sym (map-map (λ (x : Text × Options). x.0) (λ (x : Match). (rc_str_bytes x.client.now, options_of x.options)) ms)) (ascending-sorted (λ (x : Match). rc_str_bytes x.client.now) ms s)
+sorted-matches ms s = subst AreAscending (sym (map-map (λ (x : Text × SubscriptionOptions). x.0) (λ (x : Match). (rc_str_bytes x.client.now, options_of x.options)) ms)) (ascending-sorted (λ (x : Match). rc_str_bytes x.client.now) ms s)
 
 pub stable-matches : (xs ys : List Match) → IsStableBy (lt (λ (x : Match). rc_str_bytes x.client.now)) xs ys → (id : Text) → options_among id (matched ys) ≡ options_among id (matched xs)
 stable-matches xs ys stable id =
-    let pair : Match → Text × Options = λ x. (rc_str_bytes x.client.now, options_of x.options) in
-    ap (map (λ (x : Text × Options). x.1))
+    let pair : Match → Text × SubscriptionOptions = λ x. (rc_str_bytes x.client.now, options_of x.options) in
+    ap (map (λ (x : Text × SubscriptionOptions). x.1))
     (sym (map-filter pair (λ x. same_text x.0 id) ys)
     ∙ ap (map pair) (stable-kept (λ (x : Match). rc_str_bytes x.client.now) xs ys stable id)
     ∙ map-filter pair (λ x. same_text x.0 id) xs)
@@ -41,7 +41,7 @@ no_groups_match m f (g ∷ gs) =
 by_any : (m : Message) (f : Text) (ms : List Member) → own_matches m (direct_rows [] ms) ≡ own_matches m (direct_rows f ms)
 by_any m f [] = refl
 by_any m f (x ∷ ms) =
-    let pair : Subscription → Text × Options = λ s. (s.client, s.options) in
+    let pair : Subscription → Text × SubscriptionOptions = λ s. (s.client, s.options) in
     elim (is_own_match m (row None [] x)) as (λ b. map pair (cond b (row None [] x ∷ filter (is_own_match m) (direct_rows [] ms)) (filter (is_own_match m) (direct_rows [] ms))) ≡ map pair (cond b (row None f x ∷ filter (is_own_match m) (direct_rows f ms)) (filter (is_own_match m) (direct_rows f ms)))) [
       | true ↦ ap (λ l. (x.0, options_of x.1) ∷ l) (by_any m f ms)
       | false ↦ by_any m f ms

@@ -20,7 +20,7 @@ use Rattle.mq_subscriptions.specs.Turns.{turns_of}
 use Rattle.mq_subscriptions.proofs.TextMaps.{is_text-is, text-apart}
 use Rattle.mq_world.proofs.OrderLemmas.{same_text-is, same_text-itself}
 use Rattle.mq_subscriptions.specs.declared.subscriptions.turn.Turn.{Turn}
-use Rattle.mq_world.specs.declared.options.Options as held
+use Rattle.mq_world.specs.declared.options.SubscriptionOptions as held
 
 abbrev pub able : Option (List AclRow) → List Session → Text → Text → Bool
 able access sessions name client = is_reader access sessions name client
@@ -128,5 +128,5 @@ turns-more access sessions name f share old new t g gs e named is =
     ((elim (same_text g.0 share) as (λ b. map turn_of (own b) ≡ (if b then turns_of (Some (turn_of t)) else [])) [ true ↦ refl | false ↦ refl ])
     ∙ ap (λ o. if same_text g.0 share then turns_of o else []) (sym is))
 
-pub same_turn : (client client' : Text) (share share' f f' : Text) (o : held.Options) → client ≡ client' → share ≡ share' → f ≡ f' → row (Some share) f (client, o) ≡ row (Some share') f' (client', o)
+pub same_turn : (client client' : Text) (share share' f f' : Text) (o : held.SubscriptionOptions) → client ≡ client' → share ≡ share' → f ≡ f' → row (Some share) f (client, o) ≡ row (Some share') f' (client', o)
 same_turn client client' share share' f f' o e1 e2 e3 = rw (e1, e2, e3) refl

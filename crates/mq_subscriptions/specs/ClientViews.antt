@@ -5,7 +5,7 @@ use Rattle.std.specs.Rc.{rc_str_bytes}
 use Rattle.mq_topic.specs.Texts.{is_subscription}
 use Rattle.mq_world.specs.Keys.{Key}
 use Rattle.mq_subscriptions.specs.Filters.{OwnKey, text_key}
-use Rattle.mq_subscriptions.specs.declared.subscriptions.client_filters.Own.TheInside as in_own
+use Rattle.mq_subscriptions.specs.declared.subscriptions.client_filters.ClientFilters.TheInside as in_own
 
 abbrev pub key_in : Key → OwnKey
 key_in text = text_key (rc_str_bytes text)

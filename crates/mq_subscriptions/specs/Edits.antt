@@ -8,10 +8,10 @@ use Rattle.mq_world.specs.Turns.{SameInTurn}
 use Rattle.mq_subscriptions.specs.Turns.{joined, put_last}
 use Rattle.mq_subscriptions.specs.Filters.{Member, At, row, direct_rows, group_rows}
 use Rattle.mq_subscriptions.specs.Views.{texts}
-use Rattle.mq_world.specs.declared.options.Options.{Options}
+use Rattle.mq_world.specs.declared.options.SubscriptionOptions.{SubscriptionOptions}
 
 abbrev pub Directs : Type 0
-Directs = List (Key × Options)
+Directs = List (Key × SubscriptionOptions)
 
 abbrev pub Groups : Type 0
 Groups = List (Key × List Member)

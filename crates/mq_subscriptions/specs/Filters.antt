@@ -15,11 +15,11 @@ use Rattle.mq_world.specs.Copies.{filter_matches}
 use Rattle.mq_world.specs.World.{Subscription, same_key, same_share}
 use Rattle.mq_world.specs.Counts.{filters_among}
 use Rattle.mq_world.specs.Views.{options_of}
-use Rattle.mq_world.specs.declared.options.Options.{Options}
+use Rattle.mq_world.specs.declared.options.SubscriptionOptions.{SubscriptionOptions}
 
 -- a client and what its subscription asks for
 abbrev pub Member : Type 0
-Member = Text × Options
+Member = Text × SubscriptionOptions
 
 abbrev pub has_client : Text → Member → Bool
 has_client client m = same_text m.0 client

@@ -2,7 +2,7 @@
 use Rattle.std.specs.Prelude.{List, [], ◌∷◌, map, ◌&&◌, not, is_none, Bool, ◌≡◌, ⊤, false}
 use Rattle.std.specs.List.{filter, flat_map, AllByRecursion}
 use Rattle.mq_world.specs.Lists.{Text, same_text, text_cmp}
-use Rattle.mq_world.specs.World.{Subscription, Options, Message}
+use Rattle.mq_world.specs.World.{Subscription, SubscriptionOptions, Message}
 use Rattle.mq_world.specs.World as world
 use Rattle.mq_subscriptions.specs.Filters.{At}
 use Rattle.std.specs.Rc.{rc_str_bytes}
@@ -18,18 +18,18 @@ rows_found found = flat_map (λ (a : At). a.rows) found
 abbrev pub is_own_match : Message → Subscription → Bool
 is_own_match m s = is_none s.share && not (s.options.no_local && same_text s.client m.publisher)
 
-abbrev pub own_matches : Message → List Subscription → List (Text × world.Options)
+abbrev pub own_matches : Message → List Subscription → List (Text × world.SubscriptionOptions)
 own_matches m rows = map (λ s. (s.client, s.options)) (filter (is_own_match m) rows)
 
 -- subscriptions, each by its client and what it asks for
-abbrev pub matched : List Match → List (Text × Options)
+abbrev pub matched : List Match → List (Text × SubscriptionOptions)
 matched ms = map (λ m. (rc_str_bytes m.client.now, options_of m.options)) ms
 
-abbrev pub clients_of : List (Text × Options) → List Text
+abbrev pub clients_of : List (Text × SubscriptionOptions) → List Text
 clients_of xs = map (λ x. x.0) xs
 
 -- what those of a client ask for
-abbrev pub options_among : Text → List (Text × Options) → List Options
+abbrev pub options_among : Text → List (Text × SubscriptionOptions) → List SubscriptionOptions
 options_among id xs = map (λ x. x.1) (filter (λ x. same_text x.0 id) xs)
 
 -- no text is less than one before it
@@ -37,7 +37,7 @@ abbrev pub AreAscending : List Text → Type 0
 AreAscending [] = ⊤
 AreAscending (t ∷ ts) = AllByRecursion (λ u. is_lt (text_cmp u t) ≡ false) ts × AreAscending ts
 
-abbrev pub AreByClient : List (Text × Options) → Type 0
+abbrev pub AreByClient : List (Text × SubscriptionOptions) → Type 0
 AreByClient xs = AreAscending (clients_of xs)
 
 abbrev pub seen : {X : Type 0} → List (Bor X) → List X

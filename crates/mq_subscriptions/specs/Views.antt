@@ -5,7 +5,7 @@ use Rattle.mq_world.specs.Keys.{Key}
 use Rattle.mq_world.specs.Lists.{Text}
 use Rattle.mq_subscriptions.specs.Filters.{Member, At, direct_rows, group_rows, NoneEmpty, AreListed, KeptSubscriptions, kept_at}
 use Rattle.mq_subscriptions.specs.declared.subscriptions.group.Group.TheInside as in_group
-use Rattle.mq_subscriptions.specs.declared.subscriptions.filter_entry.AtFilter.TheInside as in_at
+use Rattle.mq_subscriptions.specs.declared.subscriptions.filter_entry.FilterEntry.TheInside as in_at
 use Rattle.mq_subscriptions.specs.declared.subscriptions.Subscriptions.TheInside as in_subscriptions
 
 -- the entries of a map from texts

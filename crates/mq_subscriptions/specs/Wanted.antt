@@ -9,14 +9,14 @@ use Rattle.mq_world.specs.Lists.{Text}
 use Rattle.mq_world.specs.World.{Subscription, has_key}
 use Rattle.mq_subscriptions.specs.Filters.{OwnKey, row, is_empty, is_listed}
 use Rattle.mq_subscriptions.specs.Views.{texts}
-use Rattle.mq_world.specs.declared.options.Options.{Options}
+use Rattle.mq_world.specs.declared.options.SubscriptionOptions.{SubscriptionOptions}
 
 -- the text is a valid subscription's, and this is its share name and its filter
 abbrev pub IsAskedBy : Text → SubFilter → Type 0
 IsAskedBy text wanted =
     (option_map string_bytes wanted.share ≡ share_of text) × (wanted.filter ≡ filter_part text) × (is_subscription text ≡ true)
 
-abbrev pub wanted_row : Text → SubFilter → Options → Subscription
+abbrev pub wanted_row : Text → SubFilter → SubscriptionOptions → Subscription
 wanted_row client wanted options = row (option_map string_bytes wanted.share) wanted.filter (client, options)
 
 -- the subscription is the client's, with this share name and filter

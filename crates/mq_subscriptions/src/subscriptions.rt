@@ -24,12 +24,12 @@ pub(crate) mod group;
 pub(crate) mod matches;
 pub(crate) mod turn;
 
-use crate::subscriptions::client_filters::Own;
-use crate::subscriptions::filter_entry::AtFilter;
+use crate::subscriptions::client_filters::ClientFilters;
+use crate::subscriptions::filter_entry::FilterEntry;
 use crate::subscriptions::turn::Turn;
 use mq_topic::{SubFilter, TopicFilter, TopicName};
 use mq_tree::{LevelTree, Steps};
-use mq_world::Options;
+use mq_world::SubscriptionOptions;
 use std::alloc::{AllocError, Global};
 use std::collections::BTreeMap;
 use std::marker::Model;
@@ -39,8 +39,8 @@ use std::rc::{Rc, RcStr};
 #[derive(Drop)]
 pub struct Subscriptions {
     alloc: Global,
-    tree: LevelTree<AtFilter>,
-    lists: BTreeMap<RcStr, Own>,
+    tree: LevelTree<FilterEntry>,
+    lists: BTreeMap<RcStr, ClientFilters>,
 }
 
 impl Model for Subscriptions {
@@ -73,7 +73,7 @@ impl Subscriptions {
     }
 
     /// Whether a subscribe is sent retained messages.
-    pub fn asks_for_retained(&self, client: &str, wanted: &SubFilter, options: Options) -> bool
+    pub fn asks_for_retained(&self, client: &str, wanted: &SubFilter, options: SubscriptionOptions) -> bool
         ensures { result ≡ asks_for_retained self.now.rows (wanted_row client.now wanted.now options) }
     {
         if wanted.share.is_some() {
@@ -92,7 +92,7 @@ impl Subscriptions {
         client: &RcStr,
         text: &str,
         wanted: &SubFilter,
-        options: Options,
+        options: SubscriptionOptions,
     ) -> Result<(), AllocError>
         requires { IsAskedBy text.now wanted.now }
         ensures ok { OnOk result (SameInTurn self.new.rows
@@ -134,7 +134,7 @@ impl Subscriptions {
         &self,
         name: &TopicName,
         steps: &mut Steps,
-    ) -> Result<Vec<&AtFilter>, AllocError>
+    ) -> Result<Vec<&FilterEntry>, AllocError>
         ensures rows { IfOk result (λ found. rows_found (seen found.items) ≡ filter (λ s. filter_matches s.filter name.now) self.now.rows) }
         ensures order { IfOk result (λ found. AreAtFilters name.now (seen found.items)) }
         ensures count { OnOk result (steps.new ≡ steps.old + length (met_by_name (levels name.now) (prefixes self.now.keys))) }
@@ -183,7 +183,7 @@ ghost use Rattle.mq_subscriptions.specs.Filters.{all_rows, AreKept, AreAtFilters
 ghost use Rattle.mq_subscriptions.specs.Views.{texts};
 ghost use Rattle.mq_world.specs.World.{Subscription};
 
-fn contains_in(tree: &LevelTree<AtFilter>, client: &str, wanted: &SubFilter) -> bool
+fn contains_in(tree: &LevelTree<FilterEntry>, client: &str, wanted: &SubFilter) -> bool
     requires { AreKept tree.now }
     ensures { result ≡ list_any (has_wanted client.now wanted.now) (all_rows tree.now) }
 {
@@ -194,11 +194,11 @@ fn contains_in(tree: &LevelTree<AtFilter>, client: &str, wanted: &SubFilter) -> 
 }
 
 fn join_in(
-    tree: &mut LevelTree<AtFilter>,
+    tree: &mut LevelTree<FilterEntry>,
     alloc: Global,
     client: &RcStr,
     wanted: &SubFilter,
-    options: Options,
+    options: SubscriptionOptions,
 ) -> Result<(), AllocError>
     requires { AreKept tree.old }
     ensures ok { OnOk result (SameInTurn (all_rows tree.new) (joined (wanted_row (rc_str_bytes client.now) wanted.now options) (all_rows tree.old))) }
@@ -217,11 +217,11 @@ fn join_in(
 
 // A filter with one subscription, made aside.
 fn add_in(
-    tree: &mut LevelTree<AtFilter>,
+    tree: &mut LevelTree<FilterEntry>,
     alloc: Global,
     client: RcStr,
     wanted: &SubFilter,
-    options: Options,
+    options: SubscriptionOptions,
 ) -> Result<(), AllocError>
     requires kept { AreKept tree.old }
     requires absent { lookup (is_key (levels wanted.now.filter)) tree.old ≡ None }
@@ -230,14 +230,14 @@ fn add_in(
     ensures kept { AreKept tree.new }
 {
     let filter = Rc::new(alloc, wanted.filter.clone()?)?;
-    let mut at = AtFilter::new(alloc, filter);
+    let mut at = FilterEntry::new(alloc, filter);
     at.join(alloc, wanted.share.as_deref(), client, options)?;
     tree.put(&wanted.filter, at)?;
     Ok(())
 }
 
 // Takes a subscription out, and the filter with its last one; says whether there was one.
-fn leave_in(tree: &mut LevelTree<AtFilter>, client: &str, text: &str) -> bool
+fn leave_in(tree: &mut LevelTree<FilterEntry>, client: &str, text: &str) -> bool
     requires kept { AreKept tree.old }
     requires valid { IsTrue (is_subscription text.now) }
     ensures existed { result ≡ list_any (has_asked client.now text.now) (all_rows tree.old) }
@@ -256,7 +256,7 @@ fn leave_in(tree: &mut LevelTree<AtFilter>, client: &str, text: &str) -> bool
     existed
 }
 
-fn serve_in(tree: &mut LevelTree<AtFilter>, share: &str, wanted: &TopicFilter, client: &str)
+fn serve_in(tree: &mut LevelTree<FilterEntry>, share: &str, wanted: &TopicFilter, client: &str)
     requires { AreKept tree.old }
     ensures turned { SameInTurn (all_rows tree.new) (put_last (has_key client.now (Some share.now) wanted.now) (all_rows tree.old)) }
     ensures kept { AreKept tree.new }
@@ -273,13 +273,13 @@ ghost use Rattle.mq_subscriptions.specs.Filters.{AreListed, is_empty, is_in_list
 
 // Where there is no memory, nothing is left beside the tree that leads to no subscription.
 fn put_in(
-    tree: &mut LevelTree<AtFilter>,
-    lists: &mut BTreeMap<RcStr, Own>,
+    tree: &mut LevelTree<FilterEntry>,
+    lists: &mut BTreeMap<RcStr, ClientFilters>,
     alloc: Global,
     client: &RcStr,
     text: &str,
     wanted: &SubFilter,
-    options: Options,
+    options: SubscriptionOptions,
 ) -> Result<(), AllocError>
     requires listed { AreListed tree.old (texts lists.old.entries) }
     requires asked { IsAskedBy text.now wanted.now }
@@ -304,8 +304,8 @@ fn put_in(
 }
 
 fn take_out(
-    tree: &mut LevelTree<AtFilter>,
-    lists: &mut BTreeMap<RcStr, Own>,
+    tree: &mut LevelTree<FilterEntry>,
+    lists: &mut BTreeMap<RcStr, ClientFilters>,
     client: &str,
     text: &str,
 ) -> bool
@@ -321,7 +321,7 @@ fn take_out(
 }
 
 // Takes a client's subscriptions out of the tree.
-fn leave_all(tree: &mut LevelTree<AtFilter>, own: &Own, client: &str)
+fn leave_all(tree: &mut LevelTree<FilterEntry>, own: &ClientFilters, client: &str)
     requires { AreKept tree.old }
     ensures rows { all_rows tree.new ≡ filter (λ s. not (same_text s.client client.now && is_in_list own.now s)) (all_rows tree.old) }
     ensures kept { AreKept tree.new }
@@ -331,7 +331,7 @@ fn leave_all(tree: &mut LevelTree<AtFilter>, own: &Own, client: &str)
     }
 }
 
-fn take_all(tree: &mut LevelTree<AtFilter>, lists: &mut BTreeMap<RcStr, Own>, client: &str)
+fn take_all(tree: &mut LevelTree<FilterEntry>, lists: &mut BTreeMap<RcStr, ClientFilters>, client: &str)
     requires { AreListed tree.old (texts lists.old.entries) }
     ensures rows { all_rows tree.new ≡ filter (λ s. not (same_text s.client client.now)) (all_rows tree.old) }
     ensures listed { AreListed tree.new (texts lists.new.entries) }
@@ -346,7 +346,7 @@ fn take_all(tree: &mut LevelTree<AtFilter>, lists: &mut BTreeMap<RcStr, Own>, cl
 ghost use Rattle.mq_subscriptions.specs.Filters.{text_key};
 
 fn list_add(
-    lists: &mut BTreeMap<RcStr, Own>,
+    lists: &mut BTreeMap<RcStr, ClientFilters>,
     alloc: Global,
     client: &RcStr,
     text: &str,
@@ -368,7 +368,7 @@ fn list_add(
 
 // A client's first one, made aside.
 fn list_begin(
-    lists: &mut BTreeMap<RcStr, Own>,
+    lists: &mut BTreeMap<RcStr, ClientFilters>,
     alloc: Global,
     client: &RcStr,
     text: &str,
@@ -382,14 +382,14 @@ fn list_begin(
 {
     let _count = lists.len();
     let client = client.clone()?;
-    let mut own = Own::new(alloc);
+    let mut own = ClientFilters::new(alloc);
     own.add(alloc, text)?;
     lists.insert(client, own)?;
     Ok(())
 }
 
 // Takes a subscription out, and with its last one the client.
-fn list_remove(lists: &mut BTreeMap<RcStr, Own>, client: &str, text: &str)
+fn list_remove(lists: &mut BTreeMap<RcStr, ClientFilters>, client: &str, text: &str)
     requires live { NoneEmptied lists.old.entries }
     requires valid { IsTrue (is_subscription text.now) }
     ensures rest { ListsLess client.now (text_key text.now) lists.old.entries lists.new.entries }

@@ -7,7 +7,7 @@ use Rattle.mq_acl.specs.Rows.{AclRow}
 use Rattle.mq_acl.specs.Access.{allowed}
 use Rattle.mq_acl.specs.declared.access.Direction.TheVariants.{Reading}
 use Rattle.mq_world.specs.Lists.{Text, same_text, greatest, ascending}
-use Rattle.mq_world.specs.World.{Session, Subscription, Options, Group, Message, Copy}
+use Rattle.mq_world.specs.World.{Session, Subscription, SubscriptionOptions, Group, Message, Copy}
 
 abbrev pub filter_matches : Text → Text → Bool
 filter_matches filter topic = matches (levels filter) (levels topic)
@@ -22,7 +22,7 @@ takes_part m id s =
 -- the one copy for a client, or for it in a group, by the subscriptions with these options: the lesser of the message's
 -- QoS and the greatest granted one; RETAIN if the message has it and some of them ask for Retain As Published (section
 -- 3.3.1.3); and all their identifiers, ascending, equal ones repeated
-abbrev pub copy_by : Text → Option Group → Message → List Options → Copy
+abbrev pub copy_by : Text → Option Group → Message → List SubscriptionOptions → Copy
 copy_by client group m options = record {
   client = client;
   topic = m.topic;
@@ -35,7 +35,7 @@ copy_by client group m options = record {
 }
 
 -- the options of the client's subscriptions that take part
-abbrev pub options_for : List Subscription → Message → Text → List Options
+abbrev pub options_for : List Subscription → Message → Text → List SubscriptionOptions
 options_for subscriptions m id = map (λ s. s.options) (filter (takes_part m id) subscriptions)
 
 -- one copy for a client with this user name, unless no subscription takes part or it may not read the topic

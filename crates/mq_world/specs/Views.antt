@@ -13,7 +13,7 @@ use Rattle.mq_world.specs.declared.command.Command.TheVariants.{Connect, Disconn
 use Rattle.mq_world.specs.declared.limits.Limits.{Limits}
 use Rattle.mq_world.specs.declared.answer.Delivery.{Delivery}
 use Rattle.mq_world.specs.declared.answer.Answer.{Answer}
-use Rattle.mq_world.specs.declared.options.Options.{Options}
+use Rattle.mq_world.specs.declared.options.SubscriptionOptions.{SubscriptionOptions}
 use Rattle.mq_world.specs.declared.message.Message.{Message}
 
 abbrev pub limits_of : Limits → world.Limits
@@ -64,7 +64,7 @@ abbrev pub reply_of : Answer → Reply
 reply_of a = record { copies = map copy_of a.copies.items; outcome = a.outcome }
 
 -- what a subscription asks for, as the definitions have it
-abbrev pub options_of : Options → world.Options
+abbrev pub options_of : SubscriptionOptions → world.SubscriptionOptions
 options_of o = record {
   qos = o.qos;
   no_local = o.no_local;

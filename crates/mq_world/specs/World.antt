@@ -15,7 +15,7 @@ use Rattle.mq_world.specs.declared.answer.Outcome.{Outcome}
 -- ## Subscriptions
 
 -- what a subscription asks for beside its filter (MQTT 5.0, sections 3.8.2.1.2 and 3.8.3.1)
-pub record Options : Type 0 where
+pub record SubscriptionOptions : Type 0 where
   pub qos : ℕ
   pub no_local : Bool
   pub retain_as_published : Bool
@@ -27,7 +27,7 @@ pub record Subscription : Type 0 where
   pub client : Text
   pub share : Option Text
   pub filter : Text
-  pub options : Options
+  pub options : SubscriptionOptions
 
 -- a subscription and the number of accepted commands before the one by which it joined or was last served
 pub record Row : Type 0 where
@@ -126,7 +126,7 @@ empty_world = fresh_world None
 pub data Request : Type 0 where
   Connect : (client : Text) (user : Option Text) (clean : Bool) (interval : ℕ) → Request
   Disconnect : (client : Text) → Request
-  Subscribe : (client filter : Text) (options : Options) → Request
+  Subscribe : (client filter : Text) (options : SubscriptionOptions) → Request
   Unsubscribe : (client filter : Text) → Request
   Publish : (message : Message) → Request
   SetAcl : (text : Option Text) → Request
@@ -142,12 +142,12 @@ pub record Reply : Type 0 where
 abbrev pub is_identifier : ℕ → Bool
 is_identifier n = nat_le 1 n && nat_le n 268435455
 
-abbrev pub are_valid : Options → Bool
+abbrev pub are_valid : SubscriptionOptions → Bool
 are_valid options =
     nat_le options.qos 2 && nat_le options.handling 2 && option_map_or is_identifier options.identifier true
 
 -- the subscription that a subscribe asks for
-abbrev pub asked : Text → Text → Options → Subscription
+abbrev pub asked : Text → Text → SubscriptionOptions → Subscription
 asked client text options = record { client = client; share = share_of text; filter = filter_part text; options = options }
 
 -- ## Keys and their order

@@ -13,5 +13,5 @@ pub use answer::{Answer, Delivery, Outcome};
 pub use command::Command;
 pub use limits::Limits;
 pub use message::Message;
-pub use options::Options;
+pub use options::SubscriptionOptions;
 pub use refusal::Refusal;

@@ -1,6 +1,6 @@
 /// What a subscription asks for beside its filter.
 #[derive(Clone, Copy, Debug)]
-pub struct Options {
+pub struct SubscriptionOptions {
     pub qos: u8,
     pub no_local: bool,
     pub rap: bool,

@@ -10,7 +10,7 @@ use crate::retained::stored::Stored;
 use mq_acl::Acl;
 use mq_sessions::{Clock, may_read};
 use mq_topic::{LevelText, TopicFilter};
-use mq_world::{Delivery, Options};
+use mq_world::{Delivery, SubscriptionOptions};
 use std::alloc::{AllocError, Global};
 use std::rc::RcStr;
 
@@ -22,7 +22,7 @@ pub struct Receiver<'a> {
     pub user: Option<&'a str>,
     pub client: &'a RcStr,
     pub filter: &'a TopicFilter,
-    pub options: Options,
+    pub options: SubscriptionOptions,
 }
 
 ghost use Rattle.mq_retained.specs.Receivers.{subscription_for, copies_among};

@@ -4,7 +4,7 @@ use Rattle.std.specs.Option.{option_map}
 use Rattle.std.specs.List.{filter_map, filter, flat_map}
 use Rattle.mq_acl.specs.Rows.{AclRow}
 use Rattle.mq_world.specs.Lists.{Text, same_text, text_cmp, in_order}
-use Rattle.mq_world.specs.World.{Session, Subscription, Message, Copy, Options}
+use Rattle.mq_world.specs.World.{Session, Subscription, Message, Copy, SubscriptionOptions}
 use Rattle.mq_world.specs.Waiting.{waiting_copy, with_qos}
 use Rattle.mq_acl.specs.Access.{allowed}
 use Rattle.mq_acl.specs.declared.access.Direction.TheVariants.{Reading}
@@ -29,7 +29,7 @@ begun_by limit access sessions subscriptions m deadline =
 abbrev pub gives : Message → Text → Subscription → Bool
 gives m id s = is_none s.share && same_text s.client id && not (s.options.no_local && same_text id m.publisher)
 
-abbrev pub gives_options : Message → Text → List Subscription → List world.Options
+abbrev pub gives_options : Message → Text → List Subscription → List world.SubscriptionOptions
 gives_options m id rows = map (λ s. s.options) (filter (gives m id) rows)
 
 -- the copy for a connected client that may read the topic
@@ -55,5 +55,5 @@ turns_at access sessions topic share found =
     flat_map (λ (a : At). turns_of (next_in access sessions a.rows topic (record { share = share; filter = a.filter }))) found
 
 -- for each client, in order, what its options come to
-abbrev pub by_client : List (Text × Options) → List (Text × Summary)
+abbrev pub by_client : List (Text × SubscriptionOptions) → List (Text × Summary)
 by_client xs = map (λ id. (id, summary_of (options_among id xs))) (in_order text_cmp (clients_of xs))

@@ -2,7 +2,7 @@
 use Rattle.std.specs.Prelude.{ℕ, Bool, List, [], ◌∷◌, ◌++◌, map, max, min, ◌&&◌, ◌||◌, Option, Some, None}
 use Rattle.std.specs.List.{filter_map, list_any}
 use Rattle.mq_world.specs.Lists.{Text, greatest, ascending}
-use Rattle.mq_world.specs.World.{Options, Group, Message, Copy}
+use Rattle.mq_world.specs.World.{SubscriptionOptions, Group, Message, Copy}
 use Rattle.mq_router.specs.declared.delivery.summary.Summary.TheInside as in_summary
 
 -- the greatest QoS, whether some ask for Retain As Published, and the identifiers
@@ -11,7 +11,7 @@ pub record Summary : Type 0 where
   pub retain_as_published : Bool
   pub identifiers : List ℕ
 
-abbrev pub summary_of : List Options → Summary
+abbrev pub summary_of : List SubscriptionOptions → Summary
 summary_of options = record {
   qos = greatest (map (λ o. o.qos) options);
   retain_as_published = list_any (λ o. o.retain_as_published) options;
@@ -19,7 +19,7 @@ summary_of options = record {
 }
 
 -- none where there are no options
-abbrev pub summary_for : List Options → Option Summary
+abbrev pub summary_for : List SubscriptionOptions → Option Summary
 summary_for [] = None
 summary_for (o ∷ options) = Some (summary_of (o ∷ options))
 

@@ -3,7 +3,7 @@ ghost use Rattle.std.specs.Prelude.{◌≡◌, [], ◌∷◌, ◌++◌, IfOk, On
 ghost use Rattle.std.specs.Option.{option_to_list};
 ghost use Rattle.mq_world.specs.Views.{options_of};
 
-use mq_world::Options;
+use mq_world::SubscriptionOptions;
 use std::alloc::{AllocError, Global};
 use std::marker::Model;
 
@@ -39,7 +39,7 @@ impl Summary {
     }
 
     /// That of one subscription.
-    pub(crate) fn of(alloc: Global, options: Options) -> Result<Summary, AllocError>
+    pub(crate) fn of(alloc: Global, options: SubscriptionOptions) -> Result<Summary, AllocError>
         ensures { IfOk result (λ summary. summary ≡ summary_of (options_of options ∷ [])) }
     {
         let mut ids = Vec::new(alloc);
@@ -52,7 +52,7 @@ impl Summary {
     }
 
     /// One more subscription.
-    pub(crate) fn add(&mut self, options: Options) -> Result<(), AllocError>
+    pub(crate) fn add(&mut self, options: SubscriptionOptions) -> Result<(), AllocError>
         ensures { OnOk result (self.new ≡ together self.old (summary_of (options_of options ∷ []))) }
     {
         push_id(&mut self.ids, options.id)?;

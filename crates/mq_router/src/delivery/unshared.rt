@@ -13,7 +13,7 @@ ghost use Rattle.mq_sessions.specs.Views.{begin_of};
 
 use crate::delivery::outgoing::Outgoing;
 use crate::delivery::summary::Summary;
-use mq_sessions::{Begun, Readers, Way, begin};
+use mq_sessions::{QueuedCopy, Readers, Way, begin};
 use mq_subscriptions::Match;
 use mq_world::Delivery;
 use std::alloc::{AllocError, Global};
@@ -23,7 +23,7 @@ use std::rc::RcStr;
 #[derive(Debug, Drop)]
 pub(crate) struct Direct {
     pub(crate) copies: Vec<Delivery>,
-    pub(crate) begun: Vec<Begun>,
+    pub(crate) begun: Vec<QueuedCopy>,
 }
 
 /// The copies for the clients that may read the topic, by client id: for those that are connected, and for those that are

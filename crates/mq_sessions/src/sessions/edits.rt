@@ -12,7 +12,7 @@ ghost use Rattle.mq_sessions.specs.Ends.{end_of, ends_at};
 ghost use Rattle.mq_sessions.specs.Views.{session_at, session_in, shown, begin_of};
 
 use crate::clock::Clock;
-use crate::sessions::queued::Begun;
+use crate::sessions::queued::QueuedCopy;
 use crate::sessions::session::Session;
 use std::alloc::AllocError;
 use std::collections::BTreeMap;
@@ -84,7 +84,7 @@ pub(crate) fn leave(sessions: &mut BTreeMap<RcStr, Session>, id: &str, clock: Cl
     }
 }
 
-pub(crate) fn join(sessions: &mut BTreeMap<RcStr, Session>, limit: u32, begun: Begun)
+pub(crate) fn join(sessions: &mut BTreeMap<RcStr, Session>, limit: u32, begun: QueuedCopy)
     ensures { map session_in sessions.new.entries ≡ queued_one limit (begin_of begun) (map session_in sessions.old.entries) }
 {
     if let Some(session) = sessions.get_mut(begun.client.as_str()) {

@@ -7,7 +7,7 @@ ghost use Rattle.mq_sessions.specs.Queue.{begin_with};
 ghost use Rattle.mq_world.specs.Views.{copy_of};
 ghost use Rattle.mq_sessions.specs.Views.{begin_of};
 
-use crate::sessions::queued::Begun;
+use crate::sessions::queued::QueuedCopy;
 use crate::sessions::session::Waiting;
 use mq_world::Delivery;
 use std::alloc::{AllocError, Global};
@@ -26,7 +26,7 @@ pub fn begin(
     alloc: Global,
     copy: Delivery,
     deadline: Option<u64>,
-) -> Result<Option<Begun>, AllocError>
+) -> Result<Option<QueuedCopy>, AllocError>
     ensures { IfOk result (λ begun. option_map begin_of begun
         ≡ option_map (begin_with (rc_str_bytes copy.client) deadline) (with_qos (copy_of copy))) }
 {
@@ -35,7 +35,7 @@ pub fn begin(
     }
     let client = copy.client.clone()?;
     let waiting = Waiting { copy, deadline };
-    Ok(Some(Begun {
+    Ok(Some(QueuedCopy {
         client,
         copies: alone(alloc, waiting)?,
     }))

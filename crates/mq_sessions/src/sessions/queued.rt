@@ -7,7 +7,7 @@ use std::rc::RcStr;
 
 /// A copy that begins to wait, in a list of its own: that can join those that wait without memory.
 #[derive(Debug, Drop)]
-pub struct Begun {
+pub struct QueuedCopy {
     pub client: RcStr,
     pub copies: LinkedList<Waiting>,
     ghost one: { length copies ≡ 1 },

@@ -14,11 +14,11 @@ use std::rc::RcStr;
 /// A client's subscriptions, by their texts, so that one can be looked up by the text of a command. Each has a place of its own,
 /// since a leaf of the set has room for more than most clients subscribe to.
 #[derive(Debug, Drop)]
-pub(crate) struct Own {
+pub(crate) struct ClientFilters {
     texts: BTreeSet<RcStr>,
 }
 
-impl Model for Own {
+impl Model for ClientFilters {
     ghost use Rattle.std.specs.Prelude.{List};
     ghost use Rattle.mq_subscriptions.specs.Filters.{OwnKey};
 
@@ -31,11 +31,11 @@ impl Model for Own {
     ghost invariant = { AreAsked };
 }
 
-impl Own {
-    pub(crate) fn new(alloc: Global) -> Own
+impl ClientFilters {
+    pub(crate) fn new(alloc: Global) -> ClientFilters
         ensures { result ≡ [] }
     {
-        Own {
+        ClientFilters {
             texts: BTreeSet::new(alloc),
         }
     }

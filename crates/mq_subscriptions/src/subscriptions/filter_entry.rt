@@ -14,7 +14,7 @@ use crate::subscriptions::turn::Turn;
 use mq_sessions::Readers;
 use mq_topic::{TopicFilter, TopicName};
 use mq_tree::Counted;
-use mq_world::{Message, Options};
+use mq_world::{Message, SubscriptionOptions};
 use std::alloc::{AllocError, Global};
 use std::collections::BTreeMap;
 use std::marker::Model;
@@ -22,13 +22,13 @@ use std::rc::{Rc, RcStr};
 
 /// The subscriptions to one filter: those of clients in their own name, and the groups by share name.
 #[derive(Debug, Drop)]
-pub struct AtFilter {
+pub struct FilterEntry {
     filter: Rc<TopicFilter>,
-    direct: BTreeMap<RcStr, Options>,
+    direct: BTreeMap<RcStr, SubscriptionOptions>,
     groups: BTreeMap<RcStr, Group>,
 }
 
-impl Model for AtFilter {
+impl Model for FilterEntry {
     ghost use Rattle.mq_subscriptions.specs.Filters.{At};
 
     ghost Value = { At };
@@ -40,11 +40,11 @@ impl Model for AtFilter {
     ghost invariant = { GroupsLive };
 }
 
-impl AtFilter {
-    pub fn new(alloc: Global, filter: Rc<TopicFilter>) -> AtFilter
+impl FilterEntry {
+    pub fn new(alloc: Global, filter: Rc<TopicFilter>) -> FilterEntry
         ensures { result ≡ record { filter = filter.value; rows = [] } }
     {
-        AtFilter {
+        FilterEntry {
             filter,
             direct: BTreeMap::new(alloc),
             groups: BTreeMap::new(alloc),
@@ -73,7 +73,7 @@ impl AtFilter {
         alloc: Global,
         share: Option<&str>,
         client: RcStr,
-        options: Options,
+        options: SubscriptionOptions,
     ) -> Result<(), AllocError>
         ensures ok { OnOk result (JoinsAt (option_copied share.entry) (rc_str_bytes client, options) self.old self.new.rows) }
         ensures filter { self.new.filter ≡ self.old.filter }
@@ -161,7 +161,7 @@ ghost use Rattle.std.specs.Map.{values_of};
 ghost use Rattle.mq_tree.specs.Entries.{capped};
 
 /// It counts for its subscriptions.
-impl Counted for AtFilter {
+impl Counted for FilterEntry {
     ghost count_of = { λ at. length at.rows };
 
     fn count(&self) -> u64 {
@@ -190,13 +190,13 @@ ghost use Rattle.mq_subscriptions.specs.Views.{texts};
 ghost use Rattle.mq_world.specs.Lists.{Text, same_text};
 
 // Whether No Local keeps a client's own message from it.
-fn is_held_back(options: Options, client: &str, message: &Message) -> bool
+fn is_held_back(options: SubscriptionOptions, client: &str, message: &Message) -> bool
     ensures { result ≡ (options.no_local && same_text client.now (rc_str_bytes message.now.publisher.now)) }
 {
     options.no_local && client == message.publisher.as_str()
 }
 
-fn has_direct(direct: &BTreeMap<RcStr, Options>, client: &str) -> bool
+fn has_direct(direct: &BTreeMap<RcStr, SubscriptionOptions>, client: &str) -> bool
     ensures { (f : Text) → result ≡ list_any (has_key client.now None f) (direct_rows f (texts direct.now.entries)) }
 {
     direct.contains_key(client)
@@ -214,9 +214,9 @@ fn has_member(groups: &BTreeMap<RcStr, Group>, share: &str, client: &str) -> boo
 }
 
 fn join_direct(
-    direct: &mut BTreeMap<RcStr, Options>,
+    direct: &mut BTreeMap<RcStr, SubscriptionOptions>,
     client: RcStr,
-    options: Options,
+    options: SubscriptionOptions,
 ) -> Result<(), AllocError>
     ensures ok { OnOk result (DirectJoins (rc_str_bytes client, options) direct.old.entries direct.new.entries) }
     ensures err { OnErr result (direct.new.entries ≡ direct.old.entries) }
@@ -231,7 +231,7 @@ fn join_group(
     alloc: Global,
     share: &str,
     client: RcStr,
-    options: Options,
+    options: SubscriptionOptions,
 ) -> Result<(), AllocError>
     requires { NoneEmpty (texts groups.old.entries) }
     ensures ok { OnOk result (GroupJoins share.now (rc_str_bytes client, options) groups.old.entries groups.new.entries) }
@@ -253,7 +253,7 @@ fn add_group(
     alloc: Global,
     share: &str,
     client: RcStr,
-    options: Options,
+    options: SubscriptionOptions,
 ) -> Result<(), AllocError>
     requires live { NoneEmpty (texts groups.old.entries) }
     requires absent { lookup (is_text share.now) (texts groups.old.entries) ≡ None }
@@ -272,7 +272,7 @@ fn add_group(
 ghost use Rattle.std.specs.Map.{lookup};
 ghost use Rattle.mq_subscriptions.specs.Filters.{is_text};
 
-fn leave_direct(direct: &mut BTreeMap<RcStr, Options>, client: &str)
+fn leave_direct(direct: &mut BTreeMap<RcStr, SubscriptionOptions>, client: &str)
     ensures { DirectLeaves client.now direct.old.entries direct.new.entries }
 {
     let _count = direct.len();

@@ -10,7 +10,7 @@ ghost use Rattle.mq_subscriptions.specs.Turns.{with_one, put_last};
 use indexmap::IndexMap;
 use mq_sessions::Readers;
 use mq_topic::TopicName;
-use mq_world::Options;
+use mq_world::SubscriptionOptions;
 use std::alloc::{AllocError, Global};
 use std::marker::Model;
 use std::rc::RcStr;
@@ -18,7 +18,7 @@ use std::rc::RcStr;
 /// The members of a group, the one that joined or was served longest ago first.
 #[derive(Debug, Drop)]
 pub(crate) struct Group {
-    members: IndexMap<RcStr, Options>,
+    members: IndexMap<RcStr, SubscriptionOptions>,
 }
 
 impl Model for Group {
@@ -60,7 +60,7 @@ impl Group {
     }
 
     /// A member keeps its place, and a new one goes last.
-    pub(crate) fn join(&mut self, client: RcStr, options: Options) -> Result<(), AllocError>
+    pub(crate) fn join(&mut self, client: RcStr, options: SubscriptionOptions) -> Result<(), AllocError>
         ensures ok { OnOk result (self.new ≡ with_one (has_client (rc_str_bytes client)) (rc_str_bytes client, options) self.old) }
         ensures err { OnErr result (self.new ≡ self.old) }
     {
@@ -88,7 +88,7 @@ impl Group {
     }
 
     /// The first member whose client is connected and may read the topic.
-    pub(crate) fn next(&self, readers: &Readers, name: &TopicName) -> Option<(&RcStr, Options)>
+    pub(crate) fn next(&self, readers: &Readers, name: &TopicName) -> Option<(&RcStr, SubscriptionOptions)>
         ensures { option_map (λ m. (rc_str_bytes m.0.now, m.1)) result
             ≡ find (λ m. is_reader readers.now.access.now readers.now.sessions.now name.now m.0) self.now }
     {

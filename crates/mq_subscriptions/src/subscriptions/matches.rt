@@ -3,7 +3,7 @@ ghost use Rattle.std.specs.Prelude.{◌≡◌, OnOk};
 ghost use Rattle.mq_world.specs.Lists.{Text};
 ghost use Rattle.mq_subscriptions.specs.Matches.{matched, options_among, AreByClient};
 
-use mq_world::Options;
+use mq_world::SubscriptionOptions;
 use std::alloc::AllocError;
 use std::rc::RcStr;
 
@@ -11,7 +11,7 @@ use std::rc::RcStr;
 #[derive(Clone, Copy, Debug)]
 pub struct Match<'a> {
     pub client: &'a RcStr,
-    pub options: Options,
+    pub options: SubscriptionOptions,
 }
 
 /// Sorts them by client; those of one client keep their order.

@@ -5,7 +5,7 @@ ghost use Rattle.mq_subscriptions.specs.Turns.{shares_of, turns_listed};
 ghost use Rattle.mq_subscriptions.specs.Matches.{AreAscending};
 
 use mq_topic::TopicFilter;
-use mq_world::Options;
+use mq_world::SubscriptionOptions;
 use std::alloc::AllocError;
 use std::rc::{Rc, RcStr};
 
@@ -15,7 +15,7 @@ pub struct Turn {
     pub share: RcStr,
     pub filter: Rc<TopicFilter>,
     pub client: RcStr,
-    pub options: Options,
+    pub options: SubscriptionOptions,
 }
 
 /// Sorts them by share name; those of one share name keep their order.

@@ -1,7 +1,7 @@
 use Rattle.std.proofs.Common.{◌≡◌, Ok, ◌∙◌, sym, ap, refl, rules, string_bytes}
 use Rattle.std.specs.Option.{option_copied}
 use Rattle.mq_world.specs.Lists.{Text}
-use Rattle.mq_world.specs.World.{Request, Connect, Disconnect, Subscribe, Unsubscribe, Publish, SetAcl, Advance, Stat, Options}
+use Rattle.mq_world.specs.World.{Request, Connect, Disconnect, Subscribe, Unsubscribe, Publish, SetAcl, Advance, Stat, SubscriptionOptions}
 use Rattle.mq_router.specs.router.Views.{published_message}
 use Rattle.mq_world.specs.Views.{request_of}
 use Rattle.mq_router.proofs.RouterLemmas.{stat-does}
@@ -36,7 +36,7 @@ returns-in-Disconnect c =
 
 pub returns-in-Subscribe : goal.returns-in-Subscribe
 returns-in-Subscribe c =
-    let options : Options = record { qos = c.in-Subscribe.qos; no_local = c.in-Subscribe.no_local; retain_as_published = c.in-Subscribe.rap; handling = c.in-Subscribe.handling; identifier = c.in-Subscribe.id } in
+    let options : SubscriptionOptions = record { qos = c.in-Subscribe.qos; no_local = c.in-Subscribe.no_local; retain_as_published = c.in-Subscribe.rap; handling = c.in-Subscribe.handling; identifier = c.in-Subscribe.id } in
     let is : Subscribe c.deref-in-Subscribe.result.now c.deref-in-Subscribe-2.result.now options ≡ request_of c.args.command.now =
     ap (λ id. Subscribe id c.deref-in-Subscribe-2.result.now options) c.deref-in-Subscribe.ensures
     ∙ ap (λ text. Subscribe (string_bytes c.in-Subscribe.client) text options) c.deref-in-Subscribe-2.ensures

@@ -1,7 +1,7 @@
 use Rattle.std.proofs.Common.{◌≡◌, ◌∙◌, sym, ap, subst, Err, None}
 use Rattle.std.proofs.lemmas.Result.{err_from_is_err_and}
 use Rattle.mq_subscriptions.specs.Wanted.{wanted_row}
-use Rattle.mq_world.specs.World.{Subscribe, Subscription, Options, asked}
+use Rattle.mq_world.specs.World.{Subscribe, Subscription, SubscriptionOptions, asked}
 use Rattle.mq_world.specs.Lists.{Text}
 use Rattle.mq_world.specs.Refusals.{first_refusal, client_conditions}
 use Rattle.mq_router.specs.StandsFor.{State}
@@ -45,7 +45,7 @@ returns-clause-applied c =
     let s : State = state_of c.self.inside in
     let id = c.args.client.now in
     let text = c.args.text.now in
-    let options : Options = options_of c.args.options in
+    let options : SubscriptionOptions = options_of c.args.options in
     let subs = c.put.new.self in
     let new : State = record s { subscriptions = subs.rows; filter_keys = subs.keys } in
     let tested : None ≡ first_refusal (client_conditions s.sessions id) = c.in_ok-check_client.ensures.refused ∙ ap (λ (v : State). first_refusal (client_conditions v.sessions id)) (sym c.self.view_is) in

@@ -3,7 +3,7 @@ use Rattle.std.specs.List.{sum_by}
 use Rattle.std.specs.Map.{values_of}
 use Rattle.mq_subscriptions.specs.Filters.{At}
 use Rattle.mq_subscriptions.proofs.CountLemmas.{at-number}
-use Rattle.mq_subscriptions.proofs.subscriptions.filter_entry.AtFilterCounted.count.Goals as goal
+use Rattle.mq_subscriptions.proofs.subscriptions.filter_entry.FilterEntryCounted.count.Goals as goal
 
 pub returns : goal.returns
 returns c =

@@ -4,7 +4,7 @@ use Rattle.mq_subscriptions.specs.Views.{texts}
 use Rattle.mq_subscriptions.specs.Matches.{matched}
 use Rattle.mq_world.specs.Views.{message_of}
 use Rattle.mq_subscriptions.specs.Matches.{own_matches}
-use Rattle.mq_subscriptions.proofs.subscriptions.filter_entry.AtFilter.gather_matches.Given as goal
+use Rattle.mq_subscriptions.proofs.subscriptions.filter_entry.FilterEntry.gather_matches.Given as goal
 
 abbrev pub invariant-loop-client : goal.invariant-loop-client
 invariant-loop-client l =

@@ -4,7 +4,7 @@ use Rattle.std.specs.Rc.{rc_str_bytes}
 use Rattle.mq_subscriptions.specs.Filters.{OwnKey, text_key, is_text, is_own, is_in_list}
 use Rattle.mq_subscriptions.specs.ClientViews.{key_in, IsAsked}
 use Rattle.mq_subscriptions.proofs.OwnLemmas.{own-remove, asked-remove}
-use Rattle.mq_subscriptions.proofs.subscriptions.client_filters.Own.remove.Goals as goal
+use Rattle.mq_subscriptions.proofs.subscriptions.client_filters.ClientFilters.remove.Goals as goal
 
 pub invariant_of-self : goal.invariant_of-self
 invariant_of-self c =

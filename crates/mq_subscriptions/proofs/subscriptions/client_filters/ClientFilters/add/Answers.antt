@@ -5,7 +5,7 @@ use Rattle.mq_world.specs.Lists.{Text}
 use Rattle.mq_subscriptions.specs.Filters.{OwnKey, text_key, is_own, is_in_list}
 use Rattle.mq_subscriptions.specs.ClientViews.{key_in, IsAsked}
 use Rattle.mq_subscriptions.proofs.OwnLemmas.{own-insert, asked-insert}
-use Rattle.mq_subscriptions.proofs.subscriptions.client_filters.Own.add.Goals as goal
+use Rattle.mq_subscriptions.proofs.subscriptions.client_filters.ClientFilters.add.Goals as goal
 
 pub invariant_of-self-2 : goal.invariant_of-self-2
 invariant_of-self-2 c =

@@ -9,7 +9,7 @@ use Rattle.mq_subscriptions.specs.Turns.{joined}
 use Rattle.mq_subscriptions.specs.Filters.{At, row, direct_rows, group_rows}
 use Rattle.mq_subscriptions.specs.Views.{texts}
 use Rattle.mq_subscriptions.proofs.AtLemmas.{at-joined-own, at-joined-shared, here-is}
-use Rattle.mq_subscriptions.proofs.subscriptions.filter_entry.AtFilter.join.Goals as goal
+use Rattle.mq_subscriptions.proofs.subscriptions.filter_entry.FilterEntry.join.Goals as goal
 
 pub returns-in-None-clause-ok : goal.returns-in-None-clause-ok
 returns-in-None-clause-ok c =

@@ -5,7 +5,7 @@ use Rattle.mq_subscriptions.specs.Views.{texts}
 use Rattle.mq_subscriptions.specs.Turns.{turns_listed}
 use Rattle.mq_subscriptions.specs.Turns.{turns_of}
 use Rattle.mq_subscriptions.proofs.TurnsAtLemmas.{turns_left}
-use Rattle.mq_subscriptions.proofs.subscriptions.filter_entry.AtFilter.gather_turns.Given as goal
+use Rattle.mq_subscriptions.proofs.subscriptions.filter_entry.FilterEntry.gather_turns.Given as goal
 
 abbrev pub invariant-loop-share : goal.invariant-loop-share
 invariant-loop-share l =

@@ -5,7 +5,7 @@ use Rattle.mq_world.specs.World.{has_key}
 use Rattle.mq_subscriptions.specs.Filters.{At}
 use Rattle.mq_subscriptions.specs.Views.{texts}
 use Rattle.mq_subscriptions.proofs.AtLemmas.{at-any-own, at-any-shared}
-use Rattle.mq_subscriptions.proofs.subscriptions.filter_entry.AtFilter.contains.Goals as goal
+use Rattle.mq_subscriptions.proofs.subscriptions.filter_entry.FilterEntry.contains.Goals as goal
 
 pub returns-in-None : goal.returns-in-None
 returns-in-None c =

@@ -5,7 +5,7 @@ use Rattle.mq_world.specs.World.{Subscription, has_key}
 use Rattle.mq_subscriptions.specs.Filters.{At, direct_rows, group_rows}
 use Rattle.mq_subscriptions.specs.Views.{texts}
 use Rattle.mq_subscriptions.proofs.AtLemmas.{at-left-own, at-left-shared, here-is}
-use Rattle.mq_subscriptions.proofs.subscriptions.filter_entry.AtFilter.leave.Goals as goal
+use Rattle.mq_subscriptions.proofs.subscriptions.filter_entry.FilterEntry.leave.Goals as goal
 
 pub returns-in-None-clause-rows : goal.returns-in-None-clause-rows
 returns-in-None-clause-rows c =

@@ -12,7 +12,7 @@ use Rattle.mq_subscriptions.specs.Turns.{turns_listed}
 use Rattle.mq_subscriptions.specs.Turns.{turns_of}
 use Rattle.mq_subscriptions.proofs.TextMaps.{ordered-texts}
 use Rattle.mq_subscriptions.proofs.TurnsAtLemmas.{turns_left, turns-at, turns-more, same_turn}
-use Rattle.mq_subscriptions.proofs.subscriptions.filter_entry.AtFilter.gather_turns.Goals as goal
+use Rattle.mq_subscriptions.proofs.subscriptions.filter_entry.FilterEntry.gather_turns.Goals as goal
 
 pub loop-share-init : goal.loop-share-init
 loop-share-init c =

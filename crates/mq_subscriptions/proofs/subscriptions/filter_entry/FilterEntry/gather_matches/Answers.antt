@@ -5,7 +5,7 @@ use Rattle.mq_subscriptions.specs.Matches.{matched}
 use Rattle.mq_world.specs.Views.{message_of}
 use Rattle.mq_subscriptions.specs.Matches.{own_matches}
 use Rattle.mq_subscriptions.proofs.MatchLemmas.{matches-at}
-use Rattle.mq_subscriptions.proofs.subscriptions.filter_entry.AtFilter.gather_matches.Goals as goal
+use Rattle.mq_subscriptions.proofs.subscriptions.filter_entry.FilterEntry.gather_matches.Goals as goal
 
 pub loop-client-init : goal.loop-client-init
 loop-client-init c =

@@ -5,7 +5,7 @@ use Rattle.mq_subscriptions.specs.Turns.{put_last}
 use Rattle.mq_subscriptions.specs.Filters.{At, direct_rows, group_rows}
 use Rattle.mq_subscriptions.specs.Views.{texts}
 use Rattle.mq_subscriptions.proofs.AtLemmas.{at-turned, here-is}
-use Rattle.mq_subscriptions.proofs.subscriptions.filter_entry.AtFilter.serve.Goals as goal
+use Rattle.mq_subscriptions.proofs.subscriptions.filter_entry.FilterEntry.serve.Goals as goal
 
 pub returns-clause-turned : goal.returns-clause-turned
 returns-clause-turned c =
