@@ -1,4 +1,4 @@
--- A fault of a text is never want of memory, and has a line from 1 on.
+-- A fault of a text is never lack of memory, and has a line from 1 on.
 use Rattle.std.proofs.Common.{◌≡◌, ◌≢◌, ℕ, ◌+◌, ◌<◌, ◌≤◌, subst, Bool, true, false, cond, List, [], ◌∷◌, length, Option, Some, None, Result, Ok, Err, IfErr, refl, arith, codes, ◌==◌, ◌||◌, not, slice_index, bytes_eq}
 use Rattle.std.specs.List.{list_all, filter_map, cons_option, enumerate_from}
 use Rattle.mq_topic.specs.Levels.{levels}
@@ -10,7 +10,7 @@ use Rattle.mq_acl.specs.declared.fault.AclFault.{AclFault}
 use Rattle.mq_acl.specs.declared.fault.AclKind.{AclKind}
 use Rattle.mq_acl.specs.declared.fault.AclKind.TheVariants as kinds
 
--- not want of memory
+-- not lack of memory
 abbrev IsOwn : {X : Type 0} → Result X AclKind → Type 0
 IsOwn r = IfErr r (λ kind. kind ≢ kinds.Memory)
 
@@ -63,7 +63,7 @@ own_entry line =
     let text = trimmed line in
     choice (length text == 0 || slice_index text 0 == 35) (Ok Skipped) _ tt (own_keyword (first_word text) (after_word text))
 
--- no kind of want of memory, and a line from n on
+-- no kind of lack of memory, and a line from n on
 abbrev IsFrom : ℕ → AclFault → Type 0
 IsFrom n fault = (fault.kind ≢ kinds.Memory) × (n ≤ fault.line)
 

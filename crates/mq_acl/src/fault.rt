@@ -18,7 +18,7 @@ pub enum AclKind {
 /// The first faulty line of an access list.
 #[derive(Clone, Copy, Debug, PartialEq, Eq)]
 pub struct AclFault {
-    /// The number of the line, from 1; 0 for want of memory.
+    /// The number of the line, from 1; 0 for lack of memory.
     pub line: u64,
     /// What is wrong with it.
     pub kind: AclKind,

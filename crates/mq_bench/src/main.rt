@@ -35,7 +35,7 @@ fn numbers(line: &str) -> Option<(u32, u32)> {
     Some((filters.parse().ok()?, lookups.parse().ok()?))
 }
 
-// How many values the look-ups of one name found. The texts are all valid, so a parse fails for want of memory alone.
+// How many values the look-ups of one name found. The texts are all valid, so a parse fails for lack of memory alone.
 fn found(alloc: Global, filters: u32, lookups: u32) -> Result<u64, AllocError> {
     let mut tree = LevelTree::new(alloc);
     for text in MATCHING {

@@ -53,7 +53,7 @@ told_unreadable f status (inr memory) e = absurd (omega arith)
 
 -- ## Words that give no options
 
--- for want of memory nothing is written
+-- for lack of memory nothing is written
 pub usage_memory : (fault : UsageFault) (status : ℕ) (before after flushed : Option (List ℕ)) → TellsUsage fault status before after flushed
     → fault ≡ Memory → (status ≡ 3) × (after ≡ before)
 usage_memory (Help text) status before after flushed tells e = absurd (let bad : Help text ≡ Memory = e in cc)

@@ -109,7 +109,7 @@ fn open_failure<'a>(error: &io::Error, failure: Failure<'a>) -> Failure<'a>
     }
 }
 
-/// Opens a file; want of memory is told apart.
+/// Opens a file; lack of memory is told apart.
 fn open<'a, R: Files>(
     rt: &R,
     file: &'a str,
@@ -396,7 +396,7 @@ pub fn start<R: Files, S: Source, W: Sink, E: Sink>(
         → S.failures input.new ≢ S.failures input.old → W.flushed out.new ≡ W.taken out.new }
 
     // Of words that are not understood a fault that they have is told, or that memory ran out: of help the status is 0,
-    // or 3 where it can't be written, of another fault 2, and of want of memory 3.
+    // or 3 where it can't be written, of another fault 2, and of a lack of memory 3.
     ensures usage { let given_words = map string_bytes words.now in fault_of mqroute given_words ≢ []
         → (input.new ≡ input.old) × ((fault : UsageFault) × IsFaultOf (fault_of mqroute given_words) fault
         × TellsUsage fault result (W.taken out.old) (W.taken out.new) (W.flushed out.new)) }

@@ -86,7 +86,7 @@ pub record Report : Type 0 where
 abbrev pub plain : ℕ → List ℕ → Option Report
 plain code name = Some (record { code = code; name = name; acl_line = None })
 
--- want of memory is not reported
+-- lack of memory is not reported
 abbrev pub refusal_report : Refusal → Option Report
 refusal_report refused.ClientId = plain 5 (codes "ClientId")
 refusal_report refused.UserName = plain 6 (codes "UserName")

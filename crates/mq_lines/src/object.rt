@@ -43,7 +43,7 @@ impl Object {
         self.members.is_empty()
     }
 
-    /// Writes a row of data over the values, in the order of the names. For want of memory it leaves fewer members.
+    /// Writes a row of data over the values, in the order of the names. For lack of memory it leaves fewer members.
     pub fn refill(&mut self, alloc: Global, row: &[Datum]) -> Result<(), AllocError>
         requires { length (names_of (members_view self.old.members.entries)) ≡ length row.now }
         ensures names { OnOk result (names_of (members_view self.new.members.entries)

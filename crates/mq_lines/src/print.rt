@@ -23,7 +23,7 @@ pub fn print_answer(
 }
 
 /// Adds the text line of line `line` where its command is refused: its code, its name and, for an access list, the number
-/// of the faulty line. For want of memory it adds nothing.
+/// of the faulty line. For lack of memory it adds nothing.
 pub fn print_refusal(
     alloc: Global,
     line: u64,
@@ -36,7 +36,7 @@ pub fn print_refusal(
     Printer::new(alloc).refusal(alloc, line, refusal, out)
 }
 
-/// Adds the text line of line `line` where it is no command: its code and its name. For want of memory it adds nothing.
+/// Adds the text line of line `line` where it is no command: its code and its name. For lack of memory it adds nothing.
 pub fn print_line_fault(
     alloc: Global,
     line: u64,

@@ -23,7 +23,7 @@ fn plain(code: u8, name: &'static str) -> Option<Reported>
     })
 }
 
-/// None for want of memory.
+/// None for lack of memory.
 pub fn refusal_report(refusal: Refusal) -> Option<Reported>
     ensures { option_map report_of result ≡ report_of_refusal refusal }
 {
@@ -46,7 +46,7 @@ pub fn refusal_report(refusal: Refusal) -> Option<Reported>
     }
 }
 
-/// None for want of memory.
+/// None for lack of memory.
 pub fn line_fault_report(fault: LineFault) -> Option<Reported>
     ensures { option_map report_of result ≡ report_of_fault fault }
 {

@@ -49,7 +49,7 @@ pub record Answers (w : World) (request : Request) (reply : Reply) (new : State)
   pub reply_is : reply ≡ answer w request
   pub stands : StandsFor new (after w request)
 
--- want of memory, or the refusal of the world
+-- lack of memory, or the refusal of the world
 abbrev pub Refuses : World → Request → Refusal → Type 0
 Refuses w request refused = (refused ≡ Memory) ⊎ (refusal w request ≡ Some refused)
 
@@ -58,7 +58,7 @@ abbrev pub AnswersFor : State → Request → Result Answer Refusal → State �
 AnswersFor old request result new =
     (w : World) → StandsFor old w → MatchResult result (λ a. Answers w request (reply_of a) new) (λ r. Refuses w request r)
 
--- how many steps an answer adds to those before; a refusal adds none, and want of memory may add any
+-- how many steps an answer adds to those before; a refusal adds none, and lack of memory may add any
 abbrev pub CountsFor : State → Request → Result Answer Refusal → ℕ → ℕ → Type 0
 CountsFor old request result before now =
     (w : World) → StandsFor old w →

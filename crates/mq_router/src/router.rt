@@ -95,7 +95,7 @@ impl Router {
     }
 
     /// Answers a command as each world does that the router stands for, or refuses it. A refusal leaves the router as
-    /// it is, want of memory too.
+    /// it is, lack of memory too.
     pub fn apply(&mut self, command: &Command) -> Result<Answer, Refusal>
         requires { IsTrue (is_valid (request_of command.now)) }
         ensures answered { AnswersFor self.old (request_of command.now) result self.new }
@@ -108,7 +108,7 @@ impl Router {
 
     /// `apply`, and its steps are added to those that there are: in a publish the nodes entered among the filters, in a
     /// subscribe that asks for retained messages those entered among the topics, in an advance the messages removed, in
-    /// another command none. A refusal adds none, but want of memory may add any.
+    /// another command none. A refusal adds none, but lack of memory may add any.
     pub fn apply_counted(&mut self, command: &Command, steps: &mut Steps) -> Result<Answer, Refusal>
         requires { IsTrue (is_valid (request_of command.now)) }
         ensures answered { AnswersFor self.old (request_of command.now) result self.new }

@@ -90,7 +90,7 @@ abbrev pub is_memory : TopicFault → Bool
 is_memory Memory = true
 is_memory fault = false
 
--- what a parse's fault says of the text: want of memory, that it has none
+-- what a parse's fault says of the text: lack of memory, that it has none
 abbrev pub told : TopicFault → Option TopicFault
 told fault = if is_memory fault then None else Some fault
 

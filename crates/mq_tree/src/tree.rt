@@ -67,7 +67,7 @@ impl<V> LevelTree<V> {
     }
 
     /// Puts the value at the key, and gives the older one. What is missing of the key's branch is built aside,
-    /// so that want of memory changes nothing; a key that is there takes no memory.
+    /// so that lack of memory changes nothing; a key that is there takes no memory.
     pub fn put<K: LevelText>(&mut self, key: &K, value: V) -> Result<Option<V>, AllocError>
     where
         V: Drop,

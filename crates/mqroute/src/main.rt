@@ -23,7 +23,7 @@ fn main(rt: HostRuntime) -> ExitCode {
     })
 }
 
-// Reads the arguments, and runs the program. It fails for want of memory alone.
+// Reads the arguments, and runs the program. It fails for lack of memory alone.
 fn answered(rt: &HostRuntime) -> io::Result<u8> {
     match words(rt) {
         Ok(words) => run(rt, words.as_slice()),

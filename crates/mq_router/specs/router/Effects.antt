@@ -174,7 +174,7 @@ steps_to s (SetAcl text) = 0
 steps_to s (Advance seconds) = length (filter (is_due (s.moment + seconds)) s.retained)
 steps_to s Stat = 0
 
--- how many steps an answer adds to those before; a refusal adds none, and want of memory may add any
+-- how many steps an answer adds to those before; a refusal adds none, and lack of memory may add any
 abbrev pub CountsSteps : State → Request → Result Answer Refusal → ℕ → ℕ → Type 0
 CountsSteps old request result before now =
     MatchResult result (λ a. now ≡ before + steps_to old request) (λ r. (r ≡ Memory) ⊎ (now ≡ before))
