@@ -1,5 +1,6 @@
 -- The verdict of an access list, row by row.
-use Rattle.std.proofs.Common.{◌≡◌, ℕ, Bool, true, false, not, ◌&&◌, ◌||◌, if◌then◌else◌, List, [], ◌∷◌, Option, Some, None, refl, ap, sym, ◌∙◌}
+use Rattle.std.proofs.Common.{◌≡◌, ℕ, Bool, true, false, not, ◌&&◌, ◌||◌, if◌then◌else◌, List, []}
+use Rattle.std.proofs.Common.{◌∷◌, Option, Some, None, refl, ap, sym, ◌∙◌}
 use Rattle.std.specs.List.{list_any, filter}
 use Rattle.std.specs.Option.{unwrap_or}
 use Rattle.mq_acl.specs.Rows.{AclRow}
@@ -10,11 +11,15 @@ use Rattle.mq_acl.specs.Groups.{is_own, is_everyones, IsGrouped, everyones, own_
 use Rattle.mq_acl.proofs.GroupLemmas.{any_of_groups}
 
 -- what the rows for all and those of the user say, one after the other, is what all rows say
-pub allowed_by_groups : (client : List ℕ) (user : Option (List ℕ)) (name : List ℕ) (direction : Direction) (rows everyones own : List AclRow)
-    → everyones ≡ filter (λ row. is_everyones row.who) rows → own ≡ filter (λ row. is_own user row.who) rows
+pub allowed_by_groups : (client : List ℕ) (user : Option (List ℕ)) (name : List ℕ)
+    (direction : Direction) (rows everyones own : List AclRow)
+    → everyones ≡ filter (λ row. is_everyones row.who) rows
+    → own ≡ filter (λ row. is_own user row.who) rows
     → rows_allow rows client user name direction
-    ≡ (not (list_any (λ row. concerns client user name row && is_deny row.access) everyones || list_any (λ row. concerns client user name row && is_deny row.access) own)
-    && (list_any (λ row. concerns client user name row && grants direction row.access) everyones || list_any (λ row. concerns client user name row && grants direction row.access) own))
+    ≡ (not (list_any (λ row. concerns client user name row && is_deny row.access) everyones
+    || list_any (λ row. concerns client user name row && is_deny row.access) own)
+    && (list_any (λ row. concerns client user name row && grants direction row.access) everyones
+    || list_any (λ row. concerns client user name row && grants direction row.access) own))
 allowed_by_groups client user name direction rows everyones own a o =
     (λ i. not (any (λ row. is_deny row.access) i) && any (λ row. grants direction row.access) i)
   where
@@ -22,31 +27,44 @@ allowed_by_groups client user name direction rows everyones own a o =
     assoc true b c = refl
     assoc false b c = refl
 
-    same : (test : AclRow → Bool) (rs : List AclRow) → list_any (λ row. concerns client user name row && test row) rs ≡ list_any (λ row. applies user row.who && (covers client user name row && test row)) rs
+    same : (test : AclRow → Bool) (rs : List AclRow)
+        → list_any (λ row. concerns client user name row && test row) rs
+        ≡ list_any (λ row. applies user row.who && (covers client user name row && test row)) rs
     same test [] = refl
-    same test (row ∷ rs) = (λ i. assoc (applies user row.who) (covers client user name row) (test row) i || same test rs i)
+    same test (row ∷ rs) =
+        (λ i. assoc (applies user row.who) (covers client user name row) (test row) i
+        || same test rs i)
 
     any : (test : AclRow → Bool) → list_any (λ row. concerns client user name row && test row) rows
-        ≡ (list_any (λ row. concerns client user name row && test row) everyones || list_any (λ row. concerns client user name row && test row) own)
+        ≡ (list_any (λ row. concerns client user name row && test row) everyones
+        || list_any (λ row. concerns client user name row && test row) own)
     any test =
         same test rows ∙ any_of_groups user (λ row. covers client user name row && test row) rows
-        ∙ (λ i. sym (same test (filter (λ row. is_everyones row.who) rows)) i || sym (same test (filter (λ row. is_own user row.who) rows)) i)
-        ∙ (λ i. list_any (λ row. concerns client user name row && test row) (sym a i) || list_any (λ row. concerns client user name row && test row) (sym o i))
+        ∙ (λ i. sym (same test (filter (λ row. is_everyones row.who) rows)) i
+        || sym (same test (filter (λ row. is_own user row.who) rows)) i)
+        ∙ (λ i. list_any (λ row. concerns client user name row && test row) (sym a i)
+        || list_any (λ row. concerns client user name row && test row) (sym o i))
 
 -- whether one grants, of what the first rows say and then the others
 abbrev pub then_own : Option Bool → (Bool → Option Bool) → Bool
 then_own None others = false
 then_own (Some granted) others = unwrap_or (others granted) false
 
-in_turn : (all own some mine : Bool) → (not (all || own) && (some || mine)) ≡ then_own (if all then None else Some (false || some)) (λ granted. if own then None else Some (granted || mine))
+in_turn : (all own some mine : Bool) → (not (all || own) && (some || mine))
+    ≡ then_own (if all then None else Some (false || some))
+    (λ granted. if own then None else Some (granted || mine))
 in_turn true own some mine = refl
 in_turn false true some mine = refl
 in_turn false false some mine = refl
 
 -- what the rows for all say, and then those of the user, is what all rows say
-pub judged_in_turn : (client : List ℕ) (user : Option (List ℕ)) (name : List ℕ) (direction : Direction) (rows : List AclRow) (groups : Groups) (first : Option Bool) (all own : List AclRow)
-    → IsGrouped rows groups → all ≡ everyones groups → own ≡ own_rows user groups → first ≡ judged client user name direction false all
-    → then_own first (λ granted. judged client user name direction granted own) ≡ rows_allow rows client user name direction
+pub judged_in_turn : (client : List ℕ) (user : Option (List ℕ)) (name : List ℕ)
+    (direction : Direction) (rows : List AclRow) (groups : Groups) (first : Option Bool)
+    (all own : List AclRow)
+    → IsGrouped rows groups → all ≡ everyones groups → own ≡ own_rows user groups
+    → first ≡ judged client user name direction false all
+    → then_own first (λ granted. judged client user name direction granted own)
+    ≡ rows_allow rows client user name direction
 judged_in_turn client user name direction rows groups first all own g a o e =
     ap (λ f. then_own f (λ granted. judged client user name direction granted own)) e
     ∙ sym (in_turn (denies all) (denies own) (grant all) (grant own))
@@ -58,10 +76,13 @@ judged_in_turn client user name direction rows groups first all own g a o e =
     grant : List AclRow → Bool
     grant rs = list_any (λ row. concerns client user name row && grants direction row.access) rs
 
-pub allowed_without_list : (client : List ℕ) (user : Option (List ℕ)) (name : List ℕ) (direction : Direction) → allowed None client user name direction ≡ true
+pub allowed_without_list : (client : List ℕ) (user : Option (List ℕ)) (name : List ℕ)
+    (direction : Direction) → allowed None client user name direction ≡ true
 unfolding allowed
 allowed_without_list client user name direction = refl
 
-pub allowed_by_list : (rows : List AclRow) (client : List ℕ) (user : Option (List ℕ)) (name : List ℕ) (direction : Direction) → allowed (Some rows) client user name direction ≡ rows_allow rows client user name direction
+pub allowed_by_list : (rows : List AclRow) (client : List ℕ) (user : Option (List ℕ))
+    (name : List ℕ) (direction : Direction) → allowed (Some rows) client user name direction
+    ≡ rows_allow rows client user name direction
 unfolding allowed
 allowed_by_list rows client user name direction = refl

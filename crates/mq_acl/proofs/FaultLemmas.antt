@@ -1,11 +1,16 @@
 -- A fault of a text is never lack of memory, and has a line from 1 on.
-use Rattle.std.proofs.Common.{◌≡◌, ◌≢◌, ℕ, ◌+◌, ◌<◌, ◌≤◌, subst, Bool, true, false, cond, List, [], ◌∷◌, length, Option, Some, None, Result, Ok, Err, IfErr, refl, arith, codes, ◌==◌, ◌||◌, not, slice_index, bytes_eq}
+use Rattle.std.proofs.Common.{◌≡◌, ◌≢◌, ℕ, ◌+◌, ◌<◌, ◌≤◌, subst, Bool, true, false, cond, List, []}
+use Rattle.std.proofs.Common.{◌∷◌, length, Option, Some, None, Result, Ok, Err, IfErr, refl, arith}
+use Rattle.std.proofs.Common.{codes, ◌==◌, ◌||◌, not, slice_index, bytes_eq}
 use Rattle.std.specs.List.{list_all, filter_map, cons_option, enumerate_from}
 use Rattle.mq_topic.specs.Levels.{levels}
 use Rattle.mq_topic.specs.Texts.{is_filter}
 use Rattle.mq_acl.specs.Words.{trimmed, first_word, after_word}
-use Rattle.mq_acl.specs.Lines.{Access, ReadWrite, Entry, Skipped, User, Topic, Pattern, access_named, with_access, access_and_topic, is_pattern_level, topic_entry, pattern_entry, keyword_entry, entry_of, lines}
-use Rattle.mq_acl.specs.Rows.{AclRow, rows_in, entries_of, fault_at, faults_of, unless_faulty, rows_of}
+use Rattle.mq_acl.specs.Lines.{Access, ReadWrite, Entry, Skipped, User, Topic, Pattern}
+use Rattle.mq_acl.specs.Lines.{access_named, with_access, access_and_topic, is_pattern_level}
+use Rattle.mq_acl.specs.Lines.{topic_entry, pattern_entry, keyword_entry, entry_of, lines}
+use Rattle.mq_acl.specs.Rows.{AclRow, rows_in, entries_of, fault_at, faults_of, unless_faulty}
+use Rattle.mq_acl.specs.Rows.{rows_of}
 use Rattle.mq_acl.specs.declared.fault.AclFault.{AclFault}
 use Rattle.mq_acl.specs.declared.fault.AclKind.{AclKind}
 use Rattle.mq_acl.specs.declared.fault.AclKind.TheVariants as kinds
@@ -40,57 +45,77 @@ own_with_access (Some access) topic = tt
 own_access_and_topic : (rest : List ℕ) → IsOwn (access_and_topic rest)
 own_access_and_topic rest =
     choice (length rest == 0) (Err kinds.Topic) _ topic_is
-    (choice (length (first_word rest) == length rest) (Ok (ReadWrite, rest)) _ tt (own_with_access (access_named (first_word rest)) (after_word rest)))
+    (choice (length (first_word rest) == length rest) (Ok (ReadWrite, rest)) _ tt
+    (own_with_access (access_named (first_word rest)) (after_word rest)))
 
 own_topic : (parts : Result (Access × List ℕ) AclKind) → IsOwn parts → IsOwn (topic_entry parts)
 own_topic (Err kind) h = h
-own_topic (Ok parts) h = choice (is_filter parts.1) (Ok (Topic parts.0 parts.1)) (Err kinds.Topic) tt topic_is
+own_topic (Ok parts) h = choice (is_filter parts.1) (Ok (Topic parts.0 parts.1)) (Err kinds.Topic)
+    tt topic_is
 
 own_pattern : (parts : Result (Access × List ℕ) AclKind) → IsOwn parts → IsOwn (pattern_entry parts)
 own_pattern (Err kind) h = h
 own_pattern (Ok parts) h =
     choice (not (is_filter parts.1)) (Err kinds.Topic) _ topic_is
-    (choice (list_all is_pattern_level (levels parts.1)) (Ok (Pattern parts.0 parts.1)) (Err kinds.Pattern) tt pattern_is)
+    (choice (list_all is_pattern_level (levels parts.1)) (Ok (Pattern parts.0 parts.1))
+    (Err kinds.Pattern) tt pattern_is)
 
 own_keyword : (word rest : List ℕ) → IsOwn (keyword_entry word rest)
 own_keyword word rest =
-    choice (bytes_eq word (codes "topic")) _ _ (own_topic (access_and_topic rest) (own_access_and_topic rest))
-    (choice (bytes_eq word (codes "pattern")) _ _ (own_pattern (access_and_topic rest) (own_access_and_topic rest))
-    (choice (bytes_eq word (codes "user")) _ _ (choice (length rest == 0) (Err kinds.User) (Ok (User rest)) user_is tt) keyword_is))
+    choice (bytes_eq word (codes "topic")) _ _
+    (own_topic (access_and_topic rest) (own_access_and_topic rest))
+    (choice (bytes_eq word (codes "pattern")) _ _
+    (own_pattern (access_and_topic rest) (own_access_and_topic rest))
+    (choice (bytes_eq word (codes "user")) _ _
+    (choice (length rest == 0) (Err kinds.User) (Ok (User rest)) user_is tt) keyword_is))
 
 pub own_entry : (line : List ℕ) → IsOwn (entry_of line)
 own_entry line =
     let text = trimmed line in
-    choice (length text == 0 || slice_index text 0 == 35) (Ok Skipped) _ tt (own_keyword (first_word text) (after_word text))
+    choice (length text == 0 || slice_index text 0 == 35) (Ok Skipped) _ tt
+    (own_keyword (first_word text) (after_word text))
 
 -- no kind of lack of memory, and a line from n on
 abbrev IsFrom : ℕ → AclFault → Type 0
 IsFrom n fault = (fault.kind ≢ kinds.Memory) × (n ≤ fault.line)
 
-first_is : (first fault : AclFault) (more later : List AclFault) → first ∷ more ≡ fault ∷ later → first ≡ fault
+first_is : (first fault : AclFault) (more later : List AclFault) → first ∷ more ≡ fault ∷ later
+    → first ≡ fault
 first_is first fault more later e = cc
 
-err_is : (first fault : AclFault) (answer : Result (List AclRow) AclFault) → answer ≡ Err first → answer ≡ Err fault → first ≡ fault
+err_is : (first fault : AclFault) (answer : Result (List AclRow) AclFault) → answer ≡ Err first
+    → answer ≡ Err fault → first ≡ fault
 err_is first fault answer e f = cc
 
-own_faults : (n : ℕ) (ls : List (List ℕ)) (fault : AclFault) (later : List AclFault) → filter_map (λ numbered. fault_at numbered.0 (entry_of numbered.1)) (enumerate_from n ls) ≡ fault ∷ later → IsFrom n fault
+own_faults : (n : ℕ) (ls : List (List ℕ)) (fault : AclFault) (later : List AclFault)
+    → filter_map (λ numbered. fault_at numbered.0 (entry_of numbered.1)) (enumerate_from n ls)
+    ≡ fault ∷ later → IsFrom n fault
 own_faults n [] fault later e = absurd (cc)
-own_faults n (line ∷ ls) fault later e = at (entry_of line) (own_entry line) (own_faults (n + 1) ls fault later) e
+own_faults n (line ∷ ls) fault later e =
+    at (entry_of line) (own_entry line) (own_faults (n + 1) ls fault later) e
   where
     rest : List AclFault
-    rest = filter_map (λ numbered. fault_at numbered.0 (entry_of numbered.1)) (enumerate_from (n + 1) ls)
+    rest = filter_map (λ numbered. fault_at numbered.0 (entry_of numbered.1))
+        (enumerate_from (n + 1) ls)
 
-    at : (r : Result Entry AclKind) → IsOwn r → (rest ≡ fault ∷ later → IsFrom (n + 1) fault) → cons_option (fault_at n r) rest ≡ fault ∷ later → IsFrom n fault
+    at : (r : Result Entry AclKind) → IsOwn r → (rest ≡ fault ∷ later → IsFrom (n + 1) fault)
+        → cons_option (fault_at n r) rest ≡ fault ∷ later → IsFrom n fault
     at (Ok entry) h next e = let f = next e in (f.0, omega arith)
-    at (Err kind) h next e = subst (IsFrom n) (first_is (record { line = n; kind = kind }) fault rest later e) (h, omega arith)
+    at (Err kind) h next e = subst (IsFrom n)
+        (first_is (record { line = n; kind = kind }) fault rest later e) (h, omega arith)
 
 -- a text's own fault
-pub text_fault : (text : List ℕ) (fault : AclFault) → rows_of text ≡ Err fault → (fault.kind ≢ kinds.Memory) × (0 < fault.line)
+pub text_fault : (text : List ℕ) (fault : AclFault) → rows_of text ≡ Err fault
+    → (fault.kind ≢ kinds.Memory) × (0 < fault.line)
 text_fault text fault e = at (faults_of (lines text)) (own_faults 1 (lines text)) e
   where
     rows : List AclRow
     rows = rows_in (entries_of (lines text))
 
-    at : (faults : List AclFault) → ((first : AclFault) (later : List AclFault) → faults ≡ first ∷ later → IsFrom 1 first) → unless_faulty faults rows ≡ Err fault → (fault.kind ≢ kinds.Memory) × (0 < fault.line)
+    at : (faults : List AclFault)
+        → ((first : AclFault) (later : List AclFault) → faults ≡ first ∷ later → IsFrom 1 first)
+        → unless_faulty faults rows ≡ Err fault → (fault.kind ≢ kinds.Memory) × (0 < fault.line)
     at [] h e = absurd (cc)
-    at (first ∷ later) h e = subst (λ f. (f.kind ≢ kinds.Memory) × (0 < f.line)) (err_is first fault (unless_faulty (first ∷ later) rows) refl e) (let f = h first later refl in (f.0, omega arith))
+    at (first ∷ later) h e = subst (λ f. (f.kind ≢ kinds.Memory) × (0 < f.line))
+        (err_is first fault (unless_faulty (first ∷ later) rows) refl e)
+        (let f = h first later refl in (f.0, omega arith))

@@ -1,5 +1,6 @@
 -- Rows by whom they are for.
-use Rattle.std.proofs.Common.{◌≡◌, ℕ, Bool, true, false, ◌&&◌, ◌||◌, if◌then◌else◌, List, [], ◌∷◌, ◌++◌, Option, Some, None, refl, ap, sym, ◌∙◌, append-nil}
+use Rattle.std.proofs.Common.{◌≡◌, ℕ, Bool, true, false, ◌&&◌, ◌||◌, if◌then◌else◌, List, [], ◌∷◌}
+use Rattle.std.proofs.Common.{◌++◌, Option, Some, None, refl, ap, sym, ◌∙◌, append-nil}
 use Rattle.std.specs.List.{filter, list_any}
 use Rattle.std.specs.Str.{bytes_eq}
 use Rattle.std.proofs.lemmas.List.{map-append}
@@ -11,7 +12,8 @@ use Rattle.mq_acl.specs.declared.row.Row.{Row}
 use Rattle.mq_acl.specs.Access.{applies}
 
 -- one row more, for the clients of a user name
-pub own_more : (rows : List AclRow) (row : Row) (name user : List ℕ) (old new : List Row) → (row_view row).who ≡ Named name
+pub own_more : (rows : List AclRow) (row : Row) (name user : List ℕ) (old new : List Row)
+    → (row_view row).who ≡ Named name
     → new ≡ old ++ (if bytes_eq user name then row ∷ [] else [])
     → row_views old ≡ filter (λ r. is_own (Some user) r.who) rows
     → row_views new ≡ filter (λ r. is_own (Some user) r.who) (rows ++ row_view row ∷ [])
@@ -24,14 +26,19 @@ own_more rows row name user old new w more e =
     here : (b : Bool) → bytes_eq user name ≡ b → is_own (Some user) (row_view row).who ≡ b
     here b q = ap (is_own (Some user)) w ∙ q
 
-    last : (b : Bool) → bytes_eq user name ≡ b → row_views (if b then row ∷ [] else []) ≡ filter (λ r. is_own (Some user) r.who) (row_view row ∷ [])
+    last : (b : Bool) → bytes_eq user name ≡ b
+        → row_views (if b then row ∷ [] else [])
+        ≡ filter (λ r. is_own (Some user) r.who) (row_view row ∷ [])
     last true q = sym (ap (λ (t : Bool). if t then row_view row ∷ [] else []) (here true q))
     last false q = sym (ap (λ (t : Bool). if t then row_view row ∷ [] else []) (here false q))
 
 -- one row more, for others
-pub others_same : (p : Who → Bool) (rows : List AclRow) (row : AclRow) → p row.who ≡ false → filter (λ r. p r.who) (rows ++ row ∷ []) ≡ filter (λ r. p r.who) rows
+pub others_same : (p : Who → Bool) (rows : List AclRow) (row : AclRow) → p row.who ≡ false
+    → filter (λ r. p r.who) (rows ++ row ∷ []) ≡ filter (λ r. p r.who) rows
 others_same p rows row e =
-    filter-append (λ r. p r.who) rows (row ∷ []) ∙ ap (λ (t : Bool). filter (λ r. p r.who) rows ++ (if t then row ∷ [] else [])) e ∙ append-nil (filter (λ r. p r.who) rows)
+    filter-append (λ r. p r.who) rows (row ∷ [])
+    ∙ ap (λ (t : Bool). filter (λ r. p r.who) rows ++ (if t then row ∷ [] else [])) e
+    ∙ append-nil (filter (λ r. p r.who) rows)
 
 or_assoc : (a b c : Bool) → ((a || b) || c) ≡ (a || (b || c))
 or_assoc true b c = refl
@@ -48,13 +55,16 @@ or_both true b c = refl
 or_both false b c = refl
 
 -- a test is let through among all, or among one of two parts
-parted : (all own test a b : Bool) → (((all || own) && test) || (a || b)) ≡ ((if all then ((all || own) && test) || a else a) || (if own then ((all || own) && test) || b else b))
+parted : (all own test a b : Bool) → (((all || own) && test) || (a || b))
+    ≡ ((if all then ((all || own) && test) || a else a)
+    || (if own then ((all || own) && test) || b else b))
 parted true true test a b = or_both test a b
 parted true false test a b = sym (or_assoc test a b)
 parted false true test a b = or_swap test a b
 parted false false test a b = refl
 
-applies_is : (user : Option (List ℕ)) (who : Who) → applies user who ≡ (is_everyones who || is_own user who)
+applies_is : (user : Option (List ℕ)) (who : Who)
+    → applies user who ≡ (is_everyones who || is_own user who)
 applies_is None Anonymous = refl
 applies_is (Some user) Anonymous = refl
 applies_is None (Named name) = refl
@@ -62,15 +72,19 @@ applies_is (Some user) (Named name) = refl
 applies_is None Everyone = refl
 applies_is (Some user) Everyone = refl
 
-any_if : (p : AclRow → Bool) (b : Bool) (row : AclRow) (rows : List AclRow) → list_any p (if b then row ∷ rows else rows) ≡ (if b then p row || list_any p rows else list_any p rows)
+any_if : (p : AclRow → Bool) (b : Bool) (row : AclRow) (rows : List AclRow)
+    → list_any p (if b then row ∷ rows else rows)
+    ≡ (if b then p row || list_any p rows else list_any p rows)
 any_if p true row rows = refl
 any_if p false row rows = refl
 
 -- a test that needs the row to apply is let through by a row for all, or by one for this user alone
 pub any_of_groups : (user : Option (List ℕ)) (test : AclRow → Bool) (rows : List AclRow)
     → list_any (λ row. applies user row.who && test row) rows
-    ≡ (list_any (λ row. applies user row.who && test row) (filter (λ row. is_everyones row.who) rows)
-    || list_any (λ row. applies user row.who && test row) (filter (λ row. is_own user row.who) rows))
+    ≡ (list_any (λ row. applies user row.who && test row)
+    (filter (λ row. is_everyones row.who) rows)
+    || list_any (λ row. applies user row.who && test row)
+    (filter (λ row. is_own user row.who) rows))
 any_of_groups user test [] = refl
 any_of_groups user test (row ∷ rows) =
     let p : AclRow → Bool = (λ r. applies user r.who && test r) in
@@ -81,5 +95,7 @@ any_of_groups user test (row ∷ rows) =
     ap (λ b. p row || b) (any_of_groups user test rows)
     ∙ ap (λ a. (a && test row) || (list_any p all || list_any p own)) (applies_is user row.who)
     ∙ parted e o (test row) (list_any p all) (list_any p own)
-    ∙ ap (λ a. (if e then (a && test row) || list_any p all else list_any p all) || (if o then (a && test row) || list_any p own else list_any p own)) (sym (applies_is user row.who))
+    ∙ ap (λ a. (if e then (a && test row) || list_any p all else list_any p all)
+    || (if o then (a && test row) || list_any p own else list_any p own))
+    (sym (applies_is user row.who))
     ∙ (λ i. sym (any_if p e row all) i || sym (any_if p o row own) i)

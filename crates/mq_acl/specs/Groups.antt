@@ -1,5 +1,6 @@
 -- The rows of a list by whom they are for.
-use Rattle.std.specs.Prelude.{◌≡◌, ℕ, Bool, true, false, ◌&&◌, ◌||◌, if◌then◌else◌, List, [], Option, Some, None}
+use Rattle.std.specs.Prelude.{◌≡◌, ℕ, Bool, true, false, ◌&&◌, ◌||◌, if◌then◌else◌, List, []}
+use Rattle.std.specs.Prelude.{Option, Some, None}
 use Rattle.std.specs.List.{filter, list_any}
 use Rattle.std.specs.Option.{option_map_or}
 use Rattle.std.specs.BTreeMap.{get_by_text}
@@ -28,15 +29,18 @@ everyones groups = row_views groups.everyone.items
 
 abbrev pub own_rows : Option (List ℕ) → Groups → List AclRow
 own_rows None groups = row_views groups.anonymous.items
-own_rows (Some user) groups = row_views (option_map_or (λ rows. rows.items) (get_by_text groups.named user) [])
+own_rows (Some user) groups =
+    row_views (option_map_or (λ rows. rows.items) (get_by_text groups.named user) [])
 
 -- the groups of these rows
 pub record IsGrouped (rows : List AclRow) (groups : Groups) : Type 0 where
   pub all : everyones groups ≡ filter (λ row. is_everyones row.who) rows
-  pub own : (user : Option (List ℕ)) → own_rows user groups ≡ filter (λ row. is_own user row.who) rows
+  pub own : (user : Option (List ℕ)) → own_rows user groups
+      ≡ filter (λ row. is_own user row.who) rows
 
 -- nothing where a row that concerns the name denies; else whether one grants, or some before them did
 abbrev pub judged : List ℕ → Option (List ℕ) → List ℕ → Direction → Bool → List AclRow → Option Bool
 judged client user name direction granted rows =
     if list_any (λ row. concerns client user name row && is_deny row.access) rows then None
-    else Some (granted || list_any (λ row. concerns client user name row && grants direction row.access) rows)
+    else Some (granted || list_any (λ row. concerns client user name row
+    && grants direction row.access) rows)

@@ -1,7 +1,8 @@
 -- What a line of an access list says. The keywords, the access words, read and write as the default, and `%c` and `%u`
 -- are those of mosquitto.conf(5), `acl_file`; how the text is cut, a line that ends after an access word, spaces in
 -- topics and user names, and each fault are our own rules.
-use Rattle.std.specs.Prelude.{ℕ, Bool, List, length, ◌==◌, ◌||◌, not, if◌then◌else◌, codes, slice_index, Option, Some, None, Result, Ok, Err}
+use Rattle.std.specs.Prelude.{ℕ, Bool, List, length, ◌==◌, ◌||◌, not, if◌then◌else◌, codes}
+use Rattle.std.specs.Prelude.{slice_index, Option, Some, None, Result, Ok, Err}
 use Rattle.std.specs.List.{slice_split, list_all}
 use Rattle.std.specs.Str.{bytes_eq}
 use Rattle.mq_topic.specs.Levels.{levels}
@@ -52,7 +53,8 @@ access_and_topic rest =
 -- `%c` and `%u` are whole levels where they stand at all
 abbrev pub is_pattern_level : List ℕ → Bool
 is_pattern_level l =
-    not (occurs_in (codes "%c") l || occurs_in (codes "%u") l) || bytes_eq l (codes "%c") || bytes_eq l (codes "%u")
+    not (occurs_in (codes "%c") l || occurs_in (codes "%u") l) || bytes_eq l (codes "%c")
+    || bytes_eq l (codes "%u")
 
 -- a `topic` line: `%c` and `%u` are plain text in it
 abbrev pub topic_entry : Result (Access × List ℕ) AclKind → Result Entry AclKind
@@ -64,14 +66,16 @@ abbrev pub pattern_entry : Result (Access × List ℕ) AclKind → Result Entry 
 pattern_entry (Err kind) = Err kind
 pattern_entry (Ok parts) =
     if not (is_filter parts.1) then Err kinds.Topic
-    else (if list_all is_pattern_level (levels parts.1) then Ok (Pattern parts.0 parts.1) else Err kinds.Pattern)
+    else (if list_all is_pattern_level (levels parts.1) then
+    Ok (Pattern parts.0 parts.1) else Err kinds.Pattern)
 
 -- a line with this first word and this rest; a user name is all that follows its keyword
 abbrev pub keyword_entry : List ℕ → List ℕ → Result Entry AclKind
 keyword_entry word rest =
     if bytes_eq word (codes "topic") then topic_entry (access_and_topic rest)
     else (if bytes_eq word (codes "pattern") then pattern_entry (access_and_topic rest)
-    else (if bytes_eq word (codes "user") then (if length rest == 0 then Err kinds.User else Ok (User rest))
+    else (if bytes_eq word (codes "user") then
+    (if length rest == 0 then Err kinds.User else Ok (User rest))
     else Err kinds.Keyword))
 
 -- a line without the blanks round it: where it is empty or begins with `#` it is skipped

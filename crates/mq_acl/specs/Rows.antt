@@ -35,11 +35,13 @@ abbrev pub row_of : Who → Entry → Option AclRow
 row_of who Skipped = None
 row_of who (User name) = None
 row_of who (Topic access topic) = Some (record { who = who; access = access; filter = topic })
-row_of who (Pattern access topic) = Some (record { who = Everyone; access = access; filter = topic })
+row_of who (Pattern access topic) =
+    Some (record { who = Everyone; access = access; filter = topic })
 
 -- the rows of the entries: of the entry at place i the row that it has after the first i
 abbrev pub rows_in : List Entry → List AclRow
-rows_in entries = filter_map (λ placed. row_of (who_after (take placed.0 entries)) placed.1) (enumerate_from 0 entries)
+rows_in entries = filter_map (λ placed. row_of (who_after (take placed.0 entries)) placed.1)
+    (enumerate_from 0 entries)
 
 -- what the lines without a fault say
 abbrev pub entries_of : List (List ℕ) → List Entry
@@ -51,7 +53,8 @@ fault_at number (Err kind) = Some (record { line = number; kind = kind })
 
 -- the faults of the lines, which are counted from 1
 abbrev pub faults_of : List (List ℕ) → List AclFault
-faults_of lines = filter_map (λ numbered. fault_at numbered.0 (entry_of numbered.1)) (enumerate_from 1 lines)
+faults_of lines = filter_map (λ numbered. fault_at numbered.0 (entry_of numbered.1))
+    (enumerate_from 1 lines)
 
 abbrev pub unless_faulty : List AclFault → List AclRow → Result (List AclRow) AclFault
 unless_faulty [] rows = Ok rows
@@ -69,7 +72,8 @@ row_line number answer = None
 
 -- the numbers of the lines that say the rows, in their order; lines are counted from 1
 abbrev pub row_lines : List ℕ → List ℕ
-row_lines text = filter_map (λ numbered. row_line numbered.0 (entry_of numbered.1)) (enumerate_from 1 (lines text))
+row_lines text = filter_map (λ numbered. row_line numbered.0 (entry_of numbered.1))
+    (enumerate_from 1 (lines text))
 
 -- there was no memory; no line of a text has this fault
 abbrev pub out_of_memory : AclFault

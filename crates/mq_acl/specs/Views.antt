@@ -1,5 +1,6 @@
 -- What the values of the code stand for.
-use Rattle.std.specs.Prelude.{◌≡◌, ℕ, List, [], ◌++◌, map, Option, Some, None, Result, Ok, Err, string_bytes}
+use Rattle.std.specs.Prelude.{◌≡◌, ℕ, List, [], ◌++◌, map, Option, Some, None, Result, Ok, Err}
+use Rattle.std.specs.Prelude.{string_bytes}
 use denote.Ref.{Bor}
 use Rattle.std.specs.Option.{option_to_list, option_copied}
 use Rattle.mq_acl.specs.Lines.{entry_of}
@@ -38,7 +39,12 @@ owner_view (owners.Named name) = rows.Named (string_bytes name)
 owner_view owners.Everyone = rows.Everyone
 
 abbrev pub row_view : Row → AclRow
-row_view row = record { who = owner_view row.owner; access = access_view row.access; filter = row.filter }
+row_view row = record {
+  who = owner_view row.owner;
+  access = access_view row.access;
+  filter =
+      row.filter;
+}
 
 abbrev pub row_views : List Row → List AclRow
 row_views all = map row_view all
@@ -76,7 +82,8 @@ Answers (Ok entry) answer = answer ≡ Ok (entry_view entry)
 Answers (Err kind) answer = Fails kind answer
 
 -- the line with this number has no fault; its row is added, and later `topic` lines are for `next`
-pub record IsAdded (line : List ℕ) (number : ℕ) (who next : Who) (old : List AclRow) (old_lines : List ℕ) (new : List AclRow) (new_lines : List ℕ) : Type 0 where
+pub record IsAdded (line : List ℕ) (number : ℕ) (who next : Who) (old : List AclRow)
+    (old_lines : List ℕ) (new : List AclRow) (new_lines : List ℕ) : Type 0 where
   pub entry : lines.Entry
   pub says : entry_of line ≡ Ok entry
   pub added : new ≡ old ++ option_to_list (row_of who entry)

@@ -1,5 +1,6 @@
 -- Blanks and words (our own rules).
-use Rattle.std.specs.Prelude.{ℕ, Bool, false, List, [], ◌∷◌, length, ◌==◌, ◌-◌, ◌||◌, take, drop, nat_eq}
+use Rattle.std.specs.Prelude.{ℕ, Bool, false, List, [], ◌∷◌, length, ◌==◌, ◌-◌, ◌||◌, take, drop}
+use Rattle.std.specs.Prelude.{nat_eq}
 use Rattle.std.specs.List.{prefix_len, suffix_len, position_or_len, before_first, starts_with}
 
 -- a space or a tab

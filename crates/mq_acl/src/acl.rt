@@ -47,7 +47,8 @@ impl Acl {
         ensures rows { MatchResult result (λ acl. rows_of text.now ≡ Ok acl)
             (λ fault. (fault ≡ out_of_memory) ⊎ (rows_of text.now ≡ Err fault)) }
         ensures memory { IfErr result (λ fault. fault.kind ≡ AclKind.Memory → fault ≡ out_of_memory) }
-        ensures line { IfErr result (λ fault. fault.kind ≢ AclKind.Memory → (rows_of text.now ≡ Err fault) × (0 < fault.line)) }
+        ensures line { IfErr result (λ fault. fault.kind ≢ AclKind.Memory
+            → (rows_of text.now ≡ Err fault) × (0 < fault.line)) }
     {
         let rows = read_rows(alloc, text)?;
         match Acl::of(alloc, rows) {
@@ -73,7 +74,8 @@ impl Acl {
     /// name, or for clients without one, alone.
     #[tactic(auto, unfolding(crate::specs::Access::allowed))]
     pub fn may_read(&self, client: &str, user: Option<&str>, name: &TopicName) -> bool
-        ensures { result ≡ allowed (Some self.now) client.now (option_copied user.entry) name.now Reading }
+        ensures { result ≡ allowed (Some self.now) client.now (option_copied user.entry) name.now
+            Reading }
     {
         rows_allow(&self.groups, client, user, name, Direction::Reading)
     }
@@ -81,7 +83,8 @@ impl Acl {
     /// Whether this client may write the topic, as `may_read`.
     #[tactic(auto, unfolding(crate::specs::Access::allowed))]
     pub fn may_write(&self, client: &str, user: Option<&str>, name: &TopicName) -> bool
-        ensures { result ≡ allowed (Some self.now) client.now (option_copied user.entry) name.now Writing }
+        ensures { result ≡ allowed (Some self.now) client.now (option_copied user.entry) name.now
+            Writing }
     {
         rows_allow(&self.groups, client, user, name, Direction::Writing)
     }

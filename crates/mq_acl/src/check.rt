@@ -1,6 +1,7 @@
 ghost use Rattle.std.specs.Prelude.{◌≡◌, ◌&&◌, ◌||◌, not, List};
 ghost use Rattle.std.specs.Option.{option_copied};
-ghost use Rattle.mq_acl.specs.Access.{row_level_matches, begins_with_dollar, covers, applies, is_deny, grants, concerns, rows_allow};
+ghost use Rattle.mq_acl.specs.Access.{row_level_matches, begins_with_dollar, covers, applies};
+ghost use Rattle.mq_acl.specs.Access.{is_deny, grants, concerns, rows_allow};
 ghost use Rattle.mq_acl.specs.Rows.{AclRow};
 ghost use Rattle.mq_acl.specs.Groups.{IsGrouped, judged};
 ghost use Rattle.mq_topic.specs.Levels.{levels};
@@ -21,7 +22,8 @@ struct RowLevels<'a> {
 }
 
 impl LevelTest for RowLevels<'_> {
-    ghost passes = { λ row wanted level. row_level_matches (owner_view row.owner.now) row.client.now (option_copied row.user) wanted level };
+    ghost passes = { λ row wanted level. row_level_matches (owner_view row.owner.now) row.client.now
+        (option_copied row.user) wanted level };
 
     fn passes(&self, wanted: &str, level: &str) -> bool {
         match (self.owner, wanted) {
@@ -97,7 +99,8 @@ fn judge(
     name: &TopicName,
     direction: Direction,
 ) -> Option<bool>
-    ensures { result ≡ judged client.now (option_copied user.entry) name.now direction granted (row_views rows.now) }
+    ensures { result ≡ judged client.now (option_copied user.entry) name.now direction granted
+        (row_views rows.now) }
 {
     let mut granted = granted;
     for row in rows {

@@ -3,7 +3,8 @@ ghost use Rattle.std.specs.List.{list_all};
 ghost use Rattle.std.specs.Option.{option_map};
 ghost use Rattle.mq_topic.specs.Levels.{levels};
 ghost use Rattle.mq_topic.specs.Texts.{is_filter};
-ghost use Rattle.mq_acl.specs.Lines.{entry_of, keyword_entry, topic_entry, pattern_entry, access_and_topic, access_named, is_pattern_level};
+ghost use Rattle.mq_acl.specs.Lines.{entry_of, keyword_entry, topic_entry, pattern_entry};
+ghost use Rattle.mq_acl.specs.Lines.{access_and_topic, access_named, is_pattern_level};
 ghost use Rattle.mq_acl.specs.Views.{Answers, access_view, access_topic_view};
 
 use crate::access::Access;
@@ -66,7 +67,8 @@ fn is_pattern(topic: &str) -> bool
 
 fn parse_topic(alloc: Global, topic: &str) -> Result<TopicFilter, AclKind>
     ensures ok { IfOk result (λ filter. (filter ≡ topic.now) × IsTrue (is_filter topic.now)) }
-    ensures fault { IfErr result (λ kind. (kind ≡ AclKind.Memory) ⊎ ((kind ≡ AclKind.Topic) × (is_filter topic.now ≡ false))) }
+    ensures fault { IfErr result (λ kind. (kind ≡ AclKind.Memory)
+        ⊎ ((kind ≡ AclKind.Topic) × (is_filter topic.now ≡ false))) }
 {
     match TopicFilter::parse(alloc, topic) {
         Ok(filter) => Ok(filter),

@@ -1,5 +1,6 @@
 //! The rows of an access list, by whom they are for.
-ghost use Rattle.std.specs.Prelude.{◌≡◌, ℕ, [], ◌++◌, ◌∷◌, List, IfOk, OnOk, if◌then◌else◌, string_bytes};
+ghost use Rattle.std.specs.Prelude.{◌≡◌, ℕ, [], ◌++◌, ◌∷◌, List, IfOk, OnOk, if◌then◌else◌};
+ghost use Rattle.std.specs.Prelude.{string_bytes};
 ghost use Rattle.std.specs.Str.{bytes_eq};
 ghost use Rattle.std.specs.Option.{option_copied, option_map_or};
 ghost use Rattle.std.specs.BTreeMap.{get_by_text};
@@ -25,8 +26,10 @@ fn add_named(
     name: String,
     row: Row,
 ) -> Result<(), AllocError>
-    ensures { OnOk result ((user : List ℕ) → option_map_or (λ rows. rows.items) (get_by_text named.new user) []
-        ≡ option_map_or (λ rows. rows.items) (get_by_text named.old user) [] ++ (if bytes_eq user (string_bytes name) then row ∷ [] else [])) }
+    ensures { OnOk result ((user : List ℕ)
+        → option_map_or (λ rows. rows.items) (get_by_text named.new user) []
+        ≡ option_map_or (λ rows. rows.items) (get_by_text named.old user) []
+        ++ (if bytes_eq user (string_bytes name) then row ∷ [] else [])) }
 {
     named.entry(name)?.or_default().push(row)?;
     Ok(())
@@ -44,7 +47,8 @@ impl Groups {
     }
 
     fn add(&mut self, row: Row) -> Result<(), AllocError>
-        ensures { OnOk result ((rows : List AclRow) → IsGrouped rows self.old → IsGrouped (rows ++ (row_view row ∷ [])) self.new) }
+        ensures { OnOk result ((rows : List AclRow) → IsGrouped rows self.old
+            → IsGrouped (rows ++ (row_view row ∷ [])) self.new) }
     {
         match &row.owner {
             Owner::Everyone => self.everyone.push(row)?,

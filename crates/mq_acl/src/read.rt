@@ -1,8 +1,10 @@
-ghost use Rattle.std.specs.Prelude.{◌≡◌, ℕ, ◌+◌, List, ◌++◌, ◌∷◌, ◌⊎◌, IfOk, IfErr, OnOk, MatchResult, Ok, Err, Some};
+ghost use Rattle.std.specs.Prelude.{◌≡◌, ℕ, ◌+◌, List, ◌++◌, ◌∷◌, ◌⊎◌, IfOk, IfErr, OnOk};
+ghost use Rattle.std.specs.Prelude.{MatchResult, Ok, Err, Some};
 ghost use Rattle.std.specs.Option.{option_to_list};
 ghost use Rattle.mq_acl.specs.Lines.{lines, entry_of};
 ghost use Rattle.mq_acl.specs.Rows.{rows_of, row_of, row_line, row_lines, fault_at, out_of_memory};
-ghost use Rattle.mq_acl.specs.Views.{entry_view, lines_left, user_who, who_then, fault_of, owner_view, row_views, line_views, IsAdded};
+ghost use Rattle.mq_acl.specs.Views.{entry_view, lines_left, user_who, who_then, fault_of};
+ghost use Rattle.mq_acl.specs.Views.{owner_view, row_views, line_views, IsAdded};
 
 use crate::entry::{Entry, read_entry};
 use crate::fault::{AclFault, AclKind};
@@ -38,7 +40,8 @@ fn add_row(
     line: u64,
 ) -> Result<(), AllocError>
     ensures rows { OnOk result (row_views rows.new.items
-        ≡ row_views rows.old.items ++ option_to_list (row_of (user_who user.entry) (entry_view entry.entry))) }
+        ≡ row_views rows.old.items ++ option_to_list
+        (row_of (user_who user.entry) (entry_view entry.entry))) }
     ensures lines { OnOk result (line_views rows.new.items
         ≡ line_views rows.old.items ++ option_to_list (row_line line (Ok (entry_view entry.entry)))) }
 {
@@ -83,8 +86,11 @@ fn read_line_into<'a>(
     line: &'a str,
     number: u64,
 ) -> Result<Option<&'a str>, AclFault>
-    ensures ok { IfOk result (λ next. IsAdded line.now number (user_who user.entry) (user_who next) (row_views rows.old.items) (line_views rows.old.items) (row_views rows.new.items) (line_views rows.new.items)) }
-    ensures fault { IfErr result (λ fault. (fault ≡ out_of_memory) ⊎ (fault_at number (entry_of line.now) ≡ Some fault)) }
+    ensures ok { IfOk result (λ next. IsAdded line.now number (user_who user.entry) (user_who next)
+        (row_views rows.old.items) (line_views rows.old.items) (row_views rows.new.items)
+        (line_views rows.new.items)) }
+    ensures fault { IfErr result (λ fault. (fault ≡ out_of_memory)
+        ⊎ (fault_at number (entry_of line.now) ≡ Some fault)) }
 {
     let entry = read_entry(alloc, line).map_err(|kind| fault_of(number, kind))?;
     let next = user_after(user, &entry);

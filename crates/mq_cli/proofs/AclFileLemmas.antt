@@ -6,8 +6,10 @@ use Rattle.mq_cli.specs.declared.acl_file.AclFileFault.TheVariants as fault
 use Rattle.mq_script.specs.Ending.{Failures}
 use Rattle.mq_cli.specs.AclFile.{IsAnswerTo, IsWholeFile, AclFileEnding}
 
-pub AclFileEnding-whole : (limit : ℕ) (result : Result (List AclRow) AclFileFault) (given : List ℕ) (left : Option (List ℕ)) (calls : Failures)
-    → IsWholeFile limit given left calls → IsAnswerTo given result → AclFileEnding limit result given left calls
+pub AclFileEnding-whole : (limit : ℕ) (result : Result (List AclRow) AclFileFault) (given : List ℕ)
+    (left : Option (List ℕ)) (calls : Failures)
+    → IsWholeFile limit given left calls → IsAnswerTo given result
+    → AclFileEnding limit result given left calls
 AclFileEnding-whole limit (Ok rows) given left calls whole is = (whole, is)
 AclFileEnding-whole limit (Err fault.Read) given left calls whole is = absurd is
 AclFileEnding-whole limit (Err fault.TooLong) given left calls whole is = absurd is

@@ -1,5 +1,6 @@
 -- What the program's options and faults say.
-use Rattle.std.proofs.Common.{◌≡◌, ◌∙◌, ◌⊎◌, inl, inr, [], ℕ, List, Option, Some, None, Result, Ok, Err, refl, sym, ap, ap₂, subst, arith, codes, string_bytes}
+use Rattle.std.proofs.Common.{◌≡◌, ◌∙◌, ◌⊎◌, inl, inr, [], ℕ, List, Option, Some, None, Result, Ok}
+use Rattle.std.proofs.Common.{Err, refl, sym, ap, ap₂, subst, arith, codes, string_bytes}
 use Rattle.std.specs.Prelude.{IfOk, IfErr, option_map}
 use Rattle.std.proofs.lemmas.Str.{IsUtf8-nil}
 use Rattle.clap.specs.Words.{Kinds, IsAmong}
@@ -13,16 +14,21 @@ use Rattle.mq_cli.specs.declared.program.Failure.TheVariants as failure
 use Rattle.mq_cli.specs.CommandLine.{IsFaultOf, AreGiven, given}
 use Rattle.mq_script.specs.Ending.{AppendsSome}
 use Rattle.mq_script.specs.Output.{output}
-use Rattle.mq_cli.specs.Program.{script_file, failure_status, limits_by, limits_given, BeginsIn, IsScript, WritesFront, TellsUsage}
+use Rattle.mq_cli.specs.Program.{script_file, failure_status, limits_by, limits_given, BeginsIn}
+use Rattle.mq_cli.specs.Program.{IsScript, WritesFront, TellsUsage}
 use Rattle.mq_script.proofs.FrontLemmas.{AppendsSome-none}
 
 -- where the words have no fault, memory ran out
-pub memory_only : (kinds : Kinds) (fault : UsageFault) → kinds ≡ [] → IsFaultOf kinds fault → fault ≡ Memory
-memory_only kinds (Help text) e h = absurd (let bad : IsAmong DisplayHelp [] = subst (IsAmong DisplayHelp) e h in bad)
-memory_only kinds (Usage text) e h = absurd (let bad : IsAmong h.0 [] = subst (IsAmong h.0) e h.2 in bad)
+pub memory_only : (kinds : Kinds) (fault : UsageFault) → kinds ≡ [] → IsFaultOf kinds fault
+    → fault ≡ Memory
+memory_only kinds (Help text) e h =
+    absurd (let bad : IsAmong DisplayHelp [] = subst (IsAmong DisplayHelp) e h in bad)
+memory_only kinds (Usage text) e h =
+    absurd (let bad : IsAmong h.0 [] = subst (IsAmong h.0) e h.2 in bad)
 memory_only kinds Memory e h = refl
 
-pub none_from_map : {A B : Type 0} (f : A → B) (o : Option A) (g : Option B) → option_map f o ≡ g → g ≡ None → o ≡ None
+pub none_from_map : {A B : Type 0} (f : A → B) (o : Option A) (g : Option B) → option_map f o ≡ g
+    → g ≡ None → o ≡ None
 none_from_map f None g e h = refl
 none_from_map f (Some x) g e h = absurd (let bad : Some (f x) ≡ None = e ∙ h in cc)
 
@@ -39,29 +45,36 @@ failure_two (failure.AclLine file line kind) two three = two refl
 failure_two (failure.Script file) two three = two refl
 
 -- and so has the program, where it tells one: 3 too where there was no memory for the text
-pub told_two : (f : Failure) (status : ℕ) → (status ≡ failure_status f) ⊎ (status ≡ 3) → (status ≡ 2 → ⊥) → (status ≡ 3 → ⊥) → ⊥
+pub told_two : (f : Failure) (status : ℕ) → (status ≡ failure_status f) ⊎ (status ≡ 3)
+    → (status ≡ 2 → ⊥) → (status ≡ 3 → ⊥) → ⊥
 told_two f status (inl told) two three = failure_two f (λ e. two (told ∙ e)) (λ e. three (told ∙ e))
 told_two f status (inr memory) two three = three memory
 
-pub told_three : (f : Failure) (status : ℕ) → (status ≡ failure_status f) ⊎ (status ≡ 3) → failure_status f ≡ 3 → status ≡ 3
+pub told_three : (f : Failure) (status : ℕ) → (status ≡ failure_status f) ⊎ (status ≡ 3)
+    → failure_status f ≡ 3 → status ≡ 3
 told_three f status (inl told) e = told ∙ e
 told_three f status (inr memory) e = memory
 
-pub told_unreadable : (f : Failure) (status : ℕ) → (status ≡ failure_status f) ⊎ (status ≡ 3) → status ≡ 2 → failure_status f ≡ 2
+pub told_unreadable : (f : Failure) (status : ℕ) → (status ≡ failure_status f) ⊎ (status ≡ 3)
+    → status ≡ 2 → failure_status f ≡ 2
 told_unreadable f status (inl told) e = sym told ∙ e
 told_unreadable f status (inr memory) e = absurd (omega arith)
 
 -- ## Words that give no options
 
 -- for lack of memory nothing is written
-pub usage_memory : (fault : UsageFault) (status : ℕ) (before after flushed : Option (List ℕ)) → TellsUsage fault status before after flushed
+pub usage_memory : (fault : UsageFault) (status : ℕ) (before after flushed : Option (List ℕ))
+    → TellsUsage fault status before after flushed
     → fault ≡ Memory → (status ≡ 3) × (after ≡ before)
-usage_memory (Help text) status before after flushed tells e = absurd (let bad : Help text ≡ Memory = e in cc)
-usage_memory (Usage text) status before after flushed tells e = absurd (let bad : Usage text ≡ Memory = e in cc)
+usage_memory (Help text) status before after flushed tells e =
+    absurd (let bad : Help text ≡ Memory = e in cc)
+usage_memory (Usage text) status before after flushed tells e =
+    absurd (let bad : Usage text ≡ Memory = e in cc)
 usage_memory Memory status before after flushed tells e = tells
 
 -- neither 2 nor 3 is the status of help alone, all of it
-pub usage_done : (fault : UsageFault) (status : ℕ) (before after flushed : Option (List ℕ)) → TellsUsage fault status before after flushed
+pub usage_done : (fault : UsageFault) (status : ℕ) (before after flushed : Option (List ℕ))
+    → TellsUsage fault status before after flushed
     → (status ≡ 2 → ⊥) → (status ≡ 3 → ⊥) → (status ≡ 0) × (flushed ≡ after)
 usage_done (Help text) status before after flushed (inl done) two three = (done.0, done.2)
 usage_done (Help text) status before after flushed (inr failed) two three = absurd (three failed.0)
@@ -70,39 +83,52 @@ usage_done Memory status before after flushed tells two three = absurd (three te
 
 -- ## The world and the script of a run
 
-pub begins_empty : (file : Option (List ℕ)) (limits : Limits) (w : World) → file ≡ None → BeginsIn file limits w → w ≡ within limits empty_world
-begins_empty None limits w e begins = begins.2 ∙ ap (λ access. within limits (fresh_world access)) begins.1
+pub begins_empty : (file : Option (List ℕ)) (limits : Limits) (w : World) → file ≡ None
+    → BeginsIn file limits w → w ≡ within limits empty_world
+begins_empty None limits w e begins = begins.2
+    ∙ ap (λ access. within limits (fresh_world access)) begins.1
 begins_empty (Some x) limits w e begins = absurd (let bad : Some x ≡ None = e in cc)
 
-pub script_told : (file to_come : Option (List ℕ)) (script bytes : List ℕ) → file ≡ None → to_come ≡ Some bytes → IsScript file to_come script → script ≡ bytes
+pub script_told : (file to_come : Option (List ℕ)) (script bytes : List ℕ) → file ≡ None
+    → to_come ≡ Some bytes → IsScript file to_come script → script ≡ bytes
 script_told None None script bytes e f is = absurd (let bad : None ≡ Some bytes = f in cc)
-script_told None (Some xs) script bytes e f is = let same : xs ≡ bytes = let g : Some xs ≡ Some bytes = f in cc in is ∙ same
+script_told None (Some xs) script bytes e f is = let same : xs ≡ bytes =
+    let g : Some xs ≡ Some bytes = f in cc in is ∙ same
 script_told (Some x) to_come script bytes e f is = absurd (let bad : Some x ≡ None = e in cc)
 
-pub IfOk-begun : {T E : Type 0} (result : Result T E) (file : Option (List ℕ)) (limits : Limits) (w : World) (Q : List ℕ → Type 0) (P : World → List ℕ → T → Type 0)
+pub IfOk-begun : {T E : Type 0} (result : Result T E) (file : Option (List ℕ)) (limits : Limits)
+    (w : World) (Q : List ℕ → Type 0) (P : World → List ℕ → T → Type 0)
     → BeginsIn file limits w → IfOk result (λ x. (script : List ℕ) × Q script × P w script x)
-    → IfOk result (λ x. (v : World) × BeginsIn file limits v × (script : List ℕ) × Q script × P v script x)
+    → IfOk result (λ x. (v : World) × BeginsIn file limits v × (script : List ℕ) × Q script
+    × P v script x)
 IfOk-begun (Ok x) file limits w Q P begins h = (w, begins, h.0, h.1, h.2)
 IfOk-begun (Err e) file limits w Q P begins h = tt
 
-pub IfOk-file : {T E : Type 0} (result : Result T E) (name : List ℕ) (file to_come : Option (List ℕ)) (P : List ℕ → T → Type 0)
-    → Some name ≡ file → IfOk result (λ x. (script : List ℕ) × P script x) → IfOk result (λ x. (script : List ℕ) × IsScript file to_come script × P script x)
-IfOk-file (Ok x) name file to_come P e h = (h.0, subst (λ (f : Option (List ℕ)). IsScript f to_come h.0) e tt, h.1)
+pub IfOk-file : {T E : Type 0} (result : Result T E) (name : List ℕ)
+    (file to_come : Option (List ℕ)) (P : List ℕ → T → Type 0)
+    → Some name ≡ file → IfOk result (λ x. (script : List ℕ) × P script x)
+    → IfOk result (λ x. (script : List ℕ) × IsScript file to_come script × P script x)
+IfOk-file (Ok x) name file to_come P e h =
+    (h.0, subst (λ (f : Option (List ℕ)). IsScript f to_come h.0) e tt, h.1)
 IfOk-file (Err e) name file to_come P f h = tt
 
 pub IfOk-some : {T E : Type 0} (result : Result T E) (Q : List ℕ → Type 0) (P : List ℕ → T → Type 0)
-    → IfOk result (λ x. (script : List ℕ) × Q script × P script x) → IfOk result (λ x. (script : List ℕ) × P script x)
+    → IfOk result (λ x. (script : List ℕ) × Q script × P script x)
+    → IfOk result (λ x. (script : List ℕ) × P script x)
 IfOk-some (Ok x) Q P h = (h.0, h.2)
 IfOk-some (Err e) Q P h = tt
 
-pub IfErr-map : {T E : Type 0} (result : Result T E) (P Q : E → Type 0) → ((e : E) → P e → Q e) → IfErr result P → IfErr result Q
+pub IfErr-map : {T E : Type 0} (result : Result T E) (P Q : E → Type 0) → ((e : E) → P e → Q e)
+    → IfErr result P → IfErr result Q
 IfErr-map (Ok x) P Q f h = tt
 IfErr-map (Err e) P Q f h = f e h
 
 -- ## What was written
 
-pub WritesFront-file : (w : World) (name : List ℕ) (file to_come before after : Option (List ℕ)) → Some name ≡ file
-    → (script : List ℕ) × AppendsSome before after (output w script) → WritesFront w file to_come before after
+pub WritesFront-file : (w : World) (name : List ℕ) (file to_come before after : Option (List ℕ))
+    → Some name ≡ file
+    → (script : List ℕ) × AppendsSome before after (output w script)
+    → WritesFront w file to_come before after
 WritesFront-file w name file to_come before after e h =
     (h.0, subst (λ (f : Option (List ℕ)). IsScript f to_come h.0) e tt, h.1)
 
@@ -113,26 +139,33 @@ some_script None (Some bytes) = (bytes, refl)
 some_script (Some file) to_come = ([], tt)
 
 -- to write nothing is to write a front
-pub WritesFront-none : (w : World) (file to_come before : Option (List ℕ)) → WritesFront w file to_come before before
+pub WritesFront-none : (w : World) (file to_come before : Option (List ℕ))
+    → WritesFront w file to_come before before
 WritesFront-none w file to_come before =
     let script = some_script file to_come in
     (script.0, script.1, AppendsSome-none before (output w script.0))
 
 -- some world is one that a run may begin in: an empty file is an access list without rows
-pub BeginsIn-some : (file : Option (List ℕ)) (limits : Limits) → (w : World) × BeginsIn file limits w
+pub BeginsIn-some : (file : Option (List ℕ)) (limits : Limits) → (w : World)
+    × BeginsIn file limits w
 BeginsIn-some None limits = (within limits (fresh_world None), (None, refl, refl))
-BeginsIn-some (Some file) limits = (within limits (fresh_world (Some [])), (Some [], ([], [], (IsUtf8-nil, refl), refl), refl))
+BeginsIn-some (Some file) limits =
+    (within limits (fresh_world (Some [])), (Some [], ([], [], (IsUtf8-nil, refl), refl), refl))
 
 -- what is said of options is said of the words that they are of
-pub prefix_given : (words : List (List ℕ)) (options : Options) (to_come before after : Option (List ℕ)) → AreGiven words options
-    → (w : World) × BeginsIn (option_map string_bytes options.acl_file) (limits_by options.max_retained options.max_queued) w
+pub prefix_given : (words : List (List ℕ)) (options : Options)
+    (to_come before after : Option (List ℕ)) → AreGiven words options
+    → (w : World) × BeginsIn (option_map string_bytes options.acl_file)
+    (limits_by options.max_retained options.max_queued) w
     × WritesFront w (script_file (option_map string_bytes options.script)) to_come before after
     → (w : World) × BeginsIn (given (codes "acl-file") words) (limits_given words) w
     × WritesFront w (script_file (given (codes "script") words)) to_come before after
 prefix_given words options to_come before after are begun =
     let limits = limits_by options.max_retained options.max_queued in (
       begun.0,
-      subst (λ (l : Limits). BeginsIn (given (codes "acl-file") words) l begun.0) (ap₂ limits_by are.max_retained are.max_queued)
+      subst (λ (l : Limits). BeginsIn (given (codes "acl-file") words) l begun.0)
+          (ap₂ limits_by are.max_retained are.max_queued)
           (subst (λ (file : Option (List ℕ)). BeginsIn file limits begun.0) are.acl_file begun.1),
-      subst (λ (file : Option (List ℕ)). WritesFront begun.0 (script_file file) to_come before after) are.script begun.2,
+      subst (λ (file : Option (List ℕ)). WritesFront begun.0 (script_file file) to_come before
+          after) are.script begun.2,
     )

@@ -15,27 +15,34 @@ acl_file_limit = 16777216
 abbrev pub IsAnswerTo : List ℕ → Result (List AclRow) AclFileFault → Type 0
 IsAnswerTo bytes (Ok rows) = IsUtf8 bytes × (rows_of bytes ≡ Ok rows)
 IsAnswerTo bytes (Err fault.Utf8) = ¬ IsUtf8 bytes
-IsAnswerTo bytes (Err (fault.Line f)) = IsUtf8 bytes × (rows_of bytes ≡ Err f) × (f.kind ≢ kind.Memory)
+IsAnswerTo bytes (Err (fault.Line f)) = IsUtf8 bytes × (rows_of bytes ≡ Err f)
+    × (f.kind ≢ kind.Memory)
 IsAnswerTo bytes (Err fault.Memory) = Unit {0}
 IsAnswerTo bytes (Err fault.Read) = ⊥
 IsAnswerTo bytes (Err fault.TooLong) = ⊥
 
 -- the reader gave the whole file, and it isn't too long
-pub record IsWholeFile (limit : ℕ) (given : List ℕ) (left : Option (List ℕ)) (calls : Failures) : Type 0 where
+pub record IsWholeFile (limit : ℕ) (given : List ℕ) (left : Option (List ℕ)) (calls : Failures) :
+    Type 0 where
   pub ended : IsAtEnd left
   pub within : length given ≤ limit
   pub reader : DidNotFail calls
 
 -- given are the bytes that the reader gave, and left what is known to come
-abbrev pub AclFileEnding : ℕ → Result (List AclRow) AclFileFault → (given : List ℕ) (left : Option (List ℕ)) (calls : Failures) → Type 0
-AclFileEnding limit (Ok rows) given left calls = IsWholeFile limit given left calls × IsAnswerTo given (Ok rows)
+abbrev pub AclFileEnding : ℕ → Result (List AclRow) AclFileFault
+    → (given : List ℕ) (left : Option (List ℕ)) (calls : Failures) → Type 0
+AclFileEnding limit (Ok rows) given left calls = IsWholeFile limit given left calls
+    × IsAnswerTo given (Ok rows)
 AclFileEnding limit (Err fault.Read) given left calls = Failed calls
 AclFileEnding limit (Err fault.TooLong) given left calls = (limit < length given) × DidNotFail calls
-AclFileEnding limit (Err fault.Utf8) given left calls = IsWholeFile limit given left calls × IsAnswerTo given (Err fault.Utf8)
-AclFileEnding limit (Err (fault.Line f)) given left calls = IsWholeFile limit given left calls × IsAnswerTo given (Err (fault.Line f))
+AclFileEnding limit (Err fault.Utf8) given left calls = IsWholeFile limit given left calls
+    × IsAnswerTo given (Err fault.Utf8)
+AclFileEnding limit (Err (fault.Line f)) given left calls = IsWholeFile limit given left calls
+    × IsAnswerTo given (Err (fault.Line f))
 AclFileEnding limit (Err fault.Memory) given left calls = DidNotFail calls
 
 -- it ended so over what its reader gave
 abbrev pub AclFileEnds : ℕ → Result (List AclRow) AclFileFault → Watched → Type 0
 AclFileEnds limit result reader =
-    (given : List ℕ) × Consumes reader.before reader.after given × AclFileEnding limit result given reader.after reader.calls
+    (given : List ℕ) × Consumes reader.before reader.after given
+    × AclFileEnding limit result given reader.after reader.calls

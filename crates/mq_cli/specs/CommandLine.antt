@@ -1,9 +1,12 @@
 -- The command line of the program, in the words of `clap`.
-use Rattle.std.specs.Prelude.{◌≡◌, ◌≢◌, ◌↔◌, ℕ, ◌^◌, ◌&&◌, Bool, nat_lt, if◌then◌else◌, List, length, Option, Some, None, option_map, option_and_then, codes, string_bytes, IsTrue}
+use Rattle.std.specs.Prelude.{◌≡◌, ◌≢◌, ◌↔◌, ℕ, ◌^◌, ◌&&◌, Bool, nat_lt, if◌then◌else◌, List}
+use Rattle.std.specs.Prelude.{length, Option, Some, None, option_map, option_and_then, codes}
+use Rattle.std.specs.Prelude.{string_bytes, IsTrue}
 use Rattle.std.specs.List.{list_all}
 use Rattle.std.specs.Char.{digit_value}
 use Rattle.std.specs.Str.Parse.{digits_value, without_leading_plus}
-use Rattle.clap.specs.Words.{App, Rule, Text, Kinds, IsAmong, new_app, new_rule, with_rule, first_of, one_of, matches_of}
+use Rattle.clap.specs.Words.{App, Rule, Text, Kinds, IsAmong, new_app, new_rule, with_rule}
+use Rattle.clap.specs.Words.{first_of, one_of, matches_of}
 use Rattle.clap.specs.declared.builder.action.ArgAction.TheVariants.{SetTrue}
 use Rattle.clap.specs.declared.builder.value_parser.ValueParser.TheVariants.{Unsigned}
 use Rattle.clap.specs.declared.error.ErrorKind.{ErrorKind}
@@ -48,11 +51,13 @@ given id words = first_of id (matches_of mqroute words)
 -- one digit or more, of a number below 2 ^ 32
 abbrev pub is_word : Text → Bool
 is_word digits =
-    nat_lt 0 (length digits) && list_all (λ d. nat_lt (digit_value d) 10) digits && nat_lt (digits_value 10 digits) (2 ^ 32)
+    nat_lt 0 (length digits) && list_all (λ d. nat_lt (digit_value d) 10) digits
+    && nat_lt (digits_value 10 digits) (2 ^ 32)
 
 -- the number that a text writes, with or without a plus before it
 unfoldable pub number_in : Text → Option ℕ
-number_in text = let digits = without_leading_plus text in if is_word digits then Some (digits_value 10 digits) else None
+number_in text = let digits = without_leading_plus text in if is_word digits then
+    Some (digits_value 10 digits) else None
 
 -- the number of an option in the words
 abbrev pub number_given : Text → List Text → Option ℕ

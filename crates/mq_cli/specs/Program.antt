@@ -1,5 +1,6 @@
 -- What the program does.
-use Rattle.std.specs.Prelude.{◌≡◌, ◌⊎◌, ℕ, ◌==◌, List, [], ◌++◌, if◌then◌else◌, Option, Some, None, Ok, unwrap_or, codes, string_bytes, ⊤}
+use Rattle.std.specs.Prelude.{◌≡◌, ◌⊎◌, ℕ, ◌==◌, List, [], ◌++◌, if◌then◌else◌, Option, Some, None}
+use Rattle.std.specs.Prelude.{Ok, unwrap_or, codes, string_bytes, ⊤}
 use Rattle.std.specs.Io.KnownBytes.{Appends}
 use Rattle.std.specs.Str.{bytes_eq}
 use Rattle.mq_acl.specs.Rows.{AclRow}
@@ -33,20 +34,24 @@ failure_status (failure.Script file) = 2
 
 -- the limits of two options
 abbrev pub limits_by : (retained queued : Option ℕ) → Limits
-limits_by retained queued = record { retained = retained; queued = unwrap_or queued default_limits.queued }
+limits_by retained queued =
+    record { retained = retained; queued = unwrap_or queued default_limits.queued }
 
 -- the limits in the words
 abbrev pub limits_given : List (List ℕ) → Limits
-limits_given words = limits_by (number_given (codes "max-retained") words) (number_given (codes "max-queued") words)
+limits_given words = limits_by (number_given (codes "max-retained") words)
+    (number_given (codes "max-queued") words)
 
 -- the access list that a run begins with: where a file of one is named, the rows of some text without a fault
 abbrev pub BeginsWith : (acl_file : Option (List ℕ)) → Option (List AclRow) → Type 0
 BeginsWith None access = access ≡ None
-BeginsWith (Some file) access = (text : List ℕ) × (rows : List AclRow) × IsAnswerTo text (Ok rows) × (access ≡ Some rows)
+BeginsWith (Some file) access = (text : List ℕ) × (rows : List AclRow) × IsAnswerTo text (Ok rows)
+    × (access ≡ Some rows)
 
 -- the world that a run begins in
 abbrev pub BeginsIn : (acl_file : Option (List ℕ)) → Limits → World → Type 0
-BeginsIn acl_file limits w = (access : Option (List AclRow)) × BeginsWith acl_file access × (w ≡ within limits (fresh_world access))
+BeginsIn acl_file limits w = (access : Option (List AclRow)) × BeginsWith acl_file access
+    × (w ≡ within limits (fresh_world access))
 
 -- the script: where no file is named, all that the input tells
 abbrev pub IsScript : (file to_come : Option (List ℕ)) → List ℕ → Type 0
@@ -55,22 +60,26 @@ IsScript None (Some bytes) script = script ≡ bytes
 IsScript (Some file) to_come script = ⊤
 
 -- all of a script was answered from a world
-pub record AnswersScript (w : World) (script before : List ℕ) (after : Option (List ℕ)) (summary : Summary) : Type 0 where
+pub record AnswersScript (w : World) (script before : List ℕ) (after : Option (List ℕ))
+    (summary : Summary) : Type 0 where
   pub written : after ≡ Some (before ++ output w script)
   pub counts : Summarizes w script summary
 
 -- and the status says whether a line was refused
-pub record AnswersAll (w : World) (script before : List ℕ) (after : Option (List ℕ)) (status : ℕ) : Type 0 where
+pub record AnswersAll (w : World) (script before : List ℕ) (after : Option (List ℕ)) (status : ℕ) :
+    Type 0 where
   pub written : after ≡ Some (before ++ output w script)
   pub ended : status ≡ (if refused_from w [] (all_lines script) == 0 then 0 else 1)
 
 -- a front of what some script writes was written; where no file is named, that script is all that the input tells
-abbrev pub WritesFront : World → (file to_come : Option (List ℕ)) → (before after : Option (List ℕ)) → Type 0
+abbrev pub WritesFront : World → (file to_come : Option (List ℕ)) → (before after : Option (List ℕ))
+    → Type 0
 WritesFront w file to_come before after =
     (script : List ℕ) × IsScript file to_come script × AppendsSome before after (output w script)
 
 -- what is written where the words give no options: help, all of it where the status is 0, and else nothing
-abbrev pub TellsUsage : UsageFault → (status : ℕ) → (before after flushed : Option (List ℕ)) → Type 0
+abbrev pub TellsUsage : UsageFault → (status : ℕ) → (before after flushed : Option (List ℕ))
+    → Type 0
 TellsUsage (Help text) status before after flushed =
     ((status ≡ 0) × Appends before after (string_bytes text) × (flushed ≡ after))
     ⊎ ((status ≡ 3) × AppendsSome before after (string_bytes text))

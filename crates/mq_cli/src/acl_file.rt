@@ -54,8 +54,11 @@ fn read_file<R: Source>(
 ) -> Result<Vec<u8>, AclFileFault>
     requires { 0 < length piece.old }
     ensures ok { let seen = watch R.to_come R.failures reader.old reader.new in
-        IfOk result (λ bytes. Consumes seen.before seen.after bytes.items × IsWholeFile limit bytes.items seen.after seen.calls) }
-    ensures err { IfErr result (λ fault. AclFileEnds limit (Err fault) (watch R.to_come R.failures reader.old reader.new)) }
+        IfOk result (λ bytes. Consumes seen.before seen.after bytes.items
+        × IsWholeFile limit bytes.items seen.after seen.calls) }
+    ensures err { IfErr result
+        (λ fault. AclFileEnds limit (Err fault)
+        (watch R.to_come R.failures reader.old reader.new)) }
 {
     let mut bytes = Vec::new(alloc);
     'reads: loop {

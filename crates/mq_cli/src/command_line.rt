@@ -1,7 +1,10 @@
 //! The command line.
-ghost use Rattle.std.specs.Prelude.{◌≡◌, [], false, map, option_map, string_bytes, IfOk, OnOk, IfErr};
-ghost use Rattle.clap.specs.Words.{app_of, rule_of, rows_of, found_of, matches_of, fault_of, FailsBy};
-ghost use Rattle.mq_cli.specs.CommandLine.{mqroute, acl_file, number_option, unbuffered, script, AreGiven, IsFaultOf};
+ghost use Rattle.std.specs.Prelude.{◌≡◌, [], false, map, option_map, string_bytes, IfOk, OnOk};
+ghost use Rattle.std.specs.Prelude.{IfErr};
+ghost use Rattle.clap.specs.Words.{app_of, rule_of, rows_of, found_of, matches_of, fault_of};
+ghost use Rattle.clap.specs.Words.{FailsBy};
+ghost use Rattle.mq_cli.specs.CommandLine.{mqroute, acl_file, number_option, unbuffered, script};
+ghost use Rattle.mq_cli.specs.CommandLine.{AreGiven, IsFaultOf};
 
 use clap::builder::ValueParser;
 use clap::error::ErrorKind;
@@ -146,7 +149,8 @@ fn command<'a>(alloc: Global) -> Result<Command<'a>, AllocError>
 }
 
 fn matches_in<'a>(alloc: Global, words: &'a [String]) -> Result<ArgMatches<'a>, Error>
-    ensures rows { IfOk result (λ m. rows_of (found_of m) ≡ matches_of mqroute (map string_bytes words.entry.now)) }
+    ensures rows { IfOk result (λ m. rows_of (found_of m)
+        ≡ matches_of mqroute (map string_bytes words.entry.now)) }
     ensures kinds { FailsBy (fault_of mqroute (map string_bytes words.entry.now)) result }
 {
     let command = command(alloc)?;

@@ -1,6 +1,8 @@
 //! All of the program but its `main`.
-ghost use Rattle.std.specs.Prelude.{◌≡◌, ◌≢◌, ◌≤◌, ◌⊎◌, ◌↔◌, [], ℕ, List, Some, None, Ok, if◌then◌else◌};
-ghost use Rattle.std.specs.Prelude.{OnOk, OnErr, IfOk, IsOk, IfErr, IsTrue, is_ok, map, option_map, string_bytes, codes};
+ghost use Rattle.std.specs.Prelude.{◌≡◌, ◌≢◌, ◌≤◌, ◌⊎◌, ◌↔◌, [], ℕ, List, Some, None, Ok};
+ghost use Rattle.std.specs.Prelude.{if◌then◌else◌};
+ghost use Rattle.std.specs.Prelude.{OnOk, OnErr, IfOk, IsOk, IfErr, IsTrue, is_ok, map, option_map};
+ghost use Rattle.std.specs.Prelude.{string_bytes, codes};
 ghost use Rattle.std.specs.Io.KnownBytes.{Appends};
 ghost use Rattle.std.specs.IoError.{error_kind};
 ghost use Rattle.clap.specs.Words.{fault_of};
@@ -11,8 +13,10 @@ ghost use Rattle.mq_cli.specs.AclFile.{IsAnswerTo};
 ghost use Rattle.mq_cli.specs.CommandLine.{mqroute, given, IsGiven, IsFaultOf};
 ghost use Rattle.mq_script.specs.Ending.{AppendsSome, EndsOver, script_limit, watch};
 ghost use Rattle.mq_script.specs.Output.{output};
-ghost use Rattle.mq_cli.specs.Program.{script_file, failure_status, limits_by, limits_given, TellsUsage};
-ghost use Rattle.mq_cli.specs.Program.{BeginsWith, BeginsIn, IsScript, AnswersScript, AnswersAll, WritesFront};
+ghost use Rattle.mq_cli.specs.Program.{script_file, failure_status, limits_by, limits_given};
+ghost use Rattle.mq_cli.specs.Program.{TellsUsage};
+ghost use Rattle.mq_cli.specs.Program.{BeginsWith, BeginsIn, IsScript, AnswersScript, AnswersAll};
+ghost use Rattle.mq_cli.specs.Program.{WritesFront};
 
 use crate::acl_file::{AclFileFault, read_acl};
 use crate::command_line::{Options, UsageFault, arguments};
@@ -140,7 +144,8 @@ fn access_list<'a, R: Files>(
     alloc: Global,
     options: &'a Options,
 ) -> Result<Option<Acl>, Failure<'a>>
-    ensures ok { IfOk result (λ access. BeginsWith (option_map string_bytes options.now.acl_file) access) }
+    ensures ok { IfOk result (λ access. BeginsWith (option_map string_bytes options.now.acl_file)
+        access) }
     ensures none { options.now.acl_file ≡ None → IsOk result }
 {
     match &options.acl_file {
@@ -161,7 +166,8 @@ fn limits(options: &Options) -> Limits
 
 /// The file of the script. A script that is no file is read from the input.
 fn script_of(options: &Options) -> Option<&str>
-    ensures { option_map (λ t. t.now) result ≡ script_file (option_map string_bytes options.now.script) }
+    ensures { option_map (λ t. t.now) result
+        ≡ script_file (option_map string_bytes options.now.script) }
 {
     match &options.script {
         Some(file) if file.as_str() != "-" => Some(file.as_str()),
@@ -198,8 +204,10 @@ fn run_source<'a, S: Source, W: Sink>(
     out: &mut W,
     unbuffered: bool,
 ) -> Result<Summary, Failure<'a>>
-    ensures ok { (w : World) (before : List ℕ) → StandsFor router w → W.taken out.old ≡ Some before → IfOk result (λ summary.
-        (script : List ℕ) × IsScript None (S.to_come source.old) script × AnswersScript w script before (W.taken out.new) summary) }
+    ensures ok { (w : World) (before : List ℕ) → StandsFor router w → W.taken out.old ≡ Some before
+        → IfOk result (λ summary.
+        (script : List ℕ) × IsScript None (S.to_come source.old) script
+        × AnswersScript w script before (W.taken out.new) summary) }
     ensures prefix { (w : World) → StandsFor router w
         → WritesFront w None (S.to_come source.old) (W.taken out.old) (W.taken out.new) }
     ensures err { IfErr result (λ failure. failure_status failure ≡ 3) }
@@ -222,13 +230,15 @@ fn run_file<'a, R: Files, W: Sink>(
     out: &mut W,
     unbuffered: bool,
 ) -> Result<Summary, Failure<'a>>
-    ensures ok { (w : World) (before : List ℕ) → StandsFor router w → W.taken out.old ≡ Some before → IfOk result (λ summary.
+    ensures ok { (w : World) (before : List ℕ) → StandsFor router w → W.taken out.old ≡ Some before
+        → IfOk result (λ summary.
         (script : List ℕ) × AnswersScript w script before (W.taken out.new) summary) }
     ensures prefix { (w : World) → StandsFor router w
         → (script : List ℕ) × AppendsSome (W.taken out.old) (W.taken out.new) (output w script) }
 
     // Only a script that can't be opened has another status than the run's, and then nothing is written.
-    ensures err { IfErr result (λ failure. (failure ≡ Failure.Script file.entry) × (out.new ≡ out.old)
+    ensures err { IfErr result (λ failure. (failure ≡ Failure.Script file.entry)
+        × (out.new ≡ out.old)
         ⊎ (failure_status failure ≡ 3)) }
     ensures flushed { OnOk result (W.flushed out.new ≡ W.taken out.new) }
 {
@@ -245,15 +255,19 @@ fn run_with<'a, R: Files, S: Source, W: Sink>(
     input: &mut S,
     out: &mut W,
 ) -> Result<Summary, Failure<'a>>
-    ensures ok { (w : World) (before : List ℕ) → StandsFor router w → W.taken out.old ≡ Some before → IfOk result (λ summary.
-        (script : List ℕ) × IsScript (script_file (option_map string_bytes options.now.script)) (S.to_come input.old) script
+    ensures ok { (w : World) (before : List ℕ) → StandsFor router w → W.taken out.old ≡ Some before
+        → IfOk result (λ summary.
+        (script : List ℕ) × IsScript (script_file (option_map string_bytes options.now.script))
+        (S.to_come input.old) script
         × AnswersScript w script before (W.taken out.new) summary) }
     ensures prefix { (w : World) → StandsFor router w
-        → WritesFront w (script_file (option_map string_bytes options.now.script)) (S.to_come input.old)
+        → WritesFront w (script_file (option_map string_bytes options.now.script))
+        (S.to_come input.old)
         (W.taken out.old) (W.taken out.new) }
     ensures err { script_file (option_map string_bytes options.now.script) ≡ None
         → IfErr result (λ failure. failure_status failure ≡ 3) }
-    ensures unread { (file : List ℕ) → script_file (option_map string_bytes options.now.script) ≡ Some file
+    ensures unread { (file : List ℕ) → script_file (option_map string_bytes options.now.script)
+        ≡ Some file
         → input.new ≡ input.old }
     ensures unreadable { IfErr result (λ failure. failure_status failure ≡ 2
         → (input.new ≡ input.old) × (out.new ≡ out.old)) }
@@ -276,15 +290,21 @@ fn run_options<'a, R: Files, S: Source, W: Sink>(
     out: &mut W,
 ) -> Result<Summary, Failure<'a>>
     ensures ok { (before : List ℕ) → W.taken out.old ≡ Some before → IfOk result (λ summary.
-        (w : World) × BeginsIn (option_map string_bytes options.now.acl_file) (limits_by options.now.max_retained options.now.max_queued) w
-        × (script : List ℕ) × IsScript (script_file (option_map string_bytes options.now.script)) (S.to_come input.old) script
+        (w : World) × BeginsIn (option_map string_bytes options.now.acl_file)
+        (limits_by options.now.max_retained options.now.max_queued) w
+        × (script : List ℕ) × IsScript (script_file (option_map string_bytes options.now.script))
+        (S.to_come input.old) script
         × AnswersScript w script before (W.taken out.new) summary) }
-    ensures prefix { (w : World) × BeginsIn (option_map string_bytes options.now.acl_file) (limits_by options.now.max_retained options.now.max_queued) w
-        × WritesFront w (script_file (option_map string_bytes options.now.script)) (S.to_come input.old)
+    ensures prefix { (w : World) × BeginsIn (option_map string_bytes options.now.acl_file)
+        (limits_by options.now.max_retained options.now.max_queued) w
+        × WritesFront w (script_file (option_map string_bytes options.now.script))
+        (S.to_come input.old)
         (W.taken out.old) (W.taken out.new) }
-    ensures err { options.now.acl_file ≡ None → script_file (option_map string_bytes options.now.script) ≡ None
+    ensures err { options.now.acl_file ≡ None
+        → script_file (option_map string_bytes options.now.script) ≡ None
         → IfErr result (λ failure. failure_status failure ≡ 3) }
-    ensures unread { (file : List ℕ) → script_file (option_map string_bytes options.now.script) ≡ Some file
+    ensures unread { (file : List ℕ) → script_file (option_map string_bytes options.now.script)
+        ≡ Some file
         → input.new ≡ input.old }
     ensures unreadable { IfErr result (λ failure. failure_status failure ≡ 2
         → (input.new ≡ input.old) × (out.new ≡ out.old)) }
@@ -367,24 +387,28 @@ pub fn start<R: Files, S: Source, W: Sink, E: Sink>(
         fault_of mqroute given_words ≡ [] → given (codes "acl-file") given_words ≡ None
         → script_file (given (codes "script") given_words) ≡ None
         → S.to_come input.old ≡ Some script → W.taken out.old ≡ Some before
-        → result ≢ 3 → AnswersAll (within (limits_given given_words) empty_world) script before (W.taken out.new) result }
+        → result ≢ 3 → AnswersAll (within (limits_given given_words) empty_world) script before
+        (W.taken out.new) result }
 
     // Where they may name files, a status of 0 or 1 says the same of some script, which is the input's where no file is
     // named, and of the world that the access list and the limits make.
     ensures with_files { (before : List ℕ) → let given_words = map string_bytes words.now in
         fault_of mqroute given_words ≡ [] → W.taken out.old ≡ Some before → result ≢ 2 → result ≢ 3
         → (w : World) × BeginsIn (given (codes "acl-file") given_words) (limits_given given_words) w
-        × (script : List ℕ) × IsScript (script_file (given (codes "script") given_words)) (S.to_come input.old) script
+        × (script : List ℕ) × IsScript (script_file (given (codes "script") given_words))
+        (S.to_come input.old) script
         × AnswersAll w script before (W.taken out.new) result }
 
     // Whatever the status, what was written is a front of the answers to such a script in such a world.
-    ensures prefix { let given_words = map string_bytes words.now in fault_of mqroute given_words ≡ []
+    ensures prefix { let given_words = map string_bytes words.now in
+        fault_of mqroute given_words ≡ []
         → (w : World) × BeginsIn (given (codes "acl-file") given_words) (limits_given given_words) w
         × WritesFront w (script_file (given (codes "script") given_words)) (S.to_come input.old)
         (W.taken out.old) (W.taken out.new) }
 
     // A script in a file leaves the input alone.
-    ensures unread { (file : List ℕ) → script_file (given (codes "script") (map string_bytes words.now)) ≡ Some file
+    ensures unread { (file : List ℕ)
+        → script_file (given (codes "script") (map string_bytes words.now)) ≡ Some file
         → input.new ≡ input.old }
 
     // At a status of 2 nothing was read from the input, and nothing written.
@@ -397,8 +421,10 @@ pub fn start<R: Files, S: Source, W: Sink, E: Sink>(
 
     // Of words that are not understood a fault that they have is told, or that memory ran out: of help the status is 0,
     // or 3 where it can't be written, of another fault 2, and of a lack of memory 3.
-    ensures usage { let given_words = map string_bytes words.now in fault_of mqroute given_words ≢ []
-        → (input.new ≡ input.old) × ((fault : UsageFault) × IsFaultOf (fault_of mqroute given_words) fault
+    ensures usage { let given_words = map string_bytes words.now in
+        fault_of mqroute given_words ≢ []
+        → (input.new ≡ input.old)
+        × ((fault : UsageFault) × IsFaultOf (fault_of mqroute given_words) fault
         × TellsUsage fault result (W.taken out.old) (W.taken out.new) (W.flushed out.new)) }
 
     // At a status of 0 or 1 all that was written is handed on, and nothing is told.

@@ -1,5 +1,6 @@
 -- A heap's items as moments.
-use Rattle.std.proofs.Common.{◌≡◌, ℕ, ◌<◌, ◌==◌, false, List, [], ◌∷◌, ◌++◌, map, length, get_or, nat_lt, refl, sym, ◌∙◌, ap, subst, arith}
+use Rattle.std.proofs.Common.{◌≡◌, ℕ, ◌<◌, ◌==◌, false, List, [], ◌∷◌, ◌++◌, map, length, get_or}
+use Rattle.std.proofs.Common.{nat_lt, refl, sym, ◌∙◌, ap, subst, arith}
 use Rattle.std.specs.List.{filter}
 use Rattle.std.specs.List.Sorted.{IsPermutation}
 use Rattle.std.specs.Ordering.{is_lt, nat_cmp}
@@ -18,7 +19,9 @@ pub SameEnds-permuted : (xs ys : List (Reverse ℕ)) → IsPermutation xs ys
     → SameEnds (moments xs) (moments ys)
 SameEnds-permuted xs ys h = λ p.
     let moved = IsPermutation-map (λ (r : Reverse ℕ). r.0) xs ys h in
-    length-filter p (moments xs) ∙ sym (sum_by-IsPermutation (λ x. one_if (p x)) (moments xs) (moments ys) moved) ∙ sym (length-filter p (moments ys))
+    length-filter p (moments xs)
+    ∙ sym (sum_by-IsPermutation (λ x. one_if (p x)) (moments xs) (moments ys) moved)
+    ∙ sym (length-filter p (moments ys))
 
 not_before : (x y : ℕ) → is_lt (nat_cmp y x) ≡ false → one_if (nat_lt y x) ≡ 0
 not_before x y h = grind (arith, nat_tests)
@@ -27,7 +30,13 @@ not_before x y h = grind (arith, nat_tests)
 pub count_before-top : (x : Reverse ℕ) (ys : List (Reverse ℕ))
     → IsUpperBound (λ a b. nat_cmp b.0 a.0) x ys → count_before x.0 (moments ys) ≡ 0
 count_before-top x [] h = refl
-count_before-top x (y ∷ ys) h = omega (arith, not_before x.0 y.0 h.0, count-cons (λ z. nat_lt z x.0) y.0 (moments ys), count_before-top x ys h.1)
+count_before-top x (y ∷ ys) h =
+    omega (
+      arith,
+      not_before x.0 y.0 h.0,
+      count-cons (λ z. nat_lt z x.0) y.0 (moments ys),
+      count_before-top x ys h.1,
+    )
 
 pub SameEnds-pushed : (x : Reverse ℕ) (xs ys : List (Reverse ℕ)) → IsPermutation (x ∷ xs) ys
     → SameEnds (moments ys) (x.0 ∷ moments xs)
@@ -43,13 +52,15 @@ moments-append (x ∷ xs) ys = ap (λ l. x.0 ∷ l) (moments-append xs ys)
 
 pub SameEnds-appended : (xs ys zs : List (Reverse ℕ)) → IsPermutation (xs ++ ys) zs
     → SameEnds (moments zs) (moments xs ++ moments ys)
-SameEnds-appended xs ys zs h = λ p. sym (SameEnds-permuted (xs ++ ys) zs h p) ∙ ap (λ l. length (filter p l)) (moments-append xs ys)
+SameEnds-appended xs ys zs h = λ p. sym (SameEnds-permuted (xs ++ ys) zs h p)
+    ∙ ap (λ l. length (filter p l)) (moments-append xs ys)
 
 -- the top is the first
 pub IsFirst-top : (x : Reverse ℕ) (xs ys : List (Reverse ℕ)) → IsPermutation xs (x ∷ ys)
     → IsUpperBound (λ a b. nat_cmp b.0 a.0) x xs → IsFirst x.0 (moments xs)
 IsFirst-top x xs ys moved above = record {
-  stands = (let here = count_of-here x.0 (moments ys) in omega (arith, SameEnds-popped x xs ys moved (λ y. y == x.0)));
+  stands = (let here = count_of-here x.0 (moments ys) in
+      omega (arith, SameEnds-popped x xs ys moved (λ y. y == x.0)));
   none_before = count_before-top x xs above;
 }
 
@@ -57,7 +68,9 @@ pub IsFirst-peeked : (x : Reverse ℕ) (xs : List (Reverse ℕ)) → x ≡ get_o
     → IsUpperBound (λ a b. nat_cmp b.0 a.0) x xs → IsFirst x.0 (moments xs)
 IsFirst-peeked x [] is some above = absurd (omega arith)
 IsFirst-peeked x (y ∷ ys) is some above = record {
-  stands = (let here : count_of x.0 (y.0 ∷ moments ys) ≡ count_of x.0 (x.0 ∷ moments ys) = ap (λ (r : Reverse ℕ). count_of x.0 (r.0 ∷ moments ys)) (sym is) in omega (arith, count_of-here x.0 (moments ys)));
+  stands = (let here : count_of x.0 (y.0 ∷ moments ys) ≡ count_of x.0 (x.0 ∷ moments ys) =
+      ap (λ (r : Reverse ℕ). count_of x.0 (r.0 ∷ moments ys)) (sym is) in
+      omega (arith, count_of-here x.0 (moments ys)));
   none_before = count_before-top x (y ∷ ys) above;
 }
 
@@ -66,4 +79,6 @@ pub SameEnds-first : (x : Reverse ℕ) (xs ys : List (Reverse ℕ)) → IsPermut
     → IsUpperBound (λ a b. nat_cmp b.0 a.0) x xs → (first : ℕ) → IsFirst first (moments xs)
     → SameEnds (moments xs) (first ∷ moments ys)
 SameEnds-first x xs ys moved above first is =
-    subst (λ n. SameEnds (moments xs) (n ∷ moments ys)) (IsFirst-unique x.0 first (moments xs) (IsFirst-top x xs ys moved above) is) (SameEnds-popped x xs ys moved)
+    subst (λ n. SameEnds (moments xs) (n ∷ moments ys))
+    (IsFirst-unique x.0 first (moments xs) (IsFirst-top x xs ys moved above) is)
+    (SameEnds-popped x xs ys moved)

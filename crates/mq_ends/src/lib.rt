@@ -6,7 +6,8 @@
 //! are kept as there is room for.
 #![tactic(auto)]
 
-ghost use Rattle.std.specs.Prelude.{◌≡◌, ◌<◌, ◌≤◌, max, not, nat_le, [], ◌∷◌, length, filter, All, Contains, IfNone, IfSome, OnOk, OnErr};
+ghost use Rattle.std.specs.Prelude.{◌≡◌, ◌<◌, ◌≤◌, max, not, nat_le, [], ◌∷◌, length, filter, All};
+ghost use Rattle.std.specs.Prelude.{Contains, IfNone, IfSome, OnOk, OnErr};
 ghost use Rattle.mq_ends.specs.Counts.{SameEnds};
 
 mod pair;

@@ -1,5 +1,6 @@
 //! A heap of moments, with the earliest at its top.
-ghost use Rattle.std.specs.Prelude.{◌≡◌, ◌↔◌, ℕ, ◌+◌, ◌<◌, ◌≤◌, [], ◌∷◌, ◌++◌, length, IfNone, IfSome, OnOk, OnErr, IsTrue};
+ghost use Rattle.std.specs.Prelude.{◌≡◌, ◌↔◌, ℕ, ◌+◌, ◌<◌, ◌≤◌, [], ◌∷◌, ◌++◌, length, IfNone};
+ghost use Rattle.std.specs.Prelude.{IfSome, OnOk, OnErr, IsTrue};
 ghost use Rattle.mq_ends.specs.Counts.{IsFirst, SameEnds};
 
 use std::alloc::{AllocError, Global};

@@ -1,5 +1,6 @@
 -- What is put into an object without floats has none.
-use Rattle.std.proofs.Common.{◌≡◌, ℕ, List, [], ◌∷◌, Bool, true, false, ◌||◌, Ordering, Less, Equal, Greater, Result, Ok, Err, OnOk, OnErr, refl, nat_cmp}
+use Rattle.std.proofs.Common.{◌≡◌, ℕ, List, [], ◌∷◌, Bool, true, false, ◌||◌, Ordering, Less, Equal}
+use Rattle.std.proofs.Common.{Greater, Result, Ok, Err, OnOk, OnErr, refl, nat_cmp}
 use Rattle.std.specs.Cmp.Lexicographic.{slice_cmp}
 use Rattle.std.specs.Ordering.{match_ordering}
 use Rattle.serde_json.specs.Data.{Data, Members, no_members, member, put}
@@ -21,18 +22,23 @@ right_none true b h = absurd (let bad : true ≡ false = h in cc)
 pub both_none : (a b : Bool) → a ≡ false → b ≡ false → (a || b) ≡ false
 both_none a b p q = rw (p, q)
 
-chosen_none : (o : Ordering) (a b c : Members) → members_have_float a ≡ false → members_have_float b ≡ false → members_have_float c ≡ false → members_have_float (match_ordering o a b c) ≡ false
+chosen_none : (o : Ordering) (a b c : Members) → members_have_float a ≡ false
+    → members_have_float b ≡ false → members_have_float c ≡ false
+    → members_have_float (match_ordering o a b c) ≡ false
 chosen_none Less a b c p q r = p
 chosen_none Equal a b c p q r = q
 chosen_none Greater a b c p q r = r
 
-pub put_none : (k : List ℕ) (d : Data) (ms : Members) → has_float d ≡ false → members_have_float ms ≡ false → members_have_float (put k d ms) ≡ false
+pub put_none : (k : List ℕ) (d : Data) (ms : Members) → has_float d ≡ false
+    → members_have_float ms ≡ false → members_have_float (put k d ms) ≡ false
 put_none k d no_members p q = both_none (has_float d) false p refl
 put_none k d (member l e ms) p q =
     let here = left_none (has_float e) (members_have_float ms) q in
     let rest = right_none (has_float e) (members_have_float ms) q in
-    chosen_none (slice_cmp nat_cmp k l) (member k d (member l e ms)) (member l d ms) (member l e (put k d ms))
-    (both_none (has_float d) _ p q) (both_none (has_float d) _ p rest) (both_none (has_float e) _ here (put_none k d ms p rest))
+    chosen_none (slice_cmp nat_cmp k l) (member k d (member l e ms)) (member l d ms)
+    (member l e (put k d ms))
+    (both_none (has_float d) _ p q) (both_none (has_float d) _ p rest)
+    (both_none (has_float e) _ here (put_none k d ms p rest))
 
 pub numbers_none : (ns : List ℕ) → items_have_float (numbers_data ns) ≡ false
 numbers_none [] = refl

@@ -1,5 +1,6 @@
 -- What a walk over the values of an object leaves, if it writes data over them in turn.
-use Rattle.std.proofs.Common.{◌≡◌, ◌≤◌, List, [], ◌∷◌, length, Bool, true, false, suc, cond, map, String, Global, string_bytes, refl, sym, ap, arith}
+use Rattle.std.proofs.Common.{◌≡◌, ◌≤◌, List, [], ◌∷◌, length, Bool, true, false, suc, cond, map}
+use Rattle.std.proofs.Common.{String, Global, string_bytes, refl, sym, ap, arith}
 use Rattle.std.specs.List.{AllByRecursion}
 use Rattle.std.specs.Map.Calls.{RetainsPairs}
 use Rattle.serde_json.specs.Data.{Data}
@@ -20,38 +21,49 @@ Calls F = F → String Global → Value → Bool → Value → F → Type 0
 
 -- each of them writes the next of the data that are left to its state
 abbrev pub WritesInTurn : {F : Type 0} → Calls F → (F → List Data) → Type 0
-WritesInTurn {F} T todo = (f : F) (k : String Global) (v : Value) (b : Bool) (w : Value) (f' : F) → T f k v b w f'
+WritesInTurn {F} T todo = (f : F) (k : String Global) (v : Value) (b : Bool) (w : Value) (f' : F)
+    → T f k v b w f'
     → WritesNext (todo f) b (view w) (todo f')
 
-no_more : {F : Type 0} (T : Calls F) (todo : F → List Data) → WritesInTurn T todo → (f : F) (es kept : List Entry)
+no_more : {F : Type 0} (T : Calls F) (todo : F → List Data) → WritesInTurn T todo
+    → (f : F) (es kept : List Entry)
     → RetainsPairs T f es kept → length kept ≤ length (todo f)
 no_more T todo writes f [] kept r = rw r (omega arith)
 no_more T todo writes f (e ∷ es) kept r =
-    by_answer r.0 (todo f) (todo r.2) (view r.1) (e.0, r.1) r.3 (writes f e.0 e.1 r.0 r.1 r.2 r.4) r.6 (no_more T todo writes r.2 es r.3 r.5)
+    by_answer r.0 (todo f) (todo r.2) (view r.1) (e.0, r.1) r.3 (writes f e.0 e.1 r.0 r.1 r.2 r.4)
+    r.6 (no_more T todo writes r.2 es r.3 r.5)
   where
-    by_answer : (b : Bool) (ds later : List Data) (d : Data) (p : Entry) (rest : List Entry) → WritesNext ds b d later
+    by_answer : (b : Bool) (ds later : List Data) (d : Data) (p : Entry) (rest : List Entry)
+        → WritesNext ds b d later
         → kept ≡ cond b (p ∷ rest) rest → length rest ≤ length later → length kept ≤ length ds
     by_answer true ds later d p rest is left bound = rw (left, is) (omega (arith, bound))
-    by_answer false ds later d p rest none left bound = rw left (let empty = rw none at bound in omega (arith, empty))
+    by_answer false ds later d p rest none left bound =
+        rw left (let empty = rw none at bound in omega (arith, empty))
 
 -- a walk that kept all wrote all
 abbrev pub IsRefilled : List Entry → List Entry → List Data → Type 0
-IsRefilled es kept ds = (names_of (members_view kept) ≡ names_of (members_view es)) × (values_of (members_view kept) ≡ ds)
+IsRefilled es kept ds = (names_of (members_view kept) ≡ names_of (members_view es))
+    × (values_of (members_view kept) ≡ ds)
 
 nothing : (ds : List Data) → length ds ≡ 0 → [] ≡ ds
 nothing [] e = refl
 nothing (d ∷ ds) e = absurd (omega (arith, e))
 
-pub refilled : {F : Type 0} (T : Calls F) (todo : F → List Data) → WritesInTurn T todo → (f : F) (es kept : List Entry)
-    → RetainsPairs T f es kept → length kept ≡ length es → length es ≡ length (todo f) → IsRefilled es kept (todo f)
+pub refilled : {F : Type 0} (T : Calls F) (todo : F → List Data) → WritesInTurn T todo
+    → (f : F) (es kept : List Entry)
+    → RetainsPairs T f es kept → length kept ≡ length es → length es ≡ length (todo f)
+    → IsRefilled es kept (todo f)
 refilled T todo writes f [] kept r whole same = rw r (refl, nothing (todo f) (sym same))
 refilled T todo writes f (e ∷ es) kept r whole same =
     by_answer r.0 (todo f) (todo r.2) r.1 r.3 (writes f e.0 e.1 r.0 r.1 r.2 r.4) r.6 same
     (no_more T todo writes r.2 es r.3 r.5) (refilled T todo writes r.2 es r.3 r.5)
   where
-    by_answer : (b : Bool) (ds later : List Data) (w : Value) (rest : List Entry) → WritesNext ds b (view w) later
-        → kept ≡ cond b ((e.0, w) ∷ rest) rest → length (e ∷ es) ≡ length ds → length rest ≤ length later
-        → (length rest ≡ length es → length es ≡ length later → IsRefilled es rest later) → IsRefilled (e ∷ es) kept ds
+    by_answer : (b : Bool) (ds later : List Data) (w : Value) (rest : List Entry)
+        → WritesNext ds b (view w) later
+        → kept ≡ cond b ((e.0, w) ∷ rest) rest → length (e ∷ es) ≡ length ds
+        → length rest ≤ length later
+        → (length rest ≡ length es → length es ≡ length later → IsRefilled es rest later)
+        → IsRefilled (e ∷ es) kept ds
     by_answer true ds later w rest is left same bound more =
         let counted : length ((e.0, w) ∷ rest) ≡ length (e ∷ es) = rw left at whole in
         let matched : length (e ∷ es) ≡ length (view w ∷ later) = rw is at same in
@@ -66,19 +78,23 @@ refilled T todo writes f (e ∷ es) kept r whole same =
 abbrev pub NoFloats : List Data → Type 0
 NoFloats ds = AllByRecursion (λ d. has_float d ≡ false) ds
 
-pub refilled_none : {F : Type 0} (T : Calls F) (todo : F → List Data) → WritesInTurn T todo → (f : F) (es kept : List Entry)
+pub refilled_none : {F : Type 0} (T : Calls F) (todo : F → List Data) → WritesInTurn T todo
+    → (f : F) (es kept : List Entry)
     → RetainsPairs T f es kept → NoFloats (todo f) → members_have_float (members_view kept) ≡ false
 refilled_none T todo writes f [] kept r none = rw r refl
 refilled_none T todo writes f (e ∷ es) kept r none =
     by_answer r.0 (todo f) (todo r.2) r.1 r.3 (writes f e.0 e.1 r.0 r.1 r.2 r.4) r.6 none
     (refilled_none T todo writes r.2 es r.3 r.5)
   where
-    by_answer : (b : Bool) (ds later : List Data) (w : Value) (rest : List Entry) → WritesNext ds b (view w) later
+    by_answer : (b : Bool) (ds later : List Data) (w : Value) (rest : List Entry)
+        → WritesNext ds b (view w) later
         → kept ≡ cond b ((e.0, w) ∷ rest) rest → NoFloats ds
-        → (NoFloats later → members_have_float (members_view rest) ≡ false) → members_have_float (members_view kept) ≡ false
+        → (NoFloats later → members_have_float (members_view rest) ≡ false)
+        → members_have_float (members_view kept) ≡ false
     by_answer true ds later w rest is left none more =
         let parts : NoFloats (view w ∷ later) = rw is at none in
-        rw left (both_none (has_float (view w)) (members_have_float (members_view rest)) parts.0 (more parts.1))
+        rw left (both_none (has_float (view w)) (members_have_float (members_view rest)) parts.0
+        (more parts.1))
     by_answer false ds later w rest empty left none more = rw left (more (rw empty tt))
 
 pub data_none : (fs : List Datum) → NoFloats (map data_of fs)

@@ -1,5 +1,6 @@
 -- A value that is found.
-use Rattle.std.proofs.Common.{◌≡◌, ℕ, List, Option, Some, None, Bor, String, Global, Ordering, string_bytes, nat_cmp, refl, sym, ap, ◌∙◌}
+use Rattle.std.proofs.Common.{◌≡◌, ℕ, List, Option, Some, None, Bor, String, Global, Ordering}
+use Rattle.std.proofs.Common.{string_bytes, nat_cmp, refl, sym, ap, ◌∙◌}
 use Rattle.std.specs.Cmp.Lexicographic.{slice_cmp}
 use Rattle.std.specs.Map.{lookup}
 use Rattle.std.specs.BTreeMap.{is_at}
@@ -17,16 +18,19 @@ Entry = String Global × Value
 abbrev pub beside : List ℕ → String Global → Ordering
 beside name key = slice_cmp nat_cmp name (string_bytes key)
 
-pub seen : (o : Option (Bor Value)) → option_map (λ v. view v.now) o ≡ option_map view (option_copied o)
+pub seen : (o : Option (Bor Value)) → option_map (λ v. view v.now) o
+    ≡ option_map view (option_copied o)
 seen None = refl
 seen (Some v) = refl
 
-pub found : (name : List ℕ) (es : List Entry) (o : Option Value) → o ≡ lookup (is_at (beside name)) es
+pub found : (name : List ℕ) (es : List Entry) (o : Option Value)
+    → o ≡ lookup (is_at (beside name)) es
     → get_member name (members_view es) ≡ option_map view o
 found name es o is = sym (view-lookup name es) ∙ ap (option_map view) (sym is)
 
 -- a value that is no object has no word
-pub command_of-members : (d : Data) → command_of (object (unwrap_or (as_object d) no_members)) ≡ command_of d
+pub command_of-members : (d : Data) → command_of (object (unwrap_or (as_object d) no_members))
+    ≡ command_of d
 unfolding command_of
 command_of-members null = refl
 command_of-members (boolean b) = refl

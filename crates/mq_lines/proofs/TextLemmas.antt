@@ -6,11 +6,13 @@ use Rattle.serde_json.specs.Data.{Data}
 use Rattle.serde_json.specs.Read.{read}
 use Rattle.mq_lines.specs.Reading.{value_of}
 
-pub value_of-text : (line : List ℕ) (d : Data) → IsUtf8 line → read line ≡ Some d → value_of line ≡ Some d
+pub value_of-text : (line : List ℕ) (d : Data) → IsUtf8 line → read line ≡ Some d
+    → value_of line ≡ Some d
 unfolding value_of
 value_of-text line d text is = let e = is_utf8-from_IsUtf8 line text in rw e is
 
-refused_at : (line : List ℕ) → (IsUtf8 line → read line ≡ None) → (b : Bool) → is_utf8 line ≡ b → cond b (read line) None ≡ None
+refused_at : (line : List ℕ) → (IsUtf8 line → read line ≡ None) → (b : Bool) → is_utf8 line ≡ b
+    → cond b (read line) None ≡ None
 refused_at line h true e = h (IsUtf8-from_is_utf8 line e)
 refused_at line h false e = refl
 

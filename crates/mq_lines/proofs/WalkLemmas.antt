@@ -1,12 +1,18 @@
 -- Each command's fields, read in the order of their names.
-use Rattle.std.proofs.Common.{◌≡◌, ℕ, List, [], ◌∷◌, true, false, Option, Some, None, option_map, refl, rules, sym, ap, ◌∙◌}
+use Rattle.std.proofs.Common.{◌≡◌, ℕ, List, [], ◌∷◌, true, false, Option, Some, None, option_map}
+use Rattle.std.proofs.Common.{refl, rules, sym, ap, ◌∙◌}
 use Rattle.std.specs.Prelude.{Result, Ok, Err, codes}
 use Rattle.serde_json.specs.Data.{Data, object, Members}
 use Rattle.serde_json.specs.Find.{get}
 use Rattle.mq_lines.specs.Kept.{names_of}
-use Rattle.mq_world.specs.World.{Request, Connect, Disconnect, Subscribe, Unsubscribe, Publish, SetAcl, Advance, Stat}
-use Rattle.mq_lines.specs.Fields.{◌>>=◌, text, flag, unsigned, whole, of_kind, optional, required, defaulted, or_fault}
-use Rattle.mq_lines.specs.Reading.{connect_names, connect_fields, disconnect_fields, subscribe_names, subscribe_fields, unsubscribe_fields, publish_names, publish_fields, acl_fields, advance_fields, stat_fields}
+use Rattle.mq_world.specs.World.{Request, Connect, Disconnect, Subscribe, Unsubscribe, Publish}
+use Rattle.mq_world.specs.World.{SetAcl, Advance, Stat}
+use Rattle.mq_lines.specs.Fields.{◌>>=◌, text, flag, unsigned, whole, of_kind, optional, required}
+use Rattle.mq_lines.specs.Fields.{defaulted, or_fault}
+use Rattle.mq_lines.specs.Reading.{connect_names, connect_fields, disconnect_fields}
+use Rattle.mq_lines.specs.Reading.{subscribe_names, subscribe_fields, unsubscribe_fields}
+use Rattle.mq_lines.specs.Reading.{publish_names, publish_fields, acl_fields, advance_fields}
+use Rattle.mq_lines.specs.Reading.{stat_fields}
 use Rattle.mq_lines.specs.Ahead.{Ascends, ahead, end}
 use Rattle.mq_lines.specs.declared.fault.LineFault.{LineFault}
 use Rattle.mq_lines.specs.declared.fault.LineFault.TheVariants.{BadField}
@@ -22,7 +28,8 @@ sound_or_fault : {A : Type 0} (o : Option A) → Sound (or_fault BadField o)
 sound_or_fault (Some x) = tt
 sound_or_fault None = refl
 
-sound_then : {A B : Type 0} (r : Result A LineFault) (f : A → Result B LineFault) → Sound r → ((x : A) → Sound (f x)) → Sound (r >>= f)
+sound_then : {A B : Type 0} (r : Result A LineFault) (f : A → Result B LineFault) → Sound r
+    → ((x : A) → Sound (f x)) → Sound (r >>= f)
 sound_then (Ok x) f h later = later x
 sound_then (Err e) f h later = h
 
@@ -30,38 +37,48 @@ sound_kind : {A : Type 0} (kind : Data → Option A) (o : Option Data) → Sound
 sound_kind kind None = tt
 sound_kind kind (Some d) = sound_or_fault (option_map Some (kind d))
 
-sound_optional : {A : Type 0} (kind : Data → Option A) (n : List ℕ) (d : Data) → Sound (optional kind n d)
+sound_optional : {A : Type 0} (kind : Data → Option A) (n : List ℕ) (d : Data)
+    → Sound (optional kind n d)
 sound_optional kind n d = sound_kind kind (get n d)
 
-sound_required : {A : Type 0} (kind : Data → Option A) (n : List ℕ) (d : Data) → Sound (required kind n d)
-sound_required kind n d = sound_then (optional kind n d) (or_fault BadField) (sound_optional kind n d) sound_or_fault
+sound_required : {A : Type 0} (kind : Data → Option A) (n : List ℕ) (d : Data)
+    → Sound (required kind n d)
+sound_required kind n d = sound_then (optional kind n d) (or_fault BadField)
+    (sound_optional kind n d) sound_or_fault
 
-sound_defaulted : {A : Type 0} (a : A) (kind : Data → Option A) (n : List ℕ) (d : Data) → Sound (defaulted a kind n d)
+sound_defaulted : {A : Type 0} (a : A) (kind : Data → Option A) (n : List ℕ) (d : Data)
+    → Sound (defaulted a kind n d)
 sound_defaulted a kind n d = sound_then (optional kind n d) _ (sound_optional kind n d) (λ o. tt)
 
-faulty : {A B : Type 0} (r : Result A LineFault) (f : A → Result B LineFault) (e : LineFault) → Sound r → e ≡ BadField → ((x : A)
+faulty : {A B : Type 0} (r : Result A LineFault) (f : A → Result B LineFault) (e : LineFault)
+    → Sound r → e ≡ BadField → ((x : A)
     → f x ≡ Err e) → (r >>= f) ≡ Err e
 faulty (Ok x) f e p q h = h x
 faulty (Err d) f e p q h = ap Err (p ∙ sym q)
 
-faulty_now : {A B : Type 0} (r : Result A LineFault) (f : A → Result B LineFault) → r ≡ Err BadField → (r >>= f) ≡ Err BadField
+faulty_now : {A B : Type 0} (r : Result A LineFault) (f : A → Result B LineFault) → r ≡ Err BadField
+    → (r >>= f) ≡ Err BadField
 faulty_now r f h = ap (λ s. s >>= f) h
 
 -- ---- each command
 
 abbrev connect_order : List (List ℕ)
-connect_order = codes "clean" ∷ codes "client" ∷ codes "do" ∷ codes "session_expiry" ∷ codes "user" ∷ []
+connect_order = codes "clean" ∷ codes "client" ∷ codes "do" ∷ codes "session_expiry" ∷ codes "user"
+    ∷ []
 
 abbrev pub connect_walk : Members → Result Request LineFault
 connect_walk ms = do
   clean ← defaulted true flag (codes "clean") (ahead ms)
   client ← required text (codes "client") (ahead (left (codes "clean" ∷ []) ms))
-  session_expiry ← defaulted 0 (whole 0 4294967295) (codes "session_expiry") (ahead (left (codes "clean" ∷ codes "client" ∷ codes "do" ∷ []) ms))
-  user ← optional text (codes "user") (ahead (left (codes "clean" ∷ codes "client" ∷ codes "do" ∷ codes "session_expiry" ∷ []) ms))
+  session_expiry ← defaulted 0 (whole 0 4294967295) (codes "session_expiry")
+      (ahead (left (codes "clean" ∷ codes "client" ∷ codes "do" ∷ []) ms))
+  user ← optional text (codes "user")
+      (ahead (left (codes "clean" ∷ codes "client" ∷ codes "do" ∷ codes "session_expiry" ∷ []) ms))
   ended ← end (left connect_order ms)
   Ok (Connect client user clean session_expiry)
 
-connect_reordered : {A B C D Y : Type 0} (clean : Result A LineFault) (client : Result B LineFault) (session_expiry : Result C LineFault)
+connect_reordered : {A B C D Y : Type 0} (clean : Result A LineFault) (client : Result B LineFault)
+    (session_expiry : Result C LineFault)
     (user : Result D LineFault)
     (f : A → B → C → D → Y)
     → Sound clean → Sound client → Sound session_expiry → Sound user
@@ -72,7 +89,8 @@ connect_reordered (Ok x0) (Err e) session_expiry user f h0 h1 h2 h3 = refl
 connect_reordered (Ok x0) (Ok x1) (Err e) user f h0 h1 h2 h3 = search (rules, faulty)
 connect_reordered (Ok x0) (Ok x1) (Ok x2) user f h0 h1 h2 h3 = refl
 
-pub connect_walked : (ms : Members) → Ascends (names_of ms) → connect_fields (object ms) ≡ connect_walk ms
+pub connect_walked : (ms : Members) → Ascends (names_of ms)
+    → connect_fields (object ms) ≡ connect_walk ms
 unfolding connect_fields
 connect_walked ms sorted = walked connect_names connect_order ms _ (connect_walk ms) refl sorted
     (λ a. rw (
@@ -81,8 +99,11 @@ connect_walked ms sorted = walked connect_names connect_order ms _ (connect_walk
       a.1.1.1.0,
       a.1.1.1.1.0,
       a.1.1.1.1.1,
-    ) (connect_reordered _ _ _ _ _ (sound_defaulted true flag (codes "clean") (object ms)) (sound_required text
-    (codes "client") (object ms)) (sound_defaulted 0 (whole 0 4294967295) (codes "session_expiry") (object ms)) (sound_optional text
+    ) (connect_reordered _ _ _ _ _ (sound_defaulted true flag (codes "clean") (object ms))
+    (sound_required text
+    (codes "client") (object ms))
+    (sound_defaulted 0 (whole 0 4294967295) (codes "session_expiry") (object ms))
+    (sound_optional text
     (codes "user") (object ms))))
     (λ e. search (faulty, faulty_now, sound_required, sound_optional, sound_defaulted) depth 12)
 
@@ -95,27 +116,35 @@ disconnect_walk ms = do
   ended ← end (left disconnect_order ms)
   Ok (Disconnect client)
 
-pub disconnect_walked : (ms : Members) → Ascends (names_of ms) → disconnect_fields (object ms) ≡ disconnect_walk ms
+pub disconnect_walked : (ms : Members) → Ascends (names_of ms)
+    → disconnect_fields (object ms) ≡ disconnect_walk ms
 unfolding disconnect_fields
-disconnect_walked ms sorted = walked (codes "do" ∷ codes "client" ∷ []) disconnect_order ms _ (disconnect_walk ms) refl sorted
+disconnect_walked ms sorted = walked (codes "do" ∷ codes "client" ∷ []) disconnect_order ms _
+    (disconnect_walk ms) refl sorted
     (λ a. rw (a.0, a.1.1))
     (λ e. search (faulty, faulty_now, sound_required))
 
 abbrev subscribe_order : List (List ℕ)
-subscribe_order = codes "client" ∷ codes "do" ∷ codes "filter" ∷ codes "handling" ∷ codes "id" ∷ codes "no_local" ∷ codes "qos" ∷ codes "rap" ∷ []
+subscribe_order = codes "client" ∷ codes "do" ∷ codes "filter" ∷ codes "handling" ∷ codes "id"
+    ∷ codes "no_local" ∷ codes "qos" ∷ codes "rap" ∷ []
 
 abbrev pub subscribe_walk : Members → Result Request LineFault
 subscribe_walk ms = do
   client ← required text (codes "client") (ahead ms)
   filter ← required text (codes "filter") (ahead (left (codes "client" ∷ codes "do" ∷ []) ms))
-  handling ← defaulted 0 (whole 0 2) (codes "handling") (ahead (left (codes "client" ∷ codes "do" ∷ codes "filter" ∷ []) ms))
-  id ← optional (whole 1 268435455) (codes "id") (ahead (left (codes "client" ∷ codes "do" ∷ codes "filter" ∷ codes "handling" ∷ []) ms))
+  handling ← defaulted 0 (whole 0 2) (codes "handling")
+      (ahead (left (codes "client" ∷ codes "do" ∷ codes "filter" ∷ []) ms))
+  id ← optional (whole 1 268435455) (codes "id")
+      (ahead (left (codes "client" ∷ codes "do" ∷ codes "filter" ∷ codes "handling" ∷ []) ms))
   no_local ← defaulted false flag (codes "no_local")
-      (ahead (left (codes "client" ∷ codes "do" ∷ codes "filter" ∷ codes "handling" ∷ codes "id" ∷ []) ms))
+      (ahead (left (codes "client" ∷ codes "do" ∷ codes "filter" ∷ codes "handling" ∷ codes "id"
+      ∷ []) ms))
   qos ← defaulted 0 (whole 0 2) (codes "qos")
-      (ahead (left (codes "client" ∷ codes "do" ∷ codes "filter" ∷ codes "handling" ∷ codes "id" ∷ codes "no_local" ∷ []) ms))
+      (ahead (left (codes "client" ∷ codes "do" ∷ codes "filter" ∷ codes "handling" ∷ codes "id"
+      ∷ codes "no_local" ∷ []) ms))
   rap ← defaulted false flag (codes "rap")
-      (ahead (left (codes "client" ∷ codes "do" ∷ codes "filter" ∷ codes "handling" ∷ codes "id" ∷ codes "no_local" ∷ codes "qos" ∷ []) ms))
+      (ahead (left (codes "client" ∷ codes "do" ∷ codes "filter" ∷ codes "handling" ∷ codes "id"
+      ∷ codes "no_local" ∷ codes "qos" ∷ []) ms))
   ended ← end (left subscribe_order ms)
   Ok (Subscribe client filter (record {
     qos = qos;
@@ -125,24 +154,34 @@ subscribe_walk ms = do
     identifier = id;
   }))
 
-subscribe_reordered : {A B C D E F G Y : Type 0} (client : Result A LineFault) (filter : Result B LineFault)
-    (handling : Result C LineFault) (id : Result D LineFault) (no_local : Result E LineFault) (qos : Result F LineFault)
+subscribe_reordered : {A B C D E F G Y : Type 0} (client : Result A LineFault)
+    (filter : Result B LineFault)
+    (handling : Result C LineFault) (id : Result D LineFault) (no_local : Result E LineFault)
+    (qos : Result F LineFault)
     (rap : Result G LineFault)
     (f : A → B → C → D → E → F → G → Y)
-    → Sound client → Sound filter → Sound handling → Sound id → Sound no_local → Sound qos → Sound rap
-    → (client >>= λ x0. filter >>= λ x1. qos >>= λ x5. no_local >>= λ x4. rap >>= λ x6. handling >>= λ x2. id >>= λ x3. Ok (f x0 x1 x2 x3 x4 x5 x6))
-    ≡ (client >>= λ x0. filter >>= λ x1. handling >>= λ x2. id >>= λ x3. no_local >>= λ x4. qos >>= λ x5. rap >>= λ x6. Ok
+    → Sound client → Sound filter → Sound handling → Sound id → Sound no_local → Sound qos
+    → Sound rap
+    → (client >>= λ x0. filter >>= λ x1. qos >>= λ x5. no_local >>= λ x4. rap >>= λ x6. handling >>=
+    λ x2. id >>= λ x3. Ok (f x0 x1 x2 x3 x4 x5 x6))
+    ≡ (client >>= λ x0. filter >>= λ x1. handling >>= λ x2. id >>= λ x3. no_local >>= λ x4. qos >>=
+    λ x5. rap >>= λ x6. Ok
     (f x0 x1 x2 x3 x4 x5 x6))
 subscribe_reordered (Err e) filter handling id no_local qos rap f h0 h1 h2 h3 h4 h5 h6 = refl
 subscribe_reordered (Ok x0) (Err e) handling id no_local qos rap f h0 h1 h2 h3 h4 h5 h6 = refl
-subscribe_reordered (Ok x0) (Ok x1) (Err e) id no_local qos rap f h0 h1 h2 h3 h4 h5 h6 = search (rules, faulty)
-subscribe_reordered (Ok x0) (Ok x1) (Ok x2) (Err e) no_local qos rap f h0 h1 h2 h3 h4 h5 h6 = search (rules, faulty)
-subscribe_reordered (Ok x0) (Ok x1) (Ok x2) (Ok x3) (Err e) qos rap f h0 h1 h2 h3 h4 h5 h6 = search (rules, faulty)
+subscribe_reordered (Ok x0) (Ok x1) (Err e) id no_local qos rap f h0 h1 h2 h3 h4 h5 h6 =
+    search (rules, faulty)
+subscribe_reordered (Ok x0) (Ok x1) (Ok x2) (Err e) no_local qos rap f h0 h1 h2 h3 h4 h5 h6 =
+    search (rules, faulty)
+subscribe_reordered (Ok x0) (Ok x1) (Ok x2) (Ok x3) (Err e) qos rap f h0 h1 h2 h3 h4 h5 h6 =
+    search (rules, faulty)
 subscribe_reordered (Ok x0) (Ok x1) (Ok x2) (Ok x3) (Ok x4) qos rap f h0 h1 h2 h3 h4 h5 h6 = refl
 
-pub subscribe_walked : (ms : Members) → Ascends (names_of ms) → subscribe_fields (object ms) ≡ subscribe_walk ms
+pub subscribe_walked : (ms : Members) → Ascends (names_of ms)
+    → subscribe_fields (object ms) ≡ subscribe_walk ms
 unfolding subscribe_fields
-subscribe_walked ms sorted = walked subscribe_names subscribe_order ms _ (subscribe_walk ms) refl sorted
+subscribe_walked ms sorted = walked subscribe_names subscribe_order ms _ (subscribe_walk ms) refl
+    sorted
     (λ a. rw (
       a.0,
       a.1.1.0,
@@ -152,9 +191,12 @@ subscribe_walked ms sorted = walked subscribe_names subscribe_order ms _ (subscr
       a.1.1.1.1.1.1.0,
       a.1.1.1.1.1.1.1.0,
       a.1.1.1.1.1.1.1.1,
-    ) (subscribe_reordered _ _ _ _ _ _ _ _ (sound_required text (codes "client") (object ms)) (sound_required text
-    (codes "filter") (object ms)) (sound_defaulted 0 (whole 0 2) (codes "handling") (object ms)) (sound_optional (whole 1 268435455)
-    (codes "id") (object ms)) (sound_defaulted false flag (codes "no_local") (object ms)) (sound_defaulted 0 (whole 0 2) (codes "qos")
+    ) (subscribe_reordered _ _ _ _ _ _ _ _ (sound_required text (codes "client") (object ms))
+    (sound_required text
+    (codes "filter") (object ms)) (sound_defaulted 0 (whole 0 2) (codes "handling") (object ms))
+    (sound_optional (whole 1 268435455)
+    (codes "id") (object ms)) (sound_defaulted false flag (codes "no_local") (object ms))
+    (sound_defaulted 0 (whole 0 2) (codes "qos")
     (object ms)) (sound_defaulted false flag (codes "rap") (object ms))))
     (λ e. search (faulty, faulty_now, sound_required, sound_optional, sound_defaulted) depth 12)
 
@@ -168,23 +210,32 @@ unsubscribe_walk ms = do
   ended ← end (left unsubscribe_order ms)
   Ok (Unsubscribe client filter)
 
-pub unsubscribe_walked : (ms : Members) → Ascends (names_of ms) → unsubscribe_fields (object ms) ≡ unsubscribe_walk ms
+pub unsubscribe_walked : (ms : Members) → Ascends (names_of ms)
+    → unsubscribe_fields (object ms) ≡ unsubscribe_walk ms
 unfolding unsubscribe_fields
-unsubscribe_walked ms sorted = walked (codes "do" ∷ codes "client" ∷ codes "filter" ∷ []) unsubscribe_order ms _ (unsubscribe_walk ms) refl sorted
+unsubscribe_walked ms sorted = walked (codes "do" ∷ codes "client" ∷ codes "filter" ∷ [])
+    unsubscribe_order ms _ (unsubscribe_walk ms) refl sorted
     (λ a. rw (a.0, a.1.1.0, a.1.1.1))
     (λ e. search (faulty, faulty_now, sound_required))
 
 abbrev publish_order : List (List ℕ)
-publish_order = codes "client" ∷ codes "do" ∷ codes "expiry" ∷ codes "payload" ∷ codes "qos" ∷ codes "retain" ∷ codes "topic" ∷ []
+publish_order = codes "client" ∷ codes "do" ∷ codes "expiry" ∷ codes "payload" ∷ codes "qos"
+    ∷ codes "retain" ∷ codes "topic" ∷ []
 
 abbrev pub publish_walk : Members → Result Request LineFault
 publish_walk ms = do
   client ← required text (codes "client") (ahead ms)
-  expiry ← optional (whole 0 4294967295) (codes "expiry") (ahead (left (codes "client" ∷ codes "do" ∷ []) ms))
-  payload ← defaulted [] text (codes "payload") (ahead (left (codes "client" ∷ codes "do" ∷ codes "expiry" ∷ []) ms))
-  qos ← defaulted 0 (whole 0 2) (codes "qos") (ahead (left (codes "client" ∷ codes "do" ∷ codes "expiry" ∷ codes "payload" ∷ []) ms))
-  retain ← defaulted false flag (codes "retain") (ahead (left (codes "client" ∷ codes "do" ∷ codes "expiry" ∷ codes "payload" ∷ codes "qos" ∷ []) ms))
-  topic ← required text (codes "topic") (ahead (left (codes "client" ∷ codes "do" ∷ codes "expiry" ∷ codes "payload" ∷ codes "qos"
+  expiry ← optional (whole 0 4294967295) (codes "expiry")
+      (ahead (left (codes "client" ∷ codes "do" ∷ []) ms))
+  payload ← defaulted [] text (codes "payload")
+      (ahead (left (codes "client" ∷ codes "do" ∷ codes "expiry" ∷ []) ms))
+  qos ← defaulted 0 (whole 0 2) (codes "qos")
+      (ahead (left (codes "client" ∷ codes "do" ∷ codes "expiry" ∷ codes "payload" ∷ []) ms))
+  retain ← defaulted false flag (codes "retain")
+      (ahead (left (codes "client" ∷ codes "do" ∷ codes "expiry" ∷ codes "payload" ∷ codes "qos"
+      ∷ []) ms))
+  topic ← required text (codes "topic")
+      (ahead (left (codes "client" ∷ codes "do" ∷ codes "expiry" ∷ codes "payload" ∷ codes "qos"
       ∷ codes "retain" ∷ []) ms))
   ended ← end (left publish_order ms)
   Ok (Publish (record {
@@ -196,20 +247,28 @@ publish_walk ms = do
     expiry = expiry;
   }))
 
-publish_reordered : {A B C D E F Y : Type 0} (client : Result A LineFault) (expiry : Result B LineFault) (payload : Result C LineFault)
+publish_reordered : {A B C D E F Y : Type 0} (client : Result A LineFault)
+    (expiry : Result B LineFault) (payload : Result C LineFault)
     (qos : Result D LineFault) (retain : Result E LineFault) (topic : Result F LineFault)
     (f : A → B → C → D → E → F → Y)
     → Sound client → Sound expiry → Sound payload → Sound qos → Sound retain → Sound topic
-    → (client >>= λ x0. topic >>= λ x5. payload >>= λ x2. qos >>= λ x3. retain >>= λ x4. expiry >>= λ x1. Ok (f x0 x1 x2 x3 x4 x5))
-    ≡ (client >>= λ x0. expiry >>= λ x1. payload >>= λ x2. qos >>= λ x3. retain >>= λ x4. topic >>= λ x5. Ok (f x0 x1 x2 x3 x4 x5))
+    → (client >>= λ x0. topic >>= λ x5. payload >>= λ x2. qos >>= λ x3. retain >>= λ x4. expiry >>=
+    λ x1. Ok (f x0 x1 x2 x3 x4 x5))
+    ≡ (client >>= λ x0. expiry >>= λ x1. payload >>= λ x2. qos >>= λ x3. retain >>= λ x4. topic >>=
+    λ x5. Ok (f x0 x1 x2 x3 x4 x5))
 publish_reordered (Err e) expiry payload qos retain topic f h0 h1 h2 h3 h4 h5 = refl
-publish_reordered (Ok x0) (Err e) payload qos retain topic f h0 h1 h2 h3 h4 h5 = search (rules, faulty)
-publish_reordered (Ok x0) (Ok x1) (Err e) qos retain topic f h0 h1 h2 h3 h4 h5 = search (rules, faulty)
-publish_reordered (Ok x0) (Ok x1) (Ok x2) (Err e) retain topic f h0 h1 h2 h3 h4 h5 = search (rules, faulty)
-publish_reordered (Ok x0) (Ok x1) (Ok x2) (Ok x3) (Err e) topic f h0 h1 h2 h3 h4 h5 = search (rules, faulty)
+publish_reordered (Ok x0) (Err e) payload qos retain topic f h0 h1 h2 h3 h4 h5 =
+    search (rules, faulty)
+publish_reordered (Ok x0) (Ok x1) (Err e) qos retain topic f h0 h1 h2 h3 h4 h5 =
+    search (rules, faulty)
+publish_reordered (Ok x0) (Ok x1) (Ok x2) (Err e) retain topic f h0 h1 h2 h3 h4 h5 =
+    search (rules, faulty)
+publish_reordered (Ok x0) (Ok x1) (Ok x2) (Ok x3) (Err e) topic f h0 h1 h2 h3 h4 h5 =
+    search (rules, faulty)
 publish_reordered (Ok x0) (Ok x1) (Ok x2) (Ok x3) (Ok x4) topic f h0 h1 h2 h3 h4 h5 = refl
 
-pub publish_walked : (ms : Members) → Ascends (names_of ms) → publish_fields (object ms) ≡ publish_walk ms
+pub publish_walked : (ms : Members) → Ascends (names_of ms)
+    → publish_fields (object ms) ≡ publish_walk ms
 unfolding publish_fields
 publish_walked ms sorted = walked publish_names publish_order ms _ (publish_walk ms) refl sorted
     (λ a. rw (
@@ -220,9 +279,12 @@ publish_walked ms sorted = walked publish_names publish_order ms _ (publish_walk
       a.1.1.1.1.1.0,
       a.1.1.1.1.1.1.0,
       a.1.1.1.1.1.1.1,
-    ) (publish_reordered _ _ _ _ _ _ _ (sound_required text (codes "client") (object ms)) (sound_optional
-    (whole 0 4294967295) (codes "expiry") (object ms)) (sound_defaulted [] text (codes "payload") (object ms)) (sound_defaulted 0
-    (whole 0 2) (codes "qos") (object ms)) (sound_defaulted false flag (codes "retain") (object ms)) (sound_required text
+    ) (publish_reordered _ _ _ _ _ _ _ (sound_required text (codes "client") (object ms))
+    (sound_optional
+    (whole 0 4294967295) (codes "expiry") (object ms))
+    (sound_defaulted [] text (codes "payload") (object ms)) (sound_defaulted 0
+    (whole 0 2) (codes "qos") (object ms)) (sound_defaulted false flag (codes "retain") (object ms))
+    (sound_required text
     (codes "topic") (object ms))))
     (λ e. search (faulty, faulty_now, sound_required, sound_optional, sound_defaulted) depth 12)
 
@@ -237,7 +299,8 @@ acl_walk ms = do
 
 pub acl_walked : (ms : Members) → Ascends (names_of ms) → acl_fields (object ms) ≡ acl_walk ms
 unfolding acl_fields
-acl_walked ms sorted = walked (codes "do" ∷ codes "text" ∷ []) acl_order ms _ (acl_walk ms) refl sorted
+acl_walked ms sorted = walked (codes "do" ∷ codes "text" ∷ []) acl_order ms _ (acl_walk ms) refl
+    sorted
     (λ a. rw (a.1.0, a.1.1))
     (λ e. search (faulty, faulty_now, sound_optional))
 
@@ -250,9 +313,11 @@ advance_walk ms = do
   ended ← end (left advance_order ms)
   Ok (Advance seconds)
 
-pub advance_walked : (ms : Members) → Ascends (names_of ms) → advance_fields (object ms) ≡ advance_walk ms
+pub advance_walked : (ms : Members) → Ascends (names_of ms)
+    → advance_fields (object ms) ≡ advance_walk ms
 unfolding advance_fields
-advance_walked ms sorted = walked (codes "do" ∷ codes "seconds" ∷ []) advance_order ms _ (advance_walk ms) refl sorted
+advance_walked ms sorted = walked (codes "do" ∷ codes "seconds" ∷ []) advance_order ms _
+    (advance_walk ms) refl sorted
     (λ a. rw (a.1.0, a.1.1))
     (λ e. search (faulty, faulty_now, sound_required))
 

@@ -1,5 +1,6 @@
 -- Copies of one message that differ in their clients alone, and what the printed objects have of them.
-use Rattle.std.specs.Prelude.{◌≡◌, ℕ, List, Bool, true, false, Option, Some, None, IfSome, is_some, codes}
+use Rattle.std.specs.Prelude.{◌≡◌, ℕ, List, Bool, true, false, Option, Some, None, IfSome, is_some}
+use Rattle.std.specs.Prelude.{codes}
 use Rattle.serde_json.specs.Data.{string, Members, put}
 use Rattle.serde_json.specs.View.{members_view}
 use Rattle.mq_world.specs.World.{Copy}
@@ -28,11 +29,14 @@ held plain ids expiry group false true true = None
 held plain ids expiry group true true true = None
 
 abbrev pub held_for : Copy → (plain ids expiry group : Object) → Option Members
-held_for c plain ids expiry group = held plain ids expiry group (is_some (numbers_if c.identifiers)) (is_some c.expiry) (is_some c.group)
+held_for c plain ids expiry group =
+    held plain ids expiry group (is_some (numbers_if c.identifiers)) (is_some c.expiry)
+    (is_some c.group)
 
 -- the object for such copies has the line of this one, or of one that differs in its client alone
 abbrev pub Keeps : ℕ → Copy → (plain ids expiry group : Object) → Type 0
-Keeps k c plain ids expiry group = IfSome (held_for c plain ids expiry group) (λ ms. ms ≡ copy_members k c)
+Keeps k c plain ids expiry group =
+    IfSome (held_for c plain ids expiry group) (λ ms. ms ≡ copy_members k c)
 
 abbrev pub Follows : ℕ → Copy → (plain ids expiry group : Object) → Type 0
 Follows k c plain ids expiry group = IfSome (held_for c plain ids expiry group) (IsBehind k c)

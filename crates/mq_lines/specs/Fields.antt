@@ -1,14 +1,17 @@
 -- The fields of a command: their kind, their range, and what an absent one means.
-use Rattle.std.specs.Prelude.{ℕ, ◌≡◌, ◌&&◌, List, Bool, true, false, nat_le, if◌then◌else◌, Option, Some, None, option_map, option_and_then, unwrap_or, Result, Ok, Err}
+use Rattle.std.specs.Prelude.{ℕ, ◌≡◌, ◌&&◌, List, Bool, true, false, nat_le, if◌then◌else◌, Option}
+use Rattle.std.specs.Prelude.{Some, None, option_map, option_and_then, unwrap_or, Result, Ok, Err}
 use Rattle.std.specs.List.{list_any}
 use Rattle.std.specs.Str.{bytes_eq}
 use Rattle.serde_json.specs.Data.{Data, Members, no_members, member}
 use Rattle.serde_json.specs.Find.{get, as_object, as_str, as_bool, as_number, as_u64}
 use Rattle.mq_lines.specs.declared.fault.LineFault.{LineFault}
-use Rattle.mq_lines.specs.declared.fault.LineFault.TheVariants.{LineTooLong, BadJson, BadCommand, BadField, Memory}
+use Rattle.mq_lines.specs.declared.fault.LineFault.TheVariants.{LineTooLong, BadJson, BadCommand}
+use Rattle.mq_lines.specs.declared.fault.LineFault.TheVariants.{BadField, Memory}
 
 infixl 10 ◌>>=◌
-abbrev pub ◌>>=◌ : {A B : Type 0} → Result A LineFault → (A → Result B LineFault) → Result B LineFault
+abbrev pub ◌>>=◌ : {A B : Type 0} → Result A LineFault → (A → Result B LineFault)
+    → Result B LineFault
 (Ok x) >>= f = f x
 (Err e) >>= f = Err e
 

@@ -33,7 +33,8 @@ copy_names p =
     codes "client" ∷ name_if p.expiry (codes "expiry") (
     name_if p.group (codes "filter") (
     name_if p.ids (codes "ids") (
-    codes "line" ∷ codes "payload" ∷ codes "qos" ∷ codes "retain" ∷ name_if p.group (codes "share") (
+    codes "line" ∷ codes "payload" ∷ codes "qos" ∷ codes "retain"
+    ∷ name_if p.group (codes "share") (
     codes "topic" ∷ []))))
 
 abbrev pub parts : (ids expiry group : Bool) → Parts
@@ -46,7 +47,8 @@ unfoldable pub reason_names : List (List ℕ)
 reason_names = codes "line" ∷ codes "reason" ∷ []
 
 unfoldable pub report_names : (acl_line : Bool) → List (List ℕ)
-report_names acl_line = name_if acl_line (codes "acl_line") (codes "code" ∷ codes "line" ∷ codes "refused" ∷ [])
+report_names acl_line = name_if acl_line (codes "acl_line")
+    (codes "code" ∷ codes "line" ∷ codes "refused" ∷ [])
 
 abbrev pub data_of : Datum → Data
 data_of (Text text) = string text.now

@@ -2,7 +2,8 @@
 use Rattle.std.specs.Prelude.{ℕ, List, [], ◌∷◌, ◌++◌, Option, Some, None, codes, map}
 use Rattle.std.specs.Option.{option_map}
 use Rattle.std.specs.List.{flat_map}
-use Rattle.serde_json.specs.Data.{Data, boolean, number, unsigned, string, array, object, Items, Members, no_members, put}
+use Rattle.serde_json.specs.Data.{Data, boolean, number, unsigned, string, array, object, Items}
+use Rattle.serde_json.specs.Data.{Members, no_members, put}
 use Rattle.serde_json.specs.View.{items_of}
 use Rattle.serde_json.specs.Written.{compact_text}
 use Rattle.mq_world.specs.World.{Copy, Reply}
@@ -95,7 +96,8 @@ refusal_report refused.TopicName = plain 8 (codes "TopicName")
 refusal_report refused.TopicFilter = plain 9 (codes "TopicFilter")
 refusal_report refused.SharedNoLocal = plain 10 (codes "SharedNoLocal")
 refusal_report refused.NotAuthorized = plain 11 (codes "NotAuthorized")
-refusal_report (refused.AclLine line) = Some (record { code = 12; name = codes "AclLine"; acl_line = Some line })
+refusal_report (refused.AclLine line) =
+    Some (record { code = 12; name = codes "AclLine"; acl_line = Some line })
 refusal_report refused.ClockTooFar = plain 13 (codes "ClockTooFar")
 refusal_report refused.RetainedFull = plain 14 (codes "RetainedFull")
 refusal_report refused.Memory = None

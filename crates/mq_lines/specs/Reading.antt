@@ -1,19 +1,25 @@
 -- What a line of a script says.
-use Rattle.std.specs.Prelude.{ℕ, ◌==◌, ◌||◌, List, [], ◌∷◌, length, Bool, true, false, nat_lt, if◌then◌else◌, Option, Some, None, option_and_then, Result, Ok, Err, codes}
+use Rattle.std.specs.Prelude.{ℕ, ◌==◌, ◌||◌, List, [], ◌∷◌, length, Bool, true, false, nat_lt}
+use Rattle.std.specs.Prelude.{if◌then◌else◌, Option, Some, None, option_and_then, Result, Ok, Err}
+use Rattle.std.specs.Prelude.{codes}
 use Rattle.std.specs.List.{list_all}
 use Rattle.std.specs.Str.{bytes_eq, is_utf8}
 use Rattle.serde_json.specs.Data.{Data}
 use Rattle.serde_json.specs.Find.{get, as_str}
 use Rattle.serde_json.specs.Read.{read}
-use Rattle.mq_world.specs.World.{Request, Connect, Disconnect, Subscribe, Unsubscribe, Publish, SetAcl, Advance, Stat}
-use Rattle.mq_lines.specs.Fields.{◌>>=◌, text, flag, unsigned, whole, optional, required, defaulted, has_only, or_fault}
+use Rattle.mq_world.specs.World.{Request, Connect, Disconnect, Subscribe, Unsubscribe, Publish}
+use Rattle.mq_world.specs.World.{SetAcl, Advance, Stat}
+use Rattle.mq_lines.specs.Fields.{◌>>=◌, text, flag, unsigned, whole, optional, required, defaulted}
+use Rattle.mq_lines.specs.Fields.{has_only, or_fault}
 use Rattle.mq_lines.specs.declared.fault.LineFault.{LineFault}
-use Rattle.mq_lines.specs.declared.fault.LineFault.TheVariants.{LineTooLong, BadJson, BadCommand, BadField}
+use Rattle.mq_lines.specs.declared.fault.LineFault.TheVariants.{LineTooLong, BadJson, BadCommand}
+use Rattle.mq_lines.specs.declared.fault.LineFault.TheVariants.{BadField}
 
 -- ## The fields of each command
 
 abbrev pub connect_names : List (List ℕ)
-connect_names = codes "do" ∷ codes "client" ∷ codes "user" ∷ codes "clean" ∷ codes "session_expiry" ∷ []
+connect_names = codes "do" ∷ codes "client" ∷ codes "user" ∷ codes "clean" ∷ codes "session_expiry"
+    ∷ []
 
 unfoldable pub connect_fields : Data → Result Request LineFault
 connect_fields d = if has_only connect_names d then (do
@@ -30,7 +36,8 @@ disconnect_fields d = if has_only (codes "do" ∷ codes "client" ∷ []) d then 
 
 abbrev pub subscribe_names : List (List ℕ)
 subscribe_names =
-    codes "do" ∷ codes "client" ∷ codes "filter" ∷ codes "qos" ∷ codes "no_local" ∷ codes "rap" ∷ codes "handling" ∷ codes "id" ∷ []
+    codes "do" ∷ codes "client" ∷ codes "filter" ∷ codes "qos" ∷ codes "no_local" ∷ codes "rap"
+    ∷ codes "handling" ∷ codes "id" ∷ []
 
 unfoldable pub subscribe_fields : Data → Result Request LineFault
 subscribe_fields d = if has_only subscribe_names d then (do
@@ -57,7 +64,8 @@ unsubscribe_fields d = if has_only (codes "do" ∷ codes "client" ∷ codes "fil
 
 abbrev pub publish_names : List (List ℕ)
 publish_names =
-    codes "do" ∷ codes "client" ∷ codes "topic" ∷ codes "payload" ∷ codes "qos" ∷ codes "retain" ∷ codes "expiry" ∷ []
+    codes "do" ∷ codes "client" ∷ codes "topic" ∷ codes "payload" ∷ codes "qos" ∷ codes "retain"
+    ∷ codes "expiry" ∷ []
 
 unfoldable pub publish_fields : Data → Result Request LineFault
 publish_fields d = if has_only publish_names d then (do

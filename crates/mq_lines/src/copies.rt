@@ -39,8 +39,10 @@ fn put_copy(
     line: u64,
     delivery: &Delivery,
 ) -> Result<(), AllocError>
-    requires { IsFor (copy_names (parts_of (copy_of delivery.now))) (members_view object.old.members.entries) }
-    ensures { OnOk result (members_view object.new.members.entries ≡ copy_members line (copy_of delivery.now)) }
+    requires { IsFor (copy_names (parts_of (copy_of delivery.now)))
+        (members_view object.old.members.entries) }
+    ensures { OnOk result (members_view object.new.members.entries
+        ≡ copy_members line (copy_of delivery.now)) }
 {
     object.text(alloc, "client", delivery.client.as_str())?;
     object.number(alloc, "line", line)?;
@@ -63,8 +65,10 @@ fn set_copy(
     line: u64,
     delivery: &Delivery,
 ) -> Result<(), AllocError>
-    requires { IsFor (copy_names (parts_of (copy_of delivery.now))) (members_view object.old.members.entries) }
-    ensures { OnOk result (members_view object.new.members.entries ≡ copy_members line (copy_of delivery.now)) }
+    requires { IsFor (copy_names (parts_of (copy_of delivery.now)))
+        (members_view object.old.members.entries) }
+    ensures { OnOk result (members_view object.new.members.entries
+        ≡ copy_members line (copy_of delivery.now)) }
 {
     if object.is_empty() {
         return put_copy(alloc, object, line, delivery);
@@ -125,9 +129,12 @@ fn set_line(
     delivery: &Delivery,
     follows: bool,
 ) -> Result<(), AllocError>
-    requires fits { IsFor (copy_names (parts_of (copy_of delivery.now))) (members_view object.old.members.entries) }
-    requires follows { IsTrue follows → IsBehind line (copy_of delivery.now) (members_view object.old.members.entries) }
-    ensures { OnOk result (members_view object.new.members.entries ≡ copy_members line (copy_of delivery.now)) }
+    requires fits { IsFor (copy_names (parts_of (copy_of delivery.now)))
+        (members_view object.old.members.entries) }
+    requires follows { IsTrue follows
+        → IsBehind line (copy_of delivery.now) (members_view object.old.members.entries) }
+    ensures { OnOk result (members_view object.new.members.entries
+        ≡ copy_members line (copy_of delivery.now)) }
 {
     if follows {
         return object.text(alloc, "client", delivery.client.as_str());
@@ -143,12 +150,17 @@ fn print_copy(
     follows: bool,
     out: &mut Vec<u8>,
 ) -> Result<(), AllocError>
-    requires fits { IsFor (copy_names (parts_of (copy_of delivery.now))) (members_view kept.old.members.entries) }
-    requires follows { IsTrue follows → IsBehind line (copy_of delivery.now) (members_view kept.old.members.entries) }
-    ensures ok { OnOk result (out.new.items ≡ out.old.items ++ copy_text line (copy_of delivery.now)) }
+    requires fits { IsFor (copy_names (parts_of (copy_of delivery.now)))
+        (members_view kept.old.members.entries) }
+    requires follows { IsTrue follows
+        → IsBehind line (copy_of delivery.now) (members_view kept.old.members.entries) }
+    ensures ok { OnOk result (out.new.items ≡ out.old.items
+        ++ copy_text line (copy_of delivery.now)) }
     ensures err { OnErr result (out.new.items ≡ out.old.items) }
-    ensures fits { IsFor (copy_names (parts_of (copy_of delivery.now))) (members_view kept.new.members.entries) }
-    ensures kept { OnOk result (members_view kept.new.members.entries ≡ copy_members line (copy_of delivery.now)) }
+    ensures fits { IsFor (copy_names (parts_of (copy_of delivery.now)))
+        (members_view kept.new.members.entries) }
+    ensures kept { OnOk result (members_view kept.new.members.entries
+        ≡ copy_members line (copy_of delivery.now)) }
 {
     let mut object = kept.take(alloc);
     set_line(alloc, &mut object, line, delivery, follows)?;
@@ -162,13 +174,17 @@ fn print_copy(
 #[derive(Drop)]
 pub struct Copies {
     plain: Object,
-    ghost plain_names: { IsFor (copy_names (parts false false false)) (members_view plain.members.entries) },
+    ghost plain_names: { IsFor (copy_names (parts false false false))
+        (members_view plain.members.entries) },
     with_ids: Object,
-    ghost ids_names: { IsFor (copy_names (parts true false false)) (members_view with_ids.members.entries) },
+    ghost ids_names: { IsFor (copy_names (parts true false false))
+        (members_view with_ids.members.entries) },
     with_expiry: Object,
-    ghost expiry_names: { IsFor (copy_names (parts false true false)) (members_view with_expiry.members.entries) },
+    ghost expiry_names: { IsFor (copy_names (parts false true false))
+        (members_view with_expiry.members.entries) },
     with_group: Object,
-    ghost group_names: { IsFor (copy_names (parts false false true)) (members_view with_group.members.entries) },
+    ghost group_names: { IsFor (copy_names (parts false false true))
+        (members_view with_group.members.entries) },
 }
 
 impl Copies {
@@ -189,11 +205,14 @@ impl Copies {
         follows: bool,
         out: &mut Vec<u8>,
     ) -> Result<(), AllocError>
-        requires { IsTrue follows → Follows line (copy_of delivery.now) self.old.plain self.old.with_ids self.old.with_expiry self.old.with_group }
-        ensures ok { OnOk result (out.new.items ≡ out.old.items ++ copy_text line (copy_of delivery.now)) }
+        requires { IsTrue follows → Follows line (copy_of delivery.now) self.old.plain
+            self.old.with_ids self.old.with_expiry self.old.with_group }
+        ensures ok { OnOk result (out.new.items ≡ out.old.items
+            ++ copy_text line (copy_of delivery.now)) }
         ensures err { OnErr result (out.new.items ≡ out.old.items) }
         ensures kept { OnOk result
-            (Keeps line (copy_of delivery.now) self.new.plain self.new.with_ids self.new.with_expiry self.new.with_group) }
+            (Keeps line (copy_of delivery.now) self.new.plain self.new.with_ids self.new.with_expiry
+            self.new.with_group) }
     {
         match (delivery.ids.is_empty(), delivery.expiry, &delivery.group) {
             (true, None, None) => print_copy(alloc, &mut self.plain, line, delivery, follows, out),
@@ -219,7 +238,8 @@ impl Copies {
         all: &[Delivery],
         out: &mut Vec<u8>,
     ) -> Result<(), AllocError>
-        ensures ok { OnOk result (out.new.items ≡ out.old.items ++ flat_map (copy_text line) (map copy_of all.now)) }
+        ensures ok { OnOk result (out.new.items ≡ out.old.items
+            ++ flat_map (copy_text line) (map copy_of all.now)) }
         ensures err { OnErr result ((more : List ℕ) × (out.new.items ≡ out.old.items ++ more)) }
     {
         let mut before: Option<&Delivery> = None;

@@ -36,7 +36,8 @@ impl Datum<'_> {
 /// Writes a text over a value. The memory of a text that is there is used again.
 pub fn set_text(alloc: Global, slot: &mut Value, text: &str) -> Result<(), AllocError>
     ensures ok { OnOk result (view slot.new ≡ string text.now) }
-    ensures err { OnErr result (has_float (view slot.old) ≡ false → has_float (view slot.new) ≡ false) }
+    ensures err { OnErr result (has_float (view slot.old) ≡ false
+        → has_float (view slot.new) ≡ false) }
 {
     if let Value::String(held) = slot {
         held.clear();
@@ -68,7 +69,8 @@ pub fn numbers_value(alloc: Global, numbers: &[u32]) -> Result<Value, AllocError
 }
 
 fn push_numbers(list: &mut Vec<Value>, numbers: &[u32]) -> Result<(), AllocError>
-    ensures { OnOk result (map view list.new.items ≡ map view list.old.items ++ map whole_data numbers.now) }
+    ensures { OnOk result (map view list.new.items ≡ map view list.old.items
+        ++ map whole_data numbers.now) }
 {
     for n in numbers {
         list.push(Value::from(u64::from(*n)))?;

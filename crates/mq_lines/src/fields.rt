@@ -2,7 +2,8 @@
 ghost use Rattle.std.specs.Prelude.{◌≡◌, ◌≤◌, [], false, IfOk, IfSome, option_map, string_bytes};
 ghost use Rattle.serde_json.specs.View.{view, members_view};
 ghost use Rattle.serde_json.specs.Find.{get, get_member};
-ghost use Rattle.mq_lines.specs.Fields.{Gives, text as text_kind, flag as flag_kind, unsigned, whole, optional, required, defaulted};
+ghost use Rattle.mq_lines.specs.Fields.{Gives, text as text_kind, flag as flag_kind, unsigned};
+ghost use Rattle.mq_lines.specs.Fields.{whole, optional, required, defaulted};
 ghost use Rattle.mq_lines.specs.Kept.{names_of};
 ghost use Rattle.mq_lines.specs.Ahead.{Ascends, ahead, past, end as ending, members_left};
 
@@ -14,7 +15,8 @@ use std::mem;
 
 /// The value under a name, if there is one.
 pub fn field<'a>(members: &'a Map<String, Value>, name: &str) -> Option<&'a Value>
-    ensures { option_map (λ v. view v.now) result ≡ get_member name.now (members_view members.now.entries) }
+    ensures { option_map (λ v. view v.now) result
+        ≡ get_member name.now (members_view members.now.entries) }
 {
     members.get(name)
 }
@@ -39,7 +41,8 @@ impl<'a> Fields<'a> {
 
     // The value under the name, if the next member has it.
     fn take(&mut self, name: &str) -> Option<&'a mut Value>
-        ensures value { option_map (λ v. view v.now) result ≡ get name.now (ahead (members_left self.old)) }
+        ensures value { option_map (λ v. view v.now) result
+            ≡ get name.now (ahead (members_left self.old)) }
         ensures left { members_left self.new ≡ past name.now (members_left self.old) }
     {
         let Some((key, _)) = &self.next else {
@@ -64,7 +67,8 @@ impl<'a> Fields<'a> {
 
     /// A text, if it is there.
     pub fn optional_text(&mut self, name: &str) -> Result<Option<String>, LineFault>
-        ensures value { Gives (option_map string_bytes) result (optional text_kind name.now (ahead (members_left self.old))) }
+        ensures value { Gives (option_map string_bytes) result
+            (optional text_kind name.now (ahead (members_left self.old))) }
         ensures left { members_left self.new ≡ past name.now (members_left self.old) }
     {
         let Some(field) = self.take(name) else {
@@ -78,7 +82,8 @@ impl<'a> Fields<'a> {
 
     /// A text, which must be there.
     pub fn required_text(&mut self, name: &str) -> Result<String, LineFault>
-        ensures value { Gives string_bytes result (required text_kind name.now (ahead (members_left self.old))) }
+        ensures value { Gives string_bytes result
+            (required text_kind name.now (ahead (members_left self.old))) }
         ensures left { members_left self.new ≡ past name.now (members_left self.old) }
     {
         match self.optional_text(name)? {
@@ -89,7 +94,8 @@ impl<'a> Fields<'a> {
 
     /// A text, and the empty one where it is absent.
     pub fn text_or_empty(&mut self, alloc: Global, name: &str) -> Result<String, LineFault>
-        ensures value { Gives string_bytes result (defaulted [] text_kind name.now (ahead (members_left self.old))) }
+        ensures value { Gives string_bytes result
+            (defaulted [] text_kind name.now (ahead (members_left self.old))) }
         ensures left { members_left self.new ≡ past name.now (members_left self.old) }
     {
         match self.optional_text(name)? {
@@ -100,7 +106,8 @@ impl<'a> Fields<'a> {
 
     /// True or false, and `absent` where it is absent.
     pub fn flag_or(&mut self, name: &str, absent: bool) -> Result<bool, LineFault>
-        ensures value { Gives (λ b. b) result (defaulted absent flag_kind name.now (ahead (members_left self.old))) }
+        ensures value { Gives (λ b. b) result
+            (defaulted absent flag_kind name.now (ahead (members_left self.old))) }
         ensures left { members_left self.new ≡ past name.now (members_left self.old) }
     {
         let Some(field) = self.take(name) else {
@@ -114,7 +121,8 @@ impl<'a> Fields<'a> {
 
     /// True or false, and false where it is absent.
     pub fn is_set(&mut self, name: &str) -> Result<bool, LineFault>
-        ensures value { Gives (λ b. b) result (defaulted false flag_kind name.now (ahead (members_left self.old))) }
+        ensures value { Gives (λ b. b) result
+            (defaulted false flag_kind name.now (ahead (members_left self.old))) }
         ensures left { members_left self.new ≡ past name.now (members_left self.old) }
     {
         self.flag_or(name, false)
@@ -122,7 +130,8 @@ impl<'a> Fields<'a> {
 
     /// A whole number up to `high`, and 0 where it is absent.
     pub fn number_or_zero(&mut self, name: &str, high: u8) -> Result<u8, LineFault>
-        ensures value { Gives (λ n. n) result (defaulted 0 (whole 0 high) name.now (ahead (members_left self.old))) }
+        ensures value { Gives (λ n. n) result
+            (defaulted 0 (whole 0 high) name.now (ahead (members_left self.old))) }
         ensures range { IfOk result (λ n. n ≤ high) }
         ensures left { members_left self.new ≡ past name.now (members_left self.old) }
     {
@@ -142,7 +151,8 @@ impl<'a> Fields<'a> {
         low: u32,
         high: u32,
     ) -> Result<Option<u32>, LineFault>
-        ensures value { Gives (λ o. o) result (optional (whole low high) name.now (ahead (members_left self.old))) }
+        ensures value { Gives (λ o. o) result
+            (optional (whole low high) name.now (ahead (members_left self.old))) }
         ensures range { IfOk result (λ o. IfSome o (λ n. (low ≤ n) × (n ≤ high))) }
         ensures left { members_left self.new ≡ past name.now (members_left self.old) }
     {
@@ -157,7 +167,8 @@ impl<'a> Fields<'a> {
 
     /// A whole number, which must be there.
     pub fn required_number(&mut self, name: &str) -> Result<u64, LineFault>
-        ensures value { Gives (λ n. n) result (required unsigned name.now (ahead (members_left self.old))) }
+        ensures value { Gives (λ n. n) result
+            (required unsigned name.now (ahead (members_left self.old))) }
         ensures left { members_left self.new ≡ past name.now (members_left self.old) }
     {
         let Some(field) = self.take(name) else {

@@ -1,12 +1,14 @@
 //! An object that is printed as a line.
-ghost use Rattle.std.specs.Prelude.{◌≡◌, ◌↔◌, ◌++◌, ◌∷◌, [], false, map, length, drop, IsTrue, OnOk, OnErr, unwrap_or};
+ghost use Rattle.std.specs.Prelude.{◌≡◌, ◌↔◌, ◌++◌, ◌∷◌, [], false, map, length, drop, IsTrue};
+ghost use Rattle.std.specs.Prelude.{OnOk, OnErr, unwrap_or};
 ghost use Rattle.std.specs.Option.{option_copied};
 ghost use Rattle.serde_json.specs.Data.{string, boolean, no_members, put};
 ghost use Rattle.serde_json.specs.Find.{as_object};
 ghost use Rattle.serde_json.specs.View.{view, members_view};
 ghost use Rattle.serde_json.specs.Written.{members_have_float, has_float};
 ghost use Rattle.mq_lines.specs.Kept.{names_of, values_of, data_of, WritesNext};
-ghost use Rattle.mq_lines.specs.Printed.{put_if, whole_data, text_if, whole_if, numbers_if, line_text};
+ghost use Rattle.mq_lines.specs.Printed.{put_if, whole_data, text_if, whole_if, numbers_if};
+ghost use Rattle.mq_lines.specs.Printed.{line_text};
 
 use crate::datum::{Datum, numbers_value, set_text};
 use serde_json::{Map, Value};
@@ -53,7 +55,8 @@ impl Object {
         let mut next = 0;
         self.members.retain(
             move |_, slot|
-                ensures { WritesNext (map data_of (drop next.entry row.entry.now)) result (view slot.new)
+                ensures { WritesNext (map data_of (drop next.entry row.entry.now)) result
+                    (view slot.new)
                     (map data_of (drop next.exit row.exit.now)) }
             {
                 let Some(datum) = row.get(next) else {
@@ -104,7 +107,8 @@ impl Object {
         text: Option<&str>,
     ) -> Result<(), AllocError>
         ensures { OnOk result (members_view self.new.members.entries
-            ≡ put_if name.now (text_if (option_copied text.entry)) (members_view self.old.members.entries)) }
+            ≡ put_if name.now (text_if (option_copied text.entry))
+            (members_view self.old.members.entries)) }
     {
         match text {
             Some(text) => self.text(alloc, name, text),
@@ -164,9 +168,11 @@ impl Object {
 
     /// Adds the line. An error leaves the text as it is. The members stay.
     pub fn print(&mut self, alloc: Global, out: &mut Vec<u8>) -> Result<(), AllocError>
-        ensures ok { OnOk result (out.new.items ≡ out.old.items ++ line_text (members_view self.old.members.entries)) }
+        ensures ok { OnOk result (out.new.items ≡ out.old.items
+            ++ line_text (members_view self.old.members.entries)) }
         ensures err { OnErr result (out.new.items ≡ out.old.items) }
-        ensures same { members_view self.new.members.entries ≡ members_view self.old.members.entries }
+        ensures same { members_view self.new.members.entries
+            ≡ members_view self.old.members.entries }
     {
         let value = Value::Object(mem::replace(&mut self.members, Map::new(alloc)));
         let written = value.to_vec(alloc);

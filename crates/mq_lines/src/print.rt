@@ -16,7 +16,8 @@ pub fn print_answer(
     answer: &Answer,
     out: &mut Vec<u8>,
 ) -> Result<(), AllocError>
-    ensures ok { OnOk result (out.new.items ≡ out.old.items ++ answer_text line (reply_of answer.now)) }
+    ensures ok { OnOk result (out.new.items ≡ out.old.items
+        ++ answer_text line (reply_of answer.now)) }
     ensures err { OnErr result (out.new.items ≡ out.old.items) }
 {
     Printer::new(alloc).answer(alloc, line, answer, out)

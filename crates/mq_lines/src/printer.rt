@@ -6,7 +6,8 @@ ghost use Rattle.serde_json.specs.View.{members_view};
 ghost use Rattle.mq_world.specs.Views.{reply_of};
 ghost use Rattle.mq_world.specs.declared.answer.Outcome.TheVariants.{Reason, Counts};
 ghost use Rattle.mq_lines.specs.Printed.{answer_text, line_text, closing_members};
-ghost use Rattle.mq_lines.specs.Printed.{report_members, report_text, report_of, refusal_text, fault_text};
+ghost use Rattle.mq_lines.specs.Printed.{report_members, report_text, report_of, refusal_text};
+ghost use Rattle.mq_lines.specs.Printed.{fault_text};
 ghost use Rattle.mq_lines.specs.Kept.{IsFor, reason_names, report_names};
 
 use crate::copies::Copies;
@@ -20,7 +21,8 @@ use std::alloc::{AllocError, Global};
 #[tactic(auto, unfolding(crate::specs::Printed::closing_members, crate::specs::Kept::reason_names))]
 fn set_reason(alloc: Global, object: &mut Object, line: u64, reason: u8) -> Result<(), AllocError>
     requires { IsFor reason_names (members_view object.old.members.entries) }
-    ensures { OnOk result (members_view object.new.members.entries ≡ closing_members line (Reason reason)) }
+    ensures { OnOk result (members_view object.new.members.entries
+        ≡ closing_members line (Reason reason)) }
 {
     let code = u64::from(reason);
     if object.is_empty() {
@@ -39,7 +41,8 @@ fn print_reason(
     out: &mut Vec<u8>,
 ) -> Result<(), AllocError>
     requires { IsFor reason_names (members_view kept.old.members.entries) }
-    ensures ok { OnOk result (out.new.items ≡ out.old.items ++ line_text (closing_members line (Reason reason))) }
+    ensures ok { OnOk result (out.new.items ≡ out.old.items
+        ++ line_text (closing_members line (Reason reason))) }
     ensures err { OnErr result (out.new.items ≡ out.old.items) }
     ensures kept { IsFor reason_names (members_view kept.new.members.entries) }
 {
@@ -59,7 +62,8 @@ fn print_counts(
     subscriptions: u64,
     out: &mut Vec<u8>,
 ) -> Result<(), AllocError>
-    ensures ok { OnOk result (out.new.items ≡ out.old.items ++ line_text (closing_members line (Counts nodes retained subscriptions))) }
+    ensures ok { OnOk result (out.new.items ≡ out.old.items
+        ++ line_text (closing_members line (Counts nodes retained subscriptions))) }
     ensures err { OnErr result (out.new.items ≡ out.old.items) }
 {
     let mut object = Object::new(alloc);
@@ -76,8 +80,10 @@ fn put_report(
     line: u64,
     report: Reported,
 ) -> Result<(), AllocError>
-    requires { IsFor (report_names (is_some report.acl_line)) (members_view object.old.members.entries) }
-    ensures { OnOk result (members_view object.new.members.entries ≡ report_members line (report_of report)) }
+    requires { IsFor (report_names (is_some report.acl_line))
+        (members_view object.old.members.entries) }
+    ensures { OnOk result (members_view object.new.members.entries
+        ≡ report_members line (report_of report)) }
 {
     object.number(alloc, "code", u64::from(report.code))?;
     object.number(alloc, "line", line)?;
@@ -92,8 +98,10 @@ fn set_report(
     line: u64,
     report: Reported,
 ) -> Result<(), AllocError>
-    requires { IsFor (report_names (is_some report.acl_line)) (members_view object.old.members.entries) }
-    ensures { OnOk result (members_view object.new.members.entries ≡ report_members line (report_of report)) }
+    requires { IsFor (report_names (is_some report.acl_line))
+        (members_view object.old.members.entries) }
+    ensures { OnOk result (members_view object.new.members.entries
+        ≡ report_members line (report_of report)) }
 {
     if report.acl_line.is_some() || object.is_empty() {
         return put_report(alloc, object, line, report);
@@ -112,10 +120,13 @@ fn print_report(
     report: Reported,
     out: &mut Vec<u8>,
 ) -> Result<(), AllocError>
-    requires { IsFor (report_names (is_some report.acl_line)) (members_view kept.old.members.entries) }
-    ensures ok { OnOk result (out.new.items ≡ out.old.items ++ line_text (report_members line (report_of report))) }
+    requires { IsFor (report_names (is_some report.acl_line))
+        (members_view kept.old.members.entries) }
+    ensures ok { OnOk result (out.new.items ≡ out.old.items
+        ++ line_text (report_members line (report_of report))) }
     ensures err { OnErr result (out.new.items ≡ out.old.items) }
-    ensures kept { IsFor (report_names (is_some report.acl_line)) (members_view kept.new.members.entries) }
+    ensures kept { IsFor (report_names (is_some report.acl_line))
+        (members_view kept.new.members.entries) }
 {
     let mut object = kept.take(alloc);
     set_report(alloc, &mut object, line, report)?;
@@ -151,7 +162,8 @@ impl Printer {
         outcome: Outcome,
         out: &mut Vec<u8>,
     ) -> Result<(), AllocError>
-        ensures ok { OnOk result (out.new.items ≡ out.old.items ++ line_text (closing_members line outcome)) }
+        ensures ok { OnOk result (out.new.items ≡ out.old.items
+            ++ line_text (closing_members line outcome)) }
         ensures err { OnErr result (out.new.items ≡ out.old.items) }
     {
         match outcome {
@@ -171,7 +183,8 @@ impl Printer {
         answer: &Answer,
         out: &mut Vec<u8>,
     ) -> Result<(), AllocError>
-        ensures ok { OnOk result (out.new.items ≡ out.old.items ++ answer_text line (reply_of answer.now)) }
+        ensures ok { OnOk result (out.new.items ≡ out.old.items
+            ++ answer_text line (reply_of answer.now)) }
         ensures err { OnErr result ((more : List ℕ) × (out.new.items ≡ out.old.items ++ more)) }
     {
         self.copies
@@ -188,7 +201,8 @@ impl Printer {
         answer: &Answer,
         out: &mut Vec<u8>,
     ) -> Result<(), AllocError>
-        ensures ok { OnOk result (out.new.items ≡ out.old.items ++ answer_text line (reply_of answer.now)) }
+        ensures ok { OnOk result (out.new.items ≡ out.old.items
+            ++ answer_text line (reply_of answer.now)) }
         ensures err { OnErr result (out.new.items ≡ out.old.items) }
     {
         let before = out.len();
@@ -208,7 +222,8 @@ impl Printer {
         report: Option<Reported>,
         out: &mut Vec<u8>,
     ) -> Result<(), AllocError>
-        ensures ok { OnOk result (out.new.items ≡ out.old.items ++ report_text line (option_map report_of report)) }
+        ensures ok { OnOk result (out.new.items ≡ out.old.items
+            ++ report_text line (option_map report_of report)) }
         ensures err { OnErr result (out.new.items ≡ out.old.items) }
     {
         let Some(report) = report else {

@@ -5,7 +5,8 @@ ghost use Rattle.serde_json.specs.View.{view, members_view};
 ghost use Rattle.mq_world.specs.Views.{request_of};
 ghost use Rattle.mq_world.specs.Refusals.{is_valid};
 ghost use Rattle.mq_lines.specs.Fields.{Gives, or_fault};
-ghost use Rattle.mq_lines.specs.Reading.{connect_fields, disconnect_fields, subscribe_fields, unsubscribe_fields};
+ghost use Rattle.mq_lines.specs.Reading.{connect_fields, disconnect_fields, subscribe_fields};
+ghost use Rattle.mq_lines.specs.Reading.{unsubscribe_fields};
 ghost use Rattle.mq_lines.specs.Reading.{publish_fields, acl_fields, advance_fields, stat_fields};
 ghost use Rattle.mq_lines.specs.Reading.{command_of, value_of, reading, is_blank as blank};
 
@@ -26,7 +27,8 @@ const MOST_HANDLING: u8 = 2;
 const MOST_ID: u32 = 268_435_455;
 
 fn connect(members: &mut Map<String, Value>) -> Result<Command, LineFault>
-    ensures value { Gives request_of result (connect_fields (object (members_view members.old.entries))) }
+    ensures value { Gives request_of result
+        (connect_fields (object (members_view members.old.entries))) }
     ensures valid { IfOk result (λ c. IsTrue (is_valid (request_of c))) }
 {
     let mut fields = Fields::of(members);
@@ -45,7 +47,8 @@ fn connect(members: &mut Map<String, Value>) -> Result<Command, LineFault>
 }
 
 fn disconnect(members: &mut Map<String, Value>) -> Result<Command, LineFault>
-    ensures value { Gives request_of result (disconnect_fields (object (members_view members.old.entries))) }
+    ensures value { Gives request_of result
+        (disconnect_fields (object (members_view members.old.entries))) }
     ensures valid { IfOk result (λ c. IsTrue (is_valid (request_of c))) }
 {
     let mut fields = Fields::of(members);
@@ -56,7 +59,8 @@ fn disconnect(members: &mut Map<String, Value>) -> Result<Command, LineFault>
 }
 
 fn subscribe(members: &mut Map<String, Value>) -> Result<Command, LineFault>
-    ensures value { Gives request_of result (subscribe_fields (object (members_view members.old.entries))) }
+    ensures value { Gives request_of result
+        (subscribe_fields (object (members_view members.old.entries))) }
     ensures valid { IfOk result (λ c. IsTrue (is_valid (request_of c))) }
 {
     let mut fields = Fields::of(members);
@@ -81,7 +85,8 @@ fn subscribe(members: &mut Map<String, Value>) -> Result<Command, LineFault>
 }
 
 fn unsubscribe(members: &mut Map<String, Value>) -> Result<Command, LineFault>
-    ensures value { Gives request_of result (unsubscribe_fields (object (members_view members.old.entries))) }
+    ensures value { Gives request_of result
+        (unsubscribe_fields (object (members_view members.old.entries))) }
     ensures valid { IfOk result (λ c. IsTrue (is_valid (request_of c))) }
 {
     let mut fields = Fields::of(members);
@@ -93,7 +98,8 @@ fn unsubscribe(members: &mut Map<String, Value>) -> Result<Command, LineFault>
 }
 
 fn publish(alloc: Global, members: &mut Map<String, Value>) -> Result<Command, LineFault>
-    ensures value { Gives request_of result (publish_fields (object (members_view members.old.entries))) }
+    ensures value { Gives request_of result
+        (publish_fields (object (members_view members.old.entries))) }
     ensures valid { IfOk result (λ c. IsTrue (is_valid (request_of c))) }
 {
     let mut fields = Fields::of(members);
@@ -129,7 +135,8 @@ fn acl(members: &mut Map<String, Value>) -> Result<Command, LineFault>
 
 #[tactic(auto, using(crate::proofs::WalkLemmas::advance_walked))]
 fn advance(members: &mut Map<String, Value>) -> Result<Command, LineFault>
-    ensures value { Gives request_of result (advance_fields (object (members_view members.old.entries))) }
+    ensures value { Gives request_of result
+        (advance_fields (object (members_view members.old.entries))) }
     ensures valid { IfOk result (λ c. IsTrue (is_valid (request_of c))) }
 {
     let mut fields = Fields::of(members);
@@ -141,7 +148,8 @@ fn advance(members: &mut Map<String, Value>) -> Result<Command, LineFault>
 
 #[tactic(auto, using(crate::proofs::WalkLemmas::stat_walked))]
 fn stat(members: &mut Map<String, Value>) -> Result<Command, LineFault>
-    ensures value { Gives request_of result (stat_fields (object (members_view members.old.entries))) }
+    ensures value { Gives request_of result
+        (stat_fields (object (members_view members.old.entries))) }
     ensures valid { IfOk result (λ c. IsTrue (is_valid (request_of c))) }
 {
     let mut fields = Fields::of(members);

@@ -1,6 +1,8 @@
 //! How a refused line is told.
 ghost use Rattle.std.specs.Prelude.{◌≡◌, option_map};
-ghost use Rattle.mq_lines.specs.Printed.{report_of, plain as plain_report, refusal_report as report_of_refusal, fault_report as report_of_fault};
+ghost use Rattle.mq_lines.specs.Printed.{report_of, plain as plain_report};
+ghost use Rattle.mq_lines.specs.Printed.{refusal_report as report_of_refusal};
+ghost use Rattle.mq_lines.specs.Printed.{fault_report as report_of_fault};
 
 use crate::fault::LineFault;
 use mq_world::Refusal;

@@ -1,5 +1,6 @@
 -- The pairs of the index by deadline: one that joins, one that leaves, and the first one.
-use Rattle.std.proofs.Common.{◌≡◌, ◌<◌, ◌≤◌, ℕ, eqb, Bool, true, false, ◌&&◌, ◌||◌, not, List, [], ◌∷◌, map, Some, None, refl, sym, ◌∙◌, ap, arith}
+use Rattle.std.proofs.Common.{◌≡◌, ◌<◌, ◌≤◌, ℕ, eqb, Bool, true, false, ◌&&◌, ◌||◌, not, List, []}
+use Rattle.std.proofs.Common.{◌∷◌, map, Some, None, refl, sym, ◌∙◌, ap, arith}
 use Rattle.std.specs.declared.cmp.Ordering.{Ordering}
 use Rattle.std.specs.declared.cmp.Ordering.TheVariants.{Less, Equal, Greater}
 use Rattle.std.specs.Ordering.{is_eq, is_gt, on, then_cmp, nat_cmp, match_ordering}
@@ -58,34 +59,49 @@ tied-pairs a b h = pair-is b.deadline b.topic (due_of a) (sym (tied_is a b) ∙ 
 
 -- ## A pair that joins
 
-pub has-insert : (due : Due) (dues : List Due) (d : ℕ) (topic : Text) → has_pair d topic (map due_of (insert_key due_cmp dues due)) ≡ (is_pair d topic (due_of due) || has_pair d topic (map due_of dues))
+pub has-insert : (due : Due) (dues : List Due) (d : ℕ) (topic : Text)
+    → has_pair d topic (map due_of (insert_key due_cmp dues due))
+    ≡ (is_pair d topic (due_of due) || has_pair d topic (map due_of dues))
 has-insert due [] d topic = refl
 has-insert due (x ∷ xs) d topic =
-    let P : Ordering → Type 0 = λ r. due_cmp due x ≡ r → has_pair d topic (map due_of (match_ordering r (due ∷ x ∷ xs) (x ∷ xs) (x ∷ insert_key due_cmp xs due))) ≡ (is_pair d topic (due_of due) || has_pair d topic (map due_of (x ∷ xs))) in
+    let P : Ordering → Type 0 = λ r. due_cmp due x ≡ r
+    → has_pair d topic
+    (map due_of (match_ordering r (due ∷ x ∷ xs) (x ∷ xs) (x ∷ insert_key due_cmp xs due)))
+    ≡ (is_pair d topic (due_of due) || has_pair d topic (map due_of (x ∷ xs))) in
     let rest : Bool = has_pair d topic (map due_of xs) in
     (elim (due_cmp due x) as P [
       | Less ↦ λ h. refl
-      | Equal ↦ λ h. or_again (is_pair d topic (due_of x)) rest ∙ ap (λ p. is_pair d topic p || (is_pair d topic (due_of x) || rest)) (sym (tied-pairs due x h))
-      | Greater ↦ λ h. ap (λ b. is_pair d topic (due_of x) || b) (has-insert due xs d topic) ∙ or_swapped (is_pair d topic (due_of x)) (is_pair d topic (due_of due)) rest
+      | Equal ↦ λ h. or_again (is_pair d topic (due_of x)) rest
+          ∙ ap (λ p. is_pair d topic p || (is_pair d topic (due_of x) || rest))
+          (sym (tied-pairs due x h))
+      | Greater ↦ λ h. ap (λ b. is_pair d topic (due_of x) || b) (has-insert due xs d topic)
+          ∙ or_swapped (is_pair d topic (due_of x)) (is_pair d topic (due_of due)) rest
     ]) refl
 
 -- ## A pair that leaves
 
-apart : (due x y : Due) → is_at (due_cmp due) x ≡ true → due_cmp x y ≡ Less → is_at (due_cmp due) y ≡ false
+apart : (due x y : Due) → is_at (due_cmp due) x ≡ true → due_cmp x y ≡ Less
+    → is_at (due_cmp due) y ≡ false
 apart due x y h k = ap is_eq (due_total.congr due x y (equal_from _ h) ∙ k)
 
-removed-is : (due : Due) (dues : List Due) → IsStrictlySortedBy due_cmp dues → remove_key (is_at (due_cmp due)) dues ≡ filter (λ x. not (is_at (due_cmp due) x)) dues
+removed-is : (due : Due) (dues : List Due) → IsStrictlySortedBy due_cmp dues
+    → remove_key (is_at (due_cmp due)) dues ≡ filter (λ x. not (is_at (due_cmp due) x)) dues
 removed-is due dues s = remove_key-filter due_cmp (is_at (due_cmp due)) (apart due) dues s
 
-pub has-remove : (due : Due) (dues : List Due) → IsStrictlySortedBy due_cmp dues → Drops (Some (due_of due)) (map due_of dues) (map due_of (remove_key (is_at (due_cmp due)) dues))
+pub has-remove : (due : Due) (dues : List Due) → IsStrictlySortedBy due_cmp dues
+    → Drops (Some (due_of due)) (map due_of dues)
+    (map due_of (remove_key (is_at (due_cmp due)) dues))
 has-remove due dues s = λ d topic.
-    let other : (x : Due) → is_pair d topic (due_of x) ≡ true → not (is_at (due_cmp due) x) ≡ not (is_pair d topic (due_of due)) = λ x h.
+    let other : (x : Due) → is_pair d topic (due_of x) ≡ true
+    → not (is_at (due_cmp due) x) ≡ not (is_pair d topic (due_of due)) = λ x h.
     (let named : due_of x ≡ (d, topic) = pair-is d topic (due_of x) h in
     ap not (tied_is due x ∙ ap (λ (p : Pair). is_pair p.0 p.1 (due_of due)) named)) in
     ap (λ l. has_pair d topic (map due_of l)) (removed-is due dues s)
     ∙ list_any-map due_of (is_pair d topic) (filter (λ x. not (is_at (due_cmp due) x)) dues)
-    ∙ any-filter_same (λ x. is_pair d topic (due_of x)) (λ x. not (is_at (due_cmp due) x)) (not (is_pair d topic (due_of due))) other dues
-    ∙ ap (λ b. not (is_pair d topic (due_of due)) && b) (sym (list_any-map due_of (is_pair d topic) dues))
+    ∙ any-filter_same (λ x. is_pair d topic (due_of x)) (λ x. not (is_at (due_cmp due) x))
+    (not (is_pair d topic (due_of due))) other dues
+    ∙ ap (λ b. not (is_pair d topic (due_of due)) && b)
+    (sym (list_any-map due_of (is_pair d topic) dues))
 
 pub drops-none : (pairs : List Pair) → Drops None pairs pairs
 drops-none pairs = λ d topic. refl
@@ -93,22 +109,30 @@ drops-none pairs = λ d topic. refl
 -- ## The first pair
 
 -- no pair after the first is like it
-first-apart : (first : Due) (dues : List Due) → AllByRecursion (IsLtBy due_cmp first) dues → has_pair first.deadline first.topic (map due_of dues) ≡ false
+first-apart : (first : Due) (dues : List Due) → AllByRecursion (IsLtBy due_cmp first) dues
+    → has_pair first.deadline first.topic (map due_of dues) ≡ false
 first-apart first [] h = refl
 first-apart first (x ∷ xs) h =
-    let tied : is_pair first.deadline first.topic (due_of x) ≡ false = sym (tied_is x first) ∙ ap is_eq (due_total.antisymm x first) ∙ rw h.0 refl in
+    let tied : is_pair first.deadline first.topic (due_of x) ≡ false = sym (tied_is x first)
+    ∙ ap is_eq (due_total.antisymm x first) ∙ rw h.0 refl in
     rw (tied, first-apart first xs h.1) refl
 
-pub first-taken : (moment : ℕ) (first : Due) (dues : List Due) → first.deadline ≤ moment → AllByRecursion (IsLtBy due_cmp first) dues → TakesDue moment first.topic (map due_of (first ∷ dues)) (map due_of dues)
+pub first-taken : (moment : ℕ) (first : Due) (dues : List Due) → first.deadline ≤ moment
+    → AllByRecursion (IsLtBy due_cmp first) dues
+    → TakesDue moment first.topic (map due_of (first ∷ dues)) (map due_of dues)
 first-taken moment first dues due above = record {
   deadline = first.deadline;
   due = due;
-  was_there = ap (λ b. b || has_pair first.deadline first.topic (map due_of dues)) (own-pair first.deadline first.topic);
+  was_there = ap (λ b. b || has_pair first.deadline first.topic (map due_of dues))
+      (own-pair first.deadline first.topic);
   leaves = λ d topic.
       let rest : Bool = has_pair d topic (map due_of dues) in
-      let P : Bool → Type 0 = λ b. is_pair d topic (due_of first) ≡ b → rest ≡ (not b && (b || rest)) in
-      let here : P true = λ h. (let named : due_of first ≡ (d, topic) = pair-is d topic (due_of first) h in
-      ap (λ (p : Pair). has_pair p.0 p.1 (map due_of dues)) (sym named) ∙ first-apart first dues above) in
+      let P : Bool → Type 0 = λ b. is_pair d topic (due_of first) ≡ b
+      → rest ≡ (not b && (b || rest)) in
+      let here : P true = λ h. (let named : due_of first ≡ (d, topic) =
+      pair-is d topic (due_of first) h in
+      ap (λ (p : Pair). has_pair p.0 p.1 (map due_of dues)) (sym named)
+      ∙ first-apart first dues above) in
       (elim (is_pair d topic (due_of first)) as P [ true ↦ here | false ↦ λ h. refl ]) refl;
 }
 
@@ -119,22 +143,28 @@ not_below : (a b : Due) → IsLeBy due_cmp a b → a.deadline ≤ b.deadline
 not_below a b h =
     let P : Ordering → Type 0 = λ r. r ≡ nat_cmp a.deadline b.deadline → a.deadline ≤ b.deadline in
     (elim (nat_cmp a.deadline b.deadline) as P [
-      | Less ↦ λ e. (let less : a.deadline < b.deadline = ranked a.deadline b.deadline Less e in omega arith)
-      | Equal ↦ λ e. (let same : a.deadline ≡ b.deadline = ranked a.deadline b.deadline Equal e in omega arith)
+      | Less ↦ λ e. (let less : a.deadline < b.deadline = ranked a.deadline b.deadline Less e in
+          omega arith)
+      | Equal ↦ λ e. (let same : a.deadline ≡ b.deadline = ranked a.deadline b.deadline Equal e in
+          omega arith)
       | Greater ↦ λ e. (let above : is_gt (due_cmp a b) ≡ true = rw (← e) refl in cc)
     ]) refl
 
-pub none-due : (moment : ℕ) (first : Due) (dues : List Due) → moment < first.deadline → AllByRecursion (IsLeBy due_cmp first) dues → NoneDue moment (map due_of dues)
+pub none-due : (moment : ℕ) (first : Due) (dues : List Due) → moment < first.deadline
+    → AllByRecursion (IsLeBy due_cmp first) dues → NoneDue moment (map due_of dues)
 none-due moment first [] h above = λ d topic k. cc
 none-due moment first (x ∷ xs) h above = λ d topic k.
-    let P : Bool → Type 0 = λ b. is_pair d topic (due_of x) ≡ b → (b || has_pair d topic (map due_of xs)) ≡ true → moment < d in
+    let P : Bool → Type 0 = λ b. is_pair d topic (due_of x) ≡ b
+    → (b || has_pair d topic (map due_of xs)) ≡ true → moment < d in
     (elim (is_pair d topic (due_of x)) as P [
-      | true ↦ λ here _. (let number : x.deadline ≡ d = ap (λ (p : Pair). p.0) (pair-is d topic (due_of x) here) in
+      | true ↦ λ here _. (let number : x.deadline ≡ d =
+          ap (λ (p : Pair). p.0) (pair-is d topic (due_of x) here) in
           let least : first.deadline ≤ x.deadline = not_below first x above.0 in omega arith)
       | false ↦ λ _ later. none-due moment first xs h above.1 d topic later
     ]) refl k
 
-pub head-is : (dues : List Due) (first : Due) (rest : List Due) (due : Due) → dues ≡ first ∷ rest → slice_get dues 0 ≡ Some due → due ≡ first
+pub head-is : (dues : List Due) (first : Due) (rest : List Due) (due : Due) → dues ≡ first ∷ rest
+    → slice_get dues 0 ≡ Some due → due ≡ first
 head-is dues first rest due whole got =
     let here : Some due ≡ Some first = sym got ∙ ap (λ l. slice_get l 0) whole in
     cc

@@ -1,5 +1,6 @@
 -- The keys of the tree and the pairs of the index are those of the messages; and what a publish leaves.
-use Rattle.std.proofs.Common.{◌≡◌, ℕ, eqb, Bool, true, false, ◌&&◌, not, List, sym, ◌∙◌, ap, arith, if◌then◌else◌}
+use Rattle.std.proofs.Common.{◌≡◌, ℕ, eqb, Bool, true, false, ◌&&◌, not, List, sym, ◌∙◌, ap, arith}
+use Rattle.std.proofs.Common.{if◌then◌else◌}
 use Rattle.std.specs.Ordering.{is_eq, nat_cmp}
 use Rattle.std.specs.Cmp.{IsTotalOrder, tied_then}
 use Rattle.std.specs.Cmp.Lexicographic.{on_texts}
@@ -40,40 +41,56 @@ pair_tie z p =
 
 pair_tied : (z p : Pair) → is_eq (pair_cmp z p) ≡ true → z ≡ p
 pair_tied (n, t) (m, u) h =
-    let parts : (eqb m n ≡ true) × (same_text u t ≡ true) = parts_true _ _ (sym (pair_tie (n, t) (m, u)) ∙ h) in
-    ap (λ k. (k, t)) (sym (eqb-true m n parts.0)) ∙ ap (λ v. (m, v)) (sym (same_text-is u t parts.1))
+    let parts : (eqb m n ≡ true) × (same_text u t ≡ true) =
+    parts_true _ _ (sym (pair_tie (n, t) (m, u)) ∙ h) in
+    ap (λ k. (k, t)) (sym (eqb-true m n parts.0))
+    ∙ ap (λ v. (m, v)) (sym (same_text-is u t parts.1))
 
-any_pair : (z : Pair) (pairs : List Pair) → list_any (ties pair_cmp pair_total z) pairs ≡ has_pair z.0 z.1 pairs
+any_pair : (z : Pair) (pairs : List Pair) → list_any (ties pair_cmp pair_total z) pairs
+    ≡ has_pair z.0 z.1 pairs
 any_pair z pairs = list_any-same (ties pair_cmp pair_total z) (is_pair z.0 z.1) (pair_tie z) pairs
 
 pub pairs-same : (xs ys : List Pair) → SamePairs xs ys → in_order pair_cmp xs ≡ in_order pair_cmp ys
-pairs-same xs ys same = same_in_order pair_cmp pair_total pair_tied xs ys (λ z. any_pair z xs ∙ same z.0 z.1 ∙ sym (any_pair z ys))
+pairs-same xs ys same = same_in_order pair_cmp pair_total pair_tied xs ys
+    (λ z. any_pair z xs ∙ same z.0 z.1 ∙ sym (any_pair z ys))
 
-pub has-in_order : (d : ℕ) (topic : Text) (pairs : List Pair) → has_pair d topic (in_order pair_cmp pairs) ≡ has_pair d topic pairs
-has-in_order d topic pairs = sym (any_pair (d, topic) (in_order pair_cmp pairs)) ∙ any-in_order pair_cmp pair_total pair_tied (d, topic) pairs ∙ any_pair (d, topic) pairs
+pub has-in_order : (d : ℕ) (topic : Text) (pairs : List Pair)
+    → has_pair d topic (in_order pair_cmp pairs) ≡ has_pair d topic pairs
+has-in_order d topic pairs = sym (any_pair (d, topic) (in_order pair_cmp pairs))
+    ∙ any-in_order pair_cmp pair_total pair_tied (d, topic) pairs ∙ any_pair (d, topic) pairs
 
-pub sound-filed : (tree : Entries Stored) (pairs : List Pair) → IsSound tree pairs → AreFiled (kept_retained tree pairs)
+pub sound-filed : (tree : Entries Stored) (pairs : List Pair) → IsSound tree pairs
+    → AreFiled (kept_retained tree pairs)
 sound-filed tree pairs sound = record {
   keys = keys-retained tree sound.placed;
   pairs = λ d topic. has-in_order d topic pairs ∙ sound.indexed d topic;
 }
 
 -- the same tree and the same pairs are seen as the same
-pub same-kept : (old new : Entries Stored) (pairs others : List Pair) → new ≡ old → SamePairs others pairs → kept_retained new others ≡ kept_retained old pairs
+pub same-kept : (old new : Entries Stored) (pairs others : List Pair) → new ≡ old
+    → SamePairs others pairs → kept_retained new others ≡ kept_retained old pairs
 same-kept old new pairs others tree same =
     let index : in_order pair_cmp others ≡ in_order pair_cmp pairs = pairs-same others pairs same in
     λ i. record { messages = retained_in (tree i); keys = keys_of (tree i); pairs = index i }
 
 -- ## What a publish leaves
 
-pub after-unretained : (now : ℕ) (retained : List Retained) (m : Message) → m.retain ≡ false → retained_after now retained m ≡ retained
+pub after-unretained : (now : ℕ) (retained : List Retained) (m : Message) → m.retain ≡ false
+    → retained_after now retained m ≡ retained
 unfolding retained_after
 after-unretained now retained m h =
-    let rest : List Retained = if is_stored m then with_row retained_cmp (stored now m) retained else filter (λ kept. not (has_topic m.topic kept)) retained in
+    let rest : List Retained = if is_stored m then
+    with_row retained_cmp (stored now m) retained
+    else filter (λ kept. not (has_topic m.topic kept)) retained in
     ap (λ b. if not b then retained else rest) h
 
-pub after-by : (now : ℕ) (retained : List Retained) (m : Message) (b : Bool) → m.retain ≡ true → is_stored m ≡ b → retained_after now retained m ≡ (if b then with_row retained_cmp (stored now m) retained else filter (λ kept. not (has_topic m.topic kept)) retained)
+pub after-by : (now : ℕ) (retained : List Retained) (m : Message) (b : Bool) → m.retain ≡ true
+    → is_stored m ≡ b → retained_after now retained m
+    ≡ (if b then with_row retained_cmp (stored now m) retained
+    else filter (λ kept. not (has_topic m.topic kept)) retained)
 unfolding retained_after
 after-by now retained m b h e =
-    let by : Bool → List Retained = λ v. if v then with_row retained_cmp (stored now m) retained else filter (λ kept. not (has_topic m.topic kept)) retained in
+    let by : Bool → List Retained = λ v. if v then
+    with_row retained_cmp (stored now m) retained
+    else filter (λ kept. not (has_topic m.topic kept)) retained in
     ap (λ v. if not v then retained else by (is_stored m)) h ∙ ap by e

@@ -10,16 +10,22 @@ use Rattle.mq_world.proofs.OrderLemmas.{retained_total, all_weaker, all_filtered
 abbrev pub IsNear : ℕ → Retained → Type 0
 IsNear moment kept = IfSome kept.deadline (λ deadline. deadline < moment + 2 ^ 32)
 
-pub near-later : (moment later : ℕ) (q : Retained → Bool) (retained : List Retained) → moment ≤ later → AreNear moment retained → AreNear later (filter q retained)
+pub near-later : (moment later : ℕ) (q : Retained → Bool) (retained : List Retained)
+    → moment ≤ later → AreNear moment retained → AreNear later (filter q retained)
 near-later moment later q retained h near =
-    all_filtered (IsNear later) q retained (all_weaker (IsNear moment) (IsNear later) (λ kept n. nearer kept.deadline n) retained near)
+    all_filtered (IsNear later) q retained
+    (all_weaker (IsNear moment) (IsNear later) (λ kept n. nearer kept.deadline n) retained near)
   where
-    nearer : (deadline : Option ℕ) → IfSome deadline (λ d. d < moment + 2 ^ 32) → IfSome deadline (λ d. d < later + 2 ^ 32)
+    nearer : (deadline : Option ℕ) → IfSome deadline (λ d. d < moment + 2 ^ 32)
+        → IfSome deadline (λ d. d < later + 2 ^ 32)
     nearer None n = tt
     nearer (Some d) n = omega arith
 
-pub near-with_row : (moment : ℕ) (kept : Retained) (retained : List Retained) → IsNear moment kept → AreNear moment retained → AreNear moment (with_row retained_cmp kept retained)
-near-with_row moment kept retained here near = all-with_row retained_cmp retained_total (IsNear moment) kept retained here near
+pub near-with_row : (moment : ℕ) (kept : Retained) (retained : List Retained) → IsNear moment kept
+    → AreNear moment retained → AreNear moment (with_row retained_cmp kept retained)
+near-with_row moment kept retained here near =
+    all-with_row retained_cmp retained_total (IsNear moment) kept retained here near
 
-pub near-filter : (moment : ℕ) (q : Retained → Bool) (retained : List Retained) → AreNear moment retained → AreNear moment (filter q retained)
+pub near-filter : (moment : ℕ) (q : Retained → Bool) (retained : List Retained)
+    → AreNear moment retained → AreNear moment (filter q retained)
 near-filter moment q retained near = all_filtered (IsNear moment) q retained near

@@ -1,5 +1,6 @@
 -- The deadlines of retained messages as an index keeps them: pairs of a deadline and a topic.
-use Rattle.std.specs.Prelude.{◌≡◌, ℕ, ◌<◌, ◌≤◌, Bool, true, false, ◌==◌, ◌&&◌, ◌||◌, not, List, Option, Some}
+use Rattle.std.specs.Prelude.{◌≡◌, ℕ, ◌<◌, ◌≤◌, Bool, true, false, ◌==◌, ◌&&◌, ◌||◌, not, List}
+use Rattle.std.specs.Prelude.{Option, Some}
 use Rattle.std.specs.Option.{option_map_or, option_and_then}
 use Rattle.std.specs.List.{list_any, find}
 use Rattle.std.specs.declared.cmp.Ordering.{Ordering}
@@ -25,11 +26,13 @@ names pair d topic = option_map_or (is_pair d topic) pair false
 
 -- the pair joins the others
 abbrev pub Adds : Option Pair → List Pair → List Pair → Type 0
-Adds pair old new = (d : ℕ) (topic : Text) → has_pair d topic new ≡ (names pair d topic || has_pair d topic old)
+Adds pair old new = (d : ℕ) (topic : Text)
+    → has_pair d topic new ≡ (names pair d topic || has_pair d topic old)
 
 -- the pair leaves the others
 abbrev pub Drops : Option Pair → List Pair → List Pair → Type 0
-Drops pair old new = (d : ℕ) (topic : Text) → has_pair d topic new ≡ (not (names pair d topic) && has_pair d topic old)
+Drops pair old new = (d : ℕ) (topic : Text)
+    → has_pair d topic new ≡ (not (names pair d topic) && has_pair d topic old)
 
 -- a pair of this topic that is due leaves the others
 pub record TakesDue (moment : ℕ) (topic : Text) (old new : List Pair) : Type 0 where
@@ -44,7 +47,8 @@ NoneDue moment pairs = (d : ℕ) (topic : Text) → has_pair d topic pairs ≡ t
 
 -- the deadline of the message that is retained for a topic, if there are both
 abbrev pub deadline_at : Text → List Retained → Option ℕ
-deadline_at topic retained = option_and_then (λ kept. kept.deadline) (find (has_topic topic) retained)
+deadline_at topic retained = option_and_then (λ kept. kept.deadline)
+    (find (has_topic topic) retained)
 
 abbrev pub is_deadline : ℕ → Option ℕ → Bool
 is_deadline d deadline = option_map_or (λ n. n == d) deadline false
@@ -55,7 +59,8 @@ is_due moment kept = is_over moment kept.deadline
 
 -- the pairs are those of the messages with a deadline, and no others
 abbrev pub Indexes : List Pair → List Retained → Type 0
-Indexes pairs retained = (d : ℕ) (topic : Text) → has_pair d topic pairs ≡ is_deadline d (deadline_at topic retained)
+Indexes pairs retained = (d : ℕ) (topic : Text)
+    → has_pair d topic pairs ≡ is_deadline d (deadline_at topic retained)
 
 abbrev pub SamePairs : List Pair → List Pair → Type 0
 SamePairs xs ys = (d : ℕ) (topic : Text) → has_pair d topic xs ≡ has_pair d topic ys

@@ -24,11 +24,13 @@ subscription_for r = record {
 -- of these messages, which match
 abbrev pub copies_among : Receiver → List Retained → List Copy
 copies_among r messages =
-    map (retained_copy r.clock.moment (subscription_for r)) (filter (may_get r.access.now (option_copied r.user) (subscription_for r)) messages)
+    map (retained_copy r.clock.moment (subscription_for r))
+    (filter (may_get r.access.now (option_copied r.user) (subscription_for r)) messages)
 
 -- of all messages
 abbrev pub copies_for : Receiver → List Retained → List Copy
-copies_for r messages = retained_copies r.clock.moment r.access.now (option_copied r.user) messages (subscription_for r)
+copies_for r messages = retained_copies r.clock.moment r.access.now (option_copied r.user) messages
+    (subscription_for r)
 
 -- the prefixes of topics that the filter meets
 abbrev pub steps_among : Text → List Retained → ℕ

@@ -1,5 +1,6 @@
 -- What the tree of retained messages and the index of their deadlines show.
-use Rattle.std.specs.Prelude.{◌≡◌, ℕ, ◌+◌, ◌^◌, ◌<◌, Bool, ◌&&◌, not, List, length, map, string_bytes, Option, IfSome}
+use Rattle.std.specs.Prelude.{◌≡◌, ℕ, ◌+◌, ◌^◌, ◌<◌, Bool, ◌&&◌, not, List, length, map}
+use Rattle.std.specs.Prelude.{string_bytes, Option, IfSome}
 use Rattle.std.specs.List.{AllByRecursion}
 use Rattle.std.specs.Rc.{rc_str_bytes}
 use Rattle.mq_topic.specs.Levels.{levels}
@@ -43,7 +44,8 @@ pub record AreCounted (count : ℕ) (tree : Entries Stored) : Type 0 where
 
 -- each deadline can be reached from the moment by an expiry interval
 abbrev pub AreNear : ℕ → List Retained → Type 0
-AreNear moment retained = AllByRecursion (λ kept. IfSome kept.deadline (λ deadline. deadline < moment + 2 ^ 32)) retained
+AreNear moment retained =
+    AllByRecursion (λ kept. IfSome kept.deadline (λ deadline. deadline < moment + 2 ^ 32)) retained
 
 -- what the retained messages show: themselves, the keys of their tree, and the pairs of the index in order
 pub record KeptRetained : Type 0 where
@@ -76,4 +78,5 @@ stored_until deadline m = record {
 -- of messages that match, those that the client is sent
 abbrev pub may_get : Option (List AclRow) → Option Text → Subscription → Retained → Bool
 may_get access user s kept =
-    allowed access s.client user kept.topic Reading && not (s.options.no_local && same_text kept.publisher s.client)
+    allowed access s.client user kept.topic Reading
+    && not (s.options.no_local && same_text kept.publisher s.client)

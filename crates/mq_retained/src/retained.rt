@@ -63,10 +63,12 @@ impl Retained {
     /// Takes in a message that is published: with RETAIN it takes the place of the older one of its topic, or only removes
     /// that.
     pub fn publish(&mut self, message: &Message) -> Result<(), AllocError>
-        ensures ok { OnOk result ((moment : ℕ) → message.now.deadline ≡ deadline_of moment message.now.expiry
+        ensures ok { OnOk result ((moment : ℕ) → message.now.deadline
+            ≡ deadline_of moment message.now.expiry
             → self.new.messages ≡ retained_after moment self.old.messages (message_of message.now)) }
         ensures filed { OnOk result (AreFiled self.old → AreFiled self.new) }
-        ensures near { OnOk result ((moment : ℕ) → IfSome message.now.deadline (λ d. d < moment + 2 ^ 32)
+        ensures near { OnOk result ((moment : ℕ)
+            → IfSome message.now.deadline (λ d. d < moment + 2 ^ 32)
             → AreNear moment self.old.messages → AreNear moment self.new.messages) }
         ensures err { OnErr result (self.new ≡ self.old) }
     {
@@ -111,7 +113,8 @@ impl Retained {
     ) -> Result<Vec<Delivery>, AllocError>
         requires { AreNear receiver.now.clock.moment self.now.messages }
         ensures copies { IfOk result (λ copies. copies_in copies ≡ copies_for receiver.now self.now.messages) }
-        ensures count { OnOk result (steps.new ≡ steps.old + steps_among receiver.now.filter.now self.now.messages) }
+        ensures count { OnOk result (steps.new ≡ steps.old + steps_among receiver.now.filter.now
+            self.now.messages) }
     {
         let found = self.tree.for_filter(receiver.filter, steps)?;
         let copies = copies_of(self.alloc, receiver, found.as_slice())?;

@@ -1,5 +1,7 @@
 -- The copies that begin to wait, put behind those that wait one client after the other.
-use Rattle.std.proofs.Common.{◌≡◌, ℕ, ◌==◌, ◌&&◌, ◌||◌, Bool, true, false, not, List, [], ◌∷◌, map, length, Option, Some, None, is_some, refl, sym, ◌∙◌, ap, if◌then◌else◌}
+use Rattle.std.proofs.Common.{◌≡◌, ℕ, ◌==◌, ◌&&◌, ◌||◌, Bool, true, false, not, List, [], ◌∷◌, map}
+use Rattle.std.proofs.Common.{length, Option, Some, None, is_some, refl, sym, ◌∙◌, ap}
+use Rattle.std.proofs.Common.{if◌then◌else◌}
 use Rattle.std.specs.declared.cmp.Ordering.TheVariants.{Less}
 use Rattle.std.specs.Ordering.{is_eq}
 use Rattle.std.specs.Option.{option_map, option_map_or, option_and_then}
@@ -13,7 +15,8 @@ use Rattle.mq_world.specs.World.{Session, Subscription, Waiting, Message, Copy, 
 use Rattle.mq_world.specs.Clock.{deadline_of}
 use Rattle.mq_world.specs.Sessions.{is_present}
 use Rattle.mq_world.specs.Copies.{direct_copy}
-use Rattle.mq_world.specs.Waiting.{has_place, with_qos, with_waiting, waiting_copy, waiting_after, begins_to_wait}
+use Rattle.mq_world.specs.Waiting.{has_place, with_qos, with_waiting, waiting_copy, waiting_after}
+use Rattle.mq_world.specs.Waiting.{begins_to_wait}
 use Rattle.mq_sessions.specs.Queue.{Begin, begin_with, queued, edited, queued_one, queued_all}
 use Rattle.mq_router.specs.delivery.Copies.{begins}
 use Rattle.mq_world.proofs.SameLemmas.{some_pass}
@@ -21,12 +24,15 @@ use Rattle.mq_world.proofs.OrderLemmas.{text_flip}
 
 module _ (limit : ℕ) (access : Option (List AclRow)) (subs : List Subscription) where
   -- only where there is a place does a copy begin to wait
-  placed : (m : Message) (s : Session) (copy : Copy) → waiting_copy limit access subs m s ≡ Some copy → has_place limit s ≡ true
+  placed : (m : Message) (s : Session) (copy : Copy)
+      → waiting_copy limit access subs m s ≡ Some copy → has_place limit s ≡ true
   placed m s copy h =
       let o : Option Copy = option_and_then with_qos (direct_copy access subs m s.id s.user) in
-      let P : Bool → Bool → Type 0 = λ away place. (if away && place then o else None) ≡ Some copy → place ≡ true in
+      let P : Bool → Bool → Type 0 = λ away place. (if away && place then o else None) ≡ Some copy
+      → place ≡ true in
       (elim (not (is_present s)) as (λ away. P away (has_place limit s)) [
-        | true ↦ elim (has_place limit s) as (λ place. P true place) [ true ↦ λ k. refl | false ↦ λ k. cc ]
+        | true ↦ elim (has_place limit s) as (λ place. P true place)
+            [ true ↦ λ k. refl | false ↦ λ k. cc ]
         | false ↦ λ k. cc
       ]) h
 
@@ -34,51 +40,76 @@ module _ (limit : ℕ) (access : Option (List AclRow)) (subs : List Subscription
   apart_below s x less = sym (is_eq-slice_cmp s.id x.id) ∙ ap is_eq less
 
   -- what begins to wait for later clients is not for this one
-  begun_apart : (m : Message) (deadline : Option ℕ) (s : Session) (ss : List Session) → AllByRecursion (λ x. session_cmp s x ≡ Less) ss → AllByRecursion (λ b. same_text s.id b.0 ≡ false) (filter_map (begins limit access subs m deadline) ss)
+  begun_apart : (m : Message) (deadline : Option ℕ) (s : Session) (ss : List Session)
+      → AllByRecursion (λ x. session_cmp s x ≡ Less) ss
+      → AllByRecursion (λ b. same_text s.id b.0 ≡ false)
+      (filter_map (begins limit access subs m deadline) ss)
   begun_apart m deadline s [] h = tt
   begun_apart m deadline s (x ∷ xs) h =
-      elim (waiting_copy limit access subs m x) as (λ o. AllByRecursion (λ (b : Begin). same_text s.id b.0 ≡ false) (cons_option (option_map (begin_with x.id deadline) o) (filter_map (begins limit access subs m deadline) xs))) [
+      elim (waiting_copy limit access subs m x)
+      as (λ o. AllByRecursion (λ (b : Begin). same_text s.id b.0 ≡ false)
+      (cons_option (option_map (begin_with x.id deadline) o)
+      (filter_map (begins limit access subs m deadline) xs))) [
         | None ↦ begun_apart m deadline s xs h.1
         | Some copy ↦ (apart_below s x h.0, begun_apart m deadline s xs h.1)
       ]
 
-  queued_apart : (bs : List Begin) (s : Session) (ss : List Session) → AllByRecursion (λ b. same_text s.id b.0 ≡ false) bs → queued_all limit bs (s ∷ ss) ≡ s ∷ queued_all limit bs ss
+  queued_apart : (bs : List Begin) (s : Session) (ss : List Session)
+      → AllByRecursion (λ b. same_text s.id b.0 ≡ false) bs
+      → queued_all limit bs (s ∷ ss) ≡ s ∷ queued_all limit bs ss
   queued_apart [] s ss h = refl
   queued_apart (b ∷ bs) s ss h = rw h.0 (queued_apart bs s (queued_one limit b ss) h.1)
 
-  others_stay : (s : Session) (ws : List Waiting) (ss : List Session) → AllByRecursion (λ x. session_cmp s x ≡ Less) ss → queued_one limit (s.id, ws) ss ≡ ss
+  others_stay : (s : Session) (ws : List Waiting) (ss : List Session)
+      → AllByRecursion (λ x. session_cmp s x ≡ Less) ss → queued_one limit (s.id, ws) ss ≡ ss
   others_stay s ws [] h = refl
   others_stay s ws (x ∷ xs) h =
       let other : same_text x.id s.id ≡ false = text_flip x.id s.id ∙ apart_below s x h.0 in
       rw (other, others_stay s ws xs h.1) refl
 
-  pub queued-is : (now : ℕ) (m : Message) (sessions : List Session) → IsStrictlySortedBy session_cmp sessions → queued_all limit (filter_map (begins limit access subs m (deadline_of now m.expiry)) sessions) sessions ≡ map (waiting_after limit access subs now m) sessions
+  pub queued-is : (now : ℕ) (m : Message) (sessions : List Session)
+      → IsStrictlySortedBy session_cmp sessions
+      → queued_all limit (filter_map (begins limit access subs m (deadline_of now m.expiry))
+      sessions) sessions ≡ map (waiting_after limit access subs now m) sessions
   unfolding IsStrictlySortedBy
   queued-is now m [] sorted = refl
   queued-is now m (s ∷ ss) sorted =
       let deadline : Option ℕ = deadline_of now m.expiry in
       let bs : List Begin = filter_map (begins limit access subs m deadline) ss in
-      let rest : queued_all limit bs ss ≡ map (waiting_after limit access subs now m) ss = queued-is now m ss sorted.1 in
-      let P : Option Copy → Type 0 = λ o. waiting_copy limit access subs m s ≡ o → queued_all limit (cons_option (option_map (begin_with s.id deadline) o) bs) (s ∷ ss) ≡ option_map_or (λ copy. with_waiting s (record { copy = copy; deadline = deadline } ∷ [])) o s ∷ map (waiting_after limit access subs now m) ss in
+      let rest : queued_all limit bs ss ≡ map (waiting_after limit access subs now m) ss =
+      queued-is now m ss sorted.1 in
+      let P : Option Copy → Type 0 = λ o. waiting_copy limit access subs m s ≡ o
+      → queued_all limit (cons_option (option_map (begin_with s.id deadline) o) bs) (s ∷ ss)
+      ≡ option_map_or (λ copy. with_waiting s
+      (record { copy = copy; deadline = deadline } ∷ [])) o s
+      ∷ map (waiting_after limit access subs now m) ss in
       (elim (waiting_copy limit access subs m s) as P [
-        | None ↦ λ e. queued_apart bs s ss (begun_apart m deadline s ss sorted.0) ∙ ap (λ l. s ∷ l) rest
+        | None ↦ λ e. queued_apart bs s ss (begun_apart m deadline s ss sorted.0)
+            ∙ ap (λ l. s ∷ l) rest
         | Some copy ↦ λ e. (
             let ws : List Waiting = record { copy = copy; deadline = deadline } ∷ [] in
             let own : same_text s.id s.id ≡ true = (bytes_eq-Decides s.id s.id).1 refl in
             let place : has_place limit s ≡ true = placed m s copy e in
             let here : edited (queued limit ws) s.id s ≡ with_waiting s ws = rw (own, place) refl in
-            ap (λ l. queued_all limit bs (edited (queued limit ws) s.id s ∷ l)) (others_stay s ws ss sorted.0)
+            ap (λ l. queued_all limit bs (edited (queued limit ws) s.id s ∷ l))
+            (others_stay s ws ss sorted.0)
             ∙ ap (λ x. queued_all limit bs (x ∷ ss)) here
             ∙ queued_apart bs (with_waiting s ws) ss (begun_apart m deadline s ss sorted.0)
             ∙ ap (λ l. with_waiting s ws ∷ l) rest)
       ]) refl
 
   -- one begins to wait where there is one to join
-  pub waits-is : (m : Message) (deadline : Option ℕ) (sessions : List Session) → not (length (filter_map (begins limit access subs m deadline) sessions) == 0) ≡ begins_to_wait limit access sessions subs m
+  pub waits-is : (m : Message) (deadline : Option ℕ) (sessions : List Session)
+      → not (length (filter_map (begins limit access subs m deadline) sessions) == 0)
+      ≡ begins_to_wait limit access sessions subs m
   unfolding begins_to_wait
   waits-is m deadline [] = refl
   waits-is m deadline (s ∷ ss) =
-      elim (waiting_copy limit access subs m s) as (λ o. not (length (cons_option (option_map (begin_with s.id deadline) o) (filter_map (begins limit access subs m deadline) ss)) == 0) ≡ (is_some o || list_any (λ session. is_some (waiting_copy limit access subs m session)) ss)) [
+      elim (waiting_copy limit access subs m s)
+      as (λ o. not (length (cons_option (option_map (begin_with s.id deadline) o)
+      (filter_map (begins limit access subs m deadline) ss)) == 0)
+      ≡ (is_some o || list_any (λ session. is_some (waiting_copy limit access subs m session))
+      ss)) [
         | None ↦ waits-is m deadline ss
         | Some copy ↦ sym (some_pass (length (filter_map (begins limit access subs m deadline) ss)))
       ]

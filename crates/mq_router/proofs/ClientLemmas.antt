@@ -1,5 +1,7 @@
 -- Subscriptions that take part in a message, by client.
-use Rattle.std.proofs.Common.{◌≡◌, ℕ, ◌+◌, ◌<◌, Bool, true, false, cond, not, is_none, ◌&&◌, ◌||◌, List, [], ◌∷◌, ◌++◌, map, length, take, get_or, append_assoc, if◌then◌else◌, Option, Some, None, refl, sym, ◌∙◌, ap, subst, arith}
+use Rattle.std.proofs.Common.{◌≡◌, ℕ, ◌+◌, ◌<◌, Bool, true, false, cond, not, is_none, ◌&&◌, ◌||◌}
+use Rattle.std.proofs.Common.{List, [], ◌∷◌, ◌++◌, map, length, take, get_or, append_assoc}
+use Rattle.std.proofs.Common.{if◌then◌else◌, Option, Some, None, refl, sym, ◌∙◌, ap, subst, arith}
 use Rattle.std.specs.declared.cmp.Ordering.TheVariants.{Less}
 use Rattle.std.specs.Ordering.{is_eq}
 use Rattle.std.specs.Rc.{rc_str_bytes}
@@ -31,9 +33,12 @@ use Rattle.mq_world.specs.Lists.{Text, same_text, text_cmp, in_order}
 use Rattle.mq_world.specs.World.{SubscriptionOptions, Session, Subscription, Message, Copy}
 use Rattle.mq_subscriptions.specs.Filters.{is_text, is_empty}
 use Rattle.mq_world.specs.Views.{options_of}
-use Rattle.mq_router.specs.delivery.Summaries.{Summary, summary_of, summary_for, together, copy_from}
-use Rattle.mq_router.specs.delivery.Copies.{gives, gives_options, copy_for, copies_by, begin_for, begins_by, by_client}
-use Rattle.mq_subscriptions.specs.Matches.{is_own_match, own_matches, matched, clients_of, options_among, AreAscending, AreByClient}
+use Rattle.mq_router.specs.delivery.Summaries.{Summary, summary_of, summary_for, together}
+use Rattle.mq_router.specs.delivery.Summaries.{copy_from}
+use Rattle.mq_router.specs.delivery.Copies.{gives, gives_options, copy_for, copies_by, begin_for}
+use Rattle.mq_router.specs.delivery.Copies.{begins_by, by_client}
+use Rattle.mq_subscriptions.specs.Matches.{is_own_match, own_matches, matched, clients_of}
+use Rattle.mq_subscriptions.specs.Matches.{options_among, AreAscending, AreByClient}
 use Rattle.mq_world.proofs.BoolLemmas.{pick, and_false, and_true}
 use Rattle.mq_world.proofs.OrderLemmas.{text_flip, same_text-is, same_text-itself}
 use Rattle.mq_world.proofs.SortedLemmas.{sorted-in_order, any-in_order}
@@ -45,78 +50,107 @@ use Rattle.mq_subscriptions.proofs.AscendingLemmas.{same, first-run, least-first
 
 -- ## By client
 
-pub keys-by_client : (xs : List (Text × SubscriptionOptions)) → keys_of (by_client xs) ≡ in_order text_cmp (clients_of xs)
+pub keys-by_client : (xs : List (Text × SubscriptionOptions))
+    → keys_of (by_client xs) ≡ in_order text_cmp (clients_of xs)
 keys-by_client xs = keyed (in_order text_cmp (clients_of xs))
   where
-    keyed : (ids : List Text) → keys_of (map (λ id. (id, summary_of (options_among id xs))) ids) ≡ ids
+    keyed : (ids : List Text) → keys_of (map (λ id. (id, summary_of (options_among id xs))) ids)
+        ≡ ids
     keyed [] = refl
     keyed (id ∷ ids) = ap (λ l. id ∷ l) (keyed ids)
 
-pub sorted-by_client : (xs : List (Text × SubscriptionOptions)) → IsStrictlySortedBy text_cmp (keys_of (by_client xs))
-sorted-by_client xs = subst (IsStrictlySortedBy text_cmp) (sym (keys-by_client xs)) (sorted-in_order text_cmp nat_list_cmp_total (clients_of xs))
+pub sorted-by_client : (xs : List (Text × SubscriptionOptions))
+    → IsStrictlySortedBy text_cmp (keys_of (by_client xs))
+sorted-by_client xs = subst (IsStrictlySortedBy text_cmp) (sym (keys-by_client xs))
+    (sorted-in_order text_cmp nat_list_cmp_total (clients_of xs))
 
-among-any : (id : Text) (xs : List (Text × SubscriptionOptions)) → list_any (is_text id) (clients_of xs) ≡ not (is_empty (options_among id xs))
+among-any : (id : Text) (xs : List (Text × SubscriptionOptions))
+    → list_any (is_text id) (clients_of xs) ≡ not (is_empty (options_among id xs))
 among-any id [] = refl
 among-any id (x ∷ xs) =
     ap (λ b. b || list_any (is_text id) (clients_of xs)) (is_text-is id x.0 ∙ text_flip id x.0)
-    ∙ (elim (same_text x.0 id) as (λ b. (b || list_any (is_text id) (clients_of xs)) ≡ not (is_empty (map (λ (y : Text × SubscriptionOptions). y.1) (cond b (x ∷ filter (λ y. same_text y.0 id) xs) (filter (λ y. same_text y.0 id) xs))))) [
+    ∙ (elim (same_text x.0 id) as (λ b. (b || list_any (is_text id) (clients_of xs))
+    ≡ not (is_empty (map (λ (y : Text × SubscriptionOptions). y.1)
+    (cond b (x ∷ filter (λ y. same_text y.0 id) xs)
+    (filter (λ y. same_text y.0 id) xs))))) [
       | true ↦ refl
       | false ↦ among-any id xs
     ])
 
-pub lookup-by_client : (id : Text) (xs : List (Text × SubscriptionOptions)) → lookup (is_text id) (by_client xs) ≡ summary_for (options_among id xs)
+pub lookup-by_client : (id : Text) (xs : List (Text × SubscriptionOptions))
+    → lookup (is_text id) (by_client xs) ≡ summary_for (options_among id xs)
 lookup-by_client id xs =
     looked (in_order text_cmp (clients_of xs))
-    ∙ ap (λ b. cond b (Some (given id)) None) (any-in_order text_cmp nat_list_cmp_total key_text id (clients_of xs) ∙ among-any id xs)
+    ∙ ap (λ b. cond b (Some (given id)) None)
+    (any-in_order text_cmp nat_list_cmp_total key_text id (clients_of xs) ∙ among-any id xs)
     ∙ some (options_among id xs)
   where
     given : Text → Summary
     given k = summary_of (options_among k xs)
 
-    looked : (ids : List Text) → lookup (is_text id) (map (λ k. (k, given k)) ids) ≡ cond (list_any (is_text id) ids) (Some (given id)) None
+    looked : (ids : List Text) → lookup (is_text id) (map (λ k. (k, given k)) ids)
+        ≡ cond (list_any (is_text id) ids) (Some (given id)) None
     looked [] = refl
     looked (k ∷ ids) =
         pick (is_text id k)
-        (λ t. ap (λ b. cond b (Some (given k)) (lookup (is_text id) (map (λ k. (k, given k)) ids))) t ∙ ap (λ v. Some (given v)) (sym (key_text id k t))
+        (λ t. ap (λ b. cond b (Some (given k)) (lookup (is_text id) (map (λ k. (k, given k)) ids)))
+        t ∙ ap (λ v. Some (given v)) (sym (key_text id k t))
         ∙ sym (ap (λ b. cond (b || list_any (is_text id) ids) (Some (given id)) None) t))
-        (λ f. ap (λ b. cond b (Some (given k)) (lookup (is_text id) (map (λ k. (k, given k)) ids))) f ∙ looked ids
+        (λ f. ap (λ b. cond b (Some (given k)) (lookup (is_text id) (map (λ k. (k, given k)) ids)))
+        f ∙ looked ids
         ∙ sym (ap (λ b. cond (b || list_any (is_text id) ids) (Some (given id)) None) f))
 
-    some : (os : List SubscriptionOptions) → cond (not (is_empty os)) (Some (summary_of os)) None ≡ summary_for os
+    some : (os : List SubscriptionOptions) → cond (not (is_empty os)) (Some (summary_of os)) None
+        ≡ summary_for os
     some [] = refl
     some (o ∷ os) = refl
 
 -- the subscriptions of one client, before those of greater ones
 module _ (c : Text) where
-  all-own : (own : List (Text × SubscriptionOptions)) → AllByRecursion (λ u. u ≡ c) (clients_of own) → filter (λ x. same_text x.0 c) own ≡ own
+  all-own : (own : List (Text × SubscriptionOptions)) → AllByRecursion (λ u. u ≡ c) (clients_of own)
+      → filter (λ x. same_text x.0 c) own ≡ own
   all-own [] h = refl
   all-own (x ∷ own) h =
-      ap (λ b. cond b (x ∷ filter (λ y. same_text y.0 c) own) (filter (λ y. same_text y.0 c) own)) (ap (λ u. same_text u c) h.0 ∙ same_text-itself c)
+      ap (λ b. cond b (x ∷ filter (λ y. same_text y.0 c) own) (filter (λ y. same_text y.0 c) own))
+      (ap (λ u. same_text u c) h.0 ∙ same_text-itself c)
       ∙ ap (λ l. x ∷ l) (all-own own h.1)
 
   less-apart : (u : Text) → text_cmp c u ≡ Less → same_text c u ≡ false
   less-apart u less = sym (is_text-is c u) ∙ ap is_eq less
 
-  none-own : (rest : List (Text × SubscriptionOptions)) → AllByRecursion (λ u. text_cmp c u ≡ Less) (clients_of rest) → filter (λ x. same_text x.0 c) rest ≡ []
+  none-own : (rest : List (Text × SubscriptionOptions))
+      → AllByRecursion (λ u. text_cmp c u ≡ Less) (clients_of rest)
+      → filter (λ x. same_text x.0 c) rest ≡ []
   none-own [] h = refl
   none-own (x ∷ rest) h =
-      ap (λ b. cond b (x ∷ filter (λ y. same_text y.0 c) rest) (filter (λ y. same_text y.0 c) rest)) (text_flip x.0 c ∙ less-apart x.0 h.0) ∙ none-own rest h.1
+      ap (λ b. cond b (x ∷ filter (λ y. same_text y.0 c) rest) (filter (λ y. same_text y.0 c) rest))
+      (text_flip x.0 c ∙ less-apart x.0 h.0) ∙ none-own rest h.1
 
-  none-other : (id : Text) → text_cmp c id ≡ Less → (own : List (Text × SubscriptionOptions)) → AllByRecursion (λ u. u ≡ c) (clients_of own) → filter (λ x. same_text x.0 id) own ≡ []
+  none-other : (id : Text) → text_cmp c id ≡ Less → (own : List (Text × SubscriptionOptions))
+      → AllByRecursion (λ u. u ≡ c) (clients_of own) → filter (λ x. same_text x.0 id) own ≡ []
   none-other id less [] h = refl
   none-other id less (x ∷ own) h =
-      ap (λ b. cond b (x ∷ filter (λ y. same_text y.0 id) own) (filter (λ y. same_text y.0 id) own)) (ap (λ u. same_text u id) h.0 ∙ less-apart id less) ∙ none-other id less own h.1
+      ap (λ b. cond b (x ∷ filter (λ y. same_text y.0 id) own) (filter (λ y. same_text y.0 id) own))
+      (ap (λ u. same_text u id) h.0 ∙ less-apart id less) ∙ none-other id less own h.1
 
-  pub first-client : (x : Text × SubscriptionOptions) (own rest : List (Text × SubscriptionOptions)) → AllByRecursion (λ u. u ≡ c) (clients_of (x ∷ own)) → AllByRecursion (λ u. text_cmp c u ≡ Less) (clients_of rest) → by_client ((x ∷ own) ++ rest) ≡ (c, summary_of (map (λ y. y.1) (x ∷ own))) ∷ by_client rest
+  pub first-client : (x : Text × SubscriptionOptions) (own rest : List (Text × SubscriptionOptions))
+      → AllByRecursion (λ u. u ≡ c) (clients_of (x ∷ own))
+      → AllByRecursion (λ u. text_cmp c u ≡ Less) (clients_of rest)
+      → by_client ((x ∷ own) ++ rest) ≡ (c, summary_of (map (λ y. y.1) (x ∷ own))) ∷ by_client rest
   first-client x own rest mine far =
       let all : List (Text × SubscriptionOptions) = (x ∷ own) ++ rest in
       let summed : Text → Text × Summary = λ id. (id, summary_of (options_among id all)) in
       ap (map summed)
-      (ap (in_order text_cmp) (map-append (λ (y : Text × SubscriptionOptions). y.0) (x ∷ own) rest) ∙ least-first c x.0 (clients_of own) (clients_of rest) mine far)
+      (ap (in_order text_cmp) (map-append (λ (y : Text × SubscriptionOptions). y.0) (x ∷ own) rest)
+      ∙ least-first c x.0 (clients_of own) (clients_of rest) mine far)
       ∙ ap (λ os. with_first os (map summed (in_order text_cmp (clients_of rest))))
-      (ap (map (λ (y : Text × SubscriptionOptions). y.1)) (filter-append (λ y. same_text y.0 c) (x ∷ own) rest
-      ∙ ap (λ l. filter (λ y. same_text y.0 c) (x ∷ own) ++ l) (none-own rest far) ∙ append-nil (filter (λ y. same_text y.0 c) (x ∷ own)) ∙ all-own (x ∷ own) mine))
-      ∙ ap (with_first (map (λ y. y.1) (x ∷ own))) (others (in_order text_cmp (clients_of rest)) (all-in_order (λ u. text_cmp c u ≡ Less) (clients_of rest) far))
+      (ap (map (λ (y : Text × SubscriptionOptions). y.1))
+      (filter-append (λ y. same_text y.0 c) (x ∷ own) rest
+      ∙ ap (λ l. filter (λ y. same_text y.0 c) (x ∷ own) ++ l) (none-own rest far)
+      ∙ append-nil (filter (λ y. same_text y.0 c) (x ∷ own)) ∙ all-own (x ∷ own) mine))
+      ∙ ap (with_first (map (λ y. y.1) (x ∷ own)))
+      (others (in_order text_cmp (clients_of rest))
+      (all-in_order (λ u. text_cmp c u ≡ Less) (clients_of rest) far))
     where
       with_first : List SubscriptionOptions → List (Text × Summary) → List (Text × Summary)
       with_first os l = (c, summary_of os) ∷ l
@@ -124,33 +158,45 @@ module _ (c : Text) where
       summed_in : List (Text × SubscriptionOptions) → Text → Text × Summary
       summed_in ys id = (id, summary_of (options_among id ys))
 
-      others : (ids : List Text) → AllByRecursion (λ u. text_cmp c u ≡ Less) ids → map (summed_in ((x ∷ own) ++ rest)) ids ≡ map (summed_in rest) ids
+      others : (ids : List Text) → AllByRecursion (λ u. text_cmp c u ≡ Less) ids
+          → map (summed_in ((x ∷ own) ++ rest)) ids ≡ map (summed_in rest) ids
       others [] h = refl
       others (id ∷ ids) h =
-          let one : List (Text × SubscriptionOptions) → Text × Summary = λ os. (id, summary_of (map (λ y. y.1) os)) in
+          let one : List (Text × SubscriptionOptions) → Text × Summary =
+          λ os. (id, summary_of (map (λ y. y.1) os)) in
           ap (λ os. one os ∷ map (summed_in ((x ∷ own) ++ rest)) ids)
-          (filter-append (λ y. same_text y.0 id) (x ∷ own) rest ∙ ap (λ l. l ++ filter (λ y. same_text y.0 id) rest) (none-other id h.0 (x ∷ own) mine))
+          (filter-append (λ y. same_text y.0 id) (x ∷ own) rest
+          ∙ ap (λ l. l ++ filter (λ y. same_text y.0 id) rest)
+          (none-other id h.0 (x ∷ own) mine))
           ∙ ap (λ l. summed_in rest id ∷ l) (others ids h.1)
 
 -- ## What takes part
 
-pub options-own : (m : Message) (id : Text) (rows : List Subscription) → options_among id (own_matches m rows) ≡ gives_options m id rows
+pub options-own : (m : Message) (id : Text) (rows : List Subscription)
+    → options_among id (own_matches m rows) ≡ gives_options m id rows
 options-own m id [] = refl
 options-own m id (s ∷ rows) =
     let kept : List Subscription = filter (is_own_match m) rows in
-    let P : Bool → Bool → Type 0 = λ a b. options_among id (map (λ (s : Subscription). (s.client, s.options)) (cond a (s ∷ kept) kept)) ≡ map (λ (s : Subscription). s.options) (cond b (s ∷ filter (gives m id) rows) (filter (gives m id) rows)) in
+    let P : Bool → Bool → Type 0 = λ a b. options_among id
+    (map (λ (s : Subscription). (s.client, s.options)) (cond a (s ∷ kept) kept))
+    ≡ map (λ (s : Subscription). s.options)
+    (cond b (s ∷ filter (gives m id) rows) (filter (gives m id) rows)) in
     let rest : P false false = options-own m id rows in
     pick (same_text s.client id)
     (λ t. (let one : s.client ≡ id = same_text-is s.client id t in
     subst (λ b. P (is_own_match m s) b) (sym (mine t one))
     (elim (is_own_match m s) as (λ a. P a a) [
-      | true ↦ ap (λ b. map (λ (x : Text × SubscriptionOptions). x.1) (cond b ((s.client, s.options) ∷ filter (λ x. same_text x.0 id) (own_matches m rows)) (filter (λ x. same_text x.0 id) (own_matches m rows)))) t
+      | true ↦ ap (λ b. map (λ (x : Text × SubscriptionOptions). x.1)
+          (cond b ((s.client, s.options) ∷ filter (λ x. same_text x.0 id) (own_matches m rows))
+          (filter (λ x. same_text x.0 id) (own_matches m rows)))) t
           ∙ ap (λ l. s.options ∷ l) rest
       | false ↦ rest
     ])))
     (λ f. subst (λ b. P (is_own_match m s) b) (sym (other f))
     (elim (is_own_match m s) as (λ a. P a false) [
-      | true ↦ ap (λ b. map (λ (x : Text × SubscriptionOptions). x.1) (cond b ((s.client, s.options) ∷ filter (λ x. same_text x.0 id) (own_matches m rows)) (filter (λ x. same_text x.0 id) (own_matches m rows)))) f
+      | true ↦ ap (λ b. map (λ (x : Text × SubscriptionOptions). x.1)
+          (cond b ((s.client, s.options) ∷ filter (λ x. same_text x.0 id) (own_matches m rows))
+          (filter (λ x. same_text x.0 id) (own_matches m rows)))) f
           ∙ rest
       | false ↦ rest
     ]))
@@ -158,29 +204,48 @@ options-own m id (s ∷ rows) =
     mine : same_text s.client id ≡ true → s.client ≡ id → gives m id s ≡ is_own_match m s
     mine t one =
         ap (λ b. is_none s.share && b && not (s.options.no_local && same_text id m.publisher)) t
-        ∙ ap (λ b. b && not (s.options.no_local && same_text id m.publisher)) (and_true (is_none s.share))
-        ∙ ap (λ (k : Text). is_none s.share && not (s.options.no_local && same_text k m.publisher)) (sym one)
+        ∙ ap (λ b. b && not (s.options.no_local && same_text id m.publisher))
+        (and_true (is_none s.share))
+        ∙ ap (λ (k : Text). is_none s.share && not (s.options.no_local && same_text k m.publisher))
+        (sym one)
 
     other : same_text s.client id ≡ false → gives m id s ≡ false
     other f =
         ap (λ b. is_none s.share && b && not (s.options.no_local && same_text id m.publisher)) f
-        ∙ ap (λ b. b && not (s.options.no_local && same_text id m.publisher)) (and_false (is_none s.share))
+        ∙ ap (λ b. b && not (s.options.no_local && same_text id m.publisher))
+        (and_false (is_none s.share))
 
 -- ## One more
 
-pub summary-more : (xs : List Match) (i : ℕ) (d : Match) (old new : Summary) → i < length xs → old ≡ summary_of (map (λ x. options_of x.options) (take i xs)) → new ≡ together old (summary_of (options_of (get_or xs i d).options ∷ [])) → new ≡ summary_of (map (λ x. options_of x.options) (take (i + 1) xs))
+pub summary-more : (xs : List Match) (i : ℕ) (d : Match) (old new : Summary) → i < length xs
+    → old ≡ summary_of (map (λ x. options_of x.options) (take i xs))
+    → new ≡ together old (summary_of (options_of (get_or xs i d).options ∷ []))
+    → new ≡ summary_of (map (λ x. options_of x.options) (take (i + 1) xs))
 summary-more xs i d old new h start sum =
     let before : List SubscriptionOptions = map (λ x. options_of x.options) (take i xs) in
     let o : SubscriptionOptions = options_of (get_or xs i d).options in
-    let more : before ++ o ∷ [] ≡ map (λ x. options_of x.options) (take (i + 1) xs) = grind (arith, common_steps) in
-    sum ∙ ap (λ s. together s (summary_of (o ∷ []))) start ∙ sym (summary_of-append before (o ∷ [])) ∙ ap summary_of more
+    let more : before ++ o ∷ [] ≡ map (λ x. options_of x.options) (take (i + 1) xs) =
+    grind (arith, common_steps) in
+    sum ∙ ap (λ s. together s (summary_of (o ∷ []))) start ∙ sym (summary_of-append before (o ∷ []))
+    ∙ ap summary_of more
 
 -- the subscriptions of the first client, in order: what they come to, and the others
-pub next-client : {F : Type 0} (g : Mut F (Bor Match × (Bor Match × Unit {0})) Bool) (s t : ChunkBy Match F) (r : Option (Bor (List Match))) (own : Bor (List Match)) (d : Match) → r ≡ Some own → chunk_by_steps g s r t → ComputesOnPairs g (same (λ (x : Match). rc_str_bytes x.client.now)) (chunk_by_callee s) → AreByClient (matched (chunk_by_rest s))
-    → AreByClient (matched (chunk_by_rest t)) × (by_client (matched (chunk_by_rest s)) ≡ (rc_str_bytes (get_or own.now 0 d).client.now, summary_of (map (λ x. options_of x.options) own.now)) ∷ by_client (matched (chunk_by_rest t)))
+pub next-client : {F : Type 0} (g : Mut F (Bor Match × (Bor Match × Unit {0})) Bool)
+    (s t : ChunkBy Match F) (r : Option (Bor (List Match))) (own : Bor (List Match)) (d : Match)
+    → r ≡ Some own → chunk_by_steps g s r t
+    → ComputesOnPairs g (same (λ (x : Match). rc_str_bytes x.client.now)) (chunk_by_callee s)
+    → AreByClient (matched (chunk_by_rest s))
+    → AreByClient (matched (chunk_by_rest t))
+    × (by_client (matched (chunk_by_rest s))
+    ≡ (
+      rc_str_bytes (get_or own.now 0 d).client.now,
+      summary_of (map (λ x. options_of x.options) own.now),
+    )
+    ∷ by_client (matched (chunk_by_rest t)))
 next-client g s t r own d is steps computes up =
     let step = subst (λ (o : Option (Bor (List Match))). chunk_by_steps g s o t) is steps in
-    cut own.now (chunk_by_rest t) (chunk_by_rest s) step.0 step.1 (step.2 (same (λ (x : Match). rc_str_bytes x.client.now)) computes).1 up
+    cut own.now (chunk_by_rest t) (chunk_by_rest s) step.0 step.1
+    (step.2 (same (λ (x : Match). rc_str_bytes x.client.now)) computes).1 up
   where
     pair : Match → Text × SubscriptionOptions
     pair x = (rc_str_bytes x.client.now, options_of x.options)
@@ -192,77 +257,129 @@ next-client g s t r own d is steps computes up =
     behind [] ys h = h
     behind (x ∷ xs) ys h = behind xs ys h.1
 
-    cut : (own rest all : List Match) → all ≡ own ++ rest → 0 < length own → IsChunkByPrefix (same (λ (x : Match). rc_str_bytes x.client.now)) all (length own) → AreByClient (matched all)
-        → AreByClient (matched rest) × (by_client (matched all) ≡ (rc_str_bytes (get_or own 0 d).client.now, summary_of (map (λ x. options_of x.options) own)) ∷ by_client (matched rest))
+    cut : (own rest all : List Match) → all ≡ own ++ rest → 0 < length own
+        → IsChunkByPrefix (same (λ (x : Match). rc_str_bytes x.client.now)) all (length own)
+        → AreByClient (matched all)
+        → AreByClient (matched rest)
+        × (by_client (matched all)
+        ≡ (
+          rc_str_bytes (get_or own 0 d).client.now,
+          summary_of (map (λ x. options_of x.options) own),
+        ) ∷ by_client (matched rest))
     cut [] rest all e p prefix up = absurd (omega arith)
     cut (x ∷ own) rest all e p prefix up =
         let c : Text = rc_str_bytes x.client.now in
-        let up_keys : AreAscending (map (λ (x : Match). rc_str_bytes x.client.now) (x ∷ own ++ rest)) = subst AreAscending (clients all ∙ ap (map (λ (x : Match). rc_str_bytes x.client.now)) e) up in
-        let parts = first-run (λ (x : Match). rc_str_bytes x.client.now) x own rest (subst (λ (l : List Match). IsChunkByPrefix (same (λ (x : Match). rc_str_bytes x.client.now)) l (length (x ∷ own))) e prefix) up_keys in (
-          subst AreAscending (sym (clients rest)) (behind (map (λ (x : Match). rc_str_bytes x.client.now) (x ∷ own)) (map (λ (x : Match). rc_str_bytes x.client.now) rest) (subst AreAscending (map-append (λ (x : Match). rc_str_bytes x.client.now) (x ∷ own) rest) up_keys)),
+        let up_keys : AreAscending
+        (map (λ (x : Match). rc_str_bytes x.client.now) (x ∷ own ++ rest)) =
+        subst AreAscending (clients all ∙ ap (map (λ (x : Match). rc_str_bytes x.client.now)) e)
+        up in
+        let parts = first-run (λ (x : Match). rc_str_bytes x.client.now) x own rest
+        (subst (λ (l : List Match). IsChunkByPrefix
+        (same (λ (x : Match). rc_str_bytes x.client.now)) l (length (x ∷ own))) e prefix)
+        up_keys in (
+          subst AreAscending (sym (clients rest))
+              (behind (map (λ (x : Match). rc_str_bytes x.client.now) (x ∷ own))
+              (map (λ (x : Match). rc_str_bytes x.client.now) rest)
+              (subst AreAscending (map-append (λ (x : Match). rc_str_bytes x.client.now) (x ∷ own)
+              rest) up_keys)),
           ap (λ l. by_client (matched l)) e
               ∙ ap by_client (map-append pair (x ∷ own) rest)
               ∙ first-client c (pair x) (matched own) (matched rest)
               (subst (AllByRecursion (λ u. u ≡ c)) (sym (clients (x ∷ own))) parts.0)
               (subst (AllByRecursion (λ u. text_cmp c u ≡ Less)) (sym (clients rest)) parts.1)
-              ∙ ap (λ os. summed_first c os (by_client (matched rest))) (map-map (λ (y : Text × SubscriptionOptions). y.1) pair (x ∷ own)),
+              ∙ ap (λ os. summed_first c os (by_client (matched rest)))
+              (map-map (λ (y : Text × SubscriptionOptions). y.1) pair (x ∷ own)),
         )
       where
-        summed_first : Text → List SubscriptionOptions → List (Text × Summary) → List (Text × Summary)
+        summed_first : Text → List SubscriptionOptions → List (Text × Summary)
+            → List (Text × Summary)
         summed_first c os l = (c, summary_of os) ∷ l
 
 -- ## Where a copy goes
 
-onto : {Y : Type 0} (ys : List Y) (o : Option Y) (rest : List Y) → (ys ++ option_to_list o) ++ rest ≡ ys ++ cons_option o rest
+onto : {Y : Type 0} (ys : List Y) (o : Option Y) (rest : List Y)
+    → (ys ++ option_to_list o) ++ rest ≡ ys ++ cons_option o rest
 onto ys None rest = ap (λ l. l ++ rest) (append-nil ys)
 onto ys (Some y) rest = append_assoc ys (y ∷ []) rest
 
-module _ (limit : ℕ) (access : Option (List AclRow)) (sessions : List Session) (m : Message) (deadline : Option ℕ) (l : Text × Summary) (w : Way) (sent : is_sent w ≡ is_reader access sessions m.topic l.0) (waiting : waits w ≡ (room_for limit sessions l.0 && allowed access l.0 (user_of sessions l.0) m.topic Reading)) where
-  copy-by_way : copy_for access sessions m l ≡ (if is_sent w then Some (copy_from l.0 None m l.1) else None)
+module _ (limit : ℕ) (access : Option (List AclRow)) (sessions : List Session) (m : Message)
+    (deadline : Option ℕ) (l : Text × Summary) (w : Way)
+    (sent : is_sent w ≡ is_reader access sessions m.topic l.0)
+    (waiting : waits w ≡ (room_for limit sessions l.0
+    && allowed access l.0 (user_of sessions l.0) m.topic Reading)) where
+  copy-by_way : copy_for access sessions m l
+      ≡ (if is_sent w then Some (copy_from l.0 None m l.1) else None)
   copy-by_way = ap (λ b. if b then Some (copy_from l.0 None m l.1) else None) (sym sent)
 
-  begin-by_way : begin_for limit access sessions m deadline l ≡ (if waits w then option_map (begin_with l.0 deadline) (with_qos (copy_from l.0 None m l.1)) else None)
-  begin-by_way = ap (λ b. if b then option_map (begin_with l.0 deadline) (with_qos (copy_from l.0 None m l.1)) else None) (sym waiting)
+  begin-by_way : begin_for limit access sessions m deadline l
+      ≡ (if waits w then option_map (begin_with l.0 deadline) (with_qos (copy_from l.0 None m l.1))
+      else None)
+  begin-by_way =
+      ap (λ b. if b then option_map (begin_with l.0 deadline) (with_qos (copy_from l.0 None m l.1))
+      else None) (sym waiting)
 
-  pub copies-first : (copies : List Copy) (L all : List (Text × Summary)) → all ≡ l ∷ L → (o : Option Copy) → (if is_sent w then Some (copy_from l.0 None m l.1) else None) ≡ o → (copies ++ option_to_list o) ++ copies_by access sessions m L ≡ copies ++ copies_by access sessions m all
+  pub copies-first : (copies : List Copy) (L all : List (Text × Summary)) → all ≡ l ∷ L
+      → (o : Option Copy) → (if is_sent w then Some (copy_from l.0 None m l.1) else None) ≡ o
+      → (copies ++ option_to_list o) ++ copies_by access sessions m L ≡ copies
+      ++ copies_by access sessions m all
   copies-first copies L all e o is =
       onto copies o (copies_by access sessions m L)
       ∙ ap (λ p. copies ++ cons_option p (copies_by access sessions m L)) (sym is ∙ sym copy-by_way)
       ∙ ap (λ k. copies ++ copies_by access sessions m k) (sym e)
 
-  pub begins-first : (begun : List Begin) (L all : List (Text × Summary)) → all ≡ l ∷ L → (o : Option Begin) → (if waits w then option_map (begin_with l.0 deadline) (with_qos (copy_from l.0 None m l.1)) else None) ≡ o → (begun ++ option_to_list o) ++ begins_by limit access sessions m deadline L ≡ begun ++ begins_by limit access sessions m deadline all
+  pub begins-first : (begun : List Begin) (L all : List (Text × Summary)) → all ≡ l ∷ L
+      → (o : Option Begin)
+      → (if waits w then option_map (begin_with l.0 deadline) (with_qos (copy_from l.0 None m l.1))
+      else None) ≡ o → (begun ++ option_to_list o) ++ begins_by limit access sessions m deadline L
+      ≡ begun ++ begins_by limit access sessions m deadline all
   begins-first begun L all e o is =
       onto begun o (begins_by limit access sessions m deadline L)
-      ∙ ap (λ p. begun ++ cons_option p (begins_by limit access sessions m deadline L)) (sym is ∙ sym begin-by_way)
+      ∙ ap (λ p. begun ++ cons_option p (begins_by limit access sessions m deadline L))
+      (sym is ∙ sym begin-by_way)
       ∙ ap (λ k. begun ++ begins_by limit access sessions m deadline k) (sym e)
 
-  module _ (copies : List Copy) (begun : List Begin) (L all : List (Text × Summary)) (e : all ≡ l ∷ L) where
+  module _ (copies : List Copy) (begun : List Begin) (L all : List (Text × Summary))
+      (e : all ≡ l ∷ L) where
     abbrev copies_stay : Type 0
-    copies_stay = copies ++ copies_by access sessions m L ≡ copies ++ copies_by access sessions m all
+    copies_stay = copies ++ copies_by access sessions m L ≡ copies
+        ++ copies_by access sessions m all
 
     abbrev begun_stay : Type 0
-    begun_stay = begun ++ begins_by limit access sessions m deadline L ≡ begun ++ begins_by limit access sessions m deadline all
+    begun_stay = begun ++ begins_by limit access sessions m deadline L ≡ begun
+        ++ begins_by limit access sessions m deadline all
 
     no_copy : is_sent w ≡ false → copies_stay
     no_copy h =
         ap (λ k. k ++ copies_by access sessions m L) (sym (append-nil copies))
-        ∙ copies-first copies L all e None (ap (λ b. if b then Some (copy_from l.0 None m l.1) else None) h)
+        ∙ copies-first copies L all e None
+        (ap (λ b. if b then Some (copy_from l.0 None m l.1) else None) h)
 
     none_begins : waits w ≡ false → begun_stay
     none_begins h =
         ap (λ k. k ++ begins_by limit access sessions m deadline L) (sym (append-nil begun))
-        ∙ begins-first begun L all e None (ap (λ b. if b then option_map (begin_with l.0 deadline) (with_qos (copy_from l.0 None m l.1)) else None) h)
+        ∙ begins-first begun L all e None
+        (ap (λ b. if b then option_map (begin_with l.0 deadline)
+        (with_qos (copy_from l.0 None m l.1)) else None) h)
 
-    pub sent-first : w ≡ Sent → (copy : Copy) → copy ≡ copy_from l.0 None m l.1 → ((copies ++ copy ∷ []) ++ copies_by access sessions m L ≡ copies ++ copies_by access sessions m all) × begun_stay
+    pub sent-first : w ≡ Sent → (copy : Copy) → copy ≡ copy_from l.0 None m l.1
+        → ((copies ++ copy ∷ []) ++ copies_by access sessions m L ≡ copies
+        ++ copies_by access sessions m all) × begun_stay
     sent-first h copy is = (
-      copies-first copies L all e (Some copy) (ap (λ v. if is_sent v then Some (copy_from l.0 None m l.1) else None) h ∙ ap Some (sym is)),
+      copies-first copies L all e (Some copy)
+          (ap (λ v. if is_sent v then Some (copy_from l.0 None m l.1) else None) h
+          ∙ ap Some (sym is)),
       none_begins (ap waits h),
     )
 
-    pub waits-first : w ≡ Waits → (o : Option Begin) → o ≡ option_map (begin_with l.0 deadline) (with_qos (copy_from l.0 None m l.1)) → copies_stay × ((begun ++ option_to_list o) ++ begins_by limit access sessions m deadline L ≡ begun ++ begins_by limit access sessions m deadline all)
+    pub waits-first : w ≡ Waits → (o : Option Begin)
+        → o ≡ option_map (begin_with l.0 deadline) (with_qos (copy_from l.0 None m l.1))
+        → copies_stay × ((begun ++ option_to_list o) ++ begins_by limit access sessions m deadline L
+        ≡ begun ++ begins_by limit access sessions m deadline all)
     waits-first h o is = (
       no_copy (ap is_sent h),
-      begins-first begun L all e o (ap (λ v. if waits v then option_map (begin_with l.0 deadline) (with_qos (copy_from l.0 None m l.1)) else None) h ∙ sym is),
+      begins-first begun L all e o
+          (ap (λ v. if waits v then option_map (begin_with l.0 deadline)
+          (with_qos (copy_from l.0 None m l.1)) else None) h ∙ sym is),
     )
 
     pub nowhere-first : w ≡ Nowhere → copies_stay × begun_stay

@@ -21,7 +21,8 @@ fresh_state limits access = record {
   deadlines = [];
 }
 
-pub fresh-stands : (limits : Limits) (access : Option (List AclRow)) → StandsFor (fresh_state limits access) (within limits (fresh_world access))
+pub fresh-stands : (limits : Limits) (access : Option (List AclRow))
+    → StandsFor (fresh_state limits access) (within limits (fresh_world access))
 unfolding StandsFor fresh_world filters_of IsDistinct IsStrictlySortedBy
 fresh-stands limits access = (
   record {

@@ -1,5 +1,6 @@
 -- The groups that have members, and who is served in each.
-use Rattle.std.proofs.Common.{◌≡◌, Bool, true, false, cond, not, ◌&&◌, ◌||◌, List, [], ◌∷◌, map, Option, Some, None, refl, sym, ◌∙◌, ap}
+use Rattle.std.proofs.Common.{◌≡◌, Bool, true, false, cond, not, ◌&&◌, ◌||◌, List, [], ◌∷◌, map}
+use Rattle.std.proofs.Common.{Option, Some, None, refl, sym, ◌∙◌, ap}
 use Rattle.std.specs.Ordering.{is_eq, nat_cmp}
 use Rattle.std.specs.Cmp.{tied_then}
 use Rattle.std.specs.Cmp.Lexicographic.{slice_cmp}
@@ -11,7 +12,8 @@ use Rattle.mq_topic.specs.Levels.{levels, level_order}
 use Rattle.mq_acl.specs.Rows.{AclRow}
 use Rattle.mq_world.specs.Sessions.{is_reader}
 use Rattle.mq_world.specs.Lists.{Text, same_text, in_order}
-use Rattle.mq_world.specs.World.{Session, Row, Subscription, Group, Message, group_cmp, group_of, is_in_group, same_share}
+use Rattle.mq_world.specs.World.{Session, Row, Subscription, Group, Message, group_cmp, group_of}
+use Rattle.mq_world.specs.World.{is_in_group, same_share}
 use Rattle.mq_subscriptions.specs.Turns.{groups_among, next_in, next_members}
 use Rattle.mq_world.specs.Copies.{filter_matches}
 use Rattle.mq_subscriptions.specs.Filters.{is_empty}
@@ -24,17 +26,22 @@ use Rattle.mq_world.proofs.OrderLemmas.{same_text-is}
 
 -- ## Groups in order
 
-pub group_tie : (g k : Group) → is_eq (group_cmp g k) ≡ (same_text g.share k.share && same_text g.filter k.filter)
+pub group_tie : (g k : Group) → is_eq (group_cmp g k)
+    ≡ (same_text g.share k.share && same_text g.filter k.filter)
 group_tie g k =
-    sym (tied_then (slice_cmp nat_cmp g.share k.share) (level_order (levels g.filter) (levels k.filter)))
-    ∙ ap (λ b. b && is_eq (level_order (levels g.filter) (levels k.filter))) (is_eq-slice_cmp g.share k.share)
+    sym (tied_then (slice_cmp nat_cmp g.share k.share)
+    (level_order (levels g.filter) (levels k.filter)))
+    ∙ ap (λ b. b && is_eq (level_order (levels g.filter) (levels k.filter)))
+    (is_eq-slice_cmp g.share k.share)
     ∙ ap (λ b. same_text g.share k.share && b) (level_equal g.filter k.filter)
 
 pub group_tied : (g k : Group) → is_eq (group_cmp g k) ≡ true → g ≡ k
 group_tied g k h =
-    let both : (same_text g.share k.share && same_text g.filter k.filter) ≡ true = sym (group_tie g k) ∙ h in
+    let both : (same_text g.share k.share && same_text g.filter k.filter) ≡ true =
+    sym (group_tie g k) ∙ h in
     let share : g.share ≡ k.share = same_text-is g.share k.share (left_true _ _ both) in
-    let f : g.filter ≡ k.filter = same_text-is g.filter k.filter (right_true (same_text g.share k.share) _ both) in
+    let f : g.filter ≡ k.filter = same_text-is g.filter k.filter
+    (right_true (same_text g.share k.share) _ both) in
     λ i. record { share = share i; filter = f i }
 
 -- ## The groups that have members
@@ -45,38 +52,57 @@ groups-sorted xs = sorted-in_order group_cmp group_total (filter_map group_of xs
 
 pub groups_of-sorted : (rows : List Row) → IsStrictlySortedBy group_cmp (groups_of rows)
 unfolding groups_of
-groups_of-sorted rows = sorted-in_order group_cmp group_total (filter_map (λ (r : Row). group_of r.subscription) rows)
+groups_of-sorted rows = sorted-in_order group_cmp group_total
+    (filter_map (λ (r : Row). group_of r.subscription) rows)
 
 -- the groups of rows are those of their subscriptions
-pub groups-told : (rows : List Row) → groups_among (map (λ (r : Row). r.subscription) rows) ≡ groups_of rows
+pub groups-told : (rows : List Row) → groups_among (map (λ (r : Row). r.subscription) rows)
+    ≡ groups_of rows
 unfolding groups_among groups_of
-groups-told rows = ap (in_order group_cmp) (filter_map-map group_of (λ (r : Row). r.subscription) rows)
+groups-told rows = ap (in_order group_cmp)
+    (filter_map-map group_of (λ (r : Row). r.subscription) rows)
 
 -- the group of a subscription is the one that it is in
-one_group : (g : Group) (x : Subscription) → option_map_or (ties group_cmp group_total g) (group_of x) false ≡ is_in_group g x
+one_group : (g : Group) (x : Subscription)
+    → option_map_or (ties group_cmp group_total g) (group_of x) false ≡ is_in_group g x
 one_group g x = go x.share
   where
-    go : (share : Option Text) → option_map_or (ties group_cmp group_total g) (option_map (λ s. record { share = s; filter = x.filter }) share) false ≡ (same_share share (Some g.share) && same_text x.filter g.filter)
+    go : (share : Option Text) → option_map_or (ties group_cmp group_total g)
+        (option_map (λ s. record { share = s; filter = x.filter }) share) false
+        ≡ (same_share share (Some g.share) && same_text x.filter g.filter)
     go None = refl
-    go (Some s) = group_tie g (record { share = s; filter = x.filter }) ∙ ap (λ b. b && same_text g.filter x.filter) (text_flip g.share s) ∙ ap (λ b. same_text s g.share && b) (text_flip g.filter x.filter)
+    go (Some s) = group_tie g (record { share = s; filter = x.filter })
+        ∙ ap (λ b. b && same_text g.filter x.filter) (text_flip g.share s)
+        ∙ ap (λ b. same_text s g.share && b) (text_flip g.filter x.filter)
 
-any_groups : (g : Group) (xs : List Subscription) → list_any (ties group_cmp group_total g) (filter_map group_of xs) ≡ list_any (is_in_group g) xs
+any_groups : (g : Group) (xs : List Subscription)
+    → list_any (ties group_cmp group_total g) (filter_map group_of xs) ≡ list_any (is_in_group g) xs
 any_groups g [] = refl
 any_groups g (x ∷ xs) =
-    split_option (group_of x) ∙ ap (λ b. b || list_any (ties group_cmp group_total g) (filter_map group_of xs)) (one_group g x) ∙ ap (λ b. is_in_group g x || b) (any_groups g xs)
+    split_option (group_of x)
+    ∙ ap (λ b. b || list_any (ties group_cmp group_total g) (filter_map group_of xs))
+    (one_group g x) ∙ ap (λ b. is_in_group g x || b) (any_groups g xs)
   where
-    split_option : (k : Option Group) → list_any (ties group_cmp group_total g) (cons_option k (filter_map group_of xs)) ≡ (option_map_or (ties group_cmp group_total g) k false || list_any (ties group_cmp group_total g) (filter_map group_of xs))
+    split_option : (k : Option Group)
+        → list_any (ties group_cmp group_total g) (cons_option k (filter_map group_of xs))
+        ≡ (option_map_or (ties group_cmp group_total g) k false
+        || list_any (ties group_cmp group_total g) (filter_map group_of xs))
     split_option None = refl
     split_option (Some k) = refl
 
 -- a group is there where it has a member
-pub groups-any : (g : Group) (xs : List Subscription) → list_any (ties group_cmp group_total g) (groups_among xs) ≡ list_any (is_in_group g) xs
+pub groups-any : (g : Group) (xs : List Subscription)
+    → list_any (ties group_cmp group_total g) (groups_among xs) ≡ list_any (is_in_group g) xs
 unfolding groups_among
-groups-any g xs = any-in_order group_cmp group_total group_tied g (filter_map group_of xs) ∙ any_groups g xs
+groups-any g xs = any-in_order group_cmp group_total group_tied g (filter_map group_of xs)
+    ∙ any_groups g xs
 
-pub groups-same : (q : Group → Bool) (xs ys : List Subscription) → ((g : Group) → q g ≡ true → list_any (is_in_group g) xs ≡ list_any (is_in_group g) ys) → filter q (groups_among xs) ≡ filter q (groups_among ys)
+pub groups-same : (q : Group → Bool) (xs ys : List Subscription)
+    → ((g : Group) → q g ≡ true → list_any (is_in_group g) xs ≡ list_any (is_in_group g) ys)
+    → filter q (groups_among xs) ≡ filter q (groups_among ys)
 groups-same q xs ys h =
-    same_filtered group_cmp group_total group_tied q (groups_among xs) (groups_among ys) (groups-sorted xs) (groups-sorted ys)
+    same_filtered group_cmp group_total group_tied q (groups_among xs) (groups_among ys)
+    (groups-sorted xs) (groups-sorted ys)
     (λ g e. groups-any g xs ∙ h g e ∙ sym (groups-any g ys))
 
 -- ## Those that are found for a name
@@ -85,41 +111,64 @@ abbrev matching : Text → Subscription → Bool
 matching topic x = filter_matches x.filter topic
 
 -- a member of a group that matches is among the subscriptions that match
-in_matching : (topic : Text) (g : Group) → filter_matches g.filter topic ≡ true → (xs : List Subscription) → filter (is_in_group g) (filter (matching topic) xs) ≡ filter (is_in_group g) xs
+in_matching : (topic : Text) (g : Group) → filter_matches g.filter topic ≡ true
+    → (xs : List Subscription) → filter (is_in_group g) (filter (matching topic) xs)
+    ≡ filter (is_in_group g) xs
 in_matching topic g m [] = refl
 in_matching topic g m (x ∷ xs) =
     let rest : List Subscription = filter (matching topic) xs in
     pick (is_in_group g x)
-    (λ t. (let here : matching topic x ≡ true = ap (λ (f : Text). filter_matches f topic) (same_text-is x.filter g.filter (right_true (same_share x.share (Some g.share)) (same_text x.filter g.filter) t)) ∙ m in
+    (λ t. (let here : matching topic x ≡ true =
+    ap (λ (f : Text). filter_matches f topic)
+    (same_text-is x.filter g.filter
+    (right_true (same_share x.share (Some g.share)) (same_text x.filter g.filter) t))
+    ∙ m in
     ap (λ b. filter (is_in_group g) (cond b (x ∷ rest) rest)) here
     ∙ ap (λ l. cond (is_in_group g x) (x ∷ l) l) (in_matching topic g m xs)))
-    (λ f. (elim (matching topic x) as (λ b. filter (is_in_group g) (cond b (x ∷ rest) rest) ≡ filter (is_in_group g) rest) [
+    (λ f. (elim (matching topic x) as (λ b. filter (is_in_group g) (cond b (x ∷ rest) rest)
+    ≡ filter (is_in_group g) rest) [
       | true ↦ ap (λ b. cond b (x ∷ filter (is_in_group g) rest) (filter (is_in_group g) rest)) f
       | false ↦ refl
     ])
-    ∙ in_matching topic g m xs ∙ sym (ap (λ b. cond b (x ∷ filter (is_in_group g) xs) (filter (is_in_group g) xs)) f))
+    ∙ in_matching topic g m xs
+    ∙ sym (ap (λ b. cond b (x ∷ filter (is_in_group g) xs) (filter (is_in_group g) xs)) f))
 
 pub told : {X : Type 0} (p : X → Bool) (zs : List X) → list_any p zs ≡ not (is_empty (filter p zs))
 told p [] = refl
-told p (z ∷ zs) = elim (p z) as (λ b. (b || list_any p zs) ≡ not (is_empty (cond b (z ∷ filter p zs) (filter p zs)))) [ true ↦ refl | false ↦ told p zs ]
+told p (z ∷ zs) =
+    elim (p z) as (λ b. (b || list_any p zs)
+    ≡ not (is_empty (cond b (z ∷ filter p zs) (filter p zs)))) [ true ↦ refl | false ↦ told p zs ]
 
-pub any-from_filter : {X : Type 0} (p : X → Bool) (xs ys : List X) → filter p xs ≡ filter p ys → list_any p xs ≡ list_any p ys
+pub any-from_filter : {X : Type 0} (p : X → Bool) (xs ys : List X) → filter p xs ≡ filter p ys
+    → list_any p xs ≡ list_any p ys
 any-from_filter p xs ys e = told p xs ∙ ap (λ l. not (is_empty l)) e ∙ sym (told p ys)
 
-filter_map-alike : {X Y : Type 0} (h k : X → Option Y) (q : X → Bool) → ((x : X) → q x ≡ true → h x ≡ k x) → (xs : List X) → filter_map h (filter q xs) ≡ filter_map k (filter q xs)
+filter_map-alike : {X Y : Type 0} (h k : X → Option Y) (q : X → Bool)
+    → ((x : X) → q x ≡ true → h x ≡ k x) → (xs : List X)
+    → filter_map h (filter q xs) ≡ filter_map k (filter q xs)
 filter_map-alike h k q e [] = refl
 filter_map-alike {X} h k q e (x ∷ xs) =
     let rest : List X = filter q xs in
     pick (q x)
-    (λ t. ap (λ b. filter_map h (cond b (x ∷ rest) rest)) t ∙ ap (λ o. cons_option o (filter_map h rest)) (e x t) ∙ ap (cons_option (k x)) (filter_map-alike h k q e xs) ∙ sym (ap (λ b. filter_map k (cond b (x ∷ rest) rest)) t))
-    (λ f. ap (λ b. filter_map h (cond b (x ∷ rest) rest)) f ∙ filter_map-alike h k q e xs ∙ sym (ap (λ b. filter_map k (cond b (x ∷ rest) rest)) f))
+    (λ t. ap (λ b. filter_map h (cond b (x ∷ rest) rest)) t
+    ∙ ap (λ o. cons_option o (filter_map h rest)) (e x t)
+    ∙ ap (cons_option (k x)) (filter_map-alike h k q e xs)
+    ∙ sym (ap (λ b. filter_map k (cond b (x ∷ rest) rest)) t))
+    (λ f. ap (λ b. filter_map h (cond b (x ∷ rest) rest)) f ∙ filter_map-alike h k q e xs
+    ∙ sym (ap (λ b. filter_map k (cond b (x ∷ rest) rest)) f))
 
 -- those that match are enough
-pub members-matching : (access : Option (List AclRow)) (sessions : List Session) (xs : List Subscription) (m : Message) → next_members access sessions (filter (matching m.topic) xs) m ≡ next_members access sessions xs m
+pub members-matching : (access : Option (List AclRow)) (sessions : List Session)
+    (xs : List Subscription) (m : Message)
+    → next_members access sessions (filter (matching m.topic) xs) m
+    ≡ next_members access sessions xs m
 unfolding next_members
 members-matching access sessions xs m =
     let q : Group → Bool = λ group. filter_matches group.filter m.topic in
     let few : List Subscription = filter (matching m.topic) xs in
     filter_map-alike (next_in access sessions few m.topic) (next_in access sessions xs m.topic) q
-    (λ g t. ap (find (λ x. is_reader access sessions m.topic x.client)) (in_matching m.topic g t xs)) (groups_among few)
-    ∙ ap (filter_map (next_in access sessions xs m.topic)) (groups-same q few xs (λ g t. any-from_filter (is_in_group g) few xs (in_matching m.topic g t xs)))
+    (λ g t. ap (find (λ x. is_reader access sessions m.topic x.client))
+    (in_matching m.topic g t xs)) (groups_among few)
+    ∙ ap (filter_map (next_in access sessions xs m.topic))
+    (groups-same q few xs (λ g t. any-from_filter (is_in_group g) few xs
+    (in_matching m.topic g t xs)))

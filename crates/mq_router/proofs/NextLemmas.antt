@@ -1,5 +1,6 @@
 -- The next world is one: each list has one row for a key, in the order of the keys, and each stamp was given out.
-use Rattle.std.proofs.Common.{◌≡◌, ◌<◌, ℕ, ◌+◌, Bool, true, false, cond, not, List, [], ◌∷◌, Option, Some, None, map, if◌then◌else◌, refl, subst, arith}
+use Rattle.std.proofs.Common.{◌≡◌, ◌<◌, ℕ, ◌+◌, Bool, true, false, cond, not, List, [], ◌∷◌, Option}
+use Rattle.std.proofs.Common.{Some, None, map, if◌then◌else◌, refl, subst, arith}
 use Rattle.std.specs.Option.{option_map_or}
 use Rattle.std.specs.List.{filter, find, AllByRecursion}
 use Rattle.std.specs.List.Sorted.{IsStrictlySortedBy}
@@ -7,7 +8,11 @@ use Rattle.std.proofs.lemmas.List.Kept.{IsStrictlySortedBy-filter}
 use Rattle.mq_topic.specs.Texts.{share_of, filter_part}
 use Rattle.mq_acl.specs.Rows.{AclRow}
 use Rattle.mq_world.specs.Lists.{Text, same_text, with_row}
-use Rattle.mq_world.specs.World.{World, IsWorld, Session, Away, Subscription, Row, Retained, Message, Request, Connect, Disconnect, Subscribe, Unsubscribe, Publish, SetAcl, Advance, Stat, asked, session_cmp, row_cmp, retained_cmp, has_id, has_key, same_key, is_in_group, rows_in, subscriptions_of}
+use Rattle.mq_world.specs.World.{World, IsWorld, Session, Away, Subscription, Row, Retained}
+use Rattle.mq_world.specs.World.{Message, Request, Connect, Disconnect, Subscribe, Unsubscribe}
+use Rattle.mq_world.specs.World.{Publish, SetAcl, Advance, Stat, asked, session_cmp, row_cmp}
+use Rattle.mq_world.specs.World.{retained_cmp, has_id, has_key, same_key, is_in_group, rows_in}
+use Rattle.mq_world.specs.World.{subscriptions_of}
 use Rattle.mq_world.specs.Clock.{deadline_of, is_over}
 use Rattle.mq_world.specs.Sessions.{new_session, outlives, resumes, left_by, session_end, has_ended}
 use Rattle.mq_world.specs.Waiting.{waiting_copy, waiting_after, with_waiting}
@@ -15,9 +20,11 @@ use Rattle.mq_world.specs.Groups.{served_by}
 use Rattle.mq_world.specs.Retained.{retained_after, is_stored, stored, has_topic}
 use Rattle.mq_world.specs.After.{after, kept_stamp, without_client}
 use Rattle.mq_router.specs.router.Effects.{lasts}
-use Rattle.mq_world.proofs.OrderLemmas.{session_total, row_total, retained_total, sorted-with_row, all-with_row, all_weaker, all_filtered}
+use Rattle.mq_world.proofs.OrderLemmas.{session_total, row_total, retained_total, sorted-with_row}
+use Rattle.mq_world.proofs.OrderLemmas.{all-with_row, all_weaker, all_filtered}
 use Rattle.mq_world.proofs.SameLemmas.{filter-swap}
-use Rattle.mq_subscriptions.proofs.JoinTurn.{AreApart, apart-joined, apart-filter, apart-from, apart-to}
+use Rattle.mq_subscriptions.proofs.JoinTurn.{AreApart, apart-joined, apart-filter, apart-from}
+use Rattle.mq_subscriptions.proofs.JoinTurn.{apart-to}
 use Rattle.mq_router.proofs.ServeTurn.{served-apart, restamped-sorted, restamped-below}
 use Rattle.mq_sessions.proofs.SessionLemmas.{sorted-map}
 
@@ -26,59 +33,101 @@ abbrev pub gone : World → Text → Bool → World
 gone w id stays =
     record (if stays
     then record w { sessions = map (left_by w.moment id) w.sessions }
-    else record w { sessions = filter (λ session. not (has_id id session)) w.sessions; rows = without_client id w.rows }) { accepted = w.accepted + 1 }
+    else record w {
+      sessions = filter (λ session. not (has_id id session)) w.sessions;
+      rows =
+          without_client id w.rows;
+    }) { accepted = w.accepted + 1 }
 
 -- no edit of sessions changes an id
 left-id : (now : ℕ) (id : Text) (s : Session) → (left_by now id s).id ≡ s.id
-left-id now id s = elim (has_id id s) as (λ b. (if b then record s { presence = Away (session_end now s.interval) } else s).id ≡ s.id) [ true ↦ refl | false ↦ refl ]
+left-id now id s = elim (has_id id s)
+    as (λ b. (if b then record s { presence = Away (session_end now s.interval) } else s).id ≡ s.id)
+    [ true ↦ refl | false ↦ refl ]
 
-waiting-id : (limit : ℕ) (access : Option (List AclRow)) (subs : List Subscription) (now : ℕ) (m : Message) (s : Session) → (waiting_after limit access subs now m s).id ≡ s.id
+waiting-id : (limit : ℕ) (access : Option (List AclRow)) (subs : List Subscription) (now : ℕ)
+    (m : Message) (s : Session) → (waiting_after limit access subs now m s).id ≡ s.id
 waiting-id limit access subs now m s =
-    elim (waiting_copy limit access subs m s) as (λ o. (option_map_or (λ copy. with_waiting s (record { copy = copy; deadline = deadline_of now m.expiry } ∷ [])) o s).id ≡ s.id) [ None ↦ refl | Some copy ↦ refl ]
+    elim (waiting_copy limit access subs m s)
+    as (λ o. (option_map_or (λ copy. with_waiting s
+    (record { copy = copy; deadline = deadline_of now m.expiry } ∷ [])) o s).id ≡ s.id)
+    [ None ↦ refl | Some copy ↦ refl ]
 
-stamp_below : (n : ℕ) (rows : List Row) → AllByRecursion (λ row. row.stamp < n) rows → AllByRecursion (λ row. row.stamp < n + 1) rows
-stamp_below n rows h = all_weaker (λ (row : Row). row.stamp < n) (λ row. row.stamp < n + 1) (λ row e. omega arith) rows h
+stamp_below : (n : ℕ) (rows : List Row) → AllByRecursion (λ row. row.stamp < n) rows
+    → AllByRecursion (λ row. row.stamp < n + 1) rows
+stamp_below n rows h = all_weaker (λ (row : Row). row.stamp < n) (λ row. row.stamp < n + 1)
+    (λ row e. omega arith) rows h
 
-found_below : (p : Row → Bool) (n : ℕ) (rows : List Row) → AllByRecursion (λ row. row.stamp < n) rows → option_map_or (λ row. row.stamp) (find p rows) n < n + 1
+found_below : (p : Row → Bool) (n : ℕ) (rows : List Row)
+    → AllByRecursion (λ row. row.stamp < n) rows
+    → option_map_or (λ row. row.stamp) (find p rows) n < n + 1
 found_below p n [] h = omega arith
 found_below p n (row ∷ rows) h =
     let here : row.stamp < n = h.0 in
-    elim (p row) as (λ b. option_map_or (λ (r : Row). r.stamp) (cond b (Some row) (find p rows)) n < n + 1) [
+    elim (p row) as (λ b. option_map_or (λ (r : Row). r.stamp) (cond b (Some row) (find p rows)) n <
+    n + 1) [
       | true ↦ omega arith
       | false ↦ found_below p n rows h.1
     ]
 
 -- rows of which some are kept
-fewer : (q : Row → Bool) (w : World) → IsWorld w → (sessions : List Session) → IsStrictlySortedBy session_cmp sessions → IsWorld (record w { sessions = sessions; rows = filter q w.rows; accepted = w.accepted + 1 })
+fewer : (q : Row → Bool) (w : World) → IsWorld w → (sessions : List Session)
+    → IsStrictlySortedBy session_cmp sessions
+    → IsWorld (record w { sessions = sessions; rows = filter q w.rows; accepted = w.accepted + 1 })
 fewer q w h sessions s = record {
   sessions = s;
   rows = IsStrictlySortedBy-filter row_cmp q w.rows h.rows;
   retained = h.retained;
-  stamps = all_filtered (λ row. row.stamp < w.accepted + 1) q w.rows (stamp_below w.accepted w.rows h.stamps);
+  stamps = all_filtered (λ row. row.stamp < w.accepted + 1) q w.rows
+      (stamp_below w.accepted w.rows h.stamps);
   apart = λ g. apart-to (rows_in g (filter q w.rows))
-      (subst (λ (l : List Row). AreApart l) (filter-swap q (λ r. is_in_group g r.subscription) w.rows) (apart-filter q (rows_in g w.rows) (apart-from (rows_in g w.rows) (h.apart g))));
+      (subst (λ (l : List Row). AreApart l)
+      (filter-swap q (λ r. is_in_group g r.subscription) w.rows)
+      (apart-filter q (rows_in g w.rows) (apart-from (rows_in g w.rows) (h.apart g))));
 }
 
-sorted-after : (now : ℕ) (retained : List Retained) (m : Message) → IsStrictlySortedBy retained_cmp retained → IsStrictlySortedBy retained_cmp (retained_after now retained m)
+sorted-after : (now : ℕ) (retained : List Retained) (m : Message)
+    → IsStrictlySortedBy retained_cmp retained
+    → IsStrictlySortedBy retained_cmp (retained_after now retained m)
 unfolding retained_after
 sorted-after now retained m s =
     let new : Retained = stored now m in
     let rest : List Retained = filter (λ kept. not (has_topic m.topic kept)) retained in
-    elim (not m.retain) as (λ r. IsStrictlySortedBy retained_cmp (if r then retained else if is_stored m then with_row retained_cmp new retained else rest)) [
+    elim (not m.retain) as (λ r. IsStrictlySortedBy retained_cmp
+    (if r then retained else if is_stored m then
+    with_row retained_cmp new retained else rest)) [
       | true ↦ s
-      | false ↦ elim (is_stored m) as (λ k. IsStrictlySortedBy retained_cmp (if k then with_row retained_cmp new retained else rest)) [
-        | true ↦ sorted-with_row retained_cmp retained_total new retained s
-        | false ↦ IsStrictlySortedBy-filter retained_cmp (λ kept. not (has_topic m.topic kept)) retained s
-      ]
+      | false ↦ elim (is_stored m)
+          as (λ k. IsStrictlySortedBy retained_cmp
+          (if k then with_row retained_cmp new retained else rest)) [
+            | true ↦ sorted-with_row retained_cmp retained_total new retained s
+            | false ↦ IsStrictlySortedBy-filter retained_cmp (λ kept. not (has_topic m.topic kept))
+                retained s
+          ]
     ]
 
 pub after-is_world : (w : World) → IsWorld w → (request : Request) → IsWorld (after w request)
 unfolding after
 after-is_world w h (Connect id user clean interval) =
     let sessions : List Session = with_row session_cmp (new_session id user interval) w.sessions in
-    let sorted : IsStrictlySortedBy session_cmp sessions = sorted-with_row session_cmp session_total (new_session id user interval) w.sessions h.sessions in
-    elim (resumes w.sessions id clean) as (λ b. IsWorld (record w { sessions = sessions; rows = if b then w.rows else without_client id w.rows; accepted = w.accepted + 1 })) [
-      | true ↦ record { sessions = sorted; rows = h.rows; retained = h.retained; stamps = stamp_below w.accepted w.rows h.stamps; apart = h.apart }
+    let sorted : IsStrictlySortedBy session_cmp sessions =
+    sorted-with_row session_cmp session_total (new_session id user interval) w.sessions
+    h.sessions in
+    elim (resumes w.sessions id clean)
+    as (λ b. IsWorld
+    (record w {
+      sessions = sessions;
+      rows = if b then w.rows else without_client id w.rows;
+      accepted = w.accepted + 1;
+    })) [
+      | true ↦ record {
+        sessions = sorted;
+        rows = h.rows;
+        retained = h.retained;
+        stamps =
+            stamp_below w.accepted w.rows h.stamps;
+        apart = h.apart;
+      }
       | false ↦ fewer (λ row. not (same_text row.subscription.client id)) w h _ sorted
     ]
 after-is_world w h (Disconnect id) =
@@ -90,36 +139,68 @@ after-is_world w h (Disconnect id) =
         stamps = stamp_below w.accepted w.rows h.stamps;
         apart = h.apart;
       }
-      | false ↦ fewer (λ row. not (same_text row.subscription.client id)) w h _ (IsStrictlySortedBy-filter session_cmp (λ session. not (has_id id session)) w.sessions h.sessions)
+      | false ↦ fewer (λ row. not (same_text row.subscription.client id)) w h _
+          (IsStrictlySortedBy-filter session_cmp (λ session. not (has_id id session)) w.sessions
+          h.sessions)
     ]
 after-is_world w h (Subscribe id text options) =
     let s : Subscription = asked id text options in
     record {
       sessions = h.sessions;
-      rows = sorted-with_row row_cmp row_total (record { subscription = s; stamp = kept_stamp w s }) w.rows h.rows;
+      rows = sorted-with_row row_cmp row_total (record { subscription = s; stamp = kept_stamp w s })
+          w.rows h.rows;
       retained = h.retained;
-      stamps = all-with_row row_cmp row_total (λ row. row.stamp < w.accepted + 1) (record { subscription = s; stamp = kept_stamp w s }) w.rows
-          (found_below (λ row. same_key s row.subscription) w.accepted w.rows h.stamps) (stamp_below w.accepted w.rows h.stamps);
+      stamps = all-with_row row_cmp row_total (λ row. row.stamp < w.accepted + 1)
+          (record { subscription = s; stamp = kept_stamp w s }) w.rows
+          (found_below (λ row. same_key s row.subscription) w.accepted w.rows h.stamps)
+          (stamp_below w.accepted w.rows h.stamps);
       apart = λ g. apart-to _ (apart-joined s w h g);
     }
-after-is_world w h (Unsubscribe id text) = fewer (λ row. not (has_key id (share_of text) (filter_part text) row.subscription)) w h _ h.sessions
+after-is_world w h (Unsubscribe id text) =
+    fewer (λ row. not (has_key id (share_of text) (filter_part text) row.subscription)) w h _
+    h.sessions
 after-is_world w h (Publish m) = record {
-  sessions = sorted-map (waiting_after w.limits.queued w.access (subscriptions_of w) w.moment m) (waiting-id w.limits.queued w.access (subscriptions_of w) w.moment m) w.sessions h.sessions;
+  sessions = sorted-map (waiting_after w.limits.queued w.access (subscriptions_of w) w.moment m)
+      (waiting-id w.limits.queued w.access (subscriptions_of w) w.moment m) w.sessions h.sessions;
   rows = restamped-sorted w.accepted (served_by w m) w.rows h.rows;
   retained = sorted-after w.moment w.retained m h.retained;
   stamps = restamped-below w.accepted (served_by w m) w.rows h.stamps;
   apart = served-apart w h m;
 }
-after-is_world w h (SetAcl text) = record { sessions = h.sessions; rows = h.rows; retained = h.retained; stamps = stamp_below w.accepted w.rows h.stamps; apart = h.apart }
+after-is_world w h (SetAcl text) =
+    record {
+      sessions = h.sessions;
+      rows = h.rows;
+      retained = h.retained;
+      stamps =
+          stamp_below w.accepted w.rows h.stamps;
+      apart = h.apart;
+    }
 after-is_world w h (Advance seconds) =
     let now : ℕ = w.moment + seconds in
-    let rest : IsWorld (record w { sessions = filter (λ session. not (has_ended now session)) w.sessions; rows = filter (λ row. lasts now w.sessions row.subscription) w.rows; accepted = w.accepted + 1 }) =
-    fewer (λ row. lasts now w.sessions row.subscription) w h _ (IsStrictlySortedBy-filter session_cmp (λ session. not (has_ended now session)) w.sessions h.sessions) in
+    let rest : IsWorld
+    (record w {
+      sessions = filter (λ session. not (has_ended now session)) w.sessions;
+      rows =
+          filter (λ row. lasts now w.sessions row.subscription) w.rows;
+      accepted =
+          w.accepted + 1;
+    }) =
+    fewer (λ row. lasts now w.sessions row.subscription) w h _
+    (IsStrictlySortedBy-filter session_cmp (λ session. not (has_ended now session)) w.sessions
+    h.sessions) in
     record {
       sessions = rest.sessions;
       rows = rest.rows;
-      retained = IsStrictlySortedBy-filter retained_cmp (λ kept. not (is_over now kept.deadline)) w.retained h.retained;
+      retained = IsStrictlySortedBy-filter retained_cmp (λ kept. not (is_over now kept.deadline))
+          w.retained h.retained;
       stamps = rest.stamps;
       apart = rest.apart;
     }
-after-is_world w h Stat = record { sessions = h.sessions; rows = h.rows; retained = h.retained; stamps = stamp_below w.accepted w.rows h.stamps; apart = h.apart }
+after-is_world w h Stat = record {
+  sessions = h.sessions;
+  rows = h.rows;
+  retained = h.retained;
+  stamps = stamp_below w.accepted w.rows h.stamps;
+  apart = h.apart;
+}

@@ -1,5 +1,6 @@
 -- What is made of a message where no subscription matches its topic.
-use Rattle.std.proofs.Common.{◌≡◌, ℕ, ◌==◌, ◌&&◌, Bool, true, false, true≢false, not, List, [], ◌∷◌, length, Option, Some, None, if◌then◌else◌, refl, sym, ◌∙◌, ap}
+use Rattle.std.proofs.Common.{◌≡◌, ℕ, ◌==◌, ◌&&◌, Bool, true, false, true≢false, not, List, [], ◌∷◌}
+use Rattle.std.proofs.Common.{length, Option, Some, None, if◌then◌else◌, refl, sym, ◌∙◌, ap}
 use Rattle.std.specs.Option.{option_map, option_and_then}
 use Rattle.std.specs.List.{filter, filter_map, cons_option}
 use Rattle.mq_acl.specs.Rows.{AclRow}
@@ -18,7 +19,8 @@ use Rattle.mq_world.proofs.SameLemmas.{some_pass}
 use Rattle.mq_router.proofs.OwnCopies.{options-matching}
 use Rattle.mq_router.proofs.GroupLemmas.{members-matching}
 
-none-made : {X Y : Type 0} (f : X → Option Y) → ((x : X) → f x ≡ None) → (xs : List X) → filter_map f xs ≡ []
+none-made : {X Y : Type 0} (f : X → Option Y) → ((x : X) → f x ≡ None) → (xs : List X)
+    → filter_map f xs ≡ []
 none-made f h [] = refl
 none-made f h (x ∷ xs) = ap (λ o. cons_option o (filter_map f xs)) (h x) ∙ none-made f h xs
 
@@ -26,29 +28,38 @@ pub empty-is : {X : Type 0} (xs : List X) → (length xs == 0) ≡ true → xs �
 empty-is [] h = refl
 empty-is (x ∷ xs) h = absurd (true≢false (some_pass (length xs) ∙ ap not h))
 
-module _ (access : Option (List AclRow)) (sessions : List Session) (subscriptions : List Subscription) (m : Message) (none : filter (λ s. filter_matches s.filter m.topic) subscriptions ≡ []) where
+module _ (access : Option (List AclRow)) (sessions : List Session)
+    (subscriptions : List Subscription) (m : Message)
+    (none : filter (λ s. filter_matches s.filter m.topic) subscriptions ≡ []) where
   no-options : (id : Text) → options_for subscriptions m id ≡ []
   no-options id = sym (options-matching m id subscriptions) ∙ ap (gives_options m id) none
 
   no-copy : (id : Text) (user : Option Text) → direct_copy access subscriptions m id user ≡ None
   no-copy id user =
-      ap (λ (os : List world.SubscriptionOptions). if not (length os == 0) && allowed access id user m.topic Reading then Some (copy_by id None m os) else None) (no-options id)
+      ap (λ (os : List world.SubscriptionOptions). if not (length os == 0)
+      && allowed access id user m.topic Reading then Some (copy_by id None m os) else None)
+      (no-options id)
 
   pub no-copies : direct_copies access sessions subscriptions m ≡ []
   unfolding direct_copies
-  no-copies = none-made (λ (s : Session). direct_copy access subscriptions m s.id s.user) (λ s. no-copy s.id s.user) sessions
+  no-copies = none-made (λ (s : Session). direct_copy access subscriptions m s.id s.user)
+      (λ s. no-copy s.id s.user) sessions
 
-  pub no-begun : (limit : ℕ) (deadline : Option ℕ) → begun_by limit access sessions subscriptions m deadline ≡ []
+  pub no-begun : (limit : ℕ) (deadline : Option ℕ)
+      → begun_by limit access sessions subscriptions m deadline ≡ []
   no-begun limit deadline =
       none-made (begins limit access subscriptions m deadline)
-      (λ s. ap (λ (o : Option Copy). option_map (begin_with s.id deadline) (if has_room limit s then option_and_then with_qos o else None)) (no-copy s.id s.user)
+      (λ s. ap (λ (o : Option Copy). option_map (begin_with s.id deadline)
+      (if has_room limit s then option_and_then with_qos o else None)) (no-copy s.id s.user)
       ∙ either_way (has_room limit s) s.id)
       sessions
     where
-      either_way : (b : Bool) (id : Text) → option_map (begin_with id deadline) (if b then None else None) ≡ None
+      either_way : (b : Bool) (id : Text)
+          → option_map (begin_with id deadline) (if b then None else None) ≡ None
       either_way true id = refl
       either_way false id = refl
 
   pub no-members : next_members access sessions subscriptions m ≡ []
   unfolding next_members groups_among
-  no-members = sym (members-matching access sessions subscriptions m) ∙ ap (λ l. next_members access sessions l m) none
+  no-members = sym (members-matching access sessions subscriptions m)
+      ∙ ap (λ l. next_members access sessions l m) none

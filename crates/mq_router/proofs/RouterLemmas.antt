@@ -1,25 +1,33 @@
 -- What each command does with what the router holds.
-use Rattle.std.proofs.Common.{◌≡◌, ◌⊎◌, ◌<◌, ◌≤◌, ◌+◌, nat_lt, arith, ℕ, Bool, true, false, not, List, [], ◌∷◌, ◌++◌, map, Option, Some, None, Result, Err, is_some, ◌&&◌, if◌then◌else◌, refl, sym, ◌∙◌, ap, subst, inl, inr}
+use Rattle.std.proofs.Common.{◌≡◌, ◌⊎◌, ◌<◌, ◌≤◌, ◌+◌, nat_lt, arith, ℕ, Bool, true, false, not}
+use Rattle.std.proofs.Common.{List, [], ◌∷◌, ◌++◌, map, Option, Some, None, Result, Err, is_some}
+use Rattle.std.proofs.Common.{◌&&◌, if◌then◌else◌, refl, sym, ◌∙◌, ap, subst, inl, inr}
 use Rattle.std.specs.Option.{option_map}
 use Rattle.std.specs.List.{filter, list_any}
 use Rattle.std.proofs.lemmas.Bool.Decides.{nat_tests}
-use Rattle.mq_topic.specs.Texts.{is_name, is_shared, is_subscription, share_of, share_name, filter_part}
+use Rattle.mq_topic.specs.Texts.{is_name, is_shared, is_subscription, share_of, share_name}
+use Rattle.mq_topic.specs.Texts.{filter_part}
 use Rattle.mq_acl.specs.Access.{allowed}
 use Rattle.mq_acl.specs.declared.access.Direction.TheVariants.{Writing}
 use Rattle.mq_world.specs.Lists.{Text, with_row}
-use Rattle.mq_world.specs.World.{Session, Subscription, SubscriptionOptions, Message, Copy, Reply, Request, Connect, Disconnect, Subscribe, Unsubscribe, Publish, SetAcl, Advance, Stat, asked, session_cmp, has_id, has_key}
+use Rattle.mq_world.specs.World.{Session, Subscription, SubscriptionOptions, Message, Copy, Reply}
+use Rattle.mq_world.specs.World.{Request, Connect, Disconnect, Subscribe, Unsubscribe, Publish}
+use Rattle.mq_world.specs.World.{SetAcl, Advance, Stat, asked, session_cmp, has_id, has_key}
 use Rattle.mq_world.specs.Clock.{last_moment}
 use Rattle.mq_world.specs.Sessions.{new_session, user_of, outlives, resumes, left_by, has_ended}
 use Rattle.mq_world.specs.Waiting.{begins_to_wait, waiting_after, resumed_copies}
-use Rattle.mq_world.specs.Refusals.{Conditions, first_refusal, client_conditions, is_client_id, is_user_name, faulty_line, refusal}
-use Rattle.mq_world.specs.Retained.{asks_for_retained, retained_copies, retained_after, is_full, unexpired}
+use Rattle.mq_world.specs.Refusals.{Conditions, first_refusal, client_conditions, is_client_id}
+use Rattle.mq_world.specs.Refusals.{is_user_name, faulty_line, refusal}
+use Rattle.mq_world.specs.Retained.{asks_for_retained, retained_copies, retained_after, is_full}
+use Rattle.mq_world.specs.Retained.{unexpired}
 use Rattle.mq_world.specs.Counts.{filters_among, topics_of}
 use Rattle.mq_retained.specs.Deadlines.{Indexes}
 use Rattle.mq_world.specs.Turns.{SameInTurn}
 use Rattle.mq_world.specs.Answers.{reason, published}
 use Rattle.mq_world.specs.After.{access_of}
 use Rattle.mq_router.specs.StandsFor.{State, Refuses}
-use Rattle.mq_router.specs.router.Effects.{Applied, Does, world_of, copies_held, members_held, copies_sent, counts_held, without, lasts}
+use Rattle.mq_router.specs.router.Effects.{Applied, Does, world_of, copies_held, members_held}
+use Rattle.mq_router.specs.router.Effects.{copies_sent, counts_held, without, lasts}
 use Rattle.mq_subscriptions.specs.Turns.{joined, all_turned}
 use Rattle.mq_subscriptions.specs.Filters.{KeptSubscriptions, AreKeys}
 use Rattle.mq_retained.specs.Stored.{KeptRetained, AreFiled}
@@ -27,144 +35,299 @@ use Rattle.mq_subscriptions.proofs.InTurn.{same-is, same-itself}
 use Rattle.mq_world.specs.declared.answer.Answer.{Answer}
 use Rattle.mq_world.specs.declared.answer.Outcome.TheVariants.{Reason}
 use Rattle.mq_world.specs.declared.refusal.Refusal.{Refusal}
-use Rattle.mq_world.specs.declared.refusal.Refusal.TheVariants.{ClientId, UserName, TopicName, TopicFilter, SharedNoLocal, NotAuthorized, RetainedFull, AclLine, ClockTooFar, Memory}
+use Rattle.mq_world.specs.declared.refusal.Refusal.TheVariants.{ClientId, UserName, TopicName}
+use Rattle.mq_world.specs.declared.refusal.Refusal.TheVariants.{TopicFilter, SharedNoLocal}
+use Rattle.mq_world.specs.declared.refusal.Refusal.TheVariants.{NotAuthorized, RetainedFull}
+use Rattle.mq_world.specs.declared.refusal.Refusal.TheVariants.{AclLine, ClockTooFar, Memory}
 
 -- ## Refusals
 
-pub refused-applied : (s : State) (request : Request) (result : Result Answer Refusal) (r : Refusal) (new : State) → result ≡ Err r → Refuses (world_of s) request r → Applied s request result new
+pub refused-applied : (s : State) (request : Request) (result : Result Answer Refusal) (r : Refusal)
+    (new : State) → result ≡ Err r → Refuses (world_of s) request r → Applied s request result new
 refused-applied s request result r new is why = subst (λ v. Applied s request v new) (sym is) why
 
-hit : (b : Bool) (r : Refusal) (rest : Conditions) → b ≡ false → first_refusal ((not b, r) ∷ rest) ≡ Some r
+hit : (b : Bool) (r : Refusal) (rest : Conditions) → b ≡ false
+    → first_refusal ((not b, r) ∷ rest) ≡ Some r
 hit b r rest e = ap (λ v. first_refusal ((not v, r) ∷ rest)) e
 
-skip : (b : Bool) (r : Refusal) (rest : Conditions) → b ≡ true → first_refusal ((not b, r) ∷ rest) ≡ first_refusal rest
+skip : (b : Bool) (r : Refusal) (rest : Conditions) → b ≡ true
+    → first_refusal ((not b, r) ∷ rest) ≡ first_refusal rest
 skip b r rest e = ap (λ v. first_refusal ((not v, r) ∷ rest)) e
 
-first-refused : (xs ys : Conditions) (r : Refusal) → Some r ≡ first_refusal xs → first_refusal (xs ++ ys) ≡ Some r
+first-refused : (xs ys : Conditions) (r : Refusal) → Some r ≡ first_refusal xs
+    → first_refusal (xs ++ ys) ≡ Some r
 first-refused [] ys r h = cc
 first-refused ((b, x) ∷ xs) ys r h =
-    let P : Bool → Type 0 = λ v. Some r ≡ first_refusal ((v, x) ∷ xs) → first_refusal ((v, x) ∷ (xs ++ ys)) ≡ Some r in
+    let P : Bool → Type 0 = λ v. Some r ≡ first_refusal ((v, x) ∷ xs)
+    → first_refusal ((v, x) ∷ (xs ++ ys)) ≡ Some r in
     (elim b as P [ true ↦ λ e. sym e | false ↦ λ e. first-refused xs ys r e ]) h
 
-first-passed : (xs ys : Conditions) → None ≡ first_refusal xs → first_refusal (xs ++ ys) ≡ first_refusal ys
+first-passed : (xs ys : Conditions) → None ≡ first_refusal xs
+    → first_refusal (xs ++ ys) ≡ first_refusal ys
 first-passed [] ys h = refl
 first-passed ((b, x) ∷ xs) ys h =
-    let P : Bool → Type 0 = λ v. None ≡ first_refusal ((v, x) ∷ xs) → first_refusal ((v, x) ∷ (xs ++ ys)) ≡ first_refusal ys in
-    (elim b as P [ true ↦ λ e. (let no : None ≡ Some x = e in cc) | false ↦ λ e. first-passed xs ys e ]) h
+    let P : Bool → Type 0 = λ v. None ≡ first_refusal ((v, x) ∷ xs)
+    → first_refusal ((v, x) ∷ (xs ++ ys)) ≡ first_refusal ys in
+    (elim b as P [
+      | true ↦ λ e. (let no : None ≡ Some x = e in cc)
+      | false ↦ λ e. first-passed xs ys
+          e
+    ]) h
 
 -- a refusal by a condition behind those on the client
-refused-behind : (xs ys : Conditions) (r wanted : Refusal) (b : Bool) → None ≡ first_refusal xs → (r ≡ Memory) ⊎ ((r ≡ wanted) × (b ≡ false)) → (r ≡ Memory) ⊎ (first_refusal (xs ++ (not b, wanted) ∷ ys) ≡ Some r)
+refused-behind : (xs ys : Conditions) (r wanted : Refusal) (b : Bool) → None ≡ first_refusal xs
+    → (r ≡ Memory) ⊎ ((r ≡ wanted) × (b ≡ false)) → (r ≡ Memory)
+    ⊎ (first_refusal (xs ++ (not b, wanted) ∷ ys) ≡ Some r)
 refused-behind xs ys r wanted b h why =
     elim why as (λ _. (r ≡ Memory) ⊎ (first_refusal (xs ++ (not b, wanted) ∷ ys) ≡ Some r)) [
       | inl memory ↦ inl memory
-      | inr refused ↦ inr (first-passed xs ((not b, wanted) ∷ ys) h ∙ hit b wanted ys refused.1 ∙ ap (λ x. Some x) (sym refused.0))
+      | inr refused ↦ inr (first-passed xs ((not b, wanted) ∷ ys) h ∙ hit b wanted ys refused.1
+          ∙ ap (λ x. Some x) (sym refused.0))
     ]
 
-passed-behind : (xs ys : Conditions) (wanted : Refusal) (b : Bool) → None ≡ first_refusal xs → b ≡ true → first_refusal (xs ++ (not b, wanted) ∷ ys) ≡ first_refusal ys
+passed-behind : (xs ys : Conditions) (wanted : Refusal) (b : Bool) → None ≡ first_refusal xs
+    → b ≡ true → first_refusal (xs ++ (not b, wanted) ∷ ys) ≡ first_refusal ys
 passed-behind xs ys wanted b h e = first-passed xs ((not b, wanted) ∷ ys) h ∙ skip b wanted ys e
 
 -- ## Connect and disconnect
 
-pub connect-client : (s : State) (id : Text) (user : Option Text) (clean : Bool) (interval : ℕ) → is_client_id id ≡ false → Refuses (world_of s) (Connect id user clean interval) ClientId
+pub connect-client : (s : State) (id : Text) (user : Option Text) (clean : Bool) (interval : ℕ)
+    → is_client_id id ≡ false → Refuses (world_of s) (Connect id user clean interval) ClientId
 unfolding refusal
-connect-client s id user clean interval e = inr (hit (is_client_id id) ClientId ((not (is_user_name user), UserName) ∷ []) e)
+connect-client s id user clean interval e =
+    inr (hit (is_client_id id) ClientId ((not (is_user_name user), UserName) ∷ []) e)
 
-pub connect-user : (s : State) (id : Text) (user : Option Text) (clean : Bool) (interval : ℕ) → is_client_id id ≡ true → is_user_name user ≡ false → Refuses (world_of s) (Connect id user clean interval) UserName
+pub connect-user : (s : State) (id : Text) (user : Option Text) (clean : Bool) (interval : ℕ)
+    → is_client_id id ≡ true → is_user_name user ≡ false
+    → Refuses (world_of s) (Connect id user clean interval) UserName
 unfolding refusal
-connect-user s id user clean interval e u = inr (skip (is_client_id id) ClientId ((not (is_user_name user), UserName) ∷ []) e ∙ hit (is_user_name user) UserName [] u)
+connect-user s id user clean interval e u =
+    inr (skip (is_client_id id) ClientId ((not (is_user_name user), UserName) ∷ []) e
+    ∙ hit (is_user_name user) UserName [] u)
 
 -- the subscriptions after a connect, by whether it resumes
 abbrev pub connect_rows : State → Text → Bool → List Subscription
 connect_rows s id resumed = if resumed then s.subscriptions else without id s.subscriptions
 
-pub connect-does : (s : State) (id : Text) (user : Option Text) (clean : Bool) (interval : ℕ) (sessions : List Session) (subs : KeptSubscriptions) (copies : List Copy) → is_client_id id ≡ true → is_user_name user ≡ true → copies ≡ resumed_copies s.moment s.sessions id clean → sessions ≡ with_row session_cmp (new_session id user interval) s.sessions → subs.rows ≡ connect_rows s id (resumes s.sessions id clean) → (s.filter_keys ≡ filters_among s.subscriptions → AreKeys subs) → Does s (Connect id user clean interval) (record { copies = copies; outcome = Reason 0 }) (record s { sessions = sessions; subscriptions = subs.rows; filter_keys = subs.keys })
+pub connect-does : (s : State) (id : Text) (user : Option Text) (clean : Bool) (interval : ℕ)
+    (sessions : List Session) (subs : KeptSubscriptions) (copies : List Copy)
+    → is_client_id id ≡ true → is_user_name user ≡ true
+    → copies ≡ resumed_copies s.moment s.sessions id clean
+    → sessions ≡ with_row session_cmp (new_session id user interval) s.sessions
+    → subs.rows ≡ connect_rows s id (resumes s.sessions id clean)
+    → (s.filter_keys ≡ filters_among s.subscriptions → AreKeys subs)
+    → Does s (Connect id user clean interval) (record { copies = copies; outcome = Reason 0 })
+    (record s { sessions = sessions; subscriptions = subs.rows; filter_keys = subs.keys })
 unfolding refusal
 connect-does s id user clean interval sessions subs copies e u r ss xs keys = record {
-  accepted = skip (is_client_id id) ClientId ((not (is_user_name user), UserName) ∷ []) e ∙ skip (is_user_name user) UserName [] u;
+  accepted = skip (is_client_id id) ClientId ((not (is_user_name user), UserName) ∷ []) e
+      ∙ skip (is_user_name user) UserName [] u;
   reply_is = ap (λ l. record { copies = l; outcome = Reason 0 }) r;
-  rows = record { limits = refl; moment = refl; access = refl; sessions = ss; subscriptions = same-is _ _ xs; retained = refl };
-  filed = λ old. record { filter_keys = keys old.filter_keys; topic_keys = old.topic_keys; deadlines = old.deadlines };
+  rows = record {
+    limits = refl;
+    moment = refl;
+    access = refl;
+    sessions = ss;
+    subscriptions =
+        same-is _ _ xs;
+    retained = refl;
+  };
+  filed = λ old. record {
+    filter_keys = keys old.filter_keys;
+    topic_keys = old.topic_keys;
+    deadlines = old.deadlines;
+  };
 }
 
-pub disconnect-client : (s : State) (id : Text) (r : Refusal) → Some r ≡ first_refusal (client_conditions s.sessions id) → Refuses (world_of s) (Disconnect id) r
+pub disconnect-client : (s : State) (id : Text) (r : Refusal)
+    → Some r ≡ first_refusal (client_conditions s.sessions id)
+    → Refuses (world_of s) (Disconnect id) r
 unfolding refusal
 disconnect-client s id r h = inr (sym h)
 
-pub disconnect-leaves : (s : State) (id : Text) (sessions : List Session) (reply : Reply) → None ≡ first_refusal (client_conditions s.sessions id) → outlives s.sessions id ≡ true → reply ≡ reason 0 → sessions ≡ map (left_by s.moment id) s.sessions → Does s (Disconnect id) reply (record s { sessions = sessions })
+pub disconnect-leaves : (s : State) (id : Text) (sessions : List Session) (reply : Reply)
+    → None ≡ first_refusal (client_conditions s.sessions id) → outlives s.sessions id ≡ true
+    → reply ≡ reason 0 → sessions ≡ map (left_by s.moment id) s.sessions
+    → Does s (Disconnect id) reply (record s { sessions = sessions })
 unfolding refusal
 disconnect-leaves s id sessions reply h stays r ss = record {
   accepted = sym h;
   reply_is = r;
-  rows = rw stays (record { limits = refl; moment = refl; access = refl; sessions = ss; subscriptions = same-itself s.subscriptions; retained = refl });
-  filed = λ old. record { filter_keys = old.filter_keys; topic_keys = old.topic_keys; deadlines = old.deadlines };
+  rows = rw stays (record {
+    limits = refl;
+    moment = refl;
+    access = refl;
+    sessions = ss;
+    subscriptions = same-itself s.subscriptions;
+    retained = refl;
+  });
+  filed = λ old. record {
+    filter_keys = old.filter_keys;
+    topic_keys = old.topic_keys;
+    deadlines =
+        old.deadlines;
+  };
 }
 
-pub disconnect-does : (s : State) (id : Text) (sessions : List Session) (subs : KeptSubscriptions) (reply : Reply) → None ≡ first_refusal (client_conditions s.sessions id) → outlives s.sessions id ≡ false → reply ≡ reason 0 → sessions ≡ filter (λ session. not (has_id id session)) s.sessions → subs.rows ≡ without id s.subscriptions → AreKeys subs → Does s (Disconnect id) reply (record s { sessions = sessions; subscriptions = subs.rows; filter_keys = subs.keys })
+pub disconnect-does : (s : State) (id : Text) (sessions : List Session) (subs : KeptSubscriptions)
+    (reply : Reply) → None ≡ first_refusal (client_conditions s.sessions id)
+    → outlives s.sessions id ≡ false → reply ≡ reason 0
+    → sessions ≡ filter (λ session. not (has_id id session)) s.sessions
+    → subs.rows ≡ without id s.subscriptions → AreKeys subs
+    → Does s (Disconnect id) reply
+    (record s { sessions = sessions; subscriptions = subs.rows; filter_keys = subs.keys })
 unfolding refusal
 disconnect-does s id sessions subs reply h ends r ss xs keys = record {
   accepted = sym h;
   reply_is = r;
-  rows = rw ends (record { limits = refl; moment = refl; access = refl; sessions = ss; subscriptions = same-is _ _ xs; retained = refl });
-  filed = λ old. record { filter_keys = keys; topic_keys = old.topic_keys; deadlines = old.deadlines };
+  rows = rw ends (record {
+    limits = refl;
+    moment = refl;
+    access = refl;
+    sessions = ss;
+    subscriptions = same-is _ _ xs;
+    retained = refl;
+  });
+  filed = λ old. record {
+    filter_keys = keys;
+    topic_keys = old.topic_keys;
+    deadlines =
+        old.deadlines;
+  };
 }
 
 -- ## Subscribe and unsubscribe
 
 shared-is : (text : Text) → is_some (share_of text) ≡ is_shared text
-shared-is text = elim (is_shared text) as (λ b. is_some (if b then Some (share_name text) else None) ≡ b) [ true ↦ refl | false ↦ refl ]
+shared-is text = elim (is_shared text)
+    as (λ b. is_some (if b then Some (share_name text) else None) ≡ b)
+    [ true ↦ refl | false ↦ refl ]
 
 abbrev shared_condition : Text → SubscriptionOptions → Conditions
 shared_condition text options = (is_shared text && options.no_local, SharedNoLocal) ∷ []
 
-pub subscribe-client : (s : State) (id text : Text) (options : SubscriptionOptions) (r : Refusal) → Some r ≡ first_refusal (client_conditions s.sessions id) → Refuses (world_of s) (Subscribe id text options) r
+pub subscribe-client : (s : State) (id text : Text) (options : SubscriptionOptions) (r : Refusal)
+    → Some r ≡ first_refusal (client_conditions s.sessions id)
+    → Refuses (world_of s) (Subscribe id text options) r
 unfolding refusal
-subscribe-client s id text options r h = inr (first-refused (client_conditions s.sessions id) ((not (is_subscription text), TopicFilter) ∷ shared_condition text options) r h)
+subscribe-client s id text options r h =
+    inr (first-refused (client_conditions s.sessions id)
+    ((not (is_subscription text), TopicFilter) ∷ shared_condition text options) r h)
 
-pub subscribe-filter : (s : State) (id text : Text) (options : SubscriptionOptions) (r : Refusal) → None ≡ first_refusal (client_conditions s.sessions id) → (r ≡ Memory) ⊎ ((r ≡ TopicFilter) × (is_subscription text ≡ false)) → Refuses (world_of s) (Subscribe id text options) r
+pub subscribe-filter : (s : State) (id text : Text) (options : SubscriptionOptions) (r : Refusal)
+    → None ≡ first_refusal (client_conditions s.sessions id) → (r ≡ Memory)
+    ⊎ ((r ≡ TopicFilter) × (is_subscription text ≡ false))
+    → Refuses (world_of s) (Subscribe id text options) r
 unfolding refusal
-subscribe-filter s id text options r h why = refused-behind (client_conditions s.sessions id) (shared_condition text options) r TopicFilter (is_subscription text) h why
+subscribe-filter s id text options r h why =
+    refused-behind (client_conditions s.sessions id) (shared_condition text options) r TopicFilter
+    (is_subscription text) h why
 
-pub subscribe-shared : (s : State) (id text : Text) (options : SubscriptionOptions) → None ≡ first_refusal (client_conditions s.sessions id) → is_subscription text ≡ true → (is_some (share_of text) && options.no_local) ≡ true → Refuses (world_of s) (Subscribe id text options) SharedNoLocal
+pub subscribe-shared : (s : State) (id text : Text) (options : SubscriptionOptions)
+    → None ≡ first_refusal (client_conditions s.sessions id) → is_subscription text ≡ true
+    → (is_some (share_of text) && options.no_local) ≡ true
+    → Refuses (world_of s) (Subscribe id text options) SharedNoLocal
 unfolding refusal
 subscribe-shared s id text options h f e =
-    inr (passed-behind (client_conditions s.sessions id) (shared_condition text options) TopicFilter (is_subscription text) h f
-    ∙ ap (λ v. first_refusal ((v, SharedNoLocal) ∷ [])) (sym (ap (λ b. b && options.no_local) (shared-is text)) ∙ e))
+    inr (passed-behind (client_conditions s.sessions id) (shared_condition text options) TopicFilter
+    (is_subscription text) h f
+    ∙ ap (λ v. first_refusal ((v, SharedNoLocal) ∷ []))
+    (sym (ap (λ b. b && options.no_local) (shared-is text)) ∙ e))
 
-pub subscribe-does : (s : State) (id text : Text) (options : SubscriptionOptions) (subs : KeptSubscriptions) (reply : Reply) → None ≡ first_refusal (client_conditions s.sessions id) → is_subscription text ≡ true → (is_some (share_of text) && options.no_local) ≡ false → reply ≡ record { copies = copies_sent s (asked id text options); outcome = Reason options.qos } → SameInTurn subs.rows (joined (asked id text options) s.subscriptions) → AreKeys subs → Does s (Subscribe id text options) reply (record s { subscriptions = subs.rows; filter_keys = subs.keys })
+pub subscribe-does : (s : State) (id text : Text) (options : SubscriptionOptions)
+    (subs : KeptSubscriptions) (reply : Reply)
+    → None ≡ first_refusal (client_conditions s.sessions id) → is_subscription text ≡ true
+    → (is_some (share_of text) && options.no_local) ≡ false
+    → reply ≡ record {
+      copies = copies_sent s (asked id text options);
+      outcome =
+          Reason options.qos;
+    } → SameInTurn subs.rows (joined (asked id text options) s.subscriptions)
+    → AreKeys subs → Does s (Subscribe id text options) reply
+    (record s { subscriptions = subs.rows; filter_keys = subs.keys })
 unfolding refusal
 subscribe-does s id text options subs reply h f e r xs keys = record {
-  accepted = passed-behind (client_conditions s.sessions id) (shared_condition text options) TopicFilter (is_subscription text) h f
-      ∙ ap (λ v. first_refusal ((v, SharedNoLocal) ∷ [])) (sym (ap (λ b. b && options.no_local) (shared-is text)) ∙ e);
+  accepted = passed-behind (client_conditions s.sessions id) (shared_condition text options)
+      TopicFilter (is_subscription text) h f
+      ∙ ap (λ v. first_refusal ((v, SharedNoLocal) ∷ []))
+      (sym (ap (λ b. b && options.no_local) (shared-is text)) ∙ e);
   reply_is = r;
-  rows = record { limits = refl; moment = refl; access = refl; sessions = refl; subscriptions = xs; retained = refl };
-  filed = λ old. record { filter_keys = keys; topic_keys = old.topic_keys; deadlines = old.deadlines };
+  rows = record {
+    limits = refl;
+    moment = refl;
+    access = refl;
+    sessions = refl;
+    subscriptions = xs;
+    retained = refl;
+  };
+  filed = λ old. record {
+    filter_keys = keys;
+    topic_keys = old.topic_keys;
+    deadlines =
+        old.deadlines;
+  };
 }
 
-pub sent-none : (s : State) (new : Subscription) → asks_for_retained s.subscriptions new ≡ false → copies_sent s new ≡ []
-sent-none s new e = ap (λ b. if b then retained_copies s.moment s.access (user_of s.sessions new.client) s.retained new else []) e
+pub sent-none : (s : State) (new : Subscription) → asks_for_retained s.subscriptions new ≡ false
+    → copies_sent s new ≡ []
+sent-none s new e =
+    ap (λ b. if b then retained_copies s.moment s.access (user_of s.sessions new.client) s.retained
+    new else []) e
 
 -- a share name makes no difference to the copies
-pub sent-some : (s : State) (new alone : Subscription) → alone ≡ record new { share = None } → asks_for_retained s.subscriptions new ≡ true → copies_sent s new ≡ retained_copies s.moment s.access (user_of s.sessions new.client) s.retained alone
+pub sent-some : (s : State) (new alone : Subscription) → alone ≡ record new { share = None }
+    → asks_for_retained s.subscriptions new ≡ true
+    → copies_sent s new ≡ retained_copies s.moment s.access (user_of s.sessions new.client)
+    s.retained alone
 unfolding retained_copies
 sent-some s new alone is e =
-    ap (λ b. if b then retained_copies s.moment s.access (user_of s.sessions new.client) s.retained new else []) e
+    ap (λ b. if b then retained_copies s.moment s.access (user_of s.sessions new.client) s.retained
+    new else []) e
     ∙ ap (retained_copies s.moment s.access (user_of s.sessions new.client) s.retained) (sym is)
 
-pub unsubscribe-client : (s : State) (id text : Text) (r : Refusal) → Some r ≡ first_refusal (client_conditions s.sessions id) → Refuses (world_of s) (Unsubscribe id text) r
+pub unsubscribe-client : (s : State) (id text : Text) (r : Refusal)
+    → Some r ≡ first_refusal (client_conditions s.sessions id)
+    → Refuses (world_of s) (Unsubscribe id text) r
 unfolding refusal
-unsubscribe-client s id text r h = inr (first-refused (client_conditions s.sessions id) ((not (is_subscription text), TopicFilter) ∷ []) r h)
+unsubscribe-client s id text r h =
+    inr (first-refused (client_conditions s.sessions id)
+    ((not (is_subscription text), TopicFilter) ∷ []) r h)
 
-pub unsubscribe-filter : (s : State) (id text : Text) (r : Refusal) → None ≡ first_refusal (client_conditions s.sessions id) → (r ≡ Memory) ⊎ ((r ≡ TopicFilter) × (is_subscription text ≡ false)) → Refuses (world_of s) (Unsubscribe id text) r
+pub unsubscribe-filter : (s : State) (id text : Text) (r : Refusal)
+    → None ≡ first_refusal (client_conditions s.sessions id) → (r ≡ Memory)
+    ⊎ ((r ≡ TopicFilter) × (is_subscription text ≡ false))
+    → Refuses (world_of s) (Unsubscribe id text) r
 unfolding refusal
-unsubscribe-filter s id text r h why = refused-behind (client_conditions s.sessions id) [] r TopicFilter (is_subscription text) h why
+unsubscribe-filter s id text r h why =
+    refused-behind (client_conditions s.sessions id) [] r TopicFilter (is_subscription text) h why
 
-pub unsubscribe-does : (s : State) (id text : Text) (subs : KeptSubscriptions) (reply : Reply) → None ≡ first_refusal (client_conditions s.sessions id) → is_subscription text ≡ true → reply ≡ reason (if list_any (has_key id (share_of text) (filter_part text)) s.subscriptions then 0 else 17) → subs.rows ≡ filter (λ x. not (has_key id (share_of text) (filter_part text) x)) s.subscriptions → AreKeys subs → Does s (Unsubscribe id text) reply (record s { subscriptions = subs.rows; filter_keys = subs.keys })
+pub unsubscribe-does : (s : State) (id text : Text) (subs : KeptSubscriptions) (reply : Reply)
+    → None ≡ first_refusal (client_conditions s.sessions id) → is_subscription text ≡ true
+    → reply ≡ reason (if list_any (has_key id (share_of text) (filter_part text)) s.subscriptions
+    then 0 else 17) → subs.rows ≡ filter
+    (λ x. not (has_key id (share_of text) (filter_part text) x)) s.subscriptions → AreKeys subs
+    → Does s (Unsubscribe id text) reply
+    (record s { subscriptions = subs.rows; filter_keys = subs.keys })
 unfolding refusal
 unsubscribe-does s id text subs reply h f r xs keys = record {
-  accepted = passed-behind (client_conditions s.sessions id) [] TopicFilter (is_subscription text) h f;
+  accepted = passed-behind (client_conditions s.sessions id) [] TopicFilter (is_subscription text) h
+      f;
   reply_is = r;
-  rows = record { limits = refl; moment = refl; access = refl; sessions = refl; subscriptions = same-is _ _ xs; retained = refl };
-  filed = λ old. record { filter_keys = keys; topic_keys = old.topic_keys; deadlines = old.deadlines };
+  rows = record {
+    limits = refl;
+    moment = refl;
+    access = refl;
+    sessions = refl;
+    subscriptions =
+        same-is _ _ xs;
+    retained = refl;
+  };
+  filed = λ old. record {
+    filter_keys = keys;
+    topic_keys = old.topic_keys;
+    deadlines =
+        old.deadlines;
+  };
 }
 
 -- ## Publish
@@ -173,57 +336,129 @@ abbrev full_condition : State → Message → Conditions
 full_condition s m = (is_full s.limits.retained s.retained m, RetainedFull) ∷ []
 
 abbrev write_condition : State → Message → Conditions
-write_condition s m = (not (allowed s.access m.publisher (user_of s.sessions m.publisher) m.topic Writing), NotAuthorized) ∷ full_condition s m
+write_condition s m = (
+  not (allowed s.access m.publisher (user_of s.sessions m.publisher) m.topic Writing),
+  NotAuthorized,
+) ∷ full_condition s m
 
-pub publish-client : (s : State) (m : Message) (r : Refusal) → Some r ≡ first_refusal (client_conditions s.sessions m.publisher) → Refuses (world_of s) (Publish m) r
+pub publish-client : (s : State) (m : Message) (r : Refusal)
+    → Some r ≡ first_refusal (client_conditions s.sessions m.publisher)
+    → Refuses (world_of s) (Publish m) r
 unfolding refusal
-publish-client s m r h = inr (first-refused (client_conditions s.sessions m.publisher) ((not (is_name m.topic), TopicName) ∷ write_condition s m) r h)
+publish-client s m r h =
+    inr (first-refused (client_conditions s.sessions m.publisher)
+    ((not (is_name m.topic), TopicName) ∷ write_condition s m) r h)
 
-pub publish-name : (s : State) (m : Message) (r : Refusal) → None ≡ first_refusal (client_conditions s.sessions m.publisher) → (r ≡ Memory) ⊎ ((r ≡ TopicName) × (is_name m.topic ≡ false)) → Refuses (world_of s) (Publish m) r
+pub publish-name : (s : State) (m : Message) (r : Refusal)
+    → None ≡ first_refusal (client_conditions s.sessions m.publisher) → (r ≡ Memory)
+    ⊎ ((r ≡ TopicName) × (is_name m.topic ≡ false)) → Refuses (world_of s) (Publish m) r
 unfolding refusal
-publish-name s m r h why = refused-behind (client_conditions s.sessions m.publisher) (write_condition s m) r TopicName (is_name m.topic) h why
+publish-name s m r h why = refused-behind (client_conditions s.sessions m.publisher)
+    (write_condition s m) r TopicName (is_name m.topic) h why
 
-pub publish-write : (s : State) (m : Message) → None ≡ first_refusal (client_conditions s.sessions m.publisher) → is_name m.topic ≡ true → allowed s.access m.publisher (user_of s.sessions m.publisher) m.topic Writing ≡ false → Refuses (world_of s) (Publish m) NotAuthorized
+pub publish-write : (s : State) (m : Message)
+    → None ≡ first_refusal (client_conditions s.sessions m.publisher) → is_name m.topic ≡ true
+    → allowed s.access m.publisher (user_of s.sessions m.publisher) m.topic Writing ≡ false
+    → Refuses (world_of s) (Publish m) NotAuthorized
 unfolding refusal
 publish-write s m h n e =
-    inr (passed-behind (client_conditions s.sessions m.publisher) (write_condition s m) TopicName (is_name m.topic) h n
-    ∙ hit (allowed s.access m.publisher (user_of s.sessions m.publisher) m.topic Writing) NotAuthorized (full_condition s m) e)
+    inr (passed-behind (client_conditions s.sessions m.publisher) (write_condition s m) TopicName
+    (is_name m.topic) h n
+    ∙ hit (allowed s.access m.publisher (user_of s.sessions m.publisher) m.topic Writing)
+    NotAuthorized (full_condition s m) e)
 
-pub publish-full : (s : State) (m : Message) → None ≡ first_refusal (client_conditions s.sessions m.publisher) → is_name m.topic ≡ true → allowed s.access m.publisher (user_of s.sessions m.publisher) m.topic Writing ≡ true → is_full s.limits.retained s.retained m ≡ true → Refuses (world_of s) (Publish m) RetainedFull
+pub publish-full : (s : State) (m : Message)
+    → None ≡ first_refusal (client_conditions s.sessions m.publisher) → is_name m.topic ≡ true
+    → allowed s.access m.publisher (user_of s.sessions m.publisher) m.topic Writing ≡ true
+    → is_full s.limits.retained s.retained m ≡ true → Refuses (world_of s) (Publish m) RetainedFull
 unfolding refusal
 publish-full s m h n e full =
-    inr (passed-behind (client_conditions s.sessions m.publisher) (write_condition s m) TopicName (is_name m.topic) h n
-    ∙ skip (allowed s.access m.publisher (user_of s.sessions m.publisher) m.topic Writing) NotAuthorized (full_condition s m) e
+    inr (passed-behind (client_conditions s.sessions m.publisher) (write_condition s m) TopicName
+    (is_name m.topic) h n
+    ∙ skip (allowed s.access m.publisher (user_of s.sessions m.publisher) m.topic Writing)
+    NotAuthorized (full_condition s m) e
     ∙ ap (λ b. first_refusal ((b, RetainedFull) ∷ [])) full)
 
-pub publish-accepted : (s : State) (m : Message) → None ≡ first_refusal (client_conditions s.sessions m.publisher) → is_name m.topic ≡ true → allowed s.access m.publisher (user_of s.sessions m.publisher) m.topic Writing ≡ true → is_full s.limits.retained s.retained m ≡ false → refusal (world_of s) (Publish m) ≡ None
+pub publish-accepted : (s : State) (m : Message)
+    → None ≡ first_refusal (client_conditions s.sessions m.publisher) → is_name m.topic ≡ true
+    → allowed s.access m.publisher (user_of s.sessions m.publisher) m.topic Writing ≡ true
+    → is_full s.limits.retained s.retained m ≡ false → refusal (world_of s) (Publish m) ≡ None
 unfolding refusal
 publish-accepted s m h n e room =
-    passed-behind (client_conditions s.sessions m.publisher) (write_condition s m) TopicName (is_name m.topic) h n
-    ∙ skip (allowed s.access m.publisher (user_of s.sessions m.publisher) m.topic Writing) NotAuthorized (full_condition s m) e
+    passed-behind (client_conditions s.sessions m.publisher) (write_condition s m) TopicName
+    (is_name m.topic) h n
+    ∙ skip (allowed s.access m.publisher (user_of s.sessions m.publisher) m.topic Writing)
+    NotAuthorized (full_condition s m) e
     ∙ ap (λ b. first_refusal ((b, RetainedFull) ∷ [])) room
 
-pub publish-does : (s : State) (m : Message) (sessions : List Session) (subs : KeptSubscriptions) (kept : KeptRetained) (reply : Reply) → refusal (world_of s) (Publish m) ≡ None → reply ≡ published (copies_held s m) (begins_to_wait s.limits.queued s.access s.sessions s.subscriptions m) → sessions ≡ map (waiting_after s.limits.queued s.access s.subscriptions s.moment m) s.sessions → SameInTurn subs.rows (all_turned (members_held s m) s.subscriptions) → (s.filter_keys ≡ filters_among s.subscriptions → AreKeys subs) → kept.messages ≡ retained_after s.moment s.retained m → (s.topic_keys ≡ topics_of s.retained → Indexes s.deadlines s.retained → AreFiled kept) → Does s (Publish m) reply (record s { sessions = sessions; subscriptions = subs.rows; filter_keys = subs.keys; retained = kept.messages; topic_keys = kept.keys; deadlines = kept.pairs })
+pub publish-does : (s : State) (m : Message) (sessions : List Session) (subs : KeptSubscriptions)
+    (kept : KeptRetained) (reply : Reply) → refusal (world_of s) (Publish m) ≡ None
+    → reply ≡ published (copies_held s m)
+    (begins_to_wait s.limits.queued s.access s.sessions s.subscriptions m)
+    → sessions ≡ map (waiting_after s.limits.queued s.access s.subscriptions s.moment m) s.sessions
+    → SameInTurn subs.rows (all_turned (members_held s m) s.subscriptions)
+    → (s.filter_keys ≡ filters_among s.subscriptions → AreKeys subs)
+    → kept.messages ≡ retained_after s.moment s.retained m
+    → (s.topic_keys ≡ topics_of s.retained → Indexes s.deadlines s.retained → AreFiled kept)
+    → Does s (Publish m) reply
+    (record s {
+      sessions = sessions;
+      subscriptions = subs.rows;
+      filter_keys = subs.keys;
+      retained =
+          kept.messages;
+      topic_keys = kept.keys;
+      deadlines = kept.pairs;
+    })
 publish-does s m sessions subs kept reply accepted r ss xs keys rs filed = record {
   accepted = accepted;
   reply_is = r;
-  rows = record { limits = refl; moment = refl; access = refl; sessions = ss; subscriptions = xs; retained = rs };
-  filed = λ old. (let now : AreFiled kept = filed old.topic_keys old.deadlines in record { filter_keys = keys old.filter_keys; topic_keys = now.keys; deadlines = now.pairs });
+  rows = record {
+    limits = refl;
+    moment = refl;
+    access = refl;
+    sessions = ss;
+    subscriptions = xs;
+    retained = rs;
+  };
+  filed = λ old. (let now : AreFiled kept = filed old.topic_keys old.deadlines in
+      record {
+        filter_keys = keys old.filter_keys;
+        topic_keys = now.keys;
+        deadlines =
+            now.pairs;
+      });
 }
 
 -- ## Access lists
 
-pub set_acl-refused : (s : State) (text : Option Text) (r : Refusal) → (r ≡ Memory) ⊎ (option_map (λ line. AclLine line) (faulty_line text) ≡ Some r) → Refuses (world_of s) (SetAcl text) r
+pub set_acl-refused : (s : State) (text : Option Text) (r : Refusal) → (r ≡ Memory)
+    ⊎ (option_map (λ line. AclLine line) (faulty_line text) ≡ Some r)
+    → Refuses (world_of s) (SetAcl text) r
 unfolding refusal
 set_acl-refused s text r why = why
 
-pub set_acl-does : (s : State) (text : Option Text) (reply : Reply) → faulty_line text ≡ None → reply ≡ reason 0 → Does s (SetAcl text) reply (record s { access = access_of text })
+pub set_acl-does : (s : State) (text : Option Text) (reply : Reply) → faulty_line text ≡ None
+    → reply ≡ reason 0 → Does s (SetAcl text) reply (record s { access = access_of text })
 unfolding refusal
 set_acl-does s text reply h r = record {
   accepted = ap (λ o. option_map (λ line. AclLine line) o) h;
   reply_is = r;
-  rows = record { limits = refl; moment = refl; access = refl; sessions = refl; subscriptions = same-itself s.subscriptions; retained = refl };
-  filed = λ old. record { filter_keys = old.filter_keys; topic_keys = old.topic_keys; deadlines = old.deadlines };
+  rows = record {
+    limits = refl;
+    moment = refl;
+    access = refl;
+    sessions = refl;
+    subscriptions =
+        same-itself s.subscriptions;
+    retained = refl;
+  };
+  filed = λ old. record {
+    filter_keys = old.filter_keys;
+    topic_keys = old.topic_keys;
+    deadlines =
+        old.deadlines;
+  };
 }
 
 -- ## The clock
@@ -234,16 +469,37 @@ is_above a b h = grind (arith, nat_tests)
 not_above : (a b : ℕ) → b ≤ a → nat_lt a b ≡ false
 not_above a b h = grind (arith, nat_tests)
 
-pub advance-refused : (s : State) (seconds : ℕ) → last_moment < s.moment + seconds → Refuses (world_of s) (Advance seconds) ClockTooFar
+pub advance-refused : (s : State) (seconds : ℕ) → last_moment < s.moment + seconds
+    → Refuses (world_of s) (Advance seconds) ClockTooFar
 unfolding refusal
-advance-refused s seconds h = inr (ap (λ b. first_refusal ((b, ClockTooFar) ∷ [])) (is_above last_moment (s.moment + seconds) h))
+advance-refused s seconds h =
+    inr (ap (λ b. first_refusal ((b, ClockTooFar) ∷ []))
+    (is_above last_moment (s.moment + seconds) h))
 
-pub advance-does : (s : State) (seconds moment : ℕ) (sessions : List Session) (subs : KeptSubscriptions) (kept : KeptRetained) (reply : Reply) → moment ≤ last_moment → moment ≡ s.moment + seconds → sessions ≡ filter (λ session. not (has_ended moment session)) s.sessions → subs.rows ≡ filter (lasts moment s.sessions) s.subscriptions → (s.filter_keys ≡ filters_among s.subscriptions → AreKeys subs) → kept.messages ≡ unexpired moment s.retained → AreFiled kept → reply ≡ reason 0 → Does s (Advance seconds) reply (record s { moment = moment; sessions = sessions; subscriptions = subs.rows; filter_keys = subs.keys; retained = kept.messages; topic_keys = kept.keys; deadlines = kept.pairs })
+pub advance-does : (s : State) (seconds moment : ℕ) (sessions : List Session)
+    (subs : KeptSubscriptions) (kept : KeptRetained) (reply : Reply) → moment ≤ last_moment
+    → moment ≡ s.moment + seconds → sessions
+    ≡ filter (λ session. not (has_ended moment session)) s.sessions
+    → subs.rows ≡ filter (lasts moment s.sessions) s.subscriptions
+    → (s.filter_keys ≡ filters_among s.subscriptions → AreKeys subs)
+    → kept.messages ≡ unexpired moment s.retained → AreFiled kept → reply ≡ reason 0
+    → Does s (Advance seconds) reply
+    (record s {
+      moment = moment;
+      sessions = sessions;
+      subscriptions = subs.rows;
+      filter_keys =
+          subs.keys;
+      retained = kept.messages;
+      topic_keys = kept.keys;
+      deadlines = kept.pairs;
+    })
 unfolding refusal
 advance-does s seconds moment sessions subs kept reply within m ss xs keys rs filed r =
     let reached : s.moment + seconds ≤ last_moment = omega arith in
     record {
-      accepted = ap (λ b. first_refusal ((b, ClockTooFar) ∷ [])) (not_above last_moment (s.moment + seconds) reached);
+      accepted = ap (λ b. first_refusal ((b, ClockTooFar) ∷ []))
+          (not_above last_moment (s.moment + seconds) reached);
       reply_is = r;
       rows = record {
         limits = refl;
@@ -253,16 +509,29 @@ advance-does s seconds moment sessions subs kept reply within m ss xs keys rs fi
         subscriptions = same-is _ _ (xs ∙ ap (λ n. filter (lasts n s.sessions) s.subscriptions) m);
         retained = rs ∙ ap (λ n. unexpired n s.retained) m;
       };
-      filed = λ old. record { filter_keys = keys old.filter_keys; topic_keys = filed.keys; deadlines = filed.pairs };
+      filed = λ old. record {
+        filter_keys = keys old.filter_keys;
+        topic_keys = filed.keys;
+        deadlines = filed.pairs;
+      };
     }
 
 -- ## Counts
 
-pub stat-does : (s : State) (reply : Reply) → reply ≡ record { copies = []; outcome = counts_held s } → Does s Stat reply s
+pub stat-does : (s : State) (reply : Reply)
+    → reply ≡ record { copies = []; outcome = counts_held s } → Does s Stat reply s
 unfolding refusal
 stat-does s reply r = record {
   accepted = refl;
   reply_is = r;
-  rows = record { limits = refl; moment = refl; access = refl; sessions = refl; subscriptions = same-itself s.subscriptions; retained = refl };
+  rows = record {
+    limits = refl;
+    moment = refl;
+    access = refl;
+    sessions = refl;
+    subscriptions =
+        same-itself s.subscriptions;
+    retained = refl;
+  };
   filed = λ old. old;
 }

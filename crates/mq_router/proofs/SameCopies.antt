@@ -1,5 +1,6 @@
 -- The copies of a message, and those that begin to wait, are the same whatever order the subscriptions stand in.
-use Rattle.std.proofs.Common.{◌≡◌, ℕ, ◌==◌, Bool, ◌&&◌, not, List, [], ◌∷◌, map, Option, Some, None, is_some, length, if◌then◌else◌, refl, ◌∙◌, ap}
+use Rattle.std.proofs.Common.{◌≡◌, ℕ, ◌==◌, Bool, ◌&&◌, not, List, [], ◌∷◌, map, Option, Some, None}
+use Rattle.std.proofs.Common.{is_some, length, if◌then◌else◌, refl, ◌∙◌, ap}
 use Rattle.std.specs.Option.{option_map_or, option_and_then}
 use Rattle.std.specs.List.{filter, filter_map, cons_option, list_any}
 use Rattle.mq_acl.specs.Rows.{AclRow}
@@ -9,41 +10,73 @@ use Rattle.mq_world.specs.Lists.{SameElements, Text, greatest, ascending}
 use Rattle.mq_world.specs.World.{Session, Subscription, SubscriptionOptions, Message}
 use Rattle.mq_world.specs.Clock.{deadline_of}
 use Rattle.mq_world.specs.Copies.{takes_part, options_for, copy_by, direct_copy, direct_copies}
-use Rattle.mq_world.specs.Waiting.{has_room, with_qos, waiting_copy, with_waiting, waiting_after, begins_to_wait}
+use Rattle.mq_world.specs.Waiting.{has_room, with_qos, waiting_copy, with_waiting, waiting_after}
+use Rattle.mq_world.specs.Waiting.{begins_to_wait}
 use Rattle.mq_world.proofs.ListLemmas.{list_any-same, map-same}
-use Rattle.mq_world.proofs.SameLemmas.{SameElements-filter, SameElements-map, SameElements-filter_map, length-SameElements, list_any-SameElements, greatest-SameElements, ascending-SameElements}
+use Rattle.mq_world.proofs.SameLemmas.{SameElements-filter, SameElements-map}
+use Rattle.mq_world.proofs.SameLemmas.{SameElements-filter_map, length-SameElements}
+use Rattle.mq_world.proofs.SameLemmas.{list_any-SameElements, greatest-SameElements}
+use Rattle.mq_world.proofs.SameLemmas.{ascending-SameElements}
 
-direct_copy-same : (access : Option (List AclRow)) (xs ys : List Subscription) (m : Message) (id : Text) (user : Option Text) → SameElements xs ys → direct_copy access xs m id user ≡ direct_copy access ys m id user
+direct_copy-same : (access : Option (List AclRow)) (xs ys : List Subscription) (m : Message)
+    (id : Text) (user : Option Text) → SameElements xs ys
+    → direct_copy access xs m id user ≡ direct_copy access ys m id user
 direct_copy-same access xs ys m id user same =
     let part : Subscription → Bool = takes_part m id in
     let ox : List SubscriptionOptions = options_for xs m id in
     let oy : List SubscriptionOptions = options_for ys m id in
-    let options : SameElements ox oy = SameElements-map (λ (x : Subscription). x.options) (filter part xs) (filter part ys) (SameElements-filter part xs ys same) in
+    let options : SameElements ox oy =
+    SameElements-map (λ (x : Subscription). x.options) (filter part xs) (filter part ys)
+    (SameElements-filter part xs ys same) in
     let able : Bool = allowed access id user m.topic Reading in
-    let qos : greatest (map (λ o. o.qos) ox) ≡ greatest (map (λ o. o.qos) oy) = greatest-SameElements _ _ (SameElements-map (λ (o : SubscriptionOptions). o.qos) ox oy options) in
-    let ids : ascending (filter_map (λ o. o.identifier) ox) ≡ ascending (filter_map (λ o. o.identifier) oy) = ascending-SameElements _ _ (SameElements-filter_map (λ (o : SubscriptionOptions). o.identifier) ox oy options) in
-    let keeps : list_any (λ o. o.retain_as_published) ox ≡ list_any (λ o. o.retain_as_published) oy = list_any-SameElements (λ (o : SubscriptionOptions). o.retain_as_published) ox oy options in
+    let qos : greatest (map (λ o. o.qos) ox) ≡ greatest (map (λ o. o.qos) oy) =
+    greatest-SameElements _ _
+    (SameElements-map (λ (o : SubscriptionOptions). o.qos) ox oy options) in
+    let ids : ascending (filter_map (λ o. o.identifier) ox)
+    ≡ ascending (filter_map (λ o. o.identifier) oy) =
+    ascending-SameElements _ _
+    (SameElements-filter_map (λ (o : SubscriptionOptions). o.identifier) ox oy options) in
+    let keeps : list_any (λ o. o.retain_as_published) ox
+    ≡ list_any (λ o. o.retain_as_published) oy =
+    list_any-SameElements (λ (o : SubscriptionOptions). o.retain_as_published) ox oy options in
     let copy : copy_by id None m ox ≡ copy_by id None m oy = rw (qos, keeps, ids) refl in
-    ap (λ n. if not (n == 0) && able then Some (copy_by id None m ox) else None) (length-SameElements ox oy options)
+    ap (λ n. if not (n == 0) && able then Some (copy_by id None m ox) else None)
+    (length-SameElements ox oy options)
     ∙ ap (λ k. if not (length oy == 0) && able then Some k else None) copy
 
-pub direct_copies-same : (access : Option (List AclRow)) (sessions : List Session) (xs ys : List Subscription) (m : Message) → SameElements xs ys → direct_copies access sessions xs m ≡ direct_copies access sessions ys m
+pub direct_copies-same : (access : Option (List AclRow)) (sessions : List Session)
+    (xs ys : List Subscription) (m : Message) → SameElements xs ys
+    → direct_copies access sessions xs m ≡ direct_copies access sessions ys m
 unfolding direct_copies
 direct_copies-same access [] xs ys m same = refl
 direct_copies-same access (c ∷ cs) xs ys m same =
-    ap (λ o. cons_option o (direct_copies access cs xs m)) (direct_copy-same access xs ys m c.id c.user same)
-    ∙ ap (cons_option (direct_copy access ys m c.id c.user)) (direct_copies-same access cs xs ys m same)
+    ap (λ o. cons_option o (direct_copies access cs xs m))
+    (direct_copy-same access xs ys m c.id c.user same)
+    ∙ ap (cons_option (direct_copy access ys m c.id c.user))
+    (direct_copies-same access cs xs ys m same)
 
-waiting_copy-same : (limit : ℕ) (access : Option (List AclRow)) (xs ys : List Subscription) (m : Message) (s : Session) → SameElements xs ys → waiting_copy limit access xs m s ≡ waiting_copy limit access ys m s
+waiting_copy-same : (limit : ℕ) (access : Option (List AclRow)) (xs ys : List Subscription)
+    (m : Message) (s : Session) → SameElements xs ys
+    → waiting_copy limit access xs m s ≡ waiting_copy limit access ys m s
 waiting_copy-same limit access xs ys m s same =
-    ap (λ o. if has_room limit s then option_and_then with_qos o else None) (direct_copy-same access xs ys m s.id s.user same)
+    ap (λ o. if has_room limit s then option_and_then with_qos o else None)
+    (direct_copy-same access xs ys m s.id s.user same)
 
-pub begins_to_wait-same : (limit : ℕ) (access : Option (List AclRow)) (sessions : List Session) (xs ys : List Subscription) (m : Message) → SameElements xs ys → begins_to_wait limit access sessions xs m ≡ begins_to_wait limit access sessions ys m
+pub begins_to_wait-same : (limit : ℕ) (access : Option (List AclRow)) (sessions : List Session)
+    (xs ys : List Subscription) (m : Message) → SameElements xs ys
+    → begins_to_wait limit access sessions xs m ≡ begins_to_wait limit access sessions ys m
 unfolding begins_to_wait
 begins_to_wait-same limit access sessions xs ys m same =
-    list_any-same (λ s. is_some (waiting_copy limit access xs m s)) (λ s. is_some (waiting_copy limit access ys m s)) (λ s. ap is_some (waiting_copy-same limit access xs ys m s same)) sessions
+    list_any-same (λ s. is_some (waiting_copy limit access xs m s))
+    (λ s. is_some (waiting_copy limit access ys m s))
+    (λ s. ap is_some (waiting_copy-same limit access xs ys m s same)) sessions
 
-pub waiting_after-same : (limit : ℕ) (access : Option (List AclRow)) (sessions : List Session) (xs ys : List Subscription) (now : ℕ) (m : Message) → SameElements xs ys → map (waiting_after limit access xs now m) sessions ≡ map (waiting_after limit access ys now m) sessions
+pub waiting_after-same : (limit : ℕ) (access : Option (List AclRow)) (sessions : List Session)
+    (xs ys : List Subscription) (now : ℕ) (m : Message) → SameElements xs ys
+    → map (waiting_after limit access xs now m) sessions
+    ≡ map (waiting_after limit access ys now m) sessions
 waiting_after-same limit access sessions xs ys now m same =
     map-same (waiting_after limit access xs now m) (waiting_after limit access ys now m)
-    (λ s. ap (λ o. option_map_or (λ copy. with_waiting s (record { copy = copy; deadline = deadline_of now m.expiry } ∷ [])) o s) (waiting_copy-same limit access xs ys m s same)) sessions
+    (λ s. ap (λ o. option_map_or
+    (λ copy. with_waiting s (record { copy = copy; deadline = deadline_of now m.expiry }
+    ∷ [])) o s) (waiting_copy-same limit access xs ys m s same)) sessions

@@ -1,12 +1,17 @@
 -- Members that are served: the world's rows and their turns.
-use Rattle.std.proofs.Common.{◌≡◌, ◌+◌, ◌<◌, arith, Bool, true, false, true≢false, cond, ◌&&◌, ◌||◌, List, [], ◌∷◌, map, length, nat_le, nat_eq, ℕ, Option, Some, None, if◌then◌else◌, refl, sym, ◌∙◌, ap, subst}
+use Rattle.std.proofs.Common.{◌≡◌, ◌+◌, ◌<◌, arith, Bool, true, false, true≢false, cond, ◌&&◌, ◌||◌}
+use Rattle.std.proofs.Common.{List, [], ◌∷◌, map, length, nat_le, nat_eq, ℕ, Option, Some, None}
+use Rattle.std.proofs.Common.{if◌then◌else◌, refl, sym, ◌∙◌, ap, subst}
 use Rattle.std.specs.declared.cmp.Ordering.TheVariants.{Less}
 use Rattle.std.specs.Ordering.{is_eq}
-use Rattle.std.specs.List.{filter, filter_map, cons_option, list_any, list_all, AllByRecursion, IsDistinct}
+use Rattle.std.specs.List.{filter, filter_map, cons_option, list_any, list_all, AllByRecursion}
+use Rattle.std.specs.List.{IsDistinct}
 use Rattle.std.specs.List.Sorted.{IsStrictlySortedBy}
 use Rattle.std.proofs.lemmas.List.Kept.{IsStrictlySortedBy-filter}
 use Rattle.mq_world.specs.Lists.{Text, SameElements, same_text}
-use Rattle.mq_world.specs.World.{World, IsWorld, Group, Subscription, Row, Message, row_cmp, subscription_cmp, group_cmp, same_share, is_in_group, rows_in, same_key}
+use Rattle.mq_world.specs.World.{World, IsWorld, Group, Subscription, Row, Message, row_cmp}
+use Rattle.mq_world.specs.World.{subscription_cmp, group_cmp, same_share, is_in_group, rows_in}
+use Rattle.mq_world.specs.World.{same_key}
 use Rattle.mq_world.specs.Sessions.{can_be_served}
 use Rattle.mq_world.specs.Copies.{filter_matches}
 use Rattle.mq_subscriptions.specs.Turns.{all_turned}
@@ -23,7 +28,9 @@ use Rattle.mq_world.proofs.Splits.{some_same}
 use Rattle.mq_subscriptions.proofs.TurnLemmas.{StampsBelow, by_turn-filter}
 use Rattle.mq_subscriptions.proofs.JoinTurn.{AreApart, stamps, apart-from, apart-to, turn-elements}
 use Rattle.mq_router.proofs.GroupLemmas.{group_tie, group_tied, groups_of-sorted}
-use Rattle.mq_subscriptions.proofs.OneServed.{told, Among, found_among, found_passes, alike, stamped, turned-elements, turned-group, turned-one, apart-one}
+use Rattle.mq_subscriptions.proofs.OneServed.{told, Among, found_among, found_passes, alike}
+use Rattle.mq_subscriptions.proofs.OneServed.{stamped, turned-elements, turned-group, turned-one}
+use Rattle.mq_subscriptions.proofs.OneServed.{apart-one}
 
 -- ## Those served in a group
 
@@ -32,16 +39,25 @@ one_or_none None = []
 one_or_none (Some r) = r ∷ []
 
 -- groups with one member are one
-same_group : (g k : Group) (x : Subscription) → is_in_group g x ≡ true → is_in_group k x ≡ true → ties group_cmp group_total g k ≡ true
+same_group : (g k : Group) (x : Subscription) → is_in_group g x ≡ true → is_in_group k x ≡ true
+    → ties group_cmp group_total g k ≡ true
 same_group g k x a b =
-    let gs : x.share ≡ Some g.share = same_share-is x.share (Some g.share) (left_true (same_share x.share (Some g.share)) (same_text x.filter g.filter) a) in
-    let ks : x.share ≡ Some k.share = same_share-is x.share (Some k.share) (left_true (same_share x.share (Some k.share)) (same_text x.filter k.filter) b) in
-    let gf : x.filter ≡ g.filter = same_text-is x.filter g.filter (right_true (same_share x.share (Some g.share)) (same_text x.filter g.filter) a) in
-    let kf : x.filter ≡ k.filter = same_text-is x.filter k.filter (right_true (same_share x.share (Some k.share)) (same_text x.filter k.filter) b) in
+    let gs : x.share ≡ Some g.share =
+    same_share-is x.share (Some g.share)
+    (left_true (same_share x.share (Some g.share)) (same_text x.filter g.filter) a) in
+    let ks : x.share ≡ Some k.share =
+    same_share-is x.share (Some k.share)
+    (left_true (same_share x.share (Some k.share)) (same_text x.filter k.filter) b) in
+    let gf : x.filter ≡ g.filter = same_text-is x.filter g.filter
+    (right_true (same_share x.share (Some g.share)) (same_text x.filter g.filter) a) in
+    let kf : x.filter ≡ k.filter = same_text-is x.filter k.filter
+    (right_true (same_share x.share (Some k.share)) (same_text x.filter k.filter) b) in
     let share : g.share ≡ k.share = some_same (sym gs ∙ ks) in
     let f : g.filter ≡ k.filter = sym gf ∙ kf in
-    group_tie g k ∙ ap (λ (t : Text). same_text g.share t && same_text g.filter k.filter) (sym share) ∙ ap (λ (t : Text). same_text g.share g.share && same_text g.filter t) (sym f)
-    ∙ ap (λ b. b && same_text g.filter g.filter) (same_text-itself g.share) ∙ same_text-itself g.filter
+    group_tie g k ∙ ap (λ (t : Text). same_text g.share t && same_text g.filter k.filter)
+    (sym share) ∙ ap (λ (t : Text). same_text g.share g.share && same_text g.filter t) (sym f)
+    ∙ ap (λ b. b && same_text g.filter g.filter) (same_text-itself g.share)
+    ∙ same_text-itself g.filter
 
 module _ (can : Text → Bool) (rows : List Row) where
   abbrev T : Group → Option Row
@@ -53,11 +69,16 @@ module _ (can : Text → Bool) (rows : List Row) where
   -- the one whose turn it is is a member
   turn_in : (k : Group) (r : Row) → T k ≡ Some r → is_in_group k r.subscription ≡ true
   turn_in k r e =
-      found_passes (λ (o : Row). is_in_group k o.subscription ≡ true) (λ row. list_all (λ other. nat_le row.stamp other.stamp) (filter able (rows_in k rows))) (filter able (rows_in k rows)) r e
-      (all_filtered (λ (o : Row). is_in_group k o.subscription ≡ true) able (rows_in k rows) (all_passed (λ (o : Row). is_in_group k o.subscription) rows))
+      found_passes (λ (o : Row). is_in_group k o.subscription ≡ true)
+      (λ row. list_all (λ other. nat_le row.stamp other.stamp) (filter able (rows_in k rows)))
+      (filter able (rows_in k rows)) r e
+      (all_filtered (λ (o : Row). is_in_group k o.subscription ≡ true) able (rows_in k rows)
+      (all_passed (λ (o : Row). is_in_group k o.subscription) rows))
 
   turn_among : (k : Group) (r : Row) → T k ≡ Some r → Among r (rows_in k rows)
-  turn_among k r e = found_among (λ row. list_all (λ other. nat_le row.stamp other.stamp) (filter able (rows_in k rows))) able (rows_in k rows) r e
+  turn_among k r e =
+      found_among (λ row. list_all (λ other. nat_le row.stamp other.stamp)
+      (filter able (rows_in k rows))) able (rows_in k rows) r e
 
   module _ (g : Group) where
     abbrev mine : Row → Bool
@@ -70,25 +91,36 @@ module _ (can : Text → Bool) (rows : List Row) where
     none_has [] h = refl
     none_has (k ∷ ks) h = ap (λ o. is_eq o || has ks) h.0 ∙ none_has ks h.1
 
-    served_among : (ks : List Group) → IsStrictlySortedBy group_cmp ks → filter mine (filter_map T ks) ≡ one_or_none (if has ks then T g else None)
+    served_among : (ks : List Group) → IsStrictlySortedBy group_cmp ks
+        → filter mine (filter_map T ks) ≡ one_or_none (if has ks then T g else None)
     unfolding IsStrictlySortedBy
     served_among [] s = refl
     served_among (k ∷ ks) s =
         let rest : List Row = filter_map T ks in
         pick (ties group_cmp group_total g k)
         (λ t. (let gk : g ≡ k = group_tied g k t in
-        let no_more : filter mine rest ≡ [] = served_among ks s.1 ∙ ap (λ b. one_or_none (if b then T g else None)) (none_has ks (subst (λ (j : Group). AllByRecursion (λ y. group_cmp j y ≡ Less) ks) (sym gk) s.0)) in
-        let P : Option Row → Type 0 = λ o. T k ≡ o → filter mine (cons_option o rest) ≡ one_or_none o in
+        let no_more : filter mine rest ≡ [] = served_among ks s.1
+        ∙ ap (λ b. one_or_none (if b then T g else None))
+        (none_has ks (subst (λ (j : Group). AllByRecursion (λ y. group_cmp j y ≡ Less) ks)
+        (sym gk) s.0)) in
+        let P : Option Row → Type 0 = λ o. T k ≡ o
+        → filter mine (cons_option o rest) ≡ one_or_none o in
         (elim (T k) as P [
           | None ↦ λ e. no_more
-          | Some r ↦ λ e. ap (λ b. cond b (r ∷ filter mine rest) (filter mine rest)) (ap (λ (j : Group). is_in_group j r.subscription) gk ∙ turn_in k r e) ∙ ap (λ l. r ∷ l) no_more
+          | Some r ↦ λ e. ap (λ b. cond b (r ∷ filter mine rest) (filter mine rest))
+              (ap (λ (j : Group). is_in_group j r.subscription) gk ∙ turn_in k r e)
+              ∙ ap (λ l. r ∷ l) no_more
         ]) refl
         ∙ ap (λ (j : Group). one_or_none (T j)) (sym gk)
         ∙ sym (ap (λ b. one_or_none (if b || has ks then T g else None)) t)))
-        (λ f. (let P : Option Row → Type 0 = λ o. T k ≡ o → filter mine (cons_option o rest) ≡ filter mine rest in
+        (λ f. (let P : Option Row → Type 0 = λ o. T k ≡ o
+        → filter mine (cons_option o rest) ≡ filter mine rest in
         (elim (T k) as P [
           | None ↦ λ e. refl
-          | Some r ↦ λ e. ap (λ b. cond b (r ∷ filter mine rest) (filter mine rest)) (pick (mine r) (λ t. absurd (true≢false (sym (same_group g k r.subscription t (turn_in k r e)) ∙ f))) (λ n. n))
+          | Some r ↦ λ e. ap (λ b. cond b (r ∷ filter mine rest) (filter mine rest))
+              (pick (mine r)
+              (λ t. absurd (true≢false (sym (same_group g k r.subscription t (turn_in k r e))
+              ∙ f))) (λ n. n))
         ]) refl
         ∙ served_among ks s.1 ∙ sym (ap (λ b. one_or_none (if b || has ks then T g else None)) f)))
 
@@ -96,24 +128,35 @@ abbrev is_among : List Row → Row → Bool
 is_among ss row = list_any (λ other. same_key other.subscription row.subscription) ss
 
 -- which rows of a group are served
-among_group : (g : Group) (row : Row) → is_in_group g row.subscription ≡ true → (ss : List Row) → is_among ss row ≡ is_among (filter (λ o. is_in_group g o.subscription) ss) row
+among_group : (g : Group) (row : Row) → is_in_group g row.subscription ≡ true → (ss : List Row)
+    → is_among ss row ≡ is_among (filter (λ o. is_in_group g o.subscription) ss) row
 among_group g row t [] = refl
 among_group g row t (o ∷ ss) =
     let rest : List Row = filter (λ x. is_in_group g x.subscription) ss in
-    let P : Bool → Type 0 = λ b. is_in_group g o.subscription ≡ b → (same_key o.subscription row.subscription || is_among ss row) ≡ is_among (cond b (o ∷ rest) rest) row in
+    let P : Bool → Type 0 = λ b. is_in_group g o.subscription ≡ b
+    → (same_key o.subscription row.subscription || is_among ss row)
+    ≡ is_among (cond b (o ∷ rest) rest) row in
     (elim (is_in_group g o.subscription) as P [
       | true ↦ λ e. ap (λ b. same_key o.subscription row.subscription || b) (among_group g row t ss)
-      | false ↦ λ e. ap (λ b. b || is_among ss row) (pick (same_key o.subscription row.subscription) (λ y. absurd (true≢false (sym t ∙ in_group_same o.subscription row.subscription g y ∙ e))) (λ n. n)) ∙ among_group g row t ss
+      | false ↦ λ e. ap (λ b. b || is_among ss row)
+          (pick (same_key o.subscription row.subscription)
+          (λ y. absurd (true≢false (sym t ∙ in_group_same o.subscription row.subscription g y
+          ∙ e))) (λ n. n)) ∙ among_group g row t ss
     ]) refl
 
-restamped_in : (n : ℕ) (g : Group) (ss rows : List Row) → map (restamped n ss) (rows_in g rows) ≡ map (restamped n (filter (λ o. is_in_group g o.subscription) ss)) (rows_in g rows)
+restamped_in : (n : ℕ) (g : Group) (ss rows : List Row)
+    → map (restamped n ss) (rows_in g rows)
+    ≡ map (restamped n (filter (λ o. is_in_group g o.subscription) ss)) (rows_in g rows)
 restamped_in n g ss [] = refl
 restamped_in n g ss (r ∷ rows) =
     let few : List Row = filter (λ o. is_in_group g o.subscription) ss in
     let rest : List Row = rows_in g rows in
-    let P : Bool → Type 0 = λ b. is_in_group g r.subscription ≡ b → map (restamped n ss) (cond b (r ∷ rest) rest) ≡ map (restamped n few) (cond b (r ∷ rest) rest) in
+    let P : Bool → Type 0 = λ b. is_in_group g r.subscription ≡ b
+    → map (restamped n ss) (cond b (r ∷ rest) rest)
+    ≡ map (restamped n few) (cond b (r ∷ rest) rest) in
     (elim (is_in_group g r.subscription) as P [
-      | true ↦ λ e. ap (λ b. (if b then stamped n r else r) ∷ map (restamped n ss) rest) (among_group g r e ss) ∙ ap (λ l. restamped n few r ∷ l) (restamped_in n g ss rows)
+      | true ↦ λ e. ap (λ b. (if b then stamped n r else r) ∷ map (restamped n ss) rest)
+          (among_group g r e ss) ∙ ap (λ l. restamped n few r ∷ l) (restamped_in n g ss rows)
       | false ↦ λ e. restamped_in n g ss rows
     ]) refl
 
@@ -129,15 +172,23 @@ restamped-told n ss (r ∷ rows) =
     same_subscription true = refl
     same_subscription false = refl
 
-restamped-group : (n : ℕ) (ss : List Row) (g : Group) (r : Row) → is_in_group g (restamped n ss r).subscription ≡ is_in_group g r.subscription
-restamped-group n ss g r = elim (is_among ss r) as (λ b. is_in_group g (if b then stamped n r else r).subscription ≡ is_in_group g r.subscription) [ true ↦ refl | false ↦ refl ]
+restamped-group : (n : ℕ) (ss : List Row) (g : Group) (r : Row)
+    → is_in_group g (restamped n ss r).subscription ≡ is_in_group g r.subscription
+restamped-group n ss g r = elim (is_among ss r)
+    as (λ b. is_in_group g (if b then stamped n r else r).subscription
+    ≡ is_in_group g r.subscription) [ true ↦ refl | false ↦ refl ]
 
-rows_restamped : (n : ℕ) (ss : List Row) (g : Group) (rows : List Row) → rows_in g (map (restamped n ss) rows) ≡ map (restamped n ss) (rows_in g rows)
+rows_restamped : (n : ℕ) (ss : List Row) (g : Group) (rows : List Row)
+    → rows_in g (map (restamped n ss) rows) ≡ map (restamped n ss) (rows_in g rows)
 rows_restamped n ss g rows =
-    sym (ap (map (restamped n ss)) (filter-same (λ r. is_in_group g r.subscription) (λ r. is_in_group g (restamped n ss r).subscription) (λ r. sym (restamped-group n ss g r)) rows)
+    sym (ap (map (restamped n ss))
+    (filter-same (λ r. is_in_group g r.subscription)
+    (λ r. is_in_group g (restamped n ss r).subscription)
+    (λ r. sym (restamped-group n ss g r)) rows)
     ∙ map-filter (restamped n ss) (λ r. is_in_group g r.subscription) rows)
 
-told_group : (g : Group) (rows : List Row) → filter (is_in_group g) (told rows) ≡ told (rows_in g rows)
+told_group : (g : Group) (rows : List Row)
+    → filter (is_in_group g) (told rows) ≡ told (rows_in g rows)
 told_group g rows = sym (map-filter (λ (r : Row). r.subscription) (is_in_group g) rows)
 
 module _ (w : World) (h : IsWorld w) (m : Message) where
@@ -162,9 +213,12 @@ module _ (w : World) (h : IsWorld w) (m : Message) where
 
     few_is : few ≡ one_or_none E
     unfolding served
-    few_is = served_among can w.rows g matching (IsStrictlySortedBy-filter group_cmp (λ group. filter_matches group.filter m.topic) (groups_of w.rows) (groups_of-sorted w.rows))
+    few_is = served_among can w.rows g matching
+        (IsStrictlySortedBy-filter group_cmp (λ group. filter_matches group.filter m.topic)
+        (groups_of w.rows) (groups_of-sorted w.rows))
 
-    turn_if : (b : Bool) (r : Row) → (if b then turn_of can w.rows g else None) ≡ Some r → turn_of can w.rows g ≡ Some r
+    turn_if : (b : Bool) (r : Row) → (if b then turn_of can w.rows g else None) ≡ Some r
+        → turn_of can w.rows g ≡ Some r
     turn_if true r e = e
     turn_if false r e = absurd (let no : ◌≡◌ {A = Option Row} None (Some r) = e in cc)
 
@@ -172,65 +226,104 @@ module _ (w : World) (h : IsWorld w) (m : Message) where
     G_sorted = IsStrictlySortedBy-filter row_cmp (λ o. is_in_group g o.subscription) w.rows h.rows
 
     G_below : StampsBelow w.accepted G
-    G_below = all_filtered (λ (o : Row). o.stamp < w.accepted) (λ o. is_in_group g o.subscription) w.rows h.stamps
+    G_below = all_filtered (λ (o : Row). o.stamp < w.accepted) (λ o. is_in_group g o.subscription)
+        w.rows h.stamps
 
     none_restamped : (rows : List Row) → map (restamped w.accepted []) rows ≡ rows
     none_restamped [] = refl
     none_restamped (r ∷ rows) = ap (λ l. r ∷ l) (none_restamped rows)
 
-    one_restamped : (r : Row) (rows : List Row) → map (restamped w.accepted (r ∷ [])) rows ≡ map (λ o. if alike r o then stamped w.accepted o else o) rows
+    one_restamped : (r : Row) (rows : List Row)
+        → map (restamped w.accepted (r ∷ [])) rows
+        ≡ map (λ o. if alike r o then stamped w.accepted o else o) rows
     one_restamped r [] = refl
-    one_restamped r (o ∷ rows) = ap (λ b. (if b then stamped w.accepted o else o) ∷ map (restamped w.accepted (r ∷ [])) rows) (or_false (alike r o)) ∙ ap (λ l. (if alike r o then stamped w.accepted o else o) ∷ l) (one_restamped r rows)
+    one_restamped r (o ∷ rows) =
+        ap (λ b. (if b then stamped w.accepted o else o) ∷ map (restamped w.accepted (r ∷ [])) rows)
+        (or_false (alike r o)) ∙ ap (λ l. (if alike r o then stamped w.accepted o else o) ∷ l)
+        (one_restamped r rows)
 
-    group_by : (e : Option Row) → E ≡ e → told (by_turn (map (restamped w.accepted (one_or_none e)) G)) ≡ all_turned (told (one_or_none e)) (told (by_turn G))
+    group_by : (e : Option Row) → E ≡ e
+        → told (by_turn (map (restamped w.accepted (one_or_none e)) G))
+        ≡ all_turned (told (one_or_none e)) (told (by_turn G))
     group_by None is = ap (λ l. told (by_turn l)) (none_restamped G)
     group_by (Some r) is =
         ap (λ l. told (by_turn l)) (one_restamped r G)
-        ∙ turned-one w.accepted G G_sorted G_below r (turn_among can w.rows g r (turn_if (has can w.rows g matching) r is))
+        ∙ turned-one w.accepted G G_sorted G_below r
+        (turn_among can w.rows g r (turn_if (has can w.rows g matching) r is))
 
     apart_by : (e : Option Row) → E ≡ e → AreApart (map (restamped w.accepted (one_or_none e)) G)
-    apart_by None is = subst (λ (l : List Row). AreApart l) (sym (none_restamped G)) (apart-from G (h.apart g))
+    apart_by None is = subst (λ (l : List Row). AreApart l) (sym (none_restamped G))
+        (apart-from G (h.apart g))
     apart_by (Some r) is =
         subst (λ (l : List Row). AreApart l) (sym (one_restamped r G))
-        (apart-one w.accepted G G_sorted G_below r (turn_among can w.rows g r (turn_if (has can w.rows g matching) r is)) (apart-from G (h.apart g)))
+        (apart-one w.accepted G G_sorted G_below r
+        (turn_among can w.rows g r (turn_if (has can w.rows g matching) r is))
+        (apart-from G (h.apart g)))
 
     pub served-apart : IsDistinct nat_eq (stamps (rows_in g (map (restamped w.accepted S) w.rows)))
     served-apart =
-        apart-to (rows_in g (map (restamped w.accepted S) w.rows)) (subst (λ (l : List Row). AreApart l) (sym (rows_restamped w.accepted S g w.rows ∙ restamped_in w.accepted g S w.rows ∙ ap (λ l. map (restamped w.accepted l) G) few_is)) (apart_by E refl))
+        apart-to (rows_in g (map (restamped w.accepted S) w.rows))
+        (subst (λ (l : List Row). AreApart l)
+        (sym (rows_restamped w.accepted S g w.rows ∙ restamped_in w.accepted g S w.rows
+        ∙ ap (λ l. map (restamped w.accepted l) G) few_is)) (apart_by E refl))
 
-    served_group : filter (is_in_group g) (all_turned (told S) (in_turn w)) ≡ filter (is_in_group g) (told (by_turn (map (restamped w.accepted S) w.rows)))
+    served_group : filter (is_in_group g) (all_turned (told S) (in_turn w))
+        ≡ filter (is_in_group g) (told (by_turn (map (restamped w.accepted S) w.rows)))
     served_group =
         turned-group g (told S) (in_turn w)
-        ∙ ap (λ l. all_turned l (filter (is_in_group g) (in_turn w))) (told_group g S ∙ ap told few_is)
-        ∙ ap (all_turned (told (one_or_none E))) (told_group g (by_turn w.rows) ∙ ap told (sym (by_turn-filter (λ o. is_in_group g o.subscription) w.rows)))
+        ∙ ap (λ l. all_turned l (filter (is_in_group g) (in_turn w)))
+        (told_group g S ∙ ap told few_is)
+        ∙ ap (all_turned (told (one_or_none E)))
+        (told_group g (by_turn w.rows)
+        ∙ ap told (sym (by_turn-filter (λ o. is_in_group g o.subscription) w.rows)))
         ∙ sym (group_by E refl)
-        ∙ ap (λ l. told (by_turn l)) (sym (rows_restamped w.accepted S g w.rows ∙ restamped_in w.accepted g S w.rows ∙ ap (λ l. map (restamped w.accepted l) G) few_is))
-        ∙ ap told (by_turn-filter (λ o. is_in_group g o.subscription) (map (restamped w.accepted S) w.rows))
+        ∙ ap (λ l. told (by_turn l))
+        (sym (rows_restamped w.accepted S g w.rows ∙ restamped_in w.accepted g S w.rows
+        ∙ ap (λ l. map (restamped w.accepted l) G) few_is))
+        ∙ ap told (by_turn-filter (λ o. is_in_group g o.subscription)
+        (map (restamped w.accepted S) w.rows))
         ∙ sym (told_group g (by_turn (map (restamped w.accepted S) w.rows)))
 
   told-elements : (rows : List Row) → SameElements (told (by_turn rows)) (told rows)
-  told-elements rows = SameElements-map (λ (r : Row). r.subscription) (by_turn rows) rows (turn-elements rows)
+  told-elements rows = SameElements-map (λ (r : Row). r.subscription) (by_turn rows) rows
+      (turn-elements rows)
 
-  pub serves : SameInTurn (all_turned (told S) (in_turn w)) (told (by_turn (map (restamped w.accepted S) w.rows)))
+  pub serves : SameInTurn (all_turned (told S) (in_turn w))
+      (told (by_turn (map (restamped w.accepted S) w.rows)))
   serves = record {
-    elements = λ p. turned-elements (told S) (in_turn w) p ∙ told-elements w.rows p ∙ ap (λ l. length (filter p l)) (sym (restamped-told w.accepted S w.rows)) ∙ sym (told-elements (map (restamped w.accepted S) w.rows) p);
+    elements = λ p. turned-elements (told S) (in_turn w) p ∙ told-elements w.rows p
+        ∙ ap (λ l. length (filter p l)) (sym (restamped-told w.accepted S w.rows))
+        ∙ sym (told-elements (map (restamped w.accepted S) w.rows) p);
     members = served_group;
   }
 
-restamped_above : (n : ℕ) (ss : List Row) (r : Row) (rows : List Row) → AllByRecursion (λ o. row_cmp r o ≡ Less) rows → AllByRecursion (λ o. row_cmp (restamped n ss r) o ≡ Less) (map (restamped n ss) rows)
+restamped_above : (n : ℕ) (ss : List Row) (r : Row) (rows : List Row)
+    → AllByRecursion (λ o. row_cmp r o ≡ Less) rows
+    → AllByRecursion (λ o. row_cmp (restamped n ss r) o ≡ Less) (map (restamped n ss) rows)
 restamped_above n ss r [] h = tt
-restamped_above n ss r (o ∷ rows) h =
-    (ap (λ s. subscription_cmp s (restamped n ss o).subscription) (of r) ∙ ap (subscription_cmp r.subscription) (of o) ∙ h.0, restamped_above n ss r rows h.1)
+restamped_above n ss r (o ∷ rows) h = (
+  ap (λ s. subscription_cmp s (restamped n ss o).subscription) (of r)
+      ∙ ap (subscription_cmp r.subscription) (of o) ∙ h.0,
+  restamped_above n ss r rows h.1,
+)
   where
     of : (x : Row) → (restamped n ss x).subscription ≡ x.subscription
-    of x = elim (is_among ss x) as (λ b. (if b then stamped n x else x).subscription ≡ x.subscription) [ true ↦ refl | false ↦ refl ]
+    of x = elim (is_among ss x) as (λ b. (if b then stamped n x else x).subscription
+        ≡ x.subscription) [ true ↦ refl | false ↦ refl ]
 
-pub restamped-sorted : (n : ℕ) (ss rows : List Row) → IsStrictlySortedBy row_cmp rows → IsStrictlySortedBy row_cmp (map (restamped n ss) rows)
+pub restamped-sorted : (n : ℕ) (ss rows : List Row) → IsStrictlySortedBy row_cmp rows
+    → IsStrictlySortedBy row_cmp (map (restamped n ss) rows)
 unfolding IsStrictlySortedBy
 restamped-sorted n ss [] s = tt
-restamped-sorted n ss (r ∷ rows) s = (restamped_above n ss r rows s.0, restamped-sorted n ss rows s.1)
+restamped-sorted n ss (r ∷ rows) s =
+    (restamped_above n ss r rows s.0, restamped-sorted n ss rows s.1)
 
-pub restamped-below : (n : ℕ) (ss rows : List Row) → StampsBelow n rows → StampsBelow (n + 1) (map (restamped n ss) rows)
+pub restamped-below : (n : ℕ) (ss rows : List Row) → StampsBelow n rows
+    → StampsBelow (n + 1) (map (restamped n ss) rows)
 restamped-below n ss [] h = tt
-restamped-below n ss (r ∷ rows) h =
-    ((let here : r.stamp < n = h.0 in elim (is_among ss r) as (λ b. (if b then stamped n r else r).stamp < n + 1) [ true ↦ omega arith | false ↦ omega arith ]), restamped-below n ss rows h.1)
+restamped-below n ss (r ∷ rows) h = (
+  (let here : r.stamp < n = h.0 in
+      elim (is_among ss r) as (λ b. (if b then stamped n r else r).stamp < n + 1)
+      [ true ↦ omega arith | false ↦ omega arith ]),
+  restamped-below n ss rows h.1,
+)

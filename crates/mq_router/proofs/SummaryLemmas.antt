@@ -1,5 +1,6 @@
 -- Summaries of options.
-use Rattle.std.proofs.Common.{◌≡◌, ℕ, Bool, true, false, not, ◌==◌, List, [], ◌∷◌, ◌++◌, map, length, max, Some, None, refl, sym, ap, arith}
+use Rattle.std.proofs.Common.{◌≡◌, ℕ, Bool, true, false, not, ◌==◌, List, [], ◌∷◌, ◌++◌, map}
+use Rattle.std.proofs.Common.{length, max, Some, None, refl, sym, ap, arith}
 use Rattle.std.specs.List.{filter_map, cons_option}
 use Rattle.mq_world.specs.Lists.{greatest}
 use Rattle.mq_world.specs.World.{SubscriptionOptions}
@@ -10,30 +11,45 @@ use Rattle.mq_world.proofs.Splits.{some_same, none_some}
 
 -- ## Of options
 
-same_summary : (q q' : ℕ) (r r' : Bool) (ids ids' : List ℕ) → q ≡ q' → r ≡ r' → ids ≡ ids' → ◌≡◌ {A = Summary} (record { qos = q; retain_as_published = r; identifiers = ids }) (record { qos = q'; retain_as_published = r'; identifiers = ids' })
+same_summary : (q q' : ℕ) (r r' : Bool) (ids ids' : List ℕ) → q ≡ q' → r ≡ r' → ids ≡ ids'
+    → ◌≡◌ {A = Summary} (record { qos = q; retain_as_published = r; identifiers = ids })
+    (record { qos = q'; retain_as_published = r'; identifiers = ids' })
 same_summary q q' r r' ids ids' e1 e2 e3 = rw (e1, e2, e3) refl
 
-greatest-both : (xs ys : List SubscriptionOptions) → greatest (map (λ o. o.qos) (xs ++ ys)) ≡ max (greatest (map (λ o. o.qos) xs)) (greatest (map (λ o. o.qos) ys))
+greatest-both : (xs ys : List SubscriptionOptions)
+    → greatest (map (λ o. o.qos) (xs ++ ys))
+    ≡ max (greatest (map (λ o. o.qos) xs)) (greatest (map (λ o. o.qos) ys))
 greatest-both [] ys = omega arith
-greatest-both (x ∷ xs) ys = let h : greatest (map (λ o. o.qos) (xs ++ ys)) ≡ max (greatest (map (λ o. o.qos) xs)) (greatest (map (λ o. o.qos) ys)) = greatest-both xs ys in omega arith
+greatest-both (x ∷ xs) ys = let h : greatest (map (λ o. o.qos) (xs ++ ys))
+    ≡ max (greatest (map (λ o. o.qos) xs)) (greatest (map (λ o. o.qos) ys)) = greatest-both xs ys in
+    omega arith
 
-identifiers-both : (xs ys : List SubscriptionOptions) → filter_map (λ o. o.identifier) (xs ++ ys) ≡ filter_map (λ o. o.identifier) xs ++ filter_map (λ o. o.identifier) ys
+identifiers-both : (xs ys : List SubscriptionOptions)
+    → filter_map (λ o. o.identifier) (xs ++ ys) ≡ filter_map (λ o. o.identifier) xs
+    ++ filter_map (λ o. o.identifier) ys
 identifiers-both [] ys = refl
 identifiers-both (x ∷ xs) ys =
     let rest = identifiers-both xs ys in
-    elim x.identifier as (λ o. cons_option o (filter_map (λ (y : SubscriptionOptions). y.identifier) (xs ++ ys)) ≡ cons_option o (filter_map (λ (y : SubscriptionOptions). y.identifier) xs) ++ filter_map (λ (y : SubscriptionOptions). y.identifier) ys) [
+    elim x.identifier
+    as (λ o. cons_option o (filter_map (λ (y : SubscriptionOptions). y.identifier) (xs ++ ys))
+    ≡ cons_option o (filter_map (λ (y : SubscriptionOptions). y.identifier) xs)
+    ++ filter_map (λ (y : SubscriptionOptions). y.identifier) ys) [
       | None ↦ rest
       | Some n ↦ ap (λ l. n ∷ l) rest
     ]
 
-pub summary_of-append : (xs ys : List SubscriptionOptions) → summary_of (xs ++ ys) ≡ together (summary_of xs) (summary_of ys)
-summary_of-append xs ys = same_summary _ _ _ _ _ _ (greatest-both xs ys) (any-append (λ (o : SubscriptionOptions). o.retain_as_published) xs ys) (identifiers-both xs ys)
+pub summary_of-append : (xs ys : List SubscriptionOptions)
+    → summary_of (xs ++ ys) ≡ together (summary_of xs) (summary_of ys)
+summary_of-append xs ys = same_summary _ _ _ _ _ _ (greatest-both xs ys)
+    (any-append (λ (o : SubscriptionOptions). o.retain_as_published) xs ys) (identifiers-both xs ys)
 
 -- who has a summary has options
-pub summarized : (os : List SubscriptionOptions) (s : Summary) → summary_for os ≡ Some s → (not (length os == 0) ≡ true) × (s ≡ summary_of os)
+pub summarized : (os : List SubscriptionOptions) (s : Summary) → summary_for os ≡ Some s
+    → (not (length os == 0) ≡ true) × (s ≡ summary_of os)
 summarized [] s h = absurd (none_some h)
 summarized (o ∷ os) s h = (sym (some_pass (length os)), sym (some_same h))
 
-pub unsummarized : (os : List SubscriptionOptions) → summary_for os ≡ None → not (length os == 0) ≡ false
+pub unsummarized : (os : List SubscriptionOptions) → summary_for os ≡ None
+    → not (length os == 0) ≡ false
 unsummarized [] h = refl
 unsummarized (o ∷ os) h = absurd (none_some (sym h))

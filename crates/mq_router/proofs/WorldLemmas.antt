@@ -1,5 +1,8 @@
 -- What the router does by its own state, it does for each world that it stands for.
-use Rattle.std.proofs.Common.{◌≡◌, ℕ, ◌+◌, ◌==◌, nat_lt, Bool, true, false, cond, ◌&&◌, ◌||◌, not, List, [], ◌∷◌, ◌++◌, map, Option, Some, None, is_none, Result, Ok, Err, length, if◌then◌else◌, refl, sym, ◌∙◌, ap, subst, inl, inr, arith}
+use Rattle.std.proofs.Common.{◌≡◌, ℕ, ◌+◌, ◌==◌, nat_lt, Bool, true, false, cond, ◌&&◌, ◌||◌, not}
+use Rattle.std.proofs.Common.{List, [], ◌∷◌, ◌++◌, map, Option, Some, None, is_none, Result, Ok}
+use Rattle.std.proofs.Common.{Err, length, if◌then◌else◌, refl, sym, ◌∙◌, ap, subst, inl, inr}
+use Rattle.std.proofs.Common.{arith}
 use Rattle.std.specs.Option.{option_map}
 use Rattle.std.specs.List.{filter, filter_map, cons_option, find, list_any}
 use Rattle.std.proofs.lemmas.List.{length-map}
@@ -10,9 +13,14 @@ use Rattle.mq_acl.specs.Rows.{AclRow}
 use Rattle.mq_acl.specs.Access.{allowed}
 use Rattle.mq_acl.specs.declared.access.Direction.TheVariants.{Writing}
 use Rattle.mq_world.specs.Lists.{SameElements, Text, same_text, with_row}
-use Rattle.mq_world.specs.World.{World, Limits, IsWorld, Group, Session, Subscription, Row, Retained, Message, Copy, Reply, Request, Connect, Disconnect, Subscribe, Unsubscribe, Publish, SetAcl, Advance, Stat, asked, session_cmp, has_id, has_key, same_key, is_in_group, rows_in, subscriptions_of}
+use Rattle.mq_world.specs.World.{World, Limits, IsWorld, Group, Session, Subscription, Row}
+use Rattle.mq_world.specs.World.{Retained, Message, Copy, Reply, Request, Connect, Disconnect}
+use Rattle.mq_world.specs.World.{Subscribe, Unsubscribe, Publish, SetAcl, Advance, Stat, asked}
+use Rattle.mq_world.specs.World.{session_cmp, has_id, has_key, same_key, is_in_group, rows_in}
+use Rattle.mq_world.specs.World.{subscriptions_of}
 use Rattle.mq_world.specs.Clock.{last_moment}
-use Rattle.mq_world.specs.Sessions.{new_session, connected, user_of, is_reader, can_be_served, outlives, resumes, left_by, has_ended}
+use Rattle.mq_world.specs.Sessions.{new_session, connected, user_of, is_reader, can_be_served}
+use Rattle.mq_world.specs.Sessions.{outlives, resumes, left_by, has_ended}
 use Rattle.mq_world.specs.Waiting.{begins_to_wait, waiting_after, resumed_copies}
 use Rattle.mq_world.specs.Refusals.{first_refusal, client_conditions, refusal}
 use Rattle.mq_world.specs.Copies.{direct_copies, filter_matches}
@@ -24,15 +32,19 @@ use Rattle.mq_retained.specs.Receivers.{steps_among}
 use Rattle.mq_world.specs.Answers.{answer, reason, published, copies_of}
 use Rattle.mq_world.specs.After.{after, without_client}
 use Rattle.mq_world.specs.Turns.{by_turn, in_turn, SameInTurn}
-use Rattle.mq_router.specs.StandsFor.{State, Holds, StandsFor, Answers, AnswersFor, CountsFor, Refuses}
-use Rattle.mq_router.specs.router.Effects.{Applied, CountsSteps, Does, IsFiled, world_of, reply_to, counts_held, steps_to, moved, member_copy, without, lasts}
+use Rattle.mq_router.specs.StandsFor.{State, Holds, StandsFor, Answers, AnswersFor, CountsFor}
+use Rattle.mq_router.specs.StandsFor.{Refuses}
+use Rattle.mq_router.specs.router.Effects.{Applied, CountsSteps, Does, IsFiled, world_of, reply_to}
+use Rattle.mq_router.specs.router.Effects.{counts_held, steps_to, moved, member_copy, without}
+use Rattle.mq_router.specs.router.Effects.{lasts}
 use Rattle.mq_subscriptions.specs.Turns.{next_in, next_members, all_turned}
 use Rattle.mq_world.specs.Views.{reply_of}
 use Rattle.mq_tree.specs.Entries.{capped}
 use Rattle.mq_tree.specs.Prefixes.{prefixes, met_by_name}
 use Rattle.mq_world.proofs.ListLemmas.{map-filter}
 use Rattle.mq_world.proofs.SameLemmas.{SameElements-map, length-SameElements, list_any-SameElements}
-use Rattle.mq_subscriptions.proofs.InTurn.{same-is, same-then, same-filter, joined-same, all_turned-same}
+use Rattle.mq_subscriptions.proofs.InTurn.{same-is, same-then, same-filter, joined-same}
+use Rattle.mq_subscriptions.proofs.InTurn.{all_turned-same}
 use Rattle.mq_subscriptions.proofs.TurnLemmas.{by_turn-filter, least-is}
 use Rattle.mq_subscriptions.proofs.JoinTurn.{turn-elements, joins}
 use Rattle.mq_subscriptions.proofs.OneServed.{told}
@@ -45,11 +57,14 @@ use Rattle.mq_world.specs.declared.answer.Answer.{Answer}
 use Rattle.mq_world.specs.declared.answer.Outcome.{Outcome}
 use Rattle.mq_world.specs.declared.answer.Outcome.TheVariants.{Reason, Counts}
 use Rattle.mq_world.specs.declared.refusal.Refusal.{Refusal}
-use Rattle.mq_world.specs.declared.refusal.Refusal.TheVariants.{TopicName, TopicFilter, SharedNoLocal, NotAuthorized, RetainedFull, ClockTooFar}
+use Rattle.mq_world.specs.declared.refusal.Refusal.TheVariants.{TopicName, TopicFilter}
+use Rattle.mq_world.specs.declared.refusal.Refusal.TheVariants.{SharedNoLocal, NotAuthorized}
+use Rattle.mq_world.specs.declared.refusal.Refusal.TheVariants.{RetainedFull, ClockTooFar}
 
 -- the subscriptions in turn are those of the rows
 turn_told : (w : World) → SameElements (in_turn w) (subscriptions_of w)
-turn_told w = SameElements-map (λ (r : Row). r.subscription) (by_turn w.rows) w.rows (turn-elements w.rows)
+turn_told w = SameElements-map (λ (r : Row). r.subscription) (by_turn w.rows) w.rows
+    (turn-elements w.rows)
 
 -- the state has the limits, moment, access rows, sessions and retained messages of the world, and its subscriptions in turn
 pub record HasRows (s : State) (w : World) : Type 0 where
@@ -66,10 +81,15 @@ module _ (s : State) (w : World) (h : HasRows s w) where
 
   -- ## Refusals
 
-  abbrev publish_refusal : Option (List AclRow) → List Session → Limits → List Retained → Message → Option Refusal
+  abbrev publish_refusal : Option (List AclRow) → List Session → Limits → List Retained → Message
+      → Option Refusal
   publish_refusal access sessions limits retained m =
       first_refusal (client_conditions sessions m.publisher
-      ++ (not (is_name m.topic), TopicName) ∷ (not (allowed access m.publisher (user_of sessions m.publisher) m.topic Writing), NotAuthorized)
+      ++ (not (is_name m.topic), TopicName)
+      ∷ (
+        not (allowed access m.publisher (user_of sessions m.publisher) m.topic Writing),
+        NotAuthorized,
+      )
       ∷ (is_full limits.retained retained m, RetainedFull) ∷ [])
 
   pub refusal-held : (request : Request) → refusal (world_of s) request ≡ refusal w request
@@ -77,67 +97,98 @@ module _ (s : State) (w : World) (h : HasRows s w) where
   refusal-held (Connect id user clean interval) = refl
   refusal-held (Disconnect id) = ap (λ ss. first_refusal (client_conditions ss id)) h.sessions
   refusal-held (Subscribe id text options) =
-      ap (λ ss. first_refusal (client_conditions ss id ++ (not (is_subscription text), TopicFilter) ∷ (is_shared text && options.no_local, SharedNoLocal) ∷ [])) h.sessions
-  refusal-held (Unsubscribe id text) = ap (λ ss. first_refusal (client_conditions ss id ++ (not (is_subscription text), TopicFilter) ∷ [])) h.sessions
+      ap (λ ss. first_refusal (client_conditions ss id ++ (not (is_subscription text), TopicFilter)
+      ∷ (is_shared text && options.no_local, SharedNoLocal) ∷ [])) h.sessions
+  refusal-held (Unsubscribe id text) =
+      ap (λ ss. first_refusal (client_conditions ss id ++ (not (is_subscription text), TopicFilter)
+      ∷ [])) h.sessions
   refusal-held (Publish m) =
       ap (λ access. publish_refusal access s.sessions s.limits s.retained m) h.access
       ∙ ap (λ ss. publish_refusal w.access ss s.limits s.retained m) h.sessions
       ∙ ap (λ limits. publish_refusal w.access w.sessions limits s.retained m) h.limits
       ∙ ap (λ retained. publish_refusal w.access w.sessions w.limits retained m) h.retained
   refusal-held (SetAcl text) = refl
-  refusal-held (Advance seconds) = ap (λ moment. first_refusal ((nat_lt last_moment (moment + seconds), ClockTooFar) ∷ [])) h.moment
+  refusal-held (Advance seconds) =
+      ap (λ moment. first_refusal ((nat_lt last_moment (moment + seconds), ClockTooFar) ∷ []))
+      h.moment
   refusal-held Stat = refl
 
   -- ## Who is served
 
-  told_find : (p : Subscription → Bool) (rows : List Row) → option_map (λ (r : Row). r.subscription) (find (λ (r : Row). p r.subscription) rows) ≡ find p (told rows)
+  told_find : (p : Subscription → Bool) (rows : List Row)
+      → option_map (λ (r : Row). r.subscription) (find (λ (r : Row). p r.subscription) rows)
+      ≡ find p (told rows)
   told_find p [] = refl
   told_find p (r ∷ rows) =
-      elim (p r.subscription) as (λ b. option_map (λ (o : Row). o.subscription) (cond b (Some r) (find (λ (o : Row). p o.subscription) rows)) ≡ cond b (Some r.subscription) (find p (told rows))) [
+      elim (p r.subscription) as (λ b. option_map (λ (o : Row). o.subscription)
+      (cond b (Some r) (find (λ (o : Row). p o.subscription) rows))
+      ≡ cond b (Some r.subscription) (find p (told rows))) [
         | true ↦ refl
         | false ↦ told_find p rows
       ]
 
-  turn-held : (topic : Text) (g : Group) → next_in s.access s.sessions s.subscriptions topic g ≡ option_map (λ (r : Row). r.subscription) (turn_of (can_be_served w topic) w.rows g)
+  turn-held : (topic : Text) (g : Group) → next_in s.access s.sessions s.subscriptions topic g
+      ≡ option_map (λ (r : Row). r.subscription) (turn_of (can_be_served w topic) w.rows g)
   turn-held topic g =
       let able : Subscription → Bool = λ x. can_be_served w topic x.client in
-      ap (λ access. find (λ (x : Subscription). is_reader access s.sessions topic x.client) (filter (is_in_group g) s.subscriptions)) h.access
-      ∙ ap (λ ss. find (λ (x : Subscription). is_reader w.access ss topic x.client) (filter (is_in_group g) s.subscriptions)) h.sessions
-      ∙ ap (find able) (h.subscriptions.members g ∙ sym (map-filter (λ (r : Row). r.subscription) (is_in_group g) (by_turn w.rows)) ∙ ap told (sym (by_turn-filter (λ r. is_in_group g r.subscription) w.rows)))
+      ap (λ access. find (λ (x : Subscription). is_reader access s.sessions topic x.client)
+      (filter (is_in_group g) s.subscriptions)) h.access
+      ∙ ap (λ ss. find (λ (x : Subscription). is_reader w.access ss topic x.client)
+      (filter (is_in_group g) s.subscriptions)) h.sessions
+      ∙ ap (find able) (h.subscriptions.members g
+      ∙ sym (map-filter (λ (r : Row). r.subscription) (is_in_group g) (by_turn w.rows))
+      ∙ ap told (sym (by_turn-filter (λ r. is_in_group g r.subscription) w.rows)))
       ∙ sym (told_find able (by_turn (rows_in g w.rows)))
-      ∙ ap (option_map (λ (r : Row). r.subscription)) (sym (least-is (λ r. able r.subscription) (rows_in g w.rows)))
+      ∙ ap (option_map (λ (r : Row). r.subscription))
+      (sym (least-is (λ r. able r.subscription) (rows_in g w.rows)))
 
-  each_turn : (topic : Text) (gs : List Group) → filter_map (next_in s.access s.sessions s.subscriptions topic) gs ≡ told (filter_map (turn_of (can_be_served w topic) w.rows) gs)
+  each_turn : (topic : Text) (gs : List Group)
+      → filter_map (next_in s.access s.sessions s.subscriptions topic) gs
+      ≡ told (filter_map (turn_of (can_be_served w topic) w.rows) gs)
   each_turn topic [] = refl
   each_turn topic (g ∷ gs) =
-      ap (λ o. cons_option o (filter_map (next_in s.access s.sessions s.subscriptions topic) gs)) (turn-held topic g)
-      ∙ ap (cons_option (option_map (λ (r : Row). r.subscription) (turn_of (can_be_served w topic) w.rows g))) (each_turn topic gs)
+      ap (λ o. cons_option o (filter_map (next_in s.access s.sessions s.subscriptions topic) gs))
+      (turn-held topic g)
+      ∙ ap (cons_option (option_map (λ (r : Row). r.subscription)
+      (turn_of (can_be_served w topic) w.rows g))) (each_turn topic gs)
       ∙ onto (turn_of (can_be_served w topic) w.rows g)
     where
-      onto : (o : Option Row) → cons_option (option_map (λ (r : Row). r.subscription) o) (told (filter_map (turn_of (can_be_served w topic) w.rows) gs)) ≡ told (cons_option o (filter_map (turn_of (can_be_served w topic) w.rows) gs))
+      onto : (o : Option Row) → cons_option (option_map (λ (r : Row). r.subscription) o)
+          (told (filter_map (turn_of (can_be_served w topic) w.rows) gs))
+          ≡ told (cons_option o (filter_map (turn_of (can_be_served w topic) w.rows) gs))
       onto None = refl
       onto (Some r) = refl
 
-  pub served-held : (m : Message) → next_members s.access s.sessions s.subscriptions m ≡ told (served_by w m)
+  pub served-held : (m : Message) → next_members s.access s.sessions s.subscriptions m
+      ≡ told (served_by w m)
   unfolding next_members served
   served-held m =
       let q : Group → Bool = λ group. filter_matches group.filter m.topic in
-      ap (filter_map (next_in s.access s.sessions s.subscriptions m.topic)) (groups-same q s.subscriptions (subscriptions_of w) (λ g t. list_any-SameElements (is_in_group g) s.subscriptions (subscriptions_of w) all_told) ∙ ap (filter q) (groups-told w.rows))
+      ap (filter_map (next_in s.access s.sessions s.subscriptions m.topic))
+      (groups-same q s.subscriptions (subscriptions_of w)
+      (λ g t. list_any-SameElements (is_in_group g) s.subscriptions (subscriptions_of w)
+      all_told) ∙ ap (filter q) (groups-told w.rows))
       ∙ each_turn m.topic (filter q (groups_of w.rows))
 
   -- ## Answers
 
   -- what a subscribe is sent, by what it depends on
-  abbrev sent_by : ℕ → Option (List AclRow) → List Session → List Retained → Subscription → Bool → List Copy
+  abbrev sent_by : ℕ → Option (List AclRow) → List Session → List Retained → Subscription → Bool
+      → List Copy
   sent_by moment access sessions retained new exists =
-      if is_none new.share && (new.options.handling == 0 || (new.options.handling == 1 && not exists))
+      if is_none new.share && (new.options.handling == 0
+      || (new.options.handling == 1 && not exists))
       then retained_copies moment access (user_of sessions new.client) retained new
       else []
 
-  sent-held : (new : Subscription) → sent_by s.moment s.access s.sessions s.retained new (list_any (same_key new) s.subscriptions) ≡ sent_by w.moment w.access w.sessions w.retained new (list_any (same_key new) (subscriptions_of w))
+  sent-held : (new : Subscription) → sent_by s.moment s.access s.sessions s.retained new
+      (list_any (same_key new) s.subscriptions)
+      ≡ sent_by w.moment w.access w.sessions w.retained new
+      (list_any (same_key new) (subscriptions_of w))
   sent-held new =
       let exists : Bool = list_any (same_key new) (subscriptions_of w) in
-      ap (sent_by s.moment s.access s.sessions s.retained new) (list_any-SameElements (same_key new) s.subscriptions (subscriptions_of w) all_told)
+      ap (sent_by s.moment s.access s.sessions s.retained new)
+      (list_any-SameElements (same_key new) s.subscriptions (subscriptions_of w) all_told)
       ∙ ap (λ moment. sent_by moment s.access s.sessions s.retained new exists) h.moment
       ∙ ap (λ access. sent_by w.moment access s.sessions s.retained new exists) h.access
       ∙ ap (λ sessions. sent_by w.moment w.access sessions s.retained new exists) h.sessions
@@ -145,32 +196,49 @@ module _ (s : State) (w : World) (h : HasRows s w) where
 
   -- what a connect is answered, by what it depends on
   abbrev resumed_reply : ℕ → List Session → Text → Bool → Reply
-  resumed_reply moment sessions id clean = record { copies = resumed_copies moment sessions id clean; outcome = Reason 0 }
+  resumed_reply moment sessions id clean =
+      record { copies = resumed_copies moment sessions id clean; outcome = Reason 0 }
 
-  waits-held : (m : Message) → begins_to_wait s.limits.queued s.access s.sessions s.subscriptions m ≡ begins_to_wait w.limits.queued w.access w.sessions (subscriptions_of w) m
+  waits-held : (m : Message) → begins_to_wait s.limits.queued s.access s.sessions s.subscriptions m
+      ≡ begins_to_wait w.limits.queued w.access w.sessions (subscriptions_of w) m
   waits-held m =
-      ap (λ (limits : Limits). begins_to_wait limits.queued s.access s.sessions s.subscriptions m) h.limits
+      ap (λ (limits : Limits). begins_to_wait limits.queued s.access s.sessions s.subscriptions m)
+      h.limits
       ∙ ap (λ access. begins_to_wait w.limits.queued access s.sessions s.subscriptions m) h.access
-      ∙ ap (λ sessions. begins_to_wait w.limits.queued w.access sessions s.subscriptions m) h.sessions
-      ∙ begins_to_wait-same w.limits.queued w.access w.sessions s.subscriptions (subscriptions_of w) m all_told
+      ∙ ap (λ sessions. begins_to_wait w.limits.queued w.access sessions s.subscriptions m)
+      h.sessions
+      ∙ begins_to_wait-same w.limits.queued w.access w.sessions s.subscriptions (subscriptions_of w)
+      m all_told
 
-  pub answer-held : counts_held s ≡ counts w → (request : Request) → reply_to s request ≡ answer w request
+  pub answer-held : counts_held s ≡ counts w → (request : Request)
+      → reply_to s request ≡ answer w request
   unfolding answer
   answer-held told (Connect id user clean interval) =
-      ap (λ moment. resumed_reply moment s.sessions id clean) h.moment ∙ ap (λ ss. resumed_reply w.moment ss id clean) h.sessions
+      ap (λ moment. resumed_reply moment s.sessions id clean) h.moment
+      ∙ ap (λ ss. resumed_reply w.moment ss id clean) h.sessions
   answer-held told (Disconnect id) = refl
   answer-held told (Subscribe id text options) =
-      ap (λ copies. record { copies = copies; outcome = Reason options.qos }) (sent-held (asked id text options))
+      ap (λ copies. record { copies = copies; outcome = Reason options.qos })
+      (sent-held (asked id text options))
   answer-held told (Unsubscribe id text) =
-      ap (λ b. reason (if b then 0 else 17)) (list_any-SameElements (has_key id (share_of text) (filter_part text)) s.subscriptions (subscriptions_of w) all_told)
+      ap (λ b. reason (if b then 0 else 17))
+      (list_any-SameElements (has_key id (share_of text) (filter_part text)) s.subscriptions
+      (subscriptions_of w) all_told)
   answer-held told (Publish m) =
       let members : List Subscription = next_members s.access s.sessions s.subscriptions m in
-      ap (λ copies. published copies (begins_to_wait s.limits.queued s.access s.sessions s.subscriptions m))
-      (ap (λ access. direct_copies access (connected s.sessions) s.subscriptions m ++ map (member_copy m) members) h.access
-      ∙ ap (λ ss. direct_copies w.access (connected ss) s.subscriptions m ++ map (member_copy m) members) h.sessions
-      ∙ ap (λ l. l ++ map (member_copy m) members) (direct_copies-same w.access (connected w.sessions) s.subscriptions (subscriptions_of w) m all_told)
-      ∙ ap (λ l. direct_copies w.access (connected w.sessions) (subscriptions_of w) m ++ map (member_copy m) l) (served-held m)
-      ∙ ap (λ l. direct_copies w.access (connected w.sessions) (subscriptions_of w) m ++ l) (map-map (member_copy m) (λ (r : Row). r.subscription) (served_by w m)))
+      ap (λ copies. published copies
+      (begins_to_wait s.limits.queued s.access s.sessions s.subscriptions m))
+      (ap (λ access. direct_copies access (connected s.sessions) s.subscriptions m
+      ++ map (member_copy m) members) h.access
+      ∙ ap (λ ss. direct_copies w.access (connected ss) s.subscriptions m
+      ++ map (member_copy m) members) h.sessions
+      ∙ ap (λ l. l ++ map (member_copy m) members)
+      (direct_copies-same w.access (connected w.sessions) s.subscriptions (subscriptions_of w) m
+      all_told)
+      ∙ ap (λ l. direct_copies w.access (connected w.sessions) (subscriptions_of w) m
+      ++ map (member_copy m) l) (served-held m)
+      ∙ ap (λ l. direct_copies w.access (connected w.sessions) (subscriptions_of w) m ++ l)
+      (map-map (member_copy m) (λ (r : Row). r.subscription) (served_by w m)))
       ∙ ap (published (copies_of w m)) (waits-held m)
   answer-held told (SetAcl text) = refl
   answer-held told (Advance seconds) = refl
@@ -178,23 +246,34 @@ module _ (s : State) (w : World) (h : HasRows s w) where
 
   -- ## The next world
 
-  kept_rows : (q : Subscription → Bool) → SameInTurn (filter q s.subscriptions) (told (by_turn (filter (λ r. q r.subscription) w.rows)))
+  kept_rows : (q : Subscription → Bool)
+      → SameInTurn (filter q s.subscriptions)
+      (told (by_turn (filter (λ r. q r.subscription) w.rows)))
   kept_rows q =
       same-then _ _ _ (same-filter q s.subscriptions (in_turn w) h.subscriptions)
-      (same-is _ _ (sym (map-filter (λ (r : Row). r.subscription) q (by_turn w.rows)) ∙ ap told (sym (by_turn-filter (λ r. q r.subscription) w.rows))))
+      (same-is _ _ (sym (map-filter (λ (r : Row). r.subscription) q (by_turn w.rows))
+      ∙ ap told (sym (by_turn-filter (λ r. q r.subscription) w.rows))))
 
   -- the rows after a connect, by whether it resumes
-  left_rows : (id : Text) (a b : Bool) → a ≡ b → SameInTurn (if a then s.subscriptions else without id s.subscriptions) (told (by_turn (if b then w.rows else without_client id w.rows)))
+  left_rows : (id : Text) (a b : Bool) → a ≡ b
+      → SameInTurn (if a then s.subscriptions else without id s.subscriptions)
+      (told (by_turn (if b then w.rows else without_client id w.rows)))
   left_rows id a b e =
-      let P : Bool → Bool → Type 0 = λ a b. SameInTurn (if a then s.subscriptions else without id s.subscriptions) (told (by_turn (if b then w.rows else without_client id w.rows))) in
-      subst (P a) e (elim a as (λ a. P a a) [ true ↦ h.subscriptions | false ↦ kept_rows (λ x. not (same_text x.client id)) ])
+      let P : Bool → Bool → Type 0 = λ a b. SameInTurn
+      (if a then s.subscriptions else without id s.subscriptions)
+      (told (by_turn (if b then w.rows else without_client id w.rows))) in
+      subst (P a) e (elim a as (λ a. P a a)
+      [ true ↦ h.subscriptions | false ↦ kept_rows (λ x. not (same_text x.client id)) ])
 
   -- the state after a disconnect, by whether the session stays
   abbrev left_state : Text → Bool → State
   left_state id stays =
       if stays
       then record s { sessions = map (left_by s.moment id) s.sessions }
-      else record s { sessions = filter (λ session. not (has_id id session)) s.sessions; subscriptions = without id s.subscriptions }
+      else record s {
+        sessions = filter (λ session. not (has_id id session)) s.sessions;
+        subscriptions = without id s.subscriptions;
+      }
 
   pub moved-held : IsWorld w → (request : Request) → HasRows (moved s request) (after w request)
   unfolding after
@@ -203,17 +282,20 @@ module _ (s : State) (w : World) (h : HasRows s w) where
     moment = h.moment;
     access = h.access;
     sessions = ap (with_row session_cmp (new_session id user interval)) h.sessions;
-    subscriptions = left_rows id (resumes s.sessions id clean) (resumes w.sessions id clean) (ap (λ ss. resumes ss id clean) h.sessions);
+    subscriptions = left_rows id (resumes s.sessions id clean) (resumes w.sessions id clean)
+        (ap (λ ss. resumes ss id clean) h.sessions);
     retained = h.retained;
   }
   moved-held is (Disconnect id) =
       let P : Bool → Bool → Type 0 = λ a b. HasRows (left_state id a) (gone w id b) in
-      subst (P (outlives s.sessions id)) (ap (λ ss. outlives ss id) h.sessions) (elim (outlives s.sessions id) as (λ b. P b b) [
+      subst (P (outlives s.sessions id)) (ap (λ ss. outlives ss id) h.sessions)
+      (elim (outlives s.sessions id) as (λ b. P b b) [
         | true ↦ record {
           limits = h.limits;
           moment = h.moment;
           access = h.access;
-          sessions = ap (λ moment. map (left_by moment id) s.sessions) h.moment ∙ ap (map (left_by w.moment id)) h.sessions;
+          sessions = ap (λ moment. map (left_by moment id) s.sessions) h.moment
+              ∙ ap (map (left_by w.moment id)) h.sessions;
           subscriptions = h.subscriptions;
           retained = h.retained;
         }
@@ -233,7 +315,8 @@ module _ (s : State) (w : World) (h : HasRows s w) where
         moment = h.moment;
         access = h.access;
         sessions = h.sessions;
-        subscriptions = same-then _ _ _ (joined-same x s.subscriptions (in_turn w) h.subscriptions) (same-is _ _ (joins x w is));
+        subscriptions = same-then _ _ _ (joined-same x s.subscriptions (in_turn w) h.subscriptions)
+            (same-is _ _ (joins x w is));
         retained = h.retained;
       }
   moved-held is (Unsubscribe id text) = record {
@@ -248,29 +331,56 @@ module _ (s : State) (w : World) (h : HasRows s w) where
     limits = h.limits;
     moment = h.moment;
     access = h.access;
-    sessions = ap (λ (limits : Limits). map (waiting_after limits.queued s.access s.subscriptions s.moment m) s.sessions) h.limits
-        ∙ ap (λ access. map (waiting_after w.limits.queued access s.subscriptions s.moment m) s.sessions) h.access
-        ∙ ap (λ moment. map (waiting_after w.limits.queued w.access s.subscriptions moment m) s.sessions) h.moment
+    sessions = ap (λ (limits : Limits). map
+        (waiting_after limits.queued s.access s.subscriptions s.moment m) s.sessions) h.limits
+        ∙ ap (λ access. map (waiting_after w.limits.queued access s.subscriptions s.moment m)
+        s.sessions) h.access
+        ∙ ap (λ moment. map (waiting_after w.limits.queued w.access s.subscriptions moment m)
+        s.sessions) h.moment
         ∙ ap (map (waiting_after w.limits.queued w.access s.subscriptions w.moment m)) h.sessions
-        ∙ waiting_after-same w.limits.queued w.access w.sessions s.subscriptions (subscriptions_of w) w.moment m all_told;
-    subscriptions = same-then _ _ _ (all_turned-same (next_members s.access s.sessions s.subscriptions m) s.subscriptions (in_turn w) h.subscriptions)
-        (same-then _ _ _ (same-is _ _ (ap (λ l. all_turned l (in_turn w)) (served-held m))) (serves w is m));
-    retained = ap (λ moment. retained_after moment s.retained m) h.moment ∙ ap (λ retained. retained_after w.moment retained m) h.retained;
+        ∙ waiting_after-same w.limits.queued w.access w.sessions s.subscriptions
+        (subscriptions_of w) w.moment m all_told;
+    subscriptions = same-then _ _ _
+        (all_turned-same (next_members s.access s.sessions s.subscriptions m) s.subscriptions
+        (in_turn w) h.subscriptions)
+        (same-then _ _ _ (same-is _ _ (ap (λ l. all_turned l (in_turn w)) (served-held m)))
+        (serves w is m));
+    retained = ap (λ moment. retained_after moment s.retained m) h.moment
+        ∙ ap (λ retained. retained_after w.moment retained m) h.retained;
   }
-  moved-held is (SetAcl text) = record { limits = h.limits; moment = h.moment; access = refl; sessions = h.sessions; subscriptions = h.subscriptions; retained = h.retained }
+  moved-held is (SetAcl text) =
+      record {
+        limits = h.limits;
+        moment = h.moment;
+        access = refl;
+        sessions = h.sessions;
+        subscriptions = h.subscriptions;
+        retained = h.retained;
+      }
   moved-held is (Advance seconds) = record {
     limits = h.limits;
     moment = ap (λ moment. moment + seconds) h.moment;
     access = h.access;
-    sessions = ap (λ moment. filter (λ session. not (has_ended (moment + seconds) session)) s.sessions) h.moment
+    sessions = ap (λ moment. filter (λ session. not (has_ended (moment + seconds) session))
+        s.sessions) h.moment
         ∙ ap (filter (λ session. not (has_ended (w.moment + seconds) session))) h.sessions;
     subscriptions = same-then _ _ _
-        (same-is _ _ (ap (λ moment. filter (lasts (moment + seconds) s.sessions) s.subscriptions) h.moment
+        (same-is _ _ (ap (λ moment. filter (lasts (moment + seconds) s.sessions) s.subscriptions)
+        h.moment
         ∙ ap (λ ss. filter (lasts (w.moment + seconds) ss) s.subscriptions) h.sessions))
         (kept_rows (lasts (w.moment + seconds) w.sessions));
-    retained = ap (λ moment. unexpired (moment + seconds) s.retained) h.moment ∙ ap (unexpired (w.moment + seconds)) h.retained;
+    retained = ap (λ moment. unexpired (moment + seconds) s.retained) h.moment
+        ∙ ap (unexpired (w.moment + seconds)) h.retained;
   }
-  moved-held is Stat = record { limits = h.limits; moment = h.moment; access = h.access; sessions = h.sessions; subscriptions = h.subscriptions; retained = h.retained }
+  moved-held is Stat = record {
+    limits = h.limits;
+    moment = h.moment;
+    access = h.access;
+    sessions =
+        h.sessions;
+    subscriptions = h.subscriptions;
+    retained = h.retained;
+  }
 
 -- ## Trees and index
 
@@ -284,20 +394,33 @@ filed-holds s w h filed = record {
   sessions = h.sessions;
   subscriptions = h.subscriptions;
   retained = h.retained;
-  filter_keys = filed.filter_keys ∙ filters-same s.subscriptions (subscriptions_of w) (λ p. h.subscriptions.elements p ∙ turn_told w p);
+  filter_keys = filed.filter_keys ∙ filters-same s.subscriptions (subscriptions_of w)
+      (λ p. h.subscriptions.elements p ∙ turn_told w p);
   topic_keys = filed.topic_keys ∙ ap topics_of h.retained;
-  deadlines = subst (λ (retained : List Retained). Indexes s.deadlines retained) h.retained filed.deadlines;
+  deadlines = subst (λ (retained : List Retained). Indexes s.deadlines retained) h.retained
+      filed.deadlines;
 }
 
 holds-rows : (s : State) (w : World) → Holds s w → HasRows s w
-holds-rows s w h = record { limits = h.limits; moment = h.moment; access = h.access; sessions = h.sessions; subscriptions = h.subscriptions; retained = h.retained }
+holds-rows s w h = record {
+  limits = h.limits;
+  moment = h.moment;
+  access = h.access;
+  sessions =
+      h.sessions;
+  subscriptions = h.subscriptions;
+  retained = h.retained;
+}
 
 holds-filed : (s : State) (w : World) → Holds s w → IsFiled s
 unfolding filters_of
 holds-filed s w h = record {
-  filter_keys = h.filter_keys ∙ sym (filters-same s.subscriptions (subscriptions_of w) (λ p. h.subscriptions.elements p ∙ turn_told w p));
+  filter_keys = h.filter_keys
+      ∙ sym (filters-same s.subscriptions (subscriptions_of w)
+      (λ p. h.subscriptions.elements p ∙ turn_told w p));
   topic_keys = h.topic_keys ∙ ap topics_of (sym h.retained);
-  deadlines = subst (λ (retained : List Retained). Indexes s.deadlines retained) (sym h.retained) h.deadlines;
+  deadlines = subst (λ (retained : List Retained). Indexes s.deadlines retained) (sym h.retained)
+      h.deadlines;
 }
 
 -- ## Counts
@@ -306,12 +429,15 @@ counts-held : (s : State) (w : World) → Holds s w → counts_held s ≡ counts
 unfolding counts
 counts-held s w h =
     let many : length s.subscriptions ≡ length w.rows =
-    length-SameElements s.subscriptions (subscriptions_of w) (all_told s w (holds-rows s w h)) ∙ length-map w.rows (λ (r : Row). r.subscription) in
+    length-SameElements s.subscriptions (subscriptions_of w) (all_told s w (holds-rows s w h))
+    ∙ length-map w.rows (λ (r : Row). r.subscription) in
     let by : List (List Text) → List (List Text) → ℕ → ℕ → Outcome = λ filters topics kept rows.
-    Counts (capped (length (prefixes filters) + length (prefixes topics))) (capped kept) (capped rows) in
+    Counts (capped (length (prefixes filters) + length (prefixes topics))) (capped kept)
+    (capped rows) in
     ap (λ keys. by keys s.topic_keys (length s.retained) (length s.subscriptions)) h.filter_keys
     ∙ ap (λ keys. by (filters_of w) keys (length s.retained) (length s.subscriptions)) h.topic_keys
-    ∙ ap (λ (kept : List Retained). by (filters_of w) (topics_of w.retained) (length kept) (length s.subscriptions)) h.retained
+    ∙ ap (λ (kept : List Retained). by (filters_of w) (topics_of w.retained) (length kept)
+    (length s.subscriptions)) h.retained
     ∙ ap (by (filters_of w) (topics_of w.retained) (length w.retained)) many
 
 -- the steps of a subscribe, by what they depend on
@@ -321,25 +447,31 @@ steps_by new exists retained =
     then steps_among new.filter retained
     else 0
 
-steps-held : (s : State) (w : World) → Holds s w → (request : Request) → steps_to s request ≡ steps w request
+steps-held : (s : State) (w : World) → Holds s w → (request : Request)
+    → steps_to s request ≡ steps w request
 unfolding steps
 steps-held s w h (Connect id user clean interval) = refl
 steps-held s w h (Disconnect id) = refl
 steps-held s w h (Subscribe id text options) =
     let new : Subscription = asked id text options in
-    ap (λ exists. steps_by new exists s.retained) (list_any-SameElements (same_key new) s.subscriptions (subscriptions_of w) (all_told s w (holds-rows s w h)))
+    ap (λ exists. steps_by new exists s.retained)
+    (list_any-SameElements (same_key new) s.subscriptions (subscriptions_of w)
+    (all_told s w (holds-rows s w h)))
     ∙ ap (steps_by new (list_any (same_key new) (subscriptions_of w))) h.retained
 steps-held s w h (Unsubscribe id text) = refl
-steps-held s w h (Publish m) = ap (λ keys. length (met_by_name (levels m.topic) (prefixes keys))) h.filter_keys
+steps-held s w h (Publish m) = ap (λ keys. length (met_by_name (levels m.topic) (prefixes keys)))
+    h.filter_keys
 steps-held s w h (SetAcl text) = refl
 steps-held s w h (Advance seconds) =
     ap (λ moment. length (filter (is_due (moment + seconds)) s.retained)) h.moment
-    ∙ ap (λ (retained : List Retained). length (filter (is_due (w.moment + seconds)) retained)) h.retained
+    ∙ ap (λ (retained : List Retained). length (filter (is_due (w.moment + seconds)) retained))
+    h.retained
 steps-held s w h Stat = refl
 
 -- ## Each world that the router stands for
 
-done-answers : (old : State) (request : Request) (reply : Reply) (new : State) → Does old request reply new → (w : World) → StandsFor old w → Answers w request reply new
+done-answers : (old : State) (request : Request) (reply : Reply) (new : State)
+    → Does old request reply new → (w : World) → StandsFor old w → Answers w request reply new
 unfolding StandsFor
 done-answers old request reply new d w h =
     let rows : HasRows old w = holds-rows old w h.0 in
@@ -355,10 +487,14 @@ done-answers old request reply new d w h =
     record {
       accepted = sym (refusal-held old w rows request) ∙ d.accepted;
       reply_is = d.reply_is ∙ answer-held old w rows (counts-held old w h.0) request;
-      stands = (filed-holds new (after w request) has (d.filed (holds-filed old w h.0)), after-is_world w h.1 request);
+      stands = (
+        filed-holds new (after w request) has (d.filed (holds-filed old w h.0)),
+        after-is_world w h.1 request,
+      );
     }
 
-refused-refuses : (old : State) (request : Request) (r : Refusal) → Refuses (world_of old) request r → (w : World) → StandsFor old w → Refuses w request r
+refused-refuses : (old : State) (request : Request) (r : Refusal) → Refuses (world_of old) request r
+    → (w : World) → StandsFor old w → Refuses w request r
 unfolding StandsFor
 refused-refuses old request r why w h =
     elim why as (λ _. Refuses w request r) [
@@ -366,23 +502,32 @@ refused-refuses old request r why w h =
       | inr refused ↦ inr (sym (refusal-held old w (holds-rows old w h.0) request) ∙ refused)
     ]
 
-pub applied_answers : (old : State) (told request : Request) (result : Result Answer Refusal) (new : State) → told ≡ request → Applied old told result new → AnswersFor old request result new
-applied_answers old told request result new is done = subst (λ r. AnswersFor old r result new) is (each result done)
+pub applied_answers : (old : State) (told request : Request) (result : Result Answer Refusal)
+    (new : State) → told ≡ request → Applied old told result new → AnswersFor old request result new
+applied_answers old told request result new is done =
+    subst (λ r. AnswersFor old r result new) is (each result done)
   where
-    each : (result : Result Answer Refusal) → Applied old told result new → AnswersFor old told result new
+    each : (result : Result Answer Refusal) → Applied old told result new
+        → AnswersFor old told result new
     each (Ok a) d = λ w h. done-answers old told (reply_of a) new d w h
     each (Err r) why = λ w h. refused-refuses old told r why w h
 
-pub applied_counts : (old : State) (told request : Request) (result : Result Answer Refusal) (before now : ℕ) → told ≡ request → CountsSteps old told result before now → CountsFor old request result before now
+pub applied_counts : (old : State) (told request : Request) (result : Result Answer Refusal)
+    (before now : ℕ) → told ≡ request → CountsSteps old told result before now
+    → CountsFor old request result before now
 unfolding StandsFor
-applied_counts old told request result before now is done = subst (λ r. CountsFor old r result before now) is (each result done)
+applied_counts old told request result before now is done =
+    subst (λ r. CountsFor old r result before now) is (each result done)
   where
-    each : (result : Result Answer Refusal) → CountsSteps old told result before now → CountsFor old told result before now
+    each : (result : Result Answer Refusal) → CountsSteps old told result before now
+        → CountsFor old told result before now
     each (Ok a) adds = λ w h. adds ∙ ap (λ n. before + n) (steps-held old w h.0 told)
     each (Err r) adds = λ w h. adds
 
-pub none_counted : (old : State) (told request : Request) (result : Result Answer Refusal) (n : ℕ) → told ≡ request → steps_to old told ≡ 0 → CountsFor old request result n n
-none_counted old told request result n is none = applied_counts old told request result n n is (each result)
+pub none_counted : (old : State) (told request : Request) (result : Result Answer Refusal) (n : ℕ)
+    → told ≡ request → steps_to old told ≡ 0 → CountsFor old request result n n
+none_counted old told request result n is none =
+    applied_counts old told request result n n is (each result)
   where
     each : (result : Result Answer Refusal) → CountsSteps old told result n n
     each (Ok a) = omega (arith, none)

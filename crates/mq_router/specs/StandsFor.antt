@@ -1,7 +1,8 @@
 -- Which worlds a router stands for, and how it answers for each of them.
 use Rattle.std.specs.Prelude.{◌≡◌, ℕ, ◌+◌, List, Option, Some, None, Result, MatchResult, ◌⊎◌}
 use Rattle.mq_acl.specs.Rows.{AclRow}
-use Rattle.mq_world.specs.World.{World, Limits, Session, Subscription, Retained, Request, Reply, IsWorld}
+use Rattle.mq_world.specs.World.{World, Limits, Session, Subscription, Retained, Request, Reply}
+use Rattle.mq_world.specs.World.{IsWorld}
 use Rattle.mq_world.specs.Turns.{SameInTurn, in_turn}
 use Rattle.mq_world.specs.Counts.{filters_of, topics_of, steps}
 use Rattle.mq_retained.specs.Deadlines.{Pair, Indexes}
@@ -56,7 +57,8 @@ Refuses w request refused = (refused ≡ Memory) ⊎ (refusal w request ≡ Some
 -- what an answer says of every world that the router stands for
 abbrev pub AnswersFor : State → Request → Result Answer Refusal → State → Type 0
 AnswersFor old request result new =
-    (w : World) → StandsFor old w → MatchResult result (λ a. Answers w request (reply_of a) new) (λ r. Refuses w request r)
+    (w : World) → StandsFor old w → MatchResult result (λ a. Answers w request (reply_of a) new)
+    (λ r. Refuses w request r)
 
 -- how many steps an answer adds to those before; a refusal adds none, and lack of memory may add any
 abbrev pub CountsFor : State → Request → Result Answer Refusal → ℕ → ℕ → Type 0

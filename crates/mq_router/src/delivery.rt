@@ -54,12 +54,15 @@ pub(crate) fn make_copies(
     steps: &mut Steps,
 ) -> Result<Deliveries, AllocError>
     ensures copies { IfOk result (λ m. copies_in m.copies
-        ≡ copies_made readers.now.access.now readers.now.sessions.now subscriptions.now.rows (message_of message.now)) }
+        ≡ copies_made readers.now.access.now readers.now.sessions.now subscriptions.now.rows
+        (message_of message.now)) }
     ensures begun { IfOk result (λ m. map begin_of m.begun.items
-        ≡ begun_by limit readers.now.access.now readers.now.sessions.now subscriptions.now.rows (message_of message.now)
+        ≡ begun_by limit readers.now.access.now readers.now.sessions.now subscriptions.now.rows
+        (message_of message.now)
         message.now.deadline) }
     ensures served { IfOk result (λ m. turns_in m.served
-        ≡ next_members readers.now.access.now readers.now.sessions.now subscriptions.now.rows (message_of message.now)) }
+        ≡ next_members readers.now.access.now readers.now.sessions.now subscriptions.now.rows
+        (message_of message.now)) }
     ensures count { OnOk result (steps.new ≡ steps.old
         + length (met_by_name (levels message.now.topic.now) (prefixes subscriptions.now.keys))) }
 {
@@ -122,7 +125,8 @@ fn members_served(
 ) -> Result<Vec<Turn>, AllocError>
     requires { AreAtFilters message.now.topic.now (seen found.now) }
     ensures { IfOk result (λ served. turns_in served
-        ≡ next_members readers.now.access.now readers.now.sessions.now (rows_found (seen found.now)) (message_of message.now)) }
+        ≡ next_members readers.now.access.now readers.now.sessions.now (rows_found (seen found.now))
+        (message_of message.now)) }
 {
     let mut served = Vec::new(alloc);
     for at in found {
@@ -143,10 +147,12 @@ fn made_for(
 ) -> Result<Deliveries, AllocError>
     requires { AreByClient (matched matches.now) }
     ensures copies { IfOk result (λ m. copies_in m.copies
-        ≡ copies_by readers.now.access.now readers.now.sessions.now (message_of message.now) (by_client (matched matches.now))
+        ≡ copies_by readers.now.access.now readers.now.sessions.now (message_of message.now)
+        (by_client (matched matches.now))
         ++ map (member_copy (message_of message.now)) (turns_in served)) }
     ensures begun { IfOk result (λ m. map begin_of m.begun.items
-        ≡ begins_by limit readers.now.access.now readers.now.sessions.now (message_of message.now) message.now.deadline
+        ≡ begins_by limit readers.now.access.now readers.now.sessions.now (message_of message.now)
+        message.now.deadline
         (by_client (matched matches.now))) }
     ensures served { IfOk result (λ m. m.served ≡ served) }
 {
@@ -173,7 +179,8 @@ fn add_group_copies(
     copies: &mut Vec<Delivery>,
 ) -> Result<(), AllocError>
     ensures { OnOk result (copies_in copies.new
-        ≡ copies_in copies.old ++ map (λ t. member_copy (message_of outgoing.now.message) (turn_of t)) served.now) }
+        ≡ copies_in copies.old
+        ++ map (λ t. member_copy (message_of outgoing.now.message) (turn_of t)) served.now) }
 {
     for turn in served {
         let group = (turn.share.clone()?, turn.filter.clone()?);

@@ -1,13 +1,17 @@
-ghost use Rattle.std.specs.Prelude.{◌≡◌, ◌≢◌, ◌+◌, ◌<◌, ◌^◌, [], Some, None, IsTrue, IfOk, OnOk, OnErr, IfErr, IfSome, map};
+ghost use Rattle.std.specs.Prelude.{◌≡◌, ◌≢◌, ◌+◌, ◌<◌, ◌^◌, [], Some, None, IsTrue, IfOk, OnOk};
+ghost use Rattle.std.specs.Prelude.{OnErr, IfErr, IfSome, map};
 ghost use Rattle.std.specs.Option.{option_copied};
 ghost use Rattle.std.specs.Rc.{rc_str_bytes};
-ghost use Rattle.mq_world.specs.Refusals.{is_valid, takes_no_memory, client_conditions, first_refusal, refusal};
+ghost use Rattle.mq_world.specs.Refusals.{is_valid, takes_no_memory, client_conditions};
+ghost use Rattle.mq_world.specs.Refusals.{first_refusal, refusal};
 ghost use Rattle.mq_world.specs.Clock.{deadline_of};
 ghost use Rattle.mq_world.specs.World as world;
 ghost use Rattle.mq_world.specs.World.{fresh_world, empty_world, within};
 ghost use Rattle.mq_router.specs.StandsFor.{StandsFor, AnswersFor, CountsFor};
-ghost use Rattle.mq_router.specs.router.Effects.{Applied, CountsSteps, Does, world_of, refused_by, copies_sent, steps_sent, steps_to};
-ghost use Rattle.mq_router.specs.router.Effects.{counts_held, copies_held, begun_held, members_held};
+ghost use Rattle.mq_router.specs.router.Effects.{Applied, CountsSteps, Does, world_of, refused_by};
+ghost use Rattle.mq_router.specs.router.Effects.{copies_sent, steps_sent, steps_to};
+ghost use Rattle.mq_router.specs.router.Effects.{counts_held, copies_held, begun_held};
+ghost use Rattle.mq_router.specs.router.Effects.{members_held};
 ghost use Rattle.mq_world.specs.Views.{limits_of, request_of, reply_of};
 ghost use Rattle.mq_world.specs.Views.{options_of};
 ghost use Rattle.mq_subscriptions.specs.Wanted.{wanted_row};
@@ -31,7 +35,7 @@ use mq_sessions::{Clock, Readers, Sessions, may_publish};
 use mq_subscriptions::Subscriptions;
 use mq_topic::SubFilter;
 use mq_tree::Steps;
-use mq_world::{Answer, Command, Delivery, Limits, Message, SubscriptionOptions, Outcome, Refusal};
+use mq_world::{Answer, Command, Delivery, Limits, Message, Outcome, Refusal, SubscriptionOptions};
 use std::alloc::{AllocError, Global};
 use std::marker::Model;
 use std::rc::RcStr;
@@ -60,7 +64,8 @@ impl Model for Router {
 
     ghost view = { state_of };
 
-    ghost invariant = { λ a. AreNear a.clock.moment a.retained.messages × AllReached a.clock.moment a.sessions };
+    ghost invariant = { λ a. AreNear a.clock.moment a.retained.messages
+        × AllReached a.clock.moment a.sessions };
 }
 
 impl Router {
@@ -100,7 +105,8 @@ impl Router {
         requires { IsTrue (is_valid (request_of command.now)) }
         ensures answered { AnswersFor self.old (request_of command.now) result self.new }
         ensures err { OnErr result (self.new ≡ self.old) }
-        ensures no_memory { IsTrue (takes_no_memory (request_of command.now)) → IfErr result (λ refusal. refusal ≢ Refusal.Memory) }
+        ensures no_memory { IsTrue (takes_no_memory (request_of command.now))
+            → IfErr result (λ refusal. refusal ≢ Refusal.Memory) }
     {
         let mut steps = Steps::new();
         self.apply_counted(command, &mut steps)
@@ -114,7 +120,8 @@ impl Router {
         ensures answered { AnswersFor self.old (request_of command.now) result self.new }
         ensures counted { CountsFor self.old (request_of command.now) result steps.old steps.new }
         ensures err { OnErr result (self.new ≡ self.old) }
-        ensures no_memory { IsTrue (takes_no_memory (request_of command.now)) → IfErr result (λ refusal. refusal ≢ Refusal.Memory) }
+        ensures no_memory { IsTrue (takes_no_memory (request_of command.now))
+            → IfErr result (λ refusal. refusal ≢ Refusal.Memory) }
     {
         match command {
             Command::Connect {
@@ -159,7 +166,8 @@ impl Router {
 
     // Whether the client of a command other than connect has a valid id and is connected. Gives the id as its session keeps it.
     fn check_client(&self, client: &str) -> Result<&RcStr, Refusal>
-        ensures refused { refused_by result ≡ first_refusal (client_conditions self.now.sessions client.now) }
+        ensures refused { refused_by result ≡ first_refusal
+            (client_conditions self.now.sessions client.now) }
         ensures same { IfOk result (λ id. rc_str_bytes id.now ≡ client.now) }
     {
         if !is_client_id(client) {
@@ -176,7 +184,8 @@ impl Router {
         clean: bool,
         session_expiry: u32,
     ) -> Result<Answer, Refusal>
-        ensures applied { Applied self.old (world.Connect client.now (option_copied user.entry) clean session_expiry) result self.new }
+        ensures applied { Applied self.old (world.Connect client.now (option_copied user.entry) clean
+            session_expiry) result self.new }
         ensures err { OnErr result (self.new ≡ self.old) }
     {
         if !is_client_id(client) {
@@ -223,8 +232,10 @@ impl Router {
         options: SubscriptionOptions,
         steps: &mut Steps,
     ) -> Result<Answer, Refusal>
-        ensures applied { Applied self.old (world.Subscribe client.now text.now (options_of options)) result self.new }
-        ensures counted { CountsSteps self.old (world.Subscribe client.now text.now (options_of options)) result steps.old steps.new }
+        ensures applied { Applied self.old (world.Subscribe client.now text.now (options_of options)) result
+            self.new }
+        ensures counted { CountsSteps self.old
+            (world.Subscribe client.now text.now (options_of options)) result steps.old steps.new }
         ensures err { OnErr result (self.new ≡ self.old) }
     {
         let id = self.check_client(client)?.clone()?;
@@ -250,7 +261,8 @@ impl Router {
     ) -> Result<Vec<Delivery>, AllocError>
         ensures copies { IfOk result (λ copies. copies_in copies
             ≡ copies_sent self.now (wanted_row (rc_str_bytes client.now) wanted.now options)) }
-        ensures count { OnOk result (steps.new ≡ steps.old + steps_sent self.now (wanted_row (rc_str_bytes client.now) wanted.now options)) }
+        ensures count { OnOk result (steps.new ≡ steps.old + steps_sent self.now
+            (wanted_row (rc_str_bytes client.now) wanted.now options)) }
     {
         if !self
             .subscriptions
@@ -294,8 +306,12 @@ impl Router {
         expiry: Option<u32>,
         steps: &mut Steps,
     ) -> Result<Answer, Refusal>
-        ensures applied { Applied self.old (world.Publish (published_message client.now topic.now payload.now qos retain expiry)) result self.new }
-        ensures counted { CountsSteps self.old (world.Publish (published_message client.now topic.now payload.now qos retain expiry)) result
+        ensures applied { Applied self.old
+            (world.Publish (published_message client.now topic.now payload.now qos retain expiry))
+            result self.new }
+        ensures counted { CountsSteps self.old
+            (world.Publish (published_message client.now topic.now payload.now qos retain expiry))
+            result
             steps.old steps.new }
         ensures err { OnErr result (self.new ≡ self.old) }
     {
@@ -325,10 +341,13 @@ impl Router {
     // that begin to wait, which cannot fail, come last.
     fn deliver(&mut self, message: &Message, steps: &mut Steps) -> Result<Answer, AllocError>
         requires value { message.now.deadline ≡ deadline_of self.old.moment message.now.expiry }
-        requires near { IfSome message.now.deadline (λ deadline. deadline < self.old.moment + 2 ^ 32) }
+        requires near { IfSome message.now.deadline
+            (λ deadline. deadline < self.old.moment + 2 ^ 32) }
         ensures done { refusal (world_of self.old) (world.Publish (message_of message.now)) ≡ None
-            → IfOk result (λ answer. Does self.old (world.Publish (message_of message.now)) (reply_of answer) self.new) }
-        ensures count { OnOk result (steps.new ≡ steps.old + steps_to self.old (world.Publish (message_of message.now))) }
+            → IfOk result (λ answer. Does self.old (world.Publish (message_of message.now))
+            (reply_of answer) self.new) }
+        ensures count { OnOk result (steps.new ≡ steps.old + steps_to self.old
+            (world.Publish (message_of message.now))) }
         ensures err { OnErr result (self.new ≡ self.old) }
     {
         let made = self.make_copies(message, steps)?;
@@ -342,9 +361,11 @@ impl Router {
     // The copies that a publish sends, and those that begin to wait.
     fn make_copies(&self, message: &Message, steps: &mut Steps) -> Result<Deliveries, AllocError>
         ensures copies { IfOk result (λ m. copies_in m.copies ≡ copies_held self.now (message_of message.now)) }
-        ensures begun { IfOk result (λ m. map begin_of m.begun.items ≡ begun_held self.now (message_of message.now) message.now.deadline) }
+        ensures begun { IfOk result (λ m. map begin_of m.begun.items
+            ≡ begun_held self.now (message_of message.now) message.now.deadline) }
         ensures served { IfOk result (λ m. turns_in m.served ≡ members_held self.now (message_of message.now)) }
-        ensures count { OnOk result (steps.new ≡ steps.old + steps_to self.now (world.Publish (message_of message.now))) }
+        ensures count { OnOk result (steps.new ≡ steps.old + steps_to self.now
+            (world.Publish (message_of message.now))) }
     {
         let readers = Readers {
             access: &self.access,

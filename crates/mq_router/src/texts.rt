@@ -1,5 +1,6 @@
 //! Which texts a command may name, and what they stand for.
-ghost use Rattle.std.specs.Prelude.{◌≡◌, ◌&&◌, None, Some, is_some, string_bytes, IfOk, IfErr, ◌⊎◌, true, false};
+ghost use Rattle.std.specs.Prelude.{◌≡◌, ◌&&◌, None, Some, is_some, string_bytes, IfOk, IfErr, ◌⊎◌};
+ghost use Rattle.std.specs.Prelude.{true, false};
 ghost use Rattle.std.specs.Option.{option_copied, option_map};
 ghost use Rattle.mq_topic.specs.Texts.{contains_byte, is_name, is_subscription};
 ghost use Rattle.mq_world.specs.Refusals.{is_client_id, is_user_name, faulty_line, acl_refusal};
@@ -49,7 +50,8 @@ pub(crate) fn parse_filter(alloc: Global, text: &str) -> Result<SubFilter, Refus
 
 pub(crate) fn parse_name(alloc: Global, text: &str) -> Result<TopicName, Refusal>
     ensures ok { IfOk result (λ name. (name ≡ text.now) × (is_name text.now ≡ true)) }
-    ensures err { IfErr result (λ refusal. (refusal ≡ Refusal.Memory) ⊎ ((refusal ≡ Refusal.TopicName) × (is_name text.now ≡ false))) }
+    ensures err { IfErr result (λ refusal. (refusal ≡ Refusal.Memory)
+        ⊎ ((refusal ≡ Refusal.TopicName) × (is_name text.now ≡ false))) }
 {
     match TopicName::parse(alloc, text) {
         Ok(name) => Ok(name),
@@ -70,8 +72,10 @@ pub(crate) fn copied(alloc: Global, text: Option<&str>) -> Result<Option<String>
 
 /// The access list of a text, or none without a text.
 pub(crate) fn read_access(alloc: Global, text: Option<&str>) -> Result<Option<Acl>, Refusal>
-    ensures ok { IfOk result (λ access. (access ≡ access_of (option_copied text.entry)) × (faulty_line (option_copied text.entry) ≡ None)) }
-    ensures err { IfErr result (λ refusal. (refusal ≡ Refusal.Memory) ⊎ (acl_refusal (option_copied text.entry) ≡ Some refusal)) }
+    ensures ok { IfOk result (λ access. (access ≡ access_of (option_copied text.entry))
+        × (faulty_line (option_copied text.entry) ≡ None)) }
+    ensures err { IfErr result (λ refusal. (refusal ≡ Refusal.Memory)
+        ⊎ (acl_refusal (option_copied text.entry) ≡ Some refusal)) }
 {
     let Some(text) = text else {
         return Ok(None);

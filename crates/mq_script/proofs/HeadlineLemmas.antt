@@ -1,5 +1,6 @@
 -- A run over honest devices with ample memory ends well, and answers all of the script.
-use Rattle.std.proofs.Common.{◌≡◌, ◌≤◌, ℕ, List, ◌++◌, length, Option, Some, None, Result, Ok, Err, refl, sym, ap, ◌∙◌, arith, subst, append-nil, length-append}
+use Rattle.std.proofs.Common.{◌≡◌, ◌≤◌, ℕ, List, ◌++◌, length, Option, Some, None, Result, Ok, Err}
+use Rattle.std.proofs.Common.{refl, sym, ap, ◌∙◌, arith, subst, append-nil, length-append}
 use Rattle.std.specs.Prelude.{IsOkAnd}
 use Rattle.std.specs.Io.KnownBytes.{Appends, Consumes, IsAtEnd}
 use Rattle.mq_world.specs.World.{World}
@@ -10,21 +11,24 @@ use Rattle.mq_script.specs.Output.{output, Summarizes}
 use Rattle.mq_script.specs.Ending.{Seen, Watched, DidNotFail, Failed, Failures, Ending, EndsOver}
 
 -- all that a reader tells was given, where it is at its end
-pub whole : (a b : Option (List ℕ)) (script given : List ℕ) → a ≡ Some script → Consumes a b given → IsAtEnd b → given ≡ script
+pub whole : (a b : Option (List ℕ)) (script given : List ℕ) → a ≡ Some script → Consumes a b given
+    → IsAtEnd b → given ≡ script
 whole None b script given e c end = absurd (let bad : None ≡ Some script = e in cc)
 whole (Some x) None script given e c end = absurd c
 whole (Some x) (Some y) script given e c end =
     let same : x ≡ script = let f : Some x ≡ Some script = e in cc in
     sym (append-nil given) ∙ ap (λ l. given ++ l) (sym end) ∙ sym c ∙ same
 
-front : (a b : Option (List ℕ)) (script given : List ℕ) → a ≡ Some script → Consumes a b given → length given ≤ length script
+front : (a b : Option (List ℕ)) (script given : List ℕ) → a ≡ Some script → Consumes a b given
+    → length given ≤ length script
 front None b script given e c = absurd (let bad : None ≡ Some script = e in cc)
 front (Some x) None script given e c = absurd c
 front (Some x) (Some y) script given e c =
     let same : x ≡ script = let f : Some x ≡ Some script = e in cc in
     rw (← same, c, length-append) (omega arith)
 
-pub written : (a b : Option (List ℕ)) (before text : List ℕ) → a ≡ Some before → Appends a b text → b ≡ Some (before ++ text)
+pub written : (a b : Option (List ℕ)) (before text : List ℕ) → a ≡ Some before → Appends a b text
+    → b ≡ Some (before ++ text)
 written None b before text e c = absurd (let bad : None ≡ Some before = e in cc)
 written (Some x) None before text e c = absurd c
 written (Some x) (Some y) before text e c =
@@ -35,28 +39,39 @@ failed_not : (calls : Failures) → Failed calls → DidNotFail calls → ⊥
 failed_not calls f d = absurd (omega (arith, f, d))
 
 -- a run that ends well answers all of the script
-pub Ending-ok : (limit : ℕ) (w : World) (summary : Summary) (seen : Seen) (to_come : Option (List ℕ)) (script before : List ℕ)
-    → to_come ≡ Some script → seen.before ≡ Some before → Consumes to_come seen.left seen.given → Ending limit w (Ok summary) seen
+pub Ending-ok : (limit : ℕ) (w : World) (summary : Summary) (seen : Seen)
+    (to_come : Option (List ℕ)) (script before : List ℕ)
+    → to_come ≡ Some script → seen.before ≡ Some before → Consumes to_come seen.left seen.given
+    → Ending limit w (Ok summary) seen
     → (seen.after ≡ Some (before ++ output w script)) × Summarizes w script summary
 Ending-ok limit w summary seen to_come script before e f c h =
     let all : seen.given ≡ script = whole to_come seen.left script seen.given e c h.ended in (
-      written seen.before seen.after before (output w script) f (subst (λ (s : List ℕ). Appends seen.before seen.after (output w s)) all h.written),
+      written seen.before seen.after before (output w script) f
+          (subst (λ (s : List ℕ). Appends seen.before seen.after (output w s)) all h.written),
       subst (λ (s : List ℕ). Summarizes w s summary) all h.summary,
     )
 
 -- where the devices tell their bytes and don't fail, and memory suffices, it ends well
-pub EndsOver-honest : (limit : ℕ) (w : World) (result : Result Summary RunFault) (reader writer : Watched) (script before : List ℕ)
-    → EndsOver limit w result reader writer → reader.before ≡ Some script → writer.before ≡ Some before → length script ≤ limit
+pub EndsOver-honest : (limit : ℕ) (w : World) (result : Result Summary RunFault)
+    (reader writer : Watched) (script before : List ℕ)
+    → EndsOver limit w result reader writer → reader.before ≡ Some script
+    → writer.before ≡ Some before → length script ≤ limit
     → DidNotFail reader.calls → DidNotFail writer.calls → (result ≡ Err fault.Memory → ⊥)
-    → IsOkAnd result (λ summary. (writer.after ≡ Some (before ++ output w script)) × Summarizes w script summary)
-EndsOver-honest limit w (Ok summary) reader writer script before end e f small read_well wrote_well memory =
+    → IsOkAnd result (λ summary. (writer.after ≡ Some (before ++ output w script))
+    × Summarizes w script summary)
+EndsOver-honest limit w (Ok summary) reader writer script before end e f small read_well wrote_well
+    memory =
     Ending-ok limit w summary _ reader.before script before e f end.1 end.2
-EndsOver-honest limit w (Err fault.Read) reader writer script before end e f small read_well wrote_well memory =
+EndsOver-honest limit w (Err fault.Read) reader writer script before end e f small read_well
+    wrote_well memory =
     absurd (failed_not reader.calls end.2.reader read_well)
-EndsOver-honest limit w (Err fault.Write) reader writer script before end e f small read_well wrote_well memory =
+EndsOver-honest limit w (Err fault.Write) reader writer script before end e f small read_well
+    wrote_well memory =
     absurd (failed_not writer.calls end.2.writer wrote_well)
-EndsOver-honest limit w (Err fault.TooMuch) reader writer script before end e f small read_well wrote_well memory =
+EndsOver-honest limit w (Err fault.TooMuch) reader writer script before end e f small read_well
+    wrote_well memory =
     let fits = front reader.before reader.after script end.0 e end.1 in
     let over = end.2.over in
     absurd (omega arith)
-EndsOver-honest limit w (Err fault.Memory) reader writer script before end e f small read_well wrote_well memory = absurd (memory refl)
+EndsOver-honest limit w (Err fault.Memory) reader writer script before end e f small read_well
+    wrote_well memory = absurd (memory refl)

@@ -1,5 +1,7 @@
 -- What lines write, when more of them follow, and what is known of a long line by its front.
-use Rattle.std.proofs.Common.{◌≡◌, ◌⊎◌, inl, inr, ◌≤◌, ◌<◌, ◌-◌, ℕ, zero, suc, ◌+◌, List, [], ◌∷◌, ◌++◌, true, cond, ltb, length, take, Option, Some, None, refl, sym, ap, ◌∙◌, arith, append_assoc, append-nil, length-take}
+use Rattle.std.proofs.Common.{◌≡◌, ◌⊎◌, inl, inr, ◌≤◌, ◌<◌, ◌-◌, ℕ, zero, suc, ◌+◌, List, [], ◌∷◌}
+use Rattle.std.proofs.Common.{◌++◌, true, cond, ltb, length, take, Option, Some, None, refl, sym}
+use Rattle.std.proofs.Common.{ap, ◌∙◌, arith, append_assoc, append-nil, length-take}
 use Rattle.std.specs.List.{filter_map, cons_option}
 use Rattle.std.proofs.lemmas.Bool.{cases_lt, lt-ltb}
 use Rattle.std.proofs.lemmas.List.{take_all}
@@ -7,12 +9,14 @@ use Rattle.std.proofs.lemmas.List.Elements.{filter_map-append}
 use Rattle.mq_world.specs.World.{World, Request}
 use Rattle.mq_world.specs.After.{next, replay}
 use Rattle.mq_lines.specs.Reading.{reading, line_limit}
-use Rattle.mq_script.specs.Output.{command_in, world_after, text_of, is_refused, text_from, refused_from}
+use Rattle.mq_script.specs.Output.{command_in, world_after, text_of, is_refused, text_from}
+use Rattle.mq_script.specs.Output.{refused_from}
 use Rattle.mq_script.specs.Running.{kept, next_or, world_then}
 
 -- ## More lines
 
-pub replay-append : (w : World) (xs ys : List Request) → replay w (xs ++ ys) ≡ replay (replay w xs) ys
+pub replay-append : (w : World) (xs ys : List Request)
+    → replay w (xs ++ ys) ≡ replay (replay w xs) ys
 replay-append w [] ys = refl
 replay-append w (x ∷ xs) ys = replay-append (next w x) xs ys
 
@@ -20,33 +24,45 @@ one_more : (w : World) (o : Option Request) → replay w (cons_option o []) ≡ 
 one_more w None = refl
 one_more w (Some request) = refl
 
-pub world_after-push : (w : World) (lines : List (List ℕ)) (line : List ℕ) → world_after w (lines ++ line ∷ []) ≡ world_then (world_after w lines) line
+pub world_after-push : (w : World) (lines : List (List ℕ)) (line : List ℕ)
+    → world_after w (lines ++ line ∷ []) ≡ world_then (world_after w lines) line
 unfolding world_then
 world_after-push w lines line =
     ap (replay w) (filter_map-append (λ l. command_in (reading l)) lines (line ∷ []))
-    ∙ replay-append w (filter_map (λ l. command_in (reading l)) lines) (cons_option (command_in (reading line)) [])
+    ∙ replay-append w (filter_map (λ l. command_in (reading l)) lines)
+    (cons_option (command_in (reading line)) [])
     ∙ one_more (world_after w lines) (command_in (reading line))
 
-pub text_from-append : (w : World) (before xs ys : List (List ℕ)) → text_from w before (xs ++ ys) ≡ text_from w before xs ++ text_from w (before ++ xs) ys
+pub text_from-append : (w : World) (before xs ys : List (List ℕ))
+    → text_from w before (xs ++ ys) ≡ text_from w before xs ++ text_from w (before ++ xs) ys
 text_from-append w before [] ys = rw (append-nil before) refl
 text_from-append w before (x ∷ xs) ys =
     let here = text_of (length before + 1) (world_after w before) x in
     ap (λ l. here ++ l) (text_from-append w (before ++ x ∷ []) xs ys)
-    ∙ sym (append_assoc here (text_from w (before ++ x ∷ []) xs) (text_from w ((before ++ x ∷ []) ++ xs) ys))
-    ∙ ap (λ ls. (here ++ text_from w (before ++ x ∷ []) xs) ++ text_from w ls ys) (append_assoc before (x ∷ []) xs)
+    ∙ sym (append_assoc here (text_from w (before ++ x ∷ []) xs)
+    (text_from w ((before ++ x ∷ []) ++ xs) ys))
+    ∙ ap (λ ls. (here ++ text_from w (before ++ x ∷ []) xs) ++ text_from w ls ys)
+    (append_assoc before (x ∷ []) xs)
 
-pub text_from-push : (w : World) (xs : List (List ℕ)) (y : List ℕ) → text_from w [] (xs ++ y ∷ []) ≡ text_from w [] xs ++ text_of (length xs + 1) (world_after w xs) y
-text_from-push w xs y = text_from-append w [] xs (y ∷ []) ∙ ap (λ l. text_from w [] xs ++ l) (append-nil (text_of (length xs + 1) (world_after w xs) y))
+pub text_from-push : (w : World) (xs : List (List ℕ)) (y : List ℕ)
+    → text_from w [] (xs ++ y ∷ []) ≡ text_from w [] xs
+    ++ text_of (length xs + 1) (world_after w xs) y
+text_from-push w xs y = text_from-append w [] xs (y ∷ [])
+    ∙ ap (λ l. text_from w [] xs ++ l) (append-nil (text_of (length xs + 1) (world_after w xs) y))
 
-refused_from-append : (w : World) (before xs ys : List (List ℕ)) → refused_from w before (xs ++ ys) ≡ refused_from w before xs + refused_from w (before ++ xs) ys
+refused_from-append : (w : World) (before xs ys : List (List ℕ))
+    → refused_from w before (xs ++ ys) ≡ refused_from w before xs + refused_from w (before ++ xs) ys
 refused_from-append w before [] ys = rw (append-nil before) (omega arith)
 refused_from-append w before (x ∷ xs) ys =
     let here : ℕ = cond (is_refused (world_after w before) x) 1 0 in
     let more = refused_from-append w (before ++ x ∷ []) xs ys in
-    let same : refused_from w ((before ++ x ∷ []) ++ xs) ys ≡ refused_from w (before ++ x ∷ xs) ys = ap (λ ls. refused_from w ls ys) (append_assoc before (x ∷ []) xs) in
+    let same : refused_from w ((before ++ x ∷ []) ++ xs) ys ≡ refused_from w (before ++ x ∷ xs) ys =
+    ap (λ ls. refused_from w ls ys) (append_assoc before (x ∷ []) xs) in
     omega arith
 
-pub refused_from-push : (w : World) (xs : List (List ℕ)) (y : List ℕ) → refused_from w [] (xs ++ y ∷ []) ≡ refused_from w [] xs + cond (is_refused (world_after w xs) y) 1 0
+pub refused_from-push : (w : World) (xs : List (List ℕ)) (y : List ℕ)
+    → refused_from w [] (xs ++ y ∷ []) ≡ refused_from w [] xs
+    + cond (is_refused (world_after w xs) y) 1 0
 refused_from-push w xs y = let e = refused_from-append w [] xs (y ∷ []) in omega arith
 
 -- ## A long line is known by its front
@@ -59,14 +75,17 @@ pub kept_number : kept ≡ 1048577
 unfolding kept
 kept_number = refl
 
-over_limit : (n limit : ℕ) (p : List ℕ) → n ≡ limit + 1 → limit < length p → limit < length (take n p)
+over_limit : (n limit : ℕ) (p : List ℕ) → n ≡ limit + 1 → limit < length p
+    → limit < length (take n p)
 over_limit n limit p e h = simp length-take (omega arith)
 
-reading_at : (p : List ℕ) → (line_limit < length p) ⊎ (length p ≤ line_limit) → reading (take kept p) ≡ reading p
+reading_at : (p : List ℕ) → (line_limit < length p) ⊎ (length p ≤ line_limit)
+    → reading (take kept p) ≡ reading p
 unfolding reading
 reading_at p (inl h) =
     let a : ltb line_limit (length p) ≡ true = lt-ltb line_limit (length p) h in
-    let b : ltb line_limit (length (take kept p)) ≡ true = lt-ltb line_limit (length (take kept p)) (over_limit kept line_limit p kept_is h) in
+    let b : ltb line_limit (length (take kept p)) ≡ true =
+    lt-ltb line_limit (length (take kept p)) (over_limit kept line_limit p kept_is h) in
     rw (b, a)
 reading_at p (inr h) = let e = kept_is in ap reading (take_all kept p (omega arith))
 
@@ -97,7 +116,9 @@ take_more : (k : ℕ) (p xs : List ℕ) → take k p ++ take (k - length (take k
 take_more zero p xs = refl
 take_more (suc k) [] xs = ap (λ (n : ℕ). take n xs) (minus_zero (suc k))
 take_more (suc k) (x ∷ p) xs =
-    ap (λ (n : ℕ). x ∷ (take k p ++ take n xs)) (minus_suc k (length (take k p))) ∙ ap (λ l. x ∷ l) (take_more k p xs)
+    ap (λ (n : ℕ). x ∷ (take k p ++ take n xs)) (minus_suc k (length (take k p)))
+    ∙ ap (λ l. x ∷ l) (take_more k p xs)
 
-pub kept_more : (line p xs : List ℕ) → line ≡ take kept p → line ++ take (kept - length line) xs ≡ take kept (p ++ xs)
+pub kept_more : (line p xs : List ℕ) → line ≡ take kept p
+    → line ++ take (kept - length line) xs ≡ take kept (p ++ xs)
 kept_more line p xs e = ap (λ l. l ++ take (kept - length l) xs) e ∙ take_more kept p xs

@@ -1,5 +1,6 @@
 -- What the calls of a run make of it.
-use Rattle.std.proofs.Common.{◌≡◌, ℕ, ◌+◌, ◌-◌, List, [], ◌∷◌, ◌++◌, length, take, Bool, cond, Option, Result, Ok, Err, ap, ◌∙◌, subst, append_assoc, append-nil}
+use Rattle.std.proofs.Common.{◌≡◌, ℕ, ◌+◌, ◌-◌, List, [], ◌∷◌, ◌++◌, length, take, Bool, cond}
+use Rattle.std.proofs.Common.{Option, Result, Ok, Err, ap, ◌∙◌, subst, append_assoc, append-nil}
 use Rattle.std.specs.Prelude.{OnOk, OnErr, IfErr}
 use Rattle.std.proofs.KnownBytes.{Appends-kept}
 use Rattle.std.specs.Io.KnownBytes.{Appends, Keeps}
@@ -10,8 +11,11 @@ use Rattle.mq_script.specs.declared.outcome.RunFault.TheVariants as fault
 use Rattle.mq_script.specs.declared.progress.Progress.{Progress}
 use Rattle.mq_script.specs.Output.{pieces, whole_lines, world_after}
 use Rattle.mq_script.specs.Ending.{AppendsSome}
-use Rattle.mq_script.specs.Running.{kept, IsTold, Told, Stopped, Answers, AnswersLine, StopsAtLine, TakesBytes, StopsAmong, Takes, EndsLines, StopsLast, Ends}
-use Rattle.mq_script.proofs.RunLemmas.{Told-text, Told-feed, Stopped-feed, Stopped-grown, Stopped-memory, WritesLines-grown, Finished-empty, Finished-piece, StoppedLast-piece, AppendsSome-all}
+use Rattle.mq_script.specs.Running.{kept, IsTold, Told, Stopped, Answers, AnswersLine, StopsAtLine}
+use Rattle.mq_script.specs.Running.{TakesBytes, StopsAmong, Takes, EndsLines, StopsLast, Ends}
+use Rattle.mq_script.proofs.RunLemmas.{Told-text, Told-feed, Stopped-feed, Stopped-grown}
+use Rattle.mq_script.proofs.RunLemmas.{Stopped-memory, WritesLines-grown, Finished-empty}
+use Rattle.mq_script.proofs.RunLemmas.{Finished-piece, StoppedLast-piece, AppendsSome-all}
 
 -- ## Bytes that are taken
 
@@ -19,13 +23,17 @@ pub TakesBytes-none : (p : Progress) (a : Option (List ℕ)) → TakesBytes p p 
 unfolding TakesBytes
 TakesBytes-none p a = λ w given start told. rw append-nil told
 
-pub TakesBytes-then : (p q r : Progress) (xs ys : List ℕ) (a b c : Option (List ℕ)) → TakesBytes p q xs a b → TakesBytes q r ys b c → TakesBytes p r (xs ++ ys) a c
+pub TakesBytes-then : (p q r : Progress) (xs ys : List ℕ) (a b c : Option (List ℕ))
+    → TakesBytes p q xs a b → TakesBytes q r ys b c → TakesBytes p r (xs ++ ys) a c
 unfolding TakesBytes
 TakesBytes-then p q r xs ys a b c s t = λ w given start told.
-    subst (λ (l : List ℕ). Told w l r start c) (append_assoc given xs ys) (t w (given ++ xs) start (s w given start told))
+    subst (λ (l : List ℕ). Told w l r start c) (append_assoc given xs ys)
+    (t w (given ++ xs) start (s w given start told))
 
-pub TakesBytes-text : (p q : Progress) (xs : List ℕ) (n : ℕ) (a : Option (List ℕ)) → kept ≡ n → pieces xs ≡ xs ∷ []
-    → q.router ≡ p.router → q.summary ≡ p.summary → q.line.items ≡ p.line.items ++ take (n - length p.line.items) xs → TakesBytes p q xs a a
+pub TakesBytes-text : (p q : Progress) (xs : List ℕ) (n : ℕ) (a : Option (List ℕ)) → kept ≡ n
+    → pieces xs ≡ xs ∷ []
+    → q.router ≡ p.router → q.summary ≡ p.summary
+    → q.line.items ≡ p.line.items ++ take (n - length p.line.items) xs → TakesBytes p q xs a a
 unfolding TakesBytes
 TakesBytes-text p q xs n a is one router summary line = λ w given start told.
     Told-text w given xs n p q start a is one told router summary line
@@ -46,27 +54,36 @@ TakesBytes-kept p q xs a b c s keeps = λ w given start told.
 
 -- ## A run that stops among them
 
-pub StopsAmong-then : (p q : Progress) (xs ys : List ℕ) (e : RunFault) (a b c : Option (List ℕ)) → TakesBytes p q xs a b → StopsAmong q ys e b c → StopsAmong p (xs ++ ys) e a c
+pub StopsAmong-then : (p q : Progress) (xs ys : List ℕ) (e : RunFault) (a b c : Option (List ℕ))
+    → TakesBytes p q xs a b → StopsAmong q ys e b c → StopsAmong p (xs ++ ys) e a c
 unfolding TakesBytes StopsAmong
 StopsAmong-then p q xs ys e a b c s t = λ w given start told.
-    subst (λ (l : List ℕ). Stopped w l e start c) (append_assoc given xs ys) (t w (given ++ xs) start (s w given start told))
+    subst (λ (l : List ℕ). Stopped w l e start c) (append_assoc given xs ys)
+    (t w (given ++ xs) start (s w given start told))
 
-pub StopsAmong-grown : (p : Progress) (xs ys : List ℕ) (e : RunFault) (a b : Option (List ℕ)) → StopsAmong p xs e a b → StopsAmong p (xs ++ ys) e a b
+pub StopsAmong-grown : (p : Progress) (xs ys : List ℕ) (e : RunFault) (a b : Option (List ℕ))
+    → StopsAmong p xs e a b → StopsAmong p (xs ++ ys) e a b
 unfolding StopsAmong
 StopsAmong-grown p xs ys e a b s = λ w given start told.
-    subst (λ (l : List ℕ). Stopped w l e start b) (append_assoc given xs ys) (Stopped-grown start b w (given ++ xs) ys e (s w given start told))
+    subst (λ (l : List ℕ). Stopped w l e start b) (append_assoc given xs ys)
+    (Stopped-grown start b w (given ++ xs) ys e (s w given start told))
 
-pub StopsAmong-memory : (p : Progress) (xs : List ℕ) (a : Option (List ℕ)) → StopsAmong p xs fault.Memory a a
+pub StopsAmong-memory : (p : Progress) (xs : List ℕ) (a : Option (List ℕ))
+    → StopsAmong p xs fault.Memory a a
 unfolding StopsAmong
-StopsAmong-memory p xs a = λ w given start told. WritesLines-grown start a w given xs (Stopped-memory w given p start a told)
+StopsAmong-memory p xs a = λ w given start told. WritesLines-grown start a w given xs
+    (Stopped-memory w given p start a told)
 
 -- ## A line
 
 -- its answer is put together, and then written
-pub Answers-written : {T : Type 0} (result : Result T RunFault) (p q : Progress) (refused : Bool) (text : List ℕ) (a b : Option (List ℕ))
-    → ((w : World) → StandsFor p.router w → IsTold (p.summary.lines + 1) w p.line.items refused q.router [] text)
+pub Answers-written : {T : Type 0} (result : Result T RunFault) (p q : Progress) (refused : Bool)
+    (text : List ℕ) (a b : Option (List ℕ))
+    → ((w : World) → StandsFor p.router w
+    → IsTold (p.summary.lines + 1) w p.line.items refused q.router [] text)
     → q.summary.refused ≡ p.summary.refused + cond refused 1 0
-    → OnOk result (Appends a b text) → OnErr result (AppendsSome a b text) → IfErr result (λ e. e ≡ fault.Write) → Answers p q result a b
+    → OnOk result (Appends a b text) → OnErr result (AppendsSome a b text)
+    → IfErr result (λ e. e ≡ fault.Write) → Answers p q result a b
 unfolding AnswersLine StopsAtLine
 Answers-written (Ok x) p q refused text a b told count ok err kind = λ w stands.
     let line = told w stands in
@@ -77,23 +94,30 @@ Answers-written (Ok x) p q refused text a b told count ok err kind = λ w stands
     }
 Answers-written (Err fault.Write) p q refused text a b told count ok err kind = λ w stands.
     subst (λ (t : List ℕ). AppendsSome a b t) (told w stands).text err
-Answers-written (Err fault.Read) p q refused text a b told count ok err kind = absurd (let bad : fault.Read ≡ fault.Write = kind in cc)
-Answers-written (Err fault.TooMuch) p q refused text a b told count ok err kind = absurd (let bad : fault.TooMuch ≡ fault.Write = kind in cc)
-Answers-written (Err fault.Memory) p q refused text a b told count ok err kind = absurd (let bad : fault.Memory ≡ fault.Write = kind in cc)
+Answers-written (Err fault.Read) p q refused text a b told count ok err kind =
+    absurd (let bad : fault.Read ≡ fault.Write = kind in cc)
+Answers-written (Err fault.TooMuch) p q refused text a b told count ok err kind =
+    absurd (let bad : fault.TooMuch ≡ fault.Write = kind in cc)
+Answers-written (Err fault.Memory) p q refused text a b told count ok err kind =
+    absurd (let bad : fault.Memory ≡ fault.Write = kind in cc)
 
 -- ## Both
 
-pub Takes-then : {T : Type 0} (result : Result T RunFault) (p q r : Progress) (xs ys : List ℕ) (a b c : Option (List ℕ))
+pub Takes-then : {T : Type 0} (result : Result T RunFault) (p q r : Progress) (xs ys : List ℕ)
+    (a b c : Option (List ℕ))
     → TakesBytes p q xs a b → Takes q r ys result b c → Takes p r (xs ++ ys) result a c
 Takes-then (Ok x) p q r xs ys a b c s t = TakesBytes-then p q r xs ys a b c s t
 Takes-then (Err e) p q r xs ys a b c s t = StopsAmong-then p q xs ys e a b c s t
 
 -- a line feed ends the line that is kept
-pub Takes-feed : {T : Type 0} (result : Result T RunFault) (p q : Progress) (a b : Option (List ℕ)) → Answers p q result a b
-    → OnOk result (q.summary.lines ≡ p.summary.lines + 1) → OnOk result (q.line.items ≡ []) → Takes p q (10 ∷ []) result a b
+pub Takes-feed : {T : Type 0} (result : Result T RunFault) (p q : Progress) (a b : Option (List ℕ))
+    → Answers p q result a b
+    → OnOk result (q.summary.lines ≡ p.summary.lines + 1) → OnOk result (q.line.items ≡ [])
+    → Takes p q (10 ∷ []) result a b
 unfolding TakesBytes StopsAmong AnswersLine StopsAtLine
 Takes-feed (Ok x) p q a b done number empty = λ w given start told.
-    Told-feed w given p q start a b told (done (world_after w (whole_lines given)) told.stands) number empty
+    Told-feed w given p q start a b told (done (world_after w (whole_lines given)) told.stands)
+    number empty
 Takes-feed (Err e) p q a b done number empty = λ w given start told.
     Stopped-feed w given p start a b e told (done (world_after w (whole_lines given)) told.stands)
 
@@ -103,16 +127,21 @@ pub EndsLines-empty : (p : Progress) (a : Option (List ℕ)) → p.line.items �
 unfolding EndsLines
 EndsLines-empty p a none = λ w given start told. Finished-empty w given p start a told none
 
-pub Ends-piece : {T : Type 0} (result : Result T RunFault) (p q : Progress) (a b : Option (List ℕ)) → (p.line.items ≡ [] → ⊥)
-    → Answers p q result a b → OnOk result (q.summary.lines ≡ p.summary.lines + 1) → Ends p q result a b
+pub Ends-piece : {T : Type 0} (result : Result T RunFault) (p q : Progress) (a b : Option (List ℕ))
+    → (p.line.items ≡ [] → ⊥)
+    → Answers p q result a b → OnOk result (q.summary.lines ≡ p.summary.lines + 1)
+    → Ends p q result a b
 unfolding EndsLines StopsLast AnswersLine StopsAtLine
 Ends-piece (Ok x) p q a b some done number = λ w given start told.
-    Finished-piece w given p q start a b told some (done (world_after w (whole_lines given)) told.stands) number
+    Finished-piece w given p q start a b told some
+    (done (world_after w (whole_lines given)) told.stands) number
 Ends-piece (Err e) p q a b some done number = λ w given start told.
-    StoppedLast-piece w given p start a b e told some (done (world_after w (whole_lines given)) told.stands)
+    StoppedLast-piece w given p start a b e told some
+    (done (world_after w (whole_lines given)) told.stands)
 
 -- a flush after it writes nothing
-pub ends_flushed : {T : Type 0} (result : Result T RunFault) (p q : Progress) (a b c : Option (List ℕ)) → EndsLines p q a b → Keeps b c
+pub ends_flushed : {T : Type 0} (result : Result T RunFault) (p q : Progress)
+    (a b c : Option (List ℕ)) → EndsLines p q a b → Keeps b c
     → IfErr result (λ e. e ≡ fault.Write) → Ends p q result a c
 unfolding EndsLines StopsLast
 ends_flushed (Ok x) p q a b c done keeps kind = λ w given start told.
@@ -121,6 +150,9 @@ ends_flushed (Ok x) p q a b c done keeps kind = λ w given start told.
 ends_flushed (Err fault.Write) p q a b c done keeps kind = λ w given start told.
     let all = done w given start told in
     AppendsSome-all start c _ (Appends-kept start b c _ all.written keeps)
-ends_flushed (Err fault.Read) p q a b c done keeps kind = absurd (let bad : fault.Read ≡ fault.Write = kind in cc)
-ends_flushed (Err fault.TooMuch) p q a b c done keeps kind = absurd (let bad : fault.TooMuch ≡ fault.Write = kind in cc)
-ends_flushed (Err fault.Memory) p q a b c done keeps kind = absurd (let bad : fault.Memory ≡ fault.Write = kind in cc)
+ends_flushed (Err fault.Read) p q a b c done keeps kind =
+    absurd (let bad : fault.Read ≡ fault.Write = kind in cc)
+ends_flushed (Err fault.TooMuch) p q a b c done keeps kind =
+    absurd (let bad : fault.TooMuch ≡ fault.Write = kind in cc)
+ends_flushed (Err fault.Memory) p q a b c done keeps kind =
+    absurd (let bad : fault.Memory ≡ fault.Write = kind in cc)

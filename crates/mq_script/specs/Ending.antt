@@ -1,5 +1,6 @@
 -- How a run ends.
-use Rattle.std.specs.Prelude.{◌≡◌, ◌≤◌, ◌<◌, ◌⊎◌, ℕ, ◌+◌, List, ◌++◌, length, take, Option, Result, Ok, Err}
+use Rattle.std.specs.Prelude.{◌≡◌, ◌≤◌, ◌<◌, ◌⊎◌, ℕ, ◌+◌, List, ◌++◌, length, take, Option, Result}
+use Rattle.std.specs.Prelude.{Ok, Err}
 use Rattle.std.specs.Io.KnownBytes.{Appends, Consumes, IsAtEnd}
 use Rattle.mq_world.specs.World.{World}
 use Rattle.mq_script.specs.declared.outcome.Summary.{Summary}
@@ -67,7 +68,8 @@ AppendsSome before after text = (part : List ℕ) × Appends before after part �
 -- the answers to the first lines were written, however many, and to no last piece
 abbrev pub WritesLines : World → (given : List ℕ) (before after : Option (List ℕ)) → Type 0
 WritesLines w given before after =
-    (n : ℕ) × (n ≤ length (whole_lines given)) × Appends before after (text_of_lines w (take n (whole_lines given)))
+    (n : ℕ) × (n ≤ length (whole_lines given))
+    × Appends before after (text_of_lines w (take n (whole_lines given)))
 
 -- how a run of at most so many bytes ends that began in a world
 abbrev pub Ending : ℕ → World → Result Summary RunFault → Seen → Type 0
@@ -104,11 +106,12 @@ Ending limit w (Err fault.Memory) seen = record {
 
 -- it ended so over what its reader gave
 abbrev pub EndsOver : ℕ → World → Result Summary RunFault → (reader writer : Watched) → Type 0
-EndsOver limit w result reader writer = (given : List ℕ) × Consumes reader.before reader.after given × Ending limit w result (record {
-  given = given;
-  left = reader.after;
-  before = writer.before;
-  after = writer.after;
-  reader = reader.calls;
-  writer = writer.calls;
-})
+EndsOver limit w result reader writer = (given : List ℕ) × Consumes reader.before reader.after given
+    × Ending limit w result (record {
+      given = given;
+      left = reader.after;
+      before = writer.before;
+      after = writer.after;
+      reader = reader.calls;
+      writer = writer.calls;
+    })

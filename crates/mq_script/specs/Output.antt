@@ -1,5 +1,7 @@
 -- What a script writes.
-use Rattle.std.specs.Prelude.{◌≡◌, ℕ, ◌+◌, List, [], ◌∷◌, ◌++◌, ◌==◌, length, Bool, true, false, if◌then◌else◌, Option, Some, None, Result, Ok, Err, is_some, unwrap_or}
+use Rattle.std.specs.Prelude.{◌≡◌, ℕ, ◌+◌, List, [], ◌∷◌, ◌++◌, ◌==◌, length, Bool, true, false}
+use Rattle.std.specs.Prelude.{if◌then◌else◌, Option, Some, None, Result, Ok, Err, is_some}
+use Rattle.std.specs.Prelude.{unwrap_or}
 use Rattle.std.specs.List.{slice_split, filter_map, last_or}
 use Rattle.mq_world.specs.World.{World, Request}
 use Rattle.mq_world.specs.Refusals.{refusal}
@@ -80,13 +82,15 @@ is_refused w line = refuses_reading w (reading line)
 abbrev pub text_from : World → List (List ℕ) → List (List ℕ) → List ℕ
 text_from w before [] = []
 text_from w before (line ∷ lines) =
-    text_of (length before + 1) (world_after w before) line ++ text_from w (before ++ line ∷ []) lines
+    text_of (length before + 1) (world_after w before) line
+    ++ text_from w (before ++ line ∷ []) lines
 
 -- how many of them are refused
 abbrev pub refused_from : World → List (List ℕ) → List (List ℕ) → ℕ
 refused_from w before [] = 0
 refused_from w before (line ∷ lines) =
-    (if is_refused (world_after w before) line then 1 else 0) + refused_from w (before ++ line ∷ []) lines
+    (if is_refused (world_after w before) line then 1 else 0)
+    + refused_from w (before ++ line ∷ []) lines
 
 -- what lines write that begin a script
 abbrev pub text_of_lines : World → List (List ℕ) → List ℕ

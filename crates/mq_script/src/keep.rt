@@ -1,5 +1,6 @@
 //! Lines among bytes, and what is kept of a line.
-ghost use Rattle.std.specs.Prelude.{◌≡◌, ◌+◌, ◌-◌, ◌≤◌, ◌++◌, ◌∷◌, [], OnOk, MatchOption, length, take, drop, position};
+ghost use Rattle.std.specs.Prelude.{◌≡◌, ◌+◌, ◌-◌, ◌≤◌, ◌++◌, ◌∷◌, [], OnOk, MatchOption, length};
+ghost use Rattle.std.specs.Prelude.{take, drop, position};
 ghost use Rattle.std.specs.List.{position_or_len};
 ghost use Rattle.mq_script.specs.Output.{is_feed, pieces};
 
@@ -12,7 +13,8 @@ const CHUNK: usize = 32;
 
 /// Adds the front of some bytes to a line, so that it has at most `most` bytes.
 pub fn keep_front(line: &mut Vec<u8>, bytes: &[u8], most: usize) -> Result<(), AllocError>
-    ensures { OnOk result (line.new.items ≡ line.old.items ++ take (most - length line.old.items) bytes.now) }
+    ensures { OnOk result (line.new.items ≡ line.old.items
+        ++ take (most - length line.old.items) bytes.now) }
 {
     let room = most.saturating_sub(line.len());
     if room < bytes.len() {
@@ -31,7 +33,8 @@ fn feed_among(bytes: &[u8]) -> Option<usize>
 /// How many bytes at the front are whole chunks without line feed.
 fn chunks_without_feed(bytes: &[u8]) -> usize
     ensures bound { result ≤ length bytes.now }
-    ensures later { position_or_len is_feed bytes.now ≡ result + position_or_len is_feed (drop result bytes.now) }
+    ensures later { position_or_len is_feed bytes.now ≡ result
+        + position_or_len is_feed (drop result bytes.now) }
 {
     let mut passed = 0;
     'chunks: while bytes.len() - passed >= CHUNK {
@@ -58,7 +61,8 @@ fn first_feed(bytes: &[u8]) -> Option<usize>
 /// What stands before the first line feed, and what follows it.
 pub fn split_line(bytes: &[u8]) -> Option<(&[u8], &[u8])>
     ensures { MatchOption result (pieces bytes.now ≡ bytes.now ∷ []) (λ parts.
-        (bytes.now ≡ (parts.0.now ++ 10 ∷ []) ++ parts.1.now) × (pieces parts.0.now ≡ parts.0.now ∷ [])) }
+        (bytes.now ≡ (parts.0.now ++ 10 ∷ []) ++ parts.1.now)
+        × (pieces parts.0.now ≡ parts.0.now ∷ [])) }
 {
     match first_feed(bytes) {
         Some(feed) => Some((&bytes[..feed], &bytes[feed + 1..])),

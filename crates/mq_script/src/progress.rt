@@ -1,5 +1,6 @@
 //! A run on its way.
-ghost use Rattle.std.specs.Prelude.{◌≡◌, ◌+◌, ◌≤◌, ◌<◌, ◌^◌, ◌++◌, ◌∷◌, [], List, ℕ, Option, OnOk, length};
+ghost use Rattle.std.specs.Prelude.{◌≡◌, ◌+◌, ◌≤◌, ◌<◌, ◌^◌, ◌++◌, ◌∷◌, [], List, ℕ, Option, OnOk};
+ghost use Rattle.std.specs.Prelude.{length};
 ghost use Rattle.mq_world.specs.World.{World};
 ghost use Rattle.mq_router.specs.StandsFor.{StandsFor};
 ghost use Rattle.mq_script.specs.Output.{pieces};
@@ -36,7 +37,8 @@ impl Progress {
     ghost use Rattle.mq_script.specs.Running.{Told, Answers, Takes, Ends};
 
     pub fn new(alloc: Global, router: Router) -> Progress
-        ensures told { (w : World) (start : Option (List ℕ)) → StandsFor router w → Told w [] result start start }
+        ensures told { (w : World) (start : Option (List ℕ)) → StandsFor router w
+            → Told w [] result start start }
         ensures lines { result.summary.lines ≡ 0 }
         ensures line { result.line.items ≡ [] }
     {
@@ -81,7 +83,8 @@ impl Progress {
     fn end_line<W: Sink>(&mut self, rest: &[u8], writer: &mut W) -> Result<(), RunFault>
         requires lines { self.old.summary.lines + 1 < 2 ^ 64 }
         requires rest { pieces rest.now ≡ rest.now ∷ [] }
-        ensures takes { Takes self.old self.new (rest.now ++ 10 ∷ []) result (W.taken writer.old) (W.taken writer.new) }
+        ensures takes { Takes self.old self.new (rest.now ++ 10 ∷ []) result (W.taken writer.old)
+            (W.taken writer.new) }
         ensures counted { W.failures writer.new ≡ W.failures writer.old + failures_of result }
         ensures lines { OnOk result (self.new.summary.lines ≡ self.old.summary.lines + 1) }
         ensures line { OnOk result (self.new.line.items ≡ []) }
@@ -93,7 +96,8 @@ impl Progress {
     /// Takes bytes of the script, and answers the lines that they end.
     pub fn take<W: Sink>(&mut self, bytes: &[u8], writer: &mut W) -> Result<(), RunFault>
         requires { self.old.summary.lines + length self.old.line.items + length bytes.now < 2 ^ 64 }
-        ensures takes { Takes self.old self.new bytes.now result (W.taken writer.old) (W.taken writer.new) }
+        ensures takes { Takes self.old self.new bytes.now result (W.taken writer.old)
+            (W.taken writer.new) }
         ensures counted { W.failures writer.new ≡ W.failures writer.old + failures_of result }
         ensures lines { OnOk result (self.new.summary.lines + length self.new.line.items
             ≤ self.old.summary.lines + length self.old.line.items + length bytes.now) }

@@ -43,11 +43,16 @@ fn read_lines<R: Source, W: Sink>(
     requires piece { 0 < length piece.old }
     requires lines { progress.old.summary.lines ≡ 0 }
     requires line { progress.old.line.items ≡ [] }
-    ensures ok { OnOk result ((given : List ℕ) × Consumes (R.to_come reader.old) (R.to_come reader.new) given
-        × TakesAll limit progress.old progress.new given (R.to_come reader.new) (W.taken writer.old) (W.taken writer.new)) }
-    ensures ok_count { OnOk result ((R.failures reader.new ≡ R.failures reader.old) × (W.failures writer.new ≡ W.failures writer.old)) }
-    ensures err { (w : World) → Told w [] progress.old (W.taken writer.old) (W.taken writer.old) → IfErr result (λ e.
-        EndsOver limit w (Err e) (watch R.to_come R.failures reader.old reader.new) (watch W.taken W.failures writer.old writer.new)) }
+    ensures ok { OnOk result ((given : List ℕ)
+        × Consumes (R.to_come reader.old) (R.to_come reader.new) given
+        × TakesAll limit progress.old progress.new given (R.to_come reader.new) (W.taken writer.old)
+        (W.taken writer.new)) }
+    ensures ok_count { OnOk result ((R.failures reader.new ≡ R.failures reader.old)
+        × (W.failures writer.new ≡ W.failures writer.old)) }
+    ensures err { (w : World) → Told w [] progress.old (W.taken writer.old) (W.taken writer.old)
+        → IfErr result (λ e.
+        EndsOver limit w (Err e) (watch R.to_come R.failures reader.old reader.new)
+        (watch W.taken W.failures writer.old writer.new)) }
     ensures lines { OnOk result (progress.new.summary.lines + length progress.new.line.items ≤ limit) }
     ensures unbuffered { IsTrue unbuffered → R.failures reader.new ≢ R.failures reader.old
         → W.flushed writer.new ≡ W.taken writer.new }
@@ -132,11 +137,14 @@ pub fn run_within<R: Source, W: Sink>(
     ensures headline { (w : World) (script before : List ℕ) → StandsFor router w
         → R.to_come reader.old ≡ Some script → W.taken writer.old ≡ Some before
         → length script ≤ limit
-        → R.failures reader.new ≡ R.failures reader.old → W.failures writer.new ≡ W.failures writer.old
+        → R.failures reader.new ≡ R.failures reader.old
+        → W.failures writer.new ≡ W.failures writer.old
         → result ≢ Err RunFault.Memory
-        → IsOkAnd result (λ summary. (W.taken writer.new ≡ Some (before ++ output w script)) × Summarizes w script summary) }
+        → IsOkAnd result (λ summary. (W.taken writer.new ≡ Some (before ++ output w script))
+        × Summarizes w script summary) }
     ensures ending { (w : World) → StandsFor router w → EndsOver limit w result
-        (watch R.to_come R.failures reader.old reader.new) (watch W.taken W.failures writer.old writer.new) }
+        (watch R.to_come R.failures reader.old reader.new)
+        (watch W.taken W.failures writer.old writer.new) }
     ensures flushed { OnOk result (W.flushed writer.new ≡ W.taken writer.new) }
 {
     run_as(alloc, router, reader, writer, limit, false)
@@ -155,13 +163,16 @@ pub fn run<R: Source, W: Sink>(
     ensures headline { (w : World) (script before : List ℕ) → StandsFor router w
         → R.to_come reader.old ≡ Some script → W.taken writer.old ≡ Some before
         → length script ≤ script_limit
-        → R.failures reader.new ≡ R.failures reader.old → W.failures writer.new ≡ W.failures writer.old
+        → R.failures reader.new ≡ R.failures reader.old
+        → W.failures writer.new ≡ W.failures writer.old
         → result ≢ Err RunFault.Memory
-        → IsOkAnd result (λ summary. (W.taken writer.new ≡ Some (before ++ output w script)) × Summarizes w script summary) }
+        → IsOkAnd result (λ summary. (W.taken writer.new ≡ Some (before ++ output w script))
+        × Summarizes w script summary) }
 
     // And how it ends whatever happens.
     ensures ending { (w : World) → StandsFor router w → EndsOver script_limit w result
-        (watch R.to_come R.failures reader.old reader.new) (watch W.taken W.failures writer.old writer.new) }
+        (watch R.to_come R.failures reader.old reader.new)
+        (watch W.taken W.failures writer.old writer.new) }
 
     // After Ok the writer has handed on all that it took.
     ensures flushed { OnOk result (W.flushed writer.new ≡ W.taken writer.new) }
@@ -180,7 +191,8 @@ pub fn run_unbuffered<R: Source, W: Sink>(
     ensures headline { (w : World) (script before : List ℕ) → StandsFor router w
         → R.to_come reader.old ≡ Some script → W.taken writer.old ≡ Some before
         → length script ≤ script_limit
-        → R.failures reader.new ≡ R.failures reader.old → W.failures writer.new ≡ W.failures writer.old
+        → R.failures reader.new ≡ R.failures reader.old
+        → W.failures writer.new ≡ W.failures writer.old
         → result ≢ Err RunFault.Memory
         → IsOkAnd result (λ summary. (W.taken writer.new ≡ Some (before ++ output w script))
         × Summarizes w script summary) }

@@ -5,6 +5,11 @@ use Rattle.mq_world.specs.World.{Session, Waiting}
 use Rattle.mq_world.specs.Waiting.{has_place, with_waiting}
 use Rattle.mq_sessions.specs.Queue.{queued}
 
-pub queued-id : (limit : ℕ) (id : Text) (ws : List Waiting) (s : Session) → ◌≡◌ {A = Session} (record (queued limit ws s) { id = id }) (queued limit ws (record s { id = id }))
+pub queued-id : (limit : ℕ) (id : Text) (ws : List Waiting) (s : Session)
+    → ◌≡◌ {A = Session} (record (queued limit ws s) { id = id })
+    (queued limit ws (record s { id = id }))
 queued-id limit id ws s =
-    elim (has_place limit s) as (λ b. ◌≡◌ {A = Session} (record (if b then with_waiting s ws else s) { id = id }) (if b then with_waiting (record s { id = id }) ws else record s { id = id })) [ true ↦ refl | false ↦ refl ]
+    elim (has_place limit s) as (λ b. ◌≡◌ {A = Session}
+    (record (if b then with_waiting s ws else s) { id = id })
+    (if b then with_waiting (record s { id = id }) ws else record s { id = id }))
+    [ true ↦ refl | false ↦ refl ]

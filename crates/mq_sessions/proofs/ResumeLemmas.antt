@@ -1,5 +1,6 @@
 -- A client that comes back: whether it resumes its session, and what it is sent.
-use Rattle.std.proofs.Common.{◌≡◌, ℕ, Bool, true, false, true≢false, List, [], Option, Some, None, if◌then◌else◌, is_some, refl, sym, ap}
+use Rattle.std.proofs.Common.{◌≡◌, ℕ, Bool, true, false, true≢false, List, [], Option, Some, None}
+use Rattle.std.proofs.Common.{if◌then◌else◌, is_some, refl, sym, ap}
 use Rattle.std.specs.Option.{option_map_or}
 use Rattle.std.specs.List.{filter_map}
 use Rattle.mq_world.specs.Lists.{Text}
@@ -8,22 +9,29 @@ use Rattle.mq_world.specs.Sessions.{resumes}
 use Rattle.mq_world.specs.Waiting.{resumed_copy, waiting_for, resumed_copies}
 use Rattle.mq_sessions.specs.Resumed.{resumed}
 
-pub resumed-none : (moment : ℕ) (sessions : List Session) (id : Text) (clean : Bool) → resumes sessions id clean ≡ false → None ≡ resumed moment sessions id clean
-resumed-none moment sessions id clean e = ap (λ b. if b then Some (resumed_copies moment sessions id clean) else None) (sym e)
+pub resumed-none : (moment : ℕ) (sessions : List Session) (id : Text) (clean : Bool)
+    → resumes sessions id clean ≡ false → None ≡ resumed moment sessions id clean
+resumed-none moment sessions id clean e =
+    ap (λ b. if b then Some (resumed_copies moment sessions id clean) else None) (sym e)
 
-pub resumed-some : (moment : ℕ) (sessions : List Session) (id : Text) (clean : Bool) → resumes sessions id clean ≡ true → Some (filter_map (resumed_copy moment) (waiting_for sessions id)) ≡ resumed moment sessions id clean
+pub resumed-some : (moment : ℕ) (sessions : List Session) (id : Text) (clean : Bool)
+    → resumes sessions id clean ≡ true
+    → Some (filter_map (resumed_copy moment) (waiting_for sessions id))
+    ≡ resumed moment sessions id clean
 unfolding resumed_copies
 resumed-some moment sessions id clean e =
     let xs : List Copy = filter_map (resumed_copy moment) (waiting_for sessions id) in
     ap (λ b. if b then Some (if b then xs else []) else None) (sym e)
 
-pub resumed-empty : (moment : ℕ) (sessions : List Session) (id : Text) (clean : Bool) → resumes sessions id clean ≡ false → [] ≡ resumed_copies moment sessions id clean
+pub resumed-empty : (moment : ℕ) (sessions : List Session) (id : Text) (clean : Bool)
+    → resumes sessions id clean ≡ false → [] ≡ resumed_copies moment sessions id clean
 unfolding resumed_copies
 resumed-empty moment sessions id clean e =
     let xs : List Copy = filter_map (resumed_copy moment) (waiting_for sessions id) in
     ap (λ b. if b then xs else []) (sym e)
 
-was-some : (b : Bool) (x y : List Copy) → Some x ≡ (if b then Some y else None) → (b ≡ true) × (x ≡ y)
+was-some : (b : Bool) (x y : List Copy) → Some x ≡ (if b then Some y else None) → (b ≡ true)
+    × (x ≡ y)
 was-some true x y e = (refl, ap (λ (o : Option (List Copy)). option_map_or (λ l. l) o []) e)
 was-some false x y e = absurd (true≢false (ap (λ (o : Option (List Copy)). is_some o) e))
 
@@ -31,8 +39,13 @@ was-none : (b : Bool) (y : List Copy) → None ≡ (if b then Some y else None) 
 was-none true y e = absurd (true≢false (sym (ap (λ (o : Option (List Copy)). is_some o) e)))
 was-none false y e = refl
 
-pub resumes-some : (moment : ℕ) (sessions : List Session) (id : Text) (clean : Bool) (copies : List Copy) → Some copies ≡ resumed moment sessions id clean → (resumes sessions id clean ≡ true) × (copies ≡ resumed_copies moment sessions id clean)
-resumes-some moment sessions id clean copies e = was-some (resumes sessions id clean) copies (resumed_copies moment sessions id clean) e
+pub resumes-some : (moment : ℕ) (sessions : List Session) (id : Text) (clean : Bool)
+    (copies : List Copy) → Some copies ≡ resumed moment sessions id clean
+    → (resumes sessions id clean ≡ true) × (copies ≡ resumed_copies moment sessions id clean)
+resumes-some moment sessions id clean copies e =
+    was-some (resumes sessions id clean) copies (resumed_copies moment sessions id clean) e
 
-pub resumes-none : (moment : ℕ) (sessions : List Session) (id : Text) (clean : Bool) → None ≡ resumed moment sessions id clean → resumes sessions id clean ≡ false
-resumes-none moment sessions id clean e = was-none (resumes sessions id clean) (resumed_copies moment sessions id clean) e
+pub resumes-none : (moment : ℕ) (sessions : List Session) (id : Text) (clean : Bool)
+    → None ≡ resumed moment sessions id clean → resumes sessions id clean ≡ false
+resumes-none moment sessions id clean e =
+    was-none (resumes sessions id clean) (resumed_copies moment sessions id clean) e

@@ -19,7 +19,8 @@ begin_with id deadline copy = (id, record { copy = copy; deadline = deadline } �
 
 -- the session with these copies behind those that wait, if there is a place
 abbrev pub queued : ℕ → List Waiting → Session → Session
-queued limit waiting session = if has_place limit session then with_waiting session waiting else session
+queued limit waiting session = if has_place limit session then
+    with_waiting session waiting else session
 
 -- the session, if it is that of the client, as this changes it
 abbrev pub edited : (Session → Session) → Text → Session → Session

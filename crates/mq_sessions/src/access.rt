@@ -32,7 +32,8 @@ pub fn may_publish(
     client: &str,
     name: &TopicName,
 ) -> bool
-    ensures { result ≡ allowed access.now client.now (user_of sessions.now client.now) name.now Writing }
+    ensures { result ≡ allowed access.now client.now (user_of sessions.now client.now) name.now
+        Writing }
 {
     match access {
         None => true,
@@ -50,9 +51,11 @@ pub struct Readers<'a> {
 impl Readers<'_> {
     /// Where a copy of a message of this topic goes for the client, which may read it or gets none. One look-up.
     pub fn way(&self, client: &RcStr, name: &TopicName, limit: u32) -> Way
-        ensures sent { is_sent result ≡ is_reader self.now.access.now self.now.sessions.now name.now (rc_str_bytes client.now) }
+        ensures sent { is_sent result ≡ is_reader self.now.access.now self.now.sessions.now name.now
+            (rc_str_bytes client.now) }
         ensures waits { waits result ≡ (room_for limit self.now.sessions.now (rc_str_bytes client.now)
-            && allowed self.now.access.now (rc_str_bytes client.now) (user_of self.now.sessions.now (rc_str_bytes client.now)) name.now Reading) }
+            && allowed self.now.access.now (rc_str_bytes client.now)
+            (user_of self.now.sessions.now (rc_str_bytes client.now)) name.now Reading) }
     {
         let client = client.as_str();
         let Some(session) = self.sessions.get(client) else {

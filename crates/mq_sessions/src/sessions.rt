@@ -1,12 +1,14 @@
 //! The sessions of the clients, of those that are connected and of those that are away.
-ghost use Rattle.std.specs.Prelude.{◌≡◌, [], length, not, is_some, false, OnOk, OnErr, IfOk, IfSome, map, string_bytes};
+ghost use Rattle.std.specs.Prelude.{◌≡◌, [], length, not, is_some, false, OnOk, OnErr, IfOk};
+ghost use Rattle.std.specs.Prelude.{IfSome, map, string_bytes};
 ghost use Rattle.std.specs.Option.{option_copied, option_map};
 ghost use Rattle.std.specs.List.{filter, list_any};
 ghost use Rattle.std.specs.Rc.{rc_str_bytes};
 ghost use Rattle.std.specs.List.Sorted.{IsStrictlySortedBy};
 ghost use Rattle.mq_world.specs.Lists.{with_row};
 ghost use Rattle.mq_world.specs.World.{has_id, session_cmp};
-ghost use Rattle.mq_world.specs.Sessions.{new_session, session_of, is_connected, user_of, outlives, left_by, has_ended};
+ghost use Rattle.mq_world.specs.Sessions.{new_session, session_of, is_connected, user_of, outlives};
+ghost use Rattle.mq_world.specs.Sessions.{left_by, has_ended};
 ghost use Rattle.mq_sessions.specs.Resumed.{resumed};
 ghost use Rattle.mq_sessions.specs.Queue.{queued_one, queued_all};
 ghost use Rattle.mq_sessions.specs.Near.{AllReached};
@@ -99,7 +101,8 @@ impl Sessions {
 
     /// The session of a client, if it has one.
     pub fn get(&self, id: &str) -> Option<&Session>
-        ensures { option_map (λ session. session_at id.now session.now) result ≡ session_of self.now id.now }
+        ensures { option_map (λ session. session_at id.now session.now) result
+            ≡ session_of self.now id.now }
     {
         find(&self.by_id, id)
     }
@@ -113,7 +116,8 @@ impl Sessions {
         clean: bool,
     ) -> Result<Option<Vec<Delivery>>, AllocError>
         requires { AllReached clock.moment self.now }
-        ensures { IfOk result (λ copies. option_map (λ list. map copy_of list.items) copies ≡ resumed clock.moment self.now id.now clean) }
+        ensures { IfOk result (λ copies. option_map (λ list. map copy_of list.items) copies
+            ≡ resumed clock.moment self.now id.now clean) }
     {
         if clean {
             return Ok(None);
@@ -130,7 +134,8 @@ impl Sessions {
         interval: u32,
     ) -> Result<(), AllocError>
         ensures ok { OnOk result (self.new
-            ≡ with_row session_cmp (new_session (rc_str_bytes id) (option_map string_bytes user) interval) self.old) }
+            ≡ with_row session_cmp (new_session (rc_str_bytes id) (option_map string_bytes user)
+            interval) self.old) }
         ensures err { OnErr result (self.new ≡ self.old) }
     {
         self.ends.reserve(self.by_id.len() + 1)?;

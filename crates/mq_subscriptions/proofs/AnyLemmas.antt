@@ -1,5 +1,7 @@
 -- Whether a subscription with a key is there, after one joined or left: so the lists of clients still list what is there.
-use Rattle.std.proofs.Common.{◌≡◌, Bool, true, false, true≢false, cond, ◌&&◌, ◌||◌, not, List, [], ◌∷◌, map, Option, Some, None, if◌then◌else◌, refl, sym, ◌∙◌, ap, subst}
+use Rattle.std.proofs.Common.{◌≡◌, Bool, true, false, true≢false, cond, ◌&&◌, ◌||◌, not, List, []}
+use Rattle.std.proofs.Common.{◌∷◌, map, Option, Some, None, if◌then◌else◌, refl, sym, ◌∙◌, ap}
+use Rattle.std.proofs.Common.{subst}
 use Rattle.std.specs.List.{filter, list_any, AllByRecursion}
 use Rattle.std.proofs.lemmas.Map.Views.{any-filter_same}
 use Rattle.mq_world.specs.Keys.{Key, key_cmp}
@@ -7,7 +9,8 @@ use Rattle.mq_world.specs.Lists.{Text, same_text}
 use Rattle.mq_world.specs.World.{Subscription, same_share, has_key, same_key}
 use Rattle.mq_world.specs.Turns.{SameInTurn}
 use Rattle.mq_subscriptions.specs.Turns.{put_last, joined}
-use Rattle.mq_subscriptions.specs.Filters.{OwnKey, AtEntries, AreKept, AreListed, is_text, is_in_list, is_listed, is_empty, all_rows}
+use Rattle.mq_subscriptions.specs.Filters.{OwnKey, AtEntries, AreKept, AreListed, is_text}
+use Rattle.mq_subscriptions.specs.Filters.{is_in_list, is_listed, is_empty, all_rows}
 use Rattle.mq_world.proofs.ListLemmas.{list_any-map, list_any-same, any-append}
 use Rattle.mq_world.proofs.SameLemmas.{list_any-SameElements}
 use Rattle.mq_world.proofs.BoolLemmas.{pick, left_true, right_true, and_true, or_false}
@@ -27,35 +30,54 @@ use Rattle.std.specs.Map.{lookup, set_value, remove_entry, keys_of}
 -- ## One key
 
 key_flip : (a b : Subscription) → same_key a b ≡ same_key b a
-key_flip a b = λ i. text_flip b.client a.client i && flip_share b.share a.share i && text_flip b.filter a.filter i
+key_flip a b = λ i. text_flip b.client a.client i && flip_share b.share a.share i
+    && text_flip b.filter a.filter i
 
 -- what has the same key passes the same tests of keys
-key_then : (test : Text → Option Text → Text → Bool) (s x : Subscription) → same_key s x ≡ true → test x.client x.share x.filter ≡ test s.client s.share s.filter
+key_then : (test : Text → Option Text → Text → Bool) (s x : Subscription) → same_key s x ≡ true
+    → test x.client x.share x.filter ≡ test s.client s.share s.filter
 key_then test s x h =
-    let first : (same_text x.client s.client && same_share x.share s.share) ≡ true = left_true (same_text x.client s.client && same_share x.share s.share) (same_text x.filter s.filter) h in
-    ap (λ (c : Text). test c x.share x.filter) (same_text-is x.client s.client (left_true (same_text x.client s.client) (same_share x.share s.share) first))
-    ∙ ap (λ (sh : Option Text). test s.client sh x.filter) (same_share-is x.share s.share (right_true (same_text x.client s.client) (same_share x.share s.share) first))
-    ∙ ap (test s.client s.share) (same_text-is x.filter s.filter (right_true (same_text x.client s.client && same_share x.share s.share) (same_text x.filter s.filter) h))
+    let first : (same_text x.client s.client && same_share x.share s.share) ≡ true =
+    left_true (same_text x.client s.client && same_share x.share s.share)
+    (same_text x.filter s.filter) h in
+    ap (λ (c : Text). test c x.share x.filter)
+    (same_text-is x.client s.client
+    (left_true (same_text x.client s.client) (same_share x.share s.share) first))
+    ∙ ap (λ (sh : Option Text). test s.client sh x.filter)
+    (same_share-is x.share s.share
+    (right_true (same_text x.client s.client) (same_share x.share s.share) first))
+    ∙ ap (test s.client s.share)
+    (same_text-is x.filter s.filter
+    (right_true (same_text x.client s.client && same_share x.share s.share)
+    (same_text x.filter s.filter) h))
 
 -- ## One that joins
 
 module _ (x s : Subscription) where
-  placed : (rows : List Subscription) → list_any (same_key s) (map (λ y. if same_key x y then x else y) rows) ≡ list_any (same_key s) rows
+  placed : (rows : List Subscription)
+      → list_any (same_key s) (map (λ y. if same_key x y then x else y) rows)
+      ≡ list_any (same_key s) rows
   placed rows =
       list_any-map (λ (y : Subscription). if same_key x y then x else y) (same_key s) rows
       ∙ list_any-same (λ y. same_key s (if same_key x y then x else y)) (same_key s) each rows
     where
       each : (y : Subscription) → same_key s (if same_key x y then x else y) ≡ same_key s y
       each y =
-          let P : Bool → Type 0 = λ b. same_key x y ≡ b → same_key s (if b then x else y) ≡ same_key s y in
+          let P : Bool → Type 0 = λ b. same_key x y ≡ b
+          → same_key s (if b then x else y) ≡ same_key s y in
           (elim (same_key x y) as P [
-            | true ↦ λ t. sym (key_then (λ c sh f. same_text c s.client && same_share sh s.share && same_text f s.filter) x y t)
+            | true ↦ λ t. sym
+                (key_then (λ c sh f. same_text c s.client && same_share sh s.share
+                && same_text f s.filter) x y t)
             | false ↦ λ f. refl
           ]) refl
 
   -- a key that is there is found by each with the same
-  there : (rows : List Subscription) → same_key x s ≡ true → list_any (same_key x) rows ≡ list_any (same_key s) rows
-  there rows h = list_any-same (same_key x) (same_key s) (λ y. sym (key_then (λ c sh f. same_text y.client c && same_share y.share sh && same_text y.filter f) x s h)) rows
+  there : (rows : List Subscription) → same_key x s ≡ true
+      → list_any (same_key x) rows ≡ list_any (same_key s) rows
+  there rows h = list_any-same (same_key x) (same_key s)
+      (λ y. sym (key_then (λ c sh f. same_text y.client c && same_share y.share sh
+      && same_text y.filter f) x s h)) rows
 
   both : (u v w : Bool) → (w ≡ true → u ≡ v) → (v || (if u then false else w)) ≡ (w || v)
   both true v true h = ap (λ b. b || false) (sym (h refl))
@@ -66,28 +88,38 @@ module _ (x s : Subscription) where
   both false false true h = refl
   both false false false h = refl
 
-  pub any-joined : (new rows : List Subscription) → SameInTurn new (joined x rows) → list_any (same_key s) new ≡ (same_key x s || list_any (same_key s) rows)
+  pub any-joined : (new rows : List Subscription) → SameInTurn new (joined x rows)
+      → list_any (same_key s) new ≡ (same_key x s || list_any (same_key s) rows)
   any-joined new rows same =
       let old : List Subscription = map (λ y. if same_key x y then x else y) rows in
       list_any-SameElements (same_key s) new (joined x rows) same.elements
       ∙ any-append (same_key s) old (if list_any (same_key x) rows then [] else x ∷ [])
-      ∙ ap (λ b. b || list_any (same_key s) (if list_any (same_key x) rows then [] else x ∷ [])) (placed rows)
+      ∙ ap (λ b. b || list_any (same_key s) (if list_any (same_key x) rows then [] else x ∷ []))
+      (placed rows)
       ∙ ap (λ b. list_any (same_key s) rows || b) (last (list_any (same_key x) rows))
       ∙ both (list_any (same_key x) rows) (list_any (same_key s) rows) (same_key x s) (there rows)
     where
-      last : (b : Bool) → list_any (same_key s) (if b then [] else x ∷ []) ≡ (if b then false else same_key x s)
+      last : (b : Bool) → list_any (same_key s) (if b then [] else x ∷ [])
+          ≡ (if b then false else same_key x s)
       last true = refl
       last false = or_false (same_key s x) ∙ key_flip s x
 
 -- ## Some that leave
 
-pub any-left : (test : Text → Option Text → Text → Bool) (s : Subscription) (rows : List Subscription) → list_any (same_key s) (filter (λ r. not (test r.client r.share r.filter)) rows) ≡ (not (test s.client s.share s.filter) && list_any (same_key s) rows)
+pub any-left : (test : Text → Option Text → Text → Bool) (s : Subscription)
+    (rows : List Subscription) → list_any (same_key s)
+    (filter (λ r. not (test r.client r.share r.filter)) rows)
+    ≡ (not (test s.client s.share s.filter) && list_any (same_key s) rows)
 any-left test s rows =
-    any-filter_same (same_key s) (λ (r : Subscription). not (test r.client r.share r.filter)) (not (test s.client s.share s.filter))
+    any-filter_same (same_key s) (λ (r : Subscription). not (test r.client r.share r.filter))
+    (not (test s.client s.share s.filter))
     (λ r h. ap not (key_then test s r h)) rows
 
-pub any-turned : (x s : Subscription) (new rows : List Subscription) → SameInTurn new (put_last (same_key x) rows) → list_any (same_key s) new ≡ list_any (same_key s) rows
-any-turned x s new rows same = list_any-SameElements (same_key s) new rows (λ p. same.elements p ∙ turned-elements (x ∷ []) rows p)
+pub any-turned : (x s : Subscription) (new rows : List Subscription)
+    → SameInTurn new (put_last (same_key x) rows)
+    → list_any (same_key s) new ≡ list_any (same_key s) rows
+any-turned x s new rows same = list_any-SameElements (same_key s) new rows
+    (λ p. same.elements p ∙ turned-elements (x ∷ []) rows p)
 
 -- ## Tree and lists
 
@@ -97,35 +129,54 @@ Lists = List (Text × List OwnKey)
 abbrev AreLive : Lists → Type 0
 AreLive lists = AllByRecursion (λ l. is_empty l.1 ≡ false) lists
 
-pub listed-joined : (x : Subscription) (old new : AtEntries) (before after : Lists) → AreListed old before → AreKept new → SameInTurn (all_rows new) (joined x (all_rows old)) → ((s : Subscription) → is_listed after s ≡ (has_key x.client x.share x.filter s || is_listed before s)) → AreLive after → AreListed new after
+pub listed-joined : (x : Subscription) (old new : AtEntries) (before after : Lists)
+    → AreListed old before → AreKept new → SameInTurn (all_rows new) (joined x (all_rows old))
+    → ((s : Subscription) → is_listed after s
+    ≡ (has_key x.client x.share x.filter s || is_listed before s)) → AreLive after
+    → AreListed new after
 listed-joined x old new before after h kept same adds live = record {
   kept = kept;
-  listed = λ s. adds s ∙ ap (λ b. same_key x s || b) (h.listed s) ∙ sym (any-joined x s (all_rows new) (all_rows old) same);
+  listed = λ s. adds s ∙ ap (λ b. same_key x s || b) (h.listed s)
+      ∙ sym (any-joined x s (all_rows new) (all_rows old) same);
   live = live;
 }
 
 -- a key that is there joins again
-pub listed-again : (x : Subscription) (old : AtEntries) (lists : Lists) → AreListed old lists → list_any (same_key x) (all_rows old) ≡ true → (s : Subscription) → is_listed lists s ≡ (has_key x.client x.share x.filter s || is_listed lists s)
+pub listed-again : (x : Subscription) (old : AtEntries) (lists : Lists) → AreListed old lists
+    → list_any (same_key x) (all_rows old) ≡ true → (s : Subscription)
+    → is_listed lists s ≡ (has_key x.client x.share x.filter s || is_listed lists s)
 listed-again x old lists h found s =
     pick (same_key x s)
-    (λ t. h.listed s ∙ sym (there x s (all_rows old) t) ∙ found ∙ sym (ap (λ b. b || is_listed lists s) t))
+    (λ t. h.listed s ∙ sym (there x s (all_rows old) t) ∙ found
+    ∙ sym (ap (λ b. b || is_listed lists s) t))
     (λ f. sym (ap (λ b. b || is_listed lists s) f))
 
-pub listed-left : (client : Text) (k : OwnKey) (old new : AtEntries) (before after : Lists) → AreListed old before → AreKept new → all_rows new ≡ filter (λ s. not (has_key client k.0 k.1 s)) (all_rows old) → ((s : Subscription) → is_listed after s ≡ (not (has_key client k.0 k.1 s) && is_listed before s)) → AreLive after → AreListed new after
+pub listed-left : (client : Text) (k : OwnKey) (old new : AtEntries) (before after : Lists)
+    → AreListed old before → AreKept new → all_rows new
+    ≡ filter (λ s. not (has_key client k.0 k.1 s)) (all_rows old)
+    → ((s : Subscription) → is_listed after s
+    ≡ (not (has_key client k.0 k.1 s) && is_listed before s)) → AreLive after
+    → AreListed new after
 listed-left client k old new before after h kept rows drops live = record {
   kept = kept;
   listed = λ s.
       drops s ∙ ap (λ b. not (has_key client k.0 k.1 s) && b) (h.listed s)
-      ∙ sym (any-left (λ c sh f. same_text c client && same_share sh k.0 && same_text f k.1) s (all_rows old)) ∙ ap (list_any (same_key s)) (sym rows);
+      ∙ sym (any-left (λ c sh f. same_text c client && same_share sh k.0 && same_text f k.1) s
+      (all_rows old)) ∙ ap (list_any (same_key s)) (sym rows);
   live = live;
 }
 
 -- a key that joined and left again
-pub listed-undone : (client : Text) (k : OwnKey) (old new : AtEntries) (before added after : Lists) → AreListed old before → new ≡ old → list_any (has_key client k.0 k.1) (all_rows old) ≡ false → ((s : Subscription) → is_listed added s ≡ (has_key client k.0 k.1 s || is_listed before s)) → ((s : Subscription) → is_listed after s ≡ (not (has_key client k.0 k.1 s) && is_listed added s)) → AreLive after → AreListed new after
+pub listed-undone : (client : Text) (k : OwnKey) (old new : AtEntries) (before added after : Lists)
+    → AreListed old before → new ≡ old → list_any (has_key client k.0 k.1) (all_rows old) ≡ false
+    → ((s : Subscription) → is_listed added s ≡ (has_key client k.0 k.1 s || is_listed before s))
+    → ((s : Subscription) → is_listed after s
+    ≡ (not (has_key client k.0 k.1 s) && is_listed added s)) → AreLive after → AreListed new after
 listed-undone client k old new before added after h same absent adds drops live =
     subst (λ (es : AtEntries). AreListed es after) (sym same) (record {
       kept = h.kept;
-      listed = λ s. drops s ∙ ap (λ b. not (has_key client k.0 k.1 s) && b) (adds s) ∙ undone (has_key client k.0 k.1 s) (is_listed before s) (nobody s) ∙ h.listed s;
+      listed = λ s. drops s ∙ ap (λ b. not (has_key client k.0 k.1 s) && b) (adds s)
+          ∙ undone (has_key client k.0 k.1 s) (is_listed before s) (nobody s) ∙ h.listed s;
       live = live;
     })
   where
@@ -135,14 +186,25 @@ listed-undone client k old new before added after h same absent adds drops live 
 
     nobody : (s : Subscription) → has_key client k.0 k.1 s ≡ true → is_listed before s ≡ false
     nobody s t =
-        let first : (same_text s.client client && same_share s.share k.0) ≡ true = left_true (same_text s.client client && same_share s.share k.0) (same_text s.filter k.1) t in
+        let first : (same_text s.client client && same_share s.share k.0) ≡ true =
+        left_true (same_text s.client client && same_share s.share k.0) (same_text s.filter k.1)
+        t in
         h.listed s
-        ∙ ap (λ (c : Text). list_any (has_key c s.share s.filter) (all_rows old)) (same_text-is s.client client (left_true (same_text s.client client) (same_share s.share k.0) first))
-        ∙ ap (λ (sh : Option Text). list_any (has_key client sh s.filter) (all_rows old)) (same_share-is s.share k.0 (right_true (same_text s.client client) (same_share s.share k.0) first))
-        ∙ ap (λ (f : Text). list_any (has_key client k.0 f) (all_rows old)) (same_text-is s.filter k.1 (right_true (same_text s.client client && same_share s.share k.0) (same_text s.filter k.1) t))
+        ∙ ap (λ (c : Text). list_any (has_key c s.share s.filter) (all_rows old))
+        (same_text-is s.client client
+        (left_true (same_text s.client client) (same_share s.share k.0) first))
+        ∙ ap (λ (sh : Option Text). list_any (has_key client sh s.filter) (all_rows old))
+        (same_share-is s.share k.0
+        (right_true (same_text s.client client) (same_share s.share k.0) first))
+        ∙ ap (λ (f : Text). list_any (has_key client k.0 f) (all_rows old))
+        (same_text-is s.filter k.1
+        (right_true (same_text s.client client && same_share s.share k.0)
+        (same_text s.filter k.1) t))
         ∙ absent
 
-pub listed-turned : (x : Subscription) (old new : AtEntries) (lists : Lists) → AreListed old lists → AreKept new → SameInTurn (all_rows new) (put_last (same_key x) (all_rows old)) → AreListed new lists
+pub listed-turned : (x : Subscription) (old new : AtEntries) (lists : Lists) → AreListed old lists
+    → AreKept new → SameInTurn (all_rows new) (put_last (same_key x) (all_rows old))
+    → AreListed new lists
 listed-turned x old new lists h kept same = record {
   kept = kept;
   listed = λ s. h.listed s ∙ sym (any-turned x s (all_rows new) (all_rows old) same);
@@ -154,64 +216,91 @@ listed-turned x old new lists h kept same = record {
 abbrev Held : Type 0
 Held = List (Key × List OwnKey)
 
-any_more : {X : Type 0} (p : X → Bool) (x : X) (xs : List X) → list_any p xs ≡ true → list_any p (x ∷ xs) ≡ true
+any_more : {X : Type 0} (p : X → Bool) (x : X) (xs : List X) → list_any p xs ≡ true
+    → list_any p (x ∷ xs) ≡ true
 any_more p x xs h = elim (p x) as (λ b. (b || list_any p xs) ≡ true) [ true ↦ refl | false ↦ h ]
 
-each_there : (rows : List Subscription) → AllByRecursion (λ s. list_any (same_key s) rows ≡ true) rows
+each_there : (rows : List Subscription)
+    → AllByRecursion (λ s. list_any (same_key s) rows ≡ true) rows
 each_there [] = tt
 each_there (x ∷ rows) = (
   ap (λ b. b || list_any (same_key x) rows) (own_key_is x),
-  all_weaker (λ (s : Subscription). list_any (same_key s) rows ≡ true) (λ s. list_any (same_key s) (x ∷ rows) ≡ true) (λ s h. any_more (same_key s) x rows h) rows (each_there rows),
+  all_weaker (λ (s : Subscription). list_any (same_key s) rows ≡ true)
+      (λ s. list_any (same_key s) (x ∷ rows) ≡ true) (λ s h. any_more (same_key s) x rows h) rows
+      (each_there rows),
 )
 
-each_listed : (old : AtEntries) (lists : Lists) → AreListed old lists → AllByRecursion (λ s. is_listed lists s ≡ true) (all_rows old)
+each_listed : (old : AtEntries) (lists : Lists) → AreListed old lists
+    → AllByRecursion (λ s. is_listed lists s ≡ true) (all_rows old)
 each_listed old lists h =
-    all_weaker (λ (s : Subscription). list_any (same_key s) (all_rows old) ≡ true) (λ s. is_listed lists s ≡ true) (λ s e. h.listed s ∙ e) (all_rows old) (each_there (all_rows old))
+    all_weaker (λ (s : Subscription). list_any (same_key s) (all_rows old) ≡ true)
+    (λ s. is_listed lists s ≡ true) (λ s e. h.listed s ∙ e) (all_rows old)
+    (each_there (all_rows old))
 
-leaving : (c : Text) (ls : Held) (v : List OwnKey) (rows : List Subscription) → lookup (finds c) ls ≡ Some v → AllByRecursion (λ s. is_listed (texts ls) s ≡ true) rows → filter (leaves c v) rows ≡ filter (λ s. not (same_text s.client c)) rows
+leaving : (c : Text) (ls : Held) (v : List OwnKey) (rows : List Subscription)
+    → lookup (finds c) ls ≡ Some v → AllByRecursion (λ s. is_listed (texts ls) s ≡ true) rows
+    → filter (leaves c v) rows ≡ filter (λ s. not (same_text s.client c)) rows
 leaving c ls v [] found h = refl
 leaving c ls v (s ∷ rows) found h =
-    ap (λ b. cond b (s ∷ filter (leaves c v) rows) (filter (leaves c v) rows)) (pick (same_text s.client c) yes no)
+    ap (λ b. cond b (s ∷ filter (leaves c v) rows) (filter (leaves c v) rows))
+    (pick (same_text s.client c) yes no)
     ∙ ap (λ l. cond (not (same_text s.client c)) (s ∷ l) l) (leaving c ls v rows found h.1)
   where
     yes : same_text s.client c ≡ true → leaves c v s ≡ not (same_text s.client c)
     yes t =
         let own : is_in_list v s ≡ true =
-        sym (ap (λ (k : Text). found_in s (lookup (is_text k) (texts ls))) (same_text-is s.client c t) ∙ ap (found_in s) (lookup-texts c ls ∙ found)) ∙ h.0 in
+        sym (ap (λ (k : Text). found_in s (lookup (is_text k) (texts ls)))
+        (same_text-is s.client c t) ∙ ap (found_in s) (lookup-texts c ls ∙ found)) ∙ h.0 in
         ap (λ b. not (same_text s.client c && b)) own ∙ ap not (and_true (same_text s.client c))
 
     no : same_text s.client c ≡ false → leaves c v s ≡ not (same_text s.client c)
     no f = ap (λ b. not (b && is_in_list v s)) f ∙ ap not (sym f)
 
-pub all-leave : (c : Text) (ls : Held) (v : List OwnKey) (old : AtEntries) → lookup (finds c) ls ≡ Some v → AreListed old (texts ls) → filter (leaves c v) (all_rows old) ≡ filter (λ s. not (same_text s.client c)) (all_rows old)
+pub all-leave : (c : Text) (ls : Held) (v : List OwnKey) (old : AtEntries)
+    → lookup (finds c) ls ≡ Some v → AreListed old (texts ls)
+    → filter (leaves c v) (all_rows old) ≡ filter (λ s. not (same_text s.client c)) (all_rows old)
 all-leave c ls v old found h = leaving c ls v (all_rows old) found (each_listed old (texts ls) h)
 
-staying : (c : Text) (ls : Held) (rows : List Subscription) → lookup (finds c) ls ≡ None → AllByRecursion (λ s. is_listed (texts ls) s ≡ true) rows → rows ≡ filter (λ s. not (same_text s.client c)) rows
+staying : (c : Text) (ls : Held) (rows : List Subscription) → lookup (finds c) ls ≡ None
+    → AllByRecursion (λ s. is_listed (texts ls) s ≡ true) rows
+    → rows ≡ filter (λ s. not (same_text s.client c)) rows
 staying c ls [] none h = refl
 staying c ls (s ∷ rows) none h =
     ap (λ l. s ∷ l) (staying c ls rows none h.1)
-    ∙ sym (ap (λ b. cond (not b) (s ∷ filter (λ r. not (same_text r.client c)) rows) (filter (λ r. not (same_text r.client c)) rows)) (pick (same_text s.client c) yes (λ f. f)))
+    ∙ sym (ap (λ b. cond (not b) (s ∷ filter (λ r. not (same_text r.client c)) rows)
+    (filter (λ r. not (same_text r.client c)) rows))
+    (pick (same_text s.client c) yes (λ f. f)))
   where
     yes : same_text s.client c ≡ true → same_text s.client c ≡ false
-    yes t = absurd (true≢false (sym h.0 ∙ ap (λ (k : Text). found_in s (lookup (is_text k) (texts ls))) (same_text-is s.client c t) ∙ ap (found_in s) (lookup-texts c ls ∙ none)))
+    yes t = absurd
+        (true≢false (sym h.0 ∙ ap (λ (k : Text). found_in s (lookup (is_text k) (texts ls)))
+        (same_text-is s.client c t) ∙ ap (found_in s) (lookup-texts c ls ∙ none)))
 
 -- where the client has no list, it has nothing
-pub none-had : (c : Text) (ls : Held) (old : AtEntries) → lookup (finds c) ls ≡ None → AreListed old (texts ls) → all_rows old ≡ filter (λ s. not (same_text s.client c)) (all_rows old)
+pub none-had : (c : Text) (ls : Held) (old : AtEntries) → lookup (finds c) ls ≡ None
+    → AreListed old (texts ls) → all_rows old
+    ≡ filter (λ s. not (same_text s.client c)) (all_rows old)
 none-had c ls old none h = staying c ls (all_rows old) none (each_listed old (texts ls) h)
 
 others : (a b o : Bool) → a ≡ b → (if a then false else o) ≡ (not b && o)
 others true b o e = ap (λ v. not v && o) e
 others false b o e = ap (λ v. not v && o) e
 
-pub listed-gone : (c : Text) (ls : Held) → IsStrictlySortedBy key_cmp (keys_of ls) → (v : List OwnKey) (out : Held) → lookup (finds c) ls ≡ Some v → out ≡ remove_entry (finds c) ls → (old new : AtEntries) → AreListed old (texts ls) → AreKept new → all_rows new ≡ filter (λ s. not (same_text s.client c)) (all_rows old) → AreListed new (texts out)
+pub listed-gone : (c : Text) (ls : Held) → IsStrictlySortedBy key_cmp (keys_of ls)
+    → (v : List OwnKey) (out : Held) → lookup (finds c) ls ≡ Some v
+    → out ≡ remove_entry (finds c) ls → (old new : AtEntries) → AreListed old (texts ls)
+    → AreKept new → all_rows new ≡ filter (λ s. not (same_text s.client c)) (all_rows old)
+    → AreListed new (texts out)
 listed-gone c ls sorted v out found gone old new h kept rows =
     let same : ls ≡ set_value (finds c) ls v = sym (set_same (finds c) ls v found) in
     record {
       kept = kept;
       listed = λ s.
           list-out c ls sorted v v ls found same out gone s
-          ∙ others (is_text s.client c) (same_text s.client c) (is_listed (texts ls) s) (is_text-is s.client c)
+          ∙ others (is_text s.client c) (same_text s.client c) (is_listed (texts ls) s)
+          (is_text-is s.client c)
           ∙ ap (λ b. not (same_text s.client c) && b) (h.listed s)
-          ∙ sym (any-left (λ k sh f. same_text k c) s (all_rows old)) ∙ ap (list_any (same_key s)) (sym rows);
+          ∙ sym (any-left (λ k sh f. same_text k c) s (all_rows old))
+          ∙ ap (list_any (same_key s)) (sym rows);
       live = live-out c ls v ls out same gone h.live;
     }

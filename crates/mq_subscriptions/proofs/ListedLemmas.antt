@@ -1,5 +1,7 @@
 -- What each client has, listed beside the tree.
-use Rattle.std.proofs.Common.{◌≡◌, Bool, true, false, true≢false, cond, ◌&&◌, ◌||◌, not, List, [], ◌∷◌, ◌++◌, Option, Some, None, if◌then◌else◌, refl, sym, ◌∙◌, ap, subst}
+use Rattle.std.proofs.Common.{◌≡◌, Bool, true, false, true≢false, cond, ◌&&◌, ◌||◌, not, List, []}
+use Rattle.std.proofs.Common.{◌∷◌, ◌++◌, Option, Some, None, if◌then◌else◌, refl, sym, ◌∙◌, ap}
+use Rattle.std.proofs.Common.{subst}
 use Rattle.std.specs.Rc.{rc_str_bytes}
 use Rattle.std.specs.Option.{option_map_or}
 use Rattle.std.specs.List.{filter, AllByRecursion}
@@ -16,7 +18,9 @@ use Rattle.mq_world.proofs.SameLemmas.{filter-filter}
 use Rattle.mq_sessions.proofs.SessionLemmas.{finds}
 use Rattle.mq_world.proofs.OrderLemmas.{all_append}
 use Rattle.mq_world.proofs.BoolLemmas.{and_assoc, pick, left_true}
-use Rattle.mq_subscriptions.proofs.TextMaps.{is_text-is, text-apart, lookup-texts, set_value-texts, remove_entry-texts, insert_entry-texts, ordered-texts, key_text}
+use Rattle.mq_subscriptions.proofs.TextMaps.{is_text-is, text-apart, lookup-texts, set_value-texts}
+use Rattle.mq_subscriptions.proofs.TextMaps.{remove_entry-texts, insert_entry-texts, ordered-texts}
+use Rattle.mq_subscriptions.proofs.TextMaps.{key_text}
 use Rattle.mq_world.proofs.Splits.{Split, split, Put, put_gap, lookup-front, lookup-more, lookup-at}
 use Rattle.mq_world.proofs.OrderLemmas.{same_text-is, same_text-itself}
 use Rattle.mq_subscriptions.proofs.AtLemmas.{same_share-itself, nothing}
@@ -33,7 +37,8 @@ leaves c list s = not (same_text s.client c && is_in_list list s)
 
 all_kept : {X : Type 0} (q : X → Bool) → ((x : X) → q x ≡ true) → (xs : List X) → filter q xs ≡ xs
 all_kept q h [] = refl
-all_kept q h (x ∷ xs) = ap (λ b. cond b (x ∷ filter q xs) (filter q xs)) (h x) ∙ ap (λ l. x ∷ l) (all_kept q h xs)
+all_kept q h (x ∷ xs) = ap (λ b. cond b (x ∷ filter q xs) (filter q xs)) (h x)
+    ∙ ap (λ l. x ∷ l) (all_kept q h xs)
 
 nothing_leaves : (a : Bool) → not (a && false) ≡ true
 nothing_leaves true = refl
@@ -48,96 +53,138 @@ one_more true l true true = refl
 one_more true l true false = refl
 one_more true l false f = refl
 
-pub one-leaves : (c : Text) (k : OwnKey) (list : List OwnKey) (rows : List Subscription) → filter (leaves c list) (filter (λ s. not (has_key c k.0 k.1 s)) rows) ≡ filter (leaves c (k ∷ list)) rows
+pub one-leaves : (c : Text) (k : OwnKey) (list : List OwnKey) (rows : List Subscription)
+    → filter (leaves c list) (filter (λ s. not (has_key c k.0 k.1 s)) rows)
+    ≡ filter (leaves c (k ∷ list)) rows
 one-leaves c k list rows =
     filter-filter (leaves c list) (λ s. not (has_key c k.0 k.1 s)) rows
     ∙ filter-same (λ s. not (has_key c k.0 k.1 s) && leaves c list s) (leaves c (k ∷ list))
-    (λ s. one_more (same_text s.client c) (is_in_list list s) (same_share s.share k.0) (same_text s.filter k.1)) rows
+    (λ s. one_more (same_text s.client c) (is_in_list list s) (same_share s.share k.0)
+    (same_text s.filter k.1)) rows
 
 -- ## The list of a client becomes another
 
 abbrev pub found_in : Subscription → Option (List OwnKey) → Bool
 found_in s o = option_map_or (λ list. is_in_list list s) o false
 
-none_found : {X : Type 0} (test : Text → Bool) (es : List (Text × X)) → AllByRecursion (λ (e : Text × X). test e.0 ≡ false) es → lookup test es ≡ None
+none_found : {X : Type 0} (test : Text → Bool) (es : List (Text × X))
+    → AllByRecursion (λ (e : Text × X). test e.0 ≡ false) es → lookup test es ≡ None
 none_found test [] h = refl
-none_found test (e ∷ es) h = ap (λ b. cond b (Some e.1) (lookup test es)) h.0 ∙ none_found test es h.1
+none_found test (e ∷ es) h = ap (λ b. cond b (Some e.1) (lookup test es)) h.0
+    ∙ none_found test es h.1
 
 module _ (bs : Text) (ls : List (Key × List OwnKey)) where
   abbrev mine : Subscription → Bool
   mine s = is_text s.client bs
 
-  module _ (sorted : IsStrictlySortedBy key_cmp (keys_of ls)) (v w : List OwnKey) (new : List (Key × List OwnKey)) (found : lookup (finds bs) ls ≡ Some v) (set : new ≡ set_value (finds bs) ls w) where
+  module _ (sorted : IsStrictlySortedBy key_cmp (keys_of ls)) (v w : List OwnKey)
+      (new : List (Key × List OwnKey)) (found : lookup (finds bs) ls ≡ Some v)
+      (set : new ≡ set_value (finds bs) ls w) where
     cut : Split (is_text bs) (texts ls) v
-    cut = split text_cmp (is_text bs) (text-apart bs) (texts ls) v (ordered-texts ls sorted) (lookup-texts bs ls ∙ found)
+    cut = split text_cmp (is_text bs) (text-apart bs) (texts ls) v (ordered-texts ls sorted)
+        (lookup-texts bs ls ∙ found)
 
     key : cut.key ≡ bs
     key = sym (key_text bs cut.key cut.passes)
 
-    at_mine : (s : Subscription) (u : List OwnKey) → mine s ≡ true → lookup (is_text s.client) (cut.front ++ (cut.key, u) ∷ cut.back) ≡ Some u
+    at_mine : (s : Subscription) (u : List OwnKey) → mine s ≡ true
+        → lookup (is_text s.client) (cut.front ++ (cut.key, u) ∷ cut.back) ≡ Some u
     at_mine s u h =
         let same : s.client ≡ bs = key_text s.client bs h in
         lookup-at (is_text s.client) cut.front cut.back cut.key u
-        (subst (λ (c : Text). AllByRecursion (λ (e : Text × List OwnKey). is_text c e.0 ≡ false) cut.front) (sym same) cut.before)
+        (subst (λ (c : Text). AllByRecursion (λ (e : Text × List OwnKey). is_text c e.0 ≡ false)
+        cut.front) (sym same) cut.before)
         (subst (λ (c : Text). is_text c cut.key ≡ true) (sym same) cut.passes)
 
     -- of the client what it had, of others what they had
-    list-had : (s : Subscription) → is_listed (texts ls) s ≡ (if mine s then is_in_list v s else is_listed (texts ls) s)
+    list-had : (s : Subscription) → is_listed (texts ls) s
+        ≡ (if mine s then is_in_list v s else is_listed (texts ls) s)
     list-had s =
         pick (mine s)
-        (λ t. ap (λ l. found_in s (lookup (is_text s.client) l)) cut.is ∙ ap (found_in s) (at_mine s v t) ∙ sym (ap (λ b. if b then is_in_list v s else is_listed (texts ls) s) t))
+        (λ t. ap (λ l. found_in s (lookup (is_text s.client) l)) cut.is
+        ∙ ap (found_in s) (at_mine s v t)
+        ∙ sym (ap (λ b. if b then is_in_list v s else is_listed (texts ls) s) t))
         (λ f. sym (ap (λ b. if b then is_in_list v s else is_listed (texts ls) s) f))
 
-    list-set : (s : Subscription) → is_listed (texts new) s ≡ (if mine s then is_in_list w s else is_listed (texts ls) s)
+    list-set : (s : Subscription) → is_listed (texts new) s
+        ≡ (if mine s then is_in_list w s else is_listed (texts ls) s)
     list-set s =
-        ap (λ l. found_in s (lookup (is_text s.client) l)) (ap texts set ∙ set_value-texts bs ls w ∙ cut.set w)
+        ap (λ l. found_in s (lookup (is_text s.client) l))
+        (ap texts set ∙ set_value-texts bs ls w ∙ cut.set w)
         ∙ pick (mine s)
-        (λ t. ap (found_in s) (at_mine s w t) ∙ sym (ap (λ b. if b then is_in_list w s else is_listed (texts ls) s) t))
-        (λ f. ap (found_in s) (lookup-front (is_text s.client) cut.front cut.back cut.key w v (ap (is_text s.client) key ∙ f)) ∙ sym (ap (λ l. found_in s (lookup (is_text s.client) l)) cut.is)
+        (λ t. ap (found_in s) (at_mine s w t)
+        ∙ sym (ap (λ b. if b then is_in_list w s else is_listed (texts ls) s) t))
+        (λ f. ap (found_in s) (lookup-front (is_text s.client) cut.front cut.back cut.key w v
+        (ap (is_text s.client) key ∙ f))
+        ∙ sym (ap (λ l. found_in s (lookup (is_text s.client) l)) cut.is)
         ∙ sym (ap (λ b. if b then is_in_list w s else is_listed (texts ls) s) f))
 
-    pub list-out : (out : List (Key × List OwnKey)) → out ≡ remove_entry (finds bs) new → (s : Subscription) → is_listed (texts out) s ≡ (if mine s then false else is_listed (texts ls) s)
+    pub list-out : (out : List (Key × List OwnKey)) → out ≡ remove_entry (finds bs) new
+        → (s : Subscription) → is_listed (texts out) s
+        ≡ (if mine s then false else is_listed (texts ls) s)
     list-out out gone s =
-        ap (λ l. found_in s (lookup (is_text s.client) l)) (ap texts (gone ∙ ap (remove_entry (finds bs)) set) ∙ remove_entry-texts bs (set_value (finds bs) ls w) ∙ ap (remove_entry (is_text bs)) (set_value-texts bs ls w) ∙ cut.out w)
+        ap (λ l. found_in s (lookup (is_text s.client) l))
+        (ap texts (gone ∙ ap (remove_entry (finds bs)) set)
+        ∙ remove_entry-texts bs (set_value (finds bs) ls w)
+        ∙ ap (remove_entry (is_text bs)) (set_value-texts bs ls w) ∙ cut.out w)
         ∙ pick (mine s)
         (λ t. (let same : s.client ≡ bs = key_text s.client bs t in
         ap (λ (c : Text). found_in s (lookup (is_text c) (cut.front ++ cut.back))) same
-        ∙ ap (found_in s) (none_found (is_text bs) (cut.front ++ cut.back) (all_append (λ (e : Text × List OwnKey). is_text bs e.0 ≡ false) cut.front cut.back cut.before cut.behind))
+        ∙ ap (found_in s) (none_found (is_text bs) (cut.front ++ cut.back)
+        (all_append (λ (e : Text × List OwnKey). is_text bs e.0 ≡ false) cut.front cut.back
+        cut.before cut.behind))
         ∙ sym (ap (λ b. if b then false else is_listed (texts ls) s) t)))
-        (λ f. ap (found_in s) (sym (lookup-more (is_text s.client) cut.front cut.back cut.key v (ap (is_text s.client) key ∙ f))) ∙ sym (ap (λ l. found_in s (lookup (is_text s.client) l)) cut.is)
+        (λ f. ap (found_in s)
+        (sym (lookup-more (is_text s.client) cut.front cut.back cut.key v
+        (ap (is_text s.client) key ∙ f)))
+        ∙ sym (ap (λ l. found_in s (lookup (is_text s.client) l)) cut.is)
         ∙ sym (ap (λ b. if b then false else is_listed (texts ls) s) f))
 
-  module _ (name : Key) (named : rc_str_bytes name ≡ bs) (none : lookup (is_text bs) (texts ls) ≡ None) (w : List OwnKey) (new : List (Key × List OwnKey)) (put : new ≡ insert_entry key_cmp ls name w) where
+  module _ (name : Key) (named : rc_str_bytes name ≡ bs)
+      (none : lookup (is_text bs) (texts ls) ≡ None) (w : List OwnKey)
+      (new : List (Key × List OwnKey)) (put : new ≡ insert_entry key_cmp ls name w) where
     gap : Put text_cmp bs (texts ls)
     gap = put_gap text_cmp bs (texts ls) none
 
-    list-none : (s : Subscription) → is_listed (texts ls) s ≡ (if mine s then false else is_listed (texts ls) s)
+    list-none : (s : Subscription) → is_listed (texts ls) s
+        ≡ (if mine s then false else is_listed (texts ls) s)
     list-none s =
         pick (mine s)
-        (λ t. ap (λ (c : Text). found_in s (lookup (is_text c) (texts ls))) (key_text s.client bs t) ∙ ap (found_in s) none ∙ sym (ap (λ b. if b then false else is_listed (texts ls) s) t))
+        (λ t. ap (λ (c : Text). found_in s (lookup (is_text c) (texts ls))) (key_text s.client bs t)
+        ∙ ap (found_in s) none
+        ∙ sym (ap (λ b. if b then false else is_listed (texts ls) s) t))
         (λ f. sym (ap (λ b. if b then false else is_listed (texts ls) s) f))
 
-    list-begun : (s : Subscription) → is_listed (texts new) s ≡ (if mine s then is_in_list w s else is_listed (texts ls) s)
+    list-begun : (s : Subscription) → is_listed (texts new) s
+        ≡ (if mine s then is_in_list w s else is_listed (texts ls) s)
     list-begun s =
-        ap (λ l. found_in s (lookup (is_text s.client) l)) (ap texts put ∙ insert_entry-texts ls name w ∙ ap (λ k. insert_entry text_cmp (texts ls) k w) named ∙ gap.put w)
+        ap (λ l. found_in s (lookup (is_text s.client) l))
+        (ap texts put ∙ insert_entry-texts ls name w
+        ∙ ap (λ k. insert_entry text_cmp (texts ls) k w) named ∙ gap.put w)
         ∙ pick (mine s)
         (λ t. (let same : s.client ≡ bs = key_text s.client bs t in
         ap (found_in s) (lookup-at (is_text s.client) gap.gap.front gap.gap.back bs w
-        (subst (λ (c : Text). AllByRecursion (λ (e : Text × List OwnKey). is_text c e.0 ≡ false) gap.gap.front) (sym same) gap.gap.before) t)
+        (subst (λ (c : Text). AllByRecursion (λ (e : Text × List OwnKey). is_text c e.0 ≡ false)
+        gap.gap.front) (sym same) gap.gap.before) t)
         ∙ sym (ap (λ b. if b then is_in_list w s else is_listed (texts ls) s) t)))
-        (λ f. ap (found_in s) (lookup-more (is_text s.client) gap.gap.front gap.gap.back bs w f) ∙ sym (ap (λ l. found_in s (lookup (is_text s.client) l)) gap.gap.is)
+        (λ f. ap (found_in s) (lookup-more (is_text s.client) gap.gap.front gap.gap.back bs w f)
+        ∙ sym (ap (λ l. found_in s (lookup (is_text s.client) l)) gap.gap.is)
         ∙ sym (ap (λ b. if b then is_in_list w s else is_listed (texts ls) s) f))
 
 -- ## A key joins and leaves
 
-key_by : (bs : Text) (k : OwnKey) (s : Subscription) → (is_text s.client bs && is_own s k) ≡ has_key bs k.0 k.1 s
-key_by bs k s = ap (λ b. b && is_own s k) (is_text-is s.client bs) ∙ and_assoc (same_text s.client bs) (same_share s.share k.0) (same_text s.filter k.1)
+key_by : (bs : Text) (k : OwnKey) (s : Subscription)
+    → (is_text s.client bs && is_own s k) ≡ has_key bs k.0 k.1 s
+key_by bs k s = ap (λ b. b && is_own s k) (is_text-is s.client bs)
+    ∙ and_assoc (same_text s.client bs) (same_share s.share k.0) (same_text s.filter k.1)
 
-add_case : (t own v old : Bool) → old ≡ (if t then v else old) → (if t then own || v else old) ≡ ((t && own) || old)
+add_case : (t own v old : Bool) → old ≡ (if t then v else old)
+    → (if t then own || v else old) ≡ ((t && own) || old)
 add_case true own v old e = ap (λ b. own || b) (sym e)
 add_case false own v old e = refl
 
-drop_case : (t own v old : Bool) → old ≡ (if t then v else old) → (if t then not own && v else old) ≡ (not (t && own) && old)
+drop_case : (t own v old : Bool) → old ≡ (if t then v else old)
+    → (if t then not own && v else old) ≡ (not (t && own) && old)
 drop_case true own v old e = ap (λ b. not own && b) (sym e)
 drop_case false own v old e = refl
 
@@ -145,55 +192,81 @@ abbrev Adds : Text → OwnKey → Lists → Lists → Type 0
 Adds bs k old new = (s : Subscription) → is_listed new s ≡ (has_key bs k.0 k.1 s || is_listed old s)
 
 abbrev Drops : Text → OwnKey → Lists → Lists → Type 0
-Drops bs k old new = (s : Subscription) → is_listed new s ≡ (not (has_key bs k.0 k.1 s) && is_listed old s)
+Drops bs k old new = (s : Subscription) → is_listed new s
+    ≡ (not (has_key bs k.0 k.1 s) && is_listed old s)
 
-module _ (bs : Text) (k : OwnKey) (ls : List (Key × List OwnKey)) (sorted : IsStrictlySortedBy key_cmp (keys_of ls)) (v w : List OwnKey) (new : List (Key × List OwnKey)) (found : lookup (finds bs) ls ≡ Some v) (set : new ≡ set_value (finds bs) ls w) where
-  pub added-there : ((s : Subscription) → is_in_list w s ≡ (is_own s k || is_in_list v s)) → Adds bs k (texts ls) (texts new)
+module _ (bs : Text) (k : OwnKey) (ls : List (Key × List OwnKey))
+    (sorted : IsStrictlySortedBy key_cmp (keys_of ls)) (v w : List OwnKey)
+    (new : List (Key × List OwnKey)) (found : lookup (finds bs) ls ≡ Some v)
+    (set : new ≡ set_value (finds bs) ls w) where
+  pub added-there : ((s : Subscription) → is_in_list w s ≡ (is_own s k || is_in_list v s))
+      → Adds bs k (texts ls) (texts new)
   added-there adds s =
       list-set bs ls sorted v w new found set s
       ∙ ap (λ b. if is_text s.client bs then b else is_listed (texts ls) s) (adds s)
-      ∙ add_case (is_text s.client bs) (is_own s k) (is_in_list v s) (is_listed (texts ls) s) (list-had bs ls sorted v w new found set s)
+      ∙ add_case (is_text s.client bs) (is_own s k) (is_in_list v s) (is_listed (texts ls) s)
+      (list-had bs ls sorted v w new found set s)
       ∙ ap (λ b. b || is_listed (texts ls) s) (key_by bs k s)
 
-  pub dropped-there : ((s : Subscription) → is_in_list w s ≡ (not (is_own s k) && is_in_list v s)) → Drops bs k (texts ls) (texts new)
+  pub dropped-there : ((s : Subscription) → is_in_list w s ≡ (not (is_own s k) && is_in_list v s))
+      → Drops bs k (texts ls) (texts new)
   dropped-there drops s =
       list-set bs ls sorted v w new found set s
       ∙ ap (λ b. if is_text s.client bs then b else is_listed (texts ls) s) (drops s)
-      ∙ drop_case (is_text s.client bs) (is_own s k) (is_in_list v s) (is_listed (texts ls) s) (list-had bs ls sorted v w new found set s)
+      ∙ drop_case (is_text s.client bs) (is_own s k) (is_in_list v s) (is_listed (texts ls) s)
+      (list-had bs ls sorted v w new found set s)
       ∙ ap (λ b. not b && is_listed (texts ls) s) (key_by bs k s)
 
-  pub dropped-last : (out : List (Key × List OwnKey)) → out ≡ remove_entry (finds bs) new → is_empty w ≡ true → ((s : Subscription) → is_in_list w s ≡ (not (is_own s k) && is_in_list v s)) → Drops bs k (texts ls) (texts out)
+  pub dropped-last : (out : List (Key × List OwnKey)) → out ≡ remove_entry (finds bs) new
+      → is_empty w ≡ true
+      → ((s : Subscription) → is_in_list w s ≡ (not (is_own s k) && is_in_list v s))
+      → Drops bs k (texts ls) (texts out)
   dropped-last out gone bare drops s =
       list-out bs ls sorted v w new found set out gone s
-      ∙ ap (λ b. if is_text s.client bs then b else is_listed (texts ls) s) (nothing_in w bare ∙ drops s)
-      ∙ drop_case (is_text s.client bs) (is_own s k) (is_in_list v s) (is_listed (texts ls) s) (list-had bs ls sorted v w new found set s)
+      ∙ ap (λ b. if is_text s.client bs then b else is_listed (texts ls) s)
+      (nothing_in w bare ∙ drops s)
+      ∙ drop_case (is_text s.client bs) (is_own s k) (is_in_list v s) (is_listed (texts ls) s)
+      (list-had bs ls sorted v w new found set s)
       ∙ ap (λ b. not b && is_listed (texts ls) s) (key_by bs k s)
     where
       nothing_in : (l : List OwnKey) → is_empty l ≡ true → false ≡ is_in_list l s
       nothing_in [] h = refl
       nothing_in (x ∷ l) h = absurd (true≢false (sym h))
 
-pub added-first : (bs : Text) (k : OwnKey) (ls : List (Key × List OwnKey)) (name : Key) → rc_str_bytes name ≡ bs → lookup (is_text bs) (texts ls) ≡ None → (w : List OwnKey) (new : List (Key × List OwnKey)) → new ≡ insert_entry key_cmp ls name w → ((s : Subscription) → is_in_list w s ≡ (is_own s k || false)) → Adds bs k (texts ls) (texts new)
+pub added-first : (bs : Text) (k : OwnKey) (ls : List (Key × List OwnKey)) (name : Key)
+    → rc_str_bytes name ≡ bs → lookup (is_text bs) (texts ls) ≡ None
+    → (w : List OwnKey) (new : List (Key × List OwnKey)) → new ≡ insert_entry key_cmp ls name w
+    → ((s : Subscription) → is_in_list w s ≡ (is_own s k || false))
+    → Adds bs k (texts ls) (texts new)
 added-first bs k ls name named none w new put adds s =
     list-begun bs ls name named none w new put s
     ∙ ap (λ b. if is_text s.client bs then b else is_listed (texts ls) s) (adds s)
-    ∙ add_case (is_text s.client bs) (is_own s k) false (is_listed (texts ls) s) (list-none bs ls name named none w new put s)
+    ∙ add_case (is_text s.client bs) (is_own s k) false (is_listed (texts ls) s)
+    (list-none bs ls name named none w new put s)
     ∙ ap (λ b. b || is_listed (texts ls) s) (key_by bs k s)
 
 -- where the client has nothing, it has no such key
-pub dropped-absent : (bs : Text) (k : OwnKey) (ls : List (Key × List OwnKey)) → lookup (finds bs) ls ≡ None → Drops bs k (texts ls) (texts ls)
+pub dropped-absent : (bs : Text) (k : OwnKey) (ls : List (Key × List OwnKey))
+    → lookup (finds bs) ls ≡ None → Drops bs k (texts ls) (texts ls)
 dropped-absent bs k ls none s =
     pick (has_key bs k.0 k.1 s)
-    (λ t. (let client : s.client ≡ bs = same_text-is s.client bs (left_true _ _ (left_true (same_text s.client bs && same_share s.share k.0) (same_text s.filter k.1) t)) in
-    ap (λ (c : Text). found_in s (lookup (is_text c) (texts ls))) client ∙ ap (found_in s) (lookup-texts bs ls ∙ none)
+    (λ t. (let client : s.client ≡ bs =
+    same_text-is s.client bs
+    (left_true _ _ (left_true (same_text s.client bs && same_share s.share k.0)
+    (same_text s.filter k.1) t)) in
+    ap (λ (c : Text). found_in s (lookup (is_text c) (texts ls))) client
+    ∙ ap (found_in s) (lookup-texts bs ls ∙ none)
     ∙ sym (ap (λ b. not b && is_listed (texts ls) s) t)))
     (λ f. sym (ap (λ b. not b && is_listed (texts ls) s) f))
 
 -- a list with a key is not empty
-pub added-live : (k : OwnKey) (v w : List OwnKey) → ((s : Subscription) → is_in_list w s ≡ (is_own s k || is_in_list v s)) → is_empty w ≡ false
+pub added-live : (k : OwnKey) (v w : List OwnKey)
+    → ((s : Subscription) → is_in_list w s ≡ (is_own s k || is_in_list v s)) → is_empty w ≡ false
 added-live k v [] adds =
     let s : Subscription = record { client = []; share = k.0; filter = k.1; options = nothing } in
-    absurd (true≢false (sym (adds s ∙ ap (λ b. b || is_in_list v s) (ap (λ b. b && same_text k.1 k.1) (same_share-itself k.0) ∙ same_text-itself k.1))))
+    absurd (true≢false
+    (sym (adds s ∙ ap (λ b. b || is_in_list v s)
+    (ap (λ b. b && same_text k.1 k.1) (same_share-itself k.0) ∙ same_text-itself k.1))))
 added-live k v (x ∷ w) adds = refl
 
 -- ## No list is empty
@@ -201,36 +274,57 @@ added-live k v (x ∷ w) adds = refl
 abbrev AreLive : {K : Type 0} → List (K × List OwnKey) → Type 0
 AreLive {K} es = AllByRecursion (λ (e : K × List OwnKey). is_empty e.1 ≡ false) es
 
-set-live : (test : Text → Bool) (es : Lists) (w : List OwnKey) → is_empty w ≡ false → AreLive es → AreLive (set_value test es w)
+set-live : (test : Text → Bool) (es : Lists) (w : List OwnKey) → is_empty w ≡ false → AreLive es
+    → AreLive (set_value test es w)
 set-live test [] w h a = tt
 set-live test (e ∷ es) w h a =
-    elim (test e.0) as (λ b. AreLive (cond b ((e.0, w) ∷ es) (e ∷ set_value test es w))) [ true ↦ (h, a.1) | false ↦ (a.0, set-live test es w h a.1) ]
+    elim (test e.0) as (λ b. AreLive (cond b ((e.0, w) ∷ es) (e ∷ set_value test es w)))
+    [ true ↦ (h, a.1) | false ↦ (a.0, set-live test es w h a.1) ]
 
-out-live : (test : Text → Bool) (es : Lists) (w : List OwnKey) → AreLive es → AreLive (remove_entry test (set_value test es w))
+out-live : (test : Text → Bool) (es : Lists) (w : List OwnKey) → AreLive es
+    → AreLive (remove_entry test (set_value test es w))
 out-live test [] w a = tt
 out-live test (e ∷ es) w a =
-    let P : Bool → Type 0 = λ b. test e.0 ≡ b → AreLive (remove_entry test (cond b ((e.0, w) ∷ es) (e ∷ set_value test es w))) in
+    let P : Bool → Type 0 = λ b. test e.0 ≡ b
+    → AreLive (remove_entry test (cond b ((e.0, w) ∷ es) (e ∷ set_value test es w))) in
     (elim (test e.0) as P [
       | true ↦ λ t. subst (λ b. AreLive (cond b es ((e.0, w) ∷ remove_entry test es))) (sym t) a.1
-      | false ↦ λ t. subst (λ b. AreLive (cond b (set_value test es w) (e ∷ remove_entry test (set_value test es w)))) (sym t) (a.0, out-live test es w a.1)
+      | false ↦ λ t. subst
+          (λ b. AreLive (cond b (set_value test es w)
+          (e ∷ remove_entry test (set_value test es w)))) (sym t) (a.0, out-live test es w a.1)
     ]) refl
 
-insert-live : (bs : Text) (es : Lists) (w : List OwnKey) → is_empty w ≡ false → AreLive es → AreLive (insert_entry text_cmp es bs w)
+insert-live : (bs : Text) (es : Lists) (w : List OwnKey) → is_empty w ≡ false → AreLive es
+    → AreLive (insert_entry text_cmp es bs w)
 insert-live bs [] w h a = (h, tt)
 insert-live bs (e ∷ es) w h a =
-    elim (text_cmp bs e.0) as (λ r. AreLive (match_ordering r ((bs, w) ∷ e ∷ es) ((e.0, w) ∷ es) (e ∷ insert_entry text_cmp es bs w))) [
+    elim (text_cmp bs e.0)
+    as (λ r. AreLive (match_ordering r ((bs, w) ∷ e ∷ es) ((e.0, w) ∷ es)
+    (e ∷ insert_entry text_cmp es bs w))) [
       | Less ↦ (h, a)
       | Equal ↦ (h, a.1)
       | Greater ↦ (a.0, insert-live bs es w h a.1)
     ]
 
-pub live-set : (bs : Text) (ls : List (Key × List OwnKey)) (w : List OwnKey) (new : List (Key × List OwnKey)) → new ≡ set_value (finds bs) ls w → is_empty w ≡ false → AreLive (texts ls) → AreLive (texts new)
-live-set bs ls w new set h a = subst (λ (l : Lists). AreLive l) (sym (ap texts set ∙ set_value-texts bs ls w)) (set-live (is_text bs) (texts ls) w h a)
+pub live-set : (bs : Text) (ls : List (Key × List OwnKey)) (w : List OwnKey)
+    (new : List (Key × List OwnKey)) → new ≡ set_value (finds bs) ls w → is_empty w ≡ false
+    → AreLive (texts ls) → AreLive (texts new)
+live-set bs ls w new set h a = subst (λ (l : Lists). AreLive l)
+    (sym (ap texts set ∙ set_value-texts bs ls w)) (set-live (is_text bs) (texts ls) w h a)
 
-pub live-out : (bs : Text) (ls : List (Key × List OwnKey)) (w : List OwnKey) (new out : List (Key × List OwnKey)) → new ≡ set_value (finds bs) ls w → out ≡ remove_entry (finds bs) new → AreLive (texts ls) → AreLive (texts out)
+pub live-out : (bs : Text) (ls : List (Key × List OwnKey)) (w : List OwnKey)
+    (new out : List (Key × List OwnKey)) → new ≡ set_value (finds bs) ls w
+    → out ≡ remove_entry (finds bs) new → AreLive (texts ls) → AreLive (texts out)
 live-out bs ls w new out set gone a =
-    subst (λ (l : Lists). AreLive l) (sym (ap texts (gone ∙ ap (remove_entry (finds bs)) set) ∙ remove_entry-texts bs (set_value (finds bs) ls w) ∙ ap (remove_entry (is_text bs)) (set_value-texts bs ls w)))
+    subst (λ (l : Lists). AreLive l)
+    (sym (ap texts (gone ∙ ap (remove_entry (finds bs)) set)
+    ∙ remove_entry-texts bs (set_value (finds bs) ls w)
+    ∙ ap (remove_entry (is_text bs)) (set_value-texts bs ls w)))
     (out-live (is_text bs) (texts ls) w a)
 
-pub live-begun : (ls : List (Key × List OwnKey)) (name : Key) (w : List OwnKey) (new : List (Key × List OwnKey)) → new ≡ insert_entry key_cmp ls name w → is_empty w ≡ false → AreLive (texts ls) → AreLive (texts new)
-live-begun ls name w new put h a = subst (λ (l : Lists). AreLive l) (sym (ap texts put ∙ insert_entry-texts ls name w)) (insert-live (rc_str_bytes name) (texts ls) w h a)
+pub live-begun : (ls : List (Key × List OwnKey)) (name : Key) (w : List OwnKey)
+    (new : List (Key × List OwnKey)) → new ≡ insert_entry key_cmp ls name w → is_empty w ≡ false
+    → AreLive (texts ls) → AreLive (texts new)
+live-begun ls name w new put h a =
+    subst (λ (l : Lists). AreLive l) (sym (ap texts put ∙ insert_entry-texts ls name w))
+    (insert-live (rc_str_bytes name) (texts ls) w h a)

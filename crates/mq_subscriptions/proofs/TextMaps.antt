@@ -27,43 +27,57 @@ pub text-apart : (bs x y : Text) → is_text bs x ≡ true → text_cmp x y ≡ 
 text-apart bs x y h less = ap is_eq (nat_list_cmp_total.congr bs x y (equal_from _ h) ∙ less)
 
 module _ {X : Type 0} where
-  pub lookup-texts : (bs : Text) (es : List (Key × X)) → lookup (is_text bs) (texts es) ≡ lookup (finds bs) es
+  pub lookup-texts : (bs : Text) (es : List (Key × X))
+      → lookup (is_text bs) (texts es) ≡ lookup (finds bs) es
   lookup-texts bs [] = refl
   lookup-texts bs (e ∷ es) = ap (cond (finds bs e.0) (Some e.1)) (lookup-texts bs es)
 
-  pub set_value-texts : (bs : Text) (es : List (Key × X)) (w : X) → texts (set_value (finds bs) es w) ≡ set_value (is_text bs) (texts es) w
+  pub set_value-texts : (bs : Text) (es : List (Key × X)) (w : X)
+      → texts (set_value (finds bs) es w) ≡ set_value (is_text bs) (texts es) w
   set_value-texts bs [] w = refl
   set_value-texts bs (e ∷ es) w =
       let rest = set_value-texts bs es w in
-      elim (finds bs e.0) as (λ b. texts (cond b ((e.0, w) ∷ es) (e ∷ set_value (finds bs) es w)) ≡ cond b ((rc_str_bytes e.0, w) ∷ texts es) ((rc_str_bytes e.0, e.1) ∷ set_value (is_text bs) (texts es) w)) [
+      elim (finds bs e.0) as (λ b. texts (cond b ((e.0, w) ∷ es) (e ∷ set_value (finds bs) es w))
+      ≡ cond b ((rc_str_bytes e.0, w) ∷ texts es)
+      ((rc_str_bytes e.0, e.1) ∷ set_value (is_text bs) (texts es) w)) [
         | true ↦ refl
         | false ↦ ap (λ l. (rc_str_bytes e.0, e.1) ∷ l) rest
       ]
 
-  pub remove_entry-texts : (bs : Text) (es : List (Key × X)) → texts (remove_entry (finds bs) es) ≡ remove_entry (is_text bs) (texts es)
+  pub remove_entry-texts : (bs : Text) (es : List (Key × X))
+      → texts (remove_entry (finds bs) es) ≡ remove_entry (is_text bs) (texts es)
   remove_entry-texts bs [] = refl
   remove_entry-texts bs (e ∷ es) =
       let rest = remove_entry-texts bs es in
-      elim (finds bs e.0) as (λ b. texts (cond b es (e ∷ remove_entry (finds bs) es)) ≡ cond b (texts es) ((rc_str_bytes e.0, e.1) ∷ remove_entry (is_text bs) (texts es))) [
+      elim (finds bs e.0) as (λ b. texts (cond b es (e ∷ remove_entry (finds bs) es))
+      ≡ cond b (texts es) ((rc_str_bytes e.0, e.1) ∷ remove_entry (is_text bs) (texts es))) [
         | true ↦ refl
         | false ↦ ap (λ l. (rc_str_bytes e.0, e.1) ∷ l) rest
       ]
 
-  pub insert_entry-texts : (es : List (Key × X)) (k : Key) (v : X) → texts (insert_entry key_cmp es k v) ≡ insert_entry text_cmp (texts es) (rc_str_bytes k) v
+  pub insert_entry-texts : (es : List (Key × X)) (k : Key) (v : X)
+      → texts (insert_entry key_cmp es k v) ≡ insert_entry text_cmp (texts es) (rc_str_bytes k) v
   insert_entry-texts [] k v = refl
   insert_entry-texts (e ∷ es) k v =
       let rest = insert_entry-texts es k v in
-      elim (key_cmp k e.0) as (λ b. texts (match_ordering b ((k, v) ∷ e ∷ es) ((e.0, v) ∷ es) (e ∷ insert_entry key_cmp es k v)) ≡ match_ordering b ((rc_str_bytes k, v) ∷ texts (e ∷ es)) ((rc_str_bytes e.0, v) ∷ texts es) ((rc_str_bytes e.0, e.1) ∷ insert_entry text_cmp (texts es) (rc_str_bytes k) v)) [
+      elim (key_cmp k e.0)
+      as (λ b. texts (match_ordering b ((k, v) ∷ e ∷ es) ((e.0, v) ∷ es)
+      (e ∷ insert_entry key_cmp es k v)) ≡ match_ordering b
+      ((rc_str_bytes k, v) ∷ texts (e ∷ es)) ((rc_str_bytes e.0, v) ∷ texts es)
+      ((rc_str_bytes e.0, e.1) ∷ insert_entry text_cmp (texts es) (rc_str_bytes k) v)) [
         | Less ↦ refl
         | Equal ↦ refl
         | Greater ↦ ap (λ l. (rc_str_bytes e.0, e.1) ∷ l) rest
       ]
 
-  below-texts : (k : Key) (es : List (Key × X)) → AllByRecursion (λ y. key_cmp k y ≡ Less) (keys_of es) → AllByRecursion (λ y. text_cmp (rc_str_bytes k) y ≡ Less) (keys_of (texts es))
+  below-texts : (k : Key) (es : List (Key × X))
+      → AllByRecursion (λ y. key_cmp k y ≡ Less) (keys_of es)
+      → AllByRecursion (λ y. text_cmp (rc_str_bytes k) y ≡ Less) (keys_of (texts es))
   below-texts k [] s = tt
   below-texts k (e ∷ es) s = (s.0, below-texts k es s.1)
 
-  pub ordered-texts : (es : List (Key × X)) → IsStrictlySortedBy key_cmp (keys_of es) → IsStrictlySortedBy text_cmp (keys_of (texts es))
+  pub ordered-texts : (es : List (Key × X)) → IsStrictlySortedBy key_cmp (keys_of es)
+      → IsStrictlySortedBy text_cmp (keys_of (texts es))
   unfolding IsStrictlySortedBy
   ordered-texts [] s = tt
   ordered-texts (e ∷ es) s = (below-texts e.0 es s.0, ordered-texts es s.1)

@@ -1,5 +1,6 @@
 -- The members in turn at one filter.
-use Rattle.std.proofs.Common.{◌≡◌, Bool, true, false, true≢false, cond, ◌&&◌, List, [], ◌∷◌, ◌++◌, map, Option, Some, if◌then◌else◌, refl, sym, ◌∙◌, ap, append_assoc}
+use Rattle.std.proofs.Common.{◌≡◌, Bool, true, false, true≢false, cond, ◌&&◌, List, [], ◌∷◌, ◌++◌}
+use Rattle.std.proofs.Common.{map, Option, Some, if◌then◌else◌, refl, sym, ◌∙◌, ap, append_assoc}
 use Rattle.std.specs.Rc.{rc_str_bytes}
 use Rattle.std.specs.Option.{option_map}
 use Rattle.std.specs.List.{filter, flat_map, find, AllByRecursion}
@@ -26,14 +27,19 @@ abbrev pub able : Option (List AclRow) → List Session → Text → Text → Bo
 able access sessions name client = is_reader access sessions name client
 
 -- the first member of a group whose client may read
-abbrev pub turn_in : Option (List AclRow) → List Session → Text → Text → Text × List Member → Option Subscription
-turn_in access sessions name f g = option_map (row (Some g.0) f) (find (λ m. able access sessions name m.0) g.1)
+abbrev pub turn_in : Option (List AclRow) → List Session → Text → Text → Text × List Member
+    → Option Subscription
+turn_in access sessions name f g =
+    option_map (row (Some g.0) f) (find (λ m. able access sessions name m.0) g.1)
 
-abbrev pub turn_for : Option (List AclRow) → List Session → Text → Text → Text → Text × List Member → List Subscription
-turn_for access sessions name f share g = if same_text g.0 share then turns_of (turn_in access sessions name f g) else []
+abbrev pub turn_for : Option (List AclRow) → List Session → Text → Text → Text → Text × List Member
+    → List Subscription
+turn_for access sessions name f share g = if same_text g.0 share then
+    turns_of (turn_in access sessions name f g) else []
 
 -- the members in turn of the groups of a share name
-abbrev pub turns_left : Option (List AclRow) → List Session → Text → Text → Text → List (Text × List Member) → List Subscription
+abbrev pub turns_left : Option (List AclRow) → List Session → Text → Text → Text
+    → List (Text × List Member) → List Subscription
 turns_left access sessions name f share gs = flat_map (turn_for access sessions name f share) gs
 
 module _ (access : Option (List AclRow)) (sessions : List Session) (name f share : Text) where
@@ -43,21 +49,29 @@ module _ (access : Option (List AclRow)) (sessions : List Session) (name f share
   abbrev may : Subscription → Bool
   may x = able access sessions name x.client
 
-  find-members : (k : Text) (ms : List Member) → find may (map (row (Some k) f) ms) ≡ option_map (row (Some k) f) (find (λ m. able access sessions name m.0) ms)
+  find-members : (k : Text) (ms : List Member)
+      → find may (map (row (Some k) f) ms) ≡ option_map (row (Some k) f)
+      (find (λ m. able access sessions name m.0) ms)
   find-members k [] = refl
   find-members k (m ∷ ms) =
-      elim (able access sessions name m.0) as (λ b. cond b (Some (row (Some k) f m)) (find may (map (row (Some k) f) ms)) ≡ option_map (row (Some k) f) (cond b (Some m) (find (λ m. able access sessions name m.0) ms))) [
+      elim (able access sessions name m.0)
+      as (λ b. cond b (Some (row (Some k) f m)) (find may (map (row (Some k) f) ms))
+      ≡ option_map (row (Some k) f)
+      (cond b (Some m) (find (λ m. able access sessions name m.0) ms))) [
         | true ↦ refl
         | false ↦ find-members k ms
       ]
 
   -- of the members of one group all are in it, or none is
-  alike : (k : Text) (b : Bool) → same_text k share ≡ b → (ms : List Member) → filter (is_in_group here) (map (row (Some k) f) ms) ≡ cond b (map (row (Some k) f) ms) []
+  alike : (k : Text) (b : Bool) → same_text k share ≡ b → (ms : List Member)
+      → filter (is_in_group here) (map (row (Some k) f) ms) ≡ cond b (map (row (Some k) f) ms) []
   alike k true e [] = refl
   alike k false e [] = refl
   alike k true e (m ∷ ms) =
       let l : List Subscription = filter (is_in_group here) (map (row (Some k) f) ms) in
-      ap (λ v. cond (v && same_text f f) (row (Some k) f m ∷ l) l) e ∙ ap (λ v. cond v (row (Some k) f m ∷ l) l) (same_text-itself f) ∙ ap (λ t. row (Some k) f m ∷ t) (alike k true e ms)
+      ap (λ v. cond (v && same_text f f) (row (Some k) f m ∷ l) l) e
+      ∙ ap (λ v. cond v (row (Some k) f m ∷ l) l) (same_text-itself f)
+      ∙ ap (λ t. row (Some k) f m ∷ t) (alike k true e ms)
   alike k false e (m ∷ ms) =
       let l : List Subscription = filter (is_in_group here) (map (row (Some k) f) ms) in
       ap (λ v. cond (v && same_text f f) (row (Some k) f m ∷ l) l) e ∙ alike k false e ms
@@ -69,17 +83,23 @@ module _ (access : Option (List AclRow)) (sessions : List Session) (name f share
   abbrev Away : List (Text × List Member) → Type 0
   Away gs = AllByRecursion (λ (g : Text × List Member). same_text g.0 share ≡ false) gs
 
-  no_members : (gs : List (Text × List Member)) → Away gs → filter (is_in_group here) (group_rows f gs) ≡ []
+  no_members : (gs : List (Text × List Member)) → Away gs
+      → filter (is_in_group here) (group_rows f gs) ≡ []
   no_members [] h = refl
   no_members (g ∷ gs) h =
       filter-append (is_in_group here) (map (row (Some g.0) f) g.1) (group_rows f gs)
-      ∙ ap (λ l. l ++ filter (is_in_group here) (group_rows f gs)) (alike g.0 false h.0 g.1) ∙ no_members gs h.1
+      ∙ ap (λ l. l ++ filter (is_in_group here) (group_rows f gs)) (alike g.0 false h.0 g.1)
+      ∙ no_members gs h.1
 
-  no_turns : (gs : List (Text × List Member)) → Away gs → turns_left access sessions name f share gs ≡ []
+  no_turns : (gs : List (Text × List Member)) → Away gs
+      → turns_left access sessions name f share gs ≡ []
   no_turns [] h = refl
-  no_turns (g ∷ gs) h = ap (λ b. (if b then turns_of (turn_in access sessions name f g) else []) ++ turns_left access sessions name f share gs) h.0 ∙ no_turns gs h.1
+  no_turns (g ∷ gs) h =
+      ap (λ b. (if b then turns_of (turn_in access sessions name f g) else [])
+      ++ turns_left access sessions name f share gs) h.0 ∙ no_turns gs h.1
 
-  behind : (k : Text) → same_text k share ≡ true → (gs : List (Text × List Member)) → AllByRecursion (λ y. text_cmp k y ≡ Less) (keys_of gs) → Away gs
+  behind : (k : Text) → same_text k share ≡ true → (gs : List (Text × List Member))
+      → AllByRecursion (λ y. text_cmp k y ≡ Less) (keys_of gs) → Away gs
   behind k t [] h = tt
   behind k t (g ∷ gs) h = (differs g.0 h.0, behind k t gs h.1)
     where
@@ -87,46 +107,76 @@ module _ (access : Option (List AclRow)) (sessions : List Session) (name f share
       differs y less =
           let P : Bool → Type 0 = λ b. same_text y share ≡ b → b ≡ false in
           (elim (same_text y share) as P [
-            | true ↦ λ e. (let one : k ≡ y = same_text-is k share t ∙ sym (same_text-is y share e) in
+            | true ↦ λ e. (let one : k ≡ y = same_text-is k share t
+                ∙ sym (same_text-is y share e) in
                 let apart = text-apart k k y (is_text-is k k ∙ same_text-itself k) less in
-                absurd (true≢false (sym (is_text-is k y ∙ ap (λ (z : Text). same_text z y) one ∙ same_text-itself y) ∙ apart)))
+                absurd (true≢false
+                (sym (is_text-is k y ∙ ap (λ (z : Text). same_text z y) one
+                ∙ same_text-itself y) ∙ apart)))
             | false ↦ λ e. refl
           ]) refl
 
   -- keys are apart: the turns of a share name are the one of its group
-  turns-group : (gs : List (Text × List Member)) → IsStrictlySortedBy text_cmp (keys_of gs) → turns_left access sessions name f share gs ≡ turns_of (find may (filter (is_in_group here) (group_rows f gs)))
+  turns-group : (gs : List (Text × List Member)) → IsStrictlySortedBy text_cmp (keys_of gs)
+      → turns_left access sessions name f share gs
+      ≡ turns_of (find may (filter (is_in_group here) (group_rows f gs)))
   unfolding IsStrictlySortedBy
   turns-group [] s = refl
   turns-group (g ∷ gs) s =
       let mine : List Subscription = map (row (Some g.0) f) g.1 in
-      let P : Bool → Type 0 = λ b. same_text g.0 share ≡ b → (if b then turns_of (turn_in access sessions name f g) else []) ++ turns_left access sessions name f share gs ≡ turns_of (find may (filter (is_in_group here) (mine ++ group_rows f gs))) in
+      let P : Bool → Type 0 = λ b. same_text g.0 share ≡ b
+      → (if b then turns_of (turn_in access sessions name f g) else [])
+      ++ turns_left access sessions name f share gs
+      ≡ turns_of (find may (filter (is_in_group here) (mine ++ group_rows f gs))) in
       (elim (same_text g.0 share) as P [
         | true ↦ λ t. (let away : Away gs = behind g.0 t gs s.0 in
-            ap (λ l. turns_of (turn_in access sessions name f g) ++ l) (no_turns gs away) ∙ append-nil (turns_of (turn_in access sessions name f g))
+            ap (λ l. turns_of (turn_in access sessions name f g) ++ l) (no_turns gs away)
+            ∙ append-nil (turns_of (turn_in access sessions name f g))
             ∙ ap turns_of (sym (find-members g.0 g.1))
-            ∙ ap (λ l. turns_of (find may l)) (sym (filter-append (is_in_group here) mine (group_rows f gs) ∙ ap (λ l. l ++ filter (is_in_group here) (group_rows f gs)) (alike g.0 true t g.1) ∙ ap (λ l. mine ++ l) (no_members gs away) ∙ append-nil mine)))
+            ∙ ap (λ l. turns_of (find may l))
+            (sym (filter-append (is_in_group here) mine (group_rows f gs)
+            ∙ ap (λ l. l ++ filter (is_in_group here) (group_rows f gs))
+            (alike g.0 true t g.1) ∙ ap (λ l. mine ++ l) (no_members gs away)
+            ∙ append-nil mine)))
         | false ↦ λ t. turns-group gs s.1
-            ∙ ap (λ l. turns_of (find may l)) (sym (filter-append (is_in_group here) mine (group_rows f gs) ∙ ap (λ l. l ++ filter (is_in_group here) (group_rows f gs)) (alike g.0 false t g.1)))
+            ∙ ap (λ l. turns_of (find may l))
+            (sym (filter-append (is_in_group here) mine (group_rows f gs)
+            ∙ ap (λ l. l ++ filter (is_in_group here) (group_rows f gs))
+            (alike g.0 false t g.1)))
       ]) refl
 
-  pub turns-at : (ds : List Member) (gs : List (Text × List Member)) → IsStrictlySortedBy text_cmp (keys_of gs) → turns_left access sessions name f share gs ≡ turns_of (next_in access sessions (direct_rows f ds ++ group_rows f gs) name here)
+  pub turns-at : (ds : List Member) (gs : List (Text × List Member))
+      → IsStrictlySortedBy text_cmp (keys_of gs)
+      → turns_left access sessions name f share gs
+      ≡ turns_of (next_in access sessions (direct_rows f ds ++ group_rows f gs) name here)
   turns-at ds gs s =
       turns-group gs s
-      ∙ ap (λ l. turns_of (find may l)) (sym (filter-append (is_in_group here) (direct_rows f ds) (group_rows f gs) ∙ ap (λ l. l ++ filter (is_in_group here) (group_rows f gs)) (no_direct ds)))
+      ∙ ap (λ l. turns_of (find may l))
+      (sym (filter-append (is_in_group here) (direct_rows f ds) (group_rows f gs)
+      ∙ ap (λ l. l ++ filter (is_in_group here) (group_rows f gs)) (no_direct ds)))
 
 -- ## One more
 
-pub turns-more : (access : Option (List AclRow)) (sessions : List Session) (name f share : Text) (old new : List Turn) (t : Turn) (g : Text × List Member) (gs : List (Text × List Member)) → new ≡ old ++ t ∷ [] → rc_str_bytes t.share ≡ g.0 → turn_in access sessions name f g ≡ Some (turn_of t) → turns_listed share new ++ turns_left access sessions name f share gs ≡ turns_listed share old ++ turns_left access sessions name f share (g ∷ gs)
+pub turns-more : (access : Option (List AclRow)) (sessions : List Session) (name f share : Text)
+    (old new : List Turn) (t : Turn) (g : Text × List Member) (gs : List (Text × List Member))
+    → new ≡ old ++ t ∷ [] → rc_str_bytes t.share ≡ g.0
+    → turn_in access sessions name f g ≡ Some (turn_of t)
+    → turns_listed share new ++ turns_left access sessions name f share gs ≡ turns_listed share old
+    ++ turns_left access sessions name f share (g ∷ gs)
 turns-more access sessions name f share old new t g gs e named is =
     let rest : List Subscription = turns_left access sessions name f share gs in
     let here : Turn → Bool = λ x. same_text (rc_str_bytes x.share) share in
     let own : Bool → List Turn = λ b. if b then t ∷ [] else [] in
-    ap (λ l. map turn_of l ++ rest) (ap (filter here) e ∙ filter-append here old (t ∷ []) ∙ ap (λ (k : Text). filter here old ++ own (same_text k share)) named)
+    ap (λ l. map turn_of l ++ rest) (ap (filter here) e ∙ filter-append here old (t ∷ [])
+    ∙ ap (λ (k : Text). filter here old ++ own (same_text k share)) named)
     ∙ ap (λ l. l ++ rest) (map-append turn_of (filter here old) (own (same_text g.0 share)))
     ∙ append_assoc (turns_listed share old) (map turn_of (own (same_text g.0 share))) rest
     ∙ ap (λ l. turns_listed share old ++ (l ++ rest))
-    ((elim (same_text g.0 share) as (λ b. map turn_of (own b) ≡ (if b then turns_of (Some (turn_of t)) else [])) [ true ↦ refl | false ↦ refl ])
+    ((elim (same_text g.0 share) as (λ b. map turn_of (own b)
+    ≡ (if b then turns_of (Some (turn_of t)) else [])) [ true ↦ refl | false ↦ refl ])
     ∙ ap (λ o. if same_text g.0 share then turns_of o else []) (sym is))
 
-pub same_turn : (client client' : Text) (share share' f f' : Text) (o : held.SubscriptionOptions) → client ≡ client' → share ≡ share' → f ≡ f' → row (Some share) f (client, o) ≡ row (Some share') f' (client', o)
+pub same_turn : (client client' : Text) (share share' f f' : Text) (o : held.SubscriptionOptions)
+    → client ≡ client' → share ≡ share' → f ≡ f'
+    → row (Some share) f (client, o) ≡ row (Some share') f' (client', o)
 same_turn client client' share share' f f' o e1 e2 e3 = rw (e1, e2, e3) refl

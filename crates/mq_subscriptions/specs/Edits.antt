@@ -25,20 +25,25 @@ abbrev pub JoinsAt : Option Text → Member → At → List Subscription → Typ
 JoinsAt share m old new = Joins (row share old.filter m) old.rows new
 
 abbrev pub DirectJoins : Member → Directs → Directs → Type 0
-DirectJoins m old new = (f : Text) → Joins (row None f m) (direct_rows f (texts old)) (direct_rows f (texts new))
+DirectJoins m old new = (f : Text)
+    → Joins (row None f m) (direct_rows f (texts old)) (direct_rows f (texts new))
 
 abbrev pub GroupJoins : Text → Member → Groups → Groups → Type 0
-GroupJoins share m old new = (f : Text) → Joins (row (Some share) f m) (group_rows f (texts old)) (group_rows f (texts new))
+GroupJoins share m old new = (f : Text)
+    → Joins (row (Some share) f m) (group_rows f (texts old)) (group_rows f (texts new))
 
 abbrev pub DirectLeaves : Text → Directs → Directs → Type 0
 DirectLeaves client old new =
-    (f : Text) → direct_rows f (texts new) ≡ filter (λ s. not (has_key client None f s)) (direct_rows f (texts old))
+    (f : Text) → direct_rows f (texts new) ≡ filter (λ s. not (has_key client None f s))
+    (direct_rows f (texts old))
 
 abbrev pub GroupLeaves : Text → Text → Groups → Groups → Type 0
 GroupLeaves share client old new =
-    (f : Text) → group_rows f (texts new) ≡ filter (λ s. not (has_key client (Some share) f s)) (group_rows f (texts old))
+    (f : Text) → group_rows f (texts new) ≡ filter (λ s. not (has_key client (Some share) f s))
+    (group_rows f (texts old))
 
 -- the member goes last in its group
 abbrev pub GroupTurns : Text → Text → Groups → Groups → Type 0
 GroupTurns share client old new =
-    (f : Text) → SameInTurn (group_rows f (texts new)) (put_last (has_key client (Some share) f) (group_rows f (texts old)))
+    (f : Text) → SameInTurn (group_rows f (texts new))
+    (put_last (has_key client (Some share) f) (group_rows f (texts old)))

@@ -1,5 +1,6 @@
 -- What is kept at one filter, and at all of them.
-use Rattle.std.specs.Prelude.{◌≡◌, Bool, true, false, List, [], ◌∷◌, map, Option, Some, None, string_bytes, ◌&&◌}
+use Rattle.std.specs.Prelude.{◌≡◌, Bool, true, false, List, [], ◌∷◌, map, Option, Some, None}
+use Rattle.std.specs.Prelude.{string_bytes, ◌&&◌}
 use Rattle.std.specs.List.{filter, flat_map, list_any, AllByRecursion}
 use Rattle.std.specs.Map.{lookup}
 use Rattle.std.specs.Option.{option_map, option_map_or}
@@ -26,7 +27,13 @@ has_client client m = same_text m.0 client
 
 -- the subscription of a member
 abbrev pub row : Option Text → Text → Member → Subscription
-row share filter m = record { client = m.0; share = share; filter = filter; options = options_of m.1 }
+row share filter m = record {
+  client = m.0;
+  share = share;
+  filter = filter;
+  options =
+      options_of m.1;
+}
 
 -- a filter, and the subscriptions to it
 pub record At : Type 0 where
@@ -117,7 +124,8 @@ is_in_list list s = list_any (is_own s) list
 
 -- the subscription is in the list of its client
 abbrev pub is_listed : List (Text × List OwnKey) → Subscription → Bool
-is_listed lists s = option_map_or (λ list. is_in_list list s) (lookup (is_text s.client) lists) false
+is_listed lists s = option_map_or (λ list. is_in_list list s) (lookup (is_text s.client) lists)
+    false
 
 -- the tree, with a list for each client that has subscriptions: in it stand those, and no others
 pub record AreListed (es : AtEntries) (lists : List (Text × List OwnKey)) : Type 0 where

@@ -1,9 +1,11 @@
 -- Subscriptions in turn, and the members of groups that a message serves.
-use Rattle.std.specs.Prelude.{List, [], ◌∷◌, map, not, Bool, Option, Some, None, if◌then◌else◌, ◌≡◌, ◌++◌, Vec}
+use Rattle.std.specs.Prelude.{List, [], ◌∷◌, map, not, Bool, Option, Some, None, if◌then◌else◌, ◌≡◌}
+use Rattle.std.specs.Prelude.{◌++◌, Vec}
 use Rattle.std.specs.List.{filter, filter_map, find, list_any}
 use Rattle.mq_acl.specs.Rows.{AclRow}
 use Rattle.mq_world.specs.Lists.{Text, same_text, in_order}
-use Rattle.mq_world.specs.World.{Session, Subscription, Message, Group, group_cmp, group_of, same_key, is_in_group}
+use Rattle.mq_world.specs.World.{Session, Subscription, Message, Group, group_cmp, group_of}
+use Rattle.mq_world.specs.World.{same_key, is_in_group}
 use Rattle.mq_world.specs.Sessions.{is_reader}
 use Rattle.mq_subscriptions.specs.Filters.{At}
 use Rattle.std.specs.Rc.{rc_str_bytes}
@@ -14,7 +16,8 @@ use Rattle.mq_world.specs.Copies.{filter_matches}
 
 -- the element takes the place of what is the same, and goes last where nothing is
 abbrev pub with_one : {X : Type 0} → (X → Bool) → X → List X → List X
-with_one same x xs = map (λ y. if same y then x else y) xs ++ (if list_any same xs then [] else x ∷ [])
+with_one same x xs = map (λ y. if same y then x else y) xs
+    ++ (if list_any same xs then [] else x ∷ [])
 
 -- those that pass go last
 abbrev pub put_last : {X : Type 0} → (X → Bool) → List X → List X
@@ -35,11 +38,13 @@ unfoldable pub groups_among : List Subscription → List Group
 groups_among subscriptions = in_order group_cmp (filter_map group_of subscriptions)
 
 -- of a group the first member whose client is connected and may read the topic
-abbrev pub next_in : Option (List AclRow) → List Session → List Subscription → Text → Group → Option Subscription
+abbrev pub next_in : Option (List AclRow) → List Session → List Subscription → Text → Group
+    → Option Subscription
 next_in access sessions subscriptions topic group =
     find (λ s. is_reader access sessions topic s.client) (filter (is_in_group group) subscriptions)
 
-unfoldable pub next_members : Option (List AclRow) → List Session → List Subscription → Message → List Subscription
+unfoldable pub next_members : Option (List AclRow) → List Session → List Subscription → Message
+    → List Subscription
 next_members access sessions subscriptions m =
     filter_map (next_in access sessions subscriptions m.topic)
     (filter (λ group. filter_matches group.filter m.topic) (groups_among subscriptions))
@@ -70,7 +75,9 @@ abbrev pub turns_listed : Text → List Turn → List Subscription
 turns_listed share turns = map turn_of (filter (λ t. same_text (rc_str_bytes t.share) share) turns)
 
 -- the member in turn of each group at a filter comes behind those of its share name
-abbrev pub GathersTurns : Option (List AclRow) → List Session → Text → At → List Turn → List Turn → Type 0
+abbrev pub GathersTurns : Option (List AclRow) → List Session → Text → At → List Turn → List Turn
+    → Type 0
 GathersTurns access sessions topic at old new =
     (share : Text) → turns_listed share new
-    ≡ turns_listed share old ++ turns_of (next_in access sessions at.rows topic (record { share = share; filter = at.filter }))
+    ≡ turns_listed share old ++ turns_of
+    (next_in access sessions at.rows topic (record { share = share; filter = at.filter }))

@@ -3,7 +3,8 @@ use Rattle.std.specs.Prelude.{List, map, ◌++◌}
 use Rattle.std.specs.Rc.{rc_str_bytes}
 use Rattle.mq_world.specs.Keys.{Key}
 use Rattle.mq_world.specs.Lists.{Text}
-use Rattle.mq_subscriptions.specs.Filters.{Member, At, direct_rows, group_rows, NoneEmpty, AreListed, KeptSubscriptions, kept_at}
+use Rattle.mq_subscriptions.specs.Filters.{Member, At, direct_rows, group_rows, NoneEmpty}
+use Rattle.mq_subscriptions.specs.Filters.{AreListed, KeptSubscriptions, kept_at}
 use Rattle.mq_subscriptions.specs.declared.subscriptions.group.Group.TheInside as in_group
 use Rattle.mq_subscriptions.specs.declared.subscriptions.filter_entry.FilterEntry.TheInside as in_at
 use Rattle.mq_subscriptions.specs.declared.subscriptions.Subscriptions.TheInside as in_subscriptions
@@ -18,7 +19,8 @@ members_of inside = texts inside.members.entries
 abbrev pub at_of : in_at.Inside → At
 at_of inside = record {
   filter = inside.filter.value;
-  rows = direct_rows inside.filter.value (texts inside.direct.entries) ++ group_rows inside.filter.value (texts inside.groups.entries);
+  rows = direct_rows inside.filter.value (texts inside.direct.entries)
+      ++ group_rows inside.filter.value (texts inside.groups.entries);
 }
 
 abbrev pub GroupsLive : in_at.Inside → Type 0

@@ -14,10 +14,12 @@ use Rattle.mq_world.specs.declared.options.SubscriptionOptions.{SubscriptionOpti
 -- the text is a valid subscription's, and this is its share name and its filter
 abbrev pub IsAskedBy : Text → SubFilter → Type 0
 IsAskedBy text wanted =
-    (option_map string_bytes wanted.share ≡ share_of text) × (wanted.filter ≡ filter_part text) × (is_subscription text ≡ true)
+    (option_map string_bytes wanted.share ≡ share_of text) × (wanted.filter ≡ filter_part text)
+    × (is_subscription text ≡ true)
 
 abbrev pub wanted_row : Text → SubFilter → SubscriptionOptions → Subscription
-wanted_row client wanted options = row (option_map string_bytes wanted.share) wanted.filter (client, options)
+wanted_row client wanted options =
+    row (option_map string_bytes wanted.share) wanted.filter (client, options)
 
 -- the subscription is the client's, with this share name and filter
 abbrev pub has_wanted : Text → SubFilter → Subscription → Bool
@@ -33,11 +35,13 @@ OwnLists = List (Key × List OwnKey)
 -- the lists have the key too, or no longer
 abbrev pub ListsMore : Text → OwnKey → OwnLists → OwnLists → Type 0
 ListsMore client key old new =
-    (s : Subscription) → is_listed (texts new) s ≡ (has_key client key.0 key.1 s || is_listed (texts old) s)
+    (s : Subscription) → is_listed (texts new) s
+    ≡ (has_key client key.0 key.1 s || is_listed (texts old) s)
 
 abbrev pub ListsLess : Text → OwnKey → OwnLists → OwnLists → Type 0
 ListsLess client key old new =
-    (s : Subscription) → is_listed (texts new) s ≡ (not (has_key client key.0 key.1 s) && is_listed (texts old) s)
+    (s : Subscription) → is_listed (texts new) s
+    ≡ (not (has_key client key.0 key.1 s) && is_listed (texts old) s)
 
 abbrev pub NoneEmptied : OwnLists → Type 0
 NoneEmptied lists = AllByRecursion (λ l. is_empty l.1 ≡ false) (texts lists)

@@ -8,7 +8,8 @@ ghost use Rattle.mq_tree.specs.Entries.{capped};
 ghost use Rattle.mq_tree.specs.Prefixes.{prefixes, met_by_name};
 ghost use Rattle.mq_world.specs.Lists.{same_text};
 ghost use Rattle.mq_world.specs.World.{has_key};
-ghost use Rattle.mq_subscriptions.specs.Wanted.{wanted_row, has_wanted, has_asked, ListsMore, ListsLess, NoneEmptied, IsAskedBy};
+ghost use Rattle.mq_subscriptions.specs.Wanted.{wanted_row, has_wanted, has_asked, ListsMore};
+ghost use Rattle.mq_subscriptions.specs.Wanted.{ListsLess, NoneEmptied, IsAskedBy};
 ghost use Rattle.mq_subscriptions.specs.Matches.{seen};
 ghost use Rattle.mq_subscriptions.specs.Matches.{rows_found};
 ghost use Rattle.mq_world.specs.Copies.{filter_matches};
@@ -73,8 +74,14 @@ impl Subscriptions {
     }
 
     /// Whether a subscribe is sent retained messages.
-    pub fn asks_for_retained(&self, client: &str, wanted: &SubFilter, options: SubscriptionOptions) -> bool
-        ensures { result ≡ asks_for_retained self.now.rows (wanted_row client.now wanted.now options) }
+    pub fn asks_for_retained(
+        &self,
+        client: &str,
+        wanted: &SubFilter,
+        options: SubscriptionOptions,
+    ) -> bool
+        ensures { result ≡ asks_for_retained self.now.rows
+            (wanted_row client.now wanted.now options) }
     {
         if wanted.share.is_some() {
             return false;
@@ -115,7 +122,8 @@ impl Subscriptions {
     pub fn remove(&mut self, client: &str, text: &str) -> bool
         requires { IsTrue (is_subscription text.now) }
         ensures existed { result ≡ list_any (has_asked client.now text.now) self.old.rows }
-        ensures rows { self.new.rows ≡ filter (λ s. not (has_asked client.now text.now s)) self.old.rows }
+        ensures rows { self.new.rows ≡ filter (λ s. not (has_asked client.now text.now s))
+            self.old.rows }
         ensures keys { AreKeys self.new }
     {
         take_out(&mut self.tree, &mut self.lists, client, text)
@@ -123,7 +131,8 @@ impl Subscriptions {
 
     /// Takes a client's subscriptions out, and no other is looked at. It takes no memory.
     pub fn remove_client(&mut self, client: &str)
-        ensures rows { self.new.rows ≡ filter (λ s. not (same_text s.client client.now)) self.old.rows }
+        ensures rows { self.new.rows ≡ filter (λ s. not (same_text s.client client.now))
+            self.old.rows }
         ensures keys { AreKeys self.new }
     {
         take_all(&mut self.tree, &mut self.lists, client);
@@ -135,16 +144,19 @@ impl Subscriptions {
         name: &TopicName,
         steps: &mut Steps,
     ) -> Result<Vec<&FilterEntry>, AllocError>
-        ensures rows { IfOk result (λ found. rows_found (seen found.items) ≡ filter (λ s. filter_matches s.filter name.now) self.now.rows) }
+        ensures rows { IfOk result (λ found. rows_found (seen found.items)
+            ≡ filter (λ s. filter_matches s.filter name.now) self.now.rows) }
         ensures order { IfOk result (λ found. AreAtFilters name.now (seen found.items)) }
-        ensures count { OnOk result (steps.new ≡ steps.old + length (met_by_name (levels name.now) (prefixes self.now.keys))) }
+        ensures count { OnOk result (steps.new ≡ steps.old + length
+            (met_by_name (levels name.now) (prefixes self.now.keys))) }
     {
         Ok(self.tree.for_name(name, steps)?)
     }
 
     /// A member of a group goes last. It takes no memory.
     pub fn serve(&mut self, share: &str, wanted: &TopicFilter, client: &str)
-        ensures rows { SameInTurn self.new.rows (put_last (has_key client.now (Some share.now) wanted.now) self.old.rows) }
+        ensures rows { SameInTurn self.new.rows
+            (put_last (has_key client.now (Some share.now) wanted.now) self.old.rows) }
         ensures keys { AreKeys self.new }
     {
         serve_in(&mut self.tree, share, wanted, client);
@@ -201,7 +213,8 @@ fn join_in(
     options: SubscriptionOptions,
 ) -> Result<(), AllocError>
     requires { AreKept tree.old }
-    ensures ok { OnOk result (SameInTurn (all_rows tree.new) (joined (wanted_row (rc_str_bytes client.now) wanted.now options) (all_rows tree.old))) }
+    ensures ok { OnOk result (SameInTurn (all_rows tree.new)
+        (joined (wanted_row (rc_str_bytes client.now) wanted.now options) (all_rows tree.old))) }
     ensures err { OnErr result (tree.new ≡ tree.old) }
     ensures kept { AreKept tree.new }
 {
@@ -225,7 +238,8 @@ fn add_in(
 ) -> Result<(), AllocError>
     requires kept { AreKept tree.old }
     requires absent { lookup (is_key (levels wanted.now.filter)) tree.old ≡ None }
-    ensures ok { OnOk result (SameInTurn (all_rows tree.new) (joined (wanted_row (rc_str_bytes client) wanted.now options) (all_rows tree.old))) }
+    ensures ok { OnOk result (SameInTurn (all_rows tree.new)
+        (joined (wanted_row (rc_str_bytes client) wanted.now options) (all_rows tree.old))) }
     ensures err { OnErr result (tree.new ≡ tree.old) }
     ensures kept { AreKept tree.new }
 {
@@ -241,7 +255,8 @@ fn leave_in(tree: &mut LevelTree<FilterEntry>, client: &str, text: &str) -> bool
     requires kept { AreKept tree.old }
     requires valid { IsTrue (is_subscription text.now) }
     ensures existed { result ≡ list_any (has_asked client.now text.now) (all_rows tree.old) }
-    ensures rows { all_rows tree.new ≡ filter (λ s. not (has_asked client.now text.now s)) (all_rows tree.old) }
+    ensures rows { all_rows tree.new ≡ filter (λ s. not (has_asked client.now text.now s))
+        (all_rows tree.old) }
     ensures kept { AreKept tree.new }
 {
     let (share, filter) = SubFilter::split(text);
@@ -258,7 +273,8 @@ fn leave_in(tree: &mut LevelTree<FilterEntry>, client: &str, text: &str) -> bool
 
 fn serve_in(tree: &mut LevelTree<FilterEntry>, share: &str, wanted: &TopicFilter, client: &str)
     requires { AreKept tree.old }
-    ensures turned { SameInTurn (all_rows tree.new) (put_last (has_key client.now (Some share.now) wanted.now) (all_rows tree.old)) }
+    ensures turned { SameInTurn (all_rows tree.new)
+        (put_last (has_key client.now (Some share.now) wanted.now) (all_rows tree.old)) }
     ensures kept { AreKept tree.new }
 {
     match tree.get_mut(wanted) {
@@ -312,7 +328,8 @@ fn take_out(
     requires listed { AreListed tree.old (texts lists.old.entries) }
     requires valid { IsTrue (is_subscription text.now) }
     ensures existed { result ≡ list_any (has_asked client.now text.now) (all_rows tree.old) }
-    ensures rows { all_rows tree.new ≡ filter (λ s. not (has_asked client.now text.now s)) (all_rows tree.old) }
+    ensures rows { all_rows tree.new ≡ filter (λ s. not (has_asked client.now text.now s))
+        (all_rows tree.old) }
     ensures listed { AreListed tree.new (texts lists.new.entries) }
 {
     let existed = leave_in(tree, client, text);
@@ -323,7 +340,8 @@ fn take_out(
 // Takes a client's subscriptions out of the tree.
 fn leave_all(tree: &mut LevelTree<FilterEntry>, own: &ClientFilters, client: &str)
     requires { AreKept tree.old }
-    ensures rows { all_rows tree.new ≡ filter (λ s. not (same_text s.client client.now && is_in_list own.now s)) (all_rows tree.old) }
+    ensures rows { all_rows tree.new ≡ filter
+        (λ s. not (same_text s.client client.now && is_in_list own.now s)) (all_rows tree.old) }
     ensures kept { AreKept tree.new }
 {
     for text in own.texts() {
@@ -331,9 +349,14 @@ fn leave_all(tree: &mut LevelTree<FilterEntry>, own: &ClientFilters, client: &st
     }
 }
 
-fn take_all(tree: &mut LevelTree<FilterEntry>, lists: &mut BTreeMap<RcStr, ClientFilters>, client: &str)
+fn take_all(
+    tree: &mut LevelTree<FilterEntry>,
+    lists: &mut BTreeMap<RcStr, ClientFilters>,
+    client: &str,
+)
     requires { AreListed tree.old (texts lists.old.entries) }
-    ensures rows { all_rows tree.new ≡ filter (λ s. not (same_text s.client client.now)) (all_rows tree.old) }
+    ensures rows { all_rows tree.new ≡ filter (λ s. not (same_text s.client client.now))
+        (all_rows tree.old) }
     ensures listed { AreListed tree.new (texts lists.new.entries) }
 {
     let _count = lists.len();
@@ -353,7 +376,8 @@ fn list_add(
 ) -> Result<(), AllocError>
     requires live { NoneEmptied lists.old.entries }
     requires valid { IsTrue (is_subscription text.now) }
-    ensures ok { OnOk result (ListsMore (rc_str_bytes client.now) (text_key text.now) lists.old.entries lists.new.entries) }
+    ensures ok { OnOk result (ListsMore (rc_str_bytes client.now) (text_key text.now)
+        lists.old.entries lists.new.entries) }
     ensures err { OnErr result (lists.new.entries ≡ lists.old.entries) }
     ensures live { NoneEmptied lists.new.entries }
 {
@@ -376,7 +400,8 @@ fn list_begin(
     requires live { NoneEmptied lists.old.entries }
     requires valid { IsTrue (is_subscription text.now) }
     requires absent { lookup (is_text (rc_str_bytes client.now)) (texts lists.old.entries) ≡ None }
-    ensures ok { OnOk result (ListsMore (rc_str_bytes client.now) (text_key text.now) lists.old.entries lists.new.entries) }
+    ensures ok { OnOk result (ListsMore (rc_str_bytes client.now) (text_key text.now)
+        lists.old.entries lists.new.entries) }
     ensures err { OnErr result (lists.new.entries ≡ lists.old.entries) }
     ensures live { NoneEmptied lists.new.entries }
 {

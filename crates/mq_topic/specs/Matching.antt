@@ -1,5 +1,6 @@
 -- Which filters match which names (MQTT 5.0, sections 4.7.1 and 4.7.2).
-use Rattle.std.specs.Prelude.{ℕ, Bool, List, [], length, ◌==◌, ◌-◌, ◌&&◌, ◌||◌, not, take, if◌then◌else◌, codes, slice_index, slice_index_or}
+use Rattle.std.specs.Prelude.{ℕ, Bool, List, [], length, ◌==◌, ◌-◌, ◌&&◌, ◌||◌, not, take}
+use Rattle.std.specs.Prelude.{if◌then◌else◌, codes, slice_index, slice_index_or}
 use Rattle.std.specs.Cmp.Lexicographic.{pointwise}
 use Rattle.std.specs.Str.{bytes_eq}
 use Rattle.mq_topic.specs.Texts.{parents}
@@ -31,4 +32,5 @@ is_hidden filter name = slice_index (level_at name 0) 0 == 36 && is_wildcard (le
 
 -- the filter with these levels matches the name with those
 abbrev pub matches : List (List ℕ) → List (List ℕ) → Bool
-matches filter name = not (length name == 0) && not (is_hidden filter name) && levels_match_by level_matches filter name
+matches filter name = not (length name == 0) && not (is_hidden filter name)
+    && levels_match_by level_matches filter name

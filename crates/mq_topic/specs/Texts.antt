@@ -1,12 +1,15 @@
 -- Which texts are topic names, topic filters and subscription texts, and what is wrong with the others
 -- (MQTT 5.0, sections 4.7.1 to 4.7.3 and 4.8.2; the limit of 200 levels is our own).
-use Rattle.std.specs.Prelude.{ℕ, Bool, List, length, ◌==◌, ◌-◌, ◌&&◌, ◌||◌, not, take, drop, nat_lt, nat_le, nat_eq, if◌then◌else◌, codes, Option, Some, None, Result, Ok, Err, true, false}
+use Rattle.std.specs.Prelude.{ℕ, Bool, List, length, ◌==◌, ◌-◌, ◌&&◌, ◌||◌, not, take, drop, nat_lt}
+use Rattle.std.specs.Prelude.{nat_le, nat_eq, if◌then◌else◌, codes, Option, Some, None, Result, Ok}
+use Rattle.std.specs.Prelude.{Err, true, false}
 use Rattle.std.specs.Option.{option_or}
 use Rattle.std.specs.List.{list_any, list_all, starts_with, before_first, after_first}
 use Rattle.std.specs.Str.{bytes_eq}
 use Rattle.mq_topic.specs.Levels.{levels, is_slash}
 use Rattle.mq_topic.specs.declared.fault.TopicFault.{TopicFault}
-use Rattle.mq_topic.specs.declared.fault.TopicFault.TheVariants.{Empty, TooLong, Nul, Wildcard, Levels, Share, Memory}
+use Rattle.mq_topic.specs.declared.fault.TopicFault.TheVariants.{Empty, TooLong, Nul, Wildcard}
+use Rattle.mq_topic.specs.declared.fault.TopicFault.TheVariants.{Levels, Share, Memory}
 
 abbrev pub contains_byte : ℕ → List ℕ → Bool
 contains_byte b text = list_any (λ c. c == b) text
@@ -17,7 +20,8 @@ is_plain text = not (contains_byte 43 text) && not (contains_byte 35 text)
 
 -- a level that contains `+` is `+`, and one that contains `#` is `#`
 abbrev pub is_level : List ℕ → Bool
-is_level l = (not (contains_byte 43 l) || bytes_eq l (codes "+")) && (not (contains_byte 35 l) || bytes_eq l (codes "#"))
+is_level l = (not (contains_byte 43 l) || bytes_eq l (codes "+"))
+    && (not (contains_byte 35 l) || bytes_eq l (codes "#"))
 
 -- the levels before the last
 abbrev pub parents : List (List ℕ) → List (List ℕ)
@@ -58,7 +62,9 @@ abbrev pub share_fits : List ℕ → List ℕ → Bool
 share_fits share filter = nat_lt 0 (length share) && is_plain share && nat_lt 0 (length filter)
 
 abbrev pub is_subscription : List ℕ → Bool
-is_subscription text = is_text text && (not (is_shared text) || share_fits (share_name text) (filter_part text)) && is_filter (filter_part text)
+is_subscription text = is_text text
+    && (not (is_shared text) || share_fits (share_name text) (filter_part text))
+    && is_filter (filter_part text)
 
 -- more than 200 levels
 abbrev pub is_deep : List ℕ → Bool
@@ -83,8 +89,10 @@ filter_fault text = first_fault text (wildcards_fit (levels text)) (is_deep text
 -- of a shared text the wildcards and the levels of the filter part count
 abbrev pub subscription_fault : List ℕ → Option TopicFault
 subscription_fault text =
-    option_or (first_fault text (wildcards_fit (levels (filter_part text))) (is_deep (filter_part text)))
-    (if is_shared text && not (share_fits (share_name text) (filter_part text)) then Some Share else None)
+    option_or (first_fault text (wildcards_fit (levels (filter_part text)))
+    (is_deep (filter_part text)))
+    (if is_shared text && not (share_fits (share_name text) (filter_part text)) then
+    Some Share else None)
 
 abbrev pub is_memory : TopicFault → Bool
 is_memory Memory = true

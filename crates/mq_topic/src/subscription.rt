@@ -1,6 +1,8 @@
-ghost use Rattle.std.specs.Prelude.{◌≡◌, IfOk, IfErr, IfSome, is_none, false, Some, IsTrue, string_bytes};
+ghost use Rattle.std.specs.Prelude.{◌≡◌, IfOk, IfErr, IfSome, is_none, false, Some, IsTrue};
+ghost use Rattle.std.specs.Prelude.{string_bytes};
 ghost use Rattle.std.specs.Option.{option_map, option_copied};
-ghost use Rattle.mq_topic.specs.Texts.{subscription_fault, told, accepts, is_memory, is_subscription, share_of, share_fits, filter_part};
+ghost use Rattle.mq_topic.specs.Texts.{subscription_fault, told, accepts, is_memory};
+ghost use Rattle.mq_topic.specs.Texts.{is_subscription, share_of, share_fits, filter_part};
 
 use crate::fault::TopicFault;
 use crate::filter::TopicFilter;
@@ -22,7 +24,8 @@ impl SubFilter {
     /// What this text subscribes to, or the first fault of the text. Of a shared text the wildcards and the levels
     /// of the filter part are tested, and the length of the whole. The text is tested before memory is taken.
     pub fn parse(alloc: Global, text: &str) -> Result<SubFilter, TopicFault>
-        ensures parts { IfOk result (λ sub. (option_map string_bytes sub.share ≡ share_of text.now) × (sub.filter ≡ filter_part text.now)) }
+        ensures parts { IfOk result (λ sub. (option_map string_bytes sub.share ≡ share_of text.now)
+            × (sub.filter ≡ filter_part text.now)) }
         ensures valid { accepts result ≡ is_subscription text.now }
         ensures fault { IfErr result (λ fault. subscription_fault text.now ≡ told fault) }
     {
@@ -39,7 +42,8 @@ impl SubFilter {
     #[tactic(auto, using(crate::proofs::TextLemmas::filter_part_is_filter))]
     fn new(alloc: Global, text: &str) -> Result<SubFilter, AllocError>
         requires { IsTrue (is_subscription text.now) }
-        ensures { IfOk result (λ sub. (option_map string_bytes sub.share ≡ share_of text.now) × (sub.filter ≡ filter_part text.now)) }
+        ensures { IfOk result (λ sub. (option_map string_bytes sub.share ≡ share_of text.now)
+            × (sub.filter ≡ filter_part text.now)) }
     {
         let (share, filter) = parts(text);
         let filter = TopicFilter::new(alloc, filter)?;
@@ -70,7 +74,8 @@ impl SubFilter {
 
     /// Another one with the same share name and filter.
     pub fn clone(&self) -> Result<SubFilter, AllocError>
-        ensures { IfOk result (λ copy. (option_map string_bytes copy.share ≡ option_map string_bytes self.now.share)
+        ensures { IfOk result
+            (λ copy. (option_map string_bytes copy.share ≡ option_map string_bytes self.now.share)
             × (copy.filter ≡ self.now.filter)) }
     {
         Ok(SubFilter {

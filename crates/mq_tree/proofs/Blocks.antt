@@ -1,5 +1,7 @@
 -- The prefixes of a node's keys, child by child.
-use Rattle.std.proofs.Common.{◌≡◌, ◌≢◌, ℕ, Bool, true, false, not, cond, List, [], ◌∷◌, ◌++◌, map, length, Option, Some, None, nat_cmp, refl, sym, ap, ap₂, ◌∙◌, arith, append_assoc, length-append}
+use Rattle.std.proofs.Common.{◌≡◌, ◌≢◌, ℕ, Bool, true, false, not, cond, List, [], ◌∷◌, ◌++◌, map}
+use Rattle.std.proofs.Common.{length, Option, Some, None, nat_cmp, refl, sym, ap, ap₂, ◌∙◌, arith}
+use Rattle.std.proofs.Common.{append_assoc, length-append}
 use Rattle.std.specs.Cmp.Lexicographic.{slice_cmp}
 use Rattle.std.specs.Str.{bytes_eq}
 use Rattle.std.specs.Map.{keys_of}
@@ -18,17 +20,25 @@ abbrev Apart : List ℕ → List (List ℕ) → Type 0
 Apart l [] = Unit {0}
 Apart l (m ∷ k) = bytes_eq l m ≡ false
 
-filter_all : (l : List ℕ) (last : List (List ℕ)) (ps : List (List (List ℕ))) → Apart l last → filter (λ p. not (is_prefix p last)) (map (λ p. l ∷ p) ps) ≡ map (λ p. l ∷ p) ps
+filter_all : (l : List ℕ) (last : List (List ℕ)) (ps : List (List (List ℕ))) → Apart l last
+    → filter (λ p. not (is_prefix p last)) (map (λ p. l ∷ p) ps) ≡ map (λ p. l ∷ p) ps
 filter_all l [] [] a = refl
 filter_all l (m ∷ k) [] a = refl
 filter_all l [] (p ∷ ps) a = ap (λ qs. (l ∷ p) ∷ qs) (filter_all l [] ps a)
 filter_all l (m ∷ k) (p ∷ ps) a = rw a (ap (λ qs. (l ∷ p) ∷ qs) (filter_all l (m ∷ k) ps a))
 
-filter_same : (l : List ℕ) (last : List (List ℕ)) (ps : List (List (List ℕ))) → filter (λ p. not (is_prefix p (l ∷ last))) (map (λ p. l ∷ p) ps) ≡ map (λ p. l ∷ p) (filter (λ p. not (is_prefix p last)) ps)
+filter_same : (l : List ℕ) (last : List (List ℕ)) (ps : List (List (List ℕ)))
+    → filter (λ p. not (is_prefix p (l ∷ last))) (map (λ p. l ∷ p) ps)
+    ≡ map (λ p. l ∷ p) (filter (λ p. not (is_prefix p last)) ps)
 filter_same l last [] = refl
 filter_same l last (p ∷ ps) =
     let rest = filter_same l last ps in
-    rw (is_same l) (elim (is_prefix p last) as (λ b. cond (not b) ((l ∷ p) ∷ filter (λ p. not (is_prefix p (l ∷ last))) (map (λ p. l ∷ p) ps)) (filter (λ p. not (is_prefix p (l ∷ last))) (map (λ p. l ∷ p) ps)) ≡ map (λ p. l ∷ p) (cond (not b) (p ∷ filter (λ p. not (is_prefix p last)) ps) (filter (λ p. not (is_prefix p last)) ps))) [
+    rw (is_same l) (elim (is_prefix p last)
+    as (λ b. cond (not b) ((l ∷ p) ∷ filter (λ p. not (is_prefix p (l ∷ last)))
+    (map (λ p. l ∷ p) ps))
+    (filter (λ p. not (is_prefix p (l ∷ last))) (map (λ p. l ∷ p) ps))
+    ≡ map (λ p. l ∷ p) (cond (not b) (p ∷ filter (λ p. not (is_prefix p last)) ps)
+    (filter (λ p. not (is_prefix p last)) ps))) [
       | true ↦ rest
       | false ↦ ap (λ qs. (l ∷ p) ∷ qs) rest
     ])
@@ -37,63 +47,93 @@ heads_none : (k : List (List ℕ)) → filter (λ p. not (is_prefix p [])) (head
 heads_none [] = refl
 heads_none (l ∷ k) = ap (λ qs. (l ∷ []) ∷ qs) (filter_all l [] (heads k) tt)
 
-new_same : (l : List ℕ) (last k : List (List ℕ)) → filter (λ p. not (is_prefix p (l ∷ last))) (heads (l ∷ k)) ≡ map (λ p. l ∷ p) (filter (λ p. not (is_prefix p last)) (heads k))
+new_same : (l : List ℕ) (last k : List (List ℕ))
+    → filter (λ p. not (is_prefix p (l ∷ last))) (heads (l ∷ k))
+    ≡ map (λ p. l ∷ p) (filter (λ p. not (is_prefix p last)) (heads k))
 new_same l last k = rw (is_same l) (filter_same l last (heads k))
 
-new_apart : (l : List ℕ) (last k : List (List ℕ)) → Apart l last → filter (λ p. not (is_prefix p last)) (heads (l ∷ k)) ≡ (l ∷ []) ∷ map (λ p. l ∷ p) (heads k)
+new_apart : (l : List ℕ) (last k : List (List ℕ)) → Apart l last
+    → filter (λ p. not (is_prefix p last)) (heads (l ∷ k)) ≡ (l ∷ []) ∷ map (λ p. l ∷ p) (heads k)
 new_apart l [] k a = ap (λ ps. (l ∷ []) ∷ ps) (filter_all l [] (heads k) a)
 new_apart l (m ∷ j) k a = rw a (ap (λ ps. (l ∷ []) ∷ ps) (filter_all l (m ∷ j) (heads k) a))
 
-under_list : {V : Type 0} (l : List ℕ) (last : List (List ℕ)) (es rest : Entries V) (R : List (List (List ℕ)))
+under_list : {V : Type 0} (l : List ℕ) (last : List (List ℕ)) (es rest : Entries V)
+    (R : List (List (List ℕ)))
     → ((k : List (List ℕ)) → prefixes_after (l ∷ k) (keys_of rest) ≡ R)
-    → prefixes_after (l ∷ last) (keys_of (under l es ++ rest)) ≡ map (λ p. l ∷ p) (prefixes_after last (keys_of es)) ++ R
+    → prefixes_after (l ∷ last) (keys_of (under l es ++ rest))
+    ≡ map (λ p. l ∷ p) (prefixes_after last (keys_of es)) ++ R
 under_list l last [] rest R f = f last
 under_list l last (e ∷ es) rest R f =
     let new = filter (λ p. not (is_prefix p last)) (heads e.0) in
     ap₂ (λ a b. a ++ b) (new_same l last e.0) (under_list l e.0 es rest R f)
-    ∙ sym (append_assoc (map (λ p. l ∷ p) new) (map (λ p. l ∷ p) (prefixes_after e.0 (keys_of es))) R)
+    ∙ sym (append_assoc (map (λ p. l ∷ p) new) (map (λ p. l ∷ p) (prefixes_after e.0 (keys_of es)))
+    R)
     ∙ ap (λ ps. ps ++ R) (sym (map-append (λ p. l ∷ p) new (prefixes_after e.0 (keys_of es))))
 
 -- a child's own prefix, and those below it
 abbrev pub block : {V : Type 0} → List ℕ × Entries V → List (List (List ℕ))
 block child = (child.0 ∷ []) ∷ map (λ p. child.0 ∷ p) (prefixes (keys_of child.1))
 
-block_list : {V : Type 0} (child : List ℕ × Entries V) (last : List (List ℕ)) (rest : Entries V) (R : List (List (List ℕ)))
-    → Apart child.0 last → child.1 ≢ [] → ((k : List (List ℕ)) → prefixes_after (child.0 ∷ k) (keys_of rest) ≡ R)
+block_list : {V : Type 0} (child : List ℕ × Entries V) (last : List (List ℕ)) (rest : Entries V)
+    (R : List (List (List ℕ)))
+    → Apart child.0 last → child.1 ≢ []
+    → ((k : List (List ℕ)) → prefixes_after (child.0 ∷ k) (keys_of rest) ≡ R)
     → prefixes_after last (keys_of (under child.0 child.1 ++ rest)) ≡ block child ++ R
 block_list {V} child last rest R a h f =
     let l = child.0 in
-    let go : (es : Entries V) → es ≢ [] → prefixes_after last (keys_of (under l es ++ rest)) ≡ block (l, es) ++ R =
-    λ es. elim es as (λ es. es ≢ [] → prefixes_after last (keys_of (under l es ++ rest)) ≡ block (l, es) ++ R) [
+    let go : (es : Entries V) → es ≢ [] → prefixes_after last (keys_of (under l es ++ rest))
+    ≡ block (l, es) ++ R =
+    λ es. elim es as (λ es. es ≢ [] → prefixes_after last (keys_of (under l es ++ rest))
+    ≡ block (l, es) ++ R) [
       | [] ↦ λ n. absurd (n refl)
       | e ∷ es ↦ λ n.
           ap₂ (λ x y. x ++ y) (new_apart l last e.0 a) (under_list l e.0 es rest R f)
           ∙ ap (λ ps. (l ∷ []) ∷ ps)
-          (sym (append_assoc (map (λ p. l ∷ p) (heads e.0)) (map (λ p. l ∷ p) (prefixes_after e.0 (keys_of es))) R)
-          ∙ ap (λ ps. ps ++ R) (sym (map-append (λ p. l ∷ p) (heads e.0) (prefixes_after e.0 (keys_of es))) ∙ ap (λ ps. map (λ p. l ∷ p) (ps ++ prefixes_after e.0 (keys_of es))) (sym (heads_none e.0))))
+          (sym (append_assoc (map (λ p. l ∷ p) (heads e.0))
+          (map (λ p. l ∷ p) (prefixes_after e.0 (keys_of es))) R)
+          ∙ ap (λ ps. ps ++ R)
+          (sym (map-append (λ p. l ∷ p) (heads e.0) (prefixes_after e.0 (keys_of es)))
+          ∙ ap (λ ps. map (λ p. l ∷ p) (ps ++ prefixes_after e.0 (keys_of es)))
+          (sym (heads_none e.0))))
     ] in
     go child.1 h
 
-blocks_after : {V : Type 0} (m : List ℕ) (k : List (List ℕ)) (children : Children V) → After m (keys_of children) → AreChildren children → prefixes_after (m ∷ k) (keys_of (below children)) ≡ flat_map block children
+blocks_after : {V : Type 0} (m : List ℕ) (k : List (List ℕ)) (children : Children V)
+    → After m (keys_of children) → AreChildren children
+    → prefixes_after (m ∷ k) (keys_of (below children)) ≡ flat_map block children
 blocks_after m k [] a h = refl
 blocks_after m k (child ∷ children) a h =
-    block_list child (m ∷ k) (below children) (flat_map block children) (apart_from_less child.0 m a.0) h.live.0
-    (λ j. blocks_after child.0 j children (sorted_head (slice_cmp nat_cmp) child.0 (keys_of children) h.ordered) (AreChildren-tail child children h))
+    block_list child (m ∷ k) (below children) (flat_map block children)
+    (apart_from_less child.0 m a.0) h.live.0
+    (λ j. blocks_after child.0 j children
+    (sorted_head (slice_cmp nat_cmp) child.0 (keys_of children) h.ordered)
+    (AreChildren-tail child children h))
 
-blocks_below : {V : Type 0} (children : Children V) → AreChildren children → prefixes (keys_of (below children)) ≡ flat_map block children
+blocks_below : {V : Type 0} (children : Children V) → AreChildren children
+    → prefixes (keys_of (below children)) ≡ flat_map block children
 blocks_below [] h = refl
 blocks_below (child ∷ children) h =
     block_list child [] (below children) (flat_map block children) tt h.live.0
-    (λ j. blocks_after child.0 j children (sorted_head (slice_cmp nat_cmp) child.0 (keys_of children) h.ordered) (AreChildren-tail child children h))
+    (λ j. blocks_after child.0 j children
+    (sorted_head (slice_cmp nat_cmp) child.0 (keys_of children) h.ordered)
+    (AreChildren-tail child children h))
 
-pub prefixes_own : {V : Type 0} (value : Option V) (children : Children V) → AreChildren children → prefixes (keys_of (own value ++ below children)) ≡ flat_map block children
+pub prefixes_own : {V : Type 0} (value : Option V) (children : Children V) → AreChildren children
+    → prefixes (keys_of (own value ++ below children)) ≡ flat_map block children
 prefixes_own None children h = blocks_below children h
 prefixes_own (Some v) children h = blocks_below children h
 
-pub length-blocks : {V : Type 0} (children : Children V) → length (flat_map block children) ≡ tallied (λ child. length (prefixes (keys_of child.1))) children
+pub length-blocks : {V : Type 0} (children : Children V)
+    → length (flat_map block children) ≡ tallied (λ child. length (prefixes (keys_of child.1)))
+    children
 length-blocks [] = refl
 length-blocks (child ∷ children) =
-    omega (arith, length-append (block child) (flat_map block children), length-map (prefixes (keys_of child.1)) (λ p. child.0 ∷ p), length-blocks children)
+    omega (
+      arith,
+      length-append (block child) (flat_map block children),
+      length-map (prefixes (keys_of child.1)) (λ p. child.0 ∷ p),
+      length-blocks children,
+    )
 
 -- ---- prefixes have a level
 abbrev pub is_here : List (List ℕ) → Bool
@@ -113,7 +153,8 @@ long_heads (l ∷ k) = (refl, long_map l (heads k))
 
 long_filter : (t : List (List ℕ) → Bool) (ps : List (List (List ℕ))) → Long ps → Long (filter t ps)
 long_filter t [] h = tt
-long_filter t (p ∷ ps) h = elim (t p) as (λ b. Long (cond b (p ∷ filter t ps) (filter t ps))) [ true ↦ (h.0, long_filter t ps h.1) | false ↦ long_filter t ps h.1 ]
+long_filter t (p ∷ ps) h = elim (t p) as (λ b. Long (cond b (p ∷ filter t ps) (filter t ps)))
+    [ true ↦ (h.0, long_filter t ps h.1) | false ↦ long_filter t ps h.1 ]
 
 long_append : (ps qs : List (List (List ℕ))) → Long ps → Long qs → Long (ps ++ qs)
 long_append [] qs h g = g
@@ -121,7 +162,9 @@ long_append (p ∷ ps) qs h g = (h.0, long_append ps qs h.1 g)
 
 long_after : (last : List (List ℕ)) (ks : List (List (List ℕ))) → Long (prefixes_after last ks)
 long_after last [] = tt
-long_after last (k ∷ ks) = long_append _ _ (long_filter (λ p. not (is_prefix p last)) (heads k) (long_heads k)) (long_after k ks)
+long_after last (k ∷ ks) =
+    long_append _ _ (long_filter (λ p. not (is_prefix p last)) (heads k) (long_heads k))
+    (long_after k ks)
 
 pub long_prefixes : (ks : List (List (List ℕ))) → Long (prefixes ks)
 long_prefixes ks = long_after [] ks

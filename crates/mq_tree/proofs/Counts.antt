@@ -1,12 +1,15 @@
 -- How many keys and nodes a node has, and what its values hold together.
-use Rattle.std.proofs.Common.{true≢false, ◌≡◌, ◌≢◌, ℕ, ◌+◌, ◌≤◌, Bool, true, false, ◌↔◌, eqb, List, [], ◌∷◌, ◌++◌, length, Option, Some, None, is_some, refl, sym, ap, ap₂, ◌∙◌, suc, arith, length-append}
+use Rattle.std.proofs.Common.{true≢false, ◌≡◌, ◌≢◌, ℕ, ◌+◌, ◌≤◌, Bool, true, false, ◌↔◌, eqb, List}
+use Rattle.std.proofs.Common.{[], ◌∷◌, ◌++◌, length, Option, Some, None, is_some, refl, sym, ap}
+use Rattle.std.proofs.Common.{ap₂, ◌∙◌, suc, arith, length-append}
 use mir.Val.{bool_byte}
 use Rattle.std.specs.List.{sum_by}
 use Rattle.std.specs.Map.{keys_of, values_of}
 use Rattle.std.proofs.lemmas.Bool.Decides.{nat_tests}
 use Rattle.std.proofs.lemmas.List.Sums.{sum_by-cons, sum_by-append}
 use Rattle.mq_tree.specs.Entries.{Entries, capped}
-use Rattle.mq_tree.specs.Nodes.{NodeView, Branches, Children, under, below, own, entries_of, entries_in, children_of, AreChildren}
+use Rattle.mq_tree.specs.Nodes.{NodeView, Branches, Children, under, below, own, entries_of}
+use Rattle.mq_tree.specs.Nodes.{entries_in, children_of, AreChildren}
 use Rattle.mq_tree.specs.Below.{tallied}
 use Rattle.mq_tree.specs.Prefixes.{prefixes}
 use Rattle.mq_tree.proofs.Blocks.{prefixes_own, length-blocks}
@@ -19,23 +22,34 @@ some_length : {A : Type 0} (es : List A) → es ≢ [] → 1 ≤ length es
 some_length [] h = absurd (h refl)
 some_length (e ∷ es) h = omega arith
 
-pub length-below : {V : Type 0} (children : Children V) → length (below children) ≡ sum_by length (values_of children)
+pub length-below : {V : Type 0} (children : Children V)
+    → length (below children) ≡ sum_by length (values_of children)
 length-below [] = refl
 length-below (child ∷ children) =
-    length-append (under child.0 child.1) (below children) ∙ ap₂ (λ a b. a + b) (length-under child.0 child.1) (length-below children) ∙ sym (sum_by-cons length child.1 (values_of children))
+    length-append (under child.0 child.1) (below children)
+    ∙ ap₂ (λ a b. a + b) (length-under child.0 child.1) (length-below children)
+    ∙ sym (sum_by-cons length child.1 (values_of children))
 
-pub some_below : {V : Type 0} (children : Children V) → AreChildren children → 1 ≤ length children → 1 ≤ length (below children)
+pub some_below : {V : Type 0} (children : Children V) → AreChildren children → 1 ≤ length children
+    → 1 ≤ length (below children)
 some_below [] h p = absurd (omega arith)
 some_below (child ∷ children) h p =
-    omega (arith, some_length child.1 h.live.0, length-under child.0 child.1, length-append (under child.0 child.1) (below children))
+    omega (
+      arith,
+      some_length child.1 h.live.0,
+      length-under child.0 child.1,
+      length-append (under child.0 child.1) (below children),
+    )
 
 nonzero : (n : ℕ) → 1 ≤ n → false ≡ eqb n 0
 nonzero n h = grind (arith, nat_tests)
 
-bare : {V : Type 0} (b : Bool) (children : Children V) → AreChildren children → ((b ≡ true) ↔ (length children ≡ 0)) → b ≡ eqb (length (below children)) 0
+bare : {V : Type 0} (b : Bool) (children : Children V) → AreChildren children
+    → ((b ≡ true) ↔ (length children ≡ 0)) → b ≡ eqb (length (below children)) 0
 bare b [] h f = f.1 refl
 bare b (child ∷ children) h f =
-    elim b as (λ b. (b ≡ true → length (child ∷ children) ≡ 0) → b ≡ eqb (length (below (child ∷ children))) 0) [
+    elim b as (λ b. (b ≡ true → length (child ∷ children) ≡ 0)
+    → b ≡ eqb (length (below (child ∷ children))) 0) [
       | true ↦ λ g. let e : length (child ∷ children) ≡ 0 = g refl in absurd (omega arith)
       | false ↦ λ g. nonzero _ (some_below (child ∷ children) h (omega arith))
     ] f.0
@@ -44,60 +58,98 @@ length-children : {Y V : Type 0} (nodes : Branches Y V) → length (children_of 
 length-children [] = refl
 length-children (node ∷ nodes) = ap suc (length-children nodes)
 
-pub bare_from_none : {Y V : Type 0} (b : Bool) (value : Option V) (nodes : Branches Y V) (now : NodeView V) → is_some value ≡ false → ◌≡◌ {A = NodeView V} (value, children_of nodes) now → AreChildren (children_of nodes) → ((b ≡ true) ↔ (length nodes ≡ 0)) → b ≡ eqb (length (entries_of now)) 0
-bare_from_none b None nodes now e is h f = rw (← is) (bare b (children_of nodes) h (λ t. length-children nodes ∙ f.0 t, λ n. f.1 (sym (length-children nodes) ∙ n)))
+pub bare_from_none : {Y V : Type 0} (b : Bool) (value : Option V) (nodes : Branches Y V)
+    (now : NodeView V) → is_some value ≡ false → ◌≡◌ {A = NodeView V} (value, children_of nodes) now
+    → AreChildren (children_of nodes) → ((b ≡ true) ↔ (length nodes ≡ 0))
+    → b ≡ eqb (length (entries_of now)) 0
+bare_from_none b None nodes now e is h f =
+    rw (← is) (bare b (children_of nodes) h (
+      λ t. length-children nodes
+          ∙ f.0 t,
+      λ n. f.1 (sym (length-children nodes) ∙ n),
+    ))
 bare_from_none b (Some v) nodes now e is h f = absurd (true≢false e)
 
 -- ---- keys
-pub length-own : {V : Type 0} (value : Option V) (children : Children V) (n : ℕ) → n ≡ bool_byte (is_some value) → n + sum_by length (values_of children) ≡ length (own value ++ below children)
+pub length-own : {V : Type 0} (value : Option V) (children : Children V) (n : ℕ)
+    → n ≡ bool_byte (is_some value) → n + sum_by length (values_of children)
+    ≡ length (own value ++ below children)
 length-own None children n e = omega (arith, length-below children)
 length-own (Some v) children n e = omega (arith, length-below children)
 
 -- ---- over a map's nodes
-sum_by-children : {Y V : Type 0} (f : Entries V → ℕ) (nodes : Branches Y V) → sum_by f (values_of (children_of nodes)) ≡ sum_by (λ node. f (entries_in node)) (values_of nodes)
+sum_by-children : {Y V : Type 0} (f : Entries V → ℕ) (nodes : Branches Y V)
+    → sum_by f (values_of (children_of nodes))
+    ≡ sum_by (λ node. f (entries_in node)) (values_of nodes)
 sum_by-children f [] = refl
-sum_by-children f (node ∷ nodes) = sum_by-cons f (entries_in node.1) (values_of (children_of nodes)) ∙ ap (λ n. f (entries_in node.1) + n) (sum_by-children f nodes) ∙ sym (sum_by-cons (λ x. f (entries_in x)) node.1 (values_of nodes))
+sum_by-children f (node ∷ nodes) = sum_by-cons f (entries_in node.1) (values_of (children_of nodes))
+    ∙ ap (λ n. f (entries_in node.1) + n) (sum_by-children f nodes)
+    ∙ sym (sum_by-cons (λ x. f (entries_in x)) node.1 (values_of nodes))
 
-pub length-node : {Y V : Type 0} (value : Option V) (nodes : Branches Y V) (now : NodeView V) (n : ℕ) → ◌≡◌ {A = NodeView V} (value, children_of nodes) now → n ≡ bool_byte (is_some value)
+pub length-node : {Y V : Type 0} (value : Option V) (nodes : Branches Y V) (now : NodeView V)
+    (n : ℕ) → ◌≡◌ {A = NodeView V} (value, children_of nodes) now → n ≡ bool_byte (is_some value)
     → n + sum_by (λ node. length (entries_in node)) (values_of nodes) ≡ length (entries_of now)
-length-node value nodes now n is e = ap (λ s. n + s) (sym (sum_by-children length nodes)) ∙ length-own value (children_of nodes) n e ∙ ap (λ node. length (entries_of node)) is
+length-node value nodes now n is e = ap (λ s. n + s) (sym (sum_by-children length nodes))
+    ∙ length-own value (children_of nodes) n e ∙ ap (λ node. length (entries_of node)) is
 
 -- how many nodes a child and those below it are
 abbrev pub nodes_of : {V : Type 0} → Entries V → ℕ
 nodes_of es = length (prefixes (keys_of es)) + 1
 
-tallied_nodes : {Y V : Type 0} (nodes : Branches Y V) → tallied (λ child. length (prefixes (keys_of child.1))) (children_of nodes) ≡ sum_by (λ node. nodes_of (entries_in node)) (values_of nodes)
+tallied_nodes : {Y V : Type 0} (nodes : Branches Y V)
+    → tallied (λ child. length (prefixes (keys_of child.1))) (children_of nodes)
+    ≡ sum_by (λ node. nodes_of (entries_in node)) (values_of nodes)
 tallied_nodes [] = refl
-tallied_nodes (node ∷ nodes) = omega (arith, tallied_nodes nodes, sum_by-cons (λ x. nodes_of (entries_in x)) node.1 (values_of nodes))
+tallied_nodes (node ∷ nodes) =
+    omega (
+      arith,
+      tallied_nodes nodes,
+      sum_by-cons (λ x. nodes_of (entries_in x)) node.1
+          (values_of nodes),
+    )
 
-pub prefixes_node : {Y V : Type 0} (value : Option V) (nodes : Branches Y V) (now : NodeView V) → ◌≡◌ {A = NodeView V} (value, children_of nodes) now → AreChildren (children_of nodes)
-    → sum_by (λ node. nodes_of (entries_in node)) (values_of nodes) ≡ length (prefixes (keys_of (entries_of now)))
+pub prefixes_node : {Y V : Type 0} (value : Option V) (nodes : Branches Y V) (now : NodeView V)
+    → ◌≡◌ {A = NodeView V} (value, children_of nodes) now → AreChildren (children_of nodes)
+    → sum_by (λ node. nodes_of (entries_in node)) (values_of nodes)
+    ≡ length (prefixes (keys_of (entries_of now)))
 prefixes_node value nodes now is are =
-    sym (tallied_nodes nodes) ∙ sym (length-blocks (children_of nodes)) ∙ ap length (sym (prefixes_own value (children_of nodes) are)) ∙ ap (λ node. length (prefixes (keys_of (entries_of node)))) is
+    sym (tallied_nodes nodes) ∙ sym (length-blocks (children_of nodes))
+    ∙ ap length (sym (prefixes_own value (children_of nodes) are))
+    ∙ ap (λ node. length (prefixes (keys_of (entries_of node)))) is
 
 -- ---- values
 -- what the values hold, f of each
 abbrev pub held : {V : Type 0} → (V → ℕ) → Entries V → ℕ
 held f es = sum_by (λ e. f e.1) es
 
-held-under : {V : Type 0} (f : V → ℕ) (l : List ℕ) (es : Entries V) → held f (under l es) ≡ held f es
+held-under : {V : Type 0} (f : V → ℕ) (l : List ℕ) (es : Entries V)
+    → held f (under l es) ≡ held f es
 held-under f l [] = refl
 held-under f l (e ∷ es) =
-    sum_by-cons (λ x. f x.1) (l ∷ e.0, e.1) (under l es) ∙ ap (λ n. f e.1 + n) (held-under f l es) ∙ sym (sum_by-cons (λ x. f x.1) e es)
+    sum_by-cons (λ x. f x.1) (l ∷ e.0, e.1) (under l es) ∙ ap (λ n. f e.1 + n) (held-under f l es)
+    ∙ sym (sum_by-cons (λ x. f x.1) e es)
 
-held-below : {V : Type 0} (f : V → ℕ) (children : Children V) → held f (below children) ≡ sum_by (held f) (values_of children)
+held-below : {V : Type 0} (f : V → ℕ) (children : Children V)
+    → held f (below children) ≡ sum_by (held f) (values_of children)
 held-below f [] = refl
 held-below f (child ∷ children) =
     sum_by-append (λ e. f e.1) (under child.0 child.1) (below children)
-    ∙ ap₂ (λ a b. a + b) (held-under f child.0 child.1) (held-below f children) ∙ sym (sum_by-cons (held f) child.1 (values_of children))
+    ∙ ap₂ (λ a b. a + b) (held-under f child.0 child.1) (held-below f children)
+    ∙ sym (sum_by-cons (held f) child.1 (values_of children))
 
-pub held-node : {Y V : Type 0} (f : V → ℕ) (value : Option V) (nodes : Branches Y V) (now : NodeView V) (n : ℕ) → ◌≡◌ {A = NodeView V} (value, children_of nodes) now → n ≡ capped (held f (own value))
-    → capped (n + sum_by (λ node. held f (entries_in node)) (values_of nodes)) ≡ capped (held f (entries_of now))
+pub held-node : {Y V : Type 0} (f : V → ℕ) (value : Option V) (nodes : Branches Y V)
+    (now : NodeView V) (n : ℕ) → ◌≡◌ {A = NodeView V} (value, children_of nodes) now
+    → n ≡ capped (held f (own value))
+    → capped (n + sum_by (λ node. held f (entries_in node)) (values_of nodes))
+    ≡ capped (held f (entries_of now))
 held-node f value nodes now n is e =
-    let rest : held f (below (children_of nodes)) ≡ sum_by (λ node. held f (entries_in node)) (values_of nodes) =
+    let rest : held f (below (children_of nodes))
+    ≡ sum_by (λ node. held f (entries_in node)) (values_of nodes) =
     held-below f (children_of nodes) ∙ sum_by-children (held f) nodes in
-    let whole : held f (own value ++ below (children_of nodes)) ≡ held f (own value) + held f (below (children_of nodes)) =
+    let whole : held f (own value ++ below (children_of nodes)) ≡ held f (own value)
+    + held f (below (children_of nodes)) =
     sum_by-append (λ e. f e.1) (own value) (below (children_of nodes)) in
-    let both : capped (n + sum_by (λ node. held f (entries_in node)) (values_of nodes)) ≡ capped (held f (own value ++ below (children_of nodes))) =
+    let both : capped (n + sum_by (λ node. held f (entries_in node)) (values_of nodes))
+    ≡ capped (held f (own value ++ below (children_of nodes))) =
     omega (arith, e, rest, whole) in
     both ∙ ap (λ node. capped (held f (entries_of node))) is

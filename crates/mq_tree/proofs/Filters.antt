@@ -1,15 +1,18 @@
 -- A filter's levels, taken one by one at a node.
-use Rattle.std.proofs.Common.{◌≡◌, ◌≢◌, ℕ, ◌<◌, ◌≤◌, ◌||◌, ◌&&◌, Bool, true, false, List, [], ◌∷◌, ◌++◌, length, refl, ap, ap₂, ◌∙◌, arith, append-nil}
+use Rattle.std.proofs.Common.{◌≡◌, ◌≢◌, ℕ, ◌<◌, ◌≤◌, ◌||◌, ◌&&◌, Bool, true, false, List, [], ◌∷◌}
+use Rattle.std.proofs.Common.{◌++◌, length, refl, ap, ap₂, ◌∙◌, arith, append-nil}
 use Rattle.std.specs.Str.{bytes_eq}
 use Rattle.std.specs.Map.{keys_of, values_of}
 use Rattle.std.specs.List.{filter, flat_map, list_any, AllByRecursion}
 use Rattle.std.proofs.lemmas.List.{map-append}
 use Rattle.std.proofs.lemmas.List.Elements.{filter_agree}
 use Rattle.mq_topic.specs.Matching.{level_matches}
-use Rattle.mq_tree.specs.Below.{hash, plus, is_last_hash, matches_below, fronts, meets_filter, values_at, tallied, HashLast}
+use Rattle.mq_tree.specs.Below.{hash, plus, is_last_hash, matches_below, fronts, meets_filter}
+use Rattle.mq_tree.specs.Below.{values_at, tallied, HashLast}
 use Rattle.mq_tree.specs.Entries.{Entries}
 use Rattle.mq_tree.specs.Falls.{weight-append, weight-under, some_length}
-use Rattle.mq_tree.specs.Nodes.{NodeView, Children, under, below, own, entries_of, weight, NoneDead, AreChildren}
+use Rattle.mq_tree.specs.Nodes.{NodeView, Children, under, below, own, entries_of, weight, NoneDead}
+use Rattle.mq_tree.specs.Nodes.{AreChildren}
 use Rattle.mq_tree.specs.Prefixes.{prefixes}
 use Rattle.mq_tree.proofs.Blocks.{is_here, long_prefixes, prefixes_own, length-blocks}
 use Rattle.mq_tree.proofs.Levels.{not_same}
@@ -21,18 +24,27 @@ values_under : {V : Type 0} (l : List ℕ) (es : Entries V) → values_of (under
 values_under l [] = refl
 values_under l (e ∷ es) = ap (λ vs. e.1 ∷ vs) (values_under l es)
 
-values_below : {V : Type 0} (children : Children V) → values_of (below children) ≡ flat_map (λ child. values_of child.1) children
+values_below : {V : Type 0} (children : Children V)
+    → values_of (below children) ≡ flat_map (λ child. values_of child.1) children
 values_below [] = refl
-values_below (child ∷ children) = map-append (λ e. e.1) (under child.0 child.1) (below children) ∙ ap₂ (λ a b. a ++ b) (values_under child.0 child.1) (values_below children)
+values_below (child ∷ children) = map-append (λ e. e.1) (under child.0 child.1) (below children)
+    ∙ ap₂ (λ a b. a ++ b) (values_under child.0 child.1) (values_below children)
 
-pub all_values : {V : Type 0} (node : NodeView V) → values_of (entries_of node) ≡ values_of (own node.0) ++ flat_map (λ child. values_of child.1) node.1
-all_values node = map-append (λ e. e.1) (own node.0) (below node.1) ∙ ap (λ vs. values_of (own node.0) ++ vs) (values_below node.1)
+pub all_values : {V : Type 0} (node : NodeView V)
+    → values_of (entries_of node) ≡ values_of (own node.0)
+    ++ flat_map (λ child. values_of child.1) node.1
+all_values node = map-append (λ e. e.1) (own node.0) (below node.1)
+    ∙ ap (λ vs. values_of (own node.0) ++ vs) (values_below node.1)
 
-pub all_met : {V : Type 0} (node : NodeView V) → AreChildren node.1 → length (prefixes (keys_of (entries_of node))) ≡ tallied (λ child. length (prefixes (keys_of child.1))) node.1
+pub all_met : {V : Type 0} (node : NodeView V) → AreChildren node.1
+    → length (prefixes (keys_of (entries_of node)))
+    ≡ tallied (λ child. length (prefixes (keys_of child.1))) node.1
 all_met node are = ap length (prefixes_own node.0 node.1 are) ∙ length-blocks node.1
 
 -- the first of some children weighs less than what they stand below
-pub first_weighs_less : {V : Type 0} (child : List ℕ × Entries V) (rest : Children V) (n : ℕ) → NoneDead (child ∷ rest) → weight (below (child ∷ rest)) ≤ n → (weight child.1 < n) × (weight (below rest) ≤ n)
+pub first_weighs_less : {V : Type 0} (child : List ℕ × Entries V) (rest : Children V) (n : ℕ)
+    → NoneDead (child ∷ rest) → weight (below (child ∷ rest)) ≤ n → (weight child.1 < n)
+    × (weight (below rest) ≤ n)
 first_weighs_less child rest n live low =
     let a = weight-append (under child.0 child.1) (below rest) in
     let b = weight-under child.0 child.1 in
@@ -40,21 +52,26 @@ first_weighs_less child rest n live low =
     (omega (arith, a, b, s, low), omega (arith, a, b, s, low))
 
 -- ---- the filter's end
-pub end_found : {V : Type 0} (node : NodeView V) → values_at (matches_below []) (entries_of node) ≡ values_of (own node.0)
+pub end_found : {V : Type 0} (node : NodeView V)
+    → values_at (matches_below []) (entries_of node) ≡ values_of (own node.0)
 end_found node =
     values_node (matches_below []) (λ m. false) (λ m k. false) (λ m k. refl) node.0 node.1 true refl
-    ∙ ap (λ cs. values_of (own node.0) ++ flat_map (λ child. values_at (λ k. false) child.1) cs) (filter_none node.1) ∙ append-nil (values_of (own node.0))
+    ∙ ap (λ cs. values_of (own node.0) ++ flat_map (λ child. values_at (λ k. false) child.1) cs)
+    (filter_none node.1) ∙ append-nil (values_of (own node.0))
 
-end_none : (ps : List (List (List ℕ))) → AllByRecursion (λ p. is_here p ≡ false) ps → filter (meets_filter []) ps ≡ []
+end_none : (ps : List (List (List ℕ))) → AllByRecursion (λ p. is_here p ≡ false) ps
+    → filter (meets_filter []) ps ≡ []
 end_none [] h = refl
 end_none ([] ∷ ps) h = absurd (let e : true ≡ false = h.0 in cc)
 end_none ((m ∷ q) ∷ ps) h = end_none ps h.1
 
-pub end_met : {V : Type 0} (es : Entries V) → length (filter (meets_filter []) (prefixes (keys_of es))) ≡ 0
+pub end_met : {V : Type 0} (es : Entries V)
+    → length (filter (meets_filter []) (prefixes (keys_of es))) ≡ 0
 end_met es = ap length (end_none (prefixes (keys_of es)) (long_prefixes (keys_of es)))
 
 -- ---- at `#`
-pub hash_ends : (ls : List (List ℕ)) (l : List ℕ) (rest : List (List ℕ)) → ls ≡ l ∷ rest → HashLast ls → l ≡ hash → ls ≡ hash ∷ []
+pub hash_ends : (ls : List (List ℕ)) (l : List ℕ) (rest : List (List ℕ)) → ls ≡ l ∷ rest
+    → HashLast ls → l ≡ hash → ls ≡ hash ∷ []
 hash_ends ls l [] e h s = e ∙ ap (λ x. x ∷ []) s
 hash_ends ls l (m ∷ rest) e h s = absurd ((rw e at h).0 s)
 
@@ -66,48 +83,75 @@ pub hash_meets : (p : List (List ℕ)) → meets_filter (hash ∷ []) p ≡ true
 hash_meets [] = refl
 hash_meets (l ∷ p) = refl
 
-pub hash_found : {V : Type 0} (es : Entries V) → values_at (matches_below (hash ∷ [])) es ≡ values_of es
-hash_found es = ap values_of (filter_agree (λ e. matches_below (hash ∷ []) e.0) (λ e. true) (λ e. hash_matches e.0) es ∙ filter_each es)
+pub hash_found : {V : Type 0} (es : Entries V)
+    → values_at (matches_below (hash ∷ [])) es ≡ values_of es
+hash_found es =
+    ap values_of (filter_agree (λ e. matches_below (hash ∷ []) e.0) (λ e. true)
+    (λ e. hash_matches e.0) es ∙ filter_each es)
 
-pub hash_met : {V : Type 0} (es : Entries V) → length (filter (meets_filter (hash ∷ [])) (prefixes (keys_of es))) ≡ length (prefixes (keys_of es))
-hash_met es = ap length (filter_agree (meets_filter (hash ∷ [])) (λ p. true) hash_meets (prefixes (keys_of es)) ∙ filter_each (prefixes (keys_of es)))
+pub hash_met : {V : Type 0} (es : Entries V)
+    → length (filter (meets_filter (hash ∷ [])) (prefixes (keys_of es)))
+    ≡ length (prefixes (keys_of es))
+hash_met es =
+    ap length (filter_agree (meets_filter (hash ∷ [])) (λ p. true) hash_meets
+    (prefixes (keys_of es)) ∙ filter_each (prefixes (keys_of es)))
 
 -- ---- at another level
-any_and : {A : Type 0} (b : Bool) (g h : A → Bool) (xs : List A) → AllByRecursion (λ x. h x ≡ false) xs → list_any (λ x. h x || (b && g x)) xs ≡ (b && list_any g xs)
+any_and : {A : Type 0} (b : Bool) (g h : A → Bool) (xs : List A)
+    → AllByRecursion (λ x. h x ≡ false) xs → list_any (λ x. h x || (b && g x)) xs
+    ≡ (b && list_any g xs)
 any_and true g h [] a = refl
 any_and false g h [] a = refl
 any_and true g h (x ∷ xs) a = rw a.0 (ap (λ c. g x || c) (any_and true g h xs a.1))
 any_and false g h (x ∷ xs) a = rw a.0 (any_and false g h xs a.1)
 
-never_last : (f : List ℕ) (gs : List (List (List ℕ))) → bytes_eq f hash ≡ false → AllByRecursion (λ g. is_last_hash f g ≡ false) gs
+never_last : (f : List ℕ) (gs : List (List (List ℕ))) → bytes_eq f hash ≡ false
+    → AllByRecursion (λ g. is_last_hash f g ≡ false) gs
 never_last f [] h = tt
 never_last f (g ∷ gs) h = (not_last f g h, never_last f gs h)
 
-pub level_step : (f : List ℕ) (fs : List (List ℕ)) → bytes_eq f hash ≡ false → (m : List ℕ) (k : List (List ℕ)) → matches_below (f ∷ fs) (m ∷ k) ≡ (level_matches f m && matches_below fs k)
+pub level_step : (f : List ℕ) (fs : List (List ℕ)) → bytes_eq f hash ≡ false
+    → (m : List ℕ) (k : List (List ℕ)) → matches_below (f ∷ fs) (m ∷ k)
+    ≡ (level_matches f m && matches_below fs k)
 level_step f fs h m k = ap (λ b. b || (level_matches f m && matches_below fs k)) (not_last f fs h)
 
-pub level_met_step : (f : List ℕ) (fs : List (List ℕ)) → bytes_eq f hash ≡ false → (m : List ℕ) (p : List (List ℕ)) → meets_filter (f ∷ fs) (m ∷ p) ≡ (level_matches f m && meets_filter fs p)
+pub level_met_step : (f : List ℕ) (fs : List (List ℕ)) → bytes_eq f hash ≡ false
+    → (m : List ℕ) (p : List (List ℕ)) → meets_filter (f ∷ fs) (m ∷ p)
+    ≡ (level_matches f m && meets_filter fs p)
 level_met_step f fs h m p =
     any_map (λ g. matches_below g (m ∷ p)) (λ g. f ∷ g) (fronts fs)
-    ∙ any_and (level_matches f m) (λ g. matches_below g p) (λ g. is_last_hash f g) (fronts fs) (never_last f (fronts fs) h)
+    ∙ any_and (level_matches f m) (λ g. matches_below g p) (λ g. is_last_hash f g) (fronts fs)
+    (never_last f (fronts fs) h)
 
-pub exact_step : (f : List ℕ) (fs : List (List ℕ)) → f ≢ hash → f ≢ plus → (m : List ℕ) (k : List (List ℕ)) → matches_below (f ∷ fs) (m ∷ k) ≡ (bytes_eq f m && matches_below fs k)
-exact_step f fs h q m k = level_step f fs (not_same f hash h) m k ∙ ap (λ b. (b || bytes_eq f m) && matches_below fs k) (not_same f plus q)
+pub exact_step : (f : List ℕ) (fs : List (List ℕ)) → f ≢ hash → f ≢ plus
+    → (m : List ℕ) (k : List (List ℕ)) → matches_below (f ∷ fs) (m ∷ k)
+    ≡ (bytes_eq f m && matches_below fs k)
+exact_step f fs h q m k = level_step f fs (not_same f hash h) m k
+    ∙ ap (λ b. (b || bytes_eq f m) && matches_below fs k) (not_same f plus q)
 
-pub exact_met_step : (f : List ℕ) (fs : List (List ℕ)) → f ≢ hash → f ≢ plus → (m : List ℕ) (p : List (List ℕ)) → meets_filter (f ∷ fs) (m ∷ p) ≡ (bytes_eq f m && meets_filter fs p)
-exact_met_step f fs h q m p = level_met_step f fs (not_same f hash h) m p ∙ ap (λ b. (b || bytes_eq f m) && meets_filter fs p) (not_same f plus q)
+pub exact_met_step : (f : List ℕ) (fs : List (List ℕ)) → f ≢ hash → f ≢ plus
+    → (m : List ℕ) (p : List (List ℕ)) → meets_filter (f ∷ fs) (m ∷ p)
+    ≡ (bytes_eq f m && meets_filter fs p)
+exact_met_step f fs h q m p = level_met_step f fs (not_same f hash h) m p
+    ∙ ap (λ b. (b || bytes_eq f m) && meets_filter fs p) (not_same f plus q)
 
 -- ---- at `+`
 module _ {V : Type 0} (node : NodeView V) (fs : List (List ℕ)) where
-  pub plus_found : values_at (matches_below (plus ∷ fs)) (entries_of node) ≡ flat_map (λ child. values_at (matches_below fs) child.1) node.1
+  pub plus_found : values_at (matches_below (plus ∷ fs)) (entries_of node)
+      ≡ flat_map (λ child. values_at (matches_below fs) child.1) node.1
   plus_found =
-      values_node (matches_below (plus ∷ fs)) (λ m. true) (λ m. matches_below fs) (level_step plus fs refl) node.0 node.1 false (not_last plus fs refl)
+      values_node (matches_below (plus ∷ fs)) (λ m. true) (λ m. matches_below fs)
+      (level_step plus fs refl) node.0 node.1 false (not_last plus fs refl)
       ∙ ap (flat_map (λ child. values_at (matches_below fs) child.1)) (filter_each node.1)
 
-  pub plus_met : AreChildren node.1 → length (filter (meets_filter (plus ∷ fs)) (prefixes (keys_of (entries_of node)))) ≡ tallied (λ child. length (filter (meets_filter fs) (prefixes (keys_of child.1)))) node.1
+  pub plus_met : AreChildren node.1
+      → length (filter (meets_filter (plus ∷ fs)) (prefixes (keys_of (entries_of node))))
+      ≡ tallied (λ child. length (filter (meets_filter fs) (prefixes (keys_of child.1)))) node.1
   plus_met are =
-      met_node (meets_filter (plus ∷ fs)) (λ m. true) (λ m. meets_filter fs) (level_met_step plus fs refl) node.0 node.1 are (λ m h. refl)
-      ∙ ap (tallied (λ child. length (filter (meets_filter fs) (prefixes (keys_of child.1))))) (filter_each node.1)
+      met_node (meets_filter (plus ∷ fs)) (λ m. true) (λ m. meets_filter fs)
+      (level_met_step plus fs refl) node.0 node.1 are (λ m h. refl)
+      ∙ ap (tallied (λ child. length (filter (meets_filter fs) (prefixes (keys_of child.1)))))
+      (filter_each node.1)
 
 pub not_key : (f : List ℕ) (fs : List (List ℕ)) → f ≢ hash → matches_below (f ∷ fs) [] ≡ false
 not_key f fs h = not_last f fs (not_same f hash h)

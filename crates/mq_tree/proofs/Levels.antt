@@ -1,5 +1,7 @@
 -- Whether two levels are the same, and which comes first.
-use Rattle.std.proofs.Common.{true≢false, ◌≡◌, ◌≢◌, ℕ, ◌≤◌, Bool, true, false, cond, List, [], ◌∷◌, length, Ordering, Less, Equal, Greater, nat_cmp, nat_lt, eqb, get_or, arith, refl, sym, ap, ◌∙◌}
+use Rattle.std.proofs.Common.{true≢false, ◌≡◌, ◌≢◌, ℕ, ◌≤◌, Bool, true, false, cond, List, [], ◌∷◌}
+use Rattle.std.proofs.Common.{length, Ordering, Less, Equal, Greater, nat_cmp, nat_lt, eqb, get_or}
+use Rattle.std.proofs.Common.{arith, refl, sym, ap, ◌∙◌}
 use Rattle.std.specs.Str.{bytes_eq}
 use Rattle.std.specs.Cmp.Lexicographic.{slice_cmp}
 use Rattle.std.specs.Ordering.{is_lt, ordering_then, ordering_reverse}
@@ -18,31 +20,42 @@ same_from_true l m h = (slice_eq-Decides Decides-eqb l m (bytes_eq l m) refl).0 
 pub not_same : (l m : List ℕ) → l ≢ m → bytes_eq l m ≡ false
 not_same l m n =
     let go : (b : Bool) → bytes_eq l m ≡ b → b ≡ false =
-    λ b. elim b as (λ b. bytes_eq l m ≡ b → b ≡ false) [ true ↦ λ e. absurd (n (same_from_true l m e)) | false ↦ λ e. refl ] in
+    λ b. elim b as (λ b. bytes_eq l m ≡ b → b ≡ false)
+    [ true ↦ λ e. absurd (n (same_from_true l m e)) | false ↦ λ e. refl ] in
     go (bytes_eq l m) refl
 
 pub apart_from_less : (l m : List ℕ) → slice_cmp nat_cmp m l ≡ Less → bytes_eq l m ≡ false
 apart_from_less l m e =
-    not_same l m (λ same. absurd (true≢false (sym (ap is_lt e) ∙ ap (λ x. is_lt (slice_cmp nat_cmp m x)) same ∙ ap is_lt (tied_itself nat_list_cmp_total m))))
+    not_same l m (λ same. absurd
+    (true≢false (sym (ap is_lt e) ∙ ap (λ x. is_lt (slice_cmp nat_cmp m x)) same
+    ∙ ap is_lt (tied_itself nat_list_cmp_total m))))
 
 pub apart_from_greater : (l m : List ℕ) → slice_cmp nat_cmp l m ≡ Less → bytes_eq l m ≡ false
 apart_from_greater l m e =
-    not_same l m (λ same. absurd (true≢false (sym (ap is_lt e) ∙ ap (λ x. is_lt (slice_cmp nat_cmp l x)) (sym same) ∙ ap is_lt (tied_itself nat_list_cmp_total l))))
+    not_same l m (λ same. absurd
+    (true≢false (sym (ap is_lt e) ∙ ap (λ x. is_lt (slice_cmp nat_cmp l x)) (sym same)
+    ∙ ap is_lt (tied_itself nat_list_cmp_total l))))
 
 pub flipped : (l m : List ℕ) → bytes_eq l m ≡ false → bytes_eq m l ≡ false
-flipped l m h = not_same m l (λ same. absurd (true≢false (sym (is_same l) ∙ ap (bytes_eq l) (sym same) ∙ h)))
+flipped l m h =
+    not_same m l (λ same. absurd (true≢false (sym (is_same l) ∙ ap (bytes_eq l) (sym same) ∙ h)))
 
 not_before_empty : (l : List ℕ) → false ≡ is_before l []
 not_before_empty [] = refl
 not_before_empty (x ∷ xs) = refl
 
 -- the first byte tells whether a level comes before one of a single byte
-pub before_byte : (l : List ℕ) (b : ℕ) → 1 ≤ length l → nat_lt (get_or l 0 0) b ≡ is_before l (b ∷ [])
+pub before_byte : (l : List ℕ) (b : ℕ) → 1 ≤ length l
+    → nat_lt (get_or l 0 0) b ≡ is_before l (b ∷ [])
 before_byte [] b h = absurd (omega (arith, h))
 before_byte (x ∷ xs) b h =
-    elim (nat_lt x b) as (λ a. a ≡ is_lt (ordering_then (cond a Less (cond (eqb x b) Equal Greater)) (slice_cmp nat_cmp xs []))) [
+    elim (nat_lt x b)
+    as (λ a. a ≡ is_lt (ordering_then (cond a Less (cond (eqb x b) Equal Greater))
+    (slice_cmp nat_cmp xs []))) [
       | true ↦ refl
-      | false ↦ elim (eqb x b) as (λ e. false ≡ is_lt (ordering_then (cond e Equal Greater) (slice_cmp nat_cmp xs []))) [ true ↦ not_before_empty xs | false ↦ refl ]
+      | false ↦ elim (eqb x b)
+          as (λ e. false ≡ is_lt (ordering_then (cond e Equal Greater) (slice_cmp nat_cmp xs [])))
+          [ true ↦ not_before_empty xs | false ↦ refl ]
     ]
 
 -- of a level that does not come before `+`: `#` comes before it, and so does `+` where it is another
@@ -52,11 +65,13 @@ hash_first l h =
     λ o. elim o as (λ o. slice_cmp nat_cmp l plus ≡ o → slice_cmp nat_cmp hash l ≡ Less) [
       | Less ↦ λ e. absurd (true≢false (sym (ap is_lt e) ∙ h))
       | Equal ↦ λ e. ap (slice_cmp nat_cmp hash) (exact_bytes l plus e)
-      | Greater ↦ λ e. nat_list_cmp_total.trans hash plus l refl (nat_list_cmp_total.antisymm plus l ∙ ap ordering_reverse e)
+      | Greater ↦ λ e. nat_list_cmp_total.trans hash plus l refl
+          (nat_list_cmp_total.antisymm plus l ∙ ap ordering_reverse e)
     ] in
     go (slice_cmp nat_cmp l plus) refl
 
-pub plus_first : (l : List ℕ) → is_before l plus ≡ false → l ≢ plus → slice_cmp nat_cmp plus l ≡ Less
+pub plus_first : (l : List ℕ) → is_before l plus ≡ false → l ≢ plus
+    → slice_cmp nat_cmp plus l ≡ Less
 plus_first l h n =
     let go : (o : Ordering) → slice_cmp nat_cmp l plus ≡ o → slice_cmp nat_cmp plus l ≡ Less =
     λ o. elim o as (λ o. slice_cmp nat_cmp l plus ≡ o → slice_cmp nat_cmp plus l ≡ Less) [
@@ -69,6 +84,8 @@ plus_first l h n =
 -- such a level is looked for last
 pub last_in_order : (n : List ℕ) → is_before n plus ≡ false → in_order_of n ≡ hash ∷ plus ∷ n ∷ []
 last_in_order n h =
-    let after : is_before n hash ≡ false = ap is_lt (nat_list_cmp_total.antisymm n hash ∙ ap ordering_reverse (hash_first n h)) in
-    ap (λ b. cond b (n ∷ hash ∷ plus ∷ []) (cond (is_before n plus) (hash ∷ n ∷ plus ∷ []) (hash ∷ plus ∷ n ∷ []))) after
+    let after : is_before n hash ≡ false =
+    ap is_lt (nat_list_cmp_total.antisymm n hash ∙ ap ordering_reverse (hash_first n h)) in
+    ap (λ b. cond b (n ∷ hash ∷ plus ∷ [])
+    (cond (is_before n plus) (hash ∷ n ∷ plus ∷ []) (hash ∷ plus ∷ n ∷ []))) after
     ∙ ap (λ b. cond b (hash ∷ n ∷ plus ∷ []) (hash ∷ plus ∷ n ∷ [])) h

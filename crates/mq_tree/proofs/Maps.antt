@@ -1,5 +1,6 @@
 -- The children that a map from levels to nodes holds, under the map's calls.
-use Rattle.std.proofs.Common.{◌≡◌, ℕ, Bool, true, false, cond, List, [], ◌∷◌, map, Some, Less, Equal, Greater, nat_cmp, refl, ap}
+use Rattle.std.proofs.Common.{◌≡◌, ℕ, Bool, true, false, cond, List, [], ◌∷◌, map, Some, Less}
+use Rattle.std.proofs.Common.{Equal, Greater, nat_cmp, refl, ap}
 use Rattle.std.specs.Global.{Box}
 use Rattle.std.specs.declared.string.String.{String}
 use Rattle.std.specs.String.{string_bytes, string_cmp}
@@ -16,50 +17,80 @@ use Rattle.mq_tree.specs.Nodes.{NodeView, Branches, is_level, entries_in, childr
 abbrev pub is_text : {Y : Type 0} → List ℕ → String Y → Bool
 is_text l = is_at (λ s. slice_cmp nat_cmp l (string_bytes s))
 
-pub lookup_children : {Y V : Type 0} (l : List ℕ) (nodes : Branches Y V) → lookup (is_level l) (children_of nodes) ≡ option_map entries_in (lookup (is_text l) nodes)
+pub lookup_children : {Y V : Type 0} (l : List ℕ) (nodes : Branches Y V)
+    → lookup (is_level l) (children_of nodes) ≡ option_map entries_in (lookup (is_text l) nodes)
 lookup_children l [] = refl
 lookup_children l (node ∷ nodes) =
-    elim (is_text l node.0) as (λ b. cond b (Some (entries_in node.1)) (lookup (is_level l) (children_of nodes)) ≡ option_map entries_in (cond b (Some node.1) (lookup (is_text l) nodes))) [
+    elim (is_text l node.0) as (λ b. cond b (Some (entries_in node.1))
+    (lookup (is_level l) (children_of nodes))
+    ≡ option_map entries_in (cond b (Some node.1) (lookup (is_text l) nodes))) [
       | true ↦ refl
       | false ↦ lookup_children l nodes
     ]
 
-pub set_children : {Y V : Type 0} (l : List ℕ) (nodes : Branches Y V) (new : Box (NodeView V)) → children_of (set_value (is_text l) nodes new) ≡ set_value (is_level l) (children_of nodes) (entries_in new)
+pub set_children : {Y V : Type 0} (l : List ℕ) (nodes : Branches Y V) (new : Box (NodeView V))
+    → children_of (set_value (is_text l) nodes new)
+    ≡ set_value (is_level l) (children_of nodes) (entries_in new)
 set_children l [] new = refl
 set_children l (node ∷ nodes) new =
-    elim (is_text l node.0) as (λ b. children_of (cond b ((node.0, new) ∷ nodes) (node ∷ set_value (is_text l) nodes new)) ≡ cond b ((string_bytes node.0, entries_in new) ∷ children_of nodes) ((string_bytes node.0, entries_in node.1) ∷ set_value (is_level l) (children_of nodes) (entries_in new))) [
+    elim (is_text l node.0)
+    as (λ b. children_of (cond b ((node.0, new) ∷ nodes)
+    (node ∷ set_value (is_text l) nodes new))
+    ≡ cond b ((string_bytes node.0, entries_in new) ∷ children_of nodes)
+    ((string_bytes node.0, entries_in node.1)
+    ∷ set_value (is_level l) (children_of nodes) (entries_in new))) [
       | true ↦ refl
       | false ↦ ap (λ cs. (string_bytes node.0, entries_in node.1) ∷ cs) (set_children l nodes new)
     ]
 
-pub remove_children : {Y V : Type 0} (l : List ℕ) (nodes : Branches Y V) → children_of (remove_entry (is_text l) nodes) ≡ remove_entry (is_level l) (children_of nodes)
+pub remove_children : {Y V : Type 0} (l : List ℕ) (nodes : Branches Y V)
+    → children_of (remove_entry (is_text l) nodes) ≡ remove_entry (is_level l) (children_of nodes)
 remove_children l [] = refl
 remove_children l (node ∷ nodes) =
-    elim (is_text l node.0) as (λ b. children_of (cond b nodes (node ∷ remove_entry (is_text l) nodes)) ≡ cond b (children_of nodes) ((string_bytes node.0, entries_in node.1) ∷ remove_entry (is_level l) (children_of nodes))) [
+    elim (is_text l node.0)
+    as (λ b. children_of (cond b nodes (node ∷ remove_entry (is_text l) nodes))
+    ≡ cond b (children_of nodes) ((string_bytes node.0, entries_in node.1)
+    ∷ remove_entry (is_level l) (children_of nodes))) [
       | true ↦ refl
       | false ↦ ap (λ cs. (string_bytes node.0, entries_in node.1) ∷ cs) (remove_children l nodes)
     ]
 
-pub insert_children : {Y V : Type 0} (text : String Y) (nodes : Branches Y V) (new : Box (NodeView V)) → children_of (insert_entry string_cmp nodes text new) ≡ insert_entry (slice_cmp nat_cmp) (children_of nodes) (string_bytes text) (entries_in new)
+pub insert_children : {Y V : Type 0} (text : String Y) (nodes : Branches Y V)
+    (new : Box (NodeView V)) → children_of (insert_entry string_cmp nodes text new)
+    ≡ insert_entry (slice_cmp nat_cmp) (children_of nodes) (string_bytes text) (entries_in new)
 insert_children text [] new = refl
 insert_children text (node ∷ nodes) new =
-    elim (string_cmp text node.0) as (λ o. children_of (match_ordering o ((text, new) ∷ node ∷ nodes) ((node.0, new) ∷ nodes) (node ∷ insert_entry string_cmp nodes text new))
-    ≡ match_ordering o ((string_bytes text, entries_in new) ∷ (string_bytes node.0, entries_in node.1) ∷ children_of nodes) ((string_bytes node.0, entries_in new) ∷ children_of nodes) ((string_bytes node.0, entries_in node.1) ∷ insert_entry (slice_cmp nat_cmp) (children_of nodes) (string_bytes text) (entries_in new))) [
+    elim (string_cmp text node.0)
+    as (λ o. children_of (match_ordering o ((text, new) ∷ node ∷ nodes) ((node.0, new) ∷ nodes)
+    (node ∷ insert_entry string_cmp nodes text new))
+    ≡ match_ordering o ((string_bytes text, entries_in new)
+    ∷ (string_bytes node.0, entries_in node.1) ∷ children_of nodes)
+    ((string_bytes node.0, entries_in new) ∷ children_of nodes)
+    ((string_bytes node.0, entries_in node.1)
+    ∷ insert_entry (slice_cmp nat_cmp) (children_of nodes) (string_bytes text)
+    (entries_in new))) [
       | Less ↦ refl
       | Equal ↦ refl
-      | Greater ↦ ap (λ cs. (string_bytes node.0, entries_in node.1) ∷ cs) (insert_children text nodes new)
+      | Greater ↦ ap (λ cs. (string_bytes node.0, entries_in node.1) ∷ cs)
+          (insert_children text nodes new)
     ]
 
-pub values_children : {Y V : Type 0} (nodes : Branches Y V) → values_of (children_of nodes) ≡ map entries_in (values_of nodes)
+pub values_children : {Y V : Type 0} (nodes : Branches Y V)
+    → values_of (children_of nodes) ≡ map entries_in (values_of nodes)
 values_children [] = refl
 values_children (node ∷ nodes) = ap (λ es. entries_in node.1 ∷ es) (values_children nodes)
 
-after_levels : {Y V : Type 0} (s : String Y) (nodes : Branches Y V) → AllByRecursion (λ t. string_cmp s t ≡ Less) (keys_of nodes) → AllByRecursion (λ l. slice_cmp nat_cmp (string_bytes s) l ≡ Less) (keys_of (children_of nodes))
+after_levels : {Y V : Type 0} (s : String Y) (nodes : Branches Y V)
+    → AllByRecursion (λ t. string_cmp s t ≡ Less) (keys_of nodes)
+    → AllByRecursion (λ l. slice_cmp nat_cmp (string_bytes s) l ≡ Less)
+    (keys_of (children_of nodes))
 after_levels s [] h = tt
 after_levels s (node ∷ nodes) h = (h.0, after_levels s nodes h.1)
 
 -- a map's children stand in the order of their levels
-pub ordered_levels : {Y V : Type 0} (nodes : Branches Y V) → IsStrictlySortedBy string_cmp (keys_of nodes) → IsStrictlySortedBy (slice_cmp nat_cmp) (keys_of (children_of nodes))
+pub ordered_levels : {Y V : Type 0} (nodes : Branches Y V)
+    → IsStrictlySortedBy string_cmp (keys_of nodes)
+    → IsStrictlySortedBy (slice_cmp nat_cmp) (keys_of (children_of nodes))
 unfolding IsStrictlySortedBy
 ordered_levels [] h = tt
 ordered_levels (node ∷ nodes) h = (after_levels node.0 nodes h.0, ordered_levels nodes h.1)

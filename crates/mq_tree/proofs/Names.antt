@@ -1,5 +1,7 @@
 -- A name's levels, taken one by one at a node.
-use Rattle.std.proofs.Common.{true≢false, ◌≡◌, ◌≢◌, ℕ, Bool, true, false, cond, ◌||◌, ◌&&◌, List, [], ◌∷◌, map, Ordering, Less, Equal, Greater, nat_cmp, is_lt, refl, sym, ap, ◌∙◌, subst}
+use Rattle.std.proofs.Common.{true≢false, ◌≡◌, ◌≢◌, ℕ, Bool, true, false, cond, ◌||◌, ◌&&◌, List}
+use Rattle.std.proofs.Common.{[], ◌∷◌, map, Ordering, Less, Equal, Greater, nat_cmp, is_lt, refl}
+use Rattle.std.proofs.Common.{sym, ap, ◌∙◌, subst}
 use Rattle.std.specs.Cmp.Lexicographic.{slice_cmp}
 use Rattle.std.specs.Ordering.{ordering_reverse}
 use Rattle.std.specs.Str.{bytes_eq}
@@ -8,7 +10,8 @@ use Rattle.std.specs.List.Sorted.{IsStrictlySortedBy}
 use Rattle.std.proofs.lemmas.Cmp.{nat_list_cmp_total}
 use Rattle.std.proofs.lemmas.Map.Lookups.{exact_bytes}
 use Rattle.mq_topic.specs.Matching.{level_matches}
-use Rattle.mq_tree.specs.Below.{hash, plus, is_last_hash, matches_below, fronts, meets_name, in_order_of}
+use Rattle.mq_tree.specs.Below.{hash, plus, is_last_hash, matches_below, fronts, meets_name}
+use Rattle.mq_tree.specs.Below.{in_order_of}
 use Rattle.mq_tree.proofs.Blocks.{is_here}
 use Rattle.mq_tree.proofs.Levels.{is_same, same_from_true, not_same, flipped}
 
@@ -31,60 +34,78 @@ pub not_last : (m : List ℕ) (k : List (List ℕ)) → bytes_eq m hash ≡ fals
 not_last m [] h = h
 not_last m (l ∷ k) h = refl
 
-pub by_hash : (m n : List ℕ) (k : List (List ℕ)) (x : Bool) → IsPlain n → (is_last_hash m k || (level_matches m n && x)) ≡ (may_stand n m && cond (bytes_eq m hash) (is_here k) x)
+pub by_hash : (m n : List ℕ) (k : List (List ℕ)) (x : Bool) → IsPlain n
+    → (is_last_hash m k || (level_matches m n && x))
+    ≡ (may_stand n m && cond (bytes_eq m hash) (is_here k) x)
 by_hash m n k x plain =
     let other : bytes_eq hash n ≡ false = not_same hash n (λ e. plain.0 (sym e)) in
-    let go : (b : Bool) → bytes_eq m hash ≡ b → (is_last_hash m k || (level_matches m n && x)) ≡ ((b || level_matches m n) && cond b (is_here k) x) =
-    λ b. elim b as (λ b. bytes_eq m hash ≡ b → (is_last_hash m k || (level_matches m n && x)) ≡ ((b || level_matches m n) && cond b (is_here k) x)) [
-      | true ↦ λ e. subst (λ u. (is_last_hash u k || (level_matches u n && x)) ≡ is_here k) (sym (same_from_true m hash e)) (last k other)
+    let go : (b : Bool) → bytes_eq m hash ≡ b
+    → (is_last_hash m k || (level_matches m n && x))
+    ≡ ((b || level_matches m n) && cond b (is_here k) x) =
+    λ b. elim b as (λ b. bytes_eq m hash ≡ b → (is_last_hash m k || (level_matches m n && x))
+    ≡ ((b || level_matches m n) && cond b (is_here k) x)) [
+      | true ↦ λ e. subst (λ u. (is_last_hash u k || (level_matches u n && x)) ≡ is_here k)
+          (sym (same_from_true m hash e)) (last k other)
       | false ↦ λ e. rw (not_last m k e) refl
     ] in
     go (bytes_eq m hash) refl
   where
-    last : (k : List (List ℕ)) → bytes_eq hash n ≡ false → (is_last_hash hash k || (level_matches hash n && x)) ≡ is_here k
+    last : (k : List (List ℕ)) → bytes_eq hash n ≡ false
+        → (is_last_hash hash k || (level_matches hash n && x)) ≡ is_here k
     last [] e = refl
     last (l ∷ k) e = rw e refl
 
-pub goes_step : (n : List ℕ) (ns : List (List ℕ)) → IsPlain n → (m : List ℕ) (k : List (List ℕ)) → matches_below (m ∷ k) (n ∷ ns) ≡ (may_stand n m && goes_on ns m k)
+pub goes_step : (n : List ℕ) (ns : List (List ℕ)) → IsPlain n → (m : List ℕ) (k : List (List ℕ))
+    → matches_below (m ∷ k) (n ∷ ns) ≡ (may_stand n m && goes_on ns m k)
 goes_step n ns plain m k = by_hash m n k (matches_below k ns) plain
 
 -- ---- meeting a name
-pub any_map : {A B : Type 0} (t : B → Bool) (f : A → B) (xs : List A) → list_any t (map f xs) ≡ list_any (λ x. t (f x)) xs
+pub any_map : {A B : Type 0} (t : B → Bool) (f : A → B) (xs : List A)
+    → list_any t (map f xs) ≡ list_any (λ x. t (f x)) xs
 any_map t f [] = refl
 any_map t f (x ∷ xs) = ap (λ b. t (f x) || b) (any_map t f xs)
 
-any_or : {A : Type 0} (a b : Bool) (g : A → Bool) (xs : List A) → (a || list_any (λ x. a || (b && g x)) xs) ≡ (a || (b && list_any g xs))
+any_or : {A : Type 0} (a b : Bool) (g : A → Bool) (xs : List A)
+    → (a || list_any (λ x. a || (b && g x)) xs) ≡ (a || (b && list_any g xs))
 any_or true b g xs = refl
 any_or false true g [] = refl
 any_or false true g (x ∷ xs) = ap (λ c. g x || c) (any_or false true g xs)
 any_or false false g [] = refl
 any_or false false g (x ∷ xs) = any_or false false g xs
 
-meets_cons : (m : List ℕ) (p : List (List ℕ)) (n : List ℕ) (ns : List (List ℕ)) → meets_name (n ∷ ns) (m ∷ p) ≡ (is_last_hash m p || (level_matches m n && meets_name ns p))
+meets_cons : (m : List ℕ) (p : List (List ℕ)) (n : List ℕ) (ns : List (List ℕ))
+    → meets_name (n ∷ ns) (m ∷ p) ≡ (is_last_hash m p || (level_matches m n && meets_name ns p))
 meets_cons m p n ns =
     ap (λ b. is_last_hash m p || b) (any_map (matches_below (m ∷ p)) (λ q. n ∷ q) (fronts ns))
     ∙ any_or (is_last_hash m p) (level_matches m n) (matches_below p) (fronts ns)
 
-pub meets_step : (n : List ℕ) (ns : List (List ℕ)) → IsPlain n → (m : List ℕ) (p : List (List ℕ)) → meets_name (n ∷ ns) (m ∷ p) ≡ (may_stand n m && meets_on ns m p)
+pub meets_step : (n : List ℕ) (ns : List (List ℕ)) → IsPlain n → (m : List ℕ) (p : List (List ℕ))
+    → meets_name (n ∷ ns) (m ∷ p) ≡ (may_stand n m && meets_on ns m p)
 meets_step n ns plain m p = meets_cons m p n ns ∙ by_hash m n p (meets_name ns p) plain
 
 pub meets_here : (ns : List (List ℕ)) (m : List ℕ) → meets_on ns m [] ≡ true
-meets_here ns m = elim (bytes_eq m hash) as (λ b. cond b true true ≡ true) [ true ↦ refl | false ↦ refl ]
+meets_here ns m = elim (bytes_eq m hash) as (λ b. cond b true true ≡ true)
+    [ true ↦ refl | false ↦ refl ]
 
 -- ---- at the name's end
-pub end_step : (m : List ℕ) (k : List (List ℕ)) → matches_below (m ∷ k) [] ≡ (bytes_eq m hash && is_here k)
+pub end_step : (m : List ℕ) (k : List (List ℕ))
+    → matches_below (m ∷ k) [] ≡ (bytes_eq m hash && is_here k)
 end_step m [] = elim (bytes_eq m hash) as (λ b. b ≡ (b && true)) [ true ↦ refl | false ↦ refl ]
-end_step m (l ∷ k) = elim (bytes_eq m hash) as (λ b. false ≡ (b && false)) [ true ↦ refl | false ↦ refl ]
+end_step m (l ∷ k) = elim (bytes_eq m hash) as (λ b. false ≡ (b && false))
+    [ true ↦ refl | false ↦ refl ]
 
-pub end_meets_step : (m : List ℕ) (p : List (List ℕ)) → meets_name [] (m ∷ p) ≡ (bytes_eq m hash && is_here p)
+pub end_meets_step : (m : List ℕ) (p : List (List ℕ))
+    → meets_name [] (m ∷ p) ≡ (bytes_eq m hash && is_here p)
 end_meets_step m p = or_none (is_last_hash m p) ∙ end_step m p
   where
     or_none : (b : Bool) → (b || false) ≡ b
     or_none true = refl
     or_none false = refl
 
-pub only_hash : (m : List ℕ) → list_any (λ t. bytes_eq t m) (hash ∷ []) ≡ false → bytes_eq m hash ≡ false
-only_hash m h = not_same m hash (λ e. absurd (true≢false (sym (ap (λ u. bytes_eq hash u || false) e) ∙ h)))
+pub only_hash : (m : List ℕ) → list_any (λ t. bytes_eq t m) (hash ∷ []) ≡ false
+    → bytes_eq m hash ≡ false
+only_hash m h =
+    not_same m hash (λ e. absurd (true≢false (sym (ap (λ u. bytes_eq hash u || false) e) ∙ h)))
 
 pub one_sorted : (t : List ℕ) → IsStrictlySortedBy (slice_cmp nat_cmp) (t ∷ [])
 unfolding IsStrictlySortedBy
@@ -103,24 +124,29 @@ or_true : (a : Bool) → (a || true) ≡ true
 or_true true = refl
 or_true false = refl
 
-three_sorted : (a b c : List ℕ) → slice_cmp nat_cmp a b ≡ Less → slice_cmp nat_cmp b c ≡ Less → IsStrictlySortedBy (slice_cmp nat_cmp) (a ∷ b ∷ c ∷ [])
+three_sorted : (a b c : List ℕ) → slice_cmp nat_cmp a b ≡ Less → slice_cmp nat_cmp b c ≡ Less
+    → IsStrictlySortedBy (slice_cmp nat_cmp) (a ∷ b ∷ c ∷ [])
 unfolding IsStrictlySortedBy
 three_sorted a b c p q = ((p, (nat_list_cmp_total.trans a b c p q, tt)), ((q, tt), (tt, tt)))
 
-greater_from : (n t : List ℕ) (o : Ordering) → slice_cmp nat_cmp n t ≡ o → n ≢ t → is_lt o ≡ false → slice_cmp nat_cmp t n ≡ Less
+greater_from : (n t : List ℕ) (o : Ordering) → slice_cmp nat_cmp n t ≡ o → n ≢ t → is_lt o ≡ false
+    → slice_cmp nat_cmp t n ≡ Less
 greater_from n t Less e apart h = absurd (true≢false h)
 greater_from n t Equal e apart h = absurd (apart (exact_bytes n t e))
 greater_from n t Greater e apart h = nat_list_cmp_total.antisymm t n ∙ ap ordering_reverse e
 
-less_from : (n t : List ℕ) (o : Ordering) → slice_cmp nat_cmp n t ≡ o → is_lt o ≡ true → slice_cmp nat_cmp n t ≡ Less
+less_from : (n t : List ℕ) (o : Ordering) → slice_cmp nat_cmp n t ≡ o → is_lt o ≡ true
+    → slice_cmp nat_cmp n t ≡ Less
 less_from n t Less e h = e
 less_from n t Equal e h = absurd (true≢false (sym h))
 less_from n t Greater e h = absurd (true≢false (sym h))
 
 of_n : (n : List ℕ) → may_stand n n ≡ true
-of_n n = ap (λ b. bytes_eq n hash || (bytes_eq n plus || b)) (is_same n) ∙ ap (λ b. bytes_eq n hash || b) (or_true (bytes_eq n plus)) ∙ or_true (bytes_eq n hash)
+of_n n = ap (λ b. bytes_eq n hash || (bytes_eq n plus || b)) (is_same n)
+    ∙ ap (λ b. bytes_eq n hash || b) (or_true (bytes_eq n plus)) ∙ or_true (bytes_eq n hash)
 
-quiet_by : (n m : List ℕ) → bytes_eq hash m ≡ false → bytes_eq plus m ≡ false → bytes_eq n m ≡ false → may_stand n m ≡ false
+quiet_by : (n m : List ℕ) → bytes_eq hash m ≡ false → bytes_eq plus m ≡ false → bytes_eq n m ≡ false
+    → may_stand n m ≡ false
 quiet_by n m h p q = rw (flipped hash m h, flipped plus m p, flipped n m q) refl
 
 -- these levels, and no others
@@ -131,24 +157,35 @@ pub record AreAll (n : List ℕ) (ts : List (List ℕ)) : Type 0 where
 
 pub in_order_all : (n : List ℕ) → IsPlain n → AreAll n (in_order_of n)
 in_order_all n p =
-    let go : (b c : Bool) → is_lt (slice_cmp nat_cmp n hash) ≡ b → is_lt (slice_cmp nat_cmp n plus) ≡ c → AreAll n (cond b (n ∷ hash ∷ plus ∷ []) (cond c (hash ∷ n ∷ plus ∷ []) (hash ∷ plus ∷ n ∷ []))) =
-    λ b c. elim b as (λ b. is_lt (slice_cmp nat_cmp n hash) ≡ b → is_lt (slice_cmp nat_cmp n plus) ≡ c → AreAll n (cond b (n ∷ hash ∷ plus ∷ []) (cond c (hash ∷ n ∷ plus ∷ []) (hash ∷ plus ∷ n ∷ [])))) [
+    let go : (b c : Bool) → is_lt (slice_cmp nat_cmp n hash) ≡ b
+    → is_lt (slice_cmp nat_cmp n plus) ≡ c
+    → AreAll n (cond b (n ∷ hash ∷ plus ∷ [])
+    (cond c (hash ∷ n ∷ plus ∷ []) (hash ∷ plus ∷ n ∷ []))) =
+    λ b c. elim b as (λ b. is_lt (slice_cmp nat_cmp n hash) ≡ b
+    → is_lt (slice_cmp nat_cmp n plus) ≡ c
+    → AreAll n (cond b (n ∷ hash ∷ plus ∷ [])
+    (cond c (hash ∷ n ∷ plus ∷ []) (hash ∷ plus ∷ n ∷ [])))) [
       | true ↦ λ e f. record {
         sorted = three_sorted n hash plus (less_from n hash _ refl e) refl;
         stand = (of_n n, (refl, (refl, tt)));
-        others = λ m none. quiet_by n m (or_left _ _ (or_right _ _ none)) (or_left _ _ (or_right _ _ (or_right _ _ none))) (or_left _ _ none);
+        others = λ m none. quiet_by n m (or_left _ _ (or_right _ _ none))
+            (or_left _ _ (or_right _ _ (or_right _ _ none))) (or_left _ _ none);
       }
-      | false ↦ λ e. elim c as (λ c. is_lt (slice_cmp nat_cmp n plus) ≡ c → AreAll n (cond c (hash ∷ n ∷ plus ∷ []) (hash ∷ plus ∷ n ∷ []))) [
-        | true ↦ λ f. record {
-          sorted = three_sorted hash n plus (greater_from n hash _ refl p.0 e) (less_from n plus _ refl f);
-          stand = (refl, (of_n n, (refl, tt)));
-          others = λ m none. quiet_by n m (or_left _ _ none) (or_left _ _ (or_right _ _ (or_right _ _ none))) (or_left _ _ (or_right _ _ none));
-        }
-        | false ↦ λ f. record {
-          sorted = three_sorted hash plus n refl (greater_from n plus _ refl p.1 f);
-          stand = (refl, (refl, (of_n n, tt)));
-          others = λ m none. quiet_by n m (or_left _ _ none) (or_left _ _ (or_right _ _ none)) (or_left _ _ (or_right _ _ (or_right _ _ none)));
-        }
-      ]
+      | false ↦ λ e. elim c as (λ c. is_lt (slice_cmp nat_cmp n plus) ≡ c
+          → AreAll n (cond c (hash ∷ n ∷ plus ∷ []) (hash ∷ plus ∷ n ∷ []))) [
+            | true ↦ λ f. record {
+              sorted = three_sorted hash n plus (greater_from n hash _ refl p.0 e)
+                  (less_from n plus _ refl f);
+              stand = (refl, (of_n n, (refl, tt)));
+              others = λ m none. quiet_by n m (or_left _ _ none)
+                  (or_left _ _ (or_right _ _ (or_right _ _ none))) (or_left _ _ (or_right _ _ none));
+            }
+            | false ↦ λ f. record {
+              sorted = three_sorted hash plus n refl (greater_from n plus _ refl p.1 f);
+              stand = (refl, (refl, (of_n n, tt)));
+              others = λ m none. quiet_by n m (or_left _ _ none) (or_left _ _ (or_right _ _ none))
+                  (or_left _ _ (or_right _ _ (or_right _ _ none)));
+            }
+          ]
     ] in
     go _ _ refl refl

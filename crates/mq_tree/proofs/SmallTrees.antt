@@ -46,7 +46,8 @@ filter_dollar_x = refl
 
 -- ---- wildcards beside `$`: `#`, `$SYS/+`, `+/x`, `a/+`
 abbrev wildcards : List (List (List ℕ))
-wildcards = levels (codes "#") ∷ levels (codes "$SYS/+") ∷ levels (codes "+/x") ∷ levels (codes "a/+") ∷ []
+wildcards = levels (codes "#") ∷ levels (codes "$SYS/+") ∷ levels (codes "+/x")
+    ∷ levels (codes "a/+") ∷ []
 
 pub name_dollar_sys_x : by_name (codes "$SYS/x") wildcards ≡ 2
 name_dollar_sys_x = refl

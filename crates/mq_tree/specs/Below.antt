@@ -1,5 +1,6 @@
 -- Private words of the look-ups below a tree's root, where the rule on `$` plays no part.
-use Rattle.std.specs.Prelude.{◌≡◌, ◌≢◌, ℕ, ◌+◌, Bool, true, false, not, cond, ◌==◌, ◌&&◌, ◌||◌, slice_index, List, [], ◌∷◌, ◌++◌, length, map}
+use Rattle.std.specs.Prelude.{◌≡◌, ◌≢◌, ℕ, ◌+◌, Bool, true, false, not, cond, ◌==◌, ◌&&◌, ◌||◌}
+use Rattle.std.specs.Prelude.{slice_index, List, [], ◌∷◌, ◌++◌, length, map}
 use denote.Ref.{Bor}
 use Rattle.std.specs.List.{filter, flat_map, list_any, AllByRecursion}
 use Rattle.std.specs.Map.{keys_of, values_of}

@@ -14,7 +14,11 @@ abbrev pub PutsAtMost : {V : Type 0} → List (List ℕ) → V → Entries V →
 PutsAtMost k v old new = (new ≡ insert_entry level_order old k v) ⊎ (new ≡ old)
 
 -- the node's entries end with the last value behind r at the key, and as they were if r is `None`; a node with an entry keeps one, and its keys stay in order
-abbrev pub LendsIn : (V : RattleType) → MutBor (NodeView V.Denot) → List (List ℕ) → Option (MutBor V.Denot) → Fml
+abbrev pub LendsIn : (V : RattleType) → MutBor (NodeView V.Denot) → List (List ℕ)
+    → Option (MutBor V.Denot) → Fml
 LendsIn V s k r =
-    LendsSo (the_row V) V s r (λ n w. OnSome r (entries_of n ≡ set_value (is_key k) (entries_of s.now) w) × (entries_of s.now ≢ [] → entries_of n ≢ []) × PutsAtMost k w (entries_of s.now) (entries_of n))
+    LendsSo (the_row V) V s r
+    (λ n w. OnSome r (entries_of n ≡ set_value (is_key k) (entries_of s.now) w)
+    × (entries_of s.now ≢ [] → entries_of n ≢ [])
+    × PutsAtMost k w (entries_of s.now) (entries_of n))
     (λ n. entries_of n ≡ entries_of s.now)

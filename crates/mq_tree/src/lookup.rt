@@ -6,7 +6,8 @@ ghost use Rattle.mq_topic.specs.Levels.{levels, levels_left};
 ghost use Rattle.mq_topic.specs.Matching.{matches};
 ghost use Rattle.mq_tree.specs.Below.{begins_with_dollar, is_before, plus, in_order_of, shown};
 ghost use Rattle.mq_tree.specs.Below.{Adds, values_at, values_below, nodes_at, nodes_below};
-ghost use Rattle.mq_tree.specs.Below.{suits_name, meets_name, matches_below, meets_filter, ArePlain, HashLast};
+ghost use Rattle.mq_tree.specs.Below.{suits_name, meets_name, matches_below, meets_filter};
+ghost use Rattle.mq_tree.specs.Below.{ArePlain, HashLast};
 ghost use Rattle.mq_tree.specs.Nodes.{entries_of, own, AreChildren};
 ghost use Rattle.mq_tree.specs.Prefixes.{prefixes, met_by_name, met_by_filter};
 
@@ -24,8 +25,10 @@ pub(crate) fn by_name<'a, V>(
     found: &mut Vec<&'a V>,
 ) -> Result<(), AllocError>
     requires { ArePlain (levels name.now) }
-    ensures found { OnOk result (Adds found.old.items found.new.items (values_at (λ k. matches k (levels name.now)) (entries_of root.now))) }
-    ensures count { OnOk result (steps.new ≡ steps.old + length (met_by_name (levels name.now) (prefixes (keys_of (entries_of root.now))))) }
+    ensures found { OnOk result (Adds found.old.items found.new.items
+        (values_at (λ k. matches k (levels name.now)) (entries_of root.now))) }
+    ensures count { OnOk result (steps.new ≡ steps.old + length
+        (met_by_name (levels name.now) (prefixes (keys_of (entries_of root.now))))) }
 {
     let (first, rest) = split_first(name);
     if !begins_with_dollar(first) {
@@ -51,8 +54,10 @@ fn below_by_name<'a, V>(
     found: &mut Vec<&'a V>,
 ) -> Result<(), AllocError>
     requires { ArePlain (levels_left name) }
-    ensures found { OnOk result (Adds found.old.items found.new.items (values_at (suits_name (levels_left name.entry)) (entries_of node.now))) }
-    ensures count { OnOk result (steps.new ≡ steps.old + nodes_at (meets_name (levels_left name.entry)) (entries_of node.now)) }
+    ensures found { OnOk result (Adds found.old.items found.new.items
+        (values_at (suits_name (levels_left name.entry)) (entries_of node.now))) }
+    ensures count { OnOk result (steps.new ≡ steps.old + nodes_at (meets_name (levels_left name.entry))
+        (entries_of node.now)) }
 {
     let Some(name) = name else {
         return at_end(node, steps, found);
@@ -90,7 +95,8 @@ fn at_end<'a, V>(
     steps: &mut Walk,
     found: &mut Vec<&'a V>,
 ) -> Result<(), AllocError>
-    ensures found { OnOk result (Adds found.old.items found.new.items (values_at (suits_name []) (entries_of node.now))) }
+    ensures found { OnOk result (Adds found.old.items found.new.items
+        (values_at (suits_name []) (entries_of node.now))) }
     ensures count { OnOk result (steps.new ≡ steps.old + nodes_at (meets_name []) (entries_of node.now)) }
 {
     add_value(node, found)?;
@@ -140,8 +146,10 @@ pub(crate) fn by_filter<'a, V>(
     found: &mut Vec<&'a V>,
 ) -> Result<(), AllocError>
     requires { HashLast (levels wanted.now) }
-    ensures found { OnOk result (Adds found.old.items found.new.items (values_at (matches (levels wanted.now)) (entries_of root.now))) }
-    ensures count { OnOk result (steps.new ≡ steps.old + length (met_by_filter (levels wanted.now) (prefixes (keys_of (entries_of root.now))))) }
+    ensures found { OnOk result (Adds found.old.items found.new.items
+        (values_at (matches (levels wanted.now)) (entries_of root.now))) }
+    ensures count { OnOk result (steps.new ≡ steps.old + length
+        (met_by_filter (levels wanted.now) (prefixes (keys_of (entries_of root.now))))) }
 {
     let (first, rest) = split_first(wanted);
     if first == "#" {
@@ -161,8 +169,10 @@ fn shown_by_filter<'a, V>(
     found: &mut Vec<&'a V>,
 ) -> Result<(), AllocError>
     requires { HashLast (levels_left wanted) }
-    ensures found { OnOk result (Adds found.old.items found.new.items (values_below (matches_below (levels_left wanted.entry)) (shown root.now.1))) }
-    ensures count { OnOk result (steps.new ≡ steps.old + nodes_below (meets_filter (levels_left wanted.entry)) (shown root.now.1)) }
+    ensures found { OnOk result (Adds found.old.items found.new.items
+        (values_below (matches_below (levels_left wanted.entry)) (shown root.now.1))) }
+    ensures count { OnOk result (steps.new ≡ steps.old + nodes_below (meets_filter (levels_left wanted.entry))
+        (shown root.now.1)) }
     ensures children { AreChildren root.now.1 }
 {
     for child in root.children() {
@@ -183,8 +193,10 @@ fn below_by_filter<'a, V>(
     found: &mut Vec<&'a V>,
 ) -> Result<(), AllocError>
     requires { HashLast (levels_left wanted) }
-    ensures found { OnOk result (Adds found.old.items found.new.items (values_at (matches_below (levels_left wanted.entry)) (entries_of node.now))) }
-    ensures count { OnOk result (steps.new ≡ steps.old + nodes_at (meets_filter (levels_left wanted.entry)) (entries_of node.now)) }
+    ensures found { OnOk result (Adds found.old.items found.new.items
+        (values_at (matches_below (levels_left wanted.entry)) (entries_of node.now))) }
+    ensures count { OnOk result (steps.new ≡ steps.old + nodes_at (meets_filter (levels_left wanted.entry))
+        (entries_of node.now)) }
 {
     let Some(wanted) = wanted else {
         return add_value(node, found);

@@ -61,7 +61,8 @@ impl<V> LevelTree<V> {
     /// The value at the key, lent so that it can be written. It takes no memory.
     pub fn get_mut<K: LevelText>(&mut self, key: &K) -> Option<&mut V>
         ensures* writes_back { sem 𝓛 (LendsAt V.row self.entry (levels (K.text_of key.now)) result) }
-        ensures value { option_copied_mut result ≡ lookup (is_key (levels (K.text_of key.now))) self.old }
+        ensures value { option_copied_mut result
+            ≡ lookup (is_key (levels (K.text_of key.now))) self.old }
     {
         self.root.get_mut(Some(key.text()))
     }
@@ -72,7 +73,8 @@ impl<V> LevelTree<V> {
     where
         V: Drop,
         ensures older { IfOk result (λ older. older ≡ lookup (is_key (levels (K.text_of key.now))) self.old) }
-        ensures ok { OnOk result (self.new ≡ insert_entry level_order self.old (levels (K.text_of key.now)) value) }
+        ensures ok { OnOk result
+            (self.new ≡ insert_entry level_order self.old (levels (K.text_of key.now)) value) }
         ensures err { OnErr result (self.new ≡ self.old) }
         ensures absent { OnErr result (lookup (is_key (levels (K.text_of key.now))) self.old ≡ None) }
     {
@@ -107,8 +109,10 @@ impl<V> LevelTree<V> {
 
     /// The values of the keys that match the name, in level order of the keys, by a walk over matching nodes alone.
     pub fn for_name(&self, name: &TopicName, steps: &mut Steps) -> Result<Vec<&V>, AllocError>
-        ensures found { IfOk result (λ found. map (λ v. v.now) found.items ≡ values_of (filter (λ e. matches e.0 (levels name.now)) self.now)) }
-        ensures count { OnOk result (steps.new ≡ steps.old + length (met_by_name (levels name.now) (prefixes (keys_of self.now)))) }
+        ensures found { IfOk result (λ found. map (λ v. v.now) found.items
+            ≡ values_of (filter (λ e. matches e.0 (levels name.now)) self.now)) }
+        ensures count { OnOk result (steps.new ≡ steps.old + length
+            (met_by_name (levels name.now) (prefixes (keys_of self.now)))) }
         ensures ordered { AreInOrder self.now }
     {
         let mut found = Vec::new(self.alloc);
@@ -121,7 +125,8 @@ impl<V> LevelTree<V> {
     pub fn for_filter(&self, wanted: &TopicFilter, steps: &mut Steps) -> Result<Vec<&V>, AllocError>
         ensures found { IfOk result (λ found. map (λ v. v.now) found.items
             ≡ values_of (filter (λ e. matches (levels wanted.now) e.0) self.now)) }
-        ensures count { OnOk result (steps.new ≡ steps.old + length (met_by_filter (levels wanted.now) (prefixes (keys_of self.now)))) }
+        ensures count { OnOk result (steps.new ≡ steps.old + length
+            (met_by_filter (levels wanted.now) (prefixes (keys_of self.now)))) }
         ensures ordered { AreInOrder self.now }
     {
         let mut found = Vec::new(self.alloc);

@@ -1,5 +1,6 @@
 -- Entries of a map before, at and after a key.
-use Rattle.std.proofs.Common.{◌≡◌, Bool, true, false, cond, List, [], ◌∷◌, ◌++◌, Option, Some, None, refl, sym, ◌∙◌, ap}
+use Rattle.std.proofs.Common.{◌≡◌, Bool, true, false, cond, List, [], ◌∷◌, ◌++◌, Option, Some, None}
+use Rattle.std.proofs.Common.{refl, sym, ◌∙◌, ap}
 use Rattle.std.specs.declared.cmp.Ordering.{Ordering}
 use Rattle.std.specs.declared.cmp.Ordering.TheVariants.{Less, Equal, Greater}
 use Rattle.std.specs.Ordering.{is_eq, match_ordering}
@@ -43,15 +44,19 @@ abbrev pub IsApart : {K : Type 0} → (K → K → Ordering) → (K → Bool) �
 IsApart {K} cmp test = (x y : K) → test x ≡ true → cmp x y ≡ Less → test y ≡ false
 
 module _ {K X : Type 0} (cmp : K → K → Ordering) (test : K → Bool) where
-  none_behind : IsApart cmp test → (k : K) → test k ≡ true → (es : List (K × X)) → AllByRecursion (λ y. cmp k y ≡ Less) (keys_of es) → AllByRecursion (λ (e : K × X). test e.0 ≡ false) es
+  none_behind : IsApart cmp test → (k : K) → test k ≡ true → (es : List (K × X))
+      → AllByRecursion (λ y. cmp k y ≡ Less) (keys_of es)
+      → AllByRecursion (λ (e : K × X). test e.0 ≡ false) es
   none_behind apart k t [] h = tt
   none_behind apart k t (e ∷ es) h = (apart k e.0 t h.0, none_behind apart k t es h.1)
 
-  pub split : IsApart cmp test → (es : List (K × X)) (v : X) → IsStrictlySortedBy cmp (keys_of es) → lookup test es ≡ Some v → Split test es v
+  pub split : IsApart cmp test → (es : List (K × X)) (v : X) → IsStrictlySortedBy cmp (keys_of es)
+      → lookup test es ≡ Some v → Split test es v
   unfolding IsStrictlySortedBy
   split apart [] v s h = absurd (none_some h)
   split apart (e ∷ es) v s h =
-      let P : Bool → Type 0 = λ b. test e.0 ≡ b → cond b (Some e.1) (lookup test es) ≡ Some v → Split test (e ∷ es) v in
+      let P : Bool → Type 0 = λ b. test e.0 ≡ b → cond b (Some e.1) (lookup test es) ≡ Some v
+      → Split test (e ∷ es) v in
       (elim (test e.0) as P [
         | true ↦ λ t g. record {
           front = [];
@@ -62,7 +67,8 @@ module _ {K X : Type 0} (cmp : K → K → Ordering) (test : K → Bool) where
           before = tt;
           behind = none_behind apart e.0 t es s.0;
           set = λ w. ap (λ b. cond b ((e.0, w) ∷ es) (e ∷ set_value test es w)) t;
-          out = λ w. ap (λ b. remove_entry test (cond b ((e.0, w) ∷ es) (e ∷ set_value test es w))) t ∙ ap (λ b. cond b es ((e.0, w) ∷ remove_entry test es)) t;
+          out = λ w. ap (λ b. remove_entry test (cond b ((e.0, w) ∷ es) (e ∷ set_value test es w)))
+              t ∙ ap (λ b. cond b es ((e.0, w) ∷ remove_entry test es)) t;
         }
         | false ↦ λ t g. (let rest : Split test es v = split apart es v s.1 g in
             record {
@@ -73,97 +79,153 @@ module _ {K X : Type 0} (cmp : K → K → Ordering) (test : K → Bool) where
               passes = rest.passes;
               before = (t, rest.before);
               behind = rest.behind;
-              set = λ w. ap (λ b. cond b ((e.0, w) ∷ es) (e ∷ set_value test es w)) t ∙ ap (λ l. e ∷ l) (rest.set w);
+              set = λ w. ap (λ b. cond b ((e.0, w) ∷ es) (e ∷ set_value test es w)) t
+                  ∙ ap (λ l. e ∷ l) (rest.set w);
               out = λ w.
                   ap (λ b. remove_entry test (cond b ((e.0, w) ∷ es) (e ∷ set_value test es w))) t
-                  ∙ ap (λ b. cond b (set_value test es w) (e ∷ remove_entry test (set_value test es w))) t
+                  ∙ ap (λ b. cond b (set_value test es w)
+                  (e ∷ remove_entry test (set_value test es w))) t
                   ∙ ap (λ l. e ∷ l) (rest.out w);
             })
       ]) refl h
 
 -- the same value in its place
-pub set_same : {K X : Type 0} (test : K → Bool) (es : List (K × X)) (v : X) → lookup test es ≡ Some v → set_value test es v ≡ es
+pub set_same : {K X : Type 0} (test : K → Bool) (es : List (K × X)) (v : X)
+    → lookup test es ≡ Some v → set_value test es v ≡ es
 set_same test [] v h = refl
 set_same test (e ∷ es) v h =
-    let P : Bool → Type 0 = λ b. cond b (Some e.1) (lookup test es) ≡ Some v → cond b ((e.0, v) ∷ es) (e ∷ set_value test es v) ≡ e ∷ es in
-    (elim (test e.0) as P [ true ↦ λ g. ap (λ x. (e.0, x) ∷ es) (sym (some_same g)) | false ↦ λ g. ap (λ l. e ∷ l) (set_same test es v g) ]) h
+    let P : Bool → Type 0 = λ b. cond b (Some e.1) (lookup test es) ≡ Some v
+    → cond b ((e.0, v) ∷ es) (e ∷ set_value test es v) ≡ e ∷ es in
+    (elim (test e.0) as P [
+      | true ↦ λ g. ap (λ x. (e.0, x) ∷ es) (sym (some_same g))
+      | false ↦ λ g.
+          ap (λ l. e ∷ l) (set_same test es v g)
+    ]) h
 
-pub none_passes : {K X : Type 0} (test : K → Bool) (es : List (K × X)) → lookup test es ≡ None → AllByRecursion (λ (e : K × X). test e.0 ≡ false) es
+pub none_passes : {K X : Type 0} (test : K → Bool) (es : List (K × X)) → lookup test es ≡ None
+    → AllByRecursion (λ (e : K × X). test e.0 ≡ false) es
 none_passes test [] h = tt
 none_passes test (e ∷ es) h =
-    let P : Bool → Type 0 = λ b. test e.0 ≡ b → cond b (Some e.1) (lookup test es) ≡ None → AllByRecursion (λ d. test d.0 ≡ false) (e ∷ es) in
-    (elim (test e.0) as P [ true ↦ λ t g. absurd (some_none g) | false ↦ λ t g. (t, none_passes test es g) ]) refl h
+    let P : Bool → Type 0 = λ b. test e.0 ≡ b → cond b (Some e.1) (lookup test es) ≡ None
+    → AllByRecursion (λ d. test d.0 ≡ false) (e ∷ es) in
+    (elim (test e.0) as P [
+      | true ↦ λ t g. absurd (some_none g)
+      | false ↦ λ t g.
+          (t, none_passes test es g)
+    ]) refl h
 
 -- a look-up among entries with one more, or another, in the middle
 module _ {K X : Type 0} (test : K → Bool) where
-  pub lookup-front : (front back : List (K × X)) (k : K) (v w : X) → test k ≡ false → lookup test (front ++ (k, v) ∷ back) ≡ lookup test (front ++ (k, w) ∷ back)
-  lookup-front [] back k v w h = ap (λ b. cond b (Some v) (lookup test back)) h ∙ sym (ap (λ b. cond b (Some w) (lookup test back)) h)
-  lookup-front (e ∷ front) back k v w h = ap (cond (test e.0) (Some e.1)) (lookup-front front back k v w h)
+  pub lookup-front : (front back : List (K × X)) (k : K) (v w : X) → test k ≡ false
+      → lookup test (front ++ (k, v) ∷ back) ≡ lookup test (front ++ (k, w) ∷ back)
+  lookup-front [] back k v w h = ap (λ b. cond b (Some v) (lookup test back)) h
+      ∙ sym (ap (λ b. cond b (Some w) (lookup test back)) h)
+  lookup-front (e ∷ front) back k v w h =
+      ap (cond (test e.0) (Some e.1)) (lookup-front front back k v w h)
 
-  pub lookup-more : (front back : List (K × X)) (k : K) (v : X) → test k ≡ false → lookup test (front ++ (k, v) ∷ back) ≡ lookup test (front ++ back)
+  pub lookup-more : (front back : List (K × X)) (k : K) (v : X) → test k ≡ false
+      → lookup test (front ++ (k, v) ∷ back) ≡ lookup test (front ++ back)
   lookup-more [] back k v h = ap (λ b. cond b (Some v) (lookup test back)) h
-  lookup-more (e ∷ front) back k v h = ap (cond (test e.0) (Some e.1)) (lookup-more front back k v h)
+  lookup-more (e ∷ front) back k v h =
+      ap (cond (test e.0) (Some e.1)) (lookup-more front back k v h)
 
-  pub lookup-at : (front back : List (K × X)) (k : K) (v : X) → AllByRecursion (λ (e : K × X). test e.0 ≡ false) front → test k ≡ true → lookup test (front ++ (k, v) ∷ back) ≡ Some v
+  pub lookup-at : (front back : List (K × X)) (k : K) (v : X)
+      → AllByRecursion (λ (e : K × X). test e.0 ≡ false) front → test k ≡ true
+      → lookup test (front ++ (k, v) ∷ back) ≡ Some v
   lookup-at [] back k v none h = ap (λ b. cond b (Some v) (lookup test back)) h
-  lookup-at (e ∷ front) back k v none h = ap (λ b. cond b (Some e.1) (lookup test (front ++ (k, v) ∷ back))) none.0 ∙ lookup-at front back k v none.1 h
+  lookup-at (e ∷ front) back k v none h =
+      ap (λ b. cond b (Some e.1) (lookup test (front ++ (k, v) ∷ back))) none.0
+      ∙ lookup-at front back k v none.1 h
 
 -- where a key is put that is not there
 pub record Put {K X : Type 0} (cmp : K → K → Ordering) (k : K) (es : List (K × X)) : Type 0 where
   pub gap : Gap (λ y. is_eq (cmp k y)) es
   pub put : (v : X) → insert_entry cmp es k v ≡ gap.front ++ (k, v) ∷ gap.back
 
-pub put_gap : {K X : Type 0} (cmp : K → K → Ordering) (k : K) (es : List (K × X)) → lookup (λ y. is_eq (cmp k y)) es ≡ None → Put cmp k es
-put_gap cmp k [] h = record { gap = record { front = []; back = []; is = refl; before = tt; behind = tt }; put = λ v. refl }
+pub put_gap : {K X : Type 0} (cmp : K → K → Ordering) (k : K) (es : List (K × X))
+    → lookup (λ y. is_eq (cmp k y)) es ≡ None → Put cmp k es
+put_gap cmp k [] h =
+    record {
+      gap = record { front = []; back = []; is = refl; before = tt; behind = tt };
+      put =
+          λ v. refl;
+    }
 put_gap {K} {X} cmp k (e ∷ es) h =
-    let all : AllByRecursion (λ (d : K × X). is_eq (cmp k d.0) ≡ false) (e ∷ es) = none_passes (λ y. is_eq (cmp k y)) (e ∷ es) h in
-    let P : Ordering → Type 0 = λ r. cmp k e.0 ≡ r → cond (is_eq r) (Some e.1) (lookup (λ y. is_eq (cmp k y)) es) ≡ None → Put cmp k (e ∷ es) in
+    let all : AllByRecursion (λ (d : K × X). is_eq (cmp k d.0) ≡ false) (e ∷ es) =
+    none_passes (λ y. is_eq (cmp k y)) (e ∷ es) h in
+    let P : Ordering → Type 0 = λ r. cmp k e.0 ≡ r
+    → cond (is_eq r) (Some e.1) (lookup (λ y. is_eq (cmp k y)) es) ≡ None
+    → Put cmp k (e ∷ es) in
     (elim (cmp k e.0) as P [
       | Less ↦ λ r g. record {
         gap = record { front = []; back = e ∷ es; is = refl; before = tt; behind = all };
-        put = λ v. ap (λ o. match_ordering o ((k, v) ∷ e ∷ es) ((e.0, v) ∷ es) (e ∷ insert_entry cmp es k v)) r;
+        put = λ v. ap (λ o. match_ordering o ((k, v) ∷ e ∷ es) ((e.0, v) ∷ es)
+            (e ∷ insert_entry cmp es k v)) r;
       }
       | Equal ↦ λ r g. absurd (some_none g)
       | Greater ↦ λ r g. (let rest : Put cmp k es = put_gap cmp k es g in
           record {
-            gap = record { front = e ∷ rest.gap.front; back = rest.gap.back; is = ap (λ l. e ∷ l) rest.gap.is; before = (all.0, rest.gap.before); behind = rest.gap.behind };
-            put = λ v. ap (λ o. match_ordering o ((k, v) ∷ e ∷ es) ((e.0, v) ∷ es) (e ∷ insert_entry cmp es k v)) r ∙ ap (λ l. e ∷ l) (rest.put v);
+            gap = record {
+              front = e ∷ rest.gap.front;
+              back = rest.gap.back;
+              is =
+                  ap (λ l. e ∷ l) rest.gap.is;
+              before = (all.0, rest.gap.before);
+              behind =
+                  rest.gap.behind;
+            };
+            put = λ v. ap (λ o. match_ordering o ((k, v) ∷ e ∷ es) ((e.0, v) ∷ es)
+                (e ∷ insert_entry cmp es k v)) r ∙ ap (λ l. e ∷ l) (rest.put v);
           })
     ]) refl h
 
 -- a key that is there keeps its place
-pub put_found : {K X : Type 0} (cmp : K → K → Ordering) → IsTotalOrder cmp → (k : K) (es : List (K × X)) (v w : X) → IsStrictlySortedBy cmp (keys_of es) → lookup (λ y. is_eq (cmp k y)) es ≡ Some v → insert_entry cmp es k w ≡ set_value (λ y. is_eq (cmp k y)) es w
+pub put_found : {K X : Type 0} (cmp : K → K → Ordering) → IsTotalOrder cmp
+    → (k : K) (es : List (K × X)) (v w : X) → IsStrictlySortedBy cmp (keys_of es)
+    → lookup (λ y. is_eq (cmp k y)) es ≡ Some v
+    → insert_entry cmp es k w ≡ set_value (λ y. is_eq (cmp k y)) es w
 unfolding IsStrictlySortedBy
 put_found {K} {X} cmp o k [] v w s h = absurd (none_some h)
 put_found {K} {X} cmp o k (e ∷ es) v w s h =
     let test : K → Bool = λ y. is_eq (cmp k y) in
-    let P : Ordering → Type 0 = λ r. cmp k e.0 ≡ r → cond (is_eq r) (Some e.1) (lookup test es) ≡ Some v → match_ordering r ((k, w) ∷ e ∷ es) ((e.0, w) ∷ es) (e ∷ insert_entry cmp es k w) ≡ cond (is_eq r) ((e.0, w) ∷ es) (e ∷ set_value test es w) in
+    let P : Ordering → Type 0 = λ r. cmp k e.0 ≡ r
+    → cond (is_eq r) (Some e.1) (lookup test es) ≡ Some v
+    → match_ordering r ((k, w) ∷ e ∷ es) ((e.0, w) ∷ es) (e ∷ insert_entry cmp es k w)
+    ≡ cond (is_eq r) ((e.0, w) ∷ es) (e ∷ set_value test es w) in
     (elim (cmp k e.0) as P [
       | Less ↦ λ r g. absurd (none_some (sym (absent es (below es r s.0)) ∙ g))
       | Equal ↦ λ r g. refl
       | Greater ↦ λ r g. ap (λ l. e ∷ l) (put_found cmp o k es v w s.1 g)
     ]) refl h
   where
-    below : (ds : List (K × X)) → cmp k e.0 ≡ Less → AllByRecursion (λ y. cmp e.0 y ≡ Less) (keys_of ds) → AllByRecursion (λ y. cmp k y ≡ Less) (keys_of ds)
+    below : (ds : List (K × X)) → cmp k e.0 ≡ Less
+        → AllByRecursion (λ y. cmp e.0 y ≡ Less) (keys_of ds)
+        → AllByRecursion (λ y. cmp k y ≡ Less) (keys_of ds)
     below [] r h = tt
     below (d ∷ ds) r h = (o.trans k e.0 d.0 r h.0, below ds r h.1)
 
-    absent : (ds : List (K × X)) → AllByRecursion (λ y. cmp k y ≡ Less) (keys_of ds) → lookup (λ y. is_eq (cmp k y)) ds ≡ None
+    absent : (ds : List (K × X)) → AllByRecursion (λ y. cmp k y ≡ Less) (keys_of ds)
+        → lookup (λ y. is_eq (cmp k y)) ds ≡ None
     absent [] h = refl
-    absent (d ∷ ds) h = ap (λ r. cond (is_eq r) (Some d.1) (lookup (λ y. is_eq (cmp k y)) ds)) h.0 ∙ absent ds h.1
+    absent (d ∷ ds) h = ap (λ r. cond (is_eq r) (Some d.1) (lookup (λ y. is_eq (cmp k y)) ds)) h.0
+        ∙ absent ds h.1
 
 -- what is listed of the entries, cut as they are
-pub flat_map-cut : {A B : Type 0} (f : A → List B) (xs : List A) (y : A) (zs : List A) → flat_map f (xs ++ y ∷ zs) ≡ flat_map f xs ++ (f y ++ flat_map f zs)
+pub flat_map-cut : {A B : Type 0} (f : A → List B) (xs : List A) (y : A) (zs : List A)
+    → flat_map f (xs ++ y ∷ zs) ≡ flat_map f xs ++ (f y ++ flat_map f zs)
 flat_map-cut {A} {B} f [] y zs = refl
-flat_map-cut {A} {B} f (x ∷ xs) y zs = ap (λ l. f x ++ l) (flat_map-cut f xs y zs) ∙ sym (append_again (f x) (flat_map f xs) (f y ++ flat_map f zs))
+flat_map-cut {A} {B} f (x ∷ xs) y zs = ap (λ l. f x ++ l) (flat_map-cut f xs y zs)
+    ∙ sym (append_again (f x) (flat_map f xs) (f y ++ flat_map f zs))
   where
     append_again : (us bs cs : List B) → (us ++ bs) ++ cs ≡ us ++ (bs ++ cs)
     append_again [] bs cs = refl
     append_again (a ∷ us) bs cs = ap (λ l. a ∷ l) (append_again us bs cs)
 
-pub flat_map-joint : {A B : Type 0} (f : A → List B) (xs zs : List A) → flat_map f (xs ++ zs) ≡ flat_map f xs ++ flat_map f zs
+pub flat_map-joint : {A B : Type 0} (f : A → List B) (xs zs : List A)
+    → flat_map f (xs ++ zs) ≡ flat_map f xs ++ flat_map f zs
 flat_map-joint {A} {B} f [] zs = refl
-flat_map-joint {A} {B} f (x ∷ xs) zs = ap (λ l. f x ++ l) (flat_map-joint f xs zs) ∙ sym (append_again (f x) (flat_map f xs) (flat_map f zs))
+flat_map-joint {A} {B} f (x ∷ xs) zs = ap (λ l. f x ++ l) (flat_map-joint f xs zs)
+    ∙ sym (append_again (f x) (flat_map f xs) (flat_map f zs))
   where
     append_again : (us bs cs : List B) → (us ++ bs) ++ cs ≡ us ++ (bs ++ cs)
     append_again [] bs cs = refl

@@ -1,12 +1,15 @@
 -- The world after an accepted command, and after a list of commands.
-use Rattle.std.specs.Prelude.{ℕ, ◌+◌, List, [], ◌∷◌, not, map, Option, Result, Ok, Err, is_some, if◌then◌else◌}
+use Rattle.std.specs.Prelude.{ℕ, ◌+◌, List, [], ◌∷◌, not, map, Option, Result, Ok, Err, is_some}
+use Rattle.std.specs.Prelude.{if◌then◌else◌}
 use Rattle.std.specs.Option.{option_map, option_map_or}
 use Rattle.std.specs.List.{filter, find}
 use Rattle.mq_topic.specs.Texts.{share_of, filter_part}
 use Rattle.mq_acl.specs.Rows.{AclRow, rows_of}
 use Rattle.mq_acl.specs.declared.fault.AclFault.{AclFault}
 use Rattle.mq_world.specs.Lists.{Text, same_text, with_row}
-use Rattle.mq_world.specs.World.{World, Row, Subscription, Request, Connect, Disconnect, Subscribe, Unsubscribe, Publish, SetAcl, Advance, Stat, asked, session_cmp, row_cmp, has_id, has_key, same_key, subscriptions_of}
+use Rattle.mq_world.specs.World.{World, Row, Subscription, Request, Connect, Disconnect, Subscribe}
+use Rattle.mq_world.specs.World.{Unsubscribe, Publish, SetAcl, Advance, Stat, asked, session_cmp}
+use Rattle.mq_world.specs.World.{row_cmp, has_id, has_key, same_key, subscriptions_of}
 use Rattle.mq_world.specs.Sessions.{new_session, outlives, resumes, left_by, has_ended, is_among}
 use Rattle.mq_world.specs.Waiting.{waiting_after}
 use Rattle.mq_world.specs.Groups.{served_by, restamped}
@@ -19,7 +22,8 @@ without_client id rows = filter (λ row. not (same_text row.subscription.client 
 
 -- the stamp of the row with this key, or else a new one
 abbrev pub kept_stamp : World → Subscription → ℕ
-kept_stamp w s = option_map_or (λ row. row.stamp) (find (λ row. same_key s row.subscription) w.rows) w.accepted
+kept_stamp w s = option_map_or (λ row. row.stamp) (find (λ row. same_key s row.subscription) w.rows)
+    w.accepted
 
 abbrev pub rows_or_none : Result (List AclRow) AclFault → List AclRow
 rows_or_none (Ok rows) = rows
@@ -46,11 +50,18 @@ changed w (Disconnect id) =
     }
 changed w (Subscribe id text options) =
     let s = asked id text options in
-    record w { rows = with_row row_cmp (record { subscription = s; stamp = kept_stamp w s }) w.rows }
+    record w {
+      rows = with_row row_cmp (record { subscription = s; stamp = kept_stamp w s }) w.rows;
+    }
 changed w (Unsubscribe id text) =
-    record w { rows = filter (λ row. not (has_key id (share_of text) (filter_part text) row.subscription)) w.rows }
+    record w {
+      rows =
+          filter (λ row. not (has_key id (share_of text) (filter_part text) row.subscription))
+          w.rows;
+    }
 changed w (Publish m) = record w {
-  sessions = map (waiting_after w.limits.queued w.access (subscriptions_of w) w.moment m) w.sessions;
+  sessions = map (waiting_after w.limits.queued w.access (subscriptions_of w) w.moment m)
+      w.sessions;
   rows = map (restamped w.accepted (served_by w m)) w.rows;
   retained = retained_after w.moment w.retained m;
 }
@@ -60,7 +71,9 @@ changed w (Advance seconds) =
     record w {
       moment = now;
       sessions = filter (λ session. not (has_ended now session)) w.sessions;
-      rows = filter (λ row. not (is_among (filter (has_ended now) w.sessions) row.subscription.client)) w.rows;
+      rows = filter
+          (λ row. not (is_among (filter (has_ended now) w.sessions) row.subscription.client))
+          w.rows;
       retained = unexpired now w.retained;
     }
 changed w Stat = w

@@ -1,5 +1,6 @@
 -- Which copies of a message a publish makes (MQTT 5.0, section 3.3.4), found by testing each subscription of each session.
-use Rattle.std.specs.Prelude.{Bool, List, length, map, min, ◌==◌, ◌&&◌, not, Option, Some, None, is_none, if◌then◌else◌}
+use Rattle.std.specs.Prelude.{Bool, List, length, map, min, ◌==◌, ◌&&◌, not, Option, Some, None}
+use Rattle.std.specs.Prelude.{is_none, if◌then◌else◌}
 use Rattle.std.specs.List.{filter, filter_map, list_any}
 use Rattle.mq_topic.specs.Levels.{levels}
 use Rattle.mq_topic.specs.Matching.{matches}
@@ -39,7 +40,8 @@ abbrev pub options_for : List Subscription → Message → Text → List Subscri
 options_for subscriptions m id = map (λ s. s.options) (filter (takes_part m id) subscriptions)
 
 -- one copy for a client with this user name, unless no subscription takes part or it may not read the topic
-abbrev pub direct_copy : Option (List AclRow) → List Subscription → Message → Text → Option Text → Option Copy
+abbrev pub direct_copy : Option (List AclRow) → List Subscription → Message → Text → Option Text
+    → Option Copy
 direct_copy access subscriptions m id user =
     let options = options_for subscriptions m id in
     if not (length options == 0) && allowed access id user m.topic Reading
@@ -47,6 +49,7 @@ direct_copy access subscriptions m id user =
     else None
 
 -- for each session, by client id
-unfoldable pub direct_copies : Option (List AclRow) → List Session → List Subscription → Message → List Copy
+unfoldable pub direct_copies : Option (List AclRow) → List Session → List Subscription → Message
+    → List Copy
 direct_copies access sessions subscriptions m =
     filter_map (λ session. direct_copy access subscriptions m session.id session.user) sessions

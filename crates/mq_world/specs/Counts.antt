@@ -5,7 +5,9 @@ use Rattle.mq_topic.specs.Levels.{levels, level_order}
 use Rattle.mq_tree.specs.Entries.{capped}
 use Rattle.mq_tree.specs.Prefixes.{prefixes, met_by_name, met_by_filter}
 use Rattle.mq_world.specs.Lists.{in_order}
-use Rattle.mq_world.specs.World.{World, Subscription, Retained, Request, Connect, Disconnect, Subscribe, Unsubscribe, Publish, SetAcl, Advance, Stat, asked, subscriptions_of}
+use Rattle.mq_world.specs.World.{World, Subscription, Retained, Request, Connect, Disconnect}
+use Rattle.mq_world.specs.World.{Subscribe, Unsubscribe, Publish, SetAcl, Advance, Stat, asked}
+use Rattle.mq_world.specs.World.{subscriptions_of}
 use Rattle.mq_world.specs.Clock.{is_over}
 use Rattle.mq_world.specs.Retained.{asks_for_retained}
 use Rattle.mq_world.specs.declared.answer.Outcome.{Outcome}
@@ -44,5 +46,6 @@ steps w (Subscribe id text options) =
 steps w (Unsubscribe id text) = 0
 steps w (Publish m) = length (met_by_name (levels m.topic) (prefixes (filters_of w)))
 steps w (SetAcl text) = 0
-steps w (Advance seconds) = length (filter (λ kept. is_over (w.moment + seconds) kept.deadline) w.retained)
+steps w (Advance seconds) =
+    length (filter (λ kept. is_over (w.moment + seconds) kept.deadline) w.retained)
 steps w Stat = 0

@@ -2,7 +2,8 @@
 use Rattle.std.specs.Prelude.{ℕ, Bool, List, [], ◌∷◌, nat_le, map, Option, if◌then◌else◌}
 use Rattle.std.specs.List.{filter, filter_map, find, list_all, list_any}
 use Rattle.mq_world.specs.Lists.{Text, in_order}
-use Rattle.mq_world.specs.World.{World, Row, Group, Message, Copy, group_cmp, group_of, rows_in, same_key}
+use Rattle.mq_world.specs.World.{World, Row, Group, Message, Copy, group_cmp, group_of, rows_in}
+use Rattle.mq_world.specs.World.{same_key}
 use Rattle.mq_world.specs.Sessions.{can_be_served}
 use Rattle.mq_world.specs.Copies.{filter_matches, copy_by}
 
@@ -16,12 +17,14 @@ least_stamped rows = find (λ row. list_all (λ other. nat_le row.stamp other.st
 
 -- the member that joined or was served longest ago, among those that can be served
 abbrev pub turn_of : (Text → Bool) → List Row → Group → Option Row
-turn_of can rows group = least_stamped (filter (λ row. can row.subscription.client) (rows_in group rows))
+turn_of can rows group =
+    least_stamped (filter (λ row. can row.subscription.client) (rows_in group rows))
 
 -- the members that are served: one of each group whose filter matches the topic, if any can be
 unfoldable pub served : (Text → Bool) → List Row → Text → List Row
 served can rows topic =
-    filter_map (turn_of can rows) (filter (λ group. filter_matches group.filter topic) (groups_of rows))
+    filter_map (turn_of can rows)
+    (filter (λ group. filter_matches group.filter topic) (groups_of rows))
 
 -- the members that a publish serves
 abbrev pub served_by : World → Message → List Row
@@ -29,7 +32,8 @@ served_by w m = served (can_be_served w m.topic) w.rows m.topic
 
 -- the copy for a member by its own subscription
 abbrev pub group_copy : Message → Row → Copy
-group_copy m row = copy_by row.subscription.client (group_of row.subscription) m (row.subscription.options ∷ [])
+group_copy m row = copy_by row.subscription.client (group_of row.subscription) m
+    (row.subscription.options ∷ [])
 
 abbrev pub group_copies : World → Message → List Copy
 group_copies w m = map (group_copy m) (served_by w m)
@@ -37,4 +41,5 @@ group_copies w m = map (group_copy m) (served_by w m)
 -- a member that was served stands last in its group
 abbrev pub restamped : ℕ → List Row → Row → Row
 restamped stamp served row =
-    if list_any (λ other. same_key other.subscription row.subscription) served then record row { stamp = stamp } else row
+    if list_any (λ other. same_key other.subscription row.subscription) served then
+    record row { stamp = stamp } else row

@@ -1,5 +1,6 @@
 -- Which commands are refused, and why: the first of the conditions that holds.
-use Rattle.std.specs.Prelude.{ℕ, ◌+◌, Bool, true, false, List, [], ◌∷◌, ◌++◌, ◌&&◌, not, nat_le, nat_lt, length, Option, Some, None, Result, Ok, Err}
+use Rattle.std.specs.Prelude.{ℕ, ◌+◌, Bool, true, false, List, [], ◌∷◌, ◌++◌, ◌&&◌, not, nat_le}
+use Rattle.std.specs.Prelude.{nat_lt, length, Option, Some, None, Result, Ok, Err}
 use Rattle.std.specs.Option.{option_map, option_and_then}
 use Rattle.std.specs.List.{find}
 use Rattle.mq_topic.specs.Texts.{contains_byte, is_name, is_shared, is_subscription}
@@ -7,12 +8,16 @@ use Rattle.mq_acl.specs.Rows.{AclRow, rows_of}
 use Rattle.mq_acl.specs.declared.access.Direction.TheVariants.{Writing}
 use Rattle.mq_acl.specs.declared.fault.AclFault.{AclFault}
 use Rattle.mq_world.specs.Lists.{Text}
-use Rattle.mq_world.specs.World.{World, Session, Message, Request, Connect, Disconnect, Subscribe, Unsubscribe, Publish, SetAcl, Advance, Stat, are_valid}
+use Rattle.mq_world.specs.World.{World, Session, Message, Request, Connect, Disconnect, Subscribe}
+use Rattle.mq_world.specs.World.{Unsubscribe, Publish, SetAcl, Advance, Stat, are_valid}
 use Rattle.mq_world.specs.Clock.{last_moment}
 use Rattle.mq_world.specs.Sessions.{is_connected, may}
 use Rattle.mq_world.specs.Retained.{is_full}
 use Rattle.mq_world.specs.declared.refusal.Refusal.{Refusal}
-use Rattle.mq_world.specs.declared.refusal.Refusal.TheVariants.{ClientId, UserName, NotConnected, TopicName, TopicFilter, SharedNoLocal, NotAuthorized, RetainedFull, AclLine, ClockTooFar}
+use Rattle.mq_world.specs.declared.refusal.Refusal.TheVariants.{ClientId, UserName, NotConnected}
+use Rattle.mq_world.specs.declared.refusal.Refusal.TheVariants.{TopicName, TopicFilter}
+use Rattle.mq_world.specs.declared.refusal.Refusal.TheVariants.{SharedNoLocal, NotAuthorized}
+use Rattle.mq_world.specs.declared.refusal.Refusal.TheVariants.{RetainedFull, AclLine, ClockTooFar}
 
 -- a list of conditions, each with the refusal that it leads to
 abbrev pub Conditions : Type 0
@@ -20,7 +25,8 @@ Conditions = List (Bool × Refusal)
 
 -- the refusal of the first condition that holds
 abbrev pub first_refusal : Conditions → Option Refusal
-first_refusal conditions = option_map (λ condition. condition.1) (find (λ condition. condition.0) conditions)
+first_refusal conditions = option_map (λ condition. condition.1)
+    (find (λ condition. condition.0) conditions)
 
 -- 1 to 65,535 bytes without U+0000 (MQTT 5.0, sections 1.5.4 and 3.1.3.1; that one of zero length is refused is our own)
 abbrev pub is_client_id : Text → Bool
@@ -33,7 +39,8 @@ is_user_name (Some user) = nat_le (length user) 65535 && not (contains_byte 0 us
 
 -- the conditions on the client of a command other than connect
 abbrev pub client_conditions : List Session → Text → Conditions
-client_conditions sessions id = (not (is_client_id id), ClientId) ∷ (not (is_connected sessions id), NotConnected) ∷ []
+client_conditions sessions id = (not (is_client_id id), ClientId)
+    ∷ (not (is_connected sessions id), NotConnected) ∷ []
 
 -- the conditions on a published message
 abbrev pub message_conditions : World → Message → Conditions
@@ -60,12 +67,16 @@ refusal w (Connect id user clean interval) =
 refusal w (Disconnect id) = first_refusal (client_conditions w.sessions id)
 refusal w (Subscribe id text options) =
     first_refusal (client_conditions w.sessions id
-    ++ (not (is_subscription text), TopicFilter) ∷ (is_shared text && options.no_local, SharedNoLocal) ∷ [])
+    ++ (not (is_subscription text), TopicFilter)
+    ∷ (is_shared text && options.no_local, SharedNoLocal) ∷ [])
 refusal w (Unsubscribe id text) =
-    first_refusal (client_conditions w.sessions id ++ (not (is_subscription text), TopicFilter) ∷ [])
-refusal w (Publish m) = first_refusal (client_conditions w.sessions m.publisher ++ message_conditions w m)
+    first_refusal (client_conditions w.sessions id ++ (not (is_subscription text), TopicFilter)
+    ∷ [])
+refusal w (Publish m) =
+    first_refusal (client_conditions w.sessions m.publisher ++ message_conditions w m)
 refusal w (SetAcl text) = acl_refusal text
-refusal w (Advance seconds) = first_refusal ((nat_lt last_moment (w.moment + seconds), ClockTooFar) ∷ [])
+refusal w (Advance seconds) =
+    first_refusal ((nat_lt last_moment (w.moment + seconds), ClockTooFar) ∷ [])
 refusal w Stat = None
 
 -- ## Which commands are valid, and which never want memory

@@ -1,12 +1,14 @@
 -- Retained messages: which a publish stores, and which a subscribe is sent (MQTT 5.0, sections 3.3.1.3 and 3.8.3.1).
-use Rattle.std.specs.Prelude.{ℕ, Bool, true, false, List, [], ◌∷◌, length, map, min, ◌==◌, ◌&&◌, ◌||◌, not, nat_le, Option, None, is_none, if◌then◌else◌}
+use Rattle.std.specs.Prelude.{ℕ, Bool, true, false, List, [], ◌∷◌, length, map, min, ◌==◌, ◌&&◌}
+use Rattle.std.specs.Prelude.{◌||◌, not, nat_le, Option, None, is_none, if◌then◌else◌}
 use Rattle.std.specs.Option.{option_map_or}
 use Rattle.std.specs.List.{filter, filter_map, list_any}
 use Rattle.mq_acl.specs.Rows.{AclRow}
 use Rattle.mq_acl.specs.Access.{allowed}
 use Rattle.mq_acl.specs.declared.access.Direction.TheVariants.{Reading}
 use Rattle.mq_world.specs.Lists.{Text, same_text, with_row}
-use Rattle.mq_world.specs.World.{World, Subscription, Message, Retained, Copy, retained_cmp, same_key, subscriptions_of}
+use Rattle.mq_world.specs.World.{World, Subscription, Message, Retained, Copy, retained_cmp}
+use Rattle.mq_world.specs.World.{same_key, subscriptions_of}
 use Rattle.mq_world.specs.Clock.{deadline_of, is_over, time_left}
 use Rattle.mq_world.specs.Sessions.{user_of}
 use Rattle.mq_world.specs.Copies.{filter_matches}
@@ -15,7 +17,8 @@ use Rattle.mq_world.specs.Copies.{filter_matches}
 
 -- a message with RETAIN is stored, but not without a payload (section 3.3.1.3) or with an expiry interval of 0 (own)
 abbrev pub is_stored : Message → Bool
-is_stored m = m.retain && not (length m.payload == 0) && not (option_map_or (λ seconds. seconds == 0) m.expiry false)
+is_stored m = m.retain && not (length m.payload == 0)
+    && not (option_map_or (λ seconds. seconds == 0) m.expiry false)
 
 abbrev pub stored : ℕ → Message → Retained
 stored now m = record {
@@ -52,7 +55,8 @@ unexpired now retained = filter (λ kept. not (is_over now kept.deadline)) retai
 abbrev pub asks_for_retained : List Subscription → Subscription → Bool
 asks_for_retained subscriptions s =
     is_none s.share
-    && (s.options.handling == 0 || (s.options.handling == 1 && not (list_any (same_key s) subscriptions)))
+    && (s.options.handling == 0
+    || (s.options.handling == 1 && not (list_any (same_key s) subscriptions)))
 
 -- messages that match and that the client may read, but with No Local none of its own
 abbrev pub is_sent : Option (List AclRow) → Option Text → Subscription → Retained → Bool
@@ -74,8 +78,10 @@ retained_copy now s kept = record {
 }
 
 -- for each retained message, in the order of topics
-unfoldable pub retained_copies : ℕ → Option (List AclRow) → Option Text → List Retained → Subscription → List Copy
-retained_copies now access user retained s = map (retained_copy now s) (filter (is_sent access user s) retained)
+unfoldable pub retained_copies : ℕ → Option (List AclRow) → Option Text → List Retained
+    → Subscription → List Copy
+retained_copies now access user retained s =
+    map (retained_copy now s) (filter (is_sent access user s) retained)
 
 -- the copies that a subscribe is sent
 abbrev pub sent_to : World → Subscription → List Copy

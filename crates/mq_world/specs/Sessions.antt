@@ -1,6 +1,7 @@
 -- Whose session is there, who is connected, and who may read and write what (MQTT 5.0, sections 3.1.2.4, 3.1.2.11.2 and
 -- 4.1).
-use Rattle.std.specs.Prelude.{ℕ, Bool, true, false, List, [], ◌==◌, ◌&&◌, not, Option, Some, None, if◌then◌else◌}
+use Rattle.std.specs.Prelude.{ℕ, Bool, true, false, List, [], ◌==◌, ◌&&◌, not, Option, Some, None}
+use Rattle.std.specs.Prelude.{if◌then◌else◌}
 use Rattle.std.specs.Option.{option_and_then, option_map_or}
 use Rattle.std.specs.List.{filter, find, list_any}
 use Rattle.mq_acl.specs.Rows.{AclRow}
@@ -42,7 +43,8 @@ may w id topic direction = allowed w.access id (user_of w.sessions id) topic dir
 
 -- the client is connected and may read the topic
 abbrev pub is_reader : Option (List AclRow) → List Session → Text → Text → Bool
-is_reader access sessions topic id = is_connected sessions id && allowed access id (user_of sessions id) topic Reading
+is_reader access sessions topic id = is_connected sessions id
+    && allowed access id (user_of sessions id) topic Reading
 
 -- whether a group may serve the client with a message of the topic
 abbrev pub can_be_served : World → Text → Text → Bool
@@ -68,7 +70,8 @@ session_end now interval = deadline_of now (if interval == 4294967295 then None 
 -- the session, if it is that of the client, as its connection ends
 abbrev pub left_by : ℕ → Text → Session → Session
 left_by now id session =
-    if has_id id session then record session { presence = Away (session_end now session.interval) } else session
+    if has_id id session then record session { presence = Away (session_end now session.interval) }
+    else session
 
 abbrev pub has_ended : ℕ → Session → Bool
 has_ended now session = elim session.presence [ Connected ↦ false | Away end ↦ is_over now end ]

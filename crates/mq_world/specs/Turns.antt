@@ -7,7 +7,8 @@ use Rattle.mq_world.specs.World.{World, Group, Subscription, Row, is_in_group}
 -- the row among rows in the order of their stamps
 abbrev pub put_in_turn : Row → List Row → List Row
 put_in_turn row [] = row ∷ []
-put_in_turn row (other ∷ rows) = if nat_le row.stamp other.stamp then row ∷ other ∷ rows else other ∷ put_in_turn row rows
+put_in_turn row (other ∷ rows) = if nat_le row.stamp other.stamp then
+    row ∷ other ∷ rows else other ∷ put_in_turn row rows
 
 -- the rows in the order of their stamps
 abbrev pub by_turn : List Row → List Row

@@ -9,7 +9,9 @@ use Rattle.mq_world.specs.Lists.{Text}
 use Rattle.mq_world.specs.World.{Request, Group, Copy, Reply}
 use Rattle.mq_world.specs.World as world
 use Rattle.mq_world.specs.declared.command.Command.{Command}
-use Rattle.mq_world.specs.declared.command.Command.TheVariants.{Connect, Disconnect, Subscribe, Unsubscribe, Publish, SetAcl, Advance, Stat}
+use Rattle.mq_world.specs.declared.command.Command.TheVariants.{Connect, Disconnect, Subscribe}
+use Rattle.mq_world.specs.declared.command.Command.TheVariants.{Unsubscribe, Publish, SetAcl}
+use Rattle.mq_world.specs.declared.command.Command.TheVariants.{Advance, Stat}
 use Rattle.mq_world.specs.declared.limits.Limits.{Limits}
 use Rattle.mq_world.specs.declared.answer.Delivery.{Delivery}
 use Rattle.mq_world.specs.declared.answer.Answer.{Answer}
@@ -31,7 +33,8 @@ request_of (Subscribe client filter qos no_local rap handling id) =
       handling = handling;
       identifier = id;
     })
-request_of (Unsubscribe client filter) = world.Unsubscribe (string_bytes client) (string_bytes filter)
+request_of (Unsubscribe client filter) =
+    world.Unsubscribe (string_bytes client) (string_bytes filter)
 request_of (Publish client topic payload qos retain expiry) =
     world.Publish (record {
       publisher = string_bytes client;

@@ -1,5 +1,6 @@
 -- Copies that wait for clients that are away (MQTT 5.0, section 4.1; how many may wait is our own).
-use Rattle.std.specs.Prelude.{ℕ, Bool, List, [], ◌∷◌, ◌++◌, length, ◌==◌, nat_lt, ◌&&◌, not, Option, Some, None, is_some, if◌then◌else◌}
+use Rattle.std.specs.Prelude.{ℕ, Bool, List, [], ◌∷◌, ◌++◌, length, ◌==◌, nat_lt, ◌&&◌, not, Option}
+use Rattle.std.specs.Prelude.{Some, None, is_some, if◌then◌else◌}
 use Rattle.std.specs.Option.{option_map_or, option_and_then}
 use Rattle.std.specs.List.{filter_map, list_any}
 use Rattle.mq_acl.specs.Rows.{AclRow}
@@ -24,13 +25,15 @@ abbrev pub with_qos : Copy → Option Copy
 with_qos copy = if copy.qos == 0 then None else Some copy
 
 -- the copy that begins to wait for the client: the one that it would get if it were connected
-abbrev pub waiting_copy : ℕ → Option (List AclRow) → List Subscription → Message → Session → Option Copy
+abbrev pub waiting_copy : ℕ → Option (List AclRow) → List Subscription → Message → Session
+    → Option Copy
 waiting_copy limit access subscriptions m session =
     if has_room limit session
     then option_and_then with_qos (direct_copy access subscriptions m session.id session.user)
     else None
 
-unfoldable pub begins_to_wait : ℕ → Option (List AclRow) → List Session → List Subscription → Message → Bool
+unfoldable pub begins_to_wait : ℕ → Option (List AclRow) → List Session → List Subscription
+    → Message → Bool
 begins_to_wait limit access sessions subscriptions m =
     list_any (λ session. is_some (waiting_copy limit access subscriptions m session)) sessions
 
@@ -39,9 +42,11 @@ abbrev pub with_waiting : Session → List Waiting → Session
 with_waiting session waiting = record session { waiting = session.waiting ++ waiting }
 
 -- the session after a publish
-abbrev pub waiting_after : ℕ → Option (List AclRow) → List Subscription → ℕ → Message → Session → Session
+abbrev pub waiting_after : ℕ → Option (List AclRow) → List Subscription → ℕ → Message → Session
+    → Session
 waiting_after limit access subscriptions now m session =
-    option_map_or (λ copy. with_waiting session (record { copy = copy; deadline = deadline_of now m.expiry } ∷ []))
+    option_map_or (λ copy. with_waiting session
+    (record { copy = copy; deadline = deadline_of now m.expiry } ∷ []))
     (waiting_copy limit access subscriptions m session) session
 
 -- ## What a client gets that comes back
@@ -58,4 +63,5 @@ resumed_copy now waiting =
 -- in the order in which they waited
 unfoldable pub resumed_copies : ℕ → List Session → Text → Bool → List Copy
 resumed_copies now sessions id clean =
-    if resumes sessions id clean then filter_map (resumed_copy now) (waiting_for sessions id) else []
+    if resumes sessions id clean then filter_map (resumed_copy now) (waiting_for sessions id)
+    else []

@@ -1,6 +1,7 @@
 -- What a broker knows, as plain lists: a clock, an access list, sessions, subscriptions and retained messages (MQTT 5.0,
 -- sections 3.1, 3.3, 3.8, 3.10, 3.14 and 4.8), and what it is asked and answers.
-use Rattle.std.specs.Prelude.{ℕ, ◌<◌, Bool, true, List, [], ◌&&◌, nat_le, nat_eq, map, Option, Some, None}
+use Rattle.std.specs.Prelude.{ℕ, ◌<◌, Bool, true, List, [], ◌&&◌, nat_le, nat_eq, map, Option, Some}
+use Rattle.std.specs.Prelude.{None}
 use Rattle.std.specs.declared.cmp.Ordering.{Ordering}
 use Rattle.std.specs.Ordering.{on, then_cmp}
 use Rattle.std.specs.Option.{option_map, option_map_or, option_eq, option_cmp}
@@ -111,7 +112,15 @@ pub record World : Type 0 where
 -- nobody has a session, with these access rows or without an access list
 unfoldable pub fresh_world : Option (List AclRow) → World
 fresh_world access =
-    record { limits = default_limits; moment = 0; access = access; sessions = []; rows = []; retained = []; accepted = 0 }
+    record {
+      limits = default_limits;
+      moment = 0;
+      access = access;
+      sessions = [];
+      rows = [];
+      retained = [];
+      accepted = 0;
+    }
 
 -- the world with other limits
 abbrev pub within : Limits → World → World
@@ -144,11 +153,13 @@ is_identifier n = nat_le 1 n && nat_le n 268435455
 
 abbrev pub are_valid : SubscriptionOptions → Bool
 are_valid options =
-    nat_le options.qos 2 && nat_le options.handling 2 && option_map_or is_identifier options.identifier true
+    nat_le options.qos 2 && nat_le options.handling 2
+    && option_map_or is_identifier options.identifier true
 
 -- the subscription that a subscribe asks for
 abbrev pub asked : Text → Text → SubscriptionOptions → Subscription
-asked client text options = record { client = client; share = share_of text; filter = filter_part text; options = options }
+asked client text options =
+    record { client = client; share = share_of text; filter = filter_part text; options = options }
 
 -- ## Keys and their order
 
@@ -165,7 +176,8 @@ filter_cmp = on levels level_order
 -- by client, then by share name, then by filter in level order
 abbrev pub subscription_cmp : Subscription → Subscription → Ordering
 subscription_cmp =
-    then_cmp (on (λ s. s.client) text_cmp) (then_cmp (on (λ s. s.share) share_cmp) (on (λ s. s.filter) filter_cmp))
+    then_cmp (on (λ s. s.client) text_cmp)
+    (then_cmp (on (λ s. s.share) share_cmp) (on (λ s. s.filter) filter_cmp))
 
 abbrev pub row_cmp : Row → Row → Ordering
 row_cmp = on (λ row. row.subscription) subscription_cmp
@@ -186,7 +198,8 @@ same_share = option_eq same_text
 
 -- the subscription of this client, under this share name or none, to this filter
 abbrev pub has_key : Text → Option Text → Text → Subscription → Bool
-has_key client share filter s = same_text s.client client && same_share s.share share && same_text s.filter filter
+has_key client share filter s = same_text s.client client && same_share s.share share
+    && same_text s.filter filter
 
 abbrev pub same_key : Subscription → Subscription → Bool
 same_key a b = has_key a.client a.share a.filter b

@@ -28,7 +28,8 @@ pub struct Receiver<'a> {
 ghost use Rattle.mq_retained.specs.Receivers.{subscription_for, copies_among};
 
 fn may_get(receiver: &Receiver, stored: &Stored) -> bool
-    ensures { result ≡ may_get receiver.now.access.now (option_copied receiver.now.user) (subscription_for receiver.now) (message_in stored.now) }
+    ensures { result ≡ may_get receiver.now.access.now (option_copied receiver.now.user)
+        (subscription_for receiver.now) (message_in stored.now) }
 {
     let client = receiver.client.as_str();
     may_read(receiver.access, client, receiver.user, &stored.topic)
@@ -51,7 +52,8 @@ fn retained_copy(
     stored: &Stored,
 ) -> Result<Delivery, AllocError>
     requires { IfSome stored.now.deadline (λ d. d < receiver.now.clock.moment + 2 ^ 32) }
-    ensures { IfOk result (λ d. copy_of d ≡ retained_copy receiver.now.clock.moment (subscription_for receiver.now) (message_in stored.now)) }
+    ensures { IfOk result (λ d. copy_of d ≡ retained_copy receiver.now.clock.moment
+        (subscription_for receiver.now) (message_in stored.now)) }
 {
     Ok(Delivery {
         client: receiver.client.clone()?,
@@ -72,7 +74,8 @@ pub(crate) fn copies_of(
     found: &[&Stored],
 ) -> Result<Vec<Delivery>, AllocError>
     requires { AreNear receiver.now.clock.moment (map (λ s. message_in s.now) found.now) }
-    ensures { IfOk result (λ copies. copies_in copies ≡ copies_among receiver.now (map (λ s. message_in s.now) found.now)) }
+    ensures { IfOk result (λ copies. copies_in copies
+        ≡ copies_among receiver.now (map (λ s. message_in s.now) found.now)) }
 {
     let mut copies = Vec::with_capacity(alloc, found.len())?;
     for stored in found {

@@ -1,6 +1,7 @@
 //! The deadlines of retained messages, in their order. The module hides its set: outside an edit by its key, a pair is
 //! reached only by `take_due`, which takes the first one out if it is due and ticks once for it.
-ghost use Rattle.std.specs.Prelude.{◌≡◌, ◌+◌, [], IfOk, OnOk, OnErr, IfSome, IfNone, is_some, if◌then◌else◌};
+ghost use Rattle.std.specs.Prelude.{◌≡◌, ◌+◌, [], IfOk, OnOk, OnErr, IfSome, IfNone, is_some};
+ghost use Rattle.std.specs.Prelude.{if◌then◌else◌};
 ghost use Rattle.std.specs.Option.{option_map};
 ghost use Rattle.mq_retained.specs.Deadlines.{Adds, Drops, TakesDue, NoneDue};
 ghost use Rattle.mq_retained.specs.Due.{due_of};
@@ -21,7 +22,8 @@ pub(crate) struct Due {
 impl Due {
     /// The pair of a message with a deadline.
     pub(crate) fn of(deadline: Option<u64>, topic: &TopicName) -> Result<Option<Due>, AllocError>
-        ensures { IfOk result (λ due. option_map due_of due ≡ option_map (λ d. (d, topic.now)) deadline) }
+        ensures { IfOk result (λ due. option_map due_of due
+            ≡ option_map (λ d. (d, topic.now)) deadline) }
     {
         match deadline {
             None => Ok(None),
@@ -61,7 +63,8 @@ impl Deadlines {
 
     /// Adds a pair, if there is one.
     pub(crate) fn put(&mut self, deadline: Option<u64>, topic: &TopicName) -> Result<(), AllocError>
-        ensures ok { OnOk result (Adds (option_map (λ d. (d, topic.now)) deadline) self.old self.new) }
+        ensures ok { OnOk result
+            (Adds (option_map (λ d. (d, topic.now)) deadline) self.old self.new) }
         ensures err { OnErr result (self.new ≡ self.old) }
     {
         let Some(due) = Due::of(deadline, topic)? else {

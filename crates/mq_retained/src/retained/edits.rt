@@ -1,5 +1,6 @@
 //! Edits of the tree and of the index of deadlines together. Where a call fails, both hold what they held.
-ghost use Rattle.std.specs.Prelude.{◌≡◌, ◌+◌, length, not, OnOk, OnErr, IfOk, nat_eq, None, if◌then◌else◌};
+ghost use Rattle.std.specs.Prelude.{◌≡◌, ◌+◌, length, not, OnOk, OnErr, IfOk, nat_eq, None};
+ghost use Rattle.std.specs.Prelude.{if◌then◌else◌};
 ghost use Rattle.std.specs.Option.{option_map, option_eq};
 ghost use Rattle.std.specs.List.{filter, list_any};
 ghost use Rattle.mq_world.specs.Lists.{with_row};
@@ -48,7 +49,8 @@ fn replaced(
     new: Option<u64>,
     topic: &TopicName,
 ) -> Result<Option<Due>, AllocError>
-    ensures { IfOk result (λ due. option_map due_of due ≡ (if option_eq nat_eq older new then None else option_map (λ d. (d, topic.now)) older)) }
+    ensures { IfOk result (λ due. option_map due_of due
+        ≡ (if option_eq nat_eq older new then None else option_map (λ d. (d, topic.now)) older)) }
 {
     if older == new {
         return Ok(None);
@@ -67,7 +69,8 @@ pub(crate) fn store(
     requires { IsSound tree.old deadlines.old }
     ensures sound { IsSound tree.new deadlines.new }
     ensures ok { OnOk result (retained_in tree.new
-        ≡ with_row retained_cmp (stored_until message.now.deadline (message_of message.now)) (retained_in tree.old)) }
+        ≡ with_row retained_cmp (stored_until message.now.deadline (message_of message.now))
+        (retained_in tree.old)) }
     ensures err { OnErr result ((tree.new ≡ tree.old) × SamePairs deadlines.new deadlines.old) }
 {
     let stored = Stored::from_message(alloc, message)?;
@@ -95,7 +98,8 @@ pub(crate) fn forget(
 ) -> Result<(), AllocError>
     requires { IsSound tree.old deadlines.old }
     ensures sound { IsSound tree.new deadlines.new }
-    ensures ok { OnOk result (retained_in tree.new ≡ filter (λ kept. not (has_topic topic.now kept)) (retained_in tree.old)) }
+    ensures ok { OnOk result (retained_in tree.new
+        ≡ filter (λ kept. not (has_topic topic.now kept)) (retained_in tree.old)) }
     ensures err { OnErr result ((tree.new ≡ tree.old) × SamePairs deadlines.new deadlines.old) }
 {
     let deadline = deadline_at(tree, topic);

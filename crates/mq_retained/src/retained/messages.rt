@@ -58,7 +58,8 @@ impl Messages {
         topic: &TopicName,
         stored: Stored,
     ) -> Result<Option<Stored>, AllocError>
-        ensures ok { OnOk result (self.new ≡ insert_entry level_order self.old (levels topic.now) stored) }
+        ensures ok { OnOk result
+            (self.new ≡ insert_entry level_order self.old (levels topic.now) stored) }
         ensures err { OnErr result (self.new ≡ self.old) }
         ensures absent { OnErr result (lookup (is_key (levels topic.now)) self.old ≡ None) }
     {
@@ -102,7 +103,8 @@ impl Messages {
     ) -> Result<Vec<&Stored>, AllocError>
         ensures found { IfOk result (λ found. map (λ v. v.now) found.items
             ≡ values_of (filter (λ e. matches (levels wanted.now) e.0) self.now)) }
-        ensures count { OnOk result (steps.new ≡ steps.old + length (met_by_filter (levels wanted.now) (prefixes (keys_of self.now)))) }
+        ensures count { OnOk result (steps.new ≡ steps.old + length
+            (met_by_filter (levels wanted.now) (prefixes (keys_of self.now)))) }
         ensures ordered { AreInOrder self.now }
     {
         self.by_topic.for_filter(wanted, steps)

@@ -19,7 +19,8 @@ pub(crate) struct Stored {
 
 impl Stored {
     pub(crate) fn from_message(alloc: Global, message: &Message) -> Result<Stored, AllocError>
-        ensures { IfOk result (λ stored. message_in stored ≡ stored_until message.now.deadline (message_of message.now)) }
+        ensures { IfOk result (λ stored. message_in stored
+            ≡ stored_until message.now.deadline (message_of message.now)) }
     {
         Ok(Stored {
             topic: message.topic.clone()?,

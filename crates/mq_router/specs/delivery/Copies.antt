@@ -1,5 +1,6 @@
 -- How the copies of a message are made from what is found for its topic.
-use Rattle.std.specs.Prelude.{ℕ, Bool, List, map, Option, if◌then◌else◌, ◌&&◌, not, is_none, Some, None}
+use Rattle.std.specs.Prelude.{ℕ, Bool, List, map, Option, if◌then◌else◌, ◌&&◌, not, is_none, Some}
+use Rattle.std.specs.Prelude.{None}
 use Rattle.std.specs.Option.{option_map}
 use Rattle.std.specs.List.{filter_map, filter, flat_map}
 use Rattle.mq_acl.specs.Rows.{AclRow}
@@ -17,43 +18,55 @@ use Rattle.mq_subscriptions.specs.Turns.{next_in, turns_of}
 use Rattle.mq_subscriptions.specs.Matches.{clients_of, options_among}
 
 -- what begins to wait for the client of a session, until this deadline or for ever
-abbrev pub begins : ℕ → Option (List AclRow) → List Subscription → Message → Option ℕ → Session → Option Begin
+abbrev pub begins : ℕ → Option (List AclRow) → List Subscription → Message → Option ℕ → Session
+    → Option Begin
 begins limit access subscriptions m deadline session =
     option_map (begin_with session.id deadline) (waiting_copy limit access subscriptions m session)
 
-abbrev pub begun_by : ℕ → Option (List AclRow) → List Session → List Subscription → Message → Option ℕ → List Begin
+abbrev pub begun_by : ℕ → Option (List AclRow) → List Session → List Subscription → Message
+    → Option ℕ → List Begin
 begun_by limit access sessions subscriptions m deadline =
     filter_map (begins limit access subscriptions m deadline) sessions
 
 -- of subscriptions that match, those of the client in its own name that take part
 abbrev pub gives : Message → Text → Subscription → Bool
-gives m id s = is_none s.share && same_text s.client id && not (s.options.no_local && same_text id m.publisher)
+gives m id s = is_none s.share && same_text s.client id
+    && not (s.options.no_local && same_text id m.publisher)
 
 abbrev pub gives_options : Message → Text → List Subscription → List world.SubscriptionOptions
 gives_options m id rows = map (λ s. s.options) (filter (gives m id) rows)
 
 -- the copy for a connected client that may read the topic
 abbrev pub copy_for : Option (List AclRow) → List Session → Message → Text × Summary → Option Copy
-copy_for access sessions m l = if is_reader access sessions m.topic l.0 then Some (copy_from l.0 None m l.1) else None
+copy_for access sessions m l = if is_reader access sessions m.topic l.0 then
+    Some (copy_from l.0 None m l.1) else None
 
-abbrev pub copies_by : Option (List AclRow) → List Session → Message → List (Text × Summary) → List Copy
+abbrev pub copies_by : Option (List AclRow) → List Session → Message → List (Text × Summary)
+    → List Copy
 copies_by access sessions m summaries = filter_map (copy_for access sessions m) summaries
 
 -- what begins to wait for a client that is away and may read the topic
-abbrev pub begin_for : ℕ → Option (List AclRow) → List Session → Message → Option ℕ → Text × Summary → Option Begin
+abbrev pub begin_for : ℕ → Option (List AclRow) → List Session → Message → Option ℕ → Text × Summary
+    → Option Begin
 begin_for limit access sessions m deadline l =
     if room_for limit sessions l.0 && allowed access l.0 (user_of sessions l.0) m.topic Reading
     then option_map (begin_with l.0 deadline) (with_qos (copy_from l.0 None m l.1))
     else None
 
-abbrev pub begins_by : ℕ → Option (List AclRow) → List Session → Message → Option ℕ → List (Text × Summary) → List Begin
-begins_by limit access sessions m deadline summaries = filter_map (begin_for limit access sessions m deadline) summaries
+abbrev pub begins_by : ℕ → Option (List AclRow) → List Session → Message → Option ℕ
+    → List (Text × Summary) → List Begin
+begins_by limit access sessions m deadline summaries =
+    filter_map (begin_for limit access sessions m deadline) summaries
 
 -- the members in turn of the groups of a share name, by the filters that are found
-abbrev pub turns_at : Option (List AclRow) → List Session → Text → Text → List At → List Subscription
+abbrev pub turns_at : Option (List AclRow) → List Session → Text → Text → List At
+    → List Subscription
 turns_at access sessions topic share found =
-    flat_map (λ (a : At). turns_of (next_in access sessions a.rows topic (record { share = share; filter = a.filter }))) found
+    flat_map (λ (a : At). turns_of
+    (next_in access sessions a.rows topic (record { share = share; filter = a.filter })))
+    found
 
 -- for each client, in order, what its options come to
 abbrev pub by_client : List (Text × SubscriptionOptions) → List (Text × Summary)
-by_client xs = map (λ id. (id, summary_of (options_among id xs))) (in_order text_cmp (clients_of xs))
+by_client xs = map (λ id. (id, summary_of (options_among id xs)))
+    (in_order text_cmp (clients_of xs))

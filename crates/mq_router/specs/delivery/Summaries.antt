@@ -1,5 +1,6 @@
 -- What the options of a client's subscriptions come to for its copy.
-use Rattle.std.specs.Prelude.{ℕ, Bool, List, [], ◌∷◌, ◌++◌, map, max, min, ◌&&◌, ◌||◌, Option, Some, None}
+use Rattle.std.specs.Prelude.{ℕ, Bool, List, [], ◌∷◌, ◌++◌, map, max, min, ◌&&◌, ◌||◌, Option, Some}
+use Rattle.std.specs.Prelude.{None}
 use Rattle.std.specs.List.{filter_map, list_any}
 use Rattle.mq_world.specs.Lists.{Text, greatest, ascending}
 use Rattle.mq_world.specs.World.{SubscriptionOptions, Group, Message, Copy}
@@ -45,4 +46,9 @@ copy_from client group m summary = record {
 }
 
 abbrev pub summary_in : in_summary.Inside → Summary
-summary_in inside = record { qos = inside.qos; retain_as_published = inside.rap; identifiers = inside.ids.items }
+summary_in inside = record {
+  qos = inside.qos;
+  retain_as_published = inside.rap;
+  identifiers =
+      inside.ids.items;
+}

@@ -1,5 +1,6 @@
 -- What each request does to what the router holds: without stamps, by the order in which members stand.
-use Rattle.std.specs.Prelude.{◌≡◌, ◌⊎◌, ℕ, ◌+◌, Bool, List, [], ◌++◌, length, map, not, Option, Some, None, Result, Ok, Err, MatchResult, if◌then◌else◌}
+use Rattle.std.specs.Prelude.{◌≡◌, ◌⊎◌, ℕ, ◌+◌, Bool, List, [], ◌++◌, length, map, not, Option}
+use Rattle.std.specs.Prelude.{Some, None, Result, Ok, Err, MatchResult, if◌then◌else◌}
 use Rattle.std.specs.List.{filter, list_any}
 use Rattle.mq_topic.specs.Levels.{levels}
 use Rattle.mq_topic.specs.Texts.{share_of, filter_part}
@@ -7,8 +8,11 @@ use Rattle.mq_tree.specs.Entries.{capped}
 use Rattle.mq_tree.specs.Prefixes.{prefixes, met_by_name}
 use Rattle.mq_acl.specs.Rows.{AclRow}
 use Rattle.mq_world.specs.Lists.{Text, same_text, with_row}
-use Rattle.mq_world.specs.World.{World, Row, Session, Subscription, Message, Copy, Request, Connect, Disconnect, Subscribe, Unsubscribe, Publish, SetAcl, Advance, Stat, Reply, asked, session_cmp, has_id, has_key}
-use Rattle.mq_world.specs.Sessions.{new_session, connected, user_of, outlives, resumes, left_by, has_ended, is_among}
+use Rattle.mq_world.specs.World.{World, Row, Session, Subscription, Message, Copy, Request, Connect}
+use Rattle.mq_world.specs.World.{Disconnect, Subscribe, Unsubscribe, Publish, SetAcl, Advance, Stat}
+use Rattle.mq_world.specs.World.{Reply, asked, session_cmp, has_id, has_key}
+use Rattle.mq_world.specs.Sessions.{new_session, connected, user_of, outlives, resumes, left_by}
+use Rattle.mq_world.specs.Sessions.{has_ended, is_among}
 use Rattle.mq_sessions.specs.Queue.{Begin}
 use Rattle.mq_router.specs.delivery.Copies.{begun_by}
 use Rattle.mq_world.specs.Waiting.{begins_to_wait, waiting_after, resumed_copies}
@@ -52,9 +56,11 @@ world_of s = record {
 abbrev pub member_copy : Message → Subscription → Copy
 member_copy m s = group_copy m (unstamped s)
 
-abbrev pub copies_made : Option (List AclRow) → List Session → List Subscription → Message → List Copy
+abbrev pub copies_made : Option (List AclRow) → List Session → List Subscription → Message
+    → List Copy
 copies_made access sessions subscriptions m =
-    direct_copies access (connected sessions) subscriptions m ++ map (member_copy m) (next_members access sessions subscriptions m)
+    direct_copies access (connected sessions) subscriptions m
+    ++ map (member_copy m) (next_members access sessions subscriptions m)
 
 -- those of a state
 abbrev pub copies_held : State → Message → List Copy
@@ -87,7 +93,8 @@ reply_to s (Disconnect id) = reason 0
 reply_to s (Subscribe id text options) =
     record { copies = copies_sent s (asked id text options); outcome = Reason options.qos }
 reply_to s (Unsubscribe id text) =
-    reason (if list_any (has_key id (share_of text) (filter_part text)) s.subscriptions then 0 else 17)
+    reason (if list_any (has_key id (share_of text) (filter_part text)) s.subscriptions then
+    0 else 17)
 reply_to s (Publish m) =
     published (copies_made s.access s.sessions s.subscriptions m)
     (begins_to_wait s.limits.queued s.access s.sessions s.subscriptions m)
@@ -107,7 +114,8 @@ lasts moment sessions s = not (is_among (filter (has_ended moment) sessions) s.c
 abbrev pub moved : State → Request → State
 moved s (Connect id user clean interval) = record s {
   sessions = with_row session_cmp (new_session id user interval) s.sessions;
-  subscriptions = if resumes s.sessions id clean then s.subscriptions else without id s.subscriptions;
+  subscriptions = if resumes s.sessions id clean then
+      s.subscriptions else without id s.subscriptions;
 }
 moved s (Disconnect id) =
     if outlives s.sessions id
@@ -116,9 +124,13 @@ moved s (Disconnect id) =
       sessions = filter (λ session. not (has_id id session)) s.sessions;
       subscriptions = without id s.subscriptions;
     }
-moved s (Subscribe id text options) = record s { subscriptions = joined (asked id text options) s.subscriptions }
+moved s (Subscribe id text options) =
+    record s { subscriptions = joined (asked id text options) s.subscriptions }
 moved s (Unsubscribe id text) =
-    record s { subscriptions = filter (λ x. not (has_key id (share_of text) (filter_part text) x)) s.subscriptions }
+    record s {
+      subscriptions = filter (λ x. not (has_key id (share_of text) (filter_part text) x))
+          s.subscriptions;
+    }
 moved s (Publish m) = record s {
   sessions = map (waiting_after s.limits.queued s.access s.subscriptions s.moment m) s.sessions;
   subscriptions = all_turned (next_members s.access s.sessions s.subscriptions m) s.subscriptions;
@@ -157,12 +169,14 @@ pub record Does (old : State) (request : Request) (reply : Reply) (new : State) 
 
 abbrev pub Applied : State → Request → Result Answer Refusal → State → Type 0
 Applied old request result new =
-    MatchResult result (λ a. Does old request (reply_of a) new) (λ r. Refuses (world_of old) request r)
+    MatchResult result (λ a. Does old request (reply_of a) new)
+    (λ r. Refuses (world_of old) request r)
 
 -- ## Steps
 
 abbrev pub steps_sent : State → Subscription → ℕ
-steps_sent s new = if asks_for_retained s.subscriptions new then steps_among new.filter s.retained else 0
+steps_sent s new = if asks_for_retained s.subscriptions new then
+    steps_among new.filter s.retained else 0
 
 abbrev pub steps_to : State → Request → ℕ
 steps_to s (Connect id user clean interval) = 0
@@ -177,7 +191,8 @@ steps_to s Stat = 0
 -- how many steps an answer adds to those before; a refusal adds none, and lack of memory may add any
 abbrev pub CountsSteps : State → Request → Result Answer Refusal → ℕ → ℕ → Type 0
 CountsSteps old request result before now =
-    MatchResult result (λ a. now ≡ before + steps_to old request) (λ r. (r ≡ Memory) ⊎ (now ≡ before))
+    MatchResult result (λ a. now ≡ before + steps_to old request)
+    (λ r. (r ≡ Memory) ⊎ (now ≡ before))
 
 -- the refusal of a test that may refuse
 abbrev pub refused_by : {X : Type 0} → Result X Refusal → Option Refusal

@@ -43,7 +43,8 @@ impl<'a> Outgoing<'a> {
         summary: Summary,
     ) -> Result<Delivery, AllocError>
         ensures { IfOk result (λ d. copy_of d
-            ≡ copy_from (rc_str_bytes client) (option_map group_of group) (message_of self.now.message) summary) }
+            ≡ copy_from (rc_str_bytes client) (option_map group_of group)
+            (message_of self.now.message) summary) }
     {
         let message = &self.message;
         Ok(Delivery {

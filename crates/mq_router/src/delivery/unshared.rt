@@ -37,9 +37,11 @@ pub(crate) fn direct_copies(
 ) -> Result<Direct, AllocError>
     requires { AreByClient (matched matches.now) }
     ensures copies { IfOk result (λ d. copies_in d.copies
-        ≡ copies_by readers.now.access.now readers.now.sessions.now (message_of outgoing.now.message) (by_client (matched matches.now))) }
+        ≡ copies_by readers.now.access.now readers.now.sessions.now
+        (message_of outgoing.now.message) (by_client (matched matches.now))) }
     ensures begun { IfOk result (λ d. map begin_of d.begun.items
-        ≡ begins_by limit readers.now.access.now readers.now.sessions.now (message_of outgoing.now.message) outgoing.now.message.deadline
+        ≡ begins_by limit readers.now.access.now readers.now.sessions.now
+        (message_of outgoing.now.message) outgoing.now.message.deadline
         (by_client (matched matches.now))) }
 {
     // A client gets a copy if it has a session.
@@ -70,13 +72,15 @@ fn own_copy(
     outgoing: &Outgoing,
 ) -> Result<Delivery, AllocError>
     ensures { IfOk result (λ d. copy_of d
-        ≡ copy_from (rc_str_bytes client.now) None (message_of outgoing.now.message) (summary_of (map (λ x. options_of x.options) own.now))) }
+        ≡ copy_from (rc_str_bytes client.now) None (message_of outgoing.now.message)
+        (summary_of (map (λ x. options_of x.options) own.now))) }
 {
     outgoing.copy(client.clone()?, None, summarize(alloc, own)?)
 }
 
 fn summarize(alloc: Global, own: &[Match]) -> Result<Summary, AllocError>
-    ensures { IfOk result (λ summary. summary ≡ summary_of (map (λ x. options_of x.options) own.now)) }
+    ensures { IfOk result (λ summary. summary
+        ≡ summary_of (map (λ x. options_of x.options) own.now)) }
 {
     let mut summary = Summary::new(alloc);
     for one in own {

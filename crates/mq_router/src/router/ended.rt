@@ -10,7 +10,8 @@ use mq_subscriptions::Subscriptions;
 /// Takes out the subscriptions of the sessions that have ended, and walks no other's; where none has, it looks at none. It
 /// takes no memory.
 pub(crate) fn remove_ended(sessions: &Sessions, subscriptions: &mut Subscriptions, moment: u64)
-    ensures rows { subscriptions.new.rows ≡ filter (lasts moment sessions.now) subscriptions.old.rows }
+    ensures rows { subscriptions.new.rows ≡ filter (lasts moment sessions.now)
+        subscriptions.old.rows }
     ensures keys { AreKeys subscriptions.old → AreKeys subscriptions.new }
 {
     if !sessions.any_ends(moment) {

@@ -38,7 +38,8 @@ pub trait Sink {
     fn write(&mut self, buf: &[u8]) -> Result<usize, DeviceFault>
         ensures bound { IfOk result (λ n. n ≤ length buf.now) }
         ensures bytes { WriteAppends (taken self.old) (taken self.new) result buf.now }
-        ensures counted { failures self.new ≡ failures self.old + write_failed result (length buf.now) };
+        ensures counted { failures self.new ≡ failures self.old
+            + write_failed result (length buf.now) };
 
     /// Hands on what it has taken.
     fn flush(&mut self) -> Result<(), DeviceFault>

@@ -1,5 +1,6 @@
 ghost use Rattle.std.specs.Prelude.{◌≡◌};
-ghost use Rattle.mq_script.specs.Wrapped.{reader_of, source_failures, writer_of, sink_failures, flushed_contents};
+ghost use Rattle.mq_script.specs.Wrapped.{reader_of, source_failures, writer_of, sink_failures};
+ghost use Rattle.mq_script.specs.Wrapped.{flushed_contents};
 
 use crate::devices::count::Count;
 use crate::devices::device::{DeviceFault, Sink, Source};

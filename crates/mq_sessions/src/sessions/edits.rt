@@ -1,5 +1,6 @@
 //! Edits of one session, or of those that end. They take no memory.
-ghost use Rattle.std.specs.Prelude.{◌≡◌, ◌+◌, ◌++◌, ◌≤◌, Contains, IfOk, length, IfSome, None, OnErr, OnOk, map, not};
+ghost use Rattle.std.specs.Prelude.{◌≡◌, ◌+◌, ◌++◌, ◌≤◌, Contains, IfOk, length, IfSome, None};
+ghost use Rattle.std.specs.Prelude.{OnErr, OnOk, map, not};
 ghost use Rattle.std.specs.Rc.{rc_str_bytes};
 ghost use Rattle.mq_world.specs.Lists.{with_row};
 ghost use Rattle.mq_world.specs.World.{has_id, session_cmp};
@@ -26,7 +27,8 @@ pub(crate) fn put(
 ) -> Result<Option<u64>, AllocError>
     requires { end_of (shown session) ≡ None }
     ensures put { OnOk result (map session_in sessions.new.entries
-        ≡ with_row session_cmp (session_at (rc_str_bytes id) session) (map session_in sessions.old.entries)) }
+        ≡ with_row session_cmp (session_at (rc_str_bytes id) session)
+        (map session_in sessions.old.entries)) }
     ensures end { IfOk result (λ end. SameEnds (ends_at sessions.old.entries)
         (option_to_list end ++ ends_at sessions.new.entries)) }
     ensures more { OnOk result (length sessions.new.entries ≤ length sessions.old.entries + 1) }
@@ -85,7 +87,8 @@ pub(crate) fn leave(sessions: &mut BTreeMap<RcStr, Session>, id: &str, clock: Cl
 }
 
 pub(crate) fn join(sessions: &mut BTreeMap<RcStr, Session>, limit: u32, begun: QueuedCopy)
-    ensures { map session_in sessions.new.entries ≡ queued_one limit (begin_of begun) (map session_in sessions.old.entries) }
+    ensures { map session_in sessions.new.entries
+        ≡ queued_one limit (begin_of begun) (map session_in sessions.old.entries) }
 {
     if let Some(session) = sessions.get_mut(begun.client.as_str()) {
         session.queue(limit, begun.copies);
@@ -93,7 +96,8 @@ pub(crate) fn join(sessions: &mut BTreeMap<RcStr, Session>, limit: u32, begun: Q
 }
 
 pub(crate) fn end(sessions: &mut BTreeMap<RcStr, Session>, moment: u64)
-    ensures { map session_in sessions.new.entries ≡ filter (λ session. not (has_ended moment session)) (map session_in sessions.old.entries) }
+    ensures { map session_in sessions.new.entries
+        ≡ filter (λ session. not (has_ended moment session)) (map session_in sessions.old.entries) }
 {
     sessions.retain(|_, session| !session.has_ended(moment));
 }

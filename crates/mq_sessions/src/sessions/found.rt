@@ -27,7 +27,8 @@ pub(crate) fn learn_order(sessions: &BTreeMap<RcStr, Session>)
 
 /// The session of a client.
 pub(crate) fn find<'a>(sessions: &'a BTreeMap<RcStr, Session>, id: &str) -> Option<&'a Session>
-    ensures { option_map (λ session. session_at id.now session.now) result ≡ session_of (map session_in sessions.now.entries) id.now }
+    ensures { option_map (λ session. session_at id.now session.now) result
+        ≡ session_of (map session_in sessions.now.entries) id.now }
 {
     sessions.get(id)
 }

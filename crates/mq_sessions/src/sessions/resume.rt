@@ -16,7 +16,8 @@ use std::collections::LinkedList;
 // The copy with what is left of its interval, unless that is over.
 fn resumed_copy(clock: Clock, waiting: &Waiting) -> Result<Option<Delivery>, AllocError>
     requires { IsReached clock.moment (waiting_of waiting.now) }
-    ensures { IfOk result (λ copy. option_map copy_of copy ≡ resumed_copy clock.moment (waiting_of waiting.now)) }
+    ensures { IfOk result (λ copy. option_map copy_of copy
+        ≡ resumed_copy clock.moment (waiting_of waiting.now)) }
 {
     if waiting
         .deadline
@@ -44,7 +45,8 @@ pub(crate) fn resumed_copies(
     all: &LinkedList<Waiting>,
 ) -> Result<Vec<Delivery>, AllocError>
     requires { AreReached clock.moment (map waiting_of all.now) }
-    ensures { IfOk result (λ copies. map copy_of copies.items ≡ filter_map (resumed_copy clock.moment) (map waiting_of all.now)) }
+    ensures { IfOk result (λ copies. map copy_of copies.items
+        ≡ filter_map (resumed_copy clock.moment) (map waiting_of all.now)) }
 {
     let mut copies = Vec::with_capacity(alloc, all.len())?;
     for waiting in all {

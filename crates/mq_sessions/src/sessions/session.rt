@@ -2,7 +2,8 @@
 ghost use Rattle.std.specs.Prelude.{◌≡◌, ◌≤◌, [], length, map, string_bytes};
 ghost use Rattle.std.specs.Option.{option_map};
 ghost use Rattle.mq_world.specs.World.{Away};
-ghost use Rattle.mq_world.specs.Sessions.{is_present, outlives_connection, session_end, has_ended, new_session};
+ghost use Rattle.mq_world.specs.Sessions.{is_present, outlives_connection, session_end, has_ended};
+ghost use Rattle.mq_world.specs.Sessions.{new_session};
 ghost use Rattle.mq_world.specs.Waiting.{has_place, has_room};
 ghost use Rattle.mq_sessions.specs.Queue.{queued};
 ghost use Rattle.mq_sessions.specs.Ends.{end_of};
@@ -98,7 +99,8 @@ impl Session {
 
     /// The connection ends.
     pub fn leave(&mut self, clock: Clock)
-        ensures { shown self.new ≡ record (shown self.old) { presence = Away (session_end clock.moment self.old.interval) } }
+        ensures { shown self.new ≡ record (shown self.old)
+            { presence = Away (session_end clock.moment self.old.interval) } }
     {
         self.presence = Presence::Away {
             end: clock.session_end(self.interval),

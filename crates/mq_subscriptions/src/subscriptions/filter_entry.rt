@@ -59,7 +59,8 @@ impl FilterEntry {
     }
 
     pub fn contains(&self, share: Option<&str>, client: &str) -> bool
-        ensures { result ≡ list_any (has_key client.now (option_copied share.entry) self.now.filter) self.now.rows }
+        ensures { result ≡ list_any (has_key client.now (option_copied share.entry) self.now.filter)
+            self.now.rows }
     {
         match share {
             None => has_direct(&self.direct, client),
@@ -75,7 +76,9 @@ impl FilterEntry {
         client: RcStr,
         options: SubscriptionOptions,
     ) -> Result<(), AllocError>
-        ensures ok { OnOk result (JoinsAt (option_copied share.entry) (rc_str_bytes client, options) self.old self.new.rows) }
+        ensures ok { OnOk result
+            (JoinsAt (option_copied share.entry) (rc_str_bytes client, options) self.old
+            self.new.rows) }
         ensures filter { self.new.filter ≡ self.old.filter }
         ensures here { AreHere self.new }
         ensures err { OnErr result (self.new ≡ self.old) }
@@ -88,7 +91,9 @@ impl FilterEntry {
 
     /// Takes a subscription out, and its group with its last member.
     pub fn leave(&mut self, share: Option<&str>, client: &str)
-        ensures rows { self.new.rows ≡ filter (λ s. not (has_key client.now (option_copied share.entry) self.old.filter s)) self.old.rows }
+        ensures rows { self.new.rows ≡ filter
+            (λ s. not (has_key client.now (option_copied share.entry) self.old.filter s))
+            self.old.rows }
         ensures filter { self.new.filter ≡ self.old.filter }
         ensures here { AreHere self.new }
     {
@@ -100,7 +105,8 @@ impl FilterEntry {
 
     /// A member of a group goes last. It takes no memory.
     pub fn serve(&mut self, share: &str, client: &str)
-        ensures turned { SameInTurn self.new.rows (put_last (has_key client.now (Some share.now) self.old.filter) self.old.rows) }
+        ensures turned { SameInTurn self.new.rows
+            (put_last (has_key client.now (Some share.now) self.old.filter) self.old.rows) }
         ensures filter { self.new.filter ≡ self.old.filter }
         ensures here { AreHere self.new }
     {
@@ -118,7 +124,8 @@ impl FilterEntry {
         message: &Message,
         matches: &mut Vec<Match<'a>>,
     ) -> Result<(), AllocError>
-        ensures { OnOk result (matched matches.new.items ≡ matched matches.old.items ++ own_matches (message_of message.now) self.now.rows) }
+        ensures { OnOk result (matched matches.new.items ≡ matched matches.old.items
+            ++ own_matches (message_of message.now) self.now.rows) }
     {
         for (client, options) in &self.direct {
             if !is_held_back(*options, client.as_str(), message) {
@@ -138,7 +145,8 @@ impl FilterEntry {
         name: &TopicName,
         turns: &mut Vec<Turn>,
     ) -> Result<(), AllocError>
-        ensures { OnOk result (GathersTurns readers.now.access.now readers.now.sessions.now name.now self.now
+        ensures { OnOk result (GathersTurns readers.now.access.now readers.now.sessions.now name.now
+            self.now
             turns.old.items turns.new.items) }
     {
         for (share, group) in &self.groups {
@@ -184,27 +192,31 @@ ghost use Rattle.mq_world.specs.Views.{message_of};
 ghost use Rattle.mq_subscriptions.specs.Matches.{own_matches};
 ghost use Rattle.mq_subscriptions.specs.Matches.{matched};
 ghost use Rattle.mq_subscriptions.specs.Turns.{GathersTurns};
-ghost use Rattle.mq_subscriptions.specs.Edits.{JoinsAt, DirectJoins, GroupJoins, DirectLeaves, GroupLeaves, GroupTurns};
+ghost use Rattle.mq_subscriptions.specs.Edits.{JoinsAt, DirectJoins, GroupJoins, DirectLeaves};
+ghost use Rattle.mq_subscriptions.specs.Edits.{GroupLeaves, GroupTurns};
 ghost use Rattle.mq_subscriptions.specs.Filters.{direct_rows, group_rows, NoneEmpty};
 ghost use Rattle.mq_subscriptions.specs.Views.{texts};
 ghost use Rattle.mq_world.specs.Lists.{Text, same_text};
 
 // Whether No Local keeps a client's own message from it.
 fn is_held_back(options: SubscriptionOptions, client: &str, message: &Message) -> bool
-    ensures { result ≡ (options.no_local && same_text client.now (rc_str_bytes message.now.publisher.now)) }
+    ensures { result ≡ (options.no_local
+        && same_text client.now (rc_str_bytes message.now.publisher.now)) }
 {
     options.no_local && client == message.publisher.as_str()
 }
 
 fn has_direct(direct: &BTreeMap<RcStr, SubscriptionOptions>, client: &str) -> bool
-    ensures { (f : Text) → result ≡ list_any (has_key client.now None f) (direct_rows f (texts direct.now.entries)) }
+    ensures { (f : Text) → result ≡ list_any (has_key client.now None f)
+        (direct_rows f (texts direct.now.entries)) }
 {
     direct.contains_key(client)
 }
 
 fn has_member(groups: &BTreeMap<RcStr, Group>, share: &str, client: &str) -> bool
     requires { NoneEmpty (texts groups.now.entries) }
-    ensures { (f : Text) → result ≡ list_any (has_key client.now (Some share.now) f) (group_rows f (texts groups.now.entries)) }
+    ensures { (f : Text) → result ≡ list_any (has_key client.now (Some share.now) f)
+        (group_rows f (texts groups.now.entries)) }
 {
     let _count = groups.len();
     match groups.get(share) {
@@ -218,7 +230,8 @@ fn join_direct(
     client: RcStr,
     options: SubscriptionOptions,
 ) -> Result<(), AllocError>
-    ensures ok { OnOk result (DirectJoins (rc_str_bytes client, options) direct.old.entries direct.new.entries) }
+    ensures ok { OnOk result (DirectJoins (rc_str_bytes client, options) direct.old.entries
+        direct.new.entries) }
     ensures err { OnErr result (direct.new.entries ≡ direct.old.entries) }
 {
     let _count = direct.len();
@@ -234,7 +247,8 @@ fn join_group(
     options: SubscriptionOptions,
 ) -> Result<(), AllocError>
     requires { NoneEmpty (texts groups.old.entries) }
-    ensures ok { OnOk result (GroupJoins share.now (rc_str_bytes client, options) groups.old.entries groups.new.entries) }
+    ensures ok { OnOk result (GroupJoins share.now (rc_str_bytes client, options) groups.old.entries
+        groups.new.entries) }
     ensures err { OnErr result (groups.new.entries ≡ groups.old.entries) }
     ensures live { NoneEmpty (texts groups.new.entries) }
 {
@@ -257,7 +271,8 @@ fn add_group(
 ) -> Result<(), AllocError>
     requires live { NoneEmpty (texts groups.old.entries) }
     requires absent { lookup (is_text share.now) (texts groups.old.entries) ≡ None }
-    ensures ok { OnOk result (GroupJoins share.now (rc_str_bytes client, options) groups.old.entries groups.new.entries) }
+    ensures ok { OnOk result (GroupJoins share.now (rc_str_bytes client, options) groups.old.entries
+        groups.new.entries) }
     ensures err { OnErr result (groups.new.entries ≡ groups.old.entries) }
     ensures live { NoneEmpty (texts groups.new.entries) }
 {

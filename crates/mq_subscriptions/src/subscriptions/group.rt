@@ -60,8 +60,14 @@ impl Group {
     }
 
     /// A member keeps its place, and a new one goes last.
-    pub(crate) fn join(&mut self, client: RcStr, options: SubscriptionOptions) -> Result<(), AllocError>
-        ensures ok { OnOk result (self.new ≡ with_one (has_client (rc_str_bytes client)) (rc_str_bytes client, options) self.old) }
+    pub(crate) fn join(
+        &mut self,
+        client: RcStr,
+        options: SubscriptionOptions,
+    ) -> Result<(), AllocError>
+        ensures ok { OnOk result
+            (self.new ≡ with_one (has_client (rc_str_bytes client)) (rc_str_bytes client, options)
+            self.old) }
         ensures err { OnErr result (self.new ≡ self.old) }
     {
         let _count = self.members.len();
@@ -88,9 +94,14 @@ impl Group {
     }
 
     /// The first member whose client is connected and may read the topic.
-    pub(crate) fn next(&self, readers: &Readers, name: &TopicName) -> Option<(&RcStr, SubscriptionOptions)>
+    pub(crate) fn next(
+        &self,
+        readers: &Readers,
+        name: &TopicName,
+    ) -> Option<(&RcStr, SubscriptionOptions)>
         ensures { option_map (λ m. (rc_str_bytes m.0.now, m.1)) result
-            ≡ find (λ m. is_reader readers.now.access.now readers.now.sessions.now name.now m.0) self.now }
+            ≡ find (λ m. is_reader readers.now.access.now readers.now.sessions.now name.now m.0)
+            self.now }
     {
         for (client, options) in &self.members {
             if readers.is_reader(client.as_str(), name) {

@@ -17,7 +17,8 @@ pub struct Match<'a> {
 /// Sorts them by client; those of one client keep their order.
 pub fn sort_by_client(matches: &mut Vec<Match>) -> Result<(), AllocError>
     ensures sorted { OnOk result (AreByClient (matched matches.new.items)) }
-    ensures stable { (id : Text) → options_among id (matched matches.new.items) ≡ options_among id (matched matches.old.items) }
+    ensures stable { (id : Text) → options_among id (matched matches.new.items)
+        ≡ options_among id (matched matches.old.items) }
 {
     matches.sort_by(|a, b| a.client.cmp(b.client))
 }

@@ -21,7 +21,8 @@ pub struct Turn {
 /// Sorts them by share name; those of one share name keep their order.
 pub fn sort_by_share(turns: &mut Vec<Turn>) -> Result<(), AllocError>
     ensures sorted { OnOk result (AreAscending (shares_of turns.new.items)) }
-    ensures stable { (share : Text) → turns_listed share turns.new.items ≡ turns_listed share turns.old.items }
+    ensures stable { (share : Text) → turns_listed share turns.new.items
+        ≡ turns_listed share turns.old.items }
 {
     turns.sort_by(|a, b| a.share.cmp(&b.share))
 }

@@ -1,7 +1,8 @@
 //! The nodes of a tree. The module hides the map of a node's children. What reads or edits a whole branch is for
 //! the tree alone (`pub(in crate::tree)`): a look-up can enter a node below another only by `Node::child` and by
 //! `Child::enter`, and each ticks the one `Walk` that the look-up was lent.
-ghost use Rattle.std.specs.Prelude.{◌≡◌, ◌+◌, List, [], ◌∷◌, length, ◌==◌, map, slice_get, MatchOption, Option, None};
+ghost use Rattle.std.specs.Prelude.{◌≡◌, ◌+◌, List, [], ◌∷◌, length, ◌==◌, map, slice_get};
+ghost use Rattle.std.specs.Prelude.{MatchOption, Option, None};
 ghost use Rattle.std.specs.Iterator.{at_most};
 ghost use Rattle.std.specs.Map.{lookup};
 ghost use Rattle.std.specs.Map.Iter.{TakesFirst};
@@ -68,7 +69,8 @@ impl<V> Node<V> {
 
     /// Enters the child at this level, which is one step; with no such child it is none.
     pub(crate) fn child(&self, level: &str, steps: &mut Walk) -> Option<&Node<V>>
-        ensures found { option_map entries_of (option_copied result) ≡ lookup (is_level level.now) self.now.1 }
+        ensures found { option_map entries_of (option_copied result)
+            ≡ lookup (is_level level.now) self.now.1 }
         ensures count { MatchOption result (steps.new ≡ steps.old) (λ _. steps.new ≡ steps.old + 1) }
         ensures children { AreChildren self.now.1 }
     {

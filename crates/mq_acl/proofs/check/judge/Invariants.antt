@@ -10,4 +10,5 @@ invariant-loop-row l =
     let client = l.client in
     let user = option_copied l.user in
     let name = l.name in
-    judged client user name l.direction l.granted (row_views (drop l.row-index l.rows)) ≡ judged client user name l.direction l.fn.granted (row_views l.rows)
+    judged client user name l.direction l.granted (row_views (drop l.row-index l.rows))
+    ≡ judged client user name l.direction l.fn.granted (row_views l.rows)

@@ -13,8 +13,10 @@ returns-in-None c = λ rows g.
     let direction = c.args.direction in
     let groups = c.args.groups.now in
     let own = own_rows user groups in
-    sym (ap (λ o. then_own o (λ granted. judged client user name direction granted own)) c.in-None.is)
-    ∙ judged_in_turn client user name direction rows groups c.judge.result (row_views c.everyone.result.now) own g c.everyone.ensures refl c.judge.ensures
+    sym (ap (λ o. then_own o (λ granted. judged client user name direction granted own))
+    c.in-None.is)
+    ∙ judged_in_turn client user name direction rows groups c.judge.result
+    (row_views c.everyone.result.now) own g c.everyone.ensures refl c.judge.ensures
 
 pub returns-in-Some : goal.returns-in-Some
 returns-in-Some c = λ rows g.
@@ -25,5 +27,7 @@ returns-in-Some c = λ rows g.
     let groups = c.args.groups.now in
     let own = row_views c.own.result.now in
     c.unwrap_or.ensures ∙ ap (λ o. unwrap_or o false) c.judge-in-Some.ensures
-    ∙ sym (ap (λ o. then_own o (λ granted. judged client user name direction granted own)) c.in-Some.is)
-    ∙ judged_in_turn client user name direction rows groups c.judge.result (row_views c.everyone.result.now) own g c.everyone.ensures c.own.ensures c.judge.ensures
+    ∙ sym (ap (λ o. then_own o (λ granted. judged client user name direction granted own))
+    c.in-Some.is)
+    ∙ judged_in_turn client user name direction rows groups c.judge.result
+    (row_views c.everyone.result.now) own g c.everyone.ensures c.own.ensures c.judge.ensures

@@ -12,18 +12,36 @@ overflow_add-number c =
     let text = c.args.text.now in
     let left = ap length c.split_line.ensures in
     let some = ap (λ r. length (lines_left r)) c.in-Some.is in
-    let count = read_count (lines text) (lines_left c.loop-rest.rest) c.loop-rest.number (user_who c.loop-rest.user) (row_views c.loop-rest.rows.items) (line_views c.loop-rest.rows.items) c.loop-rest.invariant in
-    omega (arith, length-slice_split (λ b. b == 10) text, count_by-le-length (λ b. b == 10) text, count, left, some)
+    let count = read_count (lines text) (lines_left c.loop-rest.rest) c.loop-rest.number
+    (user_who c.loop-rest.user) (row_views c.loop-rest.rows.items)
+    (line_views c.loop-rest.rows.items) c.loop-rest.invariant in
+    omega (
+      arith,
+      length-slice_split (λ b. b == 10) text,
+      count_by-le-length (λ b. b == 10) text,
+      count,
+      left,
+      some,
+    )
 
 pub returns-in_err-user : goal.returns-in_err-user
 returns-in_err-user c =
     let fault = c.in_err-user.field-0.0 in
     let told : (fault ≡ out_of_memory) ⊎ (rows_of c.args.text.now ≡ Err fault) =
     ⊎_elim inl
-    (λ f. inr (read_fault (lines c.args.text.now) (lines_left c.loop-rest.rest) (lines_left c.split_line.result.1) c.split_line.result.0.now c.loop-rest.number (user_who c.loop-rest.user) (row_views c.loop-rest.rows.items) (line_views c.loop-rest.rows.items) fault c.loop-rest.invariant (ap lines_left c.in-Some.is ∙ c.split_line.ensures) f))
+    (λ f. inr (read_fault (lines c.args.text.now) (lines_left c.loop-rest.rest)
+    (lines_left c.split_line.result.1) c.split_line.result.0.now c.loop-rest.number
+    (user_who c.loop-rest.user) (row_views c.loop-rest.rows.items)
+    (line_views c.loop-rest.rows.items) fault c.loop-rest.invariant
+    (ap lines_left c.in-Some.is ∙ c.split_line.ensures) f))
     c.in_err-user.ensures.fault in
     search rules
 
 pub loop-rest-preserved : goal.loop-rest-preserved
 loop-rest-preserved c =
-    read_step (lines c.args.text.now) (lines_left c.loop-rest.rest) (lines_left c.split_line.result.1) c.split_line.result.0.now c.loop-rest.number (user_who c.loop-rest.user) (user_who c.in_ok-user.user) (row_views c.loop-rest.rows.items) (row_views c.read_line_into.new.rows.items) (line_views c.loop-rest.rows.items) (line_views c.read_line_into.new.rows.items) c.loop-rest.invariant (ap lines_left c.in-Some.is ∙ c.split_line.ensures) c.in_ok-user.ensures.ok
+    read_step (lines c.args.text.now) (lines_left c.loop-rest.rest)
+    (lines_left c.split_line.result.1) c.split_line.result.0.now c.loop-rest.number
+    (user_who c.loop-rest.user) (user_who c.in_ok-user.user) (row_views c.loop-rest.rows.items)
+    (row_views c.read_line_into.new.rows.items) (line_views c.loop-rest.rows.items)
+    (line_views c.read_line_into.new.rows.items) c.loop-rest.invariant
+    (ap lines_left c.in-Some.is ∙ c.split_line.ensures) c.in_ok-user.ensures.ok

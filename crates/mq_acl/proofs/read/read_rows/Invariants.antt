@@ -5,7 +5,8 @@ use Rattle.mq_acl.proofs.RowLemmas.{IsReadTo}
 use Rattle.mq_acl.proofs.read.read_rows.Given as goal
 
 abbrev pub invariant-loop-rest : goal.invariant-loop-rest
-invariant-loop-rest l = IsReadTo (lines l.fn.text) (lines_left l.rest) l.number (user_who l.user) (row_views l.rows.items) (line_views l.rows.items)
+invariant-loop-rest l = IsReadTo (lines l.fn.text) (lines_left l.rest) l.number (user_who l.user)
+    (row_views l.rows.items) (line_views l.rows.items)
 
 abbrev pub decreases-loop-rest : goal.decreases-loop-rest
 decreases-loop-rest l = length (lines_left l.rest)

@@ -9,7 +9,8 @@ returns g c =
     let read = c.in_ok-bytes.ensures.ok in (
       c.in_ok-bytes.bytes.items,
       read.0,
-      AclFileEnding-whole acl_file_limit c.parse_acl.result c.in_ok-bytes.bytes.items _ _ read.1 (rw c.as_slice.ensures.value at c.parse_acl.ensures),
+      AclFileEnding-whole acl_file_limit c.parse_acl.result c.in_ok-bytes.bytes.items _ _ read.1
+          (rw c.as_slice.ensures.value at c.parse_acl.ensures),
     )
 
 pub returns-in_err-bytes : goal.returns-in_err-bytes

@@ -1,4 +1,5 @@
-use Rattle.std.proofs.Common.{◌≡◌, ◌≤◌, ◌+◌, ◌++◌, ℕ, List, length, take, arith, length-append, length-take-le}
+use Rattle.std.proofs.Common.{◌≡◌, ◌≤◌, ◌+◌, ◌++◌, ℕ, List, length, take, arith, length-append}
+use Rattle.std.proofs.Common.{length-take-le}
 use Rattle.std.proofs.lemmas.Result.{err_from_is_err_and}
 use Rattle.std.proofs.KnownBytes.{Consumes-trans}
 use Rattle.mq_cli.proofs.acl_file.read_file.Goals as goal
@@ -10,9 +11,11 @@ returns-then-n-limit-clause-err g c =
     let piece : List ℕ = c.read.new.buf in
     let bound : n ≤ length piece = c.in-Ok.ensures.bound in
     let count = c.reads.bytes.ok.0 in
-    let grown : length (bytes ++ take n piece) ≡ length bytes + n = rw (length-append, length-take-le n piece) in (
+    let grown : length (bytes ++ take n piece) ≡ length bytes + n =
+    rw (length-append, length-take-le n piece) in (
       bytes ++ take n piece,
-      Consumes-trans _ (g.R.Source.to_come c.reads.reader) _ bytes (take n piece) c.reads.invariant.given c.in-Ok.ensures.bytes.0,
+      Consumes-trans _ (g.R.Source.to_come c.reads.reader) _ bytes (take n piece)
+          c.reads.invariant.given c.in-Ok.ensures.bytes.0,
       (
         let over = c.if-n-limit.true in let is = c.len.ensures in omega arith,
         let counted = c.in-Ok.ensures.counted in omega arith,
@@ -25,6 +28,7 @@ returns-in_err-extend_from_slice-clause-err g c =
     let fault = err_from_is_err_and c.from_residual.result c.from_residual.ensures.1 in
     rw (fault.1, fault.2) (
       bytes ++ take c.in-Ok.n c.read.new.buf,
-      Consumes-trans _ (g.R.Source.to_come c.reads.reader) _ bytes (take c.in-Ok.n c.read.new.buf) c.reads.invariant.given c.in-Ok.ensures.bytes.0,
+      Consumes-trans _ (g.R.Source.to_come c.reads.reader) _ bytes (take c.in-Ok.n c.read.new.buf)
+          c.reads.invariant.given c.in-Ok.ensures.bytes.0,
       let counted = c.in-Ok.ensures.counted in omega arith,
     )

@@ -11,13 +11,23 @@ pub returns-in-Ok-clause-ok : goal.returns-in-Ok-clause-ok
 returns-in-Ok-clause-ok c =
     let found = found_of c.in-Ok.matches in
     record {
-      acl_file = c.in_ok-acl_file-in-Ok.ensures ∙ c.get_str.ensures ∙ first_value-rows found (codes "acl-file") ∙ ap (first_of (codes "acl-file")) c.in-Ok.ensures.rows;
+      acl_file = c.in_ok-acl_file-in-Ok.ensures ∙ c.get_str.ensures
+          ∙ first_value-rows found (codes "acl-file")
+          ∙ ap (first_of (codes "acl-file")) c.in-Ok.ensures.rows;
       max_retained = number-given _ c.get_one.result c.get_one.ensures.none c.get_one.ensures.value
-          ∙ ap (option_and_then number_in) (one_text-rows found (codes "max-retained") ∙ ap (one_of (codes "max-retained")) c.in-Ok.ensures.rows);
-      max_queued = number-given _ c.get_one-in-Ok.result c.get_one-in-Ok.ensures.none c.get_one-in-Ok.ensures.value
-          ∙ ap (option_and_then number_in) (one_text-rows found (codes "max-queued") ∙ ap (one_of (codes "max-queued")) c.in-Ok.ensures.rows);
+          ∙ ap (option_and_then number_in) (one_text-rows found (codes "max-retained")
+          ∙ ap (one_of (codes "max-retained")) c.in-Ok.ensures.rows);
+      max_queued = number-given _ c.get_one-in-Ok.result c.get_one-in-Ok.ensures.none
+          c.get_one-in-Ok.ensures.value
+          ∙ ap (option_and_then number_in) (one_text-rows found (codes "max-queued")
+          ∙ ap (one_of (codes "max-queued")) c.in-Ok.ensures.rows);
       unbuffered =
-          let read = one_text-rows found (codes "unbuffered") ∙ ap (one_of (codes "unbuffered")) c.in-Ok.ensures.rows in
-          rw (c.unwrap_or.ensures, sym read) (flag-given _ _ c.get_one-in-Ok-2.result c.get_one-in-Ok-2.ensures.none c.get_one-in-Ok-2.ensures.value);
-      script = c.in_ok-script-in-Ok.ensures ∙ c.get_str-in-Ok.ensures ∙ first_value-rows found (codes "script") ∙ ap (first_of (codes "script")) c.in-Ok.ensures.rows;
+          let read = one_text-rows found (codes "unbuffered")
+          ∙ ap (one_of (codes "unbuffered")) c.in-Ok.ensures.rows in
+          rw (c.unwrap_or.ensures, sym read)
+          (flag-given _ _ c.get_one-in-Ok-2.result c.get_one-in-Ok-2.ensures.none
+          c.get_one-in-Ok-2.ensures.value);
+      script = c.in_ok-script-in-Ok.ensures ∙ c.get_str-in-Ok.ensures
+          ∙ first_value-rows found (codes "script")
+          ∙ ap (first_of (codes "script")) c.in-Ok.ensures.rows;
     }

@@ -12,4 +12,5 @@ returns c =
     ∙ ap₂ with_rule (c.in_ok-bounded.ensures.shape c.number_option.ensures.1
     ∙ ap₂ with_rule (c.in_ok-listed.ensures.shape c.acl_file_option.ensures.1
     ∙ ap₂ with_rule c.new-empty.ensures.app c.acl_file_option.ensures.0)
-    c.number_option.ensures.0) c.number_option-2.ensures.0) c.unbuffered_flag.ensures.0) c.script_argument.ensures.0
+    c.number_option.ensures.0) c.number_option-2.ensures.0) c.unbuffered_flag.ensures.0)
+    c.script_argument.ensures.0

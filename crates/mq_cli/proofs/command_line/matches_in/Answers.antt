@@ -11,5 +11,6 @@ simple = refl
 pub returns-clause-kinds : goal.returns-clause-kinds
 returns-clause-kinds c =
     let app_is = c.in_ok-command.ensures in
-    subst (λ (a : App). FailsBy (fault_of a (map string_bytes c.args.words.now)) c.try_get_matches_from.result) app_is
+    subst (λ (a : App). FailsBy (fault_of a (map string_bytes c.args.words.now))
+    c.try_get_matches_from.result) app_is
     (c.try_get_matches_from.ensures.kinds (ap is_simple_and_free app_is ∙ simple))

@@ -16,15 +16,23 @@ returns-clause-ok g c = λ before taken.
     let given = limits_by c.args.options.now.max_retained c.args.options.now.max_queued in
     let w = within given (fresh_world c.in_ok-access.access) in
     IfOk-begun c.run_with.result _ given w
-    (IsScript (script_file (option_map string_bytes c.args.options.now.script)) (g.S.Source.to_come c.args.input.now))
+    (IsScript (script_file (option_map string_bytes c.args.options.now.script))
+    (g.S.Source.to_come c.args.input.now))
     (λ v script summary. AnswersScript v script before (g.W.Sink.taken c.run_with.new.out) summary)
     (c.in_ok-access.access, c.in_ok-access.ensures.ok, refl)
-    (c.run_with.ensures.ok w before (subst (λ (limits : Limits). StandsFor c.with_limits-router.result (within limits (fresh_world c.in_ok-access.access))) c.limits.ensures c.with_limits-router.ensures) taken)
+    (c.run_with.ensures.ok w before
+    (subst (λ (limits : Limits). StandsFor c.with_limits-router.result
+    (within limits (fresh_world c.in_ok-access.access))) c.limits.ensures
+    c.with_limits-router.ensures) taken)
 
 pub returns-clause-prefix : goal.returns-clause-prefix
 returns-clause-prefix g c =
-    let w = within (limits_by c.args.options.now.max_retained c.args.options.now.max_queued) (fresh_world c.in_ok-access.access) in (
+    let w = within (limits_by c.args.options.now.max_retained c.args.options.now.max_queued)
+    (fresh_world c.in_ok-access.access) in (
       w,
       (c.in_ok-access.access, c.in_ok-access.ensures.ok, refl),
-      c.run_with.ensures.prefix w (subst (λ (limits : Limits). StandsFor c.with_limits-router.result (within limits (fresh_world c.in_ok-access.access))) c.limits.ensures c.with_limits-router.ensures),
+      c.run_with.ensures.prefix w
+          (subst (λ (limits : Limits). StandsFor c.with_limits-router.result
+          (within limits (fresh_world c.in_ok-access.access))) c.limits.ensures
+          c.with_limits-router.ensures),
     )

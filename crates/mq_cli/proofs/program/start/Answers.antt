@@ -1,44 +1,61 @@
-use Rattle.std.proofs.Common.{◌∙◌, ◌==◌, ℕ, List, Option, ap, ap₂, subst, sym, map, string_bytes, codes, cond, refl}
+use Rattle.std.proofs.Common.{◌∙◌, ◌==◌, ℕ, List, Option, ap, ap₂, subst, sym, map, string_bytes}
+use Rattle.std.proofs.Common.{codes, cond, refl}
 use Rattle.clap.specs.Words.{fault_of}
 use Rattle.mq_world.specs.World.{World, Limits, empty_world, within}
 use Rattle.mq_cli.specs.CommandLine.{mqroute, given}
-use Rattle.mq_cli.specs.Program.{script_file, limits_by, limits_given, BeginsIn, IsScript, WritesFront}
-use Rattle.mq_cli.proofs.ProgramLemmas.{memory_only, none_from_map, told_two, told_three, told_unreadable, usage_memory, usage_done, begins_empty, script_told, BeginsIn-some, WritesFront-none, prefix_given}
+use Rattle.mq_cli.specs.Program.{script_file, limits_by, limits_given, BeginsIn, IsScript}
+use Rattle.mq_cli.specs.Program.{WritesFront}
+use Rattle.mq_cli.proofs.ProgramLemmas.{memory_only, none_from_map, told_two, told_three}
+use Rattle.mq_cli.proofs.ProgramLemmas.{told_unreadable, usage_memory, usage_done, begins_empty}
+use Rattle.mq_cli.proofs.ProgramLemmas.{script_told, BeginsIn-some, WritesFront-none, prefix_given}
 use Rattle.mq_cli.proofs.program.start.Goals as goal
 
 -- ## The words are not understood, or there was no memory
 
 pub returns-in-Err-clause-with_files : goal.returns-in-Err-clause-with_files
 returns-in-Err-clause-with_files g c = λ before understood taken not_unread not_failed.
-    let memory = memory_only (fault_of mqroute (map string_bytes c.args.words.now)) c.in-Err.fault understood c.in-Err.ensures.err in
-    absurd (not_failed (usage_memory c.in-Err.fault c.report_usage.result _ _ _ c.report_usage.ensures.tells memory).0)
+    let memory = memory_only (fault_of mqroute (map string_bytes c.args.words.now)) c.in-Err.fault
+    understood c.in-Err.ensures.err in
+    absurd (not_failed (usage_memory c.in-Err.fault c.report_usage.result _ _ _
+    c.report_usage.ensures.tells memory).0)
 
 pub returns-in-Err-clause-answered : goal.returns-in-Err-clause-answered
 returns-in-Err-clause-answered g c = λ script before understood acl file to_come taken not_failed.
-    let memory = memory_only (fault_of mqroute (map string_bytes c.args.words.now)) c.in-Err.fault understood c.in-Err.ensures.err in
-    absurd (not_failed (usage_memory c.in-Err.fault c.report_usage.result _ _ _ c.report_usage.ensures.tells memory).0)
+    let memory = memory_only (fault_of mqroute (map string_bytes c.args.words.now)) c.in-Err.fault
+    understood c.in-Err.ensures.err in
+    absurd (not_failed (usage_memory c.in-Err.fault c.report_usage.result _ _ _
+    c.report_usage.ensures.tells memory).0)
 
 pub returns-in-Err-clause-prefix : goal.returns-in-Err-clause-prefix
 returns-in-Err-clause-prefix g c = λ understood.
     let words = map string_bytes c.args.words.now in
-    let memory = memory_only (fault_of mqroute words) c.in-Err.fault understood c.in-Err.ensures.err in
-    let untouched = (usage_memory c.in-Err.fault c.report_usage.result _ _ _ c.report_usage.ensures.tells memory).1 in
+    let memory = memory_only (fault_of mqroute words) c.in-Err.fault understood c.in-Err.ensures.err
+    in
+    let untouched =
+    (usage_memory c.in-Err.fault c.report_usage.result _ _ _ c.report_usage.ensures.tells
+    memory).1 in
     let begun = BeginsIn-some (given (codes "acl-file") words) (limits_given words) in (
       begun.0,
       begun.1,
-      subst (WritesFront begun.0 (script_file (given (codes "script") words)) (g.S.Source.to_come c.args.input.now) (g.W.Sink.taken c.args.out.now)) (sym untouched) (WritesFront-none begun.0 _ _ _),
+      subst (WritesFront begun.0 (script_file (given (codes "script") words))
+          (g.S.Source.to_come c.args.input.now) (g.W.Sink.taken c.args.out.now)) (sym untouched)
+          (WritesFront-none begun.0 _ _ _),
     )
 
 pub returns-in-Err-clause-usage : goal.returns-in-Err-clause-usage
-returns-in-Err-clause-usage g c = λ faulty. (refl, (c.in-Err.fault, c.in-Err.ensures.err, c.report_usage.ensures.tells))
+returns-in-Err-clause-usage g c =
+    λ faulty. (refl, (c.in-Err.fault, c.in-Err.ensures.err, c.report_usage.ensures.tells))
 
 pub returns-in-Err-clause-flushed : goal.returns-in-Err-clause-flushed
 returns-in-Err-clause-flushed g c = λ not_unread not_failed.
-    (usage_done c.in-Err.fault c.report_usage.result _ _ _ c.report_usage.ensures.tells not_unread not_failed).1
+    (usage_done c.in-Err.fault c.report_usage.result _ _ _ c.report_usage.ensures.tells not_unread
+    not_failed).1
 
 pub returns-in-Err-clause-quiet : goal.returns-in-Err-clause-quiet
 returns-in-Err-clause-quiet g c = λ not_unread not_failed.
-    c.report_usage.ensures.quiet (usage_done c.in-Err.fault c.report_usage.result _ _ _ c.report_usage.ensures.tells not_unread not_failed).0
+    c.report_usage.ensures.quiet
+    (usage_done c.in-Err.fault c.report_usage.result _ _ _ c.report_usage.ensures.tells
+    not_unread not_failed).0
 
 -- ## The script is answered
 
@@ -49,55 +66,73 @@ returns-in-Ok-run_options-clause-with_files g c = λ before understood taken not
     let words = map string_bytes c.args.words.now in
     let script : List ℕ = done.2 in (
       w,
-      subst (λ (limits : Limits). BeginsIn (given (codes "acl-file") words) limits w) (ap₂ limits_by c.in-Ok.ensures.ok.max_retained c.in-Ok.ensures.ok.max_queued)
-          (subst (λ (file : Option (List ℕ)). BeginsIn file (limits_by c.in-Ok.options.max_retained c.in-Ok.options.max_queued) w) c.in-Ok.ensures.ok.acl_file done.1),
+      subst (λ (limits : Limits). BeginsIn (given (codes "acl-file") words) limits w)
+          (ap₂ limits_by c.in-Ok.ensures.ok.max_retained c.in-Ok.ensures.ok.max_queued)
+          (subst (λ (file : Option (List ℕ)). BeginsIn file
+          (limits_by c.in-Ok.options.max_retained c.in-Ok.options.max_queued) w)
+          c.in-Ok.ensures.ok.acl_file done.1),
       script,
-      subst (λ (file : Option (List ℕ)). IsScript (script_file file) (g.S.Source.to_come c.args.input.now) script) c.in-Ok.ensures.ok.script done.3,
+      subst (λ (file : Option (List ℕ)). IsScript (script_file file)
+          (g.S.Source.to_come c.args.input.now) script) c.in-Ok.ensures.ok.script done.3,
       record {
         written = done.4.written;
-        ended = c.exit_status.ensures ∙ ap (λ (n : ℕ). cond {A = ℕ} (n == 0) 0 1) done.4.counts.refused;
+        ended = c.exit_status.ensures ∙ ap (λ (n : ℕ). cond {A = ℕ} (n == 0) 0 1)
+            done.4.counts.refused;
       },
     )
 
 pub returns-in-Ok-run_options-clause-answered : goal.returns-in-Ok-run_options-clause-answered
-returns-in-Ok-run_options-clause-answered g c = λ script before understood acl file to_come taken not_failed.
+returns-in-Ok-run_options-clause-answered g c =
+    λ script before understood acl file to_come taken not_failed.
     let done = c.in-Ok-run_options.ensures.ok before taken in
-    let empty = begins_empty _ (limits_by c.in-Ok.options.max_retained c.in-Ok.options.max_queued) done.0 (c.in-Ok.ensures.ok.acl_file ∙ acl) done.1 in
-    let same = script_told _ _ done.2 script (ap script_file c.in-Ok.ensures.ok.script ∙ file) to_come done.3 in
-    let limited = empty ∙ ap₂ (λ retained queued. within (limits_by retained queued) empty_world) c.in-Ok.ensures.ok.max_retained c.in-Ok.ensures.ok.max_queued in
+    let empty = begins_empty _ (limits_by c.in-Ok.options.max_retained c.in-Ok.options.max_queued)
+    done.0 (c.in-Ok.ensures.ok.acl_file ∙ acl) done.1 in
+    let same = script_told _ _ done.2 script (ap script_file c.in-Ok.ensures.ok.script ∙ file)
+    to_come done.3 in
+    let limited = empty ∙ ap₂ (λ retained queued. within (limits_by retained queued) empty_world)
+    c.in-Ok.ensures.ok.max_retained c.in-Ok.ensures.ok.max_queued in
     rw (sym limited, sym same) (record {
       written = done.4.written;
-      ended = c.exit_status.ensures ∙ ap (λ (n : ℕ). cond {A = ℕ} (n == 0) 0 1) done.4.counts.refused;
+      ended = c.exit_status.ensures ∙ ap (λ (n : ℕ). cond {A = ℕ} (n == 0) 0 1)
+          done.4.counts.refused;
     })
 
 pub returns-in-Ok-run_options-clause-prefix : goal.returns-in-Ok-run_options-clause-prefix
 returns-in-Ok-run_options-clause-prefix g c = λ understood.
-    prefix_given (map string_bytes c.args.words.now) c.in-Ok.options _ _ _ c.in-Ok.ensures.ok c.run_options.ensures.prefix
+    prefix_given (map string_bytes c.args.words.now) c.in-Ok.options _ _ _ c.in-Ok.ensures.ok
+    c.run_options.ensures.prefix
 
 -- ## The run fails
 
 pub returns-clause-with_files : goal.returns-clause-with_files
 returns-clause-with_files g c = λ before understood taken not_unread not_failed.
-    absurd (told_two c.in-Err-run_options.failure c.report.result c.report.ensures.status not_unread not_failed)
+    absurd (told_two c.in-Err-run_options.failure c.report.result c.report.ensures.status not_unread
+    not_failed)
 
 pub returns-clause-answered : goal.returns-clause-answered
 returns-clause-answered g c = λ script before understood acl file to_come taken not_failed.
-    let no_acl = none_from_map string_bytes c.in-Ok.options.acl_file _ c.in-Ok.ensures.ok.acl_file acl in
+    let no_acl = none_from_map string_bytes c.in-Ok.options.acl_file _ c.in-Ok.ensures.ok.acl_file
+    acl in
     let no_file = ap script_file c.in-Ok.ensures.ok.script ∙ file in
-    absurd (not_failed (told_three c.in-Err-run_options.failure c.report.result c.report.ensures.status (c.in-Err-run_options.ensures.err no_acl no_file)))
+    absurd (not_failed (told_three c.in-Err-run_options.failure c.report.result
+    c.report.ensures.status (c.in-Err-run_options.ensures.err no_acl no_file)))
 
 pub returns-clause-prefix : goal.returns-clause-prefix
 returns-clause-prefix g c = λ understood.
-    prefix_given (map string_bytes c.args.words.now) c.in-Ok.options _ _ _ c.in-Ok.ensures.ok c.run_options.ensures.prefix
+    prefix_given (map string_bytes c.args.words.now) c.in-Ok.options _ _ _ c.in-Ok.ensures.ok
+    c.run_options.ensures.prefix
 
 pub returns-clause-unreadable : goal.returns-clause-unreadable
 returns-clause-unreadable g c = λ two.
-    c.in-Err-run_options.ensures.unreadable (told_unreadable c.in-Err-run_options.failure c.report.result c.report.ensures.status two)
+    c.in-Err-run_options.ensures.unreadable
+    (told_unreadable c.in-Err-run_options.failure c.report.result c.report.ensures.status two)
 
 pub returns-clause-flushed : goal.returns-clause-flushed
 returns-clause-flushed g c = λ not_unread not_failed.
-    absurd (told_two c.in-Err-run_options.failure c.report.result c.report.ensures.status not_unread not_failed)
+    absurd (told_two c.in-Err-run_options.failure c.report.result c.report.ensures.status not_unread
+    not_failed)
 
 pub returns-clause-quiet : goal.returns-clause-quiet
 returns-clause-quiet g c = λ not_unread not_failed.
-    absurd (told_two c.in-Err-run_options.failure c.report.result c.report.ensures.status not_unread not_failed)
+    absurd (told_two c.in-Err-run_options.failure c.report.result c.report.ensures.status not_unread
+    not_failed)

@@ -3,7 +3,8 @@ use Rattle.mq_ends.proofs.KeptLemmas.{Contains-first, All-first, none_left}
 use Rattle.mq_ends.proofs.Ends.first.Goals as goal
 
 pub returns-clause-none : goal.returns-clause-none
-returns-clause-none c = rw (← c.self.view_is) (none_left _ c.self.inside.gone.ends _ c.first.ensures.none)
+returns-clause-none c = rw (← c.self.view_is)
+    (none_left _ c.self.inside.gone.ends _ c.first.ensures.none)
 
 pub returns-clause-some : goal.returns-clause-some
 returns-clause-some c =

@@ -9,16 +9,19 @@ returns-then-moment-first-clause-ends c =
     c.in-Some.ensures.earliest c.loop-first.invariant.after
 
 pub returns-clause-ends : goal.returns-clause-ends
-returns-clause-ends c = SameAfter-nil c.args.moment _ _ c.in_default.ensures.none c.loop-first.invariant.after
+returns-clause-ends c = SameAfter-nil c.args.moment _ _ c.in_default.ensures.none
+    c.loop-first.invariant.after
 
 pub loop-first-smaller : goal.loop-first-smaller
 loop-first-smaller c =
-    let long = SameEnds-shorter c.in-Some.first c.loop-first.self.ends c.remove.new.self.ends c.remove.ensures.ends in
+    let long = SameEnds-shorter c.in-Some.first c.loop-first.self.ends c.remove.new.self.ends
+    c.remove.ensures.ends in
     omega arith
 
 pub loop-first-preserved : goal.loop-first-preserved
 loop-first-preserved c = record {
-  after = SameAfter-removed c.args.moment c.in-Some.first _ _ _ (omega (arith, c.if-moment-first.false))
+  after = SameAfter-removed c.args.moment c.in-Some.first _ _ _
+      (omega (arith, c.if-moment-first.false))
       c.loop-first.invariant.after c.remove.ensures.ends;
   room = c.remove.ensures.room ∙ c.loop-first.invariant.room;
 }

@@ -20,7 +20,8 @@ loop-first-preserved c =
     let is : IsFirst c.in-Some.first c.loop-first.gone.ends = c.if-not-is_first.ensures.0 refl in
     let ends = c.pop.ensures.ends c.in-Some.first c.in-Some.ensures.first in
     let gone = c.pop-in-Some.ensures.ends c.in-Some.first is in
-    let long = SameEnds-shorter c.in-Some.first c.loop-first.gone.ends c.pop-in-Some.new.self.ends gone in
+    let long = SameEnds-shorter c.in-Some.first c.loop-first.gone.ends c.pop-in-Some.new.self.ends
+    gone in
     record {
       part = IsPart-popped c.in-Some.first _ _ _ _ c.loop-first.invariant.part gone ends;
       rest = KeepsRest-popped c.in-Some.first _ _ _ _ _ _ c.loop-first.invariant.rest gone ends;

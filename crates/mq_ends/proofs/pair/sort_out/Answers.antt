@@ -1,7 +1,8 @@
 use Rattle.std.proofs.Common.{length, refl, arith, ap, true≢false, sym, ◌∙◌}
 use Rattle.mq_ends.specs.Counts.{IsFirst}
 use Rattle.mq_ends.specs.Pairs.{IsPart}
-use Rattle.mq_ends.proofs.PairLemmas.{IsPart-popped, IsPart-first, IsPart-nil, IsPart-length, IsSorting-gone, IsSorting-kept, IsSorting-length}
+use Rattle.mq_ends.proofs.PairLemmas.{IsPart-popped, IsPart-first, IsPart-nil, IsPart-length}
+use Rattle.mq_ends.proofs.PairLemmas.{IsSorting-gone, IsSorting-kept, IsSorting-length}
 use Rattle.mq_ends.proofs.SameLemmas.{SameEnds-shorter}
 use Rattle.mq_ends.proofs.pair.sort_out.Goals as goal
 
@@ -32,9 +33,12 @@ loop-first-preserved-then-is_first c =
 
 pub add-requires : goal.add-requires
 add-requires c =
-    let other : IsFirst c.in-Some.first c.loop-first.gone.ends → ⊥ = λ is. true≢false (sym (c.if-is_first.ensures.1 is)) in
+    let other : IsFirst c.in-Some.first c.loop-first.gone.ends → ⊥ =
+    λ is. true≢false (sym (c.if-is_first.ensures.1 is)) in
     let popped = c.pop.ensures.ends c.in-Some.first c.in-Some.ensures.first in
-    let part : IsPart c.loop-first.gone.ends c.pop.new.self.ends = IsPart-first c.in-Some.first _ _ _ c.loop-first.invariant.part c.in-Some.ensures.first other popped in
+    let part : IsPart c.loop-first.gone.ends c.pop.new.self.ends =
+    IsPart-first c.in-Some.first _ _ _ c.loop-first.invariant.part c.in-Some.ensures.first other
+    popped in
     let all = IsSorting-length _ _ _ _ _ c.loop-first.invariant.rest in
     let long = SameEnds-shorter c.in-Some.first c.loop-first.ends.ends c.pop.new.self.ends popped in
     let below = IsPart-length _ _ part in
@@ -42,11 +46,14 @@ add-requires c =
 
 pub loop-first-preserved : goal.loop-first-preserved
 loop-first-preserved c =
-    let other : IsFirst c.in-Some.first c.loop-first.gone.ends → ⊥ = λ is. true≢false (sym (c.if-is_first.ensures.1 is)) in
+    let other : IsFirst c.in-Some.first c.loop-first.gone.ends → ⊥ =
+    λ is. true≢false (sym (c.if-is_first.ensures.1 is)) in
     let popped = c.pop.ensures.ends c.in-Some.first c.in-Some.ensures.first in
     record {
-      part = IsPart-first c.in-Some.first _ _ _ c.loop-first.invariant.part c.in-Some.ensures.first other popped;
-      rest = IsSorting-kept _ _ c.in-Some.first _ _ _ _ _ c.loop-first.invariant.rest popped c.add.ensures.ends;
+      part = IsPart-first c.in-Some.first _ _ _ c.loop-first.invariant.part c.in-Some.ensures.first
+          other popped;
+      rest = IsSorting-kept _ _ c.in-Some.first _ _ _ _ _ c.loop-first.invariant.rest popped
+          c.add.ensures.ends;
       room = c.pop.ensures.room ∙ c.loop-first.invariant.room;
       gone_room = c.loop-first.invariant.gone_room;
       spare_room = omega (arith, c.loop-first.invariant.spare_room, c.add.ensures.room);

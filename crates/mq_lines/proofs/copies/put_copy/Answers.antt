@@ -7,7 +7,8 @@ use Rattle.mq_lines.proofs.copies.put_copy.Goals as goal
 pub returns : goal.returns
 returns c =
     let old = members_view c.args.object.now.members.entries in
-    let set : members_view c.text_if-2.new.self.members.entries ≡ set_copy c.args.line (copy_of c.args.delivery.now) old =
+    let set : members_view c.text_if-2.new.self.members.entries
+    ≡ set_copy c.args.line (copy_of c.args.delivery.now) old =
     rw (
       c.in_ok-text_if-2.ensures,
       c.share_of.ensures,

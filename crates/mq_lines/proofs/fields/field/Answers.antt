@@ -4,4 +4,6 @@ use Rattle.mq_lines.proofs.TakenLemmas.{seen, found}
 use Rattle.mq_lines.proofs.fields.field.Goals as goal
 
 pub returns : goal.returns
-returns c = seen c.get.result ∙ sym (found c.args.name.now c.args.members.now.entries (option_copied c.get.result) c.get.ensures.value)
+returns c = seen c.get.result
+    ∙ sym (found c.args.name.now c.args.members.now.entries (option_copied c.get.result)
+    c.get.ensures.value)

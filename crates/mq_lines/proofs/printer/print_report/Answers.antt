@@ -4,4 +4,5 @@ use Rattle.mq_lines.proofs.KeptLemmas.{report_fits}
 use Rattle.mq_lines.proofs.printer.print_report.Goals as goal
 
 pub returns-clause-kept : goal.returns-clause-kept
-returns-clause-kept c = report_fits c.args.line (report_of c.args.report) _ (c.in_ok-print.ensures.same ∙ c.in_ok-set_report.ensures)
+returns-clause-kept c = report_fits c.args.line (report_of c.args.report) _
+    (c.in_ok-print.ensures.same ∙ c.in_ok-set_report.ensures)

@@ -6,10 +6,12 @@ use Rattle.mq_lines.proofs.printer.set_report.Goals as goal
 pub refill-requires : goal.refill-requires
 refill-requires c =
     let none = sym c.is_some.ensures ∙ c.if-is_some.false in
-    report_count c.args.report.acl_line _ c.is_empty.result c.requires c.is_empty.ensures c.if-is_empty.false none
+    report_count c.args.report.acl_line _ c.is_empty.result c.requires c.is_empty.ensures
+    c.if-is_empty.false none
 
 pub returns : goal.returns
 returns c =
     let none = sym c.is_some.ensures ∙ c.if-is_some.false in
-    report_refilled c.refill.result c.args.line (report_of c.args.report) _ _ _ c.requires c.is_empty.ensures c.if-is_empty.false none
+    report_refilled c.refill.result c.args.line (report_of c.args.report) _ _ _ c.requires
+    c.is_empty.ensures c.if-is_empty.false none
     c.refill.ensures.names (rw c.from.ensures at c.refill.ensures.values)

@@ -6,12 +6,14 @@ use Rattle.mq_lines.proofs.read.connect.Goals as goal
 
 pub returns-in_err-clean-clause-value : goal.returns-in_err-clean-clause-value
 returns-in_err-clean-clause-value c =
-    let walk = connect_walked (members_view c.args.members.now.entries) c.of-fields.ensures.ordered in
+    let walk = connect_walked (members_view c.args.members.now.entries) c.of-fields.ensures.ordered
+    in
     rw (walk, sym c.of-fields.ensures.all) (grind (arith, common_steps))
 
 pub returns-in_err-client-clause-value : goal.returns-in_err-client-clause-value
 returns-in_err-client-clause-value c =
-    let walk = connect_walked (members_view c.args.members.now.entries) c.of-fields.ensures.ordered in
+    let walk = connect_walked (members_view c.args.members.now.entries) c.of-fields.ensures.ordered
+    in
     rw (
       walk,
       sym c.of-fields.ensures.all,
@@ -21,7 +23,8 @@ returns-in_err-client-clause-value c =
 
 pub returns-in_err-session_expiry-clause-value : goal.returns-in_err-session_expiry-clause-value
 returns-in_err-session_expiry-clause-value c =
-    let walk = connect_walked (members_view c.args.members.now.entries) c.of-fields.ensures.ordered in
+    let walk = connect_walked (members_view c.args.members.now.entries) c.of-fields.ensures.ordered
+    in
     rw (
       walk,
       sym c.of-fields.ensures.all,
@@ -34,7 +37,8 @@ returns-in_err-session_expiry-clause-value c =
 
 pub returns-in_err-user-clause-value : goal.returns-in_err-user-clause-value
 returns-in_err-user-clause-value c =
-    let walk = connect_walked (members_view c.args.members.now.entries) c.of-fields.ensures.ordered in
+    let walk = connect_walked (members_view c.args.members.now.entries) c.of-fields.ensures.ordered
+    in
     rw (
       walk,
       sym c.of-fields.ensures.all,
@@ -49,7 +53,8 @@ returns-in_err-user-clause-value c =
 
 pub returns-in_err-end-clause-value : goal.returns-in_err-end-clause-value
 returns-in_err-end-clause-value c =
-    let walk = connect_walked (members_view c.args.members.now.entries) c.of-fields.ensures.ordered in
+    let walk = connect_walked (members_view c.args.members.now.entries) c.of-fields.ensures.ordered
+    in
     rw (
       walk,
       sym c.of-fields.ensures.all,
@@ -66,7 +71,8 @@ returns-in_err-end-clause-value c =
 
 pub returns-clause-value : goal.returns-clause-value
 returns-clause-value c =
-    let walk = connect_walked (members_view c.args.members.now.entries) c.of-fields.ensures.ordered in
+    let walk = connect_walked (members_view c.args.members.now.entries) c.of-fields.ensures.ordered
+    in
     rw (
       walk,
       sym c.of-fields.ensures.all,

@@ -6,12 +6,14 @@ use Rattle.mq_lines.proofs.read.publish.Goals as goal
 
 pub returns-in_err-client-clause-value : goal.returns-in_err-client-clause-value
 returns-in_err-client-clause-value c =
-    let walk = publish_walked (members_view c.args.members.now.entries) c.of-fields.ensures.ordered in
+    let walk = publish_walked (members_view c.args.members.now.entries) c.of-fields.ensures.ordered
+    in
     rw (walk, sym c.of-fields.ensures.all) (grind (arith, common_steps))
 
 pub returns-in_err-expiry-clause-value : goal.returns-in_err-expiry-clause-value
 returns-in_err-expiry-clause-value c =
-    let walk = publish_walked (members_view c.args.members.now.entries) c.of-fields.ensures.ordered in
+    let walk = publish_walked (members_view c.args.members.now.entries) c.of-fields.ensures.ordered
+    in
     rw (
       walk,
       sym c.of-fields.ensures.all,
@@ -22,7 +24,8 @@ returns-in_err-expiry-clause-value c =
 
 pub returns-in_err-payload-clause-value : goal.returns-in_err-payload-clause-value
 returns-in_err-payload-clause-value c =
-    let walk = publish_walked (members_view c.args.members.now.entries) c.of-fields.ensures.ordered in
+    let walk = publish_walked (members_view c.args.members.now.entries) c.of-fields.ensures.ordered
+    in
     rw (
       walk,
       sym c.of-fields.ensures.all,
@@ -35,7 +38,8 @@ returns-in_err-payload-clause-value c =
 
 pub returns-in_err-qos-clause-value : goal.returns-in_err-qos-clause-value
 returns-in_err-qos-clause-value c =
-    let walk = publish_walked (members_view c.args.members.now.entries) c.of-fields.ensures.ordered in
+    let walk = publish_walked (members_view c.args.members.now.entries) c.of-fields.ensures.ordered
+    in
     rw (
       walk,
       sym c.of-fields.ensures.all,
@@ -50,7 +54,8 @@ returns-in_err-qos-clause-value c =
 
 pub returns-in_err-retain-clause-value : goal.returns-in_err-retain-clause-value
 returns-in_err-retain-clause-value c =
-    let walk = publish_walked (members_view c.args.members.now.entries) c.of-fields.ensures.ordered in
+    let walk = publish_walked (members_view c.args.members.now.entries) c.of-fields.ensures.ordered
+    in
     rw (
       walk,
       sym c.of-fields.ensures.all,
@@ -70,7 +75,8 @@ returns-in_err-retain-clause-value c =
 
 pub returns-in_err-topic-clause-value : goal.returns-in_err-topic-clause-value
 returns-in_err-topic-clause-value c =
-    let walk = publish_walked (members_view c.args.members.now.entries) c.of-fields.ensures.ordered in
+    let walk = publish_walked (members_view c.args.members.now.entries) c.of-fields.ensures.ordered
+    in
     rw (
       walk,
       sym c.of-fields.ensures.all,
@@ -89,7 +95,8 @@ returns-in_err-topic-clause-value c =
 
 pub returns-in_err-end-clause-value : goal.returns-in_err-end-clause-value
 returns-in_err-end-clause-value c =
-    let walk = publish_walked (members_view c.args.members.now.entries) c.of-fields.ensures.ordered in
+    let walk = publish_walked (members_view c.args.members.now.entries) c.of-fields.ensures.ordered
+    in
     rw (
       walk,
       sym c.of-fields.ensures.all,
@@ -110,7 +117,8 @@ returns-in_err-end-clause-value c =
 
 pub returns-clause-value : goal.returns-clause-value
 returns-clause-value c =
-    let walk = publish_walked (members_view c.args.members.now.entries) c.of-fields.ensures.ordered in
+    let walk = publish_walked (members_view c.args.members.now.entries) c.of-fields.ensures.ordered
+    in
     rw (
       walk,
       sym c.of-fields.ensures.all,

@@ -6,12 +6,14 @@ use Rattle.mq_lines.proofs.read.unsubscribe.Goals as goal
 
 pub returns-in_err-client-clause-value : goal.returns-in_err-client-clause-value
 returns-in_err-client-clause-value c =
-    let walk = unsubscribe_walked (members_view c.args.members.now.entries) c.of-fields.ensures.ordered in
+    let walk = unsubscribe_walked (members_view c.args.members.now.entries)
+    c.of-fields.ensures.ordered in
     rw (walk, sym c.of-fields.ensures.all) (grind (arith, common_steps))
 
 pub returns-in_err-filter-clause-value : goal.returns-in_err-filter-clause-value
 returns-in_err-filter-clause-value c =
-    let walk = unsubscribe_walked (members_view c.args.members.now.entries) c.of-fields.ensures.ordered in
+    let walk = unsubscribe_walked (members_view c.args.members.now.entries)
+    c.of-fields.ensures.ordered in
     rw (
       walk,
       sym c.of-fields.ensures.all,
@@ -22,7 +24,8 @@ returns-in_err-filter-clause-value c =
 
 pub returns-in_err-end-clause-value : goal.returns-in_err-end-clause-value
 returns-in_err-end-clause-value c =
-    let walk = unsubscribe_walked (members_view c.args.members.now.entries) c.of-fields.ensures.ordered in
+    let walk = unsubscribe_walked (members_view c.args.members.now.entries)
+    c.of-fields.ensures.ordered in
     rw (
       walk,
       sym c.of-fields.ensures.all,
@@ -35,7 +38,8 @@ returns-in_err-end-clause-value c =
 
 pub returns-clause-value : goal.returns-clause-value
 returns-clause-value c =
-    let walk = unsubscribe_walked (members_view c.args.members.now.entries) c.of-fields.ensures.ordered in
+    let walk = unsubscribe_walked (members_view c.args.members.now.entries)
+    c.of-fields.ensures.ordered in
     rw (
       walk,
       sym c.of-fields.ensures.all,

@@ -8,5 +8,7 @@ returns-in-Ok c = let h = c.in-Ok.ensures in rw (value_of-text c.args.line.now _
 
 pub returns-else-is_memory : goal.returns-else-is_memory
 returns-else-is_memory c =
-    let none : value_of c.args.line.now ≡ None = value_of-refused c.args.line.now (λ u. c.in-Err.ensures.err (λ m. search (rules, c.is_memory.ensures.1 m)) u) in
+    let none : value_of c.args.line.now ≡ None =
+    value_of-refused c.args.line.now
+    (λ u. c.in-Err.ensures.err (λ m. search (rules, c.is_memory.ensures.1 m)) u) in
     rw none

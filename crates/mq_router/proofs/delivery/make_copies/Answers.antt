@@ -25,17 +25,25 @@ returns-then-is_empty-clause-served c =
     let m = message_of c.args.message.now in
     let subs = c.args.subscriptions.now.rows in
     let none : filter (λ s. filter_matches s.filter m.topic) subs ≡ [] =
-    sym c.in_ok-candidates.ensures.rows ∙ ap (λ l. rows_found (map (λ a. a.now) l)) (sym c.as_slice-found.ensures.value ∙ empty-is c.as_slice-found.result.now (sym c.is_empty.ensures ∙ c.if-is_empty.true)) in
-    c.nothing.ensures.served ∙ sym (no-members c.args.readers.now.access.now c.args.readers.now.sessions.now subs m none)
+    sym c.in_ok-candidates.ensures.rows
+    ∙ ap (λ l. rows_found (map (λ a. a.now) l))
+    (sym c.as_slice-found.ensures.value
+    ∙ empty-is c.as_slice-found.result.now (sym c.is_empty.ensures ∙ c.if-is_empty.true)) in
+    c.nothing.ensures.served
+    ∙ sym (no-members c.args.readers.now.access.now c.args.readers.now.sessions.now subs m none)
 
 pub returns-then-is_empty-clause-begun : goal.returns-then-is_empty-clause-begun
 returns-then-is_empty-clause-begun c =
     let m = message_of c.args.message.now in
     let subs = c.args.subscriptions.now.rows in
     let none : filter (λ s. filter_matches s.filter m.topic) subs ≡ [] =
-    sym c.in_ok-candidates.ensures.rows ∙ ap (λ l. rows_found (map (λ a. a.now) l)) (sym c.as_slice-found.ensures.value ∙ empty-is c.as_slice-found.result.now (sym c.is_empty.ensures ∙ c.if-is_empty.true)) in
+    sym c.in_ok-candidates.ensures.rows
+    ∙ ap (λ l. rows_found (map (λ a. a.now) l))
+    (sym c.as_slice-found.ensures.value
+    ∙ empty-is c.as_slice-found.result.now (sym c.is_empty.ensures ∙ c.if-is_empty.true)) in
     ap (map begin_of) c.nothing.ensures.begun
-    ∙ sym (no-begun c.args.readers.now.access.now c.args.readers.now.sessions.now subs m none c.args.limit c.args.message.now.deadline)
+    ∙ sym (no-begun c.args.readers.now.access.now c.args.readers.now.sessions.now subs m none
+    c.args.limit c.args.message.now.deadline)
 
 pub returns-then-is_empty-clause-copies : goal.returns-then-is_empty-clause-copies
 returns-then-is_empty-clause-copies c =
@@ -44,21 +52,27 @@ returns-then-is_empty-clause-copies c =
     let S = c.args.readers.now.sessions.now in
     let subs = c.args.subscriptions.now.rows in
     let none : filter (λ s. filter_matches s.filter m.topic) subs ≡ [] =
-    sym c.in_ok-candidates.ensures.rows ∙ ap (λ l. rows_found (map (λ a. a.now) l)) (sym c.as_slice-found.ensures.value ∙ empty-is c.as_slice-found.result.now (sym c.is_empty.ensures ∙ c.if-is_empty.true)) in
+    sym c.in_ok-candidates.ensures.rows
+    ∙ ap (λ l. rows_found (map (λ a. a.now) l))
+    (sym c.as_slice-found.ensures.value
+    ∙ empty-is c.as_slice-found.result.now (sym c.is_empty.ensures ∙ c.if-is_empty.true)) in
     c.nothing.ensures.copies
-    ∙ sym (ap (λ l. l ++ map (member_copy m) (next_members A S subs m)) (no-copies A (connected S) subs m none)
+    ∙ sym (ap (λ l. l ++ map (member_copy m) (next_members A S subs m))
+    (no-copies A (connected S) subs m none)
     ∙ ap (map (member_copy m)) (no-members A S subs m none))
 
 pub returns-clause-served : goal.returns-clause-served
 returns-clause-served c =
     let m = message_of c.args.message.now in
-    let members : List Subscription → List Subscription = λ xs. next_members c.args.readers.now.access.now c.args.readers.now.sessions.now xs m in
+    let members : List Subscription → List Subscription =
+    λ xs. next_members c.args.readers.now.access.now c.args.readers.now.sessions.now xs m in
     IfOk-weaker c.made_for.result _ _
     (λ made e. ap turns_in e
     ∙ c.in_ok-served.ensures
     ∙ ap (λ l. members (rows_found (map (λ a. a.now) l))) c.as_slice-found.ensures.value
     ∙ ap members c.in_ok-candidates.ensures.rows
-    ∙ members-matching c.args.readers.now.access.now c.args.readers.now.sessions.now c.args.subscriptions.now.rows m)
+    ∙ members-matching c.args.readers.now.access.now c.args.readers.now.sessions.now
+    c.args.subscriptions.now.rows m)
     c.made_for.ensures.served
 
 pub returns-clause-begun : goal.returns-clause-begun
@@ -70,9 +84,12 @@ returns-clause-begun c =
     let ms = matched c.as_slice.result.now in
     IfOk-weaker c.made_for.result _ _
     (λ made e. e
-    ∙ own-begun c.args.limit A S subs m c.args.message.now.deadline (by_client ms) c.len-sessions.ensures.ordered (sorted-by_client ms)
+    ∙ own-begun c.args.limit A S subs m c.args.message.now.deadline (by_client ms)
+    c.len-sessions.ensures.ordered (sorted-by_client ms)
     (λ id. lookup-by_client id ms
-    ∙ ap summary_for (ap (λ l. options_among id (matched l)) c.as_slice.ensures.value ∙ c.in_ok-matches.ensures.options id ∙ options-own m id (rows_found (map (λ a. a.now) c.as_slice-found.result.now))
+    ∙ ap summary_for (ap (λ l. options_among id (matched l)) c.as_slice.ensures.value
+    ∙ c.in_ok-matches.ensures.options id
+    ∙ options-own m id (rows_found (map (λ a. a.now) c.as_slice-found.result.now))
     ∙ ap (λ l. gives_options m id (rows_found (map (λ a. a.now) l))) c.as_slice-found.ensures.value
     ∙ ap (gives_options m id) c.in_ok-candidates.ensures.rows ∙ options-matching m id subs)))
     c.made_for.ensures.begun
@@ -85,15 +102,19 @@ returns-clause-copies c =
     let subs = c.args.subscriptions.now.rows in
     let members : List Subscription → List Subscription = λ xs. next_members A S xs m in
     let ms = matched c.as_slice.result.now in
-    let own = own-copies A S subs m (by_client ms) c.len-sessions.ensures.ordered (sorted-by_client ms)
+    let own = own-copies A S subs m (by_client ms) c.len-sessions.ensures.ordered
+    (sorted-by_client ms)
     (λ id. lookup-by_client id ms
-    ∙ ap summary_for (ap (λ l. options_among id (matched l)) c.as_slice.ensures.value ∙ c.in_ok-matches.ensures.options id ∙ options-own m id (rows_found (map (λ a. a.now) c.as_slice-found.result.now))
+    ∙ ap summary_for (ap (λ l. options_among id (matched l)) c.as_slice.ensures.value
+    ∙ c.in_ok-matches.ensures.options id
+    ∙ options-own m id (rows_found (map (λ a. a.now) c.as_slice-found.result.now))
     ∙ ap (λ l. gives_options m id (rows_found (map (λ a. a.now) l))) c.as_slice-found.ensures.value
     ∙ ap (gives_options m id) c.in_ok-candidates.ensures.rows ∙ options-matching m id subs)) in
     IfOk-weaker c.made_for.result _ _
     (λ made e. e
     ∙ ap (λ l. l ++ map (member_copy m) (turns_in c.in_ok-served.served)) own
-    ∙ ap (λ l. direct_copies A (connected S) subs m ++ map (member_copy m) l) (c.in_ok-served.ensures
+    ∙ ap (λ l. direct_copies A (connected S) subs m ++ map (member_copy m) l)
+    (c.in_ok-served.ensures
     ∙ ap (λ l. members (rows_found (map (λ a. a.now) l))) c.as_slice-found.ensures.value
     ∙ ap members c.in_ok-candidates.ensures.rows
     ∙ members-matching A S subs m))

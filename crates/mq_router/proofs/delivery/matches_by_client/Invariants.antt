@@ -6,4 +6,5 @@ use Rattle.mq_router.proofs.delivery.matches_by_client.Given as goal
 
 abbrev pub invariant-loop-at : goal.invariant-loop-at
 invariant-loop-at l =
-    matched l.matches.items ≡ own_matches (message_of l.message) (rows_found (map (λ a. a.now) (take l.at-index l.found)))
+    matched l.matches.items ≡ own_matches (message_of l.message)
+    (rows_found (map (λ a. a.now) (take l.at-index l.found)))

@@ -11,6 +11,9 @@ returns c =
     let S = c.args.readers.now.sessions.now in
     let m = message_of c.args.message.now in
     let found = c.args.found.now in
-    let all : map (λ a. a.now) (take c.loop-at.at-index found) ≡ map (λ a. a.now) found = grind (arith, common_steps) in
-    served-members A S m (map (λ a. a.now) found) c.sort_by_share.new.turns.items c.requires c.in_ok-sort_by_share.ensures.sorted
-    (λ share. c.in_ok-sort_by_share.ensures.stable share ∙ c.loop-at.invariant share ∙ ap (turns_at A S m.topic share) all)
+    let all : map (λ a. a.now) (take c.loop-at.at-index found) ≡ map (λ a. a.now) found =
+    grind (arith, common_steps) in
+    served-members A S m (map (λ a. a.now) found) c.sort_by_share.new.turns.items c.requires
+    c.in_ok-sort_by_share.ensures.sorted
+    (λ share. c.in_ok-sort_by_share.ensures.stable share ∙ c.loop-at.invariant share
+    ∙ ap (turns_at A S m.topic share) all)

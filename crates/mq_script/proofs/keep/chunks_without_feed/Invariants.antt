@@ -5,7 +5,8 @@ use Rattle.mq_script.proofs.keep.chunks_without_feed.Given as goal
 
 -- there is no line feed among the bytes that are passed
 abbrev pub invariant-chunks : goal.invariant-chunks
-invariant-chunks l = (l.passed ≤ length l.bytes) × (position_or_len is_feed l.bytes ≡ l.passed + position_or_len is_feed (drop l.passed l.bytes))
+invariant-chunks l = (l.passed ≤ length l.bytes)
+    × (position_or_len is_feed l.bytes ≡ l.passed + position_or_len is_feed (drop l.passed l.bytes))
 
 abbrev pub decreases-chunks : goal.decreases-chunks
 decreases-chunks l = length l.bytes - l.passed

@@ -9,7 +9,8 @@ pub returns-in-Some : goal.returns-in-Some
 returns-in-Some c =
     let bytes = c.args.bytes.now in
     let passed = c.chunks_without_feed-passed.result in
-    let rest = position-later is_feed bytes passed c.chunks_without_feed-passed.ensures.bound c.chunks_without_feed-passed.ensures.later in
+    let rest = position-later is_feed bytes passed c.chunks_without_feed-passed.ensures.bound
+    c.chunks_without_feed-passed.ensures.later in
     let feed = ap (λ l. position is_feed l) (rest_whole passed bytes) in
     rw (rest, sym feed, sym c.in-Some.ensures)
 
@@ -17,6 +18,7 @@ pub returns-in-None : goal.returns-in-None
 returns-in-None c =
     let bytes = c.args.bytes.now in
     let passed = c.chunks_without_feed-passed.result in
-    let rest = position-later is_feed bytes passed c.chunks_without_feed-passed.ensures.bound c.chunks_without_feed-passed.ensures.later in
+    let rest = position-later is_feed bytes passed c.chunks_without_feed-passed.ensures.bound
+    c.chunks_without_feed-passed.ensures.later in
     let feed = ap (λ l. position is_feed l) (rest_whole passed bytes) in
     rw (rest, sym feed, sym c.in-None.ensures)

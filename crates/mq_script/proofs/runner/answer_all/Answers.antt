@@ -18,7 +18,8 @@ returns-in_err-finish-clause-ending g c = λ w s.
     let last = c.in_err-finish.ensures.ends w all.0 a told in
     let read = c.in_ok-read_lines.ensures.ok_count in
     let finished = c.in_err-finish.ensures.counted in
-    let fault = err_from_is_err_and c.from_residual-in_err-finish.result c.from_residual-in_err-finish.ensures.1 in
+    let fault = err_from_is_err_and c.from_residual-in_err-finish.result
+    c.from_residual-in_err-finish.ensures.1 in
     rw (fault.1, fault.2) (
       all.0,
       all.1,

@@ -1,4 +1,5 @@
-use Rattle.std.proofs.Common.{◌≡◌, ◌++◌, ◌+◌, ◌-◌, ◌≤◌, [], ℕ, List, take, length, refl, ap, arith, rules, length-append, length-take-le}
+use Rattle.std.proofs.Common.{◌≡◌, ◌++◌, ◌+◌, ◌-◌, ◌≤◌, [], ℕ, List, take, length, refl, ap, arith}
+use Rattle.std.proofs.Common.{rules, length-append, length-take-le}
 use Rattle.std.proofs.lemmas.Result.{err_from_is_err_and}
 use Rattle.std.proofs.KnownBytes.{Consumes-nil, Consumes-trans, Consumes-kept}
 use Rattle.mq_script.specs.Running.{TakesBytes, StopsAmong}
@@ -34,12 +35,14 @@ reads-preserved g c =
       within = omega arith;
       lines = let lines = c.in_ok-take-2.ensures.lines in omega arith;
       reader = let counted = c.in-Ok.ensures.counted in omega arith;
-      writer = let counted = c.in_ok-take-2.ensures.counted in let flushed = c.in_ok-before_read.ensures.counted in omega arith;
+      writer = let counted = c.in_ok-take-2.ensures.counted in let flushed =
+          c.in_ok-before_read.ensures.counted in omega arith;
       takes = (
         given ++ take n buf,
         Consumes-trans _ (g.R.Source.to_come c.reads.reader) _ given (take n buf) so_far.1 read.0,
         omega arith,
-        TakesBytes-then c.args.progress.now c.reads.progress c.take-in-reads.new.self given (take n buf) _ _ _ so_taken c.in_ok-take-2.ensures.takes,
+        TakesBytes-then c.args.progress.now c.reads.progress c.take-in-reads.new.self given
+            (take n buf) _ _ _ so_taken c.in_ok-take-2.ensures.takes,
       );
     }
 
@@ -50,11 +53,13 @@ returns-in_err-before_read-clause-err g c = λ w start.
     let a = g.W.Sink.taken c.args.writer.now in
     let now = so_far.3 w [] a start in
     let fault = err_from_is_err_and c.from_residual.result c.from_residual.ensures.1 in
-    let stopped = Stopped-flush a _ _ w so_far.0 _ now.written c.in_err-before_read.ensures.kept c.in_err-before_read.ensures.kind in
+    let stopped = Stopped-flush a _ _ w so_far.0 _ now.written c.in_err-before_read.ensures.kept
+    c.in_err-before_read.ensures.kind in
     rw (fault.1, fault.2) (
       so_far.0,
       so_far.1,
-      Ending-stopped c.args.limit w _ _ stopped c.reads.invariant.reader (let k = c.in_err-before_read.ensures.counted in omega arith),
+      Ending-stopped c.args.limit w _ _ stopped c.reads.invariant.reader
+          (let k = c.in_err-before_read.ensures.counted in omega arith),
     )
 
 pub returns-then-n-eq0-clause-ok : goal.returns-then-n-eq0-clause-ok
@@ -70,7 +75,8 @@ returns-in-Err-clause-err g c = λ w start.
     let so_taken = TakesBytes-kept _ _ _ _ _ _ so_far.3 c.in_ok-before_read.ensures.kept in
     let now = so_taken w [] (g.W.Sink.taken c.args.writer.now) start in (
       so_far.0,
-      Consumes-kept _ (g.R.Source.to_come c.reads.reader) _ so_far.0 so_far.1 c.in-Err.ensures.bytes,
+      Consumes-kept _ (g.R.Source.to_come c.reads.reader) _ so_far.0 so_far.1
+          c.in-Err.ensures.bytes,
       record {
         written = now.written;
         reader = let counted = c.in-Err.ensures.counted in omega arith;
@@ -92,15 +98,18 @@ returns-then-n-room-clause-err g c = λ w start.
     let now = c.in_ok-take.ensures.takes w given a (so_taken w [] a start) in
     let read = c.in-Ok.ensures.bytes in
     let room : length given + (c.args.limit - c.reads.total) ≡ c.args.limit = omega arith in
-    let front = over_take given buf c.args.limit (c.args.limit - c.reads.total) n room (omega arith) in
-    let grown : length (given ++ take n buf) ≡ length given + n = rw (length-append, length-take-le n buf) in (
+    let front = over_take given buf c.args.limit (c.args.limit - c.reads.total) n room (omega arith)
+    in
+    let grown : length (given ++ take n buf) ≡ length given + n =
+    rw (length-append, length-take-le n buf) in (
       given ++ take n buf,
       Consumes-trans _ (g.R.Source.to_come c.reads.reader) _ given (take n buf) so_far.1 read.0,
       record {
         over = omega arith;
         written = rw front now.written;
         reader = let k = c.in-Ok.ensures.counted in omega arith;
-        writer = let k = c.in_ok-take.ensures.counted in let flushed = c.in_ok-before_read.ensures.counted in omega arith;
+        writer = let k = c.in_ok-take.ensures.counted in let flushed =
+            c.in_ok-before_read.ensures.counted in omega arith;
       },
     )
 
@@ -116,13 +125,16 @@ returns-in_err-take-clause-err g c = λ w start.
     let a = g.W.Sink.taken c.args.writer.now in
     let now = c.in_err-take.ensures.takes w given a (so_taken w [] a start) in
     let room : c.args.limit - c.reads.total ≤ n = omega arith in
-    let fault = err_from_is_err_and c.from_residual-in_err-take.result c.from_residual-in_err-take.ensures.1 in
+    let fault = err_from_is_err_and c.from_residual-in_err-take.result
+    c.from_residual-in_err-take.ensures.1 in
     rw (fault.1, fault.2) (
       given ++ take n buf,
       Consumes-trans _ (g.R.Source.to_come c.reads.reader) _ given (take n buf) so_far.1 read.0,
       Ending-stopped c.args.limit w _ _
           (Stopped-front a _ w given buf (c.args.limit - c.reads.total) n _ room now)
-          (let k = c.in-Ok.ensures.counted in omega arith) (let k = c.in_err-take.ensures.counted in let flushed = c.in_ok-before_read.ensures.counted in omega arith),
+          (let k = c.in-Ok.ensures.counted in omega arith)
+          (let k = c.in_err-take.ensures.counted in let flushed =
+          c.in_ok-before_read.ensures.counted in omega arith),
     )
 
 pub returns-in_err-take-2-clause-err : goal.returns-in_err-take-2-clause-err
@@ -136,10 +148,13 @@ returns-in_err-take-2-clause-err g c = λ w start.
     let read = c.in-Ok.ensures.bytes in
     let a = g.W.Sink.taken c.args.writer.now in
     let now = c.in_err-take-2.ensures.takes w given a (so_taken w [] a start) in
-    let fault = err_from_is_err_and c.from_residual-in_err-take-2.result c.from_residual-in_err-take-2.ensures.1 in
+    let fault = err_from_is_err_and c.from_residual-in_err-take-2.result
+    c.from_residual-in_err-take-2.ensures.1 in
     rw (fault.1, fault.2) (
       given ++ take n buf,
       Consumes-trans _ (g.R.Source.to_come c.reads.reader) _ given (take n buf) so_far.1 read.0,
       Ending-stopped c.args.limit w _ _ now
-          (let k = c.in-Ok.ensures.counted in omega arith) (let k = c.in_err-take-2.ensures.counted in let flushed = c.in_ok-before_read.ensures.counted in omega arith),
+          (let k = c.in-Ok.ensures.counted in omega arith)
+          (let k = c.in_err-take-2.ensures.counted in let flushed =
+          c.in_ok-before_read.ensures.counted in omega arith),
     )

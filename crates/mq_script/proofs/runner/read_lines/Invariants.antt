@@ -12,7 +12,8 @@ invariant-reads g l =
       lines : l.progress.summary.lines + length l.progress.line.items ≤ l.total;
       reader : g.R.Source.failures l.reader ≡ g.R.Source.failures l.fn.reader;
       writer : g.W.Sink.failures l.writer ≡ g.W.Sink.failures l.fn.writer;
-      takes : (given : List ℕ) × Consumes (to_come l.fn.reader) (to_come l.reader) given × (length given ≡ l.total)
+      takes : (given : List ℕ) × Consumes (to_come l.fn.reader) (to_come l.reader) given
+          × (length given ≡ l.total)
           × TakesBytes l.fn.progress l.progress given (taken l.fn.writer) (taken l.writer);
     }
 

@@ -10,15 +10,29 @@ pub returns-in-Some : goal.returns-in-Some
 returns-in-Some c =
     let f = c.args.wanted.now.filter in
     let share = option_map string_bytes c.args.wanted.now.share in
-    let s : Subscription = record { client = c.args.client.now; share = share; filter = f; options = nothing } in
+    let s : Subscription = record {
+      client = c.args.client.now;
+      share = share;
+      filter = f;
+      options =
+          nothing;
+    } in
     let v = c.in-Some.at.now in
     let found = sym c.get.ensures ∙ ap option_copied c.in-Some.is in
     let is = found_filter f c.args.tree.now c.requires.each c.requires.ordered v found in
-    c.contains.ensures ∙ ap (λ sh. list_any (has_key c.args.client.now sh v.filter) v.rows) c.as_deref.ensures.value ∙ ap (λ g. list_any (has_key c.args.client.now share g) v.rows) is
+    c.contains.ensures ∙ ap (λ sh. list_any (has_key c.args.client.now sh v.filter) v.rows)
+    c.as_deref.ensures.value ∙ ap (λ g. list_any (has_key c.args.client.now share g) v.rows) is
     ∙ tree-any f c.args.tree.now c.requires.each c.requires.ordered v found s refl
 
 pub returns-in-None : goal.returns-in-None
 returns-in-None c =
     let f = c.args.wanted.now.filter in
-    let s : Subscription = record { client = c.args.client.now; share = option_map string_bytes c.args.wanted.now.share; filter = f; options = nothing } in
-    tree-absent_any f c.args.tree.now c.requires.each (sym c.get.ensures ∙ ap option_copied c.in-None.is) s refl
+    let s : Subscription = record {
+      client = c.args.client.now;
+      share =
+          option_map string_bytes c.args.wanted.now.share;
+      filter = f;
+      options = nothing;
+    } in
+    tree-absent_any f c.args.tree.now c.requires.each
+    (sym c.get.ensures ∙ ap option_copied c.in-None.is) s refl

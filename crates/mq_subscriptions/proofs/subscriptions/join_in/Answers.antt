@@ -20,13 +20,21 @@ pub returns-in_err-join-in-Some-clause-err : goal.returns-in_err-join-in-Some-cl
 returns-in_err-join-in-Some-clause-err c =
     let found = sym c.get_mut.ensures.value ∙ ap option_copied_mut c.in-Some.is in
     let set = rw c.in-Some.is at (c.get_mut.follows.holds c.join.new.self) in
-    on_err c.from_residual-in_err-join-in-Some.result (set ∙ ap (set_value (is_key (levels c.args.wanted.now.filter)) c.args.tree.now) c.in_err-join-in-Some.ensures.err ∙ set_same (is_key (levels c.args.wanted.now.filter)) c.args.tree.now c.in-Some.at.now found)
+    on_err c.from_residual-in_err-join-in-Some.result
+    (set ∙ ap (set_value (is_key (levels c.args.wanted.now.filter)) c.args.tree.now)
+    c.in_err-join-in-Some.ensures.err
+    ∙ set_same (is_key (levels c.args.wanted.now.filter)) c.args.tree.now c.in-Some.at.now
+    found)
 
 pub returns-in_err-join-in-Some-clause-kept : goal.returns-in_err-join-in-Some-clause-kept
 returns-in_err-join-in-Some-clause-kept c =
     let found = sym c.get_mut.ensures.value ∙ ap option_copied_mut c.in-Some.is in
     let set = rw c.in-Some.is at (c.get_mut.follows.holds c.join.new.self) in
-    subst (λ (l : AtEntries). AreKept l) (sym (set ∙ ap (set_value (is_key (levels c.args.wanted.now.filter)) c.args.tree.now) c.in_err-join-in-Some.ensures.err ∙ set_same (is_key (levels c.args.wanted.now.filter)) c.args.tree.now c.in-Some.at.now found)) c.requires
+    subst (λ (l : AtEntries). AreKept l)
+    (sym (set ∙ ap (set_value (is_key (levels c.args.wanted.now.filter)) c.args.tree.now)
+    c.in_err-join-in-Some.ensures.err
+    ∙ set_same (is_key (levels c.args.wanted.now.filter)) c.args.tree.now c.in-Some.at.now
+    found)) c.requires
 
 pub returns-in_ok-join-in-Some-clause-ok : goal.returns-in_ok-join-in-Some-clause-ok
 returns-in_ok-join-in-Some-clause-ok c =
@@ -38,10 +46,14 @@ returns-in_ok-join-in-Some-clause-ok c =
     let found = sym c.get_mut.ensures.value ∙ ap option_copied_mut c.in-Some.is in
     let set = rw c.in-Some.is at (c.get_mut.follows.holds w) in
     let is = found_filter f c.args.tree.now c.requires.each c.requires.ordered v found in
-    let by : Option Text → Text → Text → List Subscription = λ sh g id. joined (row sh g (id, c.args.options)) v.rows in
-    tree-joined f c.args.tree.now c.requires.each c.requires.ordered v found w c.join.ensures.filter c.join.ensures.here (c.get_mut.follows.lender w) set (row share f (k, c.args.options)) refl
+    let by : Option Text → Text → Text → List Subscription =
+    λ sh g id. joined (row sh g (id, c.args.options)) v.rows in
+    tree-joined f c.args.tree.now c.requires.each c.requires.ordered v found w c.join.ensures.filter
+    c.join.ensures.here (c.get_mut.follows.lender w) set (row share f (k, c.args.options)) refl
     (same-then _ _ _ c.in_ok-join-in-Some.ensures.ok
-    (same-is _ _ (ap (λ sh. by sh v.filter (rc_str_bytes c.in_ok-client.client)) c.as_deref.ensures.value ∙ ap (λ g. by share g (rc_str_bytes c.in_ok-client.client)) is ∙ ap (λ id. by share f id) c.in_ok-client.ensures.cases)))
+    (same-is _ _ (ap (λ sh. by sh v.filter (rc_str_bytes c.in_ok-client.client))
+    c.as_deref.ensures.value ∙ ap (λ g. by share g (rc_str_bytes c.in_ok-client.client)) is
+    ∙ ap (λ id. by share f id) c.in_ok-client.ensures.cases)))
 
 pub returns-in_ok-join-in-Some-clause-kept : goal.returns-in_ok-join-in-Some-clause-kept
 returns-in_ok-join-in-Some-clause-kept c =
@@ -50,12 +62,21 @@ returns-in_ok-join-in-Some-clause-kept c =
     let v : At = c.in-Some.at.now in
     let found = sym c.get_mut.ensures.value ∙ ap option_copied_mut c.in-Some.is in
     let set = rw c.in-Some.is at (c.get_mut.follows.holds w) in
-    set-kept f c.args.tree.now c.requires.each c.requires.ordered v found w c.join.ensures.filter c.join.ensures.here (c.get_mut.follows.lender w) set
-    (joined-live (row (option_copied c.as_deref.result) v.filter (rc_str_bytes c.in_ok-client.client, c.args.options)) w.rows v.rows c.in_ok-join-in-Some.ensures.ok)
+    set-kept f c.args.tree.now c.requires.each c.requires.ordered v found w c.join.ensures.filter
+    c.join.ensures.here (c.get_mut.follows.lender w) set
+    (joined-live (row (option_copied c.as_deref.result) v.filter
+    (rc_str_bytes c.in_ok-client.client, c.args.options)) w.rows v.rows
+    c.in_ok-join-in-Some.ensures.ok)
 
 pub returns-in-None-clause-ok : goal.returns-in-None-clause-ok
 returns-in-None-clause-ok c =
     let share = option_map string_bytes c.args.wanted.now.share in
     let f = c.args.wanted.now.filter in
-    subst (λ (id : Text). OnOk c.add_in.result (SameInTurn (all_rows c.add_in.new.tree) (joined (row share f (id, c.args.options)) (all_rows c.args.tree.now)))) c.in_ok-client.ensures.cases
-    (subst (λ (es : AtEntries). OnOk c.add_in.result (SameInTurn (all_rows c.add_in.new.tree) (joined (row share f (rc_str_bytes c.in_ok-client.client, c.args.options)) (all_rows es)))) c.get_mut.follows.holds-at-none c.add_in.ensures.ok)
+    subst (λ (id : Text). OnOk c.add_in.result
+    (SameInTurn (all_rows c.add_in.new.tree)
+    (joined (row share f (id, c.args.options)) (all_rows c.args.tree.now))))
+    c.in_ok-client.ensures.cases
+    (subst (λ (es : AtEntries). OnOk c.add_in.result
+    (SameInTurn (all_rows c.add_in.new.tree)
+    (joined (row share f (rc_str_bytes c.in_ok-client.client, c.args.options))
+    (all_rows es)))) c.get_mut.follows.holds-at-none c.add_in.ensures.ok)

@@ -14,7 +14,8 @@ use Rattle.mq_subscriptions.proofs.subscriptions.leave_all.Goals as goal
 pub leave_in-requires-clause-valid : goal.leave_in-requires-clause-valid
 leave_in-requires-clause-valid c =
     let left = rest_more deref _ _ _ c.in-Some.text c.in-Some.is c.next.ensures.steps in
-    subst (λ (t : Text). is_subscription t ≡ true) (sym c.as_str.ensures.value) (subst (AllByRecursion IsAsked) left c.loop-text.invariant.valid).0
+    subst (λ (t : Text). is_subscription t ≡ true) (sym c.as_str.ensures.value)
+    (subst (AllByRecursion IsAsked) left c.loop-text.invariant.valid).0
 
 pub loop-text-preserved : goal.loop-text-preserved
 loop-text-preserved c =
@@ -23,7 +24,9 @@ loop-text-preserved c =
     let rows = all_rows c.loop-text.tree in
     let left = rest_more deref _ _ _ c.in-Some.text c.in-Some.is c.next.ensures.steps in
     record {
-      rows = ap (filter (leaves client rest)) (c.leave_in.ensures.rows ∙ ap (λ (t : Text). filter (λ s. not (has_asked client t s)) rows) c.as_str.ensures.value)
+      rows = ap (filter (leaves client rest)) (c.leave_in.ensures.rows
+          ∙ ap (λ (t : Text). filter (λ s. not (has_asked client t s)) rows)
+          c.as_str.ensures.value)
           ∙ one-leaves client (key_in c.in-Some.text.now) rest rows
           ∙ ap (λ (ks : List Key). filter (leaves client (map key_in ks)) rows) (sym left)
           ∙ c.loop-text.invariant.rows;

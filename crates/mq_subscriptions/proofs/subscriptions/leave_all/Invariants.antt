@@ -8,7 +8,8 @@ use Rattle.mq_subscriptions.proofs.subscriptions.leave_all.Given as goal
 -- what is still to be taken out
 abbrev pub invariant-loop-text : goal.invariant-loop-text
 invariant-loop-text l = record {
-  rows : filter (leaves l.client (map key_in l.text-iterator)) (all_rows l.tree) ≡ filter (leaves l.client l.own) (all_rows l.initial.tree);
+  rows : filter (leaves l.client (map key_in l.text-iterator)) (all_rows l.tree)
+      ≡ filter (leaves l.client l.own) (all_rows l.initial.tree);
   kept : AreKept l.tree;
   valid : AllByRecursion IsAsked l.text-iterator;
 }

@@ -15,32 +15,43 @@ use Rattle.mq_subscriptions.proofs.subscriptions.list_add.Goals as goal
 
 pub list_begin-requires-clause-absent : goal.list_begin-requires-clause-absent
 list_begin-requires-clause-absent c =
-    ap (λ m. lookup (is_text (rc_str_bytes c.args.client.now)) (texts m.entries)) c.get_mut.follows.holds-at-none
-    ∙ lookup-texts (rc_str_bytes c.args.client.now) c.args.lists.now.entries ∙ sym c.get_mut.ensures.value ∙ ap option_copied_mut c.in-None.is
+    ap (λ m. lookup (is_text (rc_str_bytes c.args.client.now)) (texts m.entries))
+    c.get_mut.follows.holds-at-none
+    ∙ lookup-texts (rc_str_bytes c.args.client.now) c.args.lists.now.entries
+    ∙ sym c.get_mut.ensures.value ∙ ap option_copied_mut c.in-None.is
 
 pub returns-in_ok-add-in-Some-clause-ok : goal.returns-in_ok-add-in-Some-clause-ok
 returns-in_ok-add-in-Some-clause-ok c =
     let w = c.add.new.self in
-    added-there (rc_str_bytes c.args.client.now) (text_key c.args.text.now) c.args.lists.now.entries c.get_mut.ensures.ordered c.in-Some.own.now w (c.get_mut.follows.lender w).entries
-    (sym c.get_mut.ensures.value ∙ ap option_copied_mut c.in-Some.is) (c.get_mut.follows.holds w).0 c.in_ok-add-in-Some.ensures.ok
+    added-there (rc_str_bytes c.args.client.now) (text_key c.args.text.now) c.args.lists.now.entries
+    c.get_mut.ensures.ordered c.in-Some.own.now w (c.get_mut.follows.lender w).entries
+    (sym c.get_mut.ensures.value ∙ ap option_copied_mut c.in-Some.is) (c.get_mut.follows.holds w).0
+    c.in_ok-add-in-Some.ensures.ok
 
 pub returns-in_ok-add-in-Some-clause-live : goal.returns-in_ok-add-in-Some-clause-live
 returns-in_ok-add-in-Some-clause-live c =
     let w = c.add.new.self in
-    live-set (rc_str_bytes c.args.client.now) c.args.lists.now.entries w (c.get_mut.follows.lender w).entries (c.get_mut.follows.holds w).0
-    (added-live (text_key c.args.text.now) c.in-Some.own.now w c.in_ok-add-in-Some.ensures.ok) c.requires.live
+    live-set (rc_str_bytes c.args.client.now) c.args.lists.now.entries w
+    (c.get_mut.follows.lender w).entries (c.get_mut.follows.holds w).0
+    (added-live (text_key c.args.text.now) c.in-Some.own.now w c.in_ok-add-in-Some.ensures.ok)
+    c.requires.live
 
 pub returns-in_err-add-in-Some-clause-err : goal.returns-in_err-add-in-Some-clause-err
 returns-in_err-add-in-Some-clause-err c =
     let test = finds (rc_str_bytes c.args.client.now) in
     let ls = c.args.lists.now.entries in
     let found = sym c.get_mut.ensures.value ∙ ap option_copied_mut c.in-Some.is in
-    on_err c.from_residual.result ((c.get_mut.follows.holds c.add.new.self).0 ∙ ap (set_value test ls) c.in_err-add-in-Some.ensures.err ∙ set_same test ls c.in-Some.own.now found)
+    on_err c.from_residual.result ((c.get_mut.follows.holds c.add.new.self).0
+    ∙ ap (set_value test ls) c.in_err-add-in-Some.ensures.err
+    ∙ set_same test ls c.in-Some.own.now found)
 
 pub returns-in_err-add-in-Some-clause-live : goal.returns-in_err-add-in-Some-clause-live
 returns-in_err-add-in-Some-clause-live c =
     let test = finds (rc_str_bytes c.args.client.now) in
     let ls = c.args.lists.now.entries in
     let found = sym c.get_mut.ensures.value ∙ ap option_copied_mut c.in-Some.is in
-    let same = (c.get_mut.follows.holds c.add.new.self).0 ∙ ap (set_value test ls) c.in_err-add-in-Some.ensures.err ∙ set_same test ls c.in-Some.own.now found in
-    subst (λ (es : List (Key × List OwnKey)). AllByRecursion (λ l. is_empty l.1 ≡ false) (texts es)) (sym same) c.requires.live
+    let same = (c.get_mut.follows.holds c.add.new.self).0
+    ∙ ap (set_value test ls) c.in_err-add-in-Some.ensures.err
+    ∙ set_same test ls c.in-Some.own.now found in
+    subst (λ (es : List (Key × List OwnKey)). AllByRecursion (λ l. is_empty l.1 ≡ false) (texts es))
+    (sym same) c.requires.live

@@ -6,11 +6,15 @@ use Rattle.mq_subscriptions.proofs.subscriptions.list_begin.Goals as goal
 
 pub returns-clause-ok : goal.returns-clause-ok
 returns-clause-ok c =
-    added-first (rc_str_bytes c.args.client.now) (text_key c.args.text.now) c.args.lists.now.entries c.in_ok-client.client c.in_ok-client.ensures.cases c.requires.absent
+    added-first (rc_str_bytes c.args.client.now) (text_key c.args.text.now) c.args.lists.now.entries
+    c.in_ok-client.client c.in_ok-client.ensures.cases c.requires.absent
     c.add.new.self c.insert.new.self.entries c.in_ok-insert.ensures.entries
-    (λ s. c.in_ok-add.ensures.ok s ∙ ap (λ l. is_own s (text_key c.args.text.now) || is_in_list l s) c.new-own.ensures)
+    (λ s. c.in_ok-add.ensures.ok s ∙ ap (λ l. is_own s (text_key c.args.text.now) || is_in_list l s)
+    c.new-own.ensures)
 
 pub returns-clause-live : goal.returns-clause-live
 returns-clause-live c =
-    live-begun c.args.lists.now.entries c.in_ok-client.client c.add.new.self c.insert.new.self.entries c.in_ok-insert.ensures.entries
-    (added-live (text_key c.args.text.now) c.new-own.result c.add.new.self c.in_ok-add.ensures.ok) c.requires.live
+    live-begun c.args.lists.now.entries c.in_ok-client.client c.add.new.self
+    c.insert.new.self.entries c.in_ok-insert.ensures.entries
+    (added-live (text_key c.args.text.now) c.new-own.result c.add.new.self c.in_ok-add.ensures.ok)
+    c.requires.live

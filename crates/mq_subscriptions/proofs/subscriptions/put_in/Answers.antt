@@ -16,9 +16,12 @@ returns-then-contains_in-clause-listed c =
     let x : Subscription = wanted_row client c.args.wanted.now c.args.options in
     let lists = texts c.args.lists.now.entries in
     let rows = all_rows c.args.tree.now in
-    let has = c.contains_in.ensures ∙ ap (λ id. list_any (has_wanted id c.args.wanted.now) rows) c.as_str-id.ensures.value in
-    listed-joined x c.args.tree.now c.join_in.new.tree lists lists c.requires.listed c.join_in.ensures.kept c.in_ok-join_in.ensures.ok
-    (listed-again x c.args.tree.now lists c.requires.listed (sym has ∙ c.if-contains_in.true)) c.requires.listed.live
+    let has = c.contains_in.ensures ∙ ap (λ id. list_any (has_wanted id c.args.wanted.now) rows)
+    c.as_str-id.ensures.value in
+    listed-joined x c.args.tree.now c.join_in.new.tree lists lists c.requires.listed
+    c.join_in.ensures.kept c.in_ok-join_in.ensures.ok
+    (listed-again x c.args.tree.now lists c.requires.listed (sym has ∙ c.if-contains_in.true))
+    c.requires.listed.live
 
 pub returns-in-Ok-clause-listed : goal.returns-in-Ok-clause-listed
 returns-in-Ok-clause-listed c =
@@ -26,9 +29,13 @@ returns-in-Ok-clause-listed c =
     let x : Subscription = wanted_row client c.args.wanted.now c.args.options in
     let before = texts c.args.lists.now.entries in
     let asked = c.requires.asked in
-    let has : Option Text → Text → Subscription → Bool = λ share filter s. has_key client share filter s || is_listed before s in
-    listed-joined x c.args.tree.now c.join_in-2.new.tree before (texts c.list_add.new.lists.entries) c.requires.listed c.join_in-2.ensures.kept c.in-Ok.ensures.ok
-    (λ s. c.in_ok-list_add.ensures.ok s ∙ ap (λ share. has share (text_key c.args.text.now).1 s) (sym asked.0) ∙ ap (λ filter. has x.share filter s) (sym asked.1)) c.list_add.ensures.live
+    let has : Option Text → Text → Subscription → Bool =
+    λ share filter s. has_key client share filter s || is_listed before s in
+    listed-joined x c.args.tree.now c.join_in-2.new.tree before (texts c.list_add.new.lists.entries)
+    c.requires.listed c.join_in-2.ensures.kept c.in-Ok.ensures.ok
+    (λ s. c.in_ok-list_add.ensures.ok s
+    ∙ ap (λ share. has share (text_key c.args.text.now).1 s) (sym asked.0)
+    ∙ ap (λ filter. has x.share filter s) (sym asked.1)) c.list_add.ensures.live
 
 pub returns-in-Err-clause-listed : goal.returns-in-Err-clause-listed
 returns-in-Err-clause-listed c =
@@ -37,9 +44,16 @@ returns-in-Err-clause-listed c =
     let asked = c.requires.asked in
     let added = texts c.list_add.new.lists.entries in
     let rows = all_rows c.args.tree.now in
-    let by : Option Text → Text → Bool = λ share filter. list_any (has_key client share filter) rows in
-    let has = c.contains_in.ensures ∙ ap (λ id. list_any (has_wanted id c.args.wanted.now) rows) c.as_str-id.ensures.value in
-    let named = has ∙ ap (λ share. by share c.args.wanted.now.filter) asked.0 ∙ ap (by (share_of c.args.text.now)) asked.1 in
-    listed-undone client key c.args.tree.now c.join_in-2.new.tree (texts c.args.lists.now.entries) added (texts c.list_remove.new.lists.entries)
-    c.requires.listed c.in-Err.ensures.err (sym named ∙ c.if-contains_in.false) c.in_ok-list_add.ensures.ok
-    (λ s. c.list_remove.ensures.rest s ∙ ap (λ id. not (has_key id key.0 key.1 s) && is_listed added s) c.as_str-id.ensures.value) c.list_remove.ensures.live
+    let by : Option Text → Text → Bool =
+    λ share filter. list_any (has_key client share filter) rows in
+    let has = c.contains_in.ensures ∙ ap (λ id. list_any (has_wanted id c.args.wanted.now) rows)
+    c.as_str-id.ensures.value in
+    let named = has ∙ ap (λ share. by share c.args.wanted.now.filter) asked.0
+    ∙ ap (by (share_of c.args.text.now)) asked.1 in
+    listed-undone client key c.args.tree.now c.join_in-2.new.tree (texts c.args.lists.now.entries)
+    added (texts c.list_remove.new.lists.entries)
+    c.requires.listed c.in-Err.ensures.err (sym named ∙ c.if-contains_in.false)
+    c.in_ok-list_add.ensures.ok
+    (λ s. c.list_remove.ensures.rest s
+    ∙ ap (λ id. not (has_key id key.0 key.1 s) && is_listed added s)
+    c.as_str-id.ensures.value) c.list_remove.ensures.live

@@ -5,4 +5,6 @@ use Rattle.mq_topic.specs.Texts.{is_level}
 use Rattle.mq_topic.proofs.validity.are_levels.Goals as goal
 
 pub returns : goal.returns
-returns c = all_from_yields_List is_level _ _ _ c.all.ensures.ran (YieldsList-from_str_split 47 c.args.text.now (lit< tt) c.split.ensures.text c.split.ensures.has_more c.split.ensures.pattern) (λ x b q k. search (rules, tests))
+returns c = all_from_yields_List is_level _ _ _ c.all.ensures.ran
+    (YieldsList-from_str_split 47 c.args.text.now (lit< tt) c.split.ensures.text
+    c.split.ensures.has_more c.split.ensures.pattern) (λ x b q k. search (rules, tests))

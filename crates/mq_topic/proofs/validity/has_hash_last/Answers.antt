@@ -15,5 +15,8 @@ returns c =
     let from = c.take.ensures.source in
     let split = c.split.ensures in
     all_from_yields_List {v = λ x. x.now} (λ l. not (contains_byte 35 l)) _ _ _ c.all.ensures.ran
-    (YieldsList-from_take _ (YieldsList-from_str_split 47 c.args.text.now (lit< tt) (ap split_text from ∙ split.text) (ap split_has_more from ∙ split.has_more) (ap split_pattern from ∙ split.pattern)) (c.take.ensures.count ∙ ap (λ n. n - 1) c.count-parents.ensures))
+    (YieldsList-from_take _ (YieldsList-from_str_split 47 c.args.text.now (lit< tt)
+    (ap split_text from ∙ split.text) (ap split_has_more from ∙ split.has_more)
+    (ap split_pattern from ∙ split.pattern))
+    (c.take.ensures.count ∙ ap (λ n. n - 1) c.count-parents.ensures))
     (λ x b q k. search (rules, tests))

@@ -1,4 +1,5 @@
-use Rattle.std.proofs.Common.{◌≡◌, [], ◌++◌, map, length, Bor, sym, ap, ◌∙◌, arith, append-nil, append_assoc}
+use Rattle.std.proofs.Common.{◌≡◌, [], ◌++◌, map, length, Bor, sym, ap, ◌∙◌, arith, append-nil}
+use Rattle.std.proofs.Common.{append_assoc}
 use Rattle.std.specs.Map.{keys_of, values_of}
 use Rattle.std.specs.List.{flat_map}
 use Rattle.std.proofs.lemmas.Map.Iter.{rest_more, rest_all}
@@ -14,7 +15,8 @@ all-requires g t c =
     let e = rest_more (λ x. x) _ _ _ c.in-Some.child c.in-Some.is c.next.ensures.steps in
     let live = rw e at c.loop-child.invariant.live in
     let low = rw e at c.loop-child.invariant.low in
-    let less = first_weighs_less c.in-Some.child c.next.new.self (weight (entries_of c.args.node.now)) live low in
+    let less = first_weighs_less c.in-Some.child c.next.new.self
+    (weight (entries_of c.args.node.now)) live low in
     λ κs x. (omega (arith, less.0, ap weight c.enter.ensures.entries), x)
 
 pub loop-child-preserved : goal.loop-child-preserved
@@ -22,30 +24,54 @@ loop-child-preserved g t c =
     let e = rest_more (λ x. x) _ _ _ c.in-Some.child c.in-Some.is c.next.ensures.steps in
     let live = rw e at c.loop-child.invariant.live in
     let low = rw e at c.loop-child.invariant.low in
-    let less = first_weighs_less c.in-Some.child c.next.new.self (weight (entries_of c.args.node.now)) live low in
+    let less = first_weighs_less c.in-Some.child c.next.new.self
+    (weight (entries_of c.args.node.now)) live low in
     record {
-      found = found_turn _ _ (values_of c.in-Some.child.1) _ _ (c.in_ok-all.ensures.found ∙ ap (λ es. map (λ (x : Bor g.row.V.Denot). x.now) c.loop-child.found.items ++ values_of es) c.enter.ensures.entries)
-          (ap (λ cs. map (λ (x : Bor g.row.V.Denot). x.now) c.loop-child.found.items ++ flat_map (λ child. values_of child.1) cs) (sym e) ∙ c.loop-child.invariant.found);
-      count = omega (arith, c.in_ok-all.ensures.count, ap (λ es. length (prefixes (keys_of es))) c.enter.ensures.entries, c.enter.ensures.count, ap (tallied (λ child. length (prefixes (keys_of child.1)))) e, c.loop-child.invariant.count);
+      found = found_turn _ _ (values_of c.in-Some.child.1) _ _
+          (c.in_ok-all.ensures.found
+          ∙ ap (λ es. map (λ (x : Bor g.row.V.Denot). x.now) c.loop-child.found.items
+          ++ values_of es) c.enter.ensures.entries)
+          (ap (λ cs. map (λ (x : Bor g.row.V.Denot). x.now) c.loop-child.found.items
+          ++ flat_map (λ child. values_of child.1) cs) (sym e)
+          ∙ c.loop-child.invariant.found);
+      count = omega (
+        arith,
+        c.in_ok-all.ensures.count,
+        ap (λ es. length (prefixes (keys_of es))) c.enter.ensures.entries,
+        c.enter.ensures.count,
+        ap (tallied (λ child. length (prefixes (keys_of child.1)))) e,
+        c.loop-child.invariant.count,
+      );
       low = less.1;
       live = live.1;
     }
 
 pub returns-clause-found : goal.returns-clause-found
 returns-clause-found g t c =
-    let none : c.loop-child.child-iterator ≡ [] = rest_all (λ x. x) _ _ _ c.in-None.is c.next.ensures.steps in
+    let none : c.loop-child.child-iterator ≡ [] =
+    rest_all (λ x. x) _ _ _ c.in-None.is c.next.ensures.steps in
     let node = c.args.node.now in
-    sym (append-nil _) ∙ ap (λ cs. map (λ (x : Bor g.row.V.Denot). x.now) c.loop-child.found.items ++ flat_map (λ child. values_of child.1) cs) (sym none) ∙ c.loop-child.invariant.found
-    ∙ ap (λ xs. xs ++ flat_map (λ child. values_of child.1) c.into_iter-child-iterator.result) c.in_ok-add_value.ensures
-    ∙ append_assoc (map (λ (x : Bor g.row.V.Denot). x.now) c.args.found.now.items) (values_of (own node.0)) (flat_map (λ child. values_of child.1) c.into_iter-child-iterator.result)
-    ∙ ap (λ xs. map (λ (x : Bor g.row.V.Denot). x.now) c.args.found.now.items ++ xs) (ap (λ cs. values_of (own node.0) ++ flat_map (λ child. values_of child.1) cs) (c.into_iter-child-iterator.ensures.into_iter_gives ∙ c.children-child-items.ensures.all) ∙ sym (all_values node))
+    sym (append-nil _)
+    ∙ ap (λ cs. map (λ (x : Bor g.row.V.Denot). x.now) c.loop-child.found.items
+    ++ flat_map (λ child. values_of child.1) cs) (sym none) ∙ c.loop-child.invariant.found
+    ∙ ap (λ xs. xs ++ flat_map (λ child. values_of child.1) c.into_iter-child-iterator.result)
+    c.in_ok-add_value.ensures
+    ∙ append_assoc (map (λ (x : Bor g.row.V.Denot). x.now) c.args.found.now.items)
+    (values_of (own node.0))
+    (flat_map (λ child. values_of child.1) c.into_iter-child-iterator.result)
+    ∙ ap (λ xs. map (λ (x : Bor g.row.V.Denot). x.now) c.args.found.now.items ++ xs)
+    (ap (λ cs. values_of (own node.0) ++ flat_map (λ child. values_of child.1) cs)
+    (c.into_iter-child-iterator.ensures.into_iter_gives ∙ c.children-child-items.ensures.all)
+    ∙ sym (all_values node))
 
 pub returns-clause-count : goal.returns-clause-count
 returns-clause-count g t c =
-    let end : c.loop-child.child-iterator ≡ [] = rest_all (λ x. x) _ _ _ c.in-None.is c.next.ensures.steps in
+    let end : c.loop-child.child-iterator ≡ [] =
+    rest_all (λ x. x) _ _ _ c.in-None.is c.next.ensures.steps in
     let node = c.args.node.now in
     let none = ap (tallied (λ child. length (prefixes (keys_of child.1)))) end in
-    let start = ap (tallied (λ child. length (prefixes (keys_of child.1)))) (c.into_iter-child-iterator.ensures.into_iter_gives ∙ c.children-child-items.ensures.all) in
+    let start = ap (tallied (λ child. length (prefixes (keys_of child.1))))
+    (c.into_iter-child-iterator.ensures.into_iter_gives ∙ c.children-child-items.ensures.all) in
     let all = all_met node c.children-child-items.ensures.children in
     let inv = c.loop-child.invariant.count in
     omega (arith, none, start, all, inv)

@@ -12,8 +12,12 @@ decreases-all g l = weight (entries_of l.node.now)
 abbrev pub invariant-loop-child : goal.invariant-loop-child
 invariant-loop-child g l =
     record {
-      found : map (λ x. x.now) l.found.items ++ flat_map (λ child. values_of child.1) l.child-iterator ≡ map (λ x. x.now) l.initial.found.items ++ flat_map (λ child. values_of child.1) l.initial.child-iterator;
-      count : l.steps + tallied (λ child. length (prefixes (keys_of child.1))) l.child-iterator ≡ l.initial.steps + tallied (λ child. length (prefixes (keys_of child.1))) l.initial.child-iterator;
+      found : map (λ x. x.now) l.found.items ++ flat_map (λ child. values_of child.1)
+          l.child-iterator ≡ map (λ x. x.now) l.initial.found.items
+          ++ flat_map (λ child. values_of child.1) l.initial.child-iterator;
+      count : l.steps + tallied (λ child. length (prefixes (keys_of child.1))) l.child-iterator
+          ≡ l.initial.steps + tallied (λ child. length (prefixes (keys_of child.1)))
+          l.initial.child-iterator;
       low : weight (below l.child-iterator) ≤ weight (entries_of l.node);
       live : NoneDead l.child-iterator;
     }

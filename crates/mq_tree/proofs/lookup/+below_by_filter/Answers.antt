@@ -1,4 +1,5 @@
-use Rattle.std.proofs.Common.{◌≡◌, [], ◌≢◌, ◌∷◌, ◌++◌, map, length, Bor, refl, sym, ap, ◌∙◌, arith, append-nil}
+use Rattle.std.proofs.Common.{◌≡◌, [], ◌≢◌, ◌∷◌, ◌++◌, map, length, Bor, refl, sym, ap, ◌∙◌, arith}
+use Rattle.std.proofs.Common.{append-nil}
 use Rattle.std.proofs.lemmas.Result.{on_ok_weaker}
 use Rattle.std.specs.Map.{keys_of}
 use Rattle.std.specs.List.{filter, flat_map}
@@ -8,32 +9,45 @@ use Rattle.mq_tree.specs.Below.{hash, plus, matches_below, meets_filter, values_
 use Rattle.mq_tree.specs.Nodes.{entries_of}
 use Rattle.mq_tree.specs.Prefixes.{prefixes}
 use Rattle.mq_tree.proofs.Turns.{text_is, text_is_not, text_is_same, text_differs}
-use Rattle.mq_tree.proofs.Filters.{end_found, end_met, hash_ends, hash_found, hash_met, exact_step, exact_met_step, not_key, plus_found, plus_met}
+use Rattle.mq_tree.proofs.Filters.{end_found, end_met, hash_ends, hash_found, hash_met, exact_step}
+use Rattle.mq_tree.proofs.Filters.{exact_met_step, not_key, plus_found, plus_met}
 use Rattle.mq_tree.proofs.Exact.{found_some, found_none, met_some, met_none}
 use Rattle.mq_tree.proofs.lookup.+below_by_filter.Goals as goal
 
 pub returns-in_default-clause-found : goal.returns-in_default-clause-found
 returns-in_default-clause-found g t c =
     let node = c.args.node.now in
-    on_ok_weaker c.add_value.result (λ e. e ∙ ap (λ xs. map (λ (x : Bor g.row.V.Denot). x.now) c.args.found.now.items ++ xs) (sym (ap (λ ls. values_at (matches_below ls) (entries_of node)) (ap levels_left c.in_default.is) ∙ end_found node))) c.add_value.ensures
+    on_ok_weaker c.add_value.result (λ e. e
+    ∙ ap (λ xs. map (λ (x : Bor g.row.V.Denot). x.now) c.args.found.now.items ++ xs)
+    (sym (ap (λ ls. values_at (matches_below ls) (entries_of node))
+    (ap levels_left c.in_default.is) ∙ end_found node))) c.add_value.ensures
 
 pub returns-in_default-clause-count : goal.returns-in_default-clause-count
 returns-in_default-clause-count g t c =
     let node = c.args.node.now in
-    let end = ap (λ ls. length (filter (meets_filter ls) (prefixes (keys_of (entries_of node))))) (ap levels_left c.in_default.is) ∙ end_met (entries_of node) in
+    let end = ap (λ ls. length (filter (meets_filter ls) (prefixes (keys_of (entries_of node)))))
+    (ap levels_left c.in_default.is) ∙ end_met (entries_of node) in
     on_ok_weaker c.add_value.result (λ e. omega (arith, end)) c.add_value.ensures
 
 pub returns-then-eq-clause-found : goal.returns-then-eq-clause-found
 returns-then-eq-clause-found g t c =
     let node = c.args.node.now in
-    let whole = hash_ends (levels_left c.args.wanted) c.split_first.result.0.now (levels_left c.split_first.result.1) (ap levels_left c.in-Some.is ∙ c.split_first.ensures) c.requires (text_is c.eq.result c.split_first.result.0.now 35 c.eq.ensures c.if-eq.true) in
-    on_ok_weaker c.all.result (λ e. e ∙ ap (λ xs. map (λ (x : Bor g.row.V.Denot). x.now) c.args.found.now.items ++ xs) (sym (ap (λ ls. values_at (matches_below ls) (entries_of node)) whole ∙ hash_found (entries_of node)))) c.all.ensures.found
+    let whole = hash_ends (levels_left c.args.wanted) c.split_first.result.0.now
+    (levels_left c.split_first.result.1) (ap levels_left c.in-Some.is ∙ c.split_first.ensures)
+    c.requires (text_is c.eq.result c.split_first.result.0.now 35 c.eq.ensures c.if-eq.true) in
+    on_ok_weaker c.all.result (λ e. e
+    ∙ ap (λ xs. map (λ (x : Bor g.row.V.Denot). x.now) c.args.found.now.items ++ xs)
+    (sym (ap (λ ls. values_at (matches_below ls) (entries_of node)) whole
+    ∙ hash_found (entries_of node)))) c.all.ensures.found
 
 pub returns-then-eq-clause-count : goal.returns-then-eq-clause-count
 returns-then-eq-clause-count g t c =
     let node = c.args.node.now in
-    let whole = hash_ends (levels_left c.args.wanted) c.split_first.result.0.now (levels_left c.split_first.result.1) (ap levels_left c.in-Some.is ∙ c.split_first.ensures) c.requires (text_is c.eq.result c.split_first.result.0.now 35 c.eq.ensures c.if-eq.true) in
-    let every = ap (λ ls. length (filter (meets_filter ls) (prefixes (keys_of (entries_of node))))) whole ∙ hash_met (entries_of node) in
+    let whole = hash_ends (levels_left c.args.wanted) c.split_first.result.0.now
+    (levels_left c.split_first.result.1) (ap levels_left c.in-Some.is ∙ c.split_first.ensures)
+    c.requires (text_is c.eq.result c.split_first.result.0.now 35 c.eq.ensures c.if-eq.true) in
+    let every = ap (λ ls. length (filter (meets_filter ls) (prefixes (keys_of (entries_of node)))))
+    whole ∙ hash_met (entries_of node) in
     on_ok_weaker c.all.result (λ e. omega (arith, e, every)) c.all.ensures.count
 
 pub returns-in-Some-child-clause-found : goal.returns-in-Some-child-clause-found
@@ -44,9 +58,14 @@ returns-in-Some-child-clause-found g t c =
     let child = c.in-Some-child.child.now in
     let h : level ≢ hash = text_is_not c.eq.result level 35 c.eq.ensures c.if-eq.false in
     let q : level ≢ plus = text_differs c.ne.result level 43 c.ne.ensures c.if-ne.true in
-    let all = ap (λ ls. values_at (matches_below ls) (entries_of node)) (ap levels_left c.in-Some.is ∙ c.split_first.ensures)
-    ∙ found_some (matches_below (level ∷ rest)) level (matches_below rest) (exact_step level rest h q) node c.in-Some-child.ensures.children (entries_of child) (not_key level rest h) c.in-Some-child.ensures.found in
-    on_ok_weaker c.below_by_filter.result (λ e. e ∙ ap (λ xs. map (λ (x : Bor g.row.V.Denot). x.now) c.args.found.now.items ++ xs) (sym all)) c.below_by_filter.ensures.found
+    let all = ap (λ ls. values_at (matches_below ls) (entries_of node))
+    (ap levels_left c.in-Some.is ∙ c.split_first.ensures)
+    ∙ found_some (matches_below (level ∷ rest)) level (matches_below rest)
+    (exact_step level rest h q) node c.in-Some-child.ensures.children (entries_of child)
+    (not_key level rest h) c.in-Some-child.ensures.found in
+    on_ok_weaker c.below_by_filter.result (λ e. e
+    ∙ ap (λ xs. map (λ (x : Bor g.row.V.Denot). x.now) c.args.found.now.items ++ xs)
+    (sym all)) c.below_by_filter.ensures.found
 
 pub returns-in-Some-child-clause-count : goal.returns-in-Some-child-clause-count
 returns-in-Some-child-clause-count g t c =
@@ -56,9 +75,13 @@ returns-in-Some-child-clause-count g t c =
     let child = c.in-Some-child.child.now in
     let h : level ≢ hash = text_is_not c.eq.result level 35 c.eq.ensures c.if-eq.false in
     let q : level ≢ plus = text_differs c.ne.result level 43 c.ne.ensures c.if-ne.true in
-    let all = ap (λ ls. length (filter (meets_filter ls) (prefixes (keys_of (entries_of node))))) (ap levels_left c.in-Some.is ∙ c.split_first.ensures)
-    ∙ met_some (meets_filter (level ∷ rest)) level (meets_filter rest) (exact_met_step level rest h q) node c.in-Some-child.ensures.children (entries_of child) refl c.in-Some-child.ensures.found in
-    on_ok_weaker c.below_by_filter.result (λ e. omega (arith, e, all, c.in-Some-child.ensures.count)) c.below_by_filter.ensures.count
+    let all = ap (λ ls. length (filter (meets_filter ls) (prefixes (keys_of (entries_of node)))))
+    (ap levels_left c.in-Some.is ∙ c.split_first.ensures)
+    ∙ met_some (meets_filter (level ∷ rest)) level (meets_filter rest)
+    (exact_met_step level rest h q) node c.in-Some-child.ensures.children (entries_of child)
+    refl c.in-Some-child.ensures.found in
+    on_ok_weaker c.below_by_filter.result
+    (λ e. omega (arith, e, all, c.in-Some-child.ensures.count)) c.below_by_filter.ensures.count
 
 pub returns-in-None-clause-found : goal.returns-in-None-clause-found
 returns-in-None-clause-found g t c =
@@ -67,9 +90,13 @@ returns-in-None-clause-found g t c =
     let rest = levels_left c.split_first.result.1 in
     let h : level ≢ hash = text_is_not c.eq.result level 35 c.eq.ensures c.if-eq.false in
     let q : level ≢ plus = text_differs c.ne.result level 43 c.ne.ensures c.if-ne.true in
-    let all = ap (λ ls. values_at (matches_below ls) (entries_of node)) (ap levels_left c.in-Some.is ∙ c.split_first.ensures)
-    ∙ found_none (matches_below (level ∷ rest)) level (matches_below rest) (exact_step level rest h q) node c.in-None.ensures.children (not_key level rest h) c.in-None.ensures.found in
-    sym (append-nil _) ∙ ap (λ xs. map (λ (x : Bor g.row.V.Denot). x.now) c.args.found.now.items ++ xs) (sym all)
+    let all = ap (λ ls. values_at (matches_below ls) (entries_of node))
+    (ap levels_left c.in-Some.is ∙ c.split_first.ensures)
+    ∙ found_none (matches_below (level ∷ rest)) level (matches_below rest)
+    (exact_step level rest h q) node c.in-None.ensures.children (not_key level rest h)
+    c.in-None.ensures.found in
+    sym (append-nil _)
+    ∙ ap (λ xs. map (λ (x : Bor g.row.V.Denot). x.now) c.args.found.now.items ++ xs) (sym all)
 
 pub returns-in-None-clause-count : goal.returns-in-None-clause-count
 returns-in-None-clause-count g t c =
@@ -78,30 +105,48 @@ returns-in-None-clause-count g t c =
     let rest = levels_left c.split_first.result.1 in
     let h : level ≢ hash = text_is_not c.eq.result level 35 c.eq.ensures c.if-eq.false in
     let q : level ≢ plus = text_differs c.ne.result level 43 c.ne.ensures c.if-ne.true in
-    let all = ap (λ ls. length (filter (meets_filter ls) (prefixes (keys_of (entries_of node))))) (ap levels_left c.in-Some.is ∙ c.split_first.ensures)
-    ∙ met_none (meets_filter (level ∷ rest)) level (meets_filter rest) (exact_met_step level rest h q) node c.in-None.ensures.children refl c.in-None.ensures.found in
+    let all = ap (λ ls. length (filter (meets_filter ls) (prefixes (keys_of (entries_of node)))))
+    (ap levels_left c.in-Some.is ∙ c.split_first.ensures)
+    ∙ met_none (meets_filter (level ∷ rest)) level (meets_filter rest)
+    (exact_met_step level rest h q) node c.in-None.ensures.children refl c.in-None.ensures.found
+    in
     omega (arith, all, c.in-None.ensures.count)
 
 pub returns-clause-found : goal.returns-clause-found
 returns-clause-found g t c =
-    let end : c.loop-child.child-iterator ≡ [] = rest_all (λ x. x) _ _ _ c.in-None-child.is c.next.ensures.steps in
+    let end : c.loop-child.child-iterator ≡ [] =
+    rest_all (λ x. x) _ _ _ c.in-None-child.is c.next.ensures.steps in
     let node = c.args.node.now in
     let level = c.split_first.result.0.now in
     let rest = levels_left c.split_first.result.1 in
     let q : level ≡ plus = text_is_same c.ne.result level 43 c.ne.ensures c.if-ne.false in
-    let all = ap (λ ls. values_at (matches_below ls) (entries_of node)) (ap levels_left c.in-Some.is ∙ c.split_first.ensures ∙ ap (λ l. l ∷ rest) q) ∙ plus_found node rest in
-    sym (append-nil _) ∙ ap (λ cs. map (λ (x : Bor g.row.V.Denot). x.now) c.loop-child.found.items ++ flat_map (λ child. values_at (matches_below rest) child.1) cs) (sym end) ∙ c.loop-child.invariant.found
-    ∙ ap (λ xs. map (λ (x : Bor g.row.V.Denot). x.now) c.args.found.now.items ++ xs) (ap (flat_map (λ child. values_at (matches_below rest) child.1)) (c.into_iter-child-iterator.ensures.into_iter_gives ∙ c.children-child-items.ensures.all) ∙ sym all)
+    let all = ap (λ ls. values_at (matches_below ls) (entries_of node))
+    (ap levels_left c.in-Some.is ∙ c.split_first.ensures ∙ ap (λ l. l ∷ rest) q)
+    ∙ plus_found node rest in
+    sym (append-nil _)
+    ∙ ap (λ cs. map (λ (x : Bor g.row.V.Denot). x.now) c.loop-child.found.items
+    ++ flat_map (λ child. values_at (matches_below rest) child.1) cs) (sym end)
+    ∙ c.loop-child.invariant.found
+    ∙ ap (λ xs. map (λ (x : Bor g.row.V.Denot). x.now) c.args.found.now.items ++ xs)
+    (ap (flat_map (λ child. values_at (matches_below rest) child.1))
+    (c.into_iter-child-iterator.ensures.into_iter_gives ∙ c.children-child-items.ensures.all)
+    ∙ sym all)
 
 pub returns-clause-count : goal.returns-clause-count
 returns-clause-count g t c =
-    let end : c.loop-child.child-iterator ≡ [] = rest_all (λ x. x) _ _ _ c.in-None-child.is c.next.ensures.steps in
+    let end : c.loop-child.child-iterator ≡ [] =
+    rest_all (λ x. x) _ _ _ c.in-None-child.is c.next.ensures.steps in
     let node = c.args.node.now in
     let level = c.split_first.result.0.now in
     let rest = levels_left c.split_first.result.1 in
     let q : level ≡ plus = text_is_same c.ne.result level 43 c.ne.ensures c.if-ne.false in
-    let all = ap (λ ls. length (filter (meets_filter ls) (prefixes (keys_of (entries_of node))))) (ap levels_left c.in-Some.is ∙ c.split_first.ensures ∙ ap (λ l. l ∷ rest) q) ∙ plus_met node rest c.children-child-items.ensures.children in
-    let none = ap (tallied (λ child. length (filter (meets_filter rest) (prefixes (keys_of child.1))))) end in
-    let start = ap (tallied (λ child. length (filter (meets_filter rest) (prefixes (keys_of child.1))))) (c.into_iter-child-iterator.ensures.into_iter_gives ∙ c.children-child-items.ensures.all) in
+    let all = ap (λ ls. length (filter (meets_filter ls) (prefixes (keys_of (entries_of node)))))
+    (ap levels_left c.in-Some.is ∙ c.split_first.ensures ∙ ap (λ l. l ∷ rest) q)
+    ∙ plus_met node rest c.children-child-items.ensures.children in
+    let none = ap
+    (tallied (λ child. length (filter (meets_filter rest) (prefixes (keys_of child.1))))) end in
+    let start = ap
+    (tallied (λ child. length (filter (meets_filter rest) (prefixes (keys_of child.1)))))
+    (c.into_iter-child-iterator.ensures.into_iter_gives ∙ c.children-child-items.ensures.all) in
     let inv = c.loop-child.invariant.count in
     omega (arith, none, start, all, inv)

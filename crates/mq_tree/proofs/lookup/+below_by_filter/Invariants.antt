@@ -13,7 +13,14 @@ abbrev pub invariant-loop-child : goal.invariant-loop-child
 invariant-loop-child g l =
     let rest = levels_left l.rest in
     record {
-      found : map (λ x. x.now) l.found.items ++ flat_map (λ child. values_at (matches_below rest) child.1) l.child-iterator ≡ map (λ x. x.now) l.initial.found.items ++ flat_map (λ child. values_at (matches_below rest) child.1) l.initial.child-iterator;
-      count : l.steps + tallied (λ child. length (filter (meets_filter rest) (prefixes (keys_of child.1)))) l.child-iterator ≡ l.initial.steps + tallied (λ child. length (filter (meets_filter rest) (prefixes (keys_of child.1)))) l.initial.child-iterator;
+      found : map (λ x. x.now) l.found.items ++ flat_map
+          (λ child. values_at (matches_below rest) child.1) l.child-iterator
+          ≡ map (λ x. x.now) l.initial.found.items
+          ++ flat_map (λ child. values_at (matches_below rest) child.1) l.initial.child-iterator;
+      count : l.steps + tallied
+          (λ child. length (filter (meets_filter rest) (prefixes (keys_of child.1))))
+          l.child-iterator ≡ l.initial.steps + tallied
+          (λ child. length (filter (meets_filter rest) (prefixes (keys_of child.1))))
+          l.initial.child-iterator;
       hash_last : HashLast rest;
     }

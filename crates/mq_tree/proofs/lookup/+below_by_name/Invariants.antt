@@ -15,7 +15,8 @@ invariant-loop-candidate g l =
     let left = gather one l.node.1 (map (λ x. x.now) (drop l.candidate-index l.candidate-items)) in
     let all = gather one l.node.1 (map (λ x. x.now) l.candidate-items) in
     record {
-      found : map (λ x. x.now) l.found.items ++ flat_map (found_at rest) left ≡ map (λ x. x.now) l.fn.found.items ++ flat_map (found_at rest) all;
+      found : map (λ x. x.now) l.found.items ++ flat_map (found_at rest) left
+          ≡ map (λ x. x.now) l.fn.found.items ++ flat_map (found_at rest) all;
       count : l.steps + tallied (met_at rest) left ≡ l.fn.steps + tallied (met_at rest) all;
       plain : ArePlain rest;
     }

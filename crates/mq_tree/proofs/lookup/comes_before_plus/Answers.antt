@@ -5,4 +5,5 @@ use Rattle.mq_tree.proofs.lookup.comes_before_plus.Goals as goal
 
 pub returns-in-len1-up : goal.returns-in-len1-up
 returns-in-len1-up c =
-    before_byte c.as_bytes.result.now 43 c.in-len1-up.len_at_least ∙ ap (λ l. is_before l plus) c.as_bytes.ensures.value
+    before_byte c.as_bytes.result.now 43 c.in-len1-up.len_at_least
+    ∙ ap (λ l. is_before l plus) c.as_bytes.ensures.value

@@ -47,8 +47,10 @@ impl<V> Node<V> {
     ) -> Result<Option<V>, AllocError>
     where
         V: Drop,
-        ensures older { IfOk result (λ older. older ≡ lookup (is_key (levels_left key.entry)) (entries_of self.old)) }
-        ensures ok { OnOk result (entries_of self.new ≡ insert_entry level_order (entries_of self.old) (levels_left key.entry) value) }
+        ensures older { IfOk result (λ older. older ≡ lookup (is_key (levels_left key.entry))
+            (entries_of self.old)) }
+        ensures ok { OnOk result (entries_of self.new
+            ≡ insert_entry level_order (entries_of self.old) (levels_left key.entry) value) }
         ensures err { OnErr result (entries_of self.new ≡ entries_of self.old) }
         ensures absent { OnErr result (lookup (is_key (levels_left key.entry)) (entries_of self.old) ≡ None) }
     {
@@ -69,7 +71,8 @@ impl<V> Node<V> {
     where
         V: Drop,
         ensures value { result ≡ lookup (is_key (levels_left key.entry)) (entries_of self.old) }
-        ensures rest { entries_of self.new ≡ remove_entry (is_key (levels_left key.entry)) (entries_of self.old) }
+        ensures rest { entries_of self.new ≡ remove_entry (is_key (levels_left key.entry))
+            (entries_of self.old) }
     {
         let Some(key) = key else {
             return self.value.take();
@@ -107,7 +110,8 @@ fn grow<V: Drop>(
 
 // Takes out the child at a level, in a function of its own so that its drop joins no paths of the caller.
 fn cut<V: Drop>(children: &mut BTreeMap<String, Box<Node<V>>>, level: &str)
-    ensures entries { children.new.entries ≡ remove_entry (is_at (λ s. slice_cmp nat_cmp level.now (string_bytes s))) children.old.entries }
+    ensures entries { children.new.entries ≡ remove_entry
+        (is_at (λ s. slice_cmp nat_cmp level.now (string_bytes s))) children.old.entries }
     ensures ordered { IsOrdered string_cmp children.new }
 {
     children.remove(level);
@@ -121,7 +125,8 @@ fn hang<V: Drop>(
     branch: Node<V>,
 ) -> Result<(), AllocError>
     ensures ok { OnOk result (children_of children.new.entries
-        ≡ insert_entry (slice_cmp nat_cmp) (children_of children.old.entries) (string_bytes level) (entries_of branch)) }
+        ≡ insert_entry (slice_cmp nat_cmp) (children_of children.old.entries) (string_bytes level)
+        (entries_of branch)) }
     ensures err { OnErr result (children.new.entries ≡ children.old.entries) }
     ensures ordered { OnOk result (IsOrdered string_cmp children.new) }
 {

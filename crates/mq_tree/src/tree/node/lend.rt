@@ -19,7 +19,8 @@ pub(in crate::tree) trait Descend<V> {
     fn descend<'a>(node: &'a mut Node<V>, key: Option<&str>) -> Option<&'a mut V>
         requires { reach (length (levels_left key)) }
         ensures* writes_back { sem 𝓛 (LendsIn V.row node.entry (levels_left key.entry) result) }
-        ensures value { option_copied_mut result ≡ lookup (is_key (levels_left key.entry)) (entries_of node.old) };
+        ensures value { option_copied_mut result
+            ≡ lookup (is_key (levels_left key.entry)) (entries_of node.old) };
 }
 
 /// Goes on by `Node::lend` itself, however many levels are left.
@@ -40,7 +41,8 @@ impl<V> Node<V> {
     /// leads to stays one.
     pub(in crate::tree) fn get_mut(&mut self, key: Option<&str>) -> Option<&mut V>
         ensures* writes_back { sem 𝓛 (LendsIn V.row self.entry (levels_left key.entry) result) }
-        ensures value { option_copied_mut result ≡ lookup (is_key (levels_left key.entry)) (entries_of self.old) }
+        ensures value { option_copied_mut result
+            ≡ lookup (is_key (levels_left key.entry)) (entries_of self.old) }
     {
         self.lend::<Down>(key)
     }
@@ -48,7 +50,8 @@ impl<V> Node<V> {
     fn lend<D: Descend<V>>(&mut self, key: Option<&str>) -> Option<&mut V>
         requires { (n : ℕ) → length (levels_left key) ≡ n + 1 → D.reach n }
         ensures* writes_back { sem 𝓛 (LendsIn V.row self.entry (levels_left key.entry) result) }
-        ensures value { option_copied_mut result ≡ lookup (is_key (levels_left key.entry)) (entries_of self.old) }
+        ensures value { option_copied_mut result
+            ≡ lookup (is_key (levels_left key.entry)) (entries_of self.old) }
     {
         let Some(key) = key else {
             return self.value.as_mut();

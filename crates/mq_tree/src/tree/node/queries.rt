@@ -14,7 +14,8 @@ use mq_topic::split_first;
 impl<V> Node<V> {
     /// The value at the key, of which these levels are left.
     pub(in crate::tree) fn get(&self, key: Option<&str>) -> Option<&V>
-        ensures { option_copied result ≡ lookup (is_key (levels_left key.entry)) (entries_of self.now) }
+        ensures { option_copied result ≡ lookup (is_key (levels_left key.entry))
+            (entries_of self.now) }
     {
         let Some(key) = key else {
             return self.value.as_ref();

@@ -9,8 +9,10 @@ pub print-requires : goal.print-requires
 print-requires c = λ follows.
     let s = c.loop-delivery.self in
     elim c.match-before.branch [
-      | in-Some w ↦ behind c.args.line (copy_of w.in-Some.before.now) (copy_of c.delivery-item.result) s.plain s.with_ids s.with_expiry s.with_group
-          (w.is_alike-follows.ensures (subst IsTrue w.follows-is follows)) (rw w.in-Some.is at c.loop-delivery.invariant.kept)
+      | in-Some w ↦ behind c.args.line (copy_of w.in-Some.before.now)
+          (copy_of c.delivery-item.result) s.plain s.with_ids s.with_expiry s.with_group
+          (w.is_alike-follows.ensures (subst IsTrue w.follows-is follows))
+          (rw w.in-Some.is at c.loop-delivery.invariant.kept)
       | in-None w ↦ absurd (true≢false (sym (subst IsTrue w.follows-is follows)))
     ]
 

@@ -8,7 +8,9 @@ pub invariant_of-self : goal.invariant_of-self
 invariant_of-self c =
     record {
       no_float = on_either c.insert.result c.insert.ensures.entries c.insert.ensures.err
-          (λ e. rw (e, members_view-insert_entry) (put_none (string_bytes c.in_ok-name.name) (view c.args.value) _ c.requires c.args.self.now.no_float))
+          (λ e. rw (e, members_view-insert_entry)
+          (put_none (string_bytes c.in_ok-name.name) (view c.args.value) _ c.requires
+          c.args.self.now.no_float))
           (λ e. rw e c.args.self.now.no_float);
     }
 

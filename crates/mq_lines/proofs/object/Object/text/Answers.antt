@@ -15,9 +15,14 @@ invariant_of-self c =
     let v = c.in-Some.slot.now in
     let w = c.set_text.new.slot in
     let found = sym c.get_mut.ensures.value ∙ ap option_copied_mut c.in-Some.is in
-    let set = ap members_view (c.get_mut.follows.holds w).0 ∙ set_is_put name es v w c.get_mut.ensures.ordered found in
-    let none = on_either c.set_text.result c.set_text.ensures.ok c.set_text.ensures.err (λ e. ap has_float e) (λ f. f (found_none name es v found c.args.self.now.no_float)) in
-    record { no_float = ap members_have_float set ∙ put_none name (view w) (members_view es) none c.args.self.now.no_float }
+    let set = ap members_view (c.get_mut.follows.holds w).0
+    ∙ set_is_put name es v w c.get_mut.ensures.ordered found in
+    let none = on_either c.set_text.result c.set_text.ensures.ok c.set_text.ensures.err
+    (λ e. ap has_float e) (λ f. f (found_none name es v found c.args.self.now.no_float)) in
+    record {
+      no_float = ap members_have_float set
+          ∙ put_none name (view w) (members_view es) none c.args.self.now.no_float;
+    }
 
 pub returns-in-Some : goal.returns-in-Some
 returns-in-Some c =
@@ -25,5 +30,7 @@ returns-in-Some c =
     let es = c.args.self.now.members.entries in
     let w = c.set_text.new.slot in
     let found = sym c.get_mut.ensures.value ∙ ap option_copied_mut c.in-Some.is in
-    let set = ap members_view (c.get_mut.follows.holds w).0 ∙ set_is_put name es c.in-Some.slot.now w c.get_mut.ensures.ordered found in
-    on_ok_weaker c.set_text.result (λ e. set ∙ ap (λ d. put name d (members_view es)) e) c.set_text.ensures.ok
+    let set = ap members_view (c.get_mut.follows.holds w).0
+    ∙ set_is_put name es c.in-Some.slot.now w c.get_mut.ensures.ordered found in
+    on_ok_weaker c.set_text.result (λ e. set ∙ ap (λ d. put name d (members_view es)) e)
+    c.set_text.ensures.ok

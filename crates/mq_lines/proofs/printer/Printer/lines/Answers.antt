@@ -9,5 +9,6 @@ returns-in_err-print_all-clause-err c =
 
 pub returns-in_err-closing-clause-err : goal.returns-in_err-closing-clause-err
 returns-in_err-closing-clause-err c =
-    let fault = err_from_is_err_and c.from_residual-in_err-closing.result c.from_residual-in_err-closing.ensures.1 in
+    let fault = err_from_is_err_and c.from_residual-in_err-closing.result
+    c.from_residual-in_err-closing.ensures.1 in
     rw fault.1 (_, c.in_err-closing.ensures.err ∙ c.in_ok-print_all.ensures.ok)

@@ -12,47 +12,59 @@ use Rattle.mq_retained.proofs.retained.Retained.publish.Goals as goal
 pub returns-then-not-is_stored-clause-near : goal.returns-then-not-is_stored-clause-near
 returns-then-not-is_stored-clause-near c = λ moment due near.
     subst (λ retained. AreNear moment retained) (sym c.in_ok-forget.ensures.ok)
-    (near-filter moment (λ kept. not (has_topic c.args.message.now.topic.now kept)) (retained_in c.self.inside.tree)
+    (near-filter moment (λ kept. not (has_topic c.args.message.now.topic.now kept))
+    (retained_in c.self.inside.tree)
     (subst (λ (k : KeptRetained). AreNear moment k.messages) (sym c.self.view_is) near))
 
 pub returns-clause-near : goal.returns-clause-near
 returns-clause-near c = λ moment due near.
-    let kept : Retained = stored_until c.args.message.now.deadline (message_of c.args.message.now) in
+    let kept : Retained = stored_until c.args.message.now.deadline (message_of c.args.message.now)
+    in
     subst (λ retained. AreNear moment retained) (sym c.in_ok-store.ensures.ok)
     (near-with_row moment kept (retained_in c.self.inside.tree) due
     (subst (λ (k : KeptRetained). AreNear moment k.messages) (sym c.self.view_is) near))
 
 pub returns-then-not-message-clause-ok : goal.returns-then-not-message-clause-ok
-returns-then-not-message-clause-ok c = λ moment same. sym (after-unretained moment c.args.self.now.messages (message_of c.args.message.now) c.if-not-message.true)
+returns-then-not-message-clause-ok c =
+    λ moment same. sym (after-unretained moment c.args.self.now.messages
+    (message_of c.args.message.now) c.if-not-message.true)
 
 pub returns-then-not-is_stored-clause-ok : goal.returns-then-not-is_stored-clause-ok
 returns-then-not-is_stored-clause-ok c = λ now same.
     let m : Message = message_of c.args.message.now in
     c.in_ok-forget.ensures.ok
-    ∙ sym (after-by now (retained_in c.self.inside.tree) m false c.if-not-message.false (sym c.is_stored.ensures ∙ c.if-not-is_stored.true))
+    ∙ sym (after-by now (retained_in c.self.inside.tree) m false c.if-not-message.false
+    (sym c.is_stored.ensures ∙ c.if-not-is_stored.true))
     ∙ ap (λ (k : KeptRetained). retained_after now k.messages m) c.self.view_is
 
 pub returns-clause-ok : goal.returns-clause-ok
 returns-clause-ok c = λ now same.
     let m : Message = message_of c.args.message.now in
-    let kept : Option ℕ → List Retained = λ deadline. with_row retained_cmp (stored_until deadline m) (retained_in c.self.inside.tree) in
+    let kept : Option ℕ → List Retained =
+    λ deadline. with_row retained_cmp (stored_until deadline m) (retained_in c.self.inside.tree)
+    in
     c.in_ok-store.ensures.ok
     ∙ ap kept same
-    ∙ sym (after-by now (retained_in c.self.inside.tree) m true c.if-not-message.false (sym c.is_stored.ensures ∙ c.if-not-is_stored.false))
+    ∙ sym (after-by now (retained_in c.self.inside.tree) m true c.if-not-message.false
+    (sym c.is_stored.ensures ∙ c.if-not-is_stored.false))
     ∙ ap (λ (k : KeptRetained). retained_after now k.messages m) c.self.view_is
 
 pub returns-then-not-is_stored-clause-filed : goal.returns-then-not-is_stored-clause-filed
-returns-then-not-is_stored-clause-filed c = λ old. sound-filed c.forget.new.tree c.forget.new.deadlines c.in_ok-forget.ensures.sound
+returns-then-not-is_stored-clause-filed c =
+    λ old. sound-filed c.forget.new.tree c.forget.new.deadlines c.in_ok-forget.ensures.sound
 
 pub returns-clause-filed : goal.returns-clause-filed
-returns-clause-filed c = λ old. sound-filed c.store.new.tree c.store.new.deadlines c.in_ok-store.ensures.sound
+returns-clause-filed c = λ old. sound-filed c.store.new.tree c.store.new.deadlines
+    c.in_ok-store.ensures.sound
 
 pub returns-in_err-forget-clause-err : goal.returns-in_err-forget-clause-err
 returns-in_err-forget-clause-err c =
     on_err c.from_residual.result
-    (same-kept c.self.inside.tree c.forget.new.tree c.self.inside.deadlines c.forget.new.deadlines c.in_err-forget.ensures.err.0 c.in_err-forget.ensures.err.1 ∙ c.self.view_is)
+    (same-kept c.self.inside.tree c.forget.new.tree c.self.inside.deadlines c.forget.new.deadlines
+    c.in_err-forget.ensures.err.0 c.in_err-forget.ensures.err.1 ∙ c.self.view_is)
 
 pub returns-in_err-store-clause-err : goal.returns-in_err-store-clause-err
 returns-in_err-store-clause-err c =
     on_err c.from_residual-in_err-store.result
-    (same-kept c.self.inside.tree c.store.new.tree c.self.inside.deadlines c.store.new.deadlines c.in_err-store.ensures.err.0 c.in_err-store.ensures.err.1 ∙ c.self.view_is)
+    (same-kept c.self.inside.tree c.store.new.tree c.self.inside.deadlines c.store.new.deadlines
+    c.in_err-store.ensures.err.0 c.in_err-store.ensures.err.1 ∙ c.self.view_is)

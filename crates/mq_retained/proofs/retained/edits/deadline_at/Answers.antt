@@ -8,10 +8,14 @@ use Rattle.mq_retained.proofs.retained.edits.deadline_at.Goals as goal
 pub returns-in_err-get : goal.returns-in_err-get
 returns-in_err-get c =
     c.from_residual.ensures
-    ∙ ap (λ o. option_and_then (λ (kept : Retained). kept.deadline) (option_map message_in o)) c.in_err-get.ensures
-    ∙ ap (option_and_then (λ (kept : Retained). kept.deadline)) (found-retained c.args.topic.now c.args.tree.now c.requires)
+    ∙ ap (λ o. option_and_then (λ (kept : Retained). kept.deadline) (option_map message_in o))
+    c.in_err-get.ensures
+    ∙ ap (option_and_then (λ (kept : Retained). kept.deadline))
+    (found-retained c.args.topic.now c.args.tree.now c.requires)
 
 pub returns : goal.returns
 returns c =
-    ap (λ o. option_and_then (λ (kept : Retained). kept.deadline) (option_map message_in o)) c.in_ok-get.ensures
-    ∙ ap (option_and_then (λ (kept : Retained). kept.deadline)) (found-retained c.args.topic.now c.args.tree.now c.requires)
+    ap (λ o. option_and_then (λ (kept : Retained). kept.deadline) (option_map message_in o))
+    c.in_ok-get.ensures
+    ∙ ap (option_and_then (λ (kept : Retained). kept.deadline))
+    (found-retained c.args.topic.now c.args.tree.now c.requires)

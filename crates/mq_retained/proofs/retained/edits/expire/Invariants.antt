@@ -7,8 +7,10 @@ use Rattle.mq_retained.proofs.retained.edits.expire.Given as goal
 abbrev pub invariant-loop-topic : goal.invariant-loop-topic
 invariant-loop-topic l = record {
   sound : IsSound l.tree l.deadlines;
-  rest : filter (λ kept. not (is_due l.moment kept)) (retained_in l.tree) ≡ filter (λ kept. not (is_due l.moment kept)) (retained_in l.initial.tree);
-  count : l.steps + length (filter (is_due l.moment) (retained_in l.tree)) ≡ l.initial.steps + length (filter (is_due l.moment) (retained_in l.initial.tree));
+  rest : filter (λ kept. not (is_due l.moment kept)) (retained_in l.tree)
+      ≡ filter (λ kept. not (is_due l.moment kept)) (retained_in l.initial.tree);
+  count : l.steps + length (filter (is_due l.moment) (retained_in l.tree)) ≡ l.initial.steps
+      + length (filter (is_due l.moment) (retained_in l.initial.tree));
 }
 
 -- each turn takes a message out

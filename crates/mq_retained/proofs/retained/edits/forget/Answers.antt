@@ -13,7 +13,9 @@ returns-clause-sound c =
     subst (λ (tree : Entries Stored). IsSound tree c.remove.new.self) (sym c.take.ensures.rest)
     (taken-sound topic c.args.tree.now c.args.deadlines.now c.remove.new.self c.requires
     (subst (λ (older : Option Pair). Drops older c.args.deadlines.now c.remove.new.self)
-    (c.in_ok-older.ensures ∙ ap (λ d. pair_at d topic) c.deadline_at-deadline.ensures) c.remove.ensures))
+    (c.in_ok-older.ensures ∙ ap (λ d. pair_at d topic) c.deadline_at-deadline.ensures)
+    c.remove.ensures))
 
 pub returns-clause-ok : goal.returns-clause-ok
-returns-clause-ok c = ap retained_in c.take.ensures.rest ∙ take-retained c.args.topic.now c.args.tree.now c.requires.placed c.requires.ordered
+returns-clause-ok c = ap retained_in c.take.ensures.rest
+    ∙ take-retained c.args.topic.now c.args.tree.now c.requires.placed c.requires.ordered

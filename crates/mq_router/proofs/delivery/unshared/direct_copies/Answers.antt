@@ -21,12 +21,15 @@ loop-own-preserved c =
     let S = c.args.readers.now.sessions.now in
     let held = c.loop-own.invariant in
     let first =
-    next-client _ c.loop-own.own-iterator c.next.new.self c.next.result c.in-Some.own _ c.in-Some.is c.next.ensures.steps
+    next-client _ c.loop-own.own-iterator c.next.new.self c.next.result c.in-Some.own _ c.in-Some.is
+    c.next.ensures.steps
     (answers_always _ _ _ (λ f a r g h. search rules)) held.sorted in
     let step =
-    nowhere-first c.args.limit A S m c.args.outgoing.now.message.deadline _ c.way.result c.way.ensures.sent c.way.ensures.waits
+    nowhere-first c.args.limit A S m c.args.outgoing.now.message.deadline _ c.way.result
+    c.way.ensures.sent c.way.ensures.waits
     (map copy_of c.loop-own.copies.items) (map begin_of c.loop-own.begun.items)
-    (by_client (matched (chunk_by_rest c.next.new.self))) (by_client (matched (chunk_by_rest c.loop-own.own-iterator))) first.1
+    (by_client (matched (chunk_by_rest c.next.new.self)))
+    (by_client (matched (chunk_by_rest c.loop-own.own-iterator))) first.1
     c.in-Nowhere.is in
     record { sorted = first.0; copies = step.0 ∙ held.copies; begun = step.1 ∙ held.begun }
 
@@ -37,20 +40,27 @@ loop-own-preserved-in_default c =
     let S = c.args.readers.now.sessions.now in
     let held = c.loop-own.invariant in
     let first =
-    next-client _ c.loop-own.own-iterator c.next.new.self c.next.result c.in-Some.own _ c.in-Some.is c.next.ensures.steps
+    next-client _ c.loop-own.own-iterator c.next.new.self c.next.result c.in-Some.own _ c.in-Some.is
+    c.next.ensures.steps
     (answers_always _ _ _ (λ f a r g h. search rules)) held.sorted in
     let step =
-    waits-first c.args.limit A S m c.args.outgoing.now.message.deadline _ c.way.result c.way.ensures.sent c.way.ensures.waits
+    waits-first c.args.limit A S m c.args.outgoing.now.message.deadline _ c.way.result
+    c.way.ensures.sent c.way.ensures.waits
     (map copy_of c.loop-own.copies.items) (map begin_of c.loop-own.begun.items)
-    (by_client (matched (chunk_by_rest c.next.new.self))) (by_client (matched (chunk_by_rest c.loop-own.own-iterator))) first.1
+    (by_client (matched (chunk_by_rest c.next.new.self)))
+    (by_client (matched (chunk_by_rest c.loop-own.own-iterator))) first.1
     c.in-Waits.is (option_map begin_of c.in_ok-one-in-Waits.field-0)
-    (c.in_ok-one-in-Waits.ensures ∙ ap (λ k. option_map (begin_with k.client c.args.outgoing.now.message.deadline) (with_qos k)) c.in_ok-copy-in-Waits.ensures) in
-    let left = begins_by c.args.limit A S m c.args.outgoing.now.message.deadline (by_client (matched (chunk_by_rest c.next.new.self))) in
+    (c.in_ok-one-in-Waits.ensures
+    ∙ ap (λ k. option_map (begin_with k.client c.args.outgoing.now.message.deadline)
+    (with_qos k)) c.in_ok-copy-in-Waits.ensures) in
+    let left = begins_by c.args.limit A S m c.args.outgoing.now.message.deadline
+    (by_client (matched (chunk_by_rest c.next.new.self))) in
     record {
       sorted = first.0;
       copies = step.0 ∙ held.copies;
       begun = ap (λ l. l ++ left) (sym (append-nil (map begin_of c.loop-own.begun.items)))
-          ∙ ap (λ o. (map begin_of c.loop-own.begun.items ++ option_to_list (option_map begin_of o)) ++ left) (sym c.in_default.is)
+          ∙ ap (λ o. (map begin_of c.loop-own.begun.items ++ option_to_list (option_map begin_of o))
+          ++ left) (sym c.in_default.is)
           ∙ step.1 ∙ held.begun;
     }
 
@@ -61,13 +71,16 @@ loop-own-preserved-in_ok-push-in-Sent c =
     let S = c.args.readers.now.sessions.now in
     let held = c.loop-own.invariant in
     let first =
-    next-client _ c.loop-own.own-iterator c.next.new.self c.next.result c.in-Some.own _ c.in-Some.is c.next.ensures.steps
+    next-client _ c.loop-own.own-iterator c.next.new.self c.next.result c.in-Some.own _ c.in-Some.is
+    c.next.ensures.steps
     (answers_always _ _ _ (λ f a r g h. search rules)) held.sorted in
     let copy = c.in_ok-own_copy-in-Sent.field-0 in
     let step =
-    sent-first c.args.limit A S m c.args.outgoing.now.message.deadline _ c.way.result c.way.ensures.sent c.way.ensures.waits
+    sent-first c.args.limit A S m c.args.outgoing.now.message.deadline _ c.way.result
+    c.way.ensures.sent c.way.ensures.waits
     (map copy_of c.loop-own.copies.items) (map begin_of c.loop-own.begun.items)
-    (by_client (matched (chunk_by_rest c.next.new.self))) (by_client (matched (chunk_by_rest c.loop-own.own-iterator))) first.1
+    (by_client (matched (chunk_by_rest c.next.new.self)))
+    (by_client (matched (chunk_by_rest c.loop-own.own-iterator))) first.1
     c.in-Sent.is (copy_of copy) c.in_ok-own_copy-in-Sent.ensures in
     let left = copies_by A S m (by_client (matched (chunk_by_rest c.next.new.self))) in
     record {
@@ -85,21 +98,28 @@ loop-own-preserved-in_ok-push-in-Waits c =
     let S = c.args.readers.now.sessions.now in
     let held = c.loop-own.invariant in
     let first =
-    next-client _ c.loop-own.own-iterator c.next.new.self c.next.result c.in-Some.own _ c.in-Some.is c.next.ensures.steps
+    next-client _ c.loop-own.own-iterator c.next.new.self c.next.result c.in-Some.own _ c.in-Some.is
+    c.next.ensures.steps
     (answers_always _ _ _ (λ f a r g h. search rules)) held.sorted in
     let one = c.in-Some-2.one in
     let step =
-    waits-first c.args.limit A S m c.args.outgoing.now.message.deadline _ c.way.result c.way.ensures.sent c.way.ensures.waits
+    waits-first c.args.limit A S m c.args.outgoing.now.message.deadline _ c.way.result
+    c.way.ensures.sent c.way.ensures.waits
     (map copy_of c.loop-own.copies.items) (map begin_of c.loop-own.begun.items)
-    (by_client (matched (chunk_by_rest c.next.new.self))) (by_client (matched (chunk_by_rest c.loop-own.own-iterator))) first.1
+    (by_client (matched (chunk_by_rest c.next.new.self)))
+    (by_client (matched (chunk_by_rest c.loop-own.own-iterator))) first.1
     c.in-Waits.is (option_map begin_of c.in_ok-one-in-Waits.field-0)
-    (c.in_ok-one-in-Waits.ensures ∙ ap (λ k. option_map (begin_with k.client c.args.outgoing.now.message.deadline) (with_qos k)) c.in_ok-copy-in-Waits.ensures) in
-    let left = begins_by c.args.limit A S m c.args.outgoing.now.message.deadline (by_client (matched (chunk_by_rest c.next.new.self))) in
+    (c.in_ok-one-in-Waits.ensures
+    ∙ ap (λ k. option_map (begin_with k.client c.args.outgoing.now.message.deadline)
+    (with_qos k)) c.in_ok-copy-in-Waits.ensures) in
+    let left = begins_by c.args.limit A S m c.args.outgoing.now.message.deadline
+    (by_client (matched (chunk_by_rest c.next.new.self))) in
     record {
       sorted = first.0;
       copies = step.0 ∙ held.copies;
       begun = ap (λ l. map begin_of l ++ left) c.in_ok-push-in-Waits.ensures.items
           ∙ ap (λ l. l ++ left) (map-append begin_of c.loop-own.begun.items (one ∷ []))
-          ∙ ap (λ o. (map begin_of c.loop-own.begun.items ++ option_to_list (option_map begin_of o)) ++ left) (sym c.in-Some-2.is)
+          ∙ ap (λ o. (map begin_of c.loop-own.begun.items ++ option_to_list (option_map begin_of o))
+          ++ left) (sym c.in-Some-2.is)
           ∙ step.1 ∙ held.begun;
     }

@@ -11,8 +11,14 @@ use Rattle.mq_router.proofs.delivery.unshared.direct_copies.Given as goal
 abbrev pub invariant-loop-own : goal.invariant-loop-own
 invariant-loop-own l = record {
   sorted : AreByClient (matched (chunk_by_rest l.own-iterator));
-  copies : map copy_of l.copies.items ++ copies_by l.readers.access.now l.readers.sessions.now (message_of l.outgoing.message) (by_client (matched (chunk_by_rest l.own-iterator)))
-      ≡ copies_by l.readers.access.now l.readers.sessions.now (message_of l.outgoing.message) (by_client (matched l.fn.matches));
-  begun : map begin_of l.begun.items ++ begins_by l.limit l.readers.access.now l.readers.sessions.now (message_of l.outgoing.message) l.outgoing.message.deadline (by_client (matched (chunk_by_rest l.own-iterator)))
-      ≡ begins_by l.limit l.readers.access.now l.readers.sessions.now (message_of l.outgoing.message) l.outgoing.message.deadline (by_client (matched l.fn.matches));
+  copies : map copy_of l.copies.items ++ copies_by l.readers.access.now l.readers.sessions.now
+      (message_of l.outgoing.message) (by_client (matched (chunk_by_rest l.own-iterator)))
+      ≡ copies_by l.readers.access.now l.readers.sessions.now (message_of l.outgoing.message)
+      (by_client (matched l.fn.matches));
+  begun : map begin_of l.begun.items ++ begins_by l.limit l.readers.access.now
+      l.readers.sessions.now (message_of l.outgoing.message) l.outgoing.message.deadline
+      (by_client (matched (chunk_by_rest l.own-iterator)))
+      ≡ begins_by l.limit l.readers.access.now l.readers.sessions.now
+      (message_of l.outgoing.message) l.outgoing.message.deadline
+      (by_client (matched l.fn.matches));
 }

@@ -20,11 +20,15 @@ returns-in_default-clause-applied c =
 
 pub invariant_of-self : goal.invariant_of-self
 invariant_of-self c =
-    let later : c.self.inside.clock.moment ≤ c.in-Some.clock.moment = omega (arith, c.in-Some.ensures.some) in (
+    let later : c.self.inside.clock.moment ≤ c.in-Some.clock.moment =
+    omega (arith, c.in-Some.ensures.some) in (
       subst (λ retained. AreNear c.in-Some.clock.moment retained) (sym c.advance.ensures.rest)
-          (near-later c.self.inside.clock.moment c.in-Some.clock.moment _ c.self.inside.retained.messages later c.self.invariant.0),
+          (near-later c.self.inside.clock.moment c.in-Some.clock.moment _
+          c.self.inside.retained.messages later c.self.invariant.0),
       subst (AllReached c.in-Some.clock.moment) (sym c.end.ensures)
-          (reached-later c.self.inside.clock.moment c.in-Some.clock.moment (λ session. not (has_ended c.in-Some.clock.moment session)) c.self.inside.sessions later c.self.invariant.1),
+          (reached-later c.self.inside.clock.moment c.in-Some.clock.moment
+          (λ session. not (has_ended c.in-Some.clock.moment session)) c.self.inside.sessions
+          later c.self.invariant.1),
     )
 
 pub returns-clause-applied : goal.returns-clause-applied
@@ -32,7 +36,19 @@ returns-clause-applied c =
     let s : State = state_of c.self.inside in
     let kept = c.advance.new.self in
     let subs = c.remove_ended.new.subscriptions in
-    let new : State = record s { moment = c.in-Some.clock.moment; sessions = c.end.new.self; subscriptions = subs.rows; filter_keys = subs.keys; retained = kept.messages; topic_keys = kept.keys; deadlines = kept.pairs } in
-    subst (λ (v : State). Does v (Advance c.args.seconds) (reply_of c.with_reason.result) new) c.self.view_is
-    (advance-does s c.args.seconds c.in-Some.clock.moment c.end.new.self subs kept _ c.in-Some.clock.within c.in-Some.ensures.some c.end.ensures c.remove_ended.ensures.rows c.remove_ended.ensures.keys
+    let new : State = record s {
+      moment = c.in-Some.clock.moment;
+      sessions = c.end.new.self;
+      subscriptions = subs.rows;
+      filter_keys = subs.keys;
+      retained = kept.messages;
+      topic_keys =
+          kept.keys;
+      deadlines = kept.pairs;
+    } in
+    subst (λ (v : State). Does v (Advance c.args.seconds) (reply_of c.with_reason.result) new)
+    c.self.view_is
+    (advance-does s c.args.seconds c.in-Some.clock.moment c.end.new.self subs kept _
+    c.in-Some.clock.within c.in-Some.ensures.some c.end.ensures c.remove_ended.ensures.rows
+    c.remove_ended.ensures.keys
     c.advance.ensures.rest c.advance.ensures.filed c.with_reason.ensures)

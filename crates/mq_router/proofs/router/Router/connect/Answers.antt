@@ -15,11 +15,15 @@ use Rattle.mq_sessions.proofs.ResumeLemmas.{resumes-none, resumes-some, resumed-
 use Rattle.mq_router.proofs.router.Router.connect.Goals as goal
 
 pub returns-then-not-is_client_id-clause-applied : goal.returns-then-not-is_client_id-clause-applied
-returns-then-not-is_client_id-clause-applied c = connect-client c.args.self.now c.args.client.now _ _ _ (sym c.is_client_id.ensures ∙ c.if-not-is_client_id.true)
+returns-then-not-is_client_id-clause-applied c =
+    connect-client c.args.self.now c.args.client.now _ _ _
+    (sym c.is_client_id.ensures ∙ c.if-not-is_client_id.true)
 
 pub returns-then-not-is_user_name-clause-applied : goal.returns-then-not-is_user_name-clause-applied
 returns-then-not-is_user_name-clause-applied c =
-    connect-user c.args.self.now c.args.client.now _ _ _ (sym c.is_client_id.ensures ∙ c.if-not-is_client_id.false) (sym c.is_user_name.ensures ∙ c.if-not-is_user_name.true)
+    connect-user c.args.self.now c.args.client.now _ _ _
+    (sym c.is_client_id.ensures ∙ c.if-not-is_client_id.false)
+    (sym c.is_user_name.ensures ∙ c.if-not-is_user_name.true)
 
 pub invariant_of-self-in-Some-resumed-2 : goal.invariant_of-self-in-Some-resumed-2
 invariant_of-self-in-Some-resumed-2 c = (
@@ -42,18 +46,32 @@ returns-in_default-clause-applied c =
     let user = option_copied c.args.user in
     let interval = c.args.session_expiry in
     let subs = c.remove_client.new.self in
-    let new : State = record s { sessions = c.put.new.self; subscriptions = subs.rows; filter_keys = subs.keys } in
+    let new : State = record s {
+      sessions = c.put.new.self;
+      subscriptions = subs.rows;
+      filter_keys =
+          subs.keys;
+    } in
     let ends : resumes s.sessions id c.args.clean ≡ false =
-    resumes-none s.moment s.sessions id c.args.clean (ap (option_map (λ list. map copy_of list.items)) (sym c.in_default.is) ∙ c.in_ok-resumed.ensures) in
+    resumes-none s.moment s.sessions id c.args.clean
+    (ap (option_map (λ list. map copy_of list.items)) (sym c.in_default.is)
+    ∙ c.in_ok-resumed.ensures) in
     let sessions : c.put.new.self ≡ with_row session_cmp (new_session id user interval) s.sessions =
     c.in_ok-put.ensures.ok
-    ∙ ap (λ i. with_row session_cmp (new_session i (option_map string_bytes c.in_ok-user.user) interval) s.sessions) c.in_ok-id.ensures.ok
+    ∙ ap (λ i. with_row session_cmp
+    (new_session i (option_map string_bytes c.in_ok-user.user) interval) s.sessions)
+    c.in_ok-id.ensures.ok
     ∙ ap (λ u. with_row session_cmp (new_session id u interval) s.sessions) c.in_ok-user.ensures in
-    subst (λ (v : State). Does v (Connect id user c.args.clean interval) (reply_of c.with_reason.result) new) c.self.view_is
-    (subst (λ (r : Reply). Does s (Connect id user c.args.clean interval) r new) (sym c.with_reason.ensures)
+    subst (λ (v : State). Does v (Connect id user c.args.clean interval)
+    (reply_of c.with_reason.result) new) c.self.view_is
+    (subst (λ (r : Reply). Does s (Connect id user c.args.clean interval) r new)
+    (sym c.with_reason.ensures)
     (connect-does s id user c.args.clean interval c.put.new.self subs _
-    (sym c.is_client_id.ensures ∙ c.if-not-is_client_id.false) (sym c.is_user_name.ensures ∙ c.if-not-is_user_name.false)
-    (resumed-empty s.moment s.sessions id c.args.clean ends) sessions (c.remove_client.ensures.rows ∙ ap (connect_rows s id) (sym ends)) (λ old. c.remove_client.ensures.keys)))
+    (sym c.is_client_id.ensures ∙ c.if-not-is_client_id.false)
+    (sym c.is_user_name.ensures ∙ c.if-not-is_user_name.false)
+    (resumed-empty s.moment s.sessions id c.args.clean ends) sessions
+    (c.remove_client.ensures.rows ∙ ap (connect_rows s id) (sym ends))
+    (λ old. c.remove_client.ensures.keys)))
 
 pub returns-clause-applied : goal.returns-clause-applied
 returns-clause-applied c =
@@ -62,12 +80,20 @@ returns-clause-applied c =
     let user = option_copied c.args.user in
     let interval = c.args.session_expiry in
     let new : State = record s { sessions = c.put.new.self } in
-    let stays = resumes-some s.moment s.sessions id c.args.clean (map copy_of c.in-Some.copies.items) (ap (option_map (λ list. map copy_of list.items)) (sym c.in-Some.is) ∙ c.in_ok-resumed.ensures) in
+    let stays = resumes-some s.moment s.sessions id c.args.clean
+    (map copy_of c.in-Some.copies.items)
+    (ap (option_map (λ list. map copy_of list.items)) (sym c.in-Some.is)
+    ∙ c.in_ok-resumed.ensures) in
     let sessions : c.put.new.self ≡ with_row session_cmp (new_session id user interval) s.sessions =
     c.in_ok-put.ensures.ok
-    ∙ ap (λ i. with_row session_cmp (new_session i (option_map string_bytes c.in_ok-user.user) interval) s.sessions) c.in_ok-id.ensures.ok
+    ∙ ap (λ i. with_row session_cmp
+    (new_session i (option_map string_bytes c.in_ok-user.user) interval) s.sessions)
+    c.in_ok-id.ensures.ok
     ∙ ap (λ u. with_row session_cmp (new_session id u interval) s.sessions) c.in_ok-user.ensures in
-    subst (λ (v : State). Does v (Connect id user c.args.clean interval) (record { copies = map copy_of c.in-Some.copies.items; outcome = Reason 0 }) new) c.self.view_is
+    subst (λ (v : State). Does v (Connect id user c.args.clean interval)
+    (record { copies = map copy_of c.in-Some.copies.items; outcome = Reason 0 }) new)
+    c.self.view_is
     (connect-does s id user c.args.clean interval c.put.new.self c.self.inside.subscriptions _
-    (sym c.is_client_id.ensures ∙ c.if-not-is_client_id.false) (sym c.is_user_name.ensures ∙ c.if-not-is_user_name.false)
+    (sym c.is_client_id.ensures ∙ c.if-not-is_client_id.false)
+    (sym c.is_user_name.ensures ∙ c.if-not-is_user_name.false)
     stays.1 sessions (ap (connect_rows s id) (sym stays.0)) (λ keys. keys))

@@ -13,12 +13,15 @@ use Rattle.mq_router.specs.router.Views.{state_of}
 use Rattle.mq_router.proofs.RouterLemmas.{sent-none, sent-some}
 use Rattle.mq_router.proofs.router.Router.copies_sent.Goals as goal
 
-pub returns-then-not-asks_for_retained-clause-copies : goal.returns-then-not-asks_for_retained-clause-copies
+pub returns-then-not-asks_for_retained-clause-copies :
+    goal.returns-then-not-asks_for_retained-clause-copies
 returns-then-not-asks_for_retained-clause-copies c =
     let s : State = state_of c.self.inside in
-    let by : Text → Subscription = λ client. row (option_map string_bytes c.args.wanted.now.share) c.args.wanted.now.filter (client, c.args.options) in
+    let by : Text → Subscription = λ client. row (option_map string_bytes c.args.wanted.now.share)
+    c.args.wanted.now.filter (client, c.args.options) in
     let new : Subscription = by (rc_str_bytes c.args.client.now) in
-    let asks = c.asks_for_retained.ensures ∙ ap (λ client. asks_for_retained s.subscriptions (by client)) c.as_str.ensures.value in
+    let asks = c.asks_for_retained.ensures
+    ∙ ap (λ client. asks_for_retained s.subscriptions (by client)) c.as_str.ensures.value in
     ap (map copy_of) c.new.ensures.items
     ∙ sym (sent-none s new (sym asks ∙ c.if-not-asks_for_retained.true))
     ∙ ap (λ (v : State). copies_sent v new) c.self.view_is
@@ -26,12 +29,16 @@ returns-then-not-asks_for_retained-clause-copies c =
 pub returns-clause-copies : goal.returns-clause-copies
 returns-clause-copies c =
     let s : State = state_of c.self.inside in
-    let by : Option Text → Text → Subscription = λ share client. row share c.args.wanted.now.filter (client, c.args.options) in
+    let by : Option Text → Text → Subscription =
+    λ share client. row share c.args.wanted.now.filter (client, c.args.options) in
     let share : Option Text = option_map string_bytes c.args.wanted.now.share in
     let id : Text = rc_str_bytes c.args.client.now in
     let new : Subscription = by share id in
-    let asks = c.asks_for_retained.ensures ∙ ap (λ client. asks_for_retained s.subscriptions (by share client)) c.as_str.ensures.value in
+    let asks = c.asks_for_retained.ensures
+    ∙ ap (λ client. asks_for_retained s.subscriptions (by share client)) c.as_str.ensures.value
+    in
     c.in_ok-copies.ensures.copies
-    ∙ ap (λ user. retained_copies s.moment s.access user s.retained (by None id)) (c.user.ensures ∙ ap (user_of s.sessions) c.as_str-2.ensures.value)
+    ∙ ap (λ user. retained_copies s.moment s.access user s.retained (by None id))
+    (c.user.ensures ∙ ap (user_of s.sessions) c.as_str-2.ensures.value)
     ∙ sym (sent-some s new (by None id) refl (sym asks ∙ c.if-not-asks_for_retained.false))
     ∙ ap (λ (v : State). copies_sent v new) c.self.view_is

@@ -1,4 +1,5 @@
-use Rattle.std.proofs.Common.{rules, ◌≡◌, ◌∙◌, ◌==◌, ◌<◌, ◌+◌, ◌^◌, ℕ, sym, ap, subst, map, not, length, Option, List}
+use Rattle.std.proofs.Common.{rules, ◌≡◌, ◌∙◌, ◌==◌, ◌<◌, ◌+◌, ◌^◌, ℕ, sym, ap, subst, map, not}
+use Rattle.std.proofs.Common.{length, Option, List}
 use Rattle.mq_subscriptions.specs.Turns.{turn_of}
 use Rattle.mq_sessions.specs.Views.{begin_of}
 use Rattle.mq_router.specs.router.Views.{state_of}
@@ -30,13 +31,20 @@ invariant_of-self-2 c =
     let value : c.args.message.now.deadline ≡ deadline_of s.moment m.expiry =
     c.requires.value ∙ ap (λ (v : State). deadline_of v.moment m.expiry) (sym c.self.view_is) in
     let within : IfSome c.args.message.now.deadline (λ d. d < s.moment + 2 ^ 32) =
-    subst (λ (v : State). IfSome c.args.message.now.deadline (λ d. d < v.moment + 2 ^ 32)) (sym c.self.view_is) c.requires.near in
-    let near : IfSome (deadline_of s.moment m.expiry) (λ d. d < s.moment + 2 ^ 32) = subst (λ deadline. IfSome deadline (λ d. d < s.moment + 2 ^ 32)) value within in
-    let waiting : c.join_all.new.self ≡ map (waiting_after limit s.access s.subscriptions s.moment m) s.sessions =
-    c.join_all.ensures.new ∙ ap (λ bs. queued_all limit bs s.sessions) (c.in_ok-made.ensures.begun ∙ ap (λ (v : State). begun_held v m c.args.message.now.deadline) (sym c.self.view_is) ∙ ap (begun_held s m) value)
+    subst (λ (v : State). IfSome c.args.message.now.deadline (λ d. d < v.moment + 2 ^ 32))
+    (sym c.self.view_is) c.requires.near in
+    let near : IfSome (deadline_of s.moment m.expiry) (λ d. d < s.moment + 2 ^ 32) =
+    subst (λ deadline. IfSome deadline (λ d. d < s.moment + 2 ^ 32)) value within in
+    let waiting : c.join_all.new.self
+    ≡ map (waiting_after limit s.access s.subscriptions s.moment m) s.sessions =
+    c.join_all.ensures.new ∙ ap (λ bs. queued_all limit bs s.sessions)
+    (c.in_ok-made.ensures.begun ∙ ap (λ (v : State). begun_held v m c.args.message.now.deadline)
+    (sym c.self.view_is) ∙ ap (begun_held s m) value)
     ∙ queued-is limit s.access s.subscriptions s.moment m s.sessions c.join_all.ensures.ordered in (
       c.in_ok-publish.ensures.near s.moment within c.self.invariant.0,
-      subst (AllReached s.moment) (sym waiting) (reached-after limit s.access s.subscriptions s.moment m s.sessions near c.self.invariant.1),
+      subst (AllReached s.moment) (sym waiting)
+          (reached-after limit s.access s.subscriptions s.moment m s.sessions near
+          c.self.invariant.1),
     )
 
 pub returns-clause-done : goal.returns-clause-done
@@ -45,26 +53,46 @@ returns-clause-done c = λ accepted.
     let m : Message = message_of c.args.message.now in
     let subs = c.serve_all.new.self in
     let kept = c.publish.new.self in
-    let new : State = record s { sessions = c.join_all.new.self; subscriptions = subs.rows; filter_keys = subs.keys; retained = kept.messages; topic_keys = kept.keys; deadlines = kept.pairs } in
+    let new : State = record s {
+      sessions = c.join_all.new.self;
+      subscriptions = subs.rows;
+      filter_keys = subs.keys;
+      retained = kept.messages;
+      topic_keys = kept.keys;
+      deadlines =
+          kept.pairs;
+    } in
     let limit = s.limits.queued in
     let turned : List Subscription → List Subscription = λ ss. all_turned ss s.subscriptions in
     let deadline : Option ℕ = deadline_of s.moment m.expiry in
     let value : c.args.message.now.deadline ≡ deadline =
     c.requires.value ∙ ap (λ (v : State). deadline_of v.moment m.expiry) (sym c.self.view_is) in
-    let begun : map begin_of c.in_ok-made.made.begun.items ≡ begun_by limit s.access s.sessions s.subscriptions m deadline =
-    c.in_ok-made.ensures.begun ∙ ap (λ (v : State). begun_held v m c.args.message.now.deadline) (sym c.self.view_is) ∙ ap (begun_held s m) value in
-    let none : c.is_empty-waits.result ≡ (length c.in_ok-made.made.begun.items == 0) = search rules in
-    let waits : not c.is_empty-waits.result ≡ begins_to_wait limit s.access s.sessions s.subscriptions m =
+    let begun : map begin_of c.in_ok-made.made.begun.items
+    ≡ begun_by limit s.access s.sessions s.subscriptions m deadline =
+    c.in_ok-made.ensures.begun ∙ ap (λ (v : State). begun_held v m c.args.message.now.deadline)
+    (sym c.self.view_is) ∙ ap (begun_held s m) value in
+    let none : c.is_empty-waits.result ≡ (length c.in_ok-made.made.begun.items == 0) =
+    search rules in
+    let waits : not c.is_empty-waits.result ≡ begins_to_wait limit s.access s.sessions
+    s.subscriptions m =
     ap not none ∙ ap (λ n. not (n == 0)) (sym (length-map c.in_ok-made.made.begun.items begin_of))
-    ∙ ap (λ (bs : List Begin). not (length bs == 0)) begun ∙ waits-is limit s.access s.subscriptions m deadline s.sessions in
-    let waiting : c.join_all.new.self ≡ map (waiting_after limit s.access s.subscriptions s.moment m) s.sessions =
+    ∙ ap (λ (bs : List Begin). not (length bs == 0)) begun
+    ∙ waits-is limit s.access s.subscriptions m deadline s.sessions in
+    let waiting : c.join_all.new.self
+    ≡ map (waiting_after limit s.access s.subscriptions s.moment m) s.sessions =
     c.join_all.ensures.new ∙ ap (λ bs. queued_all limit bs s.sessions) begun
     ∙ queued-is limit s.access s.subscriptions s.moment m s.sessions c.join_all.ensures.ordered in
     subst (λ (v : State). Does v (Publish m) (reply_of c.published.result) new) c.self.view_is
-    (publish-does s m c.join_all.new.self subs kept _ (ap (λ (v : State). refusal (world_of v) (Publish m)) c.self.view_is ∙ accepted)
-    (c.published.ensures ∙ ap (λ l. published l (not c.is_empty-waits.result)) (c.in_ok-made.ensures.copies ∙ ap (λ (v : State). copies_held v m) (sym c.self.view_is)) ∙ ap (published (copies_held s m)) waits)
+    (publish-does s m c.join_all.new.self subs kept _
+    (ap (λ (v : State). refusal (world_of v) (Publish m)) c.self.view_is ∙ accepted)
+    (c.published.ensures ∙ ap (λ l. published l (not c.is_empty-waits.result))
+    (c.in_ok-made.ensures.copies ∙ ap (λ (v : State). copies_held v m) (sym c.self.view_is))
+    ∙ ap (published (copies_held s m)) waits)
     waiting
-    (same-then _ _ _ c.serve_all.ensures.rows (same-is _ _ (ap (λ l. turned (map turn_of l)) c.as_slice.ensures.value ∙ ap turned (c.in_ok-made.ensures.served ∙ ap (λ (v : State). members_held v m) (sym c.self.view_is)))))
+    (same-then _ _ _ c.serve_all.ensures.rows
+    (same-is _ _ (ap (λ l. turned (map turn_of l)) c.as_slice.ensures.value
+    ∙ ap turned (c.in_ok-made.ensures.served
+    ∙ ap (λ (v : State). members_held v m) (sym c.self.view_is)))))
     c.serve_all.ensures.keys
     (c.in_ok-publish.ensures.ok s.moment value)
     (λ keys pairs. c.in_ok-publish.ensures.filed (record { keys = keys; pairs = pairs })))

@@ -8,28 +8,32 @@ use Rattle.mq_router.specs.router.Views.{state_of}
 use Rattle.mq_router.specs.StandsFor.{State}
 use Rattle.mq_router.specs.router.Effects.{Does}
 use Rattle.mq_world.specs.Views.{reply_of}
-use Rattle.mq_router.proofs.RouterLemmas.{refused-applied, disconnect-client, disconnect-leaves, disconnect-does}
+use Rattle.mq_router.proofs.RouterLemmas.{refused-applied, disconnect-client, disconnect-leaves}
+use Rattle.mq_router.proofs.RouterLemmas.{disconnect-does}
 use Rattle.mq_sessions.proofs.ReachedLemmas.{reached-left, reached-filter}
 use Rattle.mq_router.proofs.router.Router.disconnect.Goals as goal
 
 pub returns-in_err-check_client-clause-applied : goal.returns-in_err-check_client-clause-applied
 returns-in_err-check_client-clause-applied c =
     let p = err_from_is_err_and c.from_residual.result c.from_residual.ensures.1 in
-    refused-applied c.args.self.now _ c.from_residual.result c.in_err-check_client.field-0.0 c.args.self.now (p.1 ∙ ap (λ e. Err e) p.2)
+    refused-applied c.args.self.now _ c.from_residual.result c.in_err-check_client.field-0.0
+    c.args.self.now (p.1 ∙ ap (λ e. Err e) p.2)
     (disconnect-client c.args.self.now c.args.client.now _ c.in_err-check_client.ensures.refused)
 
 pub invariant_of-self : goal.invariant_of-self
 invariant_of-self c = (
   c.self.invariant.0,
   subst (AllReached c.self.inside.clock.moment) (sym c.leave.ensures)
-      (reached-left c.self.inside.clock.moment c.self.inside.clock.moment c.args.client.now c.self.inside.sessions c.self.invariant.1),
+      (reached-left c.self.inside.clock.moment c.self.inside.clock.moment c.args.client.now
+      c.self.inside.sessions c.self.invariant.1),
 )
 
 pub invariant_of-self-2 : goal.invariant_of-self-2
 invariant_of-self-2 c = (
   c.self.invariant.0,
   subst (AllReached c.self.inside.clock.moment) (sym c.remove.ensures)
-      (reached-filter c.self.inside.clock.moment (λ session. not (has_id c.args.client.now session)) c.self.inside.sessions c.self.invariant.1),
+      (reached-filter c.self.inside.clock.moment (λ session. not (has_id c.args.client.now session))
+      c.self.inside.sessions c.self.invariant.1),
 )
 
 pub returns-then-outlives-clause-applied : goal.returns-then-outlives-clause-applied
@@ -37,16 +41,30 @@ returns-then-outlives-clause-applied c =
     let s : State = state_of c.self.inside in
     let id = c.args.client.now in
     let new : State = record s { sessions = c.leave.new.self } in
-    let tested : None ≡ first_refusal (client_conditions s.sessions id) = c.in_ok-check_client.ensures.refused ∙ ap (λ (v : State). first_refusal (client_conditions v.sessions id)) (sym c.self.view_is) in
+    let tested : None ≡ first_refusal (client_conditions s.sessions id) =
+    c.in_ok-check_client.ensures.refused
+    ∙ ap (λ (v : State). first_refusal (client_conditions v.sessions id)) (sym c.self.view_is)
+    in
     subst (λ (v : State). Does v (Disconnect id) (reply_of c.with_reason.result) new) c.self.view_is
-    (disconnect-leaves s id c.leave.new.self _ tested (sym c.outlives.ensures ∙ c.if-outlives.true) c.with_reason.ensures c.leave.ensures)
+    (disconnect-leaves s id c.leave.new.self _ tested (sym c.outlives.ensures ∙ c.if-outlives.true)
+    c.with_reason.ensures c.leave.ensures)
 
 pub returns-clause-applied : goal.returns-clause-applied
 returns-clause-applied c =
     let s : State = state_of c.self.inside in
     let id = c.args.client.now in
     let subs = c.remove_client.new.self in
-    let new : State = record s { sessions = c.remove.new.self; subscriptions = subs.rows; filter_keys = subs.keys } in
-    let tested : None ≡ first_refusal (client_conditions s.sessions id) = c.in_ok-check_client.ensures.refused ∙ ap (λ (v : State). first_refusal (client_conditions v.sessions id)) (sym c.self.view_is) in
-    subst (λ (v : State). Does v (Disconnect id) (reply_of c.with_reason-2.result) new) c.self.view_is
-    (disconnect-does s id c.remove.new.self subs _ tested (sym c.outlives.ensures ∙ c.if-outlives.false) c.with_reason-2.ensures c.remove.ensures c.remove_client.ensures.rows c.remove_client.ensures.keys)
+    let new : State = record s {
+      sessions = c.remove.new.self;
+      subscriptions = subs.rows;
+      filter_keys = subs.keys;
+    } in
+    let tested : None ≡ first_refusal (client_conditions s.sessions id) =
+    c.in_ok-check_client.ensures.refused
+    ∙ ap (λ (v : State). first_refusal (client_conditions v.sessions id)) (sym c.self.view_is)
+    in
+    subst (λ (v : State). Does v (Disconnect id) (reply_of c.with_reason-2.result) new)
+    c.self.view_is
+    (disconnect-does s id c.remove.new.self subs _ tested
+    (sym c.outlives.ensures ∙ c.if-outlives.false) c.with_reason-2.ensures c.remove.ensures
+    c.remove_client.ensures.rows c.remove_client.ensures.keys)

@@ -5,4 +5,5 @@ use Rattle.mq_router.proofs.router.Router.new.Goals as goal
 
 pub returns : goal.returns
 unfolding fresh_world
-returns c = subst (λ (limits : Limits). StandsFor c.with_limits.result (within limits (fresh_world None))) c.new.ensures c.with_limits.ensures
+returns c = subst (λ (limits : Limits). StandsFor c.with_limits.result
+    (within limits (fresh_world None))) c.new.ensures c.with_limits.ensures

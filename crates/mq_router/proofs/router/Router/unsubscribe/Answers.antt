@@ -8,19 +8,24 @@ use Rattle.mq_world.specs.declared.refusal.Refusal.TheVariants.{TopicFilter}
 use Rattle.mq_router.specs.router.Effects.{Does}
 use Rattle.mq_router.specs.router.Views.{state_of}
 use Rattle.mq_router.specs.StandsFor.{State}
-use Rattle.mq_router.proofs.RouterLemmas.{refused-applied, unsubscribe-client, unsubscribe-filter, unsubscribe-does}
+use Rattle.mq_router.proofs.RouterLemmas.{refused-applied, unsubscribe-client, unsubscribe-filter}
+use Rattle.mq_router.proofs.RouterLemmas.{unsubscribe-does}
 use Rattle.mq_router.proofs.router.Router.unsubscribe.Goals as goal
 
 pub returns-in_err-check_client-clause-applied : goal.returns-in_err-check_client-clause-applied
 returns-in_err-check_client-clause-applied c =
     let p = err_from_is_err_and c.from_residual.result c.from_residual.ensures.1 in
-    refused-applied c.args.self.now _ c.from_residual.result c.in_err-check_client.field-0.0 c.args.self.now (p.1 ∙ ap (λ e. Err e) p.2)
-    (unsubscribe-client c.args.self.now c.args.client.now c.args.text.now _ c.in_err-check_client.ensures.refused)
+    refused-applied c.args.self.now _ c.from_residual.result c.in_err-check_client.field-0.0
+    c.args.self.now (p.1 ∙ ap (λ e. Err e) p.2)
+    (unsubscribe-client c.args.self.now c.args.client.now c.args.text.now _
+    c.in_err-check_client.ensures.refused)
 
 pub returns-then-not-is_valid-clause-applied : goal.returns-then-not-is_valid-clause-applied
 returns-then-not-is_valid-clause-applied c =
     refused-applied c.args.self.now _ _ TopicFilter c.args.self.now refl
-    (unsubscribe-filter c.args.self.now c.args.client.now c.args.text.now TopicFilter c.in_ok-check_client.ensures.refused (inr (refl, sym c.is_valid.ensures ∙ c.if-not-is_valid.true)))
+    (unsubscribe-filter c.args.self.now c.args.client.now c.args.text.now TopicFilter
+    c.in_ok-check_client.ensures.refused
+    (inr (refl, sym c.is_valid.ensures ∙ c.if-not-is_valid.true)))
 
 pub returns-clause-applied : goal.returns-clause-applied
 returns-clause-applied c =
@@ -29,8 +34,13 @@ returns-clause-applied c =
     let text = c.args.text.now in
     let subs = c.remove-existed.new.self in
     let new : State = record s { subscriptions = subs.rows; filter_keys = subs.keys } in
-    let tested : None ≡ first_refusal (client_conditions s.sessions id) = c.in_ok-check_client.ensures.refused ∙ ap (λ (v : State). first_refusal (client_conditions v.sessions id)) (sym c.self.view_is) in
-    subst (λ (v : State). Does v (Unsubscribe id text) (reply_of c.with_reason.result) new) c.self.view_is
+    let tested : None ≡ first_refusal (client_conditions s.sessions id) =
+    c.in_ok-check_client.ensures.refused
+    ∙ ap (λ (v : State). first_refusal (client_conditions v.sessions id)) (sym c.self.view_is)
+    in
+    subst (λ (v : State). Does v (Unsubscribe id text) (reply_of c.with_reason.result) new)
+    c.self.view_is
     (unsubscribe-does s id text subs _ tested (sym c.is_valid.ensures ∙ c.if-not-is_valid.false)
-    (c.with_reason.ensures ∙ ap reason (c.reason_to_leave.ensures ∙ ap (λ b. if b then 0 else 17) c.remove-existed.ensures.existed))
+    (c.with_reason.ensures ∙ ap reason (c.reason_to_leave.ensures
+    ∙ ap (λ b. if b then 0 else 17) c.remove-existed.ensures.existed))
     c.remove-existed.ensures.rows c.remove-existed.ensures.keys)

@@ -18,5 +18,7 @@ returns c =
       topic_keys = c.new-3.result.keys;
       deadlines = c.new-3.result.pairs;
     } in
-    let same : held ≡ fresh_state (limits_of c.args.limits) c.args.acl = rw (c.start.ensures, c.new.ensures, c.new-2.ensures, c.new-3.ensures) refl in
-    subst (λ (s : State). StandsFor s (within (limits_of c.args.limits) (fresh_world c.args.acl))) (sym same) (fresh-stands (limits_of c.args.limits) c.args.acl)
+    let same : held ≡ fresh_state (limits_of c.args.limits) c.args.acl =
+    rw (c.start.ensures, c.new.ensures, c.new-2.ensures, c.new-3.ensures) refl in
+    subst (λ (s : State). StandsFor s (within (limits_of c.args.limits) (fresh_world c.args.acl)))
+    (sym same) (fresh-stands (limits_of c.args.limits) c.args.acl)

@@ -13,7 +13,8 @@ use Rattle.mq_router.proofs.router.ended.remove_ended.Goals as goal
 pub returns-then-not-any_ends-clause-rows : goal.returns-then-not-any_ends-clause-rows
 returns-then-not-any_ends-clause-rows c =
     all-last c.args.moment c.args.sessions.now c.args.subscriptions.now.rows
-    (none-any (has_ended c.args.moment) c.args.sessions.now (sym c.any_ends.ensures ∙ c.if-not-any_ends.true))
+    (none-any (has_ended c.args.moment) c.args.sessions.now
+    (sym c.any_ends.ensures ∙ c.if-not-any_ends.true))
 
 pub loop-id-preserved-then-has_ended : goal.loop-id-preserved-then-has_ended
 loop-id-preserved-then-has_ended c =
@@ -21,9 +22,11 @@ loop-id-preserved-then-has_ended c =
     let x : Session = session_in (c.in-Some.id.now, c.in-Some.session.now) in
     let rest = map session_in c.next.new.self in
     let rows = c.loop-id.subscriptions.rows in
-    let left = rest_more deref_pair _ _ _ (c.in-Some.id, c.in-Some.session) c.in-Some.is c.next.ensures.steps in
+    let left = rest_more deref_pair _ _ _ (c.in-Some.id, c.in-Some.session) c.in-Some.is
+    c.next.ensures.steps in
     record {
-      rows = ap (filter (lasts moment rest)) (c.remove_client.ensures.rows ∙ ap (λ id. without id rows) c.as_str.ensures.value)
+      rows = ap (filter (lasts moment rest)) (c.remove_client.ensures.rows
+          ∙ ap (λ id. without id rows) c.as_str.ensures.value)
           ∙ end-more moment x rest rows (sym c.has_ended.ensures ∙ c.if-has_ended.true)
           ∙ ap (λ es. filter (lasts moment (map session_in es)) rows) (sym left)
           ∙ c.loop-id.invariant.rows;

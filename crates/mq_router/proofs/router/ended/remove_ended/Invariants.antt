@@ -7,6 +7,7 @@ use Rattle.mq_router.proofs.router.ended.remove_ended.Given as goal
 
 abbrev pub invariant-loop-id : goal.invariant-loop-id
 invariant-loop-id l = record {
-  rows : filter (lasts l.moment (map session_in l.id-iterator)) l.subscriptions.rows ≡ filter (lasts l.moment l.sessions) l.initial.subscriptions.rows;
+  rows : filter (lasts l.moment (map session_in l.id-iterator)) l.subscriptions.rows
+      ≡ filter (lasts l.moment l.sessions) l.initial.subscriptions.rows;
   keys : AreKeys l.initial.subscriptions → AreKeys l.subscriptions;
 }

@@ -1,12 +1,16 @@
-use Rattle.std.proofs.Common.{◌≡◌, ◌+◌, ◌++◌, ◌∷◌, [], ℕ, List, length, arith, refl, sym, ap, ◌∙◌, append_assoc, length-append}
+use Rattle.std.proofs.Common.{◌≡◌, ◌+◌, ◌++◌, ◌∷◌, [], ℕ, List, length, arith, refl, sym, ap, ◌∙◌}
+use Rattle.std.proofs.Common.{append_assoc, length-append}
 use Rattle.std.proofs.lemmas.Result.{err_from_is_err_and}
 use Rattle.mq_script.proofs.OutputLemmas.{kept_number}
-use Rattle.mq_script.proofs.StepLemmas.{TakesBytes-none, TakesBytes-then, TakesBytes-text, StopsAmong-then, StopsAmong-grown, StopsAmong-memory}
+use Rattle.mq_script.proofs.StepLemmas.{TakesBytes-none, TakesBytes-then, TakesBytes-text}
+use Rattle.mq_script.proofs.StepLemmas.{StopsAmong-then, StopsAmong-grown, StopsAmong-memory}
 use Rattle.mq_script.proofs.progress.Progress.take.Goals as goal
 
 -- the bytes are those that are taken, the next line and what follows
-parted : (bytes done rest line others : List ℕ) → bytes ≡ done ++ rest → rest ≡ line ++ others → bytes ≡ (done ++ line) ++ others
-parted bytes done rest line others e f = e ∙ ap (λ l. done ++ l) f ∙ sym (append_assoc done line others)
+parted : (bytes done rest line others : List ℕ) → bytes ≡ done ++ rest → rest ≡ line ++ others
+    → bytes ≡ (done ++ line) ++ others
+parted bytes done rest line others e f = e ∙ ap (λ l. done ++ l) f
+    ∙ sym (append_assoc done line others)
 
 pub lines-init : goal.lines-init
 lines-init g c = record {
@@ -19,16 +23,20 @@ pub lines-preserved : goal.lines-preserved
 lines-preserved g c =
     let at = c.lines.invariant.takes in
     let line : List ℕ = c.in-Some.line.now ++ 10 ∷ [] in
-    let grown : length c.lines.rest.now ≡ (length c.in-Some.line.now + 1) + length c.in-Some.others.now = ap length c.in-Some.ensures.0 ∙ simp length-append in
+    let grown : length c.lines.rest.now ≡ (length c.in-Some.line.now + 1)
+    + length c.in-Some.others.now = ap length c.in-Some.ensures.0 ∙ simp length-append in
     record {
       takes = (
         at.0 ++ line,
-        parted c.args.bytes.now at.0 c.lines.rest.now line c.in-Some.others.now at.1 c.in-Some.ensures.0,
-        TakesBytes-then c.args.self.now c.lines.self c.end_line.new.self at.0 line _ _ _ at.2 c.in_ok-end_line.ensures.takes,
+        parted c.args.bytes.now at.0 c.lines.rest.now line c.in-Some.others.now at.1
+            c.in-Some.ensures.0,
+        TakesBytes-then c.args.self.now c.lines.self c.end_line.new.self at.0 line _ _ _ at.2
+            c.in_ok-end_line.ensures.takes,
       );
       counted = let n = c.in_ok-end_line.ensures.counted in omega arith;
       lines =
-          let none : length c.end_line.new.self.line.items ≡ 0 = ap length c.in_ok-end_line.ensures.line in
+          let none : length c.end_line.new.self.line.items ≡ 0 =
+          ap length c.in_ok-end_line.ensures.line in
           let more = c.in_ok-end_line.ensures.lines in
           omega arith;
     }
@@ -38,18 +46,28 @@ returns-in_err-end_line-clause-takes g c =
     let at = c.lines.invariant.takes in
     let line : List ℕ = c.in-Some.line.now ++ 10 ∷ [] in
     let fault = err_from_is_err_and c.from_residual.result c.from_residual.ensures.1 in
-    rw (fault.1, fault.2, parted c.args.bytes.now at.0 c.lines.rest.now line c.in-Some.others.now at.1 c.in-Some.ensures.0)
+    rw (
+      fault.1,
+      fault.2,
+      parted c.args.bytes.now at.0 c.lines.rest.now line c.in-Some.others.now
+          at.1 c.in-Some.ensures.0,
+    )
     (StopsAmong-grown c.args.self.now (at.0 ++ line) c.in-Some.others.now _ _ _
-    (StopsAmong-then c.args.self.now c.lines.self at.0 line _ _ _ _ at.2 c.in_err-end_line.ensures.takes))
+    (StopsAmong-then c.args.self.now c.lines.self at.0 line _ _ _ _ at.2
+    c.in_err-end_line.ensures.takes))
 
 pub returns-clause-takes : goal.returns-clause-takes
 returns-clause-takes g c =
     let at = c.lines.invariant.takes in
     rw at.1 (TakesBytes-then c.args.self.now c.lines.self _ at.0 c.lines.rest.now _ _ _ at.2
-    (TakesBytes-text c.lines.self _ c.lines.rest.now _ _ kept_number c.in_default.ensures refl refl c.in_ok-keep_front.ensures))
+    (TakesBytes-text c.lines.self _ c.lines.rest.now _ _ kept_number c.in_default.ensures refl refl
+    c.in_ok-keep_front.ensures))
 
 pub returns-in_err-keep_front-clause-takes : goal.returns-in_err-keep_front-clause-takes
 returns-in_err-keep_front-clause-takes g c =
     let at = c.lines.invariant.takes in
-    let fault = err_from_is_err_and c.from_residual-in_err-keep_front.result c.from_residual-in_err-keep_front.ensures.1 in
-    rw (fault.1, fault.2, at.1) (StopsAmong-then c.args.self.now c.lines.self at.0 c.lines.rest.now _ _ _ _ at.2 (StopsAmong-memory c.lines.self c.lines.rest.now _))
+    let fault = err_from_is_err_and c.from_residual-in_err-keep_front.result
+    c.from_residual-in_err-keep_front.ensures.1 in
+    rw (fault.1, fault.2, at.1)
+    (StopsAmong-then c.args.self.now c.lines.self at.0 c.lines.rest.now _ _ _ _ at.2
+    (StopsAmong-memory c.lines.self c.lines.rest.now _))

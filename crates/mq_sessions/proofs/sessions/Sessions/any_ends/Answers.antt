@@ -11,6 +11,7 @@ pub returns : goal.returns
 returns c =
     let sessions = sessions_of c.self.inside in
     c.has_come.ensures
-    ∙ list_any-SameElements (λ end. nat_le end c.args.moment) c.self.inside.ends.ends (ends_of sessions) c.self.invariant.same
+    ∙ list_any-SameElements (λ end. nat_le end c.args.moment) c.self.inside.ends.ends
+    (ends_of sessions) c.self.invariant.same
     ∙ sym (ended-any c.args.moment sessions)
     ∙ ap (list_any (has_ended c.args.moment)) c.self.view_is

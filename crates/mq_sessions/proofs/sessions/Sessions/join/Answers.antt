@@ -18,6 +18,7 @@ invariant_of-self c =
           ∙ ap (λ ss. length (filter test (ends_of ss))) (sym c.join.ensures);
       room =
           let count : length (map session_in c.join.new.sessions.entries) ≡ length sessions =
-          ap length c.join.ensures ∙ length-map sessions (edited (queued c.args.limit begun.1) begun.0) in
+          ap length c.join.ensures ∙ length-map sessions
+          (edited (queued c.args.limit begun.1) begun.0) in
           omega (arith, c.self.invariant.room);
     }

@@ -7,5 +7,7 @@ use Rattle.mq_sessions.proofs.sessions.edits.end.Goals as goal
 
 pub returns : goal.returns
 returns c =
-    ap (map session_in) (filter_same_pairs _ (λ e. not (has_ended c.args.moment (session_in e))) _ (λ k v b w g' t. search rules) _ _ c.retain.ensures.filtered)
-    ∙ map-filter session_in (λ session. not (has_ended c.args.moment session)) c.args.sessions.now.entries
+    ap (map session_in) (filter_same_pairs _ (λ e. not (has_ended c.args.moment (session_in e))) _
+    (λ k v b w g' t. search rules) _ _ c.retain.ensures.filtered)
+    ∙ map-filter session_in (λ session. not (has_ended c.args.moment session))
+    c.args.sessions.now.entries

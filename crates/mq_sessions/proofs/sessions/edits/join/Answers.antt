@@ -13,7 +13,9 @@ returns-in-Some c =
     let put = queued c.args.limit (map waiting_of c.args.begun.copies) in
     ap (map session_in) (c.get_mut.follows.holds c.queue.new.self).0
     ∙ edited-is id put c.in-Some.session.now c.queue.new.self es (sym c.in-Some.ensures.value)
-    (ap (λ (s : Session). record s { id = id }) c.queue.ensures ∙ queued-id c.args.limit id (map waiting_of c.args.begun.copies) (shown c.in-Some.session.now)) c.in-Some.ensures.ordered
+    (ap (λ (s : Session). record s { id = id }) c.queue.ensures
+    ∙ queued-id c.args.limit id (map waiting_of c.args.begun.copies)
+    (shown c.in-Some.session.now)) c.in-Some.ensures.ordered
     ∙ ap (λ i. map (edited put i) (map session_in es)) c.as_str.ensures.value
 
 pub returns-in_default : goal.returns-in_default

@@ -7,4 +7,5 @@ pub returns-in-None : goal.returns-in-None
 returns-in-None c = sym (ap (list_any (λ end. nat_le end c.args.moment)) c.in-None.ensures.none)
 
 pub returns-in-Some : goal.returns-in-Some
-returns-in-Some c = come-is c.args.moment c.in-Some.first c.args.ends.now.ends c.in-Some.ensures.some c.in-Some.ensures.earliest
+returns-in-Some c = come-is c.args.moment c.in-Some.first c.args.ends.now.ends
+    c.in-Some.ensures.some c.in-Some.ensures.earliest

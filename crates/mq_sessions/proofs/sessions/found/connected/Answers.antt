@@ -8,17 +8,24 @@ use Rattle.mq_sessions.proofs.sessions.found.connected.Goals as goal
 
 pub returns-in-None-clause-connected : goal.returns-in-None-clause-connected
 returns-in-None-clause-connected c =
-    ap (λ s. option_map_or is_present s false) (ap (option_map (session_at c.args.id.now)) c.in-None.ensures.value ∙ found-is c.args.id.now c.args.sessions.now.entries)
+    ap (λ s. option_map_or is_present s false)
+    (ap (option_map (session_at c.args.id.now)) c.in-None.ensures.value
+    ∙ found-is c.args.id.now c.args.sessions.now.entries)
 
 pub returns-then-is_present-clause-connected : goal.returns-then-is_present-clause-connected
 returns-then-is_present-clause-connected c =
     sym c.if-is_present.true ∙ c.is_present.ensures
-    ∙ ap (λ s. option_map_or is_present s false) (ap (option_map (session_at c.args.id.now)) c.in-Some.ensures.value ∙ found-is c.args.id.now c.args.sessions.now.entries)
+    ∙ ap (λ s. option_map_or is_present s false)
+    (ap (option_map (session_at c.args.id.now)) c.in-Some.ensures.value
+    ∙ found-is c.args.id.now c.args.sessions.now.entries)
 
 pub returns-then-is_present-clause-same : goal.returns-then-is_present-clause-same
-returns-then-is_present-clause-same c = key-is c.args.id.now c.in-Some.key.now (ap is_eq c.in-Some.ensures.same_key)
+returns-then-is_present-clause-same c =
+    key-is c.args.id.now c.in-Some.key.now (ap is_eq c.in-Some.ensures.same_key)
 
 pub returns-else-is_present-clause-connected : goal.returns-else-is_present-clause-connected
 returns-else-is_present-clause-connected c =
     sym c.if-is_present.false ∙ c.is_present.ensures
-    ∙ ap (λ s. option_map_or is_present s false) (ap (option_map (session_at c.args.id.now)) c.in-Some.ensures.value ∙ found-is c.args.id.now c.args.sessions.now.entries)
+    ∙ ap (λ s. option_map_or is_present s false)
+    (ap (option_map (session_at c.args.id.now)) c.in-Some.ensures.value
+    ∙ found-is c.args.id.now c.args.sessions.now.entries)

@@ -6,5 +6,8 @@ use Rattle.mq_sessions.proofs.sessions.found.find.Goals as goal
 
 pub returns : goal.returns
 returns c =
-    (elim c.get.result as (λ o. option_map (λ session. session_at c.args.id.now session.now) o ≡ option_map (session_at c.args.id.now) (option_copied o)) [ None ↦ refl | Some session ↦ refl ])
-    ∙ ap (option_map (session_at c.args.id.now)) c.get.ensures.value ∙ found-is c.args.id.now c.args.sessions.now.entries
+    (elim c.get.result as (λ o. option_map (λ session. session_at c.args.id.now session.now) o
+    ≡ option_map (session_at c.args.id.now) (option_copied o))
+    [ None ↦ refl | Some session ↦ refl ])
+    ∙ ap (option_map (session_at c.args.id.now)) c.get.ensures.value
+    ∙ found-is c.args.id.now c.args.sessions.now.entries

@@ -7,9 +7,13 @@ use Rattle.mq_sessions.proofs.sessions.found.outlives.Goals as goal
 
 pub returns-in-None : goal.returns-in-None
 returns-in-None c =
-    ap (λ s. option_map_or (outlives_connection) s false) (ap (option_map (session_at c.args.id.now)) c.in-None.ensures.value ∙ found-is c.args.id.now c.args.sessions.now.entries)
+    ap (λ s. option_map_or (outlives_connection) s false)
+    (ap (option_map (session_at c.args.id.now)) c.in-None.ensures.value
+    ∙ found-is c.args.id.now c.args.sessions.now.entries)
 
 pub returns-in-Some : goal.returns-in-Some
 returns-in-Some c =
     c.outlives_connection.ensures
-    ∙ ap (λ s. option_map_or (outlives_connection) s false) (ap (option_map (session_at c.args.id.now)) c.in-Some.ensures.value ∙ found-is c.args.id.now c.args.sessions.now.entries)
+    ∙ ap (λ s. option_map_or (outlives_connection) s false)
+    (ap (option_map (session_at c.args.id.now)) c.in-Some.ensures.value
+    ∙ found-is c.args.id.now c.args.sessions.now.entries)

@@ -11,14 +11,17 @@ use Rattle.mq_sessions.proofs.sessions.found.waited_copies.Goals as goal
 
 pub resumed_copies-requires : goal.resumed_copies-requires
 resumed_copies-requires c =
-    found-reached c.args.clock.moment c.args.id.now c.in-Some.session.now c.args.sessions.now.entries c.in-Some.ensures.value c.requires
+    found-reached c.args.clock.moment c.args.id.now c.in-Some.session.now
+    c.args.sessions.now.entries c.in-Some.ensures.value c.requires
 
 pub returns-in_default : goal.returns-in_default
 returns-in_default c =
     let id = c.args.id.now in
     let all : List Session = map session_in c.args.sessions.now.entries in
     let ends : outlives all id ≡ false =
-    sym (ap (λ s. option_map_or outlives_connection s false) (ap (option_map (session_at id)) c.in_default.ensures.value ∙ found-is id c.args.sessions.now.entries)) in
+    sym (ap (λ s. option_map_or outlives_connection s false)
+    (ap (option_map (session_at id)) c.in_default.ensures.value
+    ∙ found-is id c.args.sessions.now.entries)) in
     resumed-none c.args.clock.moment all id false ends
 
 pub returns-then-not-outlives_connection : goal.returns-then-not-outlives_connection
@@ -27,7 +30,9 @@ returns-then-not-outlives_connection c =
     let all : List Session = map session_in c.args.sessions.now.entries in
     let ends : outlives all id ≡ false =
     sym (sym c.if-not-outlives_connection.true ∙ c.outlives_connection.ensures
-    ∙ ap (λ s. option_map_or outlives_connection s false) (ap (option_map (session_at id)) c.in-Some.ensures.value ∙ found-is id c.args.sessions.now.entries)) in
+    ∙ ap (λ s. option_map_or outlives_connection s false)
+    (ap (option_map (session_at id)) c.in-Some.ensures.value
+    ∙ found-is id c.args.sessions.now.entries)) in
     resumed-none c.args.clock.moment all id false ends
 
 pub returns : goal.returns
@@ -35,8 +40,12 @@ returns c =
     let id = c.args.id.now in
     let moment = c.args.clock.moment in
     let all : List Session = map session_in c.args.sessions.now.entries in
-    let found = ap (option_map (session_at id)) c.in-Some.ensures.value ∙ found-is id c.args.sessions.now.entries in
+    let found = ap (option_map (session_at id)) c.in-Some.ensures.value
+    ∙ found-is id c.args.sessions.now.entries in
     let stays : outlives all id ≡ true =
-    sym (sym c.if-not-outlives_connection.false ∙ c.outlives_connection.ensures ∙ ap (λ s. option_map_or outlives_connection s false) found) in
-    ap (λ l. Some l) (c.in_ok-copies.ensures ∙ ap (λ s. filter_map (resumed_copy moment) (option_map_or (λ (s : Session). s.waiting) s [])) found)
+    sym (sym c.if-not-outlives_connection.false ∙ c.outlives_connection.ensures
+    ∙ ap (λ s. option_map_or outlives_connection s false) found) in
+    ap (λ l. Some l) (c.in_ok-copies.ensures
+    ∙ ap (λ s. filter_map (resumed_copy moment)
+    (option_map_or (λ (s : Session). s.waiting) s [])) found)
     ∙ resumed-some moment all id false stays

@@ -5,4 +5,5 @@ use Rattle.mq_subscriptions.proofs.CountLemmas.{all-number}
 use Rattle.mq_subscriptions.proofs.subscriptions.Subscriptions.len.Goals as goal
 
 pub returns : goal.returns
-returns c = c.total.ensures ∙ ap capped (sym (all-number c.self.inside.tree)) ∙ ap (λ (k : KeptSubscriptions). capped (length k.rows)) c.self.view_is
+returns c = c.total.ensures ∙ ap capped (sym (all-number c.self.inside.tree))
+    ∙ ap (λ (k : KeptSubscriptions). capped (length k.rows)) c.self.view_is

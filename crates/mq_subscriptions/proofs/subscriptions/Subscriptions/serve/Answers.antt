@@ -8,8 +8,14 @@ use Rattle.mq_subscriptions.proofs.subscriptions.Subscriptions.serve.Goals as go
 
 pub invariant_of-self : goal.invariant_of-self
 invariant_of-self c =
-    let x : Subscription = record { client = c.args.client.now; share = Some c.args.share.now; filter = c.args.wanted.now; options = nothing } in
-    listed-turned x c.self.inside.tree c.serve_in.new.tree (texts c.self.inside.lists.entries) c.self.invariant c.serve_in.ensures.kept c.serve_in.ensures.turned
+    let x : Subscription = record {
+      client = c.args.client.now;
+      share = Some c.args.share.now;
+      filter = c.args.wanted.now;
+      options = nothing;
+    } in
+    listed-turned x c.self.inside.tree c.serve_in.new.tree (texts c.self.inside.lists.entries)
+    c.self.invariant c.serve_in.ensures.kept c.serve_in.ensures.turned
 
 pub returns-clause-keys : goal.returns-clause-keys
 returns-clause-keys c = kept-keys c.serve_in.new.tree c.serve_in.ensures.kept

@@ -7,6 +7,7 @@ use Rattle.mq_subscriptions.proofs.subscriptions.Subscriptions.serve_all.Given a
 
 abbrev pub invariant-loop-turn : goal.invariant-loop-turn
 invariant-loop-turn l = record {
-  rows : SameInTurn (all_turned (map turn_of (drop l.turn-index l.served)) l.self.rows) (all_turned (map turn_of l.served) l.initial.self.rows);
+  rows : SameInTurn (all_turned (map turn_of (drop l.turn-index l.served)) l.self.rows)
+      (all_turned (map turn_of l.served) l.initial.self.rows);
   keys : AreKeys l.initial.self → AreKeys l.self;
 }

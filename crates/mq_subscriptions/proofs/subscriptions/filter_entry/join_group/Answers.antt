@@ -10,7 +10,8 @@ use Rattle.mq_world.specs.Turns.{SameInTurn}
 use Rattle.mq_subscriptions.specs.Turns.{joined}
 use Rattle.mq_sessions.proofs.SessionLemmas.{finds}
 use Rattle.mq_world.proofs.ListLemmas.{on_err}
-use Rattle.mq_subscriptions.specs.Filters.{Member, row, NoneEmpty, is_text, group_rows, has_client, is_empty}
+use Rattle.mq_subscriptions.specs.Filters.{Member, row, NoneEmpty, is_text, group_rows, has_client}
+use Rattle.mq_subscriptions.specs.Filters.{is_empty}
 use Rattle.mq_subscriptions.specs.Views.{texts}
 use Rattle.mq_subscriptions.proofs.AtLemmas.{group-joined, group-live, with_one-live}
 use Rattle.mq_world.proofs.Splits.{set_same}
@@ -21,33 +22,47 @@ pub returns-in_err-join-in-Some-clause-err : goal.returns-in_err-join-in-Some-cl
 returns-in_err-join-in-Some-clause-err c =
     let found = sym c.get_mut.ensures.value ∙ ap option_copied_mut c.in-Some.is in
     let es = c.args.groups.now.entries in
-    on_err c.from_residual.result ((c.get_mut.follows.holds c.join.new.self).0 ∙ ap (set_value (finds c.args.share.now) es) c.in_err-join-in-Some.ensures.err ∙ set_same (finds c.args.share.now) es c.in-Some.group.now found)
+    on_err c.from_residual.result ((c.get_mut.follows.holds c.join.new.self).0
+    ∙ ap (set_value (finds c.args.share.now) es) c.in_err-join-in-Some.ensures.err
+    ∙ set_same (finds c.args.share.now) es c.in-Some.group.now found)
 
 pub returns-in_err-join-in-Some-clause-live : goal.returns-in_err-join-in-Some-clause-live
 returns-in_err-join-in-Some-clause-live c =
     let found = sym c.get_mut.ensures.value ∙ ap option_copied_mut c.in-Some.is in
     let es = c.args.groups.now.entries in
-    subst (λ (l : List (Key × List Member)). NoneEmpty (texts l)) (sym ((c.get_mut.follows.holds c.join.new.self).0 ∙ ap (set_value (finds c.args.share.now) es) c.in_err-join-in-Some.ensures.err ∙ set_same (finds c.args.share.now) es c.in-Some.group.now found)) c.requires
+    subst (λ (l : List (Key × List Member)). NoneEmpty (texts l))
+    (sym ((c.get_mut.follows.holds c.join.new.self).0
+    ∙ ap (set_value (finds c.args.share.now) es) c.in_err-join-in-Some.ensures.err
+    ∙ set_same (finds c.args.share.now) es c.in-Some.group.now found)) c.requires
 
 pub add_group-requires-clause-absent : goal.add_group-requires-clause-absent
 add_group-requires-clause-absent c =
     ap (λ m. lookup (is_text c.args.share.now) (texts m.entries)) c.get_mut.follows.holds-at-none
-    ∙ lookup-texts c.args.share.now c.args.groups.now.entries ∙ sym c.get_mut.ensures.value ∙ ap option_copied_mut c.in-None.is
+    ∙ lookup-texts c.args.share.now c.args.groups.now.entries ∙ sym c.get_mut.ensures.value
+    ∙ ap option_copied_mut c.in-None.is
 
 pub returns-in_ok-join-in-Some-clause-ok : goal.returns-in_ok-join-in-Some-clause-ok
 returns-in_ok-join-in-Some-clause-ok c = λ f.
     let w = c.join.new.self in
-    group-joined c.args.share.now c.args.groups.now.entries c.requires c.get_mut.ensures.ordered c.in-Some.group.now w (c.get_mut.follows.lender w).entries
-    (sym c.get_mut.ensures.value ∙ ap option_copied_mut c.in-Some.is) (c.get_mut.follows.holds w).0 f (rc_str_bytes c.args.client) c.args.options c.in_ok-join-in-Some.ensures.ok
+    group-joined c.args.share.now c.args.groups.now.entries c.requires c.get_mut.ensures.ordered
+    c.in-Some.group.now w (c.get_mut.follows.lender w).entries
+    (sym c.get_mut.ensures.value ∙ ap option_copied_mut c.in-Some.is) (c.get_mut.follows.holds w).0
+    f (rc_str_bytes c.args.client) c.args.options c.in_ok-join-in-Some.ensures.ok
 
 pub returns-in_ok-join-in-Some-clause-live : goal.returns-in_ok-join-in-Some-clause-live
 returns-in_ok-join-in-Some-clause-live c =
     let w = c.join.new.self in
-    group-live c.args.share.now c.args.groups.now.entries c.requires c.get_mut.ensures.ordered c.in-Some.group.now w (c.get_mut.follows.lender w).entries
+    group-live c.args.share.now c.args.groups.now.entries c.requires c.get_mut.ensures.ordered
+    c.in-Some.group.now w (c.get_mut.follows.lender w).entries
     (sym c.get_mut.ensures.value ∙ ap option_copied_mut c.in-Some.is) (c.get_mut.follows.holds w).0
-    (ap is_empty c.in_ok-join-in-Some.ensures.ok ∙ with_one-live (has_client (rc_str_bytes c.args.client)) (rc_str_bytes c.args.client, c.args.options) c.in-Some.group.now)
+    (ap is_empty c.in_ok-join-in-Some.ensures.ok
+    ∙ with_one-live (has_client (rc_str_bytes c.args.client))
+    (rc_str_bytes c.args.client, c.args.options) c.in-Some.group.now)
 
 pub returns-in-None-clause-ok : goal.returns-in-None-clause-ok
 returns-in-None-clause-ok c =
-    let f0 = λ (m : BTreeMap (Key) (List Member)). OnOk c.add_group.result ((f : Text) → SameInTurn (group_rows f (texts c.add_group.new.groups.entries)) (joined (row (Some c.args.share.now) f (rc_str_bytes c.args.client, c.args.options)) (group_rows f (texts m.entries)))) in
+    let f0 = λ (m : BTreeMap (Key) (List Member)). OnOk c.add_group.result
+    ((f : Text) → SameInTurn (group_rows f (texts c.add_group.new.groups.entries))
+    (joined (row (Some c.args.share.now) f (rc_str_bytes c.args.client, c.args.options))
+    (group_rows f (texts m.entries)))) in
     subst f0 c.get_mut.follows.holds-at-none c.add_group.ensures.ok

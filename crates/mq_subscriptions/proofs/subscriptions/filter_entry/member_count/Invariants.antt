@@ -6,4 +6,5 @@ use Rattle.mq_subscriptions.proofs.subscriptions.filter_entry.member_count.Given
 
 abbrev pub invariant-loop-group : goal.invariant-loop-group
 invariant-loop-group l =
-    (capped (l.total + sum_by length l.group-iterator) ≡ capped (sum_by length (values_of l.groups.entries))) × (l.total ≤ 18446744073709551615)
+    (capped (l.total + sum_by length l.group-iterator)
+    ≡ capped (sum_by length (values_of l.groups.entries))) × (l.total ≤ 18446744073709551615)

@@ -9,9 +9,13 @@ use Rattle.mq_subscriptions.proofs.subscriptions.matches.sort_by_client.Goals as
 pub returns-clause-sorted : goal.returns-clause-sorted
 returns-clause-sorted c =
     on_ok_weaker c.sort_by.result
-    (λ sorted. sorted-matches c.sort_by.new.self.items (sorted _ (ranks_by nat_list_cmp_total (λ x. rc_str_bytes x.client.now)) (answers_always _ _ _ (λ f a r g h. search rules))))
+    (λ sorted. sorted-matches c.sort_by.new.self.items
+    (sorted _ (ranks_by nat_list_cmp_total (λ x. rc_str_bytes x.client.now))
+    (answers_always _ _ _ (λ f a r g h. search rules))))
     c.sort_by.ensures.sorted
 
 pub returns-clause-stable : goal.returns-clause-stable
 returns-clause-stable c =
-    stable-matches c.args.matches.now.items c.sort_by.new.self.items (c.sort_by.ensures.stable _ (ranks_by nat_list_cmp_total (λ x. rc_str_bytes x.client.now)) (answers_always _ _ _ (λ f a r g h. search rules)))
+    stable-matches c.args.matches.now.items c.sort_by.new.self.items
+    (c.sort_by.ensures.stable _ (ranks_by nat_list_cmp_total (λ x. rc_str_bytes x.client.now))
+    (answers_always _ _ _ (λ f a r g h. search rules)))

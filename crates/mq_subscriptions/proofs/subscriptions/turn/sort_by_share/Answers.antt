@@ -10,9 +10,14 @@ use Rattle.mq_subscriptions.proofs.subscriptions.turn.sort_by_share.Goals as goa
 pub returns-clause-sorted : goal.returns-clause-sorted
 returns-clause-sorted c =
     on_ok_weaker c.sort_by.result
-    (λ sorted. ascending-sorted (λ t. rc_str_bytes t.share) c.sort_by.new.self.items (sorted _ (ranks_by nat_list_cmp_total (λ t. rc_str_bytes t.share)) (answers_always _ _ _ (λ f a r g h. search rules))))
+    (λ sorted. ascending-sorted (λ t. rc_str_bytes t.share) c.sort_by.new.self.items
+    (sorted _ (ranks_by nat_list_cmp_total (λ t. rc_str_bytes t.share))
+    (answers_always _ _ _ (λ f a r g h. search rules))))
     c.sort_by.ensures.sorted
 
 pub returns-clause-stable : goal.returns-clause-stable
 returns-clause-stable c =
-    λ share. ap (map turn_of) (stable-kept (λ t. rc_str_bytes t.share) c.args.turns.now.items c.sort_by.new.self.items (c.sort_by.ensures.stable _ (ranks_by nat_list_cmp_total (λ t. rc_str_bytes t.share)) (answers_always _ _ _ (λ f a r g h. search rules))) share)
+    λ share. ap (map turn_of)
+    (stable-kept (λ t. rc_str_bytes t.share) c.args.turns.now.items c.sort_by.new.self.items
+    (c.sort_by.ensures.stable _ (ranks_by nat_list_cmp_total (λ t. rc_str_bytes t.share))
+    (answers_always _ _ _ (λ f a r g h. search rules))) share)

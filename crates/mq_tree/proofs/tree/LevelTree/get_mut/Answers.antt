@@ -4,6 +4,7 @@ use Rattle.mq_tree.proofs.tree.LevelTree.get_mut.Goals as goal
 
 pub invariant_of-self-lent : goal.invariant_of-self-lent
 invariant_of-self-lent g c = λ r. (
-  λ w. put_at_most _ w (entries_of c.self.inside.root) (entries_of (c.get_mut.follows.lender w)) (c.get_mut.follows.holds w).2 c.self.invariant,
+  λ w. put_at_most _ w (entries_of c.self.inside.root) (entries_of (c.get_mut.follows.lender w))
+      (c.get_mut.follows.holds w).2 c.self.invariant,
   rw c.get_mut.follows.holds-at-none c.self.invariant,
 )

@@ -5,4 +5,6 @@ use Rattle.mq_tree.proofs.tree.LevelTree.put.Goals as goal
 
 pub invariant_of-self : goal.invariant_of-self
 invariant_of-self g c =
-    from_result (AreInOrder {V = g.row.V.Denot}) c.put.result (entries_of c.put.new.self) _ _ c.put.ensures.ok c.put.ensures.err (insert_in_order _ c.args.value _ c.self.invariant) c.self.invariant
+    from_result (AreInOrder {V = g.row.V.Denot}) c.put.result (entries_of c.put.new.self) _ _
+    c.put.ensures.ok c.put.ensures.err (insert_in_order _ c.args.value _ c.self.invariant)
+    c.self.invariant

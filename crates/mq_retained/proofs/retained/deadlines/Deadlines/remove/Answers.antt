@@ -7,6 +7,9 @@ use Rattle.mq_retained.proofs.retained.deadlines.Deadlines.remove.Goals as goal
 
 pub returns : goal.returns
 returns c =
-    subst (λ (o : Option Pair). Drops o c.args.self.now (map due_of c.remove.new.self.keys)) (ap (option_map due_of) (sym c.in-Some.is))
-    (subst (λ (old : List Pair). Drops (Some (due_of c.in-Some.due)) old (map due_of c.remove.new.self.keys)) c.self.view_is
-    (rw c.remove.ensures.keys (has-remove c.in-Some.due c.self.inside.pairs.keys c.len-count.ensures.ordered)))
+    subst (λ (o : Option Pair). Drops o c.args.self.now (map due_of c.remove.new.self.keys))
+    (ap (option_map due_of) (sym c.in-Some.is))
+    (subst (λ (old : List Pair). Drops (Some (due_of c.in-Some.due)) old
+    (map due_of c.remove.new.self.keys)) c.self.view_is
+    (rw c.remove.ensures.keys
+    (has-remove c.in-Some.due c.self.inside.pairs.keys c.len-count.ensures.ordered)))

@@ -10,5 +10,7 @@ use Rattle.mq_retained.proofs.retained.messages.Messages.for_filter.Goals as goa
 
 pub returns-clause-found : goal.returns-clause-found
 returns-clause-found c =
-    subst (λ (tree : Entries Stored). IfOk c.for_filter.result (λ found. map (λ v. v.now) found.items
-    ≡ values_of (filter (λ e. matches (levels c.args.wanted.now) e.0) tree))) c.self.view_is c.for_filter.ensures.found
+    subst (λ (tree : Entries Stored). IfOk c.for_filter.result
+    (λ found. map (λ v. v.now) found.items
+    ≡ values_of (filter (λ e. matches (levels c.args.wanted.now) e.0) tree))) c.self.view_is
+    c.for_filter.ensures.found

@@ -13,15 +13,20 @@ pub invariant_of-self-then-is_none : goal.invariant_of-self-then-is_none
 invariant_of-self-then-is_none c =
     let k = levels c.args.topic.now in
     let tree = c.self.inside.by_topic in
-    let none : is_some (lookup (is_key k) tree) ≡ false = ap is_some (sym c.in_ok-older.ensures.older) ∙ c.if-is_none.ensures in
-    subst (λ (rest : Entries Stored). AreCounted c.saturating_add-self-inside.result rest) (sym c.in_ok-older.ensures.ok)
-    (subst (λ (n : ℕ). AreCounted n (insert_entry level_order tree k c.args.stored)) (sym c.saturating_add-self-inside.ensures)
+    let none : is_some (lookup (is_key k) tree) ≡ false =
+    ap is_some (sym c.in_ok-older.ensures.older) ∙ c.if-is_none.ensures in
+    subst (λ (rest : Entries Stored). AreCounted c.saturating_add-self-inside.result rest)
+    (sym c.in_ok-older.ensures.ok)
+    (subst (λ (n : ℕ). AreCounted n (insert_entry level_order tree k c.args.stored))
+    (sym c.saturating_add-self-inside.ensures)
     (put-new c.self.inside.count k c.args.stored tree none c.self.invariant))
 
 pub invariant_of-self-else-is_none : goal.invariant_of-self-else-is_none
 invariant_of-self-else-is_none c =
     let k = levels c.args.topic.now in
     let tree = c.self.inside.by_topic in
-    let some : is_some (lookup (is_key k) tree) ≡ true = ap is_some (sym c.in_ok-older.ensures.older) ∙ c.if-is_none.ensures in
-    subst (λ (rest : Entries Stored). AreCounted c.self.inside.count rest) (sym c.in_ok-older.ensures.ok)
+    let some : is_some (lookup (is_key k) tree) ≡ true =
+    ap is_some (sym c.in_ok-older.ensures.older) ∙ c.if-is_none.ensures in
+    subst (λ (rest : Entries Stored). AreCounted c.self.inside.count rest)
+    (sym c.in_ok-older.ensures.ok)
     (put-again c.self.inside.count k c.args.stored tree some c.self.invariant)

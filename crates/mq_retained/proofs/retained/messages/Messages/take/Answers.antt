@@ -13,9 +13,11 @@ pub one_less-self-inside-requires : goal.one_less-self-inside-requires
 one_less-self-inside-requires c =
     let k = levels c.args.topic.now in
     let tree = c.self.inside.by_topic in
-    let some : is_some (lookup (is_key k) tree) ≡ true = ap is_some (sym c.take-taken.ensures.value) ∙ sym c.if-is_some.ensures in
+    let some : is_some (lookup (is_key k) tree) ≡ true = ap is_some (sym c.take-taken.ensures.value)
+    ∙ sym c.if-is_some.ensures in
     c.self.invariant.number
-    ∙ ap capped (taken-fewer k tree some ∙ ap (λ (rest : Entries Stored). length rest + 1) (sym c.take-taken.ensures.rest))
+    ∙ ap capped (taken-fewer k tree some
+    ∙ ap (λ (rest : Entries Stored). length rest + 1) (sym c.take-taken.ensures.rest))
 
 pub invariant_of-self : goal.invariant_of-self
 invariant_of-self c = record {
@@ -28,6 +30,8 @@ pub invariant_of-self-else-is_some : goal.invariant_of-self-else-is_some
 invariant_of-self-else-is_some c =
     let k = levels c.args.topic.now in
     let tree = c.self.inside.by_topic in
-    let none : is_some (lookup (is_key k) tree) ≡ false = ap is_some (sym c.take-taken.ensures.value) ∙ sym c.if-is_some.ensures in
-    subst (λ (rest : Entries Stored). AreCounted c.self.inside.count rest) (sym c.take-taken.ensures.rest)
+    let none : is_some (lookup (is_key k) tree) ≡ false =
+    ap is_some (sym c.take-taken.ensures.value) ∙ sym c.if-is_some.ensures in
+    subst (λ (rest : Entries Stored). AreCounted c.self.inside.count rest)
+    (sym c.take-taken.ensures.rest)
     (none-taken c.self.inside.count k tree none c.self.invariant)

@@ -6,5 +6,6 @@ use Rattle.mq_router.proofs.delivery.summary.Summary.into_ids.Goals as goal
 
 pub returns : goal.returns
 returns c =
-    sorted-is c.self.inside.ids.items c.sort_unstable.new.self.items c.sort_unstable.ensures.permutation c.sort_unstable.ensures.sorted
+    sorted-is c.self.inside.ids.items c.sort_unstable.new.self.items
+    c.sort_unstable.ensures.permutation c.sort_unstable.ensures.sorted
     ∙ ap (λ (s : Summary). ascending s.identifiers) c.self.view_is

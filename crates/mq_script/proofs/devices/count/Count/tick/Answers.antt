@@ -6,4 +6,5 @@ use Rattle.mq_script.proofs.devices.count.Count.tick.Goals as goal
 pub returns : goal.returns
 returns c =
     fold-roll-Trail ℕ trail_step (record { before = c.of-2.result })
-    ∙ rw (c.of-2.ensures) (ap (λ t. trail_length t + 1) c.replace.ensures.value ∙ ap (λ n. n + 1) c.self.view_is)
+    ∙ rw (c.of-2.ensures) (ap (λ t. trail_length t + 1) c.replace.ensures.value
+    ∙ ap (λ n. n + 1) c.self.view_is)

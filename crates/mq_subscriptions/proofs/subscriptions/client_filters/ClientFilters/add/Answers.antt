@@ -9,12 +9,15 @@ use Rattle.mq_subscriptions.proofs.subscriptions.client_filters.ClientFilters.ad
 
 pub invariant_of-self-2 : goal.invariant_of-self-2
 invariant_of-self-2 c =
-    let asked : IsAsked c.in_ok-text.text = subst (λ (t : Text). is_subscription t ≡ true) (sym c.in_ok-text.ensures.ok) c.requires in
-    subst (AllByRecursion IsAsked) (sym c.in_ok-insert.ensures.keys) (asked-insert c.in_ok-text.text c.self.inside.texts.keys asked c.self.invariant)
+    let asked : IsAsked c.in_ok-text.text =
+    subst (λ (t : Text). is_subscription t ≡ true) (sym c.in_ok-text.ensures.ok) c.requires in
+    subst (AllByRecursion IsAsked) (sym c.in_ok-insert.ensures.keys)
+    (asked-insert c.in_ok-text.text c.self.inside.texts.keys asked c.self.invariant)
 
 pub returns-clause-ok : goal.returns-clause-ok
 returns-clause-ok c = λ s.
     ap (λ l. is_in_list (map key_in l) s) c.in_ok-insert.ensures.keys
     ∙ own-insert c.in_ok-text.text c.self.inside.texts.keys s
-    ∙ ap (λ (t : Text). is_own s (text_key t) || is_in_list (map key_in c.self.inside.texts.keys) s) c.in_ok-text.ensures.ok
+    ∙ ap (λ (t : Text). is_own s (text_key t) || is_in_list (map key_in c.self.inside.texts.keys) s)
+    c.in_ok-text.ensures.ok
     ∙ ap (λ (l : List OwnKey). is_own s (text_key c.args.text.now) || is_in_list l s) c.self.view_is

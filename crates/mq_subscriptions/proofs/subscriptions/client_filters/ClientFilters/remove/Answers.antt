@@ -8,10 +8,14 @@ use Rattle.mq_subscriptions.proofs.subscriptions.client_filters.ClientFilters.re
 
 pub invariant_of-self : goal.invariant_of-self
 invariant_of-self c =
-    subst (AllByRecursion IsAsked) (sym c.remove.ensures.keys) (asked-remove (λ k. is_text c.args.text.now (rc_str_bytes k)) c.self.inside.texts.keys c.self.invariant)
+    subst (AllByRecursion IsAsked) (sym c.remove.ensures.keys)
+    (asked-remove (λ k. is_text c.args.text.now (rc_str_bytes k)) c.self.inside.texts.keys
+    c.self.invariant)
 
 pub returns : goal.returns
 returns c = λ s.
     ap (λ l. is_in_list (map key_in l) s) c.remove.ensures.keys
-    ∙ own-remove c.args.text.now c.self.inside.texts.keys c.requires c.self.invariant c.len-count.ensures.ordered s
-    ∙ ap (λ (l : List OwnKey). not (is_own s (text_key c.args.text.now)) && is_in_list l s) c.self.view_is
+    ∙ own-remove c.args.text.now c.self.inside.texts.keys c.requires c.self.invariant
+    c.len-count.ensures.ordered s
+    ∙ ap (λ (l : List OwnKey). not (is_own s (text_key c.args.text.now)) && is_in_list l s)
+    c.self.view_is

@@ -10,11 +10,17 @@ use Rattle.mq_subscriptions.proofs.subscriptions.filter_entry.FilterEntry.contai
 pub returns-in-None : goal.returns-in-None
 returns-in-None c =
     let f = c.self.inside.filter.value in
-    subst (λ (a : At). c.has_direct.result ≡ list_any (has_key c.args.client.now (option_copied c.args.share) a.filter) a.rows) c.self.view_is
-    (rw c.in-None.is (c.has_direct.ensures f ∙ at-any-own f c.args.client.now (texts c.self.inside.direct.entries) (texts c.self.inside.groups.entries)))
+    subst (λ (a : At). c.has_direct.result ≡ list_any
+    (has_key c.args.client.now (option_copied c.args.share) a.filter) a.rows) c.self.view_is
+    (rw c.in-None.is (c.has_direct.ensures f
+    ∙ at-any-own f c.args.client.now (texts c.self.inside.direct.entries)
+    (texts c.self.inside.groups.entries)))
 
 pub returns-in-Some : goal.returns-in-Some
 returns-in-Some c =
     let f = c.self.inside.filter.value in
-    subst (λ (a : At). c.has_member.result ≡ list_any (has_key c.args.client.now (option_copied c.args.share) a.filter) a.rows) c.self.view_is
-    (rw c.in-Some.is (c.has_member.ensures f ∙ at-any-shared f c.args.client.now c.in-Some.share.now (texts c.self.inside.direct.entries) (texts c.self.inside.groups.entries)))
+    subst (λ (a : At). c.has_member.result ≡ list_any
+    (has_key c.args.client.now (option_copied c.args.share) a.filter) a.rows) c.self.view_is
+    (rw c.in-Some.is (c.has_member.ensures f
+    ∙ at-any-shared f c.args.client.now c.in-Some.share.now
+    (texts c.self.inside.direct.entries) (texts c.self.inside.groups.entries)))

@@ -11,6 +11,10 @@ pub loop-client-init : goal.loop-client-init
 loop-client-init c =
     let m = message_of c.args.message.now in
     let start = matched c.args.matches.now.items in
-    ap (λ es. start ++ own_matches m (direct_rows [] (texts es))) c.into_iter-client-iterator.ensures.into_iter_gives.0
-    ∙ ap (λ l. start ++ l) (subst (λ (a : At). own_matches m (direct_rows [] (texts c.self.inside.direct.entries)) ≡ own_matches m a.rows) c.self.view_is
-    (matches-at m c.self.inside.filter.value (texts c.self.inside.direct.entries) (texts c.self.inside.groups.entries)))
+    ap (λ es. start ++ own_matches m (direct_rows [] (texts es)))
+    c.into_iter-client-iterator.ensures.into_iter_gives.0
+    ∙ ap (λ l. start ++ l)
+    (subst (λ (a : At). own_matches m (direct_rows [] (texts c.self.inside.direct.entries))
+    ≡ own_matches m a.rows) c.self.view_is
+    (matches-at m c.self.inside.filter.value (texts c.self.inside.direct.entries)
+    (texts c.self.inside.groups.entries)))

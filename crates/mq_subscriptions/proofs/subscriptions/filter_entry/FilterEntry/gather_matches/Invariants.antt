@@ -8,4 +8,6 @@ use Rattle.mq_subscriptions.proofs.subscriptions.filter_entry.FilterEntry.gather
 
 abbrev pub invariant-loop-client : goal.invariant-loop-client
 invariant-loop-client l =
-    matched l.matches.items ++ own_matches (message_of l.message) (direct_rows [] (texts l.client-iterator)) ≡ matched l.initial.matches.items ++ own_matches (message_of l.message) l.self.rows
+    matched l.matches.items ++ own_matches (message_of l.message)
+    (direct_rows [] (texts l.client-iterator)) ≡ matched l.initial.matches.items
+    ++ own_matches (message_of l.message) l.self.rows

@@ -21,9 +21,14 @@ loop-share-init c =
     let S = c.args.readers.now.sessions.now in
     let N = c.args.name.now in
     let gs = c.self.inside.groups.entries in
-    λ share. ap (λ es. start share ++ turns_left A S N c.args.self.now.filter share (texts es)) c.into_iter-share-iterator.ensures.into_iter_gives.0
-    ∙ ap (λ l. start share ++ l) (subst (λ (a : At). turns_left A S N a.filter share (texts gs) ≡ turns_of (next_in A S a.rows N (record { share = share; filter = a.filter }))) c.self.view_is
-    (turns-at A S N c.self.inside.filter.value share (texts c.self.inside.direct.entries) (texts gs) (ordered-texts gs c.into_iter-share-iterator.ensures.into_iter_gives.5)))
+    λ share. ap (λ es. start share ++ turns_left A S N c.args.self.now.filter share (texts es))
+    c.into_iter-share-iterator.ensures.into_iter_gives.0
+    ∙ ap (λ l. start share ++ l)
+    (subst (λ (a : At). turns_left A S N a.filter share (texts gs)
+    ≡ turns_of (next_in A S a.rows N (record { share = share; filter = a.filter })))
+    c.self.view_is
+    (turns-at A S N c.self.inside.filter.value share (texts c.self.inside.direct.entries) (texts gs)
+    (ordered-texts gs c.into_iter-share-iterator.ensures.into_iter_gives.5)))
 
 pub loop-share-preserved-in_ok-push : goal.loop-share-preserved-in_ok-push
 loop-share-preserved-in_ok-push c =
@@ -33,10 +38,16 @@ loop-share-preserved-in_ok-push c =
     let f = c.args.self.now.filter in
     let k = rc_str_bytes c.in-Some.share.now in
     let o = c.in-Some-next.options in
-    let left = rest_more deref_pair _ _ _ (c.in-Some.share, c.in-Some.group) c.in-Some.is c.next.ensures.steps in
-    λ share. turns-more A S N f share _ _ _ (k, c.in-Some.group.now) (texts c.next.new.self) c.in_ok-push.ensures.items c.in_ok-clone.ensures.cases
+    let left = rest_more deref_pair _ _ _ (c.in-Some.share, c.in-Some.group) c.in-Some.is
+    c.next.ensures.steps in
+    λ share. turns-more A S N f share _ _ _ (k, c.in-Some.group.now) (texts c.next.new.self)
+    c.in_ok-push.ensures.items c.in_ok-clone.ensures.cases
     (ap (option_map (row (Some k) f)) (sym c.in-Some-next.ensures)
-    ∙ ap (λ s. Some s) (same_turn (rc_str_bytes c.in-Some-next.client.now) (rc_str_bytes c.in_ok-clone-3.field-0) k (rc_str_bytes c.in_ok-clone.field-0) f c.in_ok-clone-2.field-0.value o (sym c.in_ok-clone-3.ensures.cases) (sym c.in_ok-clone.ensures.cases)
+    ∙ ap (λ s. Some s) (same_turn (rc_str_bytes c.in-Some-next.client.now)
+    (rc_str_bytes c.in_ok-clone-3.field-0) k (rc_str_bytes c.in_ok-clone.field-0) f
+    c.in_ok-clone-2.field-0.value o (sym c.in_ok-clone-3.ensures.cases)
+    (sym c.in_ok-clone.ensures.cases)
     (sym (c.in_ok-clone-2.ensures.cases ∙ ap (λ (a : At). a.filter) c.self.view_is))))
-    ∙ ap (λ es. turns_listed share c.loop-share.turns.items ++ turns_left A S N f share (texts es)) (sym left)
+    ∙ ap (λ es. turns_listed share c.loop-share.turns.items ++ turns_left A S N f share (texts es))
+    (sym left)
     ∙ c.loop-share.invariant share

@@ -9,4 +9,8 @@ use Rattle.mq_subscriptions.proofs.subscriptions.filter_entry.FilterEntry.gather
 
 abbrev pub invariant-loop-share : goal.invariant-loop-share
 invariant-loop-share l =
-    (share : Text) → turns_listed share l.turns.items ++ turns_left l.readers.access.now l.readers.sessions.now l.name l.self.filter share (texts l.share-iterator) ≡ turns_listed share l.initial.turns.items ++ turns_of (next_in l.readers.access.now l.readers.sessions.now l.self.rows l.name (record { share = share; filter = l.self.filter }))
+    (share : Text) → turns_listed share l.turns.items
+    ++ turns_left l.readers.access.now l.readers.sessions.now l.name l.self.filter share
+    (texts l.share-iterator) ≡ turns_listed share l.initial.turns.items
+    ++ turns_of (next_in l.readers.access.now l.readers.sessions.now l.self.rows l.name
+    (record { share = share; filter = l.self.filter }))

@@ -7,6 +7,9 @@ use Rattle.mq_subscriptions.proofs.subscriptions.filter_entry.FilterEntryCounted
 
 pub returns : goal.returns
 returns c =
-    let number : length c.args.self.now.rows ≡ length c.self.inside.direct.entries + sum_by length (values_of c.self.inside.groups.entries) =
-    sym (ap (λ (a : At). length a.rows) c.self.view_is) ∙ at-number c.self.inside.filter.value c.self.inside.direct.entries c.self.inside.groups.entries in
+    let number : length c.args.self.now.rows ≡ length c.self.inside.direct.entries
+    + sum_by length (values_of c.self.inside.groups.entries) =
+    sym (ap (λ (a : At). length a.rows) c.self.view_is)
+    ∙ at-number c.self.inside.filter.value c.self.inside.direct.entries
+    c.self.inside.groups.entries in
     omega (arith, number, c.saturating_add.ensures, c.member_count.ensures, c.len.ensures.len)

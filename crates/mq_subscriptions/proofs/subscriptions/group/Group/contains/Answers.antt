@@ -6,5 +6,6 @@ use Rattle.mq_subscriptions.proofs.subscriptions.group.Group.contains.Goals as g
 
 pub returns : goal.returns
 returns c =
-    c.is_some.ensures ∙ c.get_index_of.ensures.found ∙ contains-texts c.args.client.now c.self.inside.members.entries
+    c.is_some.ensures ∙ c.get_index_of.ensures.found
+    ∙ contains-texts c.args.client.now c.self.inside.members.entries
     ∙ ap (list_any (has_client c.args.client.now)) c.self.view_is

@@ -8,5 +8,8 @@ use Rattle.mq_subscriptions.proofs.subscriptions.group.Group.join.Goals as goal
 
 pub returns-clause-ok : goal.returns-clause-ok
 returns-clause-ok c =
-    ap texts c.in_ok-insert.ensures.entries ∙ joined-texts c.self.inside.members.entries c.args.client c.args.options c.len-count.ensures.unique
-    ∙ ap (with_one (has_client (rc_str_bytes c.args.client)) (rc_str_bytes c.args.client, c.args.options)) c.self.view_is
+    ap texts c.in_ok-insert.ensures.entries
+    ∙ joined-texts c.self.inside.members.entries c.args.client c.args.options
+    c.len-count.ensures.unique
+    ∙ ap (with_one (has_client (rc_str_bytes c.args.client))
+    (rc_str_bytes c.args.client, c.args.options)) c.self.view_is

@@ -7,5 +7,6 @@ use Rattle.mq_subscriptions.proofs.subscriptions.group.Group.leave.Goals as goal
 
 pub returns : goal.returns
 returns c =
-    ap texts c.shift_remove.ensures.entries ∙ removed-texts c.args.client.now c.self.inside.members.entries c.len-count.ensures.unique
+    ap texts c.shift_remove.ensures.entries
+    ∙ removed-texts c.args.client.now c.self.inside.members.entries c.len-count.ensures.unique
     ∙ ap (filter (λ m. not (has_client c.args.client.now m))) c.self.view_is

@@ -8,4 +8,6 @@ use Rattle.mq_tree.proofs.tree.node.Node.+nodes.Given as goal
 
 abbrev pub invariant-loop-child : goal.invariant-loop-child
 invariant-loop-child g l =
-    (capped (l.total + sum_by (λ node. length (prefixes (keys_of (entries_in node))) + 1) l.child-iterator) ≡ capped (length (prefixes (keys_of (entries_of l.self))))) × (l.total ≤ 18446744073709551615)
+    (capped (l.total + sum_by (λ node. length (prefixes (keys_of (entries_in node))) + 1)
+    l.child-iterator) ≡ capped (length (prefixes (keys_of (entries_of l.self)))))
+    × (l.total ≤ 18446744073709551615)

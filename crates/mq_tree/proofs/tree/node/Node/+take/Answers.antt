@@ -5,62 +5,125 @@ use Rattle.mq_tree.specs.Nodes.{own, below, children_of}
 use Rattle.mq_tree.proofs.Edits.{remove-here}
 use Rattle.mq_tree.proofs.Children.{lookup-here}
 use Rattle.mq_tree.proofs.Changes.{nil_from_bare, some_from_not_bare}
-use Rattle.mq_tree.proofs.Descents.{At, found_step, take_kept, take_cut, take_none, children_set, children_cut}
+use Rattle.mq_tree.proofs.Descents.{At, found_step, take_kept, take_cut, take_none, children_set}
+use Rattle.mq_tree.proofs.Descents.{children_cut}
 use Rattle.mq_tree.proofs.tree.node.Node.+take.Goals as goal
 
 pub returns-in_default-clause-value : goal.returns-in_default-clause-value
 returns-in_default-clause-value g t c =
-    rw (c.in_default.is, ← c.self.view_is) (c.take.ensures.value ∙ sym (lookup-here c.self.inside.value (children_of c.self.inside.children.entries)))
+    rw (c.in_default.is, ← c.self.view_is) (c.take.ensures.value
+    ∙ sym (lookup-here c.self.inside.value (children_of c.self.inside.children.entries)))
 
 pub returns-in_default-clause-rest : goal.returns-in_default-clause-rest
 returns-in_default-clause-rest g t c =
     let children = children_of c.self.inside.children.entries in
-    rw (c.in_default.is, ← c.self.view_is) (ap (λ v. own v ++ below children) c.take.ensures.after ∙ sym (remove-here c.self.inside.value children))
+    rw (c.in_default.is, ← c.self.view_is) (ap (λ v. own v ++ below children) c.take.ensures.after
+    ∙ sym (remove-here c.self.inside.value children))
 
 pub returns-in_default-get_mut-clause-value : goal.returns-in_default-get_mut-clause-value
 returns-in_default-get_mut-clause-value g t c =
-    let at : At (levels_left c.args.key) c.split_first.result.0.now (levels_left c.split_first.result.1) c.self.inside.value c.self.inside.children.entries c.args.self.now = record { key_is = ap levels_left c.in-Some.is ∙ c.split_first.ensures; are = c.self.invariant; is = c.self.view_is } in
+    let at : At (levels_left c.args.key) c.split_first.result.0.now
+    (levels_left c.split_first.result.1) c.self.inside.value c.self.inside.children.entries
+    c.args.self.now = record {
+      key_is = ap levels_left c.in-Some.is ∙ c.split_first.ensures;
+      are = c.self.invariant;
+      is = c.self.view_is;
+    } in
     sym (found_step _ _ _ _ _ _ at None (rw c.in_default-get_mut.is at c.get_mut.ensures.value))
 
 pub returns-in_default-get_mut-clause-rest : goal.returns-in_default-get_mut-clause-rest
 returns-in_default-get_mut-clause-rest g t c =
-    let at : At (levels_left c.args.key) c.split_first.result.0.now (levels_left c.split_first.result.1) c.self.inside.value c.self.inside.children.entries c.args.self.now = record { key_is = ap levels_left c.in-Some.is ∙ c.split_first.ensures; are = c.self.invariant; is = c.self.view_is } in
-    take_none _ _ _ _ _ _ at c.get_mut.follows.lender-at-none.entries (rw c.in_default-get_mut.is at c.get_mut.ensures.value) (ap (λ m. m.entries) c.get_mut.follows.holds-at-none)
+    let at : At (levels_left c.args.key) c.split_first.result.0.now
+    (levels_left c.split_first.result.1) c.self.inside.value c.self.inside.children.entries
+    c.args.self.now = record {
+      key_is = ap levels_left c.in-Some.is ∙ c.split_first.ensures;
+      are = c.self.invariant;
+      is = c.self.view_is;
+    } in
+    take_none _ _ _ _ _ _ at c.get_mut.follows.lender-at-none.entries
+    (rw c.in_default-get_mut.is at c.get_mut.ensures.value)
+    (ap (λ m. m.entries) c.get_mut.follows.holds-at-none)
 
 pub invariant_of-self-then-is_bare : goal.invariant_of-self-then-is_bare
 invariant_of-self-then-is_bare g t c =
-    let at : At (levels_left c.args.key) c.split_first.result.0.now (levels_left c.split_first.result.1) c.self.inside.value c.self.inside.children.entries c.args.self.now = record { key_is = ap levels_left c.in-Some.is ∙ c.split_first.ensures; are = c.self.invariant; is = c.self.view_is } in
+    let at : At (levels_left c.args.key) c.split_first.result.0.now
+    (levels_left c.split_first.result.1) c.self.inside.value c.self.inside.children.entries
+    c.args.self.now = record {
+      key_is = ap levels_left c.in-Some.is ∙ c.split_first.ensures;
+      are = c.self.invariant;
+      is = c.self.view_is;
+    } in
     let new = with_value c.in-Some-get_mut.child.now c.take-taken.new.self in
-    children_cut _ _ _ _ _ _ at new _ _ (c.get_mut.follows.holds new).0 c.cut.ensures.entries c.cut.ensures.ordered
+    children_cut _ _ _ _ _ _ at new _ _ (c.get_mut.follows.holds new).0 c.cut.ensures.entries
+    c.cut.ensures.ordered
 
 pub invariant_of-self-else-is_bare : goal.invariant_of-self-else-is_bare
 invariant_of-self-else-is_bare g t c =
-    let at : At (levels_left c.args.key) c.split_first.result.0.now (levels_left c.split_first.result.1) c.self.inside.value c.self.inside.children.entries c.args.self.now = record { key_is = ap levels_left c.in-Some.is ∙ c.split_first.ensures; are = c.self.invariant; is = c.self.view_is } in
+    let at : At (levels_left c.args.key) c.split_first.result.0.now
+    (levels_left c.split_first.result.1) c.self.inside.value c.self.inside.children.entries
+    c.args.self.now = record {
+      key_is = ap levels_left c.in-Some.is ∙ c.split_first.ensures;
+      are = c.self.invariant;
+      is = c.self.view_is;
+    } in
     let new = with_value c.in-Some-get_mut.child.now c.take-taken.new.self in
     let w = c.get_mut.follows.holds new in
-    children_set _ _ _ _ _ _ at new _ (some_from_not_bare _ c.is_bare.result (rw c.deref.ensures at c.is_bare.ensures) c.if-is_bare.false) w.0 w.4
+    children_set _ _ _ _ _ _ at new _
+    (some_from_not_bare _ c.is_bare.result (rw c.deref.ensures at c.is_bare.ensures)
+    c.if-is_bare.false) w.0 w.4
 
 pub returns-then-is_bare-clause-value : goal.returns-then-is_bare-clause-value
 returns-then-is_bare-clause-value g t c =
-    let at : At (levels_left c.args.key) c.split_first.result.0.now (levels_left c.split_first.result.1) c.self.inside.value c.self.inside.children.entries c.args.self.now = record { key_is = ap levels_left c.in-Some.is ∙ c.split_first.ensures; are = c.self.invariant; is = c.self.view_is } in
-    rw c.deref_mut.ensures.value at c.take-taken.ensures.value ∙ sym (found_step _ _ _ _ _ _ at (Some c.in-Some-get_mut.child.now) (rw c.in-Some-get_mut.is at c.get_mut.ensures.value))
+    let at : At (levels_left c.args.key) c.split_first.result.0.now
+    (levels_left c.split_first.result.1) c.self.inside.value c.self.inside.children.entries
+    c.args.self.now = record {
+      key_is = ap levels_left c.in-Some.is ∙ c.split_first.ensures;
+      are = c.self.invariant;
+      is = c.self.view_is;
+    } in
+    rw c.deref_mut.ensures.value at c.take-taken.ensures.value
+    ∙ sym (found_step _ _ _ _ _ _ at (Some c.in-Some-get_mut.child.now)
+    (rw c.in-Some-get_mut.is at c.get_mut.ensures.value))
 
 pub returns-then-is_bare-clause-rest : goal.returns-then-is_bare-clause-rest
 returns-then-is_bare-clause-rest g t c =
-    let at : At (levels_left c.args.key) c.split_first.result.0.now (levels_left c.split_first.result.1) c.self.inside.value c.self.inside.children.entries c.args.self.now = record { key_is = ap levels_left c.in-Some.is ∙ c.split_first.ensures; are = c.self.invariant; is = c.self.view_is } in
+    let at : At (levels_left c.args.key) c.split_first.result.0.now
+    (levels_left c.split_first.result.1) c.self.inside.value c.self.inside.children.entries
+    c.args.self.now = record {
+      key_is = ap levels_left c.in-Some.is ∙ c.split_first.ensures;
+      are = c.self.invariant;
+      is = c.self.view_is;
+    } in
     let child = c.in-Some-get_mut.child.now in
     let new = with_value child c.take-taken.new.self in
-    take_cut _ _ _ _ _ _ at child new _ _ (rw c.in-Some-get_mut.is at c.get_mut.ensures.value) (rw c.deref_mut.ensures.value at c.take-taken.ensures.rest)
-    (nil_from_bare _ c.is_bare.result (rw c.deref.ensures at c.is_bare.ensures) c.if-is_bare.true) (c.get_mut.follows.holds new).0 c.cut.ensures.entries
+    take_cut _ _ _ _ _ _ at child new _ _ (rw c.in-Some-get_mut.is at c.get_mut.ensures.value)
+    (rw c.deref_mut.ensures.value at c.take-taken.ensures.rest)
+    (nil_from_bare _ c.is_bare.result (rw c.deref.ensures at c.is_bare.ensures) c.if-is_bare.true)
+    (c.get_mut.follows.holds new).0 c.cut.ensures.entries
 
 pub returns-else-is_bare-clause-value : goal.returns-else-is_bare-clause-value
 returns-else-is_bare-clause-value g t c =
-    let at : At (levels_left c.args.key) c.split_first.result.0.now (levels_left c.split_first.result.1) c.self.inside.value c.self.inside.children.entries c.args.self.now = record { key_is = ap levels_left c.in-Some.is ∙ c.split_first.ensures; are = c.self.invariant; is = c.self.view_is } in
-    rw c.deref_mut.ensures.value at c.take-taken.ensures.value ∙ sym (found_step _ _ _ _ _ _ at (Some c.in-Some-get_mut.child.now) (rw c.in-Some-get_mut.is at c.get_mut.ensures.value))
+    let at : At (levels_left c.args.key) c.split_first.result.0.now
+    (levels_left c.split_first.result.1) c.self.inside.value c.self.inside.children.entries
+    c.args.self.now = record {
+      key_is = ap levels_left c.in-Some.is ∙ c.split_first.ensures;
+      are = c.self.invariant;
+      is = c.self.view_is;
+    } in
+    rw c.deref_mut.ensures.value at c.take-taken.ensures.value
+    ∙ sym (found_step _ _ _ _ _ _ at (Some c.in-Some-get_mut.child.now)
+    (rw c.in-Some-get_mut.is at c.get_mut.ensures.value))
 
 pub returns-else-is_bare-clause-rest : goal.returns-else-is_bare-clause-rest
 returns-else-is_bare-clause-rest g t c =
-    let at : At (levels_left c.args.key) c.split_first.result.0.now (levels_left c.split_first.result.1) c.self.inside.value c.self.inside.children.entries c.args.self.now = record { key_is = ap levels_left c.in-Some.is ∙ c.split_first.ensures; are = c.self.invariant; is = c.self.view_is } in
+    let at : At (levels_left c.args.key) c.split_first.result.0.now
+    (levels_left c.split_first.result.1) c.self.inside.value c.self.inside.children.entries
+    c.args.self.now = record {
+      key_is = ap levels_left c.in-Some.is ∙ c.split_first.ensures;
+      are = c.self.invariant;
+      is = c.self.view_is;
+    } in
     let child = c.in-Some-get_mut.child.now in
     let new = with_value child c.take-taken.new.self in
-    take_kept _ _ _ _ _ _ at child new _ (rw c.in-Some-get_mut.is at c.get_mut.ensures.value) (rw c.deref_mut.ensures.value at c.take-taken.ensures.rest) (c.get_mut.follows.holds new).0
+    take_kept _ _ _ _ _ _ at child new _ (rw c.in-Some-get_mut.is at c.get_mut.ensures.value)
+    (rw c.deref_mut.ensures.value at c.take-taken.ensures.rest) (c.get_mut.follows.holds new).0

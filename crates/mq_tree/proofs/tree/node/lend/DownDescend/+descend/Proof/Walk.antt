@@ -71,10 +71,12 @@ module _ (V : RattleType.RattleType) (LV : Laws'.Laws V) where
   name-0 = 38 ∷ 91 ∷ 93 ∷ []
 
   abbrev pub name-1 : List Nat.ℕ
-  name-1 = 99 ∷ 111 ∷ 114 ∷ 101 ∷ 58 ∷ 58 ∷ 111 ∷ 112 ∷ 116 ∷ 105 ∷ 111 ∷ 110 ∷ 58 ∷ 58 ∷ 79 ∷ 112 ∷ 116 ∷ 105 ∷ 111 ∷ 110 ∷ []
+  name-1 = 99 ∷ 111 ∷ 114 ∷ 101 ∷ 58 ∷ 58 ∷ 111 ∷ 112 ∷ 116 ∷ 105 ∷ 111 ∷ 110 ∷ 58 ∷ 58 ∷ 79 ∷ 112
+      ∷ 116 ∷ 105 ∷ 111 ∷ 110 ∷ []
 
   abbrev pub name-3 : List Nat.ℕ
-  name-3 = 109 ∷ 113 ∷ 95 ∷ 116 ∷ 114 ∷ 101 ∷ 101 ∷ 58 ∷ 58 ∷ 116 ∷ 114 ∷ 101 ∷ 101 ∷ 58 ∷ 58 ∷ 110 ∷ 111 ∷ 100 ∷ 101 ∷ 58 ∷ 58 ∷ 78 ∷ 111 ∷ 100 ∷ 101 ∷ []
+  name-3 = 109 ∷ 113 ∷ 95 ∷ 116 ∷ 114 ∷ 101 ∷ 101 ∷ 58 ∷ 58 ∷ 116 ∷ 114 ∷ 101 ∷ 101 ∷ 58 ∷ 58 ∷ 110
+      ∷ 111 ∷ 100 ∷ 101 ∷ 58 ∷ 58 ∷ 78 ∷ 111 ∷ 100 ∷ 101 ∷ []
 
   abbrev pub behind-3 : Syntax.Ty
   behind-3 = Syntax.ty_named (name-3, []) (Syntax.tcons (Syntax.ty_param 0) Syntax.tnil)
@@ -90,7 +92,8 @@ module _ (V : RattleType.RattleType) (LV : Laws'.Laws V) where
 
   -- what is lent under a lifetime, the key's text as it is passed in, and as it is passed on
   abbrev lent_at : Fml.Lft → Declared.Declared
-  lent_at c = Option.the_type (Field.mut_ref_field record { mir = Syntax.named 0; lft = c } value tt).row
+  lent_at c = Option.the_type
+      (Field.mut_ref_field record { mir = Syntax.named 0; lft = c } value tt).row
 
   abbrev hands : Kind.Owes node
   hands = Maybe.maybe node value (lent_at []).D
@@ -111,11 +114,18 @@ module _ (V : RattleType.RattleType) (LV : Laws'.Laws V) where
   key_here c = Declared.row (Option.the_type (text_here c).row)
 
   abbrev key_ty : Syntax.Lifetime → Syntax.Ty
-  key_ty a = Syntax.ty_enum name-1 (Syntax.ttcons Syntax.tnil (Syntax.ttcons (Syntax.tcons (Syntax.ty_struct name-0 (Syntax.tcons (Syntax.ty_ref a Syntax.imm (Syntax.ty_int Syntax.w8))
+  key_ty a = Syntax.ty_enum name-1
+      (Syntax.ttcons Syntax.tnil
+      (Syntax.ttcons
+      (Syntax.tcons (Syntax.ty_struct name-0
+      (Syntax.tcons (Syntax.ty_ref a Syntax.imm (Syntax.ty_int Syntax.w8))
       (Syntax.tcons (Syntax.ty_int Syntax.w64) Syntax.tnil))) Syntax.tnil) Syntax.ttnil))
 
   abbrev lent_ty : Syntax.Ty
-  lent_ty = Syntax.ty_enum name-1 (Syntax.ttcons Syntax.tnil (Syntax.ttcons (Syntax.tcons (Syntax.ty_ref (Syntax.named 0) Syntax.mut (Syntax.ty_param 0)) Syntax.tnil) Syntax.ttnil))
+  lent_ty = Syntax.ty_enum name-1
+      (Syntax.ttcons Syntax.tnil
+      (Syntax.ttcons (Syntax.tcons (Syntax.ty_ref (Syntax.named 0) Syntax.mut (Syntax.ty_param 0))
+      Syntax.tnil) Syntax.ttnil))
 
   abbrev ref_ty : Syntax.Lifetime → Syntax.Ty
   ref_ty a = Syntax.ty_ref a Syntax.mut behind-3
@@ -149,7 +159,8 @@ module _ (V : RattleType.RattleType) (LV : Laws'.Laws V) where
   passed-0 = (
     Syntax.tcons (Param.layout V) (Syntax.tcons (Syntax.ty_struct [] Syntax.tnil) Syntax.tnil),
     Syntax.dcons (Syntax.impl
-        ("mq_tree::tree::node::lend::DownDescend::descend" ∷ []) (Syntax.tcons (Param.layout V) Syntax.tnil) Syntax.dnil) Syntax.dnil,
+        ("mq_tree::tree::node::lend::DownDescend::descend" ∷ [])
+        (Syntax.tcons (Param.layout V) Syntax.tnil) Syntax.dnil) Syntax.dnil,
   )
 
   abbrev pub arg-0-0 : Lifetimes.Lfts 4 → RattleType.RattleType
@@ -158,11 +169,14 @@ module _ (V : RattleType.RattleType) (LV : Laws'.Laws V) where
   abbrev pub arg-0-1 : Lifetimes.Lfts 4 → RattleType.RattleType
   arg-0-1 = λ κs. Param.arg (Syntax.ty_struct [] Syntax.tnil) Exit.no Down.the_row
 
-  abbrev pub laws-0-0 : (κs : Lifetimes.Lfts 4) → Laws'.Laws (Param.arg (Param.layout V) Exit.yes value)
+  abbrev pub laws-0-0 : (κs : Lifetimes.Lfts 4)
+      → Laws'.Laws (Param.arg (Param.layout V) Exit.yes value)
   laws-0-0 = λ κs. Laws'.arg_laws (Param.layout V) Exit.yes value (Laws'.param_laws 0 V LV) refl
 
-  abbrev pub laws-0-1 : (κs : Lifetimes.Lfts 4) → Laws'.Laws (Param.arg (Syntax.ty_struct [] Syntax.tnil) Exit.no Down.the_row)
-  laws-0-1 = λ κs. Laws'.arg_laws (Syntax.ty_struct [] Syntax.tnil) Exit.no Down.the_row down.the_row_laws refl
+  abbrev pub laws-0-1 : (κs : Lifetimes.Lfts 4)
+      → Laws'.Laws (Param.arg (Syntax.ty_struct [] Syntax.tnil) Exit.no Down.the_row)
+  laws-0-1 = λ κs. Laws'.arg_laws (Syntax.ty_struct [] Syntax.tnil) Exit.no Down.the_row
+      down.the_row_laws refl
 
   abbrev pub whole-0 : RattleType.RattleType
   whole-0 = node
@@ -183,10 +197,12 @@ module _ (V : RattleType.RattleType) (LV : Laws'.Laws V) where
   lender-0 = callee.lender V Down.the_row LV down.the_row_laws
 
   abbrev pub hs : List Syntax.Home
-  hs = Syntax.value_local ∷ Syntax.value_local ∷ Syntax.value_local ∷ Syntax.value_local ∷ Syntax.value_local ∷ []
+  hs = Syntax.value_local ∷ Syntax.value_local ∷ Syntax.value_local ∷ Syntax.value_local
+      ∷ Syntax.value_local ∷ []
 
   abbrev b0 : Syntax.Body
-  b0 = Syntax.assign (Syntax.place 3 []) (Syntax.addr_of (Syntax.place 1 ((Syntax.deref ty-3) ∷ [])))
+  b0 = Syntax.assign (Syntax.place 3 [])
+      (Syntax.addr_of (Syntax.place 1 ((Syntax.deref ty-3) ∷ [])))
 
   abbrev b1 : Syntax.Body
   b1 = Syntax.assign (Syntax.place 4 []) (Syntax.rv_opd (Syntax.copy (Syntax.place 2 [])))
@@ -195,7 +211,8 @@ module _ (V : RattleType.RattleType) (LV : Laws'.Laws V) where
   b2 = Syntax.call (Syntax.fn "mq_tree::tree::node::Node::lend" (
     Syntax.tcons (Param.layout V) (Syntax.tcons (Syntax.ty_struct [] Syntax.tnil) Syntax.tnil),
     Syntax.dcons
-        (Syntax.impl ("mq_tree::tree::node::lend::DownDescend::descend" ∷ []) (Syntax.tcons (Param.layout V) Syntax.tnil) Syntax.dnil) Syntax.dnil,
+        (Syntax.impl ("mq_tree::tree::node::lend::DownDescend::descend" ∷ [])
+        (Syntax.tcons (Param.layout V) Syntax.tnil) Syntax.dnil) Syntax.dnil,
   )) ((Syntax.copy
       (Syntax.place 3 [])) ∷ (Syntax.copy (Syntax.place 4 [])) ∷ []) (Syntax.place 0 [])
 
@@ -218,43 +235,56 @@ module _ (V : RattleType.RattleType) (LV : Laws'.Laws V) where
   function = Function.fn_of 3 ps r xs m hs body
 
   abbrev pub Claims : Type 1
-  Claims = Kinds.In 4 ps-0 × Kinds.Out 4 ps-0 r-0 × So.HowSo 4 whole-0 part-0 named-0 lender-0 rest-0 r-0 (AtSlots.one_type 4 named-0)
+  Claims = Kinds.In 4 ps-0 × Kinds.Out 4 ps-0 r-0
+      × So.HowSo 4 whole-0 part-0 named-0 lender-0 rest-0 r-0 (AtSlots.one_type 4 named-0)
 
   abbrev pub t0 : List Row.Entry
-  t0 = rows (Rows.any_gone lent_ty) (Rows.mref node (ref_ty (Syntax.named 0)) 0) (Rows.whole (key_row [])) (Rows.any_gone (ref_ty Syntax.erased)) (Rows.any_gone
+  t0 = rows (Rows.any_gone lent_ty) (Rows.mref node (ref_ty (Syntax.named 0)) 0)
+      (Rows.whole (key_row [])) (Rows.any_gone (ref_ty Syntax.erased)) (Rows.any_gone
       (key_ty Syntax.erased))
 
   abbrev pub t1 : List Row.Entry
-  t1 = rows (Rows.whole (lent_row [])) (Kind.owing_by node hands (ref_ty (Syntax.named 0))) (Rows.whole (key_row [])) (Rows.any_gone (ref_ty Syntax.erased))
+  t1 = rows (Rows.whole (lent_row [])) (Kind.owing_by node hands (ref_ty (Syntax.named 0)))
+      (Rows.whole (key_row [])) (Rows.any_gone (ref_ty Syntax.erased))
       (Rows.any_gone (key_ty Syntax.erased))
 
   abbrev pub t2 : List Row.Entry
-  t2 = rows (Rows.any_gone lent_ty) (Rows.any_gone (ref_ty (Syntax.named 0))) (Rows.whole (key_row [])) (Rows.mref node (ref_ty Syntax.erased) 0) (Rows.any_gone
+  t2 = rows (Rows.any_gone lent_ty) (Rows.any_gone (ref_ty (Syntax.named 0)))
+      (Rows.whole (key_row [])) (Rows.mref node (ref_ty Syntax.erased) 0) (Rows.any_gone
       (key_ty Syntax.erased))
 
   abbrev pub t3 : List Row.Entry
-  t3 = rows (Rows.any_gone lent_ty) (Rows.any_gone (ref_ty (Syntax.named 0))) (Rows.whole (key_row [])) (Rows.mref node (ref_ty Syntax.erased) 0) (Rows.whole
+  t3 = rows (Rows.any_gone lent_ty) (Rows.any_gone (ref_ty (Syntax.named 0)))
+      (Rows.whole (key_row [])) (Rows.mref node (ref_ty Syntax.erased) 0) (Rows.whole
       (key_here []))
 
   abbrev pub t4 : List Row.Entry
-  t4 = rows (Rows.any_gone lent_ty) (Rows.any_gone (ref_ty (Syntax.named 0))) (Rows.whole (key_row [])) (Rows.mref node (ref_ty Syntax.erased) 0) (ValueAt.val_at 4 (λ
-      κc. key_row κc.1.0) (Option.the_type (text_at []).row).D (λ κc v. v) (0 ∷ 1 ∷ 2 ∷ 3 ∷ []) (key_ty Syntax.erased))
+  t4 = rows (Rows.any_gone lent_ty) (Rows.any_gone (ref_ty (Syntax.named 0)))
+      (Rows.whole (key_row [])) (Rows.mref node (ref_ty Syntax.erased) 0) (ValueAt.val_at 4 (λ
+      κc. key_row κc.1.0) (Option.the_type (text_at []).row).D (λ κc v. v) (0 ∷ 1 ∷ 2 ∷ 3 ∷ [])
+      (key_ty Syntax.erased))
 
   abbrev pub t5 : List Row.Entry
-  t5 = rows (ValueAt.val_at 4 (λ κc. lent_row κc.0) (lent_at []).D (λ κc v. v) (0 ∷ 1 ∷ 2 ∷ 3 ∷ []) lent_ty) (Rows.any_gone (ref_ty (Syntax.named 0))) (Rows.whole
-      (key_row [])) (Maybe.waits_if node value (lent_at []).D (ref_ty Syntax.erased)) (ValueAt.val_at 4 (λ κc. key_row κc.1.0) (Option.the_type (text_at
+  t5 = rows (ValueAt.val_at 4 (λ κc. lent_row κc.0) (lent_at []).D (λ κc v. v) (0 ∷ 1 ∷ 2 ∷ 3 ∷ [])
+      lent_ty) (Rows.any_gone (ref_ty (Syntax.named 0))) (Rows.whole
+      (key_row [])) (Maybe.waits_if node value (lent_at []).D (ref_ty Syntax.erased))
+      (ValueAt.val_at 4 (λ κc. key_row κc.1.0) (Option.the_type (text_at
       ([])).row).D (λ κc v. v) (0 ∷ 1 ∷ 2 ∷ 3 ∷ []) (key_ty Syntax.erased))
 
   abbrev pub t6 : List Row.Entry
-  t6 = rows (ValueAt.val_at 4 (λ κc. lent_row κc.0) (lent_at []).D (λ κc v. v) (0 ∷ 1 ∷ 2 ∷ 3 ∷ []) lent_ty) (Rows.any_gone (ref_ty (Syntax.named 0))) (Rows.whole
-      (key_row [])) (Maybe.waits_if node value (lent_at []).D (ref_ty Syntax.erased)) (Rows.whole (key_here []))
+  t6 = rows (ValueAt.val_at 4 (λ κc. lent_row κc.0) (lent_at []).D (λ κc v. v) (0 ∷ 1 ∷ 2 ∷ 3 ∷ [])
+      lent_ty) (Rows.any_gone (ref_ty (Syntax.named 0))) (Rows.whole
+      (key_row [])) (Maybe.waits_if node value (lent_at []).D (ref_ty Syntax.erased))
+      (Rows.whole (key_here []))
 
   abbrev pub t7 : List Row.Entry
-  t7 = rows (Rows.whole (lent_row [])) (Rows.any_gone (ref_ty (Syntax.named 0))) (Rows.whole (key_row [])) (Maybe.waits_if node value (lent_at []).D (ref_ty
+  t7 = rows (Rows.whole (lent_row [])) (Rows.any_gone (ref_ty (Syntax.named 0)))
+      (Rows.whole (key_row [])) (Maybe.waits_if node value (lent_at []).D (ref_ty
       Syntax.erased)) (Rows.whole (key_here []))
 
   abbrev pub t8 : List Row.Entry
-  t8 = rows (Rows.whole (lent_row [])) (Rows.any_gone (ref_ty (Syntax.named 0))) (Rows.whole (key_row [])) (Maybe.waits_if node value (lent_at []).D (ref_ty
+  t8 = rows (Rows.whole (lent_row [])) (Rows.any_gone (ref_ty (Syntax.named 0)))
+      (Rows.whole (key_row [])) (Maybe.waits_if node value (lent_at []).D (ref_ty
       Syntax.erased)) (Rows.any_gone (key_ty Syntax.erased))
 
   abbrev pub Cx0 : Row.Cx
@@ -301,15 +331,22 @@ module _ (V : RattleType.RattleType) (LV : Laws'.Laws V) where
     s1 = Pass.n_ref_pass Cx0 1 3 0 node (ref_ty (Syntax.named 0)) (ref_ty Syntax.erased) λ x. x
 
     abbrev pub s2 : Typed.Mo Cx3 → Typed.Mo Cx4
-    s2 = LocalCopy.n_val_copy Cx3 2 4 (key_row []) (Rows.whole (key_row [])) (Rows.whole (key_here [])) (λ x. x) (λ x. x) λ x. x
+    s2 = LocalCopy.n_val_copy Cx3 2 4 (key_row []) (Rows.whole (key_row []))
+        (Rows.whole (key_here [])) (λ x. x) (λ x. x) λ x. x
 
     abbrev pub s3 : Typed.Mo Cx4 → Typed.Mo Cx5
-    s3 = AtSlots.n_as_by Cx4 4 (ValueAt.val_at 4 (λ κc. key_row κc.1.0) (Option.the_type (text_at []).row).D (λ κc v. v) (0 ∷ 1 ∷ 2 ∷ 3 ∷ []) (key_ty Syntax.erased))
+    s3 = AtSlots.n_as_by Cx4 4
+        (ValueAt.val_at 4 (λ κc. key_row κc.1.0) (Option.the_type (text_at []).row).D (λ κc v. v)
+        (0 ∷ 1 ∷ 2 ∷ 3 ∷ []) (key_ty Syntax.erased))
         λ x. x
 
     abbrev pub s4 : Typed.Both Cx5 Cx6
-    s4 = So.call_so 4 whole-0 part-0 named-0 lender-0 rest-0 r-0 (AtSlots.one_type 4 named-0) the-claims.2 (λ κs a. BorrowLft.◌⊑◌ κs.1.1.0 V.lives → the-claims.0 κs
-        a) the-claims.1 Cx5 (record { pos = 3; ty = ref_ty Syntax.erased; ref = λ x. x }, (record { pos = 4; ty = key_ty Syntax.erased; at = λ x. x }, tt)) 0 (0 ∷ 1 ∷
+    s4 = So.call_so 4 whole-0 part-0 named-0 lender-0 rest-0 r-0 (AtSlots.one_type 4 named-0)
+        the-claims.2 (λ κs a. BorrowLft.◌⊑◌ κs.1.1.0 V.lives → the-claims.0 κs
+        a) the-claims.1 Cx5 (
+          record { pos = 3; ty = ref_ty Syntax.erased; ref = λ x. x },
+          (record { pos = 4; ty = key_ty Syntax.erased; at = λ x. x }, tt),
+        ) 0 (0 ∷ 1 ∷
         2 ∷ 3 ∷ []) lent_ty
 
     abbrev pub s5 : Typed.Mo Cx6 → Typed.Mo Cx7
@@ -322,23 +359,29 @@ module _ (V : RattleType.RattleType) (LV : Laws'.Laws V) where
     s7 = Scalar.n_room Cx8 4 (key_ty Syntax.erased)
 
     abbrev pub s8 : Typed.Mo Cx9 → Typed.Mo Cx10
-    s8 = Home.k_owing_home Cx9 1 3 (ref_ty (Syntax.named 0)) (ref_ty Syntax.erased) node hands λ x. x
+    s8 = Home.k_owing_home Cx9 1 3 (ref_ty (Syntax.named 0)) (ref_ty Syntax.erased) node hands λ x.
+        x
 
     module _ {M : Type 1} {𝓤 : Ura.Ura M} (𝓛 : Logic'.Logic 𝓤) (𝓣 : Wp.Tables 𝓤 𝓛.H) where
       abbrev pub Known-0 : Type 1
-      Known-0 = Plain.Known 𝓛 𝓣 4 ps_on-0 r-0 the-claims.0 (So.WithSo 4 whole-0 part-0 named-0 lender-0 rest-0 r-0 (AtSlots.one_type 4 named-0) the-claims.2
+      Known-0 = Plain.Known 𝓛 𝓣 4 ps_on-0 r-0 the-claims.0
+          (So.WithSo 4 whole-0 part-0 named-0 lender-0 rest-0 r-0 (AtSlots.one_type 4 named-0)
+          the-claims.2
           the-claims.0 the-claims.1) (Syntax.fn "mq_tree::tree::node::Node::lend" (
             Syntax.tcons (Param.layout V) (Syntax.tcons (Syntax.ty_struct [] Syntax.tnil)
                 Syntax.tnil),
-            Syntax.dcons (Syntax.impl ("mq_tree::tree::node::lend::DownDescend::descend" ∷ []) (Syntax.tcons (Param.layout V) Syntax.tnil) Syntax.dnil)
+            Syntax.dcons (Syntax.impl ("mq_tree::tree::node::lend::DownDescend::descend" ∷ [])
+                (Syntax.tcons (Param.layout V) Syntax.tnil) Syntax.dnil)
                 Syntax.dnil,
           ))
 
     module _ (the-Pre : Pre-type) (the-Post : Post-type) where
       module _ (M : Type 1) where
         abbrev pub Closed : Type 2
-        Closed = (𝓤 : Ura.Ura M) (𝓛 : Logic'.Logic 𝓤) (𝓣 : Wp.Tables 𝓤 𝓛.H) (known0 : Plain.Known 𝓛 𝓣 4 ps_on-0 r-0 the-claims.0 (So.WithSo 4 whole-0 part-0 named-0
-            lender-0 rest-0 r-0 (AtSlots.one_type 4 named-0) the-claims.2 the-claims.0 the-claims.1) (Syntax.fn "mq_tree::tree::node::Node::lend" (
+        Closed = (𝓤 : Ura.Ura M) (𝓛 : Logic'.Logic 𝓤) (𝓣 : Wp.Tables 𝓤 𝓛.H)
+            (known0 : Plain.Known 𝓛 𝓣 4 ps_on-0 r-0 the-claims.0 (So.WithSo 4 whole-0 part-0 named-0
+            lender-0 rest-0 r-0 (AtSlots.one_type 4 named-0) the-claims.2 the-claims.0 the-claims.1)
+            (Syntax.fn "mq_tree::tree::node::Node::lend" (
               Syntax.tcons (Param.layout
                   V) (Syntax.tcons (Syntax.ty_struct [] Syntax.tnil) Syntax.tnil),
               Syntax.dcons (Syntax.impl ("mq_tree::tree::node::lend::DownDescend::descend" ∷ [])
@@ -385,11 +428,14 @@ module _ (V : RattleType.RattleType) (LV : Laws'.Laws V) where
 
         module _ {M : Type 1} {𝓤 : Ura.Ura M} (𝓛 : Logic'.Logic 𝓤) (𝓣 : Wp.Tables 𝓤 𝓛.H) where
           abbrev Knowns : Type 1
-          Knowns = Plain.Known 𝓛 𝓣 4 ps_on-0 r-0 the-claims.0 (So.WithSo 4 whole-0 part-0 named-0 lender-0 rest-0 r-0 (AtSlots.one_type 4 named-0) the-claims.2
+          Knowns = Plain.Known 𝓛 𝓣 4 ps_on-0 r-0 the-claims.0
+              (So.WithSo 4 whole-0 part-0 named-0 lender-0 rest-0 r-0 (AtSlots.one_type 4 named-0)
+              the-claims.2
               the-claims.0 the-claims.1) (Syntax.fn "mq_tree::tree::node::Node::lend" (
                 Syntax.tcons (Param.layout V) (Syntax.tcons (Syntax.ty_struct [] Syntax.tnil)
                     Syntax.tnil),
-                Syntax.dcons (Syntax.impl ("mq_tree::tree::node::lend::DownDescend::descend" ∷ []) (Syntax.tcons (Param.layout V) Syntax.tnil) Syntax.dnil)
+                Syntax.dcons (Syntax.impl ("mq_tree::tree::node::lend::DownDescend::descend" ∷ [])
+                    (Syntax.tcons (Param.layout V) Syntax.tnil) Syntax.dnil)
                     Syntax.dnil,
               ))
 
@@ -398,43 +444,64 @@ module _ (V : RattleType.RattleType) (LV : Laws'.Laws V) where
           whole = Row.lease [] Fraction.full_share
 
           abbrev within : List Row.Entry → Row.Life → Row.Cx
-          within t last = record { locals = t; slots = Row.lease κs.0 qs.0 ∷ Row.lease κs.1.0 qs.1.0 ∷ Row.lease κs.1.1.0 qs.1.1.0 ∷ last ∷ [] }
+          within t last = record {
+            locals = t;
+            slots =
+                Row.lease κs.0 qs.0 ∷ Row.lease κs.1.0 qs.1.0 ∷ Row.lease κs.1.1.0 qs.1.1.0 ∷ last
+                ∷ [];
+          }
 
           abbrev g0 : List Row.Entry
-          g0 = rows (Rows.any_gone lent_ty) (Rows.mref node (ref_ty (Syntax.named 0)) 0) (Rows.whole (key_row κs.1.0)) (Rows.any_gone (ref_ty Syntax.erased))
+          g0 = rows (Rows.any_gone lent_ty) (Rows.mref node (ref_ty (Syntax.named 0)) 0)
+              (Rows.whole (key_row κs.1.0)) (Rows.any_gone (ref_ty Syntax.erased))
               (Rows.any_gone (key_ty Syntax.erased))
 
           abbrev g1 : List Row.Entry
-          g1 = rows (Rows.whole (lent_row κs.0)) (Kind.owing_by node hands (ref_ty (Syntax.named 0))) (Rows.whole (key_row κs.1.0)) (Rows.any_gone (ref_ty
+          g1 = rows (Rows.whole (lent_row κs.0))
+              (Kind.owing_by node hands (ref_ty (Syntax.named 0))) (Rows.whole (key_row κs.1.0))
+              (Rows.any_gone (ref_ty
               Syntax.erased)) (Rows.any_gone (key_ty Syntax.erased))
 
           abbrev g2 : List Row.Entry
-          g2 = rows (Rows.any_gone lent_ty) (Rows.any_gone (ref_ty (Syntax.named 0))) (Rows.whole (key_row κs.1.0)) (Rows.mref node (ref_ty Syntax.erased) 0)
+          g2 = rows (Rows.any_gone lent_ty) (Rows.any_gone (ref_ty (Syntax.named 0)))
+              (Rows.whole (key_row κs.1.0)) (Rows.mref node (ref_ty Syntax.erased) 0)
               (Rows.any_gone (key_ty Syntax.erased))
 
           abbrev g3 : List Row.Entry
-          g3 = rows (Rows.any_gone lent_ty) (Rows.any_gone (ref_ty (Syntax.named 0))) (Rows.whole (key_row κs.1.0)) (Rows.mref node (ref_ty Syntax.erased) 0)
+          g3 = rows (Rows.any_gone lent_ty) (Rows.any_gone (ref_ty (Syntax.named 0)))
+              (Rows.whole (key_row κs.1.0)) (Rows.mref node (ref_ty Syntax.erased) 0)
               (Rows.whole (key_here κs.1.0))
 
           abbrev g4 : List Row.Entry
-          g4 = rows (Rows.any_gone lent_ty) (Rows.any_gone (ref_ty (Syntax.named 0))) (Rows.whole (key_row κs.1.0)) (Rows.mref node (ref_ty Syntax.erased) 0)
-              (ValueAt.val_at 4 (λ κc. key_row κc.1.0) (Option.the_type (text_at []).row).D (λ κc v. v) (0 ∷ 1 ∷ 2 ∷ 3 ∷ []) (key_ty Syntax.erased))
+          g4 = rows (Rows.any_gone lent_ty) (Rows.any_gone (ref_ty (Syntax.named 0)))
+              (Rows.whole (key_row κs.1.0)) (Rows.mref node (ref_ty Syntax.erased) 0)
+              (ValueAt.val_at 4 (λ κc. key_row κc.1.0) (Option.the_type (text_at []).row).D
+              (λ κc v. v) (0 ∷ 1 ∷ 2 ∷ 3 ∷ []) (key_ty Syntax.erased))
 
           abbrev g5 : List Row.Entry
-          g5 = rows (ValueAt.val_at 4 (λ κc. lent_row κc.0) (lent_at []).D (λ κc v. v) (0 ∷ 1 ∷ 2 ∷ 3 ∷ []) lent_ty) (Rows.any_gone (ref_ty (Syntax.named 0)))
-              (Rows.whole (key_row κs.1.0)) (Maybe.waits_if node value (lent_at []).D (ref_ty Syntax.erased)) (ValueAt.val_at 4 (λ κc. key_row κc.1.0)
-              (Option.the_type (text_at []).row).D (λ κc v. v) (0 ∷ 1 ∷ 2 ∷ 3 ∷ []) (key_ty Syntax.erased))
+          g5 = rows (ValueAt.val_at 4 (λ κc. lent_row κc.0) (lent_at []).D (λ κc v. v)
+              (0 ∷ 1 ∷ 2 ∷ 3 ∷ []) lent_ty) (Rows.any_gone (ref_ty (Syntax.named 0)))
+              (Rows.whole (key_row κs.1.0))
+              (Maybe.waits_if node value (lent_at []).D (ref_ty Syntax.erased))
+              (ValueAt.val_at 4 (λ κc. key_row κc.1.0)
+              (Option.the_type (text_at []).row).D (λ κc v. v) (0 ∷ 1 ∷ 2 ∷ 3 ∷ [])
+              (key_ty Syntax.erased))
 
           abbrev g6 : List Row.Entry
-          g6 = rows (ValueAt.val_at 4 (λ κc. lent_row κc.0) (lent_at []).D (λ κc v. v) (0 ∷ 1 ∷ 2 ∷ 3 ∷ []) lent_ty) (Rows.any_gone (ref_ty (Syntax.named 0)))
-              (Rows.whole (key_row κs.1.0)) (Maybe.waits_if node value (lent_at []).D (ref_ty Syntax.erased)) (Rows.whole (key_here κs.1.0))
+          g6 = rows (ValueAt.val_at 4 (λ κc. lent_row κc.0) (lent_at []).D (λ κc v. v)
+              (0 ∷ 1 ∷ 2 ∷ 3 ∷ []) lent_ty) (Rows.any_gone (ref_ty (Syntax.named 0)))
+              (Rows.whole (key_row κs.1.0))
+              (Maybe.waits_if node value (lent_at []).D (ref_ty Syntax.erased))
+              (Rows.whole (key_here κs.1.0))
 
           abbrev g7 : List Row.Entry
-          g7 = rows (Rows.whole (lent_row κs.0)) (Rows.any_gone (ref_ty (Syntax.named 0))) (Rows.whole (key_row κs.1.0)) (Maybe.waits_if node value (lent_at []).D
+          g7 = rows (Rows.whole (lent_row κs.0)) (Rows.any_gone (ref_ty (Syntax.named 0)))
+              (Rows.whole (key_row κs.1.0)) (Maybe.waits_if node value (lent_at []).D
               (ref_ty Syntax.erased)) (Rows.whole (key_here κs.1.0))
 
           abbrev g8 : List Row.Entry
-          g8 = rows (Rows.whole (lent_row κs.0)) (Rows.any_gone (ref_ty (Syntax.named 0))) (Rows.whole (key_row κs.1.0)) (Maybe.waits_if node value (lent_at []).D
+          g8 = rows (Rows.whole (lent_row κs.0)) (Rows.any_gone (ref_ty (Syntax.named 0)))
+              (Rows.whole (key_row κs.1.0)) (Maybe.waits_if node value (lent_at []).D
               (ref_ty Syntax.erased)) (Rows.any_gone (key_ty Syntax.erased))
 
           abbrev G0 : Row.Cx
@@ -476,25 +543,41 @@ module _ (V : RattleType.RattleType) (LV : Laws'.Laws V) where
           abbrev Δ0 : Typed.Outs
           Δ0 = record { next = Option'.none; exits = []; returns = Option'.some G1 }
 
-          module _ {M : Type 1} {𝓤 : Ura.Ura M} (𝓛 : Logic'.Logic 𝓤) (𝓣 : Wp.Tables 𝓤 𝓛.H) (known : Knowns 𝓛 𝓣) (lives : BorrowLft.◌⊑◌ κs.1.1.0 V.lives × Unit {0})
+          module _ {M : Type 1} {𝓤 : Ura.Ura M} (𝓛 : Logic'.Logic 𝓤) (𝓣 : Wp.Tables 𝓤 𝓛.H)
+              (known : Knowns 𝓛 𝓣) (lives : BorrowLft.◌⊑◌ κs.1.1.0 V.lives × Unit {0})
               (bs : List Nat.ℕ) (bd : Lifetimes.AllOutlive 3 (Kinds.os_r r) κs) where
             abbrev E : Wp.Env 𝓤 𝓛.H
             E = Frame.EnvOf 𝓛 ((Kinds.ty_r r) ∷ (Enter.tys_p ps xs)) bs
 
             d7 : Typed.Typed 𝓛 𝓣 E G4 b4 Δ0 at7
-            d7 = Typed.g_pre_lem 𝓛 𝓣 E G4 G5 b4 Δ0 (Typed.pass Cx4 Cx5 s3) at6 (AtSlots.g_as_by 𝓛 E (λ ρ. ◌≡◌ (Row.lft ρ 1) κs.1.0) G4 4 (ValueAt.val_at 4 (λ κc. key_row
-                (κc.1.0)) (Option.the_type (text_at []).row).D (λ κc v. v) (0 ∷ 1 ∷ 2 ∷ 3 ∷ []) (key_ty Syntax.erased)) (λ x. x) (Call.pin_lease 𝓛 1 G4.slots κs.1.0
-                qs.1.0 refl) (ValueAt.to_slots_Val 𝓛 4 Fml.Lft (λ κc. κc.1.0) (λ c. key_row c) (Option.the_type (text_at []).row).D (λ c v. v) (0 ∷ 1 ∷ 2 ∷ 3 ∷ [])
-                κs.1.0 (key_ty Syntax.erased) (key_here κs.1.0) refl refl (λ x. x) λ x vs. subst {A = Fml.Fml} (λ g. Logic.ent 𝓤 (Logic'.sem 𝓛 ((key_here
-                (κs.1.0)).own_val x vs)) (Logic'.sem 𝓛 g)) {x = (key_here κs.1.0).own_val x vs} {y = let c : Fml.Lft = κs.1.0 in (key_row c).own_val x vs} refl
-                (Logic.id⊢ 𝓤 (Logic'.sem 𝓛 ((key_here κs.1.0).own_val x vs))))) (Typed.s_seq 𝓛 𝓣 E G5 G6 b2 b3 Δ0 (Typed.both s4) at5 (So.so_call 4 whole-0 part-0
-                named-0 lender-0 rest-0 r-0 (AtSlots.one_type 4 named-0) the-claims.2 (λ κs a. BorrowLft.◌⊑◌ κs.1.1.0 V.lives → the-claims.0 κs a) the-claims.1 G5
-                (record { pos = 3; ty = ref_ty Syntax.erased; ref = λ x. x }, (record { pos = 4; ty = key_ty Syntax.erased; at = λ x. x }, tt)) 0 (0 ∷ 1 ∷ 2 ∷ 3 ∷ [])
-                lent_ty 𝓛 𝓣 E (Plain.t_call_plain_by_Pin 𝓛 𝓣 4 ps_on-0 r-0 the-claims.0 (So.WithSo 4 whole-0 part-0 named-0 lender-0 rest-0 r-0 (AtSlots.one_type 4
-                named-0) the-claims.2 the-claims.0 the-claims.1) (Syntax.fn "mq_tree::tree::node::Node::lend" (
+            d7 = Typed.g_pre_lem 𝓛 𝓣 E G4 G5 b4 Δ0 (Typed.pass Cx4 Cx5 s3) at6
+                (AtSlots.g_as_by 𝓛 E (λ ρ. ◌≡◌ (Row.lft ρ 1) κs.1.0) G4 4
+                (ValueAt.val_at 4 (λ κc. key_row
+                (κc.1.0)) (Option.the_type (text_at []).row).D (λ κc v. v) (0 ∷ 1 ∷ 2 ∷ 3 ∷ [])
+                (key_ty Syntax.erased)) (λ x. x) (Call.pin_lease 𝓛 1 G4.slots κs.1.0
+                qs.1.0 refl) (ValueAt.to_slots_Val 𝓛 4 Fml.Lft (λ κc. κc.1.0) (λ c. key_row c)
+                (Option.the_type (text_at []).row).D (λ c v. v) (0 ∷ 1 ∷ 2 ∷ 3 ∷ [])
+                κs.1.0 (key_ty Syntax.erased) (key_here κs.1.0) refl refl (λ x. x) λ x vs. subst
+                {A = Fml.Fml} (λ g. Logic.ent 𝓤 (Logic'.sem 𝓛 ((key_here
+                (κs.1.0)).own_val x vs)) (Logic'.sem 𝓛 g)) {x = (key_here κs.1.0).own_val x vs}
+                {y = let c : Fml.Lft = κs.1.0 in (key_row c).own_val x vs} refl
+                (Logic.id⊢ 𝓤 (Logic'.sem 𝓛 ((key_here κs.1.0).own_val x vs)))))
+                (Typed.s_seq 𝓛 𝓣 E G5 G6 b2 b3 Δ0 (Typed.both s4) at5
+                (So.so_call 4 whole-0 part-0
+                named-0 lender-0 rest-0 r-0 (AtSlots.one_type 4 named-0) the-claims.2
+                (λ κs a. BorrowLft.◌⊑◌ κs.1.1.0 V.lives → the-claims.0 κs a) the-claims.1 G5 (
+                  record { pos = 3; ty = ref_ty Syntax.erased; ref = λ x. x },
+                  (record { pos = 4; ty = key_ty Syntax.erased; at = λ x. x }, tt),
+                ) 0
+                (0 ∷ 1 ∷ 2 ∷ 3 ∷ [])
+                lent_ty 𝓛 𝓣 E (Plain.t_call_plain_by_Pin 𝓛 𝓣 4 ps_on-0 r-0 the-claims.0
+                (So.WithSo 4 whole-0 part-0 named-0 lender-0 rest-0 r-0 (AtSlots.one_type 4
+                named-0) the-claims.2 the-claims.0 the-claims.1)
+                (Syntax.fn "mq_tree::tree::node::Node::lend" (
                   Syntax.tcons (Param.layout V) (Syntax.tcons (Syntax.ty_struct
                       [] Syntax.tnil) Syntax.tnil),
-                  Syntax.dcons (Syntax.impl ("mq_tree::tree::node::lend::DownDescend::descend" ∷ []) (Syntax.tcons (Param.layout V) Syntax.tnil)
+                  Syntax.dcons (Syntax.impl ("mq_tree::tree::node::lend::DownDescend::descend" ∷ [])
+                      (Syntax.tcons (Param.layout V) Syntax.tnil)
                       Syntax.dnil) Syntax.dnil,
                 )) known (λ κs. BorrowLft.◌⊑◌ κs.1.1.0 V.lives) E (λ pos β. β) G5 (
                   record {
@@ -514,18 +597,25 @@ module _ (V : RattleType.RattleType) (LV : Laws'.Laws V) where
                       mir = key_ty (Syntax.named 1);
                       one = λ κs. refl;
                       mir_is = λ κs. refl;
-                      val = λ κs. Laws.val (Option.the_type (text_at κs.1.0).row) (TheLaws.the_laws (text_at κs.1.0).row (Str.str_laws record {
-                        mir =
-                            Syntax.named 1;
-                        lft = κs.1.0;
-                      }) (Laws'.field_told (text_at κs.1.0) (Text.str-laws record { mir = Syntax.named 1; lft = κs.1.0 })));
+                      val = λ κs. Laws.val (Option.the_type (text_at κs.1.0).row)
+                          (TheLaws.the_laws (text_at κs.1.0).row (Str.str_laws record {
+                            mir =
+                                Syntax.named 1;
+                            lft = κs.1.0;
+                          }) (Laws'.field_told (text_at κs.1.0)
+                          (Text.str-laws record { mir = Syntax.named 1; lft = κs.1.0 })));
                       tells = λ κs.
-                          Laws.tells (Option.the_type (text_at κs.1.0).row) (TheLaws.the_laws (text_at κs.1.0).row (Str.str_laws record {
+                          Laws.tells (Option.the_type (text_at κs.1.0).row)
+                          (TheLaws.the_laws (text_at κs.1.0).row (Str.str_laws record {
                             mir = Syntax.named 1;
                             lft = κs.1.0;
-                          }) (Laws'.field_told (text_at κs.1.0) (Text.str-laws record { mir = Syntax.named 1; lft = κs.1.0 })));
+                          }) (Laws'.field_told (text_at κs.1.0)
+                          (Text.str-laws record { mir = Syntax.named 1; lft = κs.1.0 })));
                       still = λ κs. Laws.still (Option.the_type
-                          (text_at κs.1.0).row) (TheLaws.the_copy (text_at κs.1.0).row (Str.str_laws record { mir = Syntax.named 1; lft = κs.1.0 }) (Str.str_copy record {
+                          (text_at κs.1.0).row)
+                          (TheLaws.the_copy (text_at κs.1.0).row
+                          (Str.str_laws record { mir = Syntax.named 1; lft = κs.1.0 })
+                          (Str.str_copy record {
                             mir
                                 = Syntax.named 1;
                             lft = κs.1.0;
@@ -533,29 +623,37 @@ module _ (V : RattleType.RattleType) (LV : Laws'.Laws V) where
                       D = (Option.the_type (text_at []).row).D;
                       ot = AtSlots.one_type 4 (Option.the_type (text_at []).row).D;
                     } in Y) record {
-                      copies = λ κs. Laws.copy (Option.the_type (text_at κs.1.0).row) (TheLaws.the_copy (text_at κs.1.0).row (Str.str_laws record {
-                        mir =
-                            Syntax.named 1;
-                        lft = κs.1.0;
-                      }) (Str.str_copy record { mir = Syntax.named 1; lft = κs.1.0 })) 𝓛;
+                      copies = λ κs. Laws.copy (Option.the_type (text_at κs.1.0).row)
+                          (TheLaws.the_copy (text_at κs.1.0).row (Str.str_laws record {
+                            mir =
+                                Syntax.named 1;
+                            lft = κs.1.0;
+                          }) (Str.str_copy record { mir = Syntax.named 1; lft = κs.1.0 })) 𝓛;
                       lawful = λ κs. Loose.loose_lawful (Option.the_type
-                          (text_at κs.1.0).row) (TheLaws.the_loose (text_at κs.1.0).row (Str.str_laws record { mir = Syntax.named 1; lft = κs.1.0 })) tt 𝓛;
+                          (text_at κs.1.0).row)
+                          (TheLaws.the_loose (text_at κs.1.0).row
+                          (Str.str_laws record { mir = Syntax.named 1; lft = κs.1.0 })) tt 𝓛;
                     } (0 ∷ 1 ∷ 2 ∷ 3 ∷
                         []) (key_ty Syntax.erased),
                     refl,
                     tt,
                   ),
-                ) (Reads.room_gone 𝓛 lent_ty) (tt, (tt, (tt, (tt, tt)))) (Shorter.Told-bounds 𝓛 4 G5.slots (0 ∷ 1 ∷ 2 ∷ 3 ∷ [])
-                (Kinds.os_r r-0) (Way.Told-and 𝓛 G5.slots (Shorter.Below 2 0) (λ ρ. Unit) (Shorter.Told-Below 𝓛 G5.slots 2 0 κs.1.1.0 κs.0 (Call.pin_lease 𝓛 2 G5.slots
-                κs.1.1.0 qs.1.1.0 refl) (Call.pin_lease 𝓛 0 G5.slots κs.0 qs.0 refl) bd.0) (Own.Told-none 𝓛 G5.slots))) refl λ κs' x v i. Result.res_typed 𝓛 4 κs'
+                ) (Reads.room_gone 𝓛 lent_ty) (tt, (tt, (tt, (tt, tt))))
+                (Shorter.Told-bounds 𝓛 4 G5.slots (0 ∷ 1 ∷ 2 ∷ 3 ∷ [])
+                (Kinds.os_r r-0) (Way.Told-and 𝓛 G5.slots (Shorter.Below 2 0) (λ ρ. Unit)
+                (Shorter.Told-Below 𝓛 G5.slots 2 0 κs.1.1.0 κs.0 (Call.pin_lease 𝓛 2 G5.slots
+                κs.1.1.0 qs.1.1.0 refl) (Call.pin_lease 𝓛 0 G5.slots κs.0 qs.0 refl) bd.0)
+                (Own.Told-none 𝓛 G5.slots))) refl λ κs' x v i. Result.res_typed 𝓛 4 κs'
                 (EnumTo.r_enum_to (let Y : EnumTo.EnumTo 4 = record {
-                  ν = (Option.enum (Field.mut_ref_field record { mir = Syntax.named 0; lft = [] } value
+                  ν = (Option.enum (Field.mut_ref_field record { mir = Syntax.named 0; lft = [] }
+                      value
                       tt).row).name;
                   args = [];
                   types = λ κs. (lent_at κs.0).types;
                   keeps = Exit.no;
                   variants = ◌∷◌ [] (((StructFields.f_mut_spent 4 0 tt (Signature.plain λ
-                      κs. Param.param 0 V) (Syntax.wrote (Syntax.ty_param 0)) λ κs. refl) ∷ []) ∷ []);
+                      κs. Param.param 0 V) (Syntax.wrote (Syntax.ty_param 0)) λ κs. refl) ∷ [])
+                      ∷ []);
                   D = (lent_at []).D;
                   to = λ κs. (lent_at κs.0).to;
                   one = λ κs.
@@ -564,9 +662,13 @@ module _ (V : RattleType.RattleType) (LV : Laws'.Laws V) where
                   mir_is = λ κs. refl;
                   few = λ κs. tt;
                   Vs = Enum.Sum (EnumInner.Tss ([], ([], ([], ([], tt)))) ([] ∷
-                      ((StructFields.f_mut_spent 4 0 tt (Signature.plain λ κs. Param.param 0 V) (Syntax.wrote (Syntax.ty_param 0)) λ κs. refl) ∷ []) ∷ []));
+                      ((StructFields.f_mut_spent 4 0 tt (Signature.plain λ κs. Param.param 0 V)
+                      (Syntax.wrote (Syntax.ty_param 0)) λ κs. refl) ∷ []) ∷ []));
                   ot =
-                      AtSlots.one_type 4 (Enum.Sum (EnumInner.Tss ([], ([], ([], ([], tt)))) ([] ∷ ((StructFields.f_mut_spent 4 0 tt (Signature.plain λ κs. Param.param 0 V)
+                      AtSlots.one_type 4
+                      (Enum.Sum (EnumInner.Tss ([], ([], ([], ([], tt))))
+                      ([] ∷ ((StructFields.f_mut_spent 4 0 tt
+                      (Signature.plain λ κs. Param.param 0 V)
                       (Syntax.wrote (Syntax.ty_param 0)) λ κs. refl) ∷ []) ∷ [])));
                 } in Y) λ M 𝓤 𝓛. (
                   tt,
@@ -579,36 +681,74 @@ module _ (V : RattleType.RattleType) (LV : Laws'.Laws V) where
                     tt,
                   ),
                 )) x v i (0 ∷ 1 ∷ 2 ∷ 3 ∷ []) lent_ty refl)) (Typed.g_pre_lem 𝓛 𝓣 E G6 G7 b3 Δ0
-                (Typed.pass Cx6 Cx7 s5) at4 (AtSlots.g_as_by 𝓛 E (λ ρ. ◌≡◌ (Row.lft ρ 1) κs.1.0) G6 4 (Rows.whole (key_here κs.1.0)) (λ x. x) (Call.pin_lease 𝓛 1
-                G6.slots κs.1.0 qs.1.0 refl) (ValueAt.of_slots_Val 𝓛 4 Fml.Lft (λ κc. κc.1.0) (λ c. key_row c) (Option.the_type (text_at []).row).D (λ c v. v) (0 ∷
-                1 ∷ 2 ∷ 3 ∷ []) κs.1.0 (key_ty Syntax.erased) (key_here κs.1.0) refl refl (λ x. x) λ x vs. subst {A = Fml.Fml} (λ g. Logic.ent 𝓤 (Logic'.sem 𝓛
-                g) (Logic'.sem 𝓛 ((key_here κs.1.0).own_val x vs))) {x = (key_here κs.1.0).own_val x vs} {y = let c : Fml.Lft = κs.1.0 in (key_row c).own_val x
-                vs} refl (Logic.id⊢ 𝓤 (Logic'.sem 𝓛 ((key_here κs.1.0).own_val x vs))))) (Typed.g_pre_lem 𝓛 𝓣 E G7 G8 b3 Δ0 (Typed.pass Cx7 Cx8 s6) at3 (AtSlots.g_as_by
-                𝓛 E (λ ρ. ◌≡◌ (Row.lft ρ 0) κs.0) G7 0 (Rows.whole (lent_row κs.0)) (λ x. x) (Call.pin_lease 𝓛 0 G7.slots κs.0 qs.0 refl) (ValueAt.of_slots_Val 𝓛 4
-                Fml.Lft (λ κc. κc.0) (λ c. lent_row c) (lent_at []).D (λ c v. v) (0 ∷ 1 ∷ 2 ∷ 3 ∷ []) κs.0 lent_ty (lent_row κs.0) refl refl (λ x. x) λ x vs.
-                subst {A = Fml.Fml} (λ g. Logic.ent 𝓤 (Logic'.sem 𝓛 g) (Logic'.sem 𝓛 ((lent_row κs.0).own_val x vs))) {x = (lent_row κs.0).own_val x vs} {y =
-                let c : Fml.Lft = κs.0 in (lent_row c).own_val x vs} refl (Logic.id⊢ 𝓤 (Logic'.sem 𝓛 ((lent_row κs.0).own_val x vs))))) (Typed.g_pre_lem 𝓛 𝓣 E G8 G9
-                b3 Δ0 (Typed.pass Cx8 Cx9 s7) at2 (Scalar.g_room 𝓛 E G8 4 (key_ty Syntax.erased) (Local.room_whole 𝓛 (key_here κs.1.0) (key_ty Syntax.erased) refl))
-                (Typed.g_pre_lem 𝓛 𝓣 E G9 G10 b3 Δ0 (Typed.pass Cx9 Cx10 s8) at1 (Home.g_owing_home 𝓛 E G9 1 3 (ref_ty (Syntax.named 0)) (ref_ty Syntax.erased) node hands
-                (λ x. x) (Reads.room_gone 𝓛 (ref_ty (Syntax.named 0))) (Reads.as_is 𝓛 (Maybe.waits_if node value (lent_at []).D (ref_ty Syntax.erased))))
-                (Typed.g_pre_lem 𝓛 𝓣 E G10 G11 b3 Δ0 (λ Ψ. Ψ) at0 (Lifetime.g_forget 𝓛 E G10 3 (Row.lease [] Fraction.full_share) refl) (Typed.t_return 𝓛 𝓣 E Δ0
+                (Typed.pass Cx6 Cx7 s5) at4
+                (AtSlots.g_as_by 𝓛 E (λ ρ. ◌≡◌ (Row.lft ρ 1) κs.1.0) G6 4
+                (Rows.whole (key_here κs.1.0)) (λ x. x) (Call.pin_lease 𝓛 1
+                G6.slots κs.1.0 qs.1.0 refl)
+                (ValueAt.of_slots_Val 𝓛 4 Fml.Lft (λ κc. κc.1.0) (λ c. key_row c)
+                (Option.the_type (text_at []).row).D (λ c v. v) (0 ∷
+                1 ∷ 2 ∷ 3 ∷ []) κs.1.0 (key_ty Syntax.erased) (key_here κs.1.0) refl refl (λ x. x)
+                λ x vs. subst {A = Fml.Fml} (λ g. Logic.ent 𝓤 (Logic'.sem 𝓛
+                g) (Logic'.sem 𝓛 ((key_here κs.1.0).own_val x vs)))
+                {x = (key_here κs.1.0).own_val x vs}
+                {y = let c : Fml.Lft = κs.1.0 in (key_row c).own_val x
+                vs} refl (Logic.id⊢ 𝓤 (Logic'.sem 𝓛 ((key_here κs.1.0).own_val x vs)))))
+                (Typed.g_pre_lem 𝓛 𝓣 E G7 G8 b3 Δ0 (Typed.pass Cx7 Cx8 s6) at3 (AtSlots.g_as_by
+                𝓛 E (λ ρ. ◌≡◌ (Row.lft ρ 0) κs.0) G7 0 (Rows.whole (lent_row κs.0)) (λ x. x)
+                (Call.pin_lease 𝓛 0 G7.slots κs.0 qs.0 refl) (ValueAt.of_slots_Val 𝓛 4
+                Fml.Lft (λ κc. κc.0) (λ c. lent_row c) (lent_at []).D (λ c v. v)
+                (0 ∷ 1 ∷ 2 ∷ 3 ∷ []) κs.0 lent_ty (lent_row κs.0) refl refl (λ x. x) λ x vs.
+                subst {A = Fml.Fml} (λ g. Logic.ent 𝓤 (Logic'.sem 𝓛 g)
+                (Logic'.sem 𝓛 ((lent_row κs.0).own_val x vs)))
+                {x = (lent_row κs.0).own_val x vs} {y =
+                let c : Fml.Lft = κs.0 in (lent_row c).own_val x vs} refl
+                (Logic.id⊢ 𝓤 (Logic'.sem 𝓛 ((lent_row κs.0).own_val x vs)))))
+                (Typed.g_pre_lem 𝓛 𝓣 E G8 G9
+                b3 Δ0 (Typed.pass Cx8 Cx9 s7) at2
+                (Scalar.g_room 𝓛 E G8 4 (key_ty Syntax.erased)
+                (Local.room_whole 𝓛 (key_here κs.1.0) (key_ty Syntax.erased) refl))
+                (Typed.g_pre_lem 𝓛 𝓣 E G9 G10 b3 Δ0 (Typed.pass Cx9 Cx10 s8) at1
+                (Home.g_owing_home 𝓛 E G9 1 3 (ref_ty (Syntax.named 0)) (ref_ty Syntax.erased)
+                node hands
+                (λ x. x) (Reads.room_gone 𝓛 (ref_ty (Syntax.named 0)))
+                (Reads.as_is 𝓛 (Maybe.waits_if node value (lent_at []).D
+                (ref_ty Syntax.erased))))
+                (Typed.g_pre_lem 𝓛 𝓣 E G10 G11 b3 Δ0 (λ Ψ. Ψ) at0
+                (Lifetime.g_forget 𝓛 E G10 3 (Row.lease [] Fraction.full_share) refl)
+                (Typed.t_return 𝓛 𝓣 E Δ0
                 tt)))))))
 
             d10 : Typed.Typed 𝓛 𝓣 E G0 b6 Δ0 at10
-            d10 = Typed.g_pre_lem 𝓛 𝓣 E G0 G2 b6 Δ0 (λ Ψ. Ψ) at9 (Lifetime.g_static 𝓛 E G0 3 (tt, (tt, (tt, (tt, (tt, tt)))))) (Typed.s_seq 𝓛 𝓣 E G2 G3 b0 b5 Δ0
-                (Typed.pass Cx0 Cx3 s1) at8 (Pass.t_ref_pass 𝓛 E 𝓣 G2 1 3 0 node ty-3 (ref_ty (Syntax.named 0)) (ref_ty Syntax.erased) (λ x. x) (Reads.as_is 𝓛 (Rows.mref
-                node (ref_ty (Syntax.named 0)) 0)) (Reads.room_gone 𝓛 (ref_ty Syntax.erased)) refl refl λ b o. tt) (Typed.s_seq 𝓛 𝓣 E G3 G4 b1 b4 Δ0 (Typed.pass Cx3 Cx4
-                s2) at7 (LocalCopy.t_val_copy 𝓛 E 𝓣 (λ ρ. ◌≡◌ (Row.lft ρ 1) κs.1.0) G3 2 4 (key_row κs.1.0) (key_ty (Syntax.named 1)) (key_ty Syntax.erased)
-                (Rows.whole (key_row κs.1.0)) (Rows.whole (key_here κs.1.0)) (λ x. x) (λ x. x) (λ x. x) refl (Call.pin_lease 𝓛 1 G3.slots κs.1.0 qs.1.0 refl)
-                (Yields.Yields-copy 𝓛 (λ ρ. ◌≡◌ (Row.lft ρ 1) κs.1.0) (key_row κs.1.0) refl ((Copies.c_enum (Option.the_type (text_at κs.1.0).row) (TheLaws.the_laws
-                (text_at κs.1.0).row (Str.str_laws record { mir = Syntax.named 1; lft = κs.1.0 }) (Laws'.field_told (text_at κs.1.0) (Text.str-laws record {
+            d10 = Typed.g_pre_lem 𝓛 𝓣 E G0 G2 b6 Δ0 (λ Ψ. Ψ) at9
+                (Lifetime.g_static 𝓛 E G0 3 (tt, (tt, (tt, (tt, (tt, tt))))))
+                (Typed.s_seq 𝓛 𝓣 E G2 G3 b0 b5 Δ0
+                (Typed.pass Cx0 Cx3 s1) at8
+                (Pass.t_ref_pass 𝓛 E 𝓣 G2 1 3 0 node ty-3 (ref_ty (Syntax.named 0))
+                (ref_ty Syntax.erased) (λ x. x) (Reads.as_is 𝓛 (Rows.mref
+                node (ref_ty (Syntax.named 0)) 0)) (Reads.room_gone 𝓛 (ref_ty Syntax.erased)) refl
+                refl λ b o. tt) (Typed.s_seq 𝓛 𝓣 E G3 G4 b1 b4 Δ0 (Typed.pass Cx3 Cx4
+                s2) at7 (LocalCopy.t_val_copy 𝓛 E 𝓣 (λ ρ. ◌≡◌ (Row.lft ρ 1) κs.1.0) G3 2 4
+                (key_row κs.1.0) (key_ty (Syntax.named 1)) (key_ty Syntax.erased)
+                (Rows.whole (key_row κs.1.0)) (Rows.whole (key_here κs.1.0)) (λ x. x) (λ x. x)
+                (λ x. x) refl (Call.pin_lease 𝓛 1 G3.slots κs.1.0 qs.1.0 refl)
+                (Yields.Yields-copy 𝓛 (λ ρ. ◌≡◌ (Row.lft ρ 1) κs.1.0) (key_row κs.1.0) refl
+                ((Copies.c_enum (Option.the_type (text_at κs.1.0).row) (TheLaws.the_laws
+                (text_at κs.1.0).row (Str.str_laws record { mir = Syntax.named 1; lft = κs.1.0 })
+                (Laws'.field_told (text_at κs.1.0) (Text.str-laws record {
                   mir =
                       Syntax.named 1;
                   lft = κs.1.0;
-                }))) (TheLaws.the_copy (text_at κs.1.0).row (Str.str_laws record { mir = Syntax.named 1; lft = κs.1.0 }) (Str.str_copy
-                record { mir = Syntax.named 1; lft = κs.1.0 }))).copy 𝓛) (Rows.whole (key_row κs.1.0)) (λ x. x) (λ x. x) (λ ρ told. Local.mem_whole 𝓛 (key_row
-                (κs.1.0)) ρ) λ ρ told. Local.whole_mem 𝓛 (key_row κs.1.0) ρ) (Reads.room_gone 𝓛 (key_ty Syntax.erased)) (Yields.Makes-mem 𝓛 (λ ρ. ◌≡◌ (Row.lft ρ 1)
-                κs.1.0) (key_here κs.1.0) refl (Rows.whole (key_here κs.1.0)) (λ x. x) λ ρ told. Local.whole_mem 𝓛 (key_here κs.1.0) ρ) refl refl) d7))
+                }))) (TheLaws.the_copy (text_at κs.1.0).row
+                (Str.str_laws record { mir = Syntax.named 1; lft = κs.1.0 }) (Str.str_copy
+                record { mir = Syntax.named 1; lft = κs.1.0 }))).copy 𝓛)
+                (Rows.whole (key_row κs.1.0)) (λ x. x) (λ x. x)
+                (λ ρ told. Local.mem_whole 𝓛 (key_row
+                (κs.1.0)) ρ) λ ρ told. Local.whole_mem 𝓛 (key_row κs.1.0) ρ)
+                (Reads.room_gone 𝓛 (key_ty Syntax.erased))
+                (Yields.Makes-mem 𝓛 (λ ρ. ◌≡◌ (Row.lft ρ 1)
+                κs.1.0) (key_here κs.1.0) refl (Rows.whole (key_here κs.1.0)) (λ x. x) λ ρ told.
+                Local.whole_mem 𝓛 (key_here κs.1.0) ρ) refl refl) d7))
 
-            pub typed : Typed.Typed 𝓛 𝓣 E (Function.Γin 3 ps r xs m κs qs) b6 (Function.Δret 3 ps r xs m κs qs) Φ
+            pub typed : Typed.Typed 𝓛 𝓣 E (Function.Γin 3 ps r xs m κs qs) b6
+                (Function.Δret 3 ps r xs m κs qs) Φ
             typed = d10
