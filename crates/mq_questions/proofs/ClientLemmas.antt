@@ -7,18 +7,18 @@ use Rattle.std.proofs.lemmas.Bool.Decides.{nat_tests}
 use Rattle.mq_topic.specs.Matching.{is_wildcard}
 use Rattle.mq_topic.specs.Texts.{is_plain, contains_byte}
 use Rattle.mq_acl.specs.Access.{begins_with_dollar, is_user}
-use Rattle.mq_questions.specs.Names.{is_among, is_name_level, is_choice}
-use Rattle.mq_questions.specs.Remainders.{mark_passes, remainders_fit, GainsNothing}
+use Rattle.mq_walk.specs.Names.{is_among, is_name_level, is_choice}
+use Rattle.mq_walk.specs.Remainders.{mark_passes, remainders_fit, GainsNothing}
 use Rattle.mq_questions.specs.Literals.{is_literal_of}
 use Rattle.mq_questions.specs.Fresh.{AreFresh, is_tried_client, is_no_client, is_no_user, is_literal, marks_of}
 use Rattle.mq_questions.specs.declared.ask.fresh.Fresh.{Fresh}
-use Rattle.mq_questions.specs.declared.walk.remainder.Remainder.{Remainder}
-use Rattle.mq_questions.specs.declared.walk.start.Start.{Start}
+use Rattle.mq_walk.specs.declared.remainder.Remainder.{Remainder}
+use Rattle.mq_walk.specs.declared.start.Start.{Start}
 use Rattle.mq_questions.proofs.Swaps.{swap, is_apart}
 use Rattle.mq_questions.proofs.SwapLemmas.{swap_first, swap_apart, swap_nothing}
-use Rattle.mq_questions.proofs.BranchLemmas.{and_left, and_right, text_is}
-use Rattle.mq_questions.proofs.WalkLemmas.{same_text, no_dollar, choice_is_level}
-use Rattle.mq_questions.proofs.RemainderLemmas.{eq_sym}
+use Rattle.mq_walk.proofs.BranchLemmas.{and_left, and_right, text_is}
+use Rattle.mq_walk.proofs.WalkLemmas.{same_text, no_dollar, choice_is_level}
+use Rattle.mq_walk.proofs.RemainderLemmas.{eq_sym}
 use Rattle.mq_questions.proofs.LiteralLemmas.{all_fit_both, literals_pass, apart_rows, or_left, or_right}
 
 -- ---- what a level that a row may name is

@@ -13,7 +13,7 @@ use Rattle.mq_questions.specs.Differ.{AllowSame, AllowSameIn, Differ}
 use Rattle.mq_questions.specs.Literals.{is_named}
 use Rattle.mq_questions.specs.Roots.{gained}
 use Rattle.mq_questions.specs.declared.ask.literals.Literals.{Literals}
-use Rattle.mq_questions.proofs.BranchLemmas.{text_is}
+use Rattle.mq_walk.proofs.BranchLemmas.{text_is}
 
 -- ---- the first of a list
 pub first_passes : {X : Type 0} (P : X → Type 0) (xs ys : List X) (x : X) → ys ≡ xs → Some x ≡ slice_get ys 0 → All P xs → P x

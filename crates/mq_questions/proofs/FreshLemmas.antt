@@ -7,15 +7,15 @@ use Rattle.std.proofs.lemmas.List.{length-replicate}
 use Rattle.std.proofs.lemmas.List.Folds.{list_any-append}
 use Rattle.mq_topic.specs.Texts.{contains_byte, is_plain}
 use Rattle.mq_acl.specs.Access.{begins_with_dollar}
-use Rattle.mq_questions.specs.Names.{is_name_level, is_choice}
+use Rattle.mq_walk.specs.Names.{is_name_level, is_choice}
 use Rattle.mq_questions.specs.Fresh.{is_base, IsMade, AreFresh}
 use Rattle.mq_questions.specs.Made.{AreMade, IsSeen, is_no_fresh, made_texts}
 use Rattle.mq_questions.specs.Literals.{is_named}
 use Rattle.mq_questions.specs.declared.ask.fresh.Fresh.{Fresh}
 use Rattle.mq_questions.specs.declared.ask.literals.Literals.{Literals}
 use Rattle.mq_questions.specs.declared.ask.texts.FreshTexts.{FreshTexts}
-use Rattle.mq_questions.proofs.BranchLemmas.{and_left, and_right, text_is}
-use Rattle.mq_questions.proofs.WalkLemmas.{not_true}
+use Rattle.mq_walk.proofs.BranchLemmas.{and_left, and_right, text_is}
+use Rattle.mq_walk.proofs.WalkLemmas.{not_true}
 
 many_lack : (b n : ℕ) → (120 == b) ≡ false → contains_byte b (replicate n 120) ≡ false
 many_lack b zero h = refl

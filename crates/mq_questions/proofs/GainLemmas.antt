@@ -9,17 +9,19 @@ use Rattle.mq_acl.specs.Rows.{AclRow}
 use Rattle.mq_acl.specs.Access.{allowed, begins_with_dollar, is_user}
 use Rattle.mq_acl.specs.declared.access.Direction.{Direction}
 use Rattle.mq_acl.proofs.AccessLemmas.{allowed_by_list}
-use Rattle.mq_questions.specs.Names.{can_be_level, is_name_level, level_of, start_of, suits}
-use Rattle.mq_questions.specs.Remainders.{passes, same, hit, allow, gains, fits, mark_passes, path_levels, GainsNothing, IsGain}
+use Rattle.mq_walk.specs.Names.{can_be_level, is_name_level, start_of, suits}
+use Rattle.mq_questions.specs.Texts.{level_of}
+use Rattle.mq_walk.specs.Remainders.{passes, same, hit, allow, gains, fits, mark_passes, GainsNothing, IsGain}
+use Rattle.mq_walk.specs.Paths.{path_levels}
 use Rattle.mq_questions.specs.Fresh.{marks_of, is_user_level}
 use Rattle.mq_questions.specs.Roots.{alike, AreRoots, gained}
 use Rattle.mq_questions.specs.declared.ask.fresh.Fresh.{Fresh}
-use Rattle.mq_questions.specs.declared.walk.remainder.Remainder.{Remainder}
-use Rattle.mq_questions.specs.declared.walk.start.Start.{Start}
+use Rattle.mq_walk.specs.declared.remainder.Remainder.{Remainder}
+use Rattle.mq_walk.specs.declared.start.Start.{Start}
 use Rattle.mq_questions.proofs.SwapLemmas.{match_by}
 use Rattle.mq_questions.proofs.RootLemmas.{alike_self}
-use Rattle.mq_questions.proofs.WalkLemmas.{gains_by}
-use Rattle.mq_questions.proofs.BranchLemmas.{text_is, and_left}
+use Rattle.mq_walk.proofs.WalkLemmas.{gains_by}
+use Rattle.mq_walk.proofs.BranchLemmas.{text_is, and_left}
 use Rattle.mq_questions.proofs.NameLemmas.{name_is, name_suits, suits_dollar, some_name, all_by}
 
 -- ---- an id that can't be a level

@@ -5,12 +5,13 @@ use Rattle.std.proofs.lemmas.List.{map_push, map-id}
 use Rattle.std.proofs.lemmas.List.Elements.{All-same, All-push, All-head, All-tail, All-append, All-take, All-weaker, All-cons, All-nil}
 use Rattle.mq_questions.specs.Fresh.{AreFresh, marks_of, is_tried_client, is_no_client, is_literal}
 use Rattle.mq_questions.specs.Literals.{has_mark}
-use Rattle.mq_questions.specs.Names.{is_among, is_choice, level_of, start_of, suits}
+use Rattle.mq_walk.specs.Names.{is_among, is_choice, start_of, suits}
+use Rattle.mq_questions.specs.Texts.{level_of}
 use Rattle.mq_questions.specs.declared.ask.fresh.Fresh.{Fresh}
 use Rattle.mq_questions.proofs.ClientLemmas.{one_more_done, all_done, no_client_gains, tried_is_choice}
 use Rattle.mq_questions.proofs.MarkLemmas.{any_client_nothing}
-use Rattle.mq_questions.proofs.WalkLemmas.{same_text}
-use Rattle.mq_questions.proofs.BranchLemmas.{text_is}
+use Rattle.mq_walk.proofs.WalkLemmas.{same_text}
+use Rattle.mq_walk.proofs.BranchLemmas.{text_is}
 use Rattle.mq_topic.specs.Levels.{levels}
 use Rattle.mq_acl.specs.Rows.{AclRow}
 use Rattle.mq_acl.specs.declared.access.Direction.{Direction}
@@ -18,12 +19,12 @@ use Rattle.mq_questions.specs.Roots.{AreRoots, gained}
 use Rattle.mq_questions.specs.Gains.{IsGainOf, IsNamed, told, shown}
 use Rattle.mq_questions.specs.declared.ask.gain.Witness.{Witness}
 use Rattle.mq_questions.proofs.GainLemmas.{name_gained}
-use Rattle.mq_questions.specs.Paths.{levels_of, all_levels}
-use Rattle.mq_questions.specs.Remainders.{mark_passes, remainders_fit, GainsNothing, IsGain}
+use Rattle.mq_walk.specs.Paths.{levels_of, all_levels}
+use Rattle.mq_walk.specs.Remainders.{mark_passes, remainders_fit, GainsNothing, IsGain}
 use Rattle.mq_questions.specs.declared.ask.clients.Gain.{Gain}
-use Rattle.mq_questions.specs.declared.walk.path.Path.{Path}
-use Rattle.mq_questions.specs.declared.walk.remainder.Remainder.{Remainder}
-use Rattle.mq_questions.specs.declared.walk.start.Start.{Start}
+use Rattle.mq_walk.specs.declared.path.Path.{Path}
+use Rattle.mq_walk.specs.declared.remainder.Remainder.{Remainder}
+use Rattle.mq_walk.specs.declared.start.Start.{Start}
 
 pub split_push : {X : Type 0} (P : X → Type 0) (xs : List X) (x : X) → All P (xs ++ x ∷ []) → All P xs × P x
 split_push P [] x h = (All-nil P, All-head P x [] h)

@@ -8,16 +8,17 @@ use Rattle.mq_topic.specs.Matching.{is_wildcard}
 use Rattle.mq_topic.specs.Texts.{contains_byte, is_level, parents, wildcards_fit, is_text, is_filter}
 use Rattle.mq_topic.proofs.TextLemmas.{levels_lack}
 use Rattle.mq_acl.specs.Rows.{Who, Anonymous, Named, Everyone, AclRow}
-use Rattle.mq_questions.specs.Names.{can_be_level, is_name_level, level_of}
-use Rattle.mq_questions.specs.Remainders.{fits, mark_passes}
+use Rattle.mq_walk.specs.Names.{can_be_level, is_name_level}
+use Rattle.mq_questions.specs.Texts.{level_of}
+use Rattle.mq_walk.specs.Remainders.{fits, mark_passes}
 use Rattle.mq_questions.specs.Literals.{is_literal_in}
 use Rattle.mq_questions.specs.Users.{is_name_of, is_user_of, row_names, rows_name, short_who, is_short_level, usable}
 use Rattle.mq_questions.specs.Roots.{rows_fit}
 use Rattle.mq_questions.specs.Fresh.{is_literal, is_user_level, is_no_client, is_no_user}
 use Rattle.mq_questions.specs.Made.{is_no_fresh}
 use Rattle.mq_questions.specs.declared.ask.fresh.Fresh.{Fresh}
-use Rattle.mq_questions.proofs.BranchLemmas.{and_left, and_right, text_is}
-use Rattle.mq_questions.proofs.WalkLemmas.{not_true, same_text}
+use Rattle.mq_walk.proofs.BranchLemmas.{and_left, and_right, text_is}
+use Rattle.mq_walk.proofs.WalkLemmas.{not_true, same_text}
 use Rattle.mq_questions.proofs.NameLemmas.{levels_without}
 use Rattle.mq_questions.proofs.LiteralLemmas.{fits_both, literal_passes, or_cases}
 use Rattle.mq_questions.proofs.ClientLemmas.{level_is_no_wildcard}

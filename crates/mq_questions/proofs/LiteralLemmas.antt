@@ -8,12 +8,12 @@ use Rattle.std.proofs.lemmas.Map.Text.{is_eq-slice_cmp}
 use Rattle.mq_topic.specs.Levels.{levels_left}
 use Rattle.mq_topic.specs.Matching.{is_wildcard}
 use Rattle.mq_questions.specs.Literals.{is_named, is_literal_in, is_literal_of}
-use Rattle.mq_questions.specs.Names.{is_among}
-use Rattle.mq_questions.specs.Remainders.{fits, remainder_fits, remainders_fit}
+use Rattle.mq_walk.specs.Names.{is_among}
+use Rattle.mq_walk.specs.Remainders.{fits, remainder_fits, remainders_fit}
 use Rattle.mq_questions.specs.declared.ask.literals.Literals.{Literals}
-use Rattle.mq_questions.specs.declared.walk.remainder.Remainder.{Remainder}
-use Rattle.mq_questions.proofs.BranchLemmas.{and_left, and_right, text_is}
-use Rattle.mq_questions.proofs.WalkLemmas.{same_text}
+use Rattle.mq_walk.specs.declared.remainder.Remainder.{Remainder}
+use Rattle.mq_walk.proofs.BranchLemmas.{and_left, and_right, text_is}
+use Rattle.mq_walk.proofs.WalkLemmas.{same_text}
 
 -- a level is found just where it is one of the keys
 keys_found : (l : List ℕ) (ks : List (Bor (List ℕ))) → list_any (is_at (λ k. slice_cmp nat_cmp l k.now)) ks ≡ is_among l ks

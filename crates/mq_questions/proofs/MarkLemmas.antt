@@ -3,15 +3,15 @@ use Rattle.std.proofs.Common.{◌≡◌, ℕ, ◌==◌, Bool, true, false, not, 
 use Rattle.std.specs.List.{list_any}
 use Rattle.mq_topic.specs.Levels.{levels_left}
 use Rattle.mq_topic.specs.Matching.{levels_match_by}
-use Rattle.mq_questions.specs.Remainders.{MarkLevels, passes, same, hit, fits, GainsNothing}
+use Rattle.mq_walk.specs.Remainders.{MarkLevels, passes, same, hit, fits, GainsNothing}
 use Rattle.mq_questions.specs.Literals.{has_mark}
-use Rattle.mq_questions.specs.declared.walk.remainder.Remainder.{Remainder}
-use Rattle.mq_questions.specs.declared.walk.start.Start.{Start}
-use Rattle.mq_questions.proofs.BranchLemmas.{text_is}
+use Rattle.mq_walk.specs.declared.remainder.Remainder.{Remainder}
+use Rattle.mq_walk.specs.declared.start.Start.{Start}
+use Rattle.mq_walk.proofs.BranchLemmas.{text_is}
 use Rattle.mq_questions.proofs.LiteralLemmas.{or_left, or_right}
 use Rattle.mq_questions.proofs.SwapLemmas.{match_by, all_pass}
 use Rattle.mq_questions.proofs.GainLemmas.{map_same}
-use Rattle.mq_questions.proofs.WalkLemmas.{gains_by, not_true}
+use Rattle.mq_walk.proofs.WalkLemmas.{gains_by, not_true}
 
 abbrev is_free : Bool → List ℕ → List ℕ → Bool
 is_free pattern mark w = not (pattern && bytes_eq w mark)

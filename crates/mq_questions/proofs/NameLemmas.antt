@@ -9,10 +9,11 @@ use Rattle.mq_topic.specs.Texts.{contains_byte, is_plain, is_text, is_name}
 use Rattle.mq_acl.specs.Access.{begins_with_dollar}
 use Rattle.mq_topic.proofs.TextLemmas.{levels_lack}
 use Rattle.mq_topic.proofs.Walk.{levels-nonempty}
-use Rattle.mq_questions.specs.Names.{can_be_level, is_name_level, joined, suits, start_of}
-use Rattle.mq_questions.specs.declared.walk.start.Start.TheVariants.{Plain, Dollar, Slash, Inside}
-use Rattle.mq_questions.proofs.BranchLemmas.{and_left, and_right}
-use Rattle.mq_questions.proofs.WalkLemmas.{not_true, suits_inside}
+use Rattle.mq_walk.specs.Names.{can_be_level, is_name_level, suits, start_of}
+use Rattle.mq_questions.specs.Texts.{joined}
+use Rattle.mq_walk.specs.declared.start.Start.TheVariants.{Plain, Dollar, Slash, Inside}
+use Rattle.mq_walk.proofs.BranchLemmas.{and_left, and_right}
+use Rattle.mq_walk.proofs.WalkLemmas.{not_true, suits_inside}
 use Rattle.mq_questions.proofs.LiteralLemmas.{or_left, or_right}
 
 -- ---- the levels of a text that is made of them

@@ -14,11 +14,11 @@ use Rattle.mq_acl.specs.declared.row.Row.{Row}
 use Rattle.mq_acl.proofs.AccessLemmas.{allowed_by_list}
 use Rattle.mq_questions.specs.Differ.{AllowSame, Differ, without}
 use Rattle.mq_questions.specs.Literals.{is_named}
-use Rattle.mq_questions.specs.Remainders.{fits}
+use Rattle.mq_walk.specs.Remainders.{fits}
 use Rattle.mq_questions.specs.Roots.{rows_fit, HasUsers}
 use Rattle.mq_questions.specs.Users.{is_name_of, is_user_of}
 use Rattle.mq_questions.specs.declared.ask.literals.Literals.{Literals}
-use Rattle.mq_questions.proofs.BranchLemmas.{and_left, and_right}
+use Rattle.mq_walk.proofs.BranchLemmas.{and_left, and_right}
 use Rattle.mq_questions.proofs.LiteralLemmas.{or_left, or_right}
 
 skip_any : (p : AclRow → Bool) (front : List AclRow) (row : AclRow) (back : List AclRow) → p row ≡ false → list_any p (front ++ row ∷ back) ≡ list_any p (front ++ back)

@@ -8,24 +8,24 @@ use Rattle.mq_acl.specs.declared.access.Direction.{Direction}
 use Rattle.mq_questions.specs.Fresh.{AreFresh, marks_of, is_tried_user, is_literal, is_no_client}
 use Rattle.mq_questions.specs.Gains.{IsGainOf, IsOtherGain, IsNamed, other_told, other_shown}
 use Rattle.mq_questions.specs.Literals.{is_named, has_mark}
-use Rattle.mq_questions.specs.Names.{is_among, is_choice, start_of}
-use Rattle.mq_questions.specs.Paths.{levels_of}
-use Rattle.mq_questions.specs.Remainders.{remainders_fit, GainsNothing, IsGain}
+use Rattle.mq_walk.specs.Names.{is_among, is_choice, start_of}
+use Rattle.mq_walk.specs.Paths.{levels_of}
+use Rattle.mq_walk.specs.Remainders.{remainders_fit, GainsNothing, IsGain}
 use Rattle.mq_questions.specs.Roots.{AreRoots, HasUsers, alike, gained}
 use Rattle.mq_questions.specs.declared.ask.clients.Gain.{Gain}
 use Rattle.mq_questions.specs.declared.ask.fresh.Fresh.{Fresh}
 use Rattle.mq_questions.specs.declared.ask.literals.Literals.{Literals}
 use Rattle.mq_questions.specs.declared.ask.others.OtherGain.{OtherGain}
 use Rattle.mq_questions.specs.declared.ask.others.OtherWitness.{OtherWitness}
-use Rattle.mq_questions.specs.declared.walk.remainder.Remainder.{Remainder}
-use Rattle.mq_questions.specs.declared.walk.start.Start.{Start}
-use Rattle.mq_questions.proofs.BranchLemmas.{text_is}
+use Rattle.mq_walk.specs.declared.remainder.Remainder.{Remainder}
+use Rattle.mq_walk.specs.declared.start.Start.{Start}
+use Rattle.mq_walk.proofs.BranchLemmas.{text_is}
 use Rattle.mq_questions.proofs.ClientLemmas.{one_more_done, all_done}
 use Rattle.mq_questions.proofs.GainLemmas.{name_gained_by}
 use Rattle.mq_questions.proofs.GainListLemmas.{split_push, not_pushed, shown_each, gain_named}
 use Rattle.mq_questions.proofs.MarkLemmas.{any_user_nothing}
 use Rattle.mq_questions.proofs.UserLemmas.{others_alike, no_user_gains, tried_user_is_choice, tried_user_is_no_client}
-use Rattle.mq_questions.proofs.WalkLemmas.{same_text}
+use Rattle.mq_walk.proofs.WalkLemmas.{same_text}
 
 -- what clients gain with this user name is among the others, but for what is like others
 pub record IsAdded (user : List ℕ) (before : List OtherGain) (done : List Gain) (others : List OtherGain) : Type 0 where

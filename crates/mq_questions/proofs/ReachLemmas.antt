@@ -11,18 +11,18 @@ use Rattle.mq_acl.specs.Access.{allowed, begins_with_dollar}
 use Rattle.mq_acl.specs.Rows.{AclRow}
 use Rattle.mq_acl.specs.declared.access.Direction.TheVariants.{Reading}
 use Rattle.mq_questions.specs.Fresh.{marks_of}
-use Rattle.mq_questions.specs.Names.{can_be_level, is_name_level, start_of, suits}
+use Rattle.mq_walk.specs.Names.{can_be_level, is_name_level, start_of, suits}
 use Rattle.mq_questions.specs.Reach.{IsNamedBy, level_marks}
-use Rattle.mq_questions.specs.Remainders.{MarkLevels, passes, same, hit, allow, gains, GainsNothing, IsGain}
+use Rattle.mq_walk.specs.Remainders.{MarkLevels, passes, same, hit, allow, gains, GainsNothing, IsGain}
 use Rattle.mq_questions.specs.Roots.{AreRoots}
-use Rattle.mq_questions.specs.declared.walk.remainder.Remainder.{Remainder}
-use Rattle.mq_questions.specs.declared.walk.start.Start.{Start}
-use Rattle.mq_questions.proofs.BranchLemmas.{and_left, and_right}
+use Rattle.mq_walk.specs.declared.remainder.Remainder.{Remainder}
+use Rattle.mq_walk.specs.declared.start.Start.{Start}
+use Rattle.mq_walk.proofs.BranchLemmas.{and_left, and_right}
 use Rattle.mq_questions.proofs.GainLemmas.{any_fits, level_can, map_same, roots_allow, same_user}
 use Rattle.mq_questions.proofs.NameLemmas.{all_by, name_is, name_suits, some_name, suits_dollar}
 use Rattle.mq_questions.proofs.RootLemmas.{alike_self}
 use Rattle.mq_questions.proofs.SwapLemmas.{match_by}
-use Rattle.mq_questions.proofs.WalkLemmas.{not_true}
+use Rattle.mq_walk.proofs.WalkLemmas.{not_true}
 
 -- ---- ids that can't be levels
 level_passes : (pattern : Bool) (client : List ℕ) (user : Option (List ℕ)) (w l : List ℕ) → can_be_level l ≡ true → passes pattern (marks_of client user) w l ≡ passes pattern (level_marks client user) w l

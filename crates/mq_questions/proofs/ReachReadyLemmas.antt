@@ -9,21 +9,22 @@ use Rattle.mq_acl.specs.Rows.{AclRow, Anonymous}
 use Rattle.mq_questions.specs.Fresh.{is_literal, is_no_client, is_user_level}
 use Rattle.mq_questions.specs.Literals.{is_literal_in, is_named}
 use Rattle.mq_questions.specs.Made.{AreMade, IsSeen, is_no_fresh}
-use Rattle.mq_questions.specs.Names.{can_be_level, are_others, is_choice, level_of}
+use Rattle.mq_walk.specs.Names.{can_be_level, are_others, is_choice}
+use Rattle.mq_questions.specs.Texts.{level_of}
 use Rattle.mq_questions.specs.Reach.{AreApart, AreShort, level_marks}
-use Rattle.mq_questions.specs.Remainders.{fits, mark_passes, marks_pass}
+use Rattle.mq_walk.specs.Remainders.{fits, mark_passes, marks_pass}
 use Rattle.mq_questions.specs.Roots.{rows_fit}
 use Rattle.mq_questions.specs.Users.{is_short_level, rows_name}
 use Rattle.mq_questions.specs.declared.ask.fresh.Fresh.{Fresh}
 use Rattle.mq_questions.specs.declared.ask.literals.Literals.{Literals}
 use Rattle.mq_questions.specs.declared.ask.texts.FreshTexts.{FreshTexts}
-use Rattle.mq_questions.proofs.BranchLemmas.{and_left, and_right, text_is}
+use Rattle.mq_walk.proofs.BranchLemmas.{and_left, and_right, text_is}
 use Rattle.mq_questions.proofs.ClientLemmas.{literal_is_choice}
 use Rattle.mq_questions.proofs.FreshLemmas.{named_no_fresh, seen_fresh}
 use Rattle.mq_questions.proofs.GainLemmas.{user_level}
 use Rattle.mq_questions.proofs.ListLemmas.{names_short, rows_literal, user_fits}
 use Rattle.mq_questions.proofs.LiteralLemmas.{fits_mono, literal_passes, or_cases}
-use Rattle.mq_questions.proofs.WalkLemmas.{same_text}
+use Rattle.mq_walk.proofs.WalkLemmas.{same_text}
 
 le_is : (n m : ℕ) → nat_le n m ≡ true → n ≤ m
 le_is n m e = grind (arith, nat_tests)

@@ -12,7 +12,7 @@ use Rattle.mq_questions.specs.declared.ask.texts.FreshTexts.{FreshTexts}
 use Rattle.mq_questions.proofs.FreshLemmas.{seen_fresh, named_no_fresh, made_unnamed}
 use Rattle.mq_questions.proofs.ListLemmas.{names_short, user_is_named, rows_literal, user_fits}
 use Rattle.mq_questions.proofs.LiteralLemmas.{or_cases}
-use Rattle.mq_questions.proofs.WalkLemmas.{false_is}
+use Rattle.mq_walk.proofs.WalkLemmas.{false_is}
 
 or_first : (a b : Bool) → a ≡ true → (a || b) ≡ true
 or_first a b e = rw e refl

@@ -9,11 +9,11 @@ use Rattle.mq_acl.specs.Access.{applies, concerns, begins_with_dollar}
 use Rattle.mq_acl.specs.Views.{row_view, row_views}
 use Rattle.mq_acl.specs.declared.row.Row.{Row}
 use Rattle.mq_acl.specs.declared.access.Direction.{Direction}
-use Rattle.mq_questions.specs.Remainders.{covers, same, hit, fits, remainder_fits, remainders_fit}
+use Rattle.mq_walk.specs.Remainders.{covers, same, hit, fits, remainder_fits, remainders_fit}
 use Rattle.mq_questions.specs.Fresh.{marks_of}
 use Rattle.mq_questions.specs.Roots.{decides, rows_hit, rows_fit, alike, AreRoots}
-use Rattle.mq_questions.specs.declared.walk.remainder.Remainder.{Remainder}
-use Rattle.mq_questions.proofs.BranchLemmas.{and_left, and_right, or_false, hit-append, list_all-append}
+use Rattle.mq_walk.specs.declared.remainder.Remainder.{Remainder}
+use Rattle.mq_walk.proofs.BranchLemmas.{and_left, and_right, or_false, hit-append, list_all-append}
 
 abbrev decided : Bool → List ℕ → Option (List ℕ) → List ℕ → Direction → AclRow → Bool
 decided deny client user name direction row = concerns client user name row && decides deny direction row.access

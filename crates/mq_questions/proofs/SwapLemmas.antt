@@ -6,15 +6,15 @@ use Rattle.mq_topic.specs.Levels.{levels_left}
 use Rattle.mq_topic.specs.Matching.{level_matches, levels_match_by}
 use Rattle.mq_topic.proofs.Walk.{levels_match_end}
 use Rattle.mq_acl.specs.Access.{is_user, begins_with_dollar}
-use Rattle.mq_questions.specs.Remainders.{MarkLevels, passes, same, hit, fits, remainder_fits, remainders_fit, GainsNothing}
-use Rattle.mq_questions.specs.Names.{fits_start, behind, suits}
-use Rattle.mq_questions.specs.declared.walk.remainder.Remainder.{Remainder}
-use Rattle.mq_questions.specs.declared.walk.start.Start.{Start}
-use Rattle.mq_questions.specs.declared.walk.start.Start.TheVariants.{Plain, Dollar, Slash, Inside}
+use Rattle.mq_walk.specs.Remainders.{MarkLevels, passes, same, hit, fits, remainder_fits, remainders_fit, GainsNothing}
+use Rattle.mq_walk.specs.Names.{fits_start, behind, suits}
+use Rattle.mq_walk.specs.declared.remainder.Remainder.{Remainder}
+use Rattle.mq_walk.specs.declared.start.Start.{Start}
+use Rattle.mq_walk.specs.declared.start.Start.TheVariants.{Plain, Dollar, Slash, Inside}
 use Rattle.mq_questions.proofs.Swaps.{swap, swap_marks, is_apart}
-use Rattle.mq_questions.proofs.BranchLemmas.{and_left, and_right, text_is}
-use Rattle.mq_questions.proofs.RemainderLemmas.{covers_hash, covers_cons}
-use Rattle.mq_questions.proofs.WalkLemmas.{same_text, gains_by, not_true}
+use Rattle.mq_walk.proofs.BranchLemmas.{and_left, and_right, text_is}
+use Rattle.mq_walk.proofs.RemainderLemmas.{covers_hash, covers_cons}
+use Rattle.mq_walk.proofs.WalkLemmas.{same_text, gains_by, not_true}
 
 same_tests : (a b : Bool) → (a ≡ true → b ≡ true) → (b ≡ true → a ≡ true) → a ≡ b
 same_tests true b f g = sym (f refl)

@@ -2,7 +2,7 @@
 use Rattle.std.specs.Prelude.{ℕ, Bool, List, ◌&&◌, not, if◌then◌else◌}
 use Rattle.std.specs.Str.{bytes_eq}
 use Rattle.std.specs.Option.{option_map}
-use Rattle.mq_questions.specs.Remainders.{MarkLevels}
+use Rattle.mq_walk.specs.Remainders.{MarkLevels}
 
 abbrev pub swap : List ℕ → List ℕ → List ℕ → List ℕ
 swap a b text = if bytes_eq text a then b else (if bytes_eq text b then a else text)

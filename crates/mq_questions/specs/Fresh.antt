@@ -3,11 +3,11 @@ use Rattle.std.specs.Prelude.{◌≡◌, ◌≤◌, ℕ, Bool, true, false, List
 use Rattle.std.specs.Str.{bytes_eq}
 use Rattle.mq_topic.specs.Texts.{contains_byte, is_plain}
 use Rattle.mq_acl.specs.Access.{begins_with_dollar, is_user}
-use Rattle.mq_questions.specs.Names.{are_others, is_choice}
+use Rattle.mq_walk.specs.Names.{are_others, is_choice}
 use Rattle.mq_questions.specs.Literals.{is_literal_of}
-use Rattle.mq_questions.specs.Remainders.{MarkLevels}
+use Rattle.mq_walk.specs.Remainders.{MarkLevels}
 use Rattle.mq_questions.specs.declared.ask.fresh.Fresh.{Fresh}
-use Rattle.mq_questions.specs.declared.walk.remainder.Remainder.{Remainder}
+use Rattle.mq_walk.specs.declared.remainder.Remainder.{Remainder}
 
 -- a text that a few bytes can be added to
 abbrev pub is_base : List ℕ → Bool

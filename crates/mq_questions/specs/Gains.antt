@@ -2,18 +2,18 @@
 use Rattle.std.specs.Prelude.{◌≡◌, ◌≤◌, ℕ, Bool, true, false, List, length, Option, Some, string_bytes}
 use Rattle.std.specs.List.{list_all}
 use Rattle.mq_topic.specs.Levels.{levels}
-use Rattle.mq_questions.specs.Names.{is_name_level, suits, start_of}
+use Rattle.mq_walk.specs.Names.{is_name_level, suits, start_of}
 use Rattle.mq_questions.specs.Literals.{is_named}
-use Rattle.mq_questions.specs.Paths.{levels_of}
-use Rattle.mq_questions.specs.Remainders.{IsGain}
+use Rattle.mq_walk.specs.Paths.{levels_of}
+use Rattle.mq_walk.specs.Remainders.{IsGain}
 use Rattle.mq_questions.specs.Fresh.{marks_of}
 use Rattle.mq_questions.specs.declared.ask.clients.Gain.{Gain}
 use Rattle.mq_questions.specs.declared.ask.gain.Witness.{Witness}
 use Rattle.mq_questions.specs.declared.ask.literals.Literals.{Literals}
 use Rattle.mq_questions.specs.declared.ask.others.OtherGain.{OtherGain}
 use Rattle.mq_questions.specs.declared.ask.others.OtherWitness.{OtherWitness}
-use Rattle.mq_questions.specs.declared.walk.remainder.Remainder.{Remainder}
-use Rattle.mq_questions.specs.declared.walk.start.Start.{Start}
+use Rattle.mq_walk.specs.declared.remainder.Remainder.{Remainder}
+use Rattle.mq_walk.specs.declared.start.Start.{Start}
 
 -- its client, with this user name, gains its name
 abbrev pub IsGainOf : Start → Option (List ℕ) → List Remainder → List Remainder → Gain → Type 0

@@ -1,7 +1,4 @@
-pub mod Remainders
-pub mod Paths
-pub mod Branches
-pub mod Names
+pub mod Texts
 pub mod Literals
 pub mod Fresh
 pub mod Gains

@@ -8,7 +8,7 @@ use Rattle.std.specs.Cmp.Lexicographic.{slice_cmp}
 use Rattle.mq_topic.specs.Levels.{levels_left}
 use Rattle.mq_topic.specs.Matching.{is_wildcard}
 use Rattle.mq_questions.specs.declared.ask.literals.Literals.{Literals}
-use Rattle.mq_questions.specs.declared.walk.remainder.Remainder.{Remainder}
+use Rattle.mq_walk.specs.declared.remainder.Remainder.{Remainder}
 
 abbrev pub is_named : List ℕ → Literals → Bool
 is_named level literals = contains_by (λ k. slice_cmp nat_cmp level k.now) literals.levels

@@ -3,10 +3,11 @@ use Rattle.std.specs.Prelude.{◌≡◌, ◌≤◌, ℕ, Bool, true, List, lengt
 use Rattle.std.specs.List.{list_all}
 use Rattle.mq_topic.specs.Levels.{levels}
 use Rattle.mq_acl.specs.Rows.{AclRow}
-use Rattle.mq_questions.specs.Names.{are_others, is_choice, level_of, is_name_level, suits, start_of}
-use Rattle.mq_questions.specs.Remainders.{MarkLevels, fits, mark_passes, marks_pass}
+use Rattle.mq_walk.specs.Names.{are_others, is_choice, is_name_level, suits, start_of}
+use Rattle.mq_questions.specs.Texts.{level_of}
+use Rattle.mq_walk.specs.Remainders.{MarkLevels, fits, mark_passes, marks_pass}
 use Rattle.mq_questions.specs.Roots.{rows_fit}
-use Rattle.mq_questions.specs.declared.walk.others.Others.{Others}
+use Rattle.mq_walk.specs.declared.others.Others.{Others}
 use Rattle.mq_questions.specs.Users.{is_short_level, usable}
 
 -- no level or id is longer than 300 bytes

@@ -6,8 +6,8 @@ use Rattle.mq_acl.specs.Rows.{AclRow}
 use Rattle.mq_questions.specs.Fresh.{AreFresh, is_literal, is_user_level}
 use Rattle.mq_questions.specs.Literals.{is_named}
 use Rattle.mq_questions.specs.Made.{IsSeen, made_texts}
-use Rattle.mq_questions.specs.Names.{level_of}
-use Rattle.mq_questions.specs.Remainders.{mark_passes}
+use Rattle.mq_questions.specs.Texts.{level_of}
+use Rattle.mq_walk.specs.Remainders.{mark_passes}
 use Rattle.mq_questions.specs.Roots.{rows_fit}
 use Rattle.mq_questions.specs.Users.{is_user_of, rows_name}
 use Rattle.mq_questions.specs.declared.ask.fresh.Fresh.{Fresh}

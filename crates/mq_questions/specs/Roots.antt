@@ -10,9 +10,9 @@ use Rattle.mq_acl.specs.Lines.{Access}
 use Rattle.mq_acl.specs.Access.{concerns, is_deny, grants, begins_with_dollar, allowed, applies}
 use Rattle.mq_acl.specs.Views.{row_views}
 use Rattle.mq_acl.specs.declared.access.Direction.{Direction}
-use Rattle.mq_questions.specs.Remainders.{hit, fits, remainders_fit, same}
+use Rattle.mq_walk.specs.Remainders.{hit, fits, remainders_fit, same}
 use Rattle.mq_questions.specs.Fresh.{marks_of}
-use Rattle.mq_questions.specs.declared.walk.remainder.Remainder.{Remainder}
+use Rattle.mq_walk.specs.declared.remainder.Remainder.{Remainder}
 use Rattle.mq_questions.specs.declared.ask.rows.Rows.{Rows}
 
 -- the access denies, or it grants this direction

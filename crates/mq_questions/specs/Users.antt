@@ -4,8 +4,8 @@ use Rattle.std.specs.List.{list_any}
 use Rattle.std.specs.Str.{bytes_eq}
 use Rattle.mq_topic.specs.Levels.{levels}
 use Rattle.mq_acl.specs.Rows.{Who, Anonymous, Named, Everyone, AclRow}
-use Rattle.mq_questions.specs.Names.{can_be_level}
-use Rattle.mq_questions.specs.Remainders.{fits}
+use Rattle.mq_walk.specs.Names.{can_be_level}
+use Rattle.mq_walk.specs.Remainders.{fits}
 use Rattle.mq_questions.specs.Literals.{is_literal_in}
 
 abbrev pub is_name_of : List ℕ → Who → Bool

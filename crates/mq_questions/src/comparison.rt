@@ -3,7 +3,7 @@ ghost use Rattle.std.specs.List.{All};
 ghost use Rattle.mq_topic.specs.Texts.{is_name};
 ghost use Rattle.mq_acl.specs.Views.{row_views};
 ghost use Rattle.mq_questions.specs.Comparison.{changed, is_made_up, lists_user, rows_with, rows_without};
-ghost use Rattle.mq_questions.specs.Names.{is_among};
+ghost use Rattle.mq_walk.specs.Names.{is_among};
 ghost use Rattle.mq_questions.specs.Roots.{all_rows};
 ghost use Rattle.mq_questions.specs.Users.{rows_name};
 

@@ -6,7 +6,6 @@ mod ask;
 mod comparison;
 mod needless;
 mod reading;
-mod walk;
 mod way;
 mod why;
 

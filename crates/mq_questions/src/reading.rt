@@ -8,7 +8,7 @@ ghost use Rattle.mq_acl.specs.Views.{row_views};
 ghost use Rattle.mq_acl.specs.declared.access.Direction.TheVariants.{Reading};
 ghost use Rattle.mq_questions.specs.Made.{IsSeen};
 ghost use Rattle.mq_questions.specs.Reach.{AreApart, AreShort};
-ghost use Rattle.mq_questions.specs.Remainders.{mark_passes};
+ghost use Rattle.mq_walk.specs.Remainders.{mark_passes};
 ghost use Rattle.mq_questions.specs.declared.ask.fresh.Fresh.{Fresh};
 
 use crate::ask::lists::{is_short, long_line};

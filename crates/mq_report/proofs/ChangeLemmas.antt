@@ -7,7 +7,7 @@ use Rattle.mq_acl.specs.Views.{row_views}
 use Rattle.mq_acl.specs.declared.access.Direction.{Direction}
 use Rattle.mq_acl.specs.declared.row.Row.{Row}
 use Rattle.mq_questions.specs.Comparison.{Compared, lists_user}
-use Rattle.mq_questions.specs.Names.{is_among}
+use Rattle.mq_walk.specs.Names.{is_among}
 use Rattle.mq_questions.specs.declared.way.Way.{Way}
 use Rattle.mq_questions.specs.declared.way.Way.TheVariants.{Gained, Lost}
 use Rattle.mq_questions.proofs.ClientLemmas.{one_more_done, all_done}

@@ -12,7 +12,7 @@ use Rattle.mq_questions.specs.Comparison.{Compared, changed, lists_user}
 use Rattle.mq_questions.specs.Roots.{gained}
 use Rattle.mq_questions.specs.declared.way.Way.{Way}
 use Rattle.mq_questions.specs.declared.way.Way.TheVariants.{Gained, Lost}
-use Rattle.mq_questions.proofs.BranchLemmas.{and_left, and_right, text_is}
+use Rattle.mq_walk.proofs.BranchLemmas.{and_left, and_right, text_is}
 use Rattle.mq_report.specs.Classes.{is_in, is_listed, is_asked}
 use Rattle.mq_report.specs.Differences.{is_change, is_told_of, is_like, same_way, same_direction, same_class, same_reasons, IsReal, Compares, Tells, Adds}
 use Rattle.mq_report.specs.declared.class.Class.{Class}

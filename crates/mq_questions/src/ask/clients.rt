@@ -5,18 +5,13 @@ ghost use Rattle.std.specs.Str.{bytes_eq};
 ghost use Rattle.mq_questions.specs.Fresh.{AreFresh, is_tried_client, is_no_client, is_literal, marks_of};
 ghost use Rattle.mq_questions.specs.Gains.{IsGainOf};
 ghost use Rattle.mq_questions.specs.Literals.{is_named, has_mark};
-ghost use Rattle.mq_questions.specs.Names.{is_among, is_choice};
-ghost use Rattle.mq_questions.specs.Paths.{all_levels};
-ghost use Rattle.mq_questions.specs.Remainders.{mark_passes, remainders_fit, GainsNothing, IsGain};
+ghost use Rattle.mq_walk.specs.Names.{is_among, is_choice};
+ghost use Rattle.mq_walk.specs.Paths.{all_levels};
+ghost use Rattle.mq_walk.specs.Remainders.{mark_passes, remainders_fit, GainsNothing, IsGain};
 
 use crate::ask::fresh::Fresh;
 use crate::ask::literals::{Literals, has_mark, only};
-use crate::walk::ends::is_barren;
-use crate::walk::marks::Marks;
-use crate::walk::path::Path;
-use crate::walk::remainder::Remainder;
-use crate::walk::start::Start;
-use crate::walk::walk;
+use mq_walk::{Marks, Path, Remainder, Start, is_barren, walk};
 use std::alloc::{AllocError, Global};
 
 /// A client id, and a name that this client gains.

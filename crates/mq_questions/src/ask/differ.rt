@@ -7,8 +7,8 @@ ghost use Rattle.mq_acl.specs.Views.{owner_view};
 ghost use Rattle.mq_questions.specs.Differ.{AllowSame, AllowSameIn, Differ};
 ghost use Rattle.mq_questions.specs.Fresh.{AreFresh, is_literal, is_user_level};
 ghost use Rattle.mq_questions.specs.Literals.{is_named};
-ghost use Rattle.mq_questions.specs.Names.{level_of};
-ghost use Rattle.mq_questions.specs.Remainders.{mark_passes};
+ghost use Rattle.mq_questions.specs.Texts.{level_of};
+ghost use Rattle.mq_walk.specs.Remainders.{mark_passes};
 ghost use Rattle.mq_questions.specs.Roots.{all_rows, rows_fit, HasUsers};
 ghost use Rattle.mq_questions.specs.Users.{is_name_of};
 

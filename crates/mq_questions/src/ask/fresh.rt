@@ -3,7 +3,7 @@ ghost use Rattle.mq_questions.specs.Fresh.{is_base, IsMade};
 ghost use Rattle.mq_questions.specs.Literals.{is_named};
 
 use crate::ask::literals::Literals;
-use crate::walk::others::Others;
+use mq_walk::Others;
 use std::alloc::{AllocError, Global};
 
 /// Texts that no row names: levels, client ids and user names that stand for all others. The second of each two begins

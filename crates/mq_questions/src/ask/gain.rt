@@ -5,8 +5,9 @@ ghost use Rattle.mq_topic.specs.Texts.{is_name, contains_byte};
 ghost use Rattle.mq_acl.specs.Access.{begins_with_dollar};
 ghost use Rattle.mq_questions.specs.Fresh.{AreFresh, is_literal, is_user_level};
 ghost use Rattle.mq_questions.specs.Gains.{IsNamed, told, shown};
-ghost use Rattle.mq_questions.specs.Names.{can_be_level, level_of};
-ghost use Rattle.mq_questions.specs.Remainders.{mark_passes};
+ghost use Rattle.mq_walk.specs.Names.{can_be_level};
+ghost use Rattle.mq_questions.specs.Texts.{level_of};
+ghost use Rattle.mq_walk.specs.Remainders.{mark_passes};
 ghost use Rattle.mq_questions.specs.Roots.{all_rows, rows_fit, gained};
 
 use crate::ask::clients::{Gain, client_gains};
@@ -14,9 +15,9 @@ use crate::ask::fresh::Fresh;
 use crate::ask::name::name_on;
 use crate::ask::roots::{Scope, roots};
 use crate::ask::rows::Rows;
-use crate::walk::start::Start;
 use mq_acl::Direction;
 use mq_topic::TopicName;
+use mq_walk::Start;
 use std::alloc::{AllocError, Global};
 
 /// A client id and a topic name that show a difference.

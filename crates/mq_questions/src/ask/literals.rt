@@ -7,12 +7,12 @@ ghost use Rattle.mq_topic.specs.Levels.{levels, levels_left};
 ghost use Rattle.mq_topic.specs.Matching.{is_wildcard};
 ghost use Rattle.mq_questions.specs.Literals.{is_named, is_literal_in, is_literal_of, has_mark};
 ghost use Rattle.mq_acl.specs.Views.{owner_view, row_view, row_views};
-ghost use Rattle.mq_questions.specs.Names.{is_among};
+ghost use Rattle.mq_walk.specs.Names.{is_among};
 ghost use Rattle.mq_questions.specs.Users.{is_name_of, is_user_of, row_names, rows_name};
 
-use crate::walk::remainder::Remainder;
 use mq_acl::{Owner, Row};
 use mq_topic::{LevelText, split_first};
+use mq_walk::Remainder;
 use std::alloc::{AllocError, Global};
 use std::collections::BTreeSet;
 

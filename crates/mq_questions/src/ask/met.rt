@@ -8,10 +8,10 @@ ghost use Rattle.mq_topic.specs.Texts.{is_name};
 ghost use Rattle.mq_acl.specs.Access.{allowed, begins_with_dollar};
 ghost use Rattle.mq_acl.specs.Views.{row_views};
 ghost use Rattle.mq_acl.specs.declared.access.Direction.TheVariants.{Reading};
-ghost use Rattle.mq_questions.specs.Names.{are_others, is_choice};
-ghost use Rattle.mq_questions.specs.Paths.{all_levels};
+ghost use Rattle.mq_walk.specs.Names.{are_others, is_choice};
+ghost use Rattle.mq_walk.specs.Paths.{all_levels};
 ghost use Rattle.mq_questions.specs.Reach.{IsNamedBy, level_marks};
-ghost use Rattle.mq_questions.specs.Remainders.{MarkLevels, allow, fits, marks_pass, remainders_fit};
+ghost use Rattle.mq_walk.specs.Remainders.{MarkLevels, allow, fits, marks_pass, remainders_fit};
 ghost use Rattle.mq_questions.specs.Roots.{rows_fit};
 
 use crate::ask::gain::level_of;
@@ -19,14 +19,9 @@ use crate::ask::literals::is_wildcard;
 use crate::ask::name::name_on;
 use crate::ask::roots::{Scope, roots};
 use crate::ask::rows::Rows;
-use crate::walk::marks::Marks;
-use crate::walk::others::Others;
-use crate::walk::path::Path;
-use crate::walk::remainder::Remainder;
-use crate::walk::start::Start;
-use crate::walk::walk;
 use mq_acl::{Direction, Row};
 use mq_topic::{LevelText, TopicFilter, TopicName, split_first};
+use mq_walk::{Marks, Others, Path, Remainder, Start, walk};
 use std::alloc::{AllocError, Global};
 
 // Whether the filter begins with a wildcard, and the names begin with `$`: it matches none of them.

@@ -1,12 +1,13 @@
 ghost use Rattle.std.specs.Prelude.{◌≡◌, ◌≤◌, Bool, true, length, IfOk, string_bytes, map};
 ghost use Rattle.std.specs.List.{list_all};
 ghost use Rattle.mq_topic.specs.Levels.{levels};
-ghost use Rattle.mq_questions.specs.Names.{joined, suits, start_of, is_name_level};
-ghost use Rattle.mq_questions.specs.Paths.{levels_of};
+ghost use Rattle.mq_questions.specs.Texts.{joined};
+ghost use Rattle.mq_walk.specs.Names.{suits, start_of, is_name_level};
+ghost use Rattle.mq_walk.specs.Paths.{levels_of};
 ghost use Rattle.mq_questions.specs.Reach.{IsNamedBy};
 
-use crate::walk::path::Path;
 use mq_topic::{TopicFault, TopicName};
+use mq_walk::Path;
 use std::alloc::{AllocError, Global};
 
 // The levels with slashes between them.

@@ -9,8 +9,8 @@ ghost use Rattle.mq_questions.specs.Fresh.{AreFresh, is_literal, is_tried_user};
 ghost use Rattle.mq_questions.specs.Fresh.{is_user_level, marks_of};
 ghost use Rattle.mq_questions.specs.Gains.{IsGainOf, IsOtherGain, IsNamed, other_told, other_shown};
 ghost use Rattle.mq_questions.specs.Literals.{is_named, has_mark};
-ghost use Rattle.mq_questions.specs.Names.{is_among};
-ghost use Rattle.mq_questions.specs.Remainders.{remainders_fit, GainsNothing};
+ghost use Rattle.mq_walk.specs.Names.{is_among};
+ghost use Rattle.mq_walk.specs.Remainders.{remainders_fit, GainsNothing};
 ghost use Rattle.mq_questions.specs.Roots.{all_rows, rows_fit, gained, HasUsers};
 
 use crate::ask::clients::{Gain, client_gains};
@@ -19,9 +19,8 @@ use crate::ask::gain::{Witness, show};
 use crate::ask::literals::{Literals, has_mark, only};
 use crate::ask::roots::{Scope, roots};
 use crate::ask::rows::Rows;
-use crate::walk::remainder::Remainder;
-use crate::walk::start::Start;
 use mq_acl::Direction;
+use mq_walk::{Remainder, Start};
 use std::alloc::{AllocError, Global};
 
 /// A user name that no list names, and what a client with it gains.

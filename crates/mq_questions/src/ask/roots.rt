@@ -6,14 +6,14 @@ ghost use Rattle.mq_topic.specs.Matching.{levels_match_by};
 ghost use Rattle.mq_acl.specs.Rows.{AclRow};
 ghost use Rattle.mq_acl.specs.Groups.{is_everyones};
 ghost use Rattle.mq_acl.specs.Views.{owner_view, row_view, row_views};
-ghost use Rattle.mq_questions.specs.Remainders.{covers, hit, same, fits, remainder_fits};
+ghost use Rattle.mq_walk.specs.Remainders.{covers, hit, same, fits, remainder_fits};
 ghost use Rattle.mq_questions.specs.Fresh.{marks_of};
 ghost use Rattle.mq_questions.specs.Roots.{decides, rows_fit, all_rows, AreRoots};
 
 use crate::ask::rows::Rows;
-use crate::walk::remainder::Remainder;
 use mq_acl::{Direction, Owner, Row, applies, grants, is_deny};
 use mq_topic::LevelText;
+use mq_walk::Remainder;
 use std::alloc::{AllocError, Global};
 
 /// Of which user, or of clients without one, which direction, and which names: those that begin with `$`, or the others.

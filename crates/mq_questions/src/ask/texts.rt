@@ -6,7 +6,7 @@ ghost use Rattle.mq_questions.specs.Made.{AreMade, IsSeen, made_texts};
 
 use crate::ask::fresh::{Fresh, fresh_text};
 use crate::ask::literals::Literals;
-use crate::walk::others::Others;
+use mq_walk::Others;
 use std::alloc::{AllocError, Global};
 
 /// The texts that `Fresh` lends.

@@ -2,7 +2,7 @@ use Rattle.std.proofs.Common.{ℕ, List, [], Bor, get_or, ap, not, sym, ◌∙�
 use Rattle.mq_report.specs.Differences.{Adds}
 use Rattle.mq_report.proofs.ChangeLemmas.{ToldFor, told_start, told_one, told_all, same_allowed, listed_by}
 use Rattle.mq_questions.proofs.ClientLemmas.{among_at}
-use Rattle.mq_questions.proofs.WalkLemmas.{same_text}
+use Rattle.mq_walk.proofs.WalkLemmas.{same_text}
 use Rattle.mq_report.proofs.changes.compare.Goals as goal
 
 abbrev none : Bor (List ℕ)

@@ -3,8 +3,8 @@ use Rattle.std.specs.List.{All}
 use Rattle.std.proofs.lemmas.Iterator.Adapters.{YieldsList-from_vec}
 use Rattle.std.proofs.lemmas.Iterator.Consumers.{YieldsList-end}
 use Rattle.mq_questions.specs.Fresh.{marks_of}
-use Rattle.mq_questions.specs.Paths.{all_levels}
-use Rattle.mq_questions.specs.Remainders.{IsGain}
+use Rattle.mq_walk.specs.Paths.{all_levels}
+use Rattle.mq_walk.specs.Remainders.{IsGain}
 use Rattle.mq_questions.proofs.GainListLemmas.{all_yielded, added_like, added_new}
 use Rattle.mq_questions.proofs.ask.clients.add_gains.Goals as goal
 

@@ -1,7 +1,7 @@
 use Rattle.std.proofs.Common.{ℕ, List, [], refl, rules, ap, sym, ◌∙◌, get_or, Bor, length, arith}
 use Rattle.std.specs.Option.{option_copied}
 use Rattle.mq_questions.specs.Fresh.{is_literal}
-use Rattle.mq_questions.specs.Names.{is_among, is_choice}
+use Rattle.mq_walk.specs.Names.{is_among, is_choice}
 use Rattle.mq_questions.proofs.LiteralLemmas.{all_fit_mono}
 use Rattle.mq_questions.proofs.ClientLemmas.{literal_is_choice, among_at}
 use Rattle.mq_questions.proofs.GainListLemmas.{listed_is_choice, gains_none, gains_more, no_client}

@@ -1,6 +1,6 @@
 use Rattle.std.proofs.Common.{◌≡◌, ℕ, List, [], true, false, ap, sym, ◌∙◌, get_or, Bor, Some}
 use Rattle.mq_questions.specs.Differ.{AllowSame}
-use Rattle.mq_questions.specs.Names.{is_among}
+use Rattle.mq_walk.specs.Names.{is_among}
 use Rattle.mq_questions.specs.Roots.{all_rows}
 use Rattle.mq_questions.proofs.ClientLemmas.{among_at, one_more_done, all_done}
 use Rattle.mq_questions.proofs.ask.differ.users_differ.Goals as goal

@@ -1,6 +1,6 @@
 use Rattle.std.proofs.Common.{◌≡◌, ℕ, List, true, false, drop, Some}
 use Rattle.mq_questions.specs.Differ.{AllowSame}
-use Rattle.mq_questions.specs.Names.{is_among}
+use Rattle.mq_walk.specs.Names.{is_among}
 use Rattle.mq_questions.specs.Roots.{all_rows}
 use Rattle.mq_questions.proofs.ask.differ.users_differ.Given as goal
 

@@ -1,7 +1,7 @@
 use Rattle.std.proofs.Common.{◌≡◌, refl, ap, sym, ◌∙◌, arith, length, string_bytes, replicate, length-append, ◌+◌, ◌≤◌, ◌<◌, ℕ, false, true, Bool}
 use Rattle.std.proofs.lemmas.List.{length-replicate}
 use Rattle.mq_questions.specs.Literals.{is_named}
-use Rattle.mq_questions.specs.Names.{is_among}
+use Rattle.mq_walk.specs.Names.{is_among}
 use Rattle.mq_questions.proofs.LiteralLemmas.{named_is}
 use Rattle.mq_questions.proofs.ask.fresh.fresh_text.Goals as goal
 

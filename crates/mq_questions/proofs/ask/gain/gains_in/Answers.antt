@@ -3,8 +3,8 @@ use Rattle.std.specs.List.{All}
 use Rattle.std.specs.Option.{option_copied}
 use Rattle.std.proofs.lemmas.List.Elements.{All-weaker, All-same}
 use Rattle.mq_questions.specs.Gains.{IsGainOf, IsNamed, told, shown}
-use Rattle.mq_questions.specs.Names.{level_of}
-use Rattle.mq_questions.specs.Remainders.{GainsNothing}
+use Rattle.mq_questions.specs.Texts.{level_of}
+use Rattle.mq_walk.specs.Remainders.{GainsNothing}
 use Rattle.mq_questions.specs.Fresh.{marks_of}
 use Rattle.mq_questions.specs.Roots.{AreRoots, all_rows}
 use Rattle.mq_questions.proofs.GainLemmas.{nothing_gained}

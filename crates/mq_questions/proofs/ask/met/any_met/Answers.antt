@@ -4,9 +4,9 @@ use Rattle.std.specs.Option.{option_copied}
 use Rattle.mq_acl.specs.Views.{row_views}
 use Rattle.mq_acl.specs.declared.access.Direction.TheVariants.{Reading}
 use Rattle.mq_topic.specs.Levels.{levels}
-use Rattle.mq_questions.specs.Paths.{all_levels}
+use Rattle.mq_walk.specs.Paths.{all_levels}
 use Rattle.mq_questions.specs.Reach.{level_marks}
-use Rattle.mq_questions.specs.Remainders.{allow, GainsNothing, IsGain}
+use Rattle.mq_walk.specs.Remainders.{allow, GainsNothing, IsGain}
 use Rattle.mq_questions.specs.Roots.{AreRoots}
 use Rattle.mq_questions.proofs.DifferLemmas.{first_passes}
 use Rattle.mq_questions.proofs.ReachLemmas.{hidden_matches, nothing_met, name_met, none_then, some_then}

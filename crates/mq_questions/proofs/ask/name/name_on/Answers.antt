@@ -1,6 +1,6 @@
 use Rattle.std.proofs.Common.{ap, ◌∙◌, ◌++◌, reverse}
 use Rattle.std.specs.List.{list_all}
-use Rattle.mq_questions.specs.Names.{is_name_level, suits, start_of}
+use Rattle.mq_walk.specs.Names.{is_name_level, suits, start_of}
 use Rattle.mq_questions.proofs.GainLemmas.{path_texts}
 use Rattle.mq_questions.proofs.ask.name.name_on.Goals as goal
 

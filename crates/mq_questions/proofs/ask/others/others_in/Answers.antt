@@ -2,7 +2,7 @@ use Rattle.std.proofs.Common.{◌≡◌, true, sym, ◌∙◌, subst, Some}
 use Rattle.std.proofs.lemmas.List.Elements.{All-weaker, All-same}
 use Rattle.std.specs.Option.{option_copied}
 use Rattle.mq_questions.specs.Gains.{IsOtherGain, IsNamed, other_told, other_shown}
-use Rattle.mq_questions.specs.Remainders.{remainders_fit}
+use Rattle.mq_walk.specs.Remainders.{remainders_fit}
 use Rattle.mq_questions.specs.Fresh.{is_literal}
 use Rattle.mq_questions.specs.Roots.{AreRoots, all_rows}
 use Rattle.mq_questions.proofs.GainLemmas.{nothing_gained_by}

@@ -1,6 +1,6 @@
 use Rattle.std.proofs.Common.{◌≡◌, refl, ap, ◌∙◌, List, ℕ, Bor, Bool, true, false, cond, ◌||◌, bytes_eq}
 use Rattle.std.proofs.lemmas.Map.Text.{is_eq-slice_cmp}
-use Rattle.mq_questions.proofs.RemainderLemmas.{eq_sym}
+use Rattle.mq_walk.proofs.RemainderLemmas.{eq_sym}
 use Rattle.mq_questions.specs.Literals.{is_named}
 use Rattle.mq_questions.proofs.ask.literals.Literals.add.Goals as goal
 

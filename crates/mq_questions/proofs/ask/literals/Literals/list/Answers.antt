@@ -1,7 +1,7 @@
 use Rattle.std.proofs.Common.{ap, sym, ◌∙◌, map, ◌++◌, append-nil}
 use Rattle.std.specs.Map.Iter.{deref}
 use Rattle.std.proofs.lemmas.Map.Iter.{rest_so_far, rest_all}
-use Rattle.mq_questions.specs.Names.{is_among}
+use Rattle.mq_walk.specs.Names.{is_among}
 use Rattle.mq_questions.proofs.LiteralLemmas.{named_is}
 use Rattle.mq_questions.proofs.ask.literals.Literals.list.Goals as goal
 
