@@ -1,9 +1,10 @@
 -- A few client ids stand for all.
-use Rattle.std.proofs.Common.{◌≡◌, ℕ, ◌==◌, Bool, true, false, not, ◌&&◌, ◌||◌, List, [], ◌∷◌, length, codes, bytes_eq, refl, ap, sym, ◌∙◌, Bor, subst, Option, Some, None, ◌<◌, ◌≤◌, ◌+◌, arith, zero, suc, get_or, drop, add-one}
+use Rattle.std.proofs.Common.{◌≡◌, ℕ, ◌==◌, Bool, true, false, not, ◌&&◌, ◌||◌, List, [], ◌∷◌, length, codes, bytes_eq, refl, ap, sym, ◌∙◌, Bor, subst, Option, Some, None, ◌<◌, ◌≤◌, ◌+◌, arith, zero, suc, get_or, drop}
 use Rattle.std.specs.Option.{option_map}
-use Rattle.std.proofs.Math.Seq.{drop-cons}
 use Rattle.std.proofs.Math.ListN.{drop_of_length-le}
 use Rattle.std.proofs.lemmas.Bool.Decides.{nat_tests}
+use Rattle.std.proofs.lemmas.Bool.{and_parts, or_parts}
+use Rattle.std.proofs.lemmas.List.{drop_more}
 use Rattle.mq_topic.specs.Matching.{is_wildcard}
 use Rattle.mq_topic.specs.Texts.{is_plain, contains_byte}
 use Rattle.mq_acl.specs.Access.{begins_with_dollar, is_user}
@@ -16,52 +17,73 @@ use Rattle.mq_walk.specs.declared.remainder.Remainder.{Remainder}
 use Rattle.mq_walk.specs.declared.start.Start.{Start}
 use Rattle.mq_questions.proofs.Swaps.{swap, is_apart}
 use Rattle.mq_questions.proofs.SwapLemmas.{swap_first, swap_apart, swap_nothing}
-use Rattle.mq_walk.proofs.BranchLemmas.{and_left, and_right, text_is}
-use Rattle.mq_walk.proofs.WalkLemmas.{same_text, no_dollar, choice_is_level}
-use Rattle.mq_walk.proofs.RemainderLemmas.{eq_sym}
-use Rattle.mq_questions.proofs.LiteralLemmas.{all_fit_both, literals_pass, apart_rows, or_left, or_right}
+use Rattle.mq_questions.proofs.LiteralLemmas.{all_fit_both, literals_pass, apart_rows}
+use Rattle.mq_walk.proofs.TextLemmas.{text_is, same_text, eq_sym}
+use Rattle.mq_walk.proofs.NameLemmas.{no_dollar, choice_is_level}
 
 -- ---- what a level that a row may name is
-pub literal_is_choice : (f : Fresh) (w : List ℕ) → is_literal f w ≡ true → is_choice f.others w ≡ true
-literal_is_choice f w h = and_left (is_choice f.others w) (is_no_client f w) (and_left (is_choice f.others w && is_no_client f w) (is_no_user f w) h)
+pub literal_is_choice : (f : Fresh) (w : List ℕ) → is_literal f w ≡ true
+    → is_choice f.others w ≡ true
+literal_is_choice f w h =
+    (and_parts (is_choice f.others w) (is_no_client f w)
+    (and_parts (is_choice f.others w && is_no_client f w) (is_no_user f w) h).0).0
 
-pub literal_is_no_client : (f : Fresh) (w : List ℕ) → is_literal f w ≡ true → is_no_client f w ≡ true
-literal_is_no_client f w h = and_right (is_choice f.others w) (is_no_client f w) (and_left (is_choice f.others w && is_no_client f w) (is_no_user f w) h)
+pub literal_is_no_client : (f : Fresh) (w : List ℕ) → is_literal f w ≡ true
+    → is_no_client f w ≡ true
+literal_is_no_client f w h =
+    (and_parts (is_choice f.others w) (is_no_client f w)
+    (and_parts (is_choice f.others w && is_no_client f w) (is_no_user f w) h).0).1
 
 pub literal_is_no_user : (f : Fresh) (w : List ℕ) → is_literal f w ≡ true → is_no_user f w ≡ true
-literal_is_no_user f w h = and_right (is_choice f.others w && is_no_client f w) (is_no_user f w) h
+literal_is_no_user f w h =
+    (and_parts (is_choice f.others w && is_no_client f w) (is_no_user f w) h).1
 
 plain_is_no_wildcard : (w : List ℕ) → is_plain w ≡ true → is_wildcard w ≡ false
 plain_is_no_wildcard w h = at (bytes_eq w (codes "+")) refl (bytes_eq w (codes "#")) refl
   where
-    at : (p : Bool) → bytes_eq w (codes "+") ≡ p → (q : Bool) → bytes_eq w (codes "#") ≡ q → is_wildcard w ≡ false
-    at true e q g = absurd (let n : false ≡ true = sym (ap is_plain (text_is w (codes "+") e)) ∙ h in cc)
-    at false e true g = absurd (let n : false ≡ true = sym (ap is_plain (text_is w (codes "#") g)) ∙ h in cc)
+    at : (p : Bool) → bytes_eq w (codes "+") ≡ p → (q : Bool) → bytes_eq w (codes "#") ≡ q
+        → is_wildcard w ≡ false
+    at true e q g = absurd (let n : false ≡ true = sym (ap is_plain (text_is w (codes "+") e))
+        ∙ h in cc)
+    at false e true g = absurd (let n : false ≡ true = sym (ap is_plain (text_is w (codes "#") g))
+        ∙ h in cc)
     at false e false g = (λ i. e i || g i)
 
 pub level_is_no_wildcard : (w : List ℕ) → is_name_level w ≡ true → is_wildcard w ≡ false
-level_is_no_wildcard w h = plain_is_no_wildcard w (first (is_plain w) (not (contains_byte 0 w)) (not (contains_byte 47 w)) _ h)
+level_is_no_wildcard w h = plain_is_no_wildcard w
+    (first (is_plain w) (not (contains_byte 0 w)) (not (contains_byte 47 w)) _ h)
   where
     first : (a b c d : Bool) → (a && b && c && d) ≡ true → a ≡ true
     first true b c d e = refl
     first false b c d e = e
 
-pub literal_is_no_wildcard : (f : Fresh) (w : List ℕ) → is_literal f w ≡ true → is_wildcard w ≡ false
-literal_is_no_wildcard f w h = level_is_no_wildcard w (choice_is_level f.others w (literal_is_choice f w h))
+pub literal_is_no_wildcard : (f : Fresh) (w : List ℕ) → is_literal f w ≡ true
+    → is_wildcard w ≡ false
+literal_is_no_wildcard f w h = level_is_no_wildcard w
+    (choice_is_level f.others w (literal_is_choice f w h))
 
 -- ---- the client ids that are tried
-pub tried_is_choice : (f : Fresh) (user : Option (List ℕ)) (old new : List Remainder) → AreFresh f → mark_passes (is_choice f.others) user ≡ true
-    → remainders_fit (is_literal f) old ≡ true → remainders_fit (is_literal f) new ≡ true → (c : List ℕ) → is_tried_client f user old new c ≡ true → is_choice f.others c ≡ true
+pub tried_is_choice : (f : Fresh) (user : Option (List ℕ)) (old new : List Remainder) → AreFresh f
+    → mark_passes (is_choice f.others) user ≡ true
+    → remainders_fit (is_literal f) old ≡ true → remainders_fit (is_literal f) new ≡ true
+    → (c : List ℕ) → is_tried_client f user old new c ≡ true → is_choice f.others c ≡ true
 tried_is_choice f user old new a u o n c h =
-    one (bytes_eq c f.client.now) (bytes_eq c f.dollar_client.now) (bytes_eq c []) (is_user c user) (is_literal_of c old) (is_literal_of c new) (is_choice f.others c)
-    (λ e. ap (is_choice f.others) (text_is c f.client.now e) ∙ a.client) (λ e. ap (is_choice f.others) (text_is c f.dollar_client.now e) ∙ a.dollar_client) (λ e. ap (is_choice f.others) (text_is c [] e) ∙ a.empty)
-    (mark user u) (λ e. literal_is_choice f c (literals_pass (is_literal f) old o c e)) (λ e. literal_is_choice f c (literals_pass (is_literal f) new n c e)) h
+    one (bytes_eq c f.client.now) (bytes_eq c f.dollar_client.now) (bytes_eq c []) (is_user c user)
+    (is_literal_of c old) (is_literal_of c new) (is_choice f.others c)
+    (λ e. ap (is_choice f.others) (text_is c f.client.now e) ∙ a.client)
+    (λ e. ap (is_choice f.others) (text_is c f.dollar_client.now e) ∙ a.dollar_client)
+    (λ e. ap (is_choice f.others) (text_is c [] e) ∙ a.empty)
+    (mark user u) (λ e. literal_is_choice f c (literals_pass (is_literal f) old o c e))
+    (λ e. literal_is_choice f c (literals_pass (is_literal f) new n c e)) h
   where
-    mark : (m : Option (List ℕ)) → mark_passes (is_choice f.others) m ≡ true → is_user c m ≡ true → is_choice f.others c ≡ true
+    mark : (m : Option (List ℕ)) → mark_passes (is_choice f.others) m ≡ true → is_user c m ≡ true
+        → is_choice f.others c ≡ true
     mark None p e = absurd (let k : false ≡ true = e in cc)
     mark (Some u) p e = ap (is_choice f.others) (text_is c u e) ∙ p
 
-    one : (p q r s t v w : Bool) → (p ≡ true → w ≡ true) → (q ≡ true → w ≡ true) → (r ≡ true → w ≡ true) → (s ≡ true → w ≡ true) → (t ≡ true → w ≡ true) → (v ≡ true → w ≡ true) → (p || q || r || s || t || v) ≡ true → w ≡ true
+    one : (p q r s t v w : Bool) → (p ≡ true → w ≡ true) → (q ≡ true → w ≡ true)
+        → (r ≡ true → w ≡ true) → (s ≡ true → w ≡ true) → (t ≡ true → w ≡ true)
+        → (v ≡ true → w ≡ true) → (p || q || r || s || t || v) ≡ true → w ≡ true
     one true q r s t v w a b c d e f h = a refl
     one false true r s t v w a b c d e f h = b refl
     one false false true s t v w a b c d e f h = c refl
@@ -76,98 +98,145 @@ pub record IsUntried (user : Option (List ℕ)) (old new : List Remainder) (c : 
   pub old_lacks : is_literal_of c old ≡ false
   pub new_lacks : is_literal_of c new ≡ false
 
-untried : (f : Fresh) (user : Option (List ℕ)) (old new : List Remainder) (c : List ℕ) → is_tried_client f user old new c ≡ false → IsUntried user old new c
+untried : (f : Fresh) (user : Option (List ℕ)) (old new : List Remainder) (c : List ℕ)
+    → is_tried_client f user old new c ≡ false → IsUntried user old new c
 untried f user old new c h =
-    let e5 = or_left (bytes_eq c f.client.now || bytes_eq c f.dollar_client.now || bytes_eq c [] || is_user c user || is_literal_of c old) (is_literal_of c new) h in
-    let e4 = or_left (bytes_eq c f.client.now || bytes_eq c f.dollar_client.now || bytes_eq c [] || is_user c user) (is_literal_of c old) e5 in
-    let e3 = or_left (bytes_eq c f.client.now || bytes_eq c f.dollar_client.now || bytes_eq c []) (is_user c user) e4 in
+    let e5 = (or_parts (bytes_eq c f.client.now || bytes_eq c f.dollar_client.now || bytes_eq c []
+    || is_user c user || is_literal_of c old) (is_literal_of c new) h).0 in
+    let e4 = (or_parts (bytes_eq c f.client.now || bytes_eq c f.dollar_client.now || bytes_eq c []
+    || is_user c user) (is_literal_of c old) e5).0 in
+    let e3 = (or_parts (bytes_eq c f.client.now || bytes_eq c f.dollar_client.now || bytes_eq c [])
+    (is_user c user) e4).0 in
     record {
-      some = or_right (bytes_eq c f.client.now || bytes_eq c f.dollar_client.now) (bytes_eq c []) e3;
-      no_user = or_right (bytes_eq c f.client.now || bytes_eq c f.dollar_client.now || bytes_eq c []) (is_user c user) e4;
-      old_lacks = or_right (bytes_eq c f.client.now || bytes_eq c f.dollar_client.now || bytes_eq c [] || is_user c user) (is_literal_of c old) e5;
-      new_lacks = or_right (bytes_eq c f.client.now || bytes_eq c f.dollar_client.now || bytes_eq c [] || is_user c user || is_literal_of c old) (is_literal_of c new) h;
+      some = (or_parts (bytes_eq c f.client.now || bytes_eq c f.dollar_client.now) (bytes_eq c [])
+          e3).1;
+      no_user = (or_parts (bytes_eq c f.client.now || bytes_eq c f.dollar_client.now
+          || bytes_eq c []) (is_user c user) e4).1;
+      old_lacks = (or_parts (bytes_eq c f.client.now || bytes_eq c f.dollar_client.now
+          || bytes_eq c [] || is_user c user) (is_literal_of c old) e5).1;
+      new_lacks = (or_parts (bytes_eq c f.client.now || bytes_eq c f.dollar_client.now
+          || bytes_eq c [] || is_user c user || is_literal_of c old) (is_literal_of c new) h).1;
     }
 
 pub not_empty : (c : List ℕ) → bytes_eq c [] ≡ false → (length c == 0) ≡ false
 not_empty [] e = e
 not_empty (x ∷ xs) e = grind (arith, nat_tests)
 
-pub apart_by : (a b w : List ℕ) → not (bytes_eq w a) ≡ true → not (bytes_eq w b) ≡ true → is_apart a b w ≡ true
+pub apart_by : (a b w : List ℕ) → not (bytes_eq w a) ≡ true → not (bytes_eq w b) ≡ true
+    → is_apart a b w ≡ true
 apart_by a b w e f = rw (e, f) refl
 
 -- rows that do not name the client, nor the one that stands for it
-stand_in : (f : Fresh) (user : Option (List ℕ)) (old new : List Remainder) (start : Start) (c b : List ℕ)
-    → remainders_fit (is_literal f) old ≡ true → remainders_fit (is_literal f) new ≡ true → IsUntried user old new c
+stand_in : (f : Fresh) (user : Option (List ℕ)) (old new : List Remainder) (start : Start)
+    (c b : List ℕ)
+    → remainders_fit (is_literal f) old ≡ true → remainders_fit (is_literal f) new ≡ true
+    → IsUntried user old new c
     → begins_with_dollar c ≡ begins_with_dollar b → (length b == 0) ≡ false
-    → ((w : List ℕ) → is_no_client f w ≡ true → not (bytes_eq w b) ≡ true) → mark_passes (is_no_client f) user ≡ true
-    → GainsNothing start 200 (marks_of b user) old new → GainsNothing start 200 (marks_of c user) old new
+    → ((w : List ℕ) → is_no_client f w ≡ true → not (bytes_eq w b) ≡ true)
+    → mark_passes (is_no_client f) user ≡ true
+    → GainsNothing start 200 (marks_of b user) old new
+    → GainsNothing start 200 (marks_of c user) old new
 stand_in f user old new start c b o n t d s other u h =
-    swap_nothing start 200 (marks_of c user) c b old new (record { dollar = d; some = not_empty c t.some; other_some = s })
-    (all_fit_both (λ w. not (bytes_eq w c)) (is_literal f) (is_apart c b) old (λ w e g. apart_by c b w e (other w (literal_is_no_client f w g))) (apart_rows (is_literal f) (literal_is_no_wildcard f) c old o t.old_lacks) o)
-    (all_fit_both (λ w. not (bytes_eq w c)) (is_literal f) (is_apart c b) new (λ w e g. apart_by c b w e (other w (literal_is_no_client f w g))) (apart_rows (is_literal f) (literal_is_no_wildcard f) c new n t.new_lacks) n)
-    (subst (λ m. GainsNothing start 200 m old new) (sym (λ i. record { client = Some (swap_first c b i); user = same_user user u t.no_user i })) h)
+    swap_nothing start 200 (marks_of c user) c b old new
+    (record { dollar = d; some = not_empty c t.some; other_some = s })
+    (all_fit_both (λ w. not (bytes_eq w c)) (is_literal f) (is_apart c b) old
+    (λ w e g. apart_by c b w e (other w (literal_is_no_client f w g)))
+    (apart_rows (is_literal f) (literal_is_no_wildcard f) c old o t.old_lacks) o)
+    (all_fit_both (λ w. not (bytes_eq w c)) (is_literal f) (is_apart c b) new
+    (λ w e g. apart_by c b w e (other w (literal_is_no_client f w g)))
+    (apart_rows (is_literal f) (literal_is_no_wildcard f) c new n t.new_lacks) n)
+    (subst (λ m. GainsNothing start 200 m old new)
+    (sym (λ i. record {
+      client = Some (swap_first c b i);
+      user =
+          same_user user u t.no_user i;
+    })) h)
   where
-    same_user : (m : Option (List ℕ)) → mark_passes (is_no_client f) m ≡ true → is_user c m ≡ false → option_map (swap c b) m ≡ m
+    same_user : (m : Option (List ℕ)) → mark_passes (is_no_client f) m ≡ true → is_user c m ≡ false
+        → option_map (swap c b) m ≡ m
     same_user None p e = refl
-    same_user (Some v) p e = ap Some (swap_apart c b v (apart_by c b v (ap not (eq_sym v c ∙ e)) (other v p)))
+    same_user (Some v) p e =
+        ap Some (swap_apart c b v (apart_by c b v (ap not (eq_sym v c ∙ e)) (other v p)))
 
 second : (p q r s t v : Bool) → q ≡ true → (p || q || r || s || t || v) ≡ true
 second true q r s t v e = refl
 second false q r s t v e = rw e refl
 
 -- where none of those that are tried gains anything, no client does
-pub no_client_gains : (f : Fresh) (user : Option (List ℕ)) (old new : List Remainder) (start : Start) → AreFresh f → mark_passes (is_no_client f) user ≡ true
+pub no_client_gains : (f : Fresh) (user : Option (List ℕ)) (old new : List Remainder)
+    (start : Start) → AreFresh f → mark_passes (is_no_client f) user ≡ true
     → remainders_fit (is_literal f) old ≡ true → remainders_fit (is_literal f) new ≡ true
-    → ((c : List ℕ) → is_tried_client f user old new c ≡ true → GainsNothing start 200 (marks_of c user) old new)
+    → ((c : List ℕ) → is_tried_client f user old new c ≡ true
+    → GainsNothing start 200 (marks_of c user) old new)
     → (c : List ℕ) → GainsNothing start 200 (marks_of c user) old new
-no_client_gains f user old new start a u o n h c = at (is_tried_client f user old new c) refl (begins_with_dollar c) refl
+no_client_gains f user old new start a u o n h c =
+    at (is_tried_client f user old new c) refl (begins_with_dollar c) refl
   where
     first_tried : is_tried_client f user old new f.client.now ≡ true
-    first_tried = ap (λ b. b || bytes_eq f.client.now f.dollar_client.now || bytes_eq f.client.now [] || is_user f.client.now user || is_literal_of f.client.now old || is_literal_of f.client.now new) (same_text f.client.now)
+    first_tried = ap (λ b. b || bytes_eq f.client.now f.dollar_client.now
+        || bytes_eq f.client.now [] || is_user f.client.now user || is_literal_of f.client.now old
+        || is_literal_of f.client.now new) (same_text f.client.now)
 
     second_tried : is_tried_client f user old new f.dollar_client.now ≡ true
-    second_tried = second (bytes_eq f.dollar_client.now f.client.now) (bytes_eq f.dollar_client.now f.dollar_client.now) (bytes_eq f.dollar_client.now []) (is_user f.dollar_client.now user) (is_literal_of f.dollar_client.now old) (is_literal_of f.dollar_client.now new) (same_text f.dollar_client.now)
+    second_tried = second (bytes_eq f.dollar_client.now f.client.now)
+        (bytes_eq f.dollar_client.now f.dollar_client.now) (bytes_eq f.dollar_client.now [])
+        (is_user f.dollar_client.now user) (is_literal_of f.dollar_client.now old)
+        (is_literal_of f.dollar_client.now new) (same_text f.dollar_client.now)
 
-    at : (t : Bool) → is_tried_client f user old new c ≡ t → (d : Bool) → begins_with_dollar c ≡ d → GainsNothing start 200 (marks_of c user) old new
+    at : (t : Bool) → is_tried_client f user old new c ≡ t → (d : Bool) → begins_with_dollar c ≡ d
+        → GainsNothing start 200 (marks_of c user) old new
     at true e d k = h c e
     at false e false k =
-        stand_in f user old new start c f.client.now o n (untried f user old new c e) (k ∙ sym a.client_first) a.client_some
-        (λ w g. and_left (not (bytes_eq w f.client.now)) (not (bytes_eq w f.dollar_client.now)) g) u (h f.client.now first_tried)
+        stand_in f user old new start c f.client.now o n (untried f user old new c e)
+        (k ∙ sym a.client_first) a.client_some
+        (λ w g. (and_parts (not (bytes_eq w f.client.now)) (not (bytes_eq w f.dollar_client.now))
+        g).0) u (h f.client.now first_tried)
     at false e true k =
-        stand_in f user old new start c f.dollar_client.now o n (untried f user old new c e) (k ∙ sym a.dollar_client_first) (no_dollar f.dollar_client.now a.dollar_client_first)
-        (λ w g. and_right (not (bytes_eq w f.client.now)) (not (bytes_eq w f.dollar_client.now)) g) u (h f.dollar_client.now second_tried)
+        stand_in f user old new start c f.dollar_client.now o n (untried f user old new c e)
+        (k ∙ sym a.dollar_client_first) (no_dollar f.dollar_client.now a.dollar_client_first)
+        (λ w g. (and_parts (not (bytes_eq w f.client.now)) (not (bytes_eq w f.dollar_client.now))
+        g).1) u (h f.dollar_client.now second_tried)
 
 -- ---- one by one
-pub among_at : (items : List (Bor (List ℕ))) (i : ℕ) (d : Bor (List ℕ)) → i < length items → is_among (get_or items i d).now items ≡ true
+pub among_at : (items : List (Bor (List ℕ))) (i : ℕ) (d : Bor (List ℕ)) → i < length items
+    → is_among (get_or items i d).now items ≡ true
 among_at [] i d h = absurd (omega arith)
 among_at (x ∷ xs) zero d h = ap (λ b. b || is_among x.now xs) (same_text x.now)
-among_at (x ∷ xs) (suc i) d h = or_here (bytes_eq (get_or xs i d).now x.now) (among_at xs i d (omega arith))
+among_at (x ∷ xs) (suc i) d h = or_here (bytes_eq (get_or xs i d).now x.now)
+    (among_at xs i d (omega arith))
   where
-    or_here : (p : Bool) → is_among (get_or xs i d).now xs ≡ true → (p || is_among (get_or xs i d).now xs) ≡ true
+    or_here : (p : Bool) → is_among (get_or xs i d).now xs ≡ true
+        → (p || is_among (get_or xs i d).now xs) ≡ true
     or_here true e = refl
     or_here false e = e
 
-items_at : (items : List (Bor (List ℕ))) (i : ℕ) (d : Bor (List ℕ)) → i < length items → drop i items ≡ get_or items i d ∷ drop (i + 1) items
-items_at items i d p = rw add-one (drop-cons items i d p)
-
-pub one_more_done : (P : List ℕ → Type 0) (items : List (Bor (List ℕ))) (i : ℕ) (d : Bor (List ℕ)) → i < length items → P (get_or items i d).now
+pub one_more_done : (P : List ℕ → Type 0) (items : List (Bor (List ℕ))) (i : ℕ) (d : Bor (List ℕ))
+    → i < length items → P (get_or items i d).now
     → ((t : List ℕ) → is_among t items ≡ true → is_among t (drop i items) ≡ false → P t)
     → (t : List ℕ) → is_among t items ≡ true → is_among t (drop (i + 1) items) ≡ false → P t
 one_more_done P items i d p here before t all rest = at (bytes_eq t (get_or items i d).now) refl
   where
     at : (b : Bool) → bytes_eq t (get_or items i d).now ≡ b → P t
     at true q = subst P (sym (text_is t (get_or items i d).now q)) here
-    at false q = before t all (ap (is_among t) (items_at items i d p) ∙ (λ j. q j || rest j))
+    at false q = before t all (ap (is_among t) (drop_more items i d p) ∙ (λ j. q j || rest j))
 
-pub all_done : (P : List ℕ → Type 0) (items : List (Bor (List ℕ))) (i : ℕ) → length items ≤ i → ((t : List ℕ) → is_among t items ≡ true → is_among t (drop i items) ≡ false → P t) → (t : List ℕ) → is_among t items ≡ true → P t
+pub all_done : (P : List ℕ → Type 0) (items : List (Bor (List ℕ))) (i : ℕ) → length items ≤ i
+    → ((t : List ℕ) → is_among t items ≡ true → is_among t (drop i items) ≡ false → P t)
+    → (t : List ℕ) → is_among t items ≡ true → P t
 all_done P items i h done t e = done t e (ap (is_among t) (drop_of_length-le items {i = i} h))
 
 -- ---- the client ids that are tried, as they are listed
 pub tried_as_listed : (f : Fresh) (user : Option (List ℕ)) (old new : List Remainder) (c : List ℕ)
-    → (bytes_eq c f.client.now || (bytes_eq c f.dollar_client.now || ((((false || bytes_eq c []) || is_user c user) || is_literal_of c old) || is_literal_of c new))) ≡ is_tried_client f user old new c
-tried_as_listed f user old new c = at (bytes_eq c f.client.now) (bytes_eq c f.dollar_client.now) (bytes_eq c []) (is_user c user) (is_literal_of c old) (is_literal_of c new)
+    → (bytes_eq c f.client.now
+    || (bytes_eq c f.dollar_client.now
+    || ((((false || bytes_eq c []) || is_user c user) || is_literal_of c old)
+    || is_literal_of c new))) ≡ is_tried_client f user old new c
+tried_as_listed f user old new c =
+    at (bytes_eq c f.client.now) (bytes_eq c f.dollar_client.now) (bytes_eq c []) (is_user c user)
+    (is_literal_of c old) (is_literal_of c new)
   where
-    at : (p q r s t v : Bool) → (p || (q || ((((false || r) || s) || t) || v))) ≡ (p || q || r || s || t || v)
+    at : (p q r s t v : Bool) → (p || (q || ((((false || r) || s) || t) || v)))
+        ≡ (p || q || r || s || t || v)
     at true q r s t v = refl
     at false true r s t v = refl
     at false false true s t v = refl

@@ -5,24 +5,27 @@ use Rattle.std.specs.List.{All}
 use Rattle.std.specs.Option.{option_copied}
 use Rattle.std.proofs.lemmas.List.Elements.{All-head}
 use Rattle.mq_topic.specs.Texts.{is_name}
-use Rattle.mq_acl.specs.Access.{allowed, applies}
-use Rattle.mq_acl.specs.Rows.{AclRow, Anonymous, Named}
+use Rattle.mq_acl.specs.Access.{allowed}
+use Rattle.mq_acl.specs.Rows.{AclRow}
 use Rattle.mq_acl.specs.declared.access.Direction.{Direction}
 use Rattle.mq_acl.specs.declared.access.Direction.TheVariants.{Reading, Writing}
 use Rattle.mq_questions.specs.Differ.{AllowSame, AllowSameIn, Differ}
 use Rattle.mq_questions.specs.Literals.{is_named}
 use Rattle.mq_questions.specs.Roots.{gained}
 use Rattle.mq_questions.specs.declared.ask.literals.Literals.{Literals}
-use Rattle.mq_walk.proofs.BranchLemmas.{text_is}
 
 -- ---- the first of a list
-pub first_passes : {X : Type 0} (P : X → Type 0) (xs ys : List X) (x : X) → ys ≡ xs → Some x ≡ slice_get ys 0 → All P xs → P x
+pub first_passes : {X : Type 0} (P : X → Type 0) (xs ys : List X) (x : X) → ys ≡ xs
+    → Some x ≡ slice_get ys 0 → All P xs → P x
 first_passes P [] ys x f e h = absurd (let k = e ∙ ap (λ l. slice_get l 0) f in cc)
-first_passes P (y ∷ more) ys x f e h = subst P (let k = e ∙ ap (λ l. slice_get l 0) f in cc) (All-head P y more h)
+first_passes P (y ∷ more) ys x f e h =
+    subst P (let k = e ∙ ap (λ l. slice_get l 0) f in cc) (All-head P y more h)
 
-pub no_first : {X : Type 0} (xs ys : List X) (o : Option (Bor X)) → ys ≡ xs → option_copied o ≡ slice_get ys 0 → o ≡ None → xs ≡ []
+pub no_first : {X : Type 0} (xs ys : List X) (o : Option (Bor X)) → ys ≡ xs
+    → option_copied o ≡ slice_get ys 0 → o ≡ None → xs ≡ []
 no_first [] ys o f e n = refl
-no_first (y ∷ more) ys o f e n = absurd (let k = sym (ap option_copied n) ∙ e ∙ ap (λ l. slice_get l 0) f in cc)
+no_first (y ∷ more) ys o f e n =
+    absurd (let k = sym (ap option_copied n) ∙ e ∙ ap (λ l. slice_get l 0) f in cc)
 
 -- ---- what is gained, and what differs
 neither : (a b : Bool) → (b && not a) ≡ false → (a && not b) ≡ false → a ≡ b
@@ -38,31 +41,53 @@ one_of false true e = λ q. cc
 one_of false false e = λ q. let k = e in cc
 
 pub none_differ : (one other : List AclRow) (user : Option (List ℕ)) (direction : Direction)
-    → ((client name : List ℕ) → IsTrue (is_name name) → gained one other client user name direction ≡ false) → ((client name : List ℕ) → IsTrue (is_name name) → gained other one client user name direction ≡ false)
+    → ((client name : List ℕ) → IsTrue (is_name name)
+    → gained one other client user name direction ≡ false)
+    → ((client name : List ℕ) → IsTrue (is_name name)
+    → gained other one client user name direction ≡ false)
     → AllowSameIn one other user direction
 none_differ one other user direction f g client name valid =
-    neither (allowed (Some one) client user name direction) (allowed (Some other) client user name direction) (f client name valid) (g client name valid)
+    neither (allowed (Some one) client user name direction)
+    (allowed (Some other) client user name direction) (f client name valid)
+    (g client name valid)
 
-pub more_differ : (one other : List AclRow) (client : List ℕ) (user : Option (List ℕ)) (name : List ℕ) (direction : Direction) → IsTrue (is_name name) → gained one other client user name direction ≡ true → Differ one other
+pub more_differ : (one other : List AclRow) (client : List ℕ) (user : Option (List ℕ))
+    (name : List ℕ) (direction : Direction) → IsTrue (is_name name)
+    → gained one other client user name direction ≡ true → Differ one other
 more_differ one other client user name direction valid h =
-    record { client = client; user = user; name = name; direction = direction; valid = valid; differs = one_of (allowed (Some one) client user name direction) (allowed (Some other) client user name direction) h }
+    record {
+      client = client;
+      user = user;
+      name = name;
+      direction = direction;
+      valid = valid;
+      differs = one_of (allowed (Some one) client user name direction)
+          (allowed (Some other) client user name direction) h;
+    }
 
-pub fewer_differ : (one other : List AclRow) (client : List ℕ) (user : Option (List ℕ)) (name : List ℕ) (direction : Direction) → IsTrue (is_name name) → gained other one client user name direction ≡ true → Differ one other
+pub fewer_differ : (one other : List AclRow) (client : List ℕ) (user : Option (List ℕ))
+    (name : List ℕ) (direction : Direction) → IsTrue (is_name name)
+    → gained other one client user name direction ≡ true → Differ one other
 fewer_differ one other client user name direction valid h = record {
   client = client;
   user = user;
   name = name;
   direction = direction;
   valid = valid;
-  differs = λ e. one_of (allowed (Some other) client user name direction) (allowed (Some one) client user name direction) h (sym e);
+  differs = λ e. one_of (allowed (Some other) client user name direction)
+      (allowed (Some one) client user name direction) h (sym e);
 }
 
 -- ---- each direction, and each user
-pub both_ways : (one other : List AclRow) (user : Option (List ℕ)) → AllowSameIn one other user Reading → AllowSameIn one other user Writing → AllowSame one other user
+pub both_ways : (one other : List AclRow) (user : Option (List ℕ))
+    → AllowSameIn one other user Reading → AllowSameIn one other user Writing
+    → AllowSame one other user
 both_ways one other user r w Reading = r
 both_ways one other user r w Writing = w
 
-pub every_user : (one other : List AclRow) (named : Literals) → AllowSame one other None → ((u : List ℕ) → is_named u named ≡ true → AllowSame one other (Some u)) → ((u : List ℕ) → is_named u named ≡ false → AllowSame one other (Some u))
+pub every_user : (one other : List AclRow) (named : Literals) → AllowSame one other None
+    → ((u : List ℕ) → is_named u named ≡ true → AllowSame one other (Some u))
+    → ((u : List ℕ) → is_named u named ≡ false → AllowSame one other (Some u))
     → (user : Option (List ℕ)) → AllowSame one other user
 every_user one other named a b c None = a
 every_user one other named a b c (Some u) = at (is_named u named) refl
@@ -70,11 +95,3 @@ every_user one other named a b c (Some u) = at (is_named u named) refl
     at : (k : Bool) → is_named u named ≡ k → AllowSame one other (Some u)
     at true e = b u e
     at false e = c u e
-
-pub for_anonymous : (one other : List AclRow) → AllowSame one other None → (user : Option (List ℕ)) → applies user Anonymous ≡ true → AllowSame one other user
-for_anonymous one other a None h = a
-for_anonymous one other a (Some u) h = absurd (let k : false ≡ true = h in cc)
-
-pub for_named : (one other : List AclRow) (name : List ℕ) → AllowSame one other (Some name) → (user : Option (List ℕ)) → applies user (Named name) ≡ true → AllowSame one other user
-for_named one other name a None h = absurd (let k : false ≡ true = h in cc)
-for_named one other name a (Some u) h = subst (λ t. AllowSame one other (Some t)) (sym (text_is u name h)) a

@@ -1,10 +1,11 @@
 -- Texts that are made to be named by no row.
-use Rattle.std.proofs.Common.{◌≡◌, ℕ, ◌==◌, Bool, true, false, not, ◌&&◌, ◌||◌, List, [], ◌++◌, length, codes, bytes_eq, refl, ap, sym, ◌∙◌, arith, ◌≤◌, ◌+◌, replicate, zero, suc, length-append, subst, string_bytes}
+use Rattle.std.proofs.Common.{◌≡◌, ℕ, ◌==◌, Bool, true, false, not, ◌&&◌, ◌||◌, List, [], ◌++◌, length, codes, bytes_eq, refl, ap, sym, ◌∙◌, arith, ◌+◌, replicate, zero, suc, length-append, subst, string_bytes}
 use Rattle.std.specs.Prelude.{nat_le}
 use Rattle.std.specs.List.{list_any}
-use Rattle.std.proofs.lemmas.Bool.Decides.{nat_tests}
 use Rattle.std.proofs.lemmas.List.{length-replicate}
 use Rattle.std.proofs.lemmas.List.Folds.{list_any-append}
+use Rattle.std.proofs.lemmas.Bool.{and_parts, not-true, leb-true, le-leb}
+use Rattle.std.proofs.Math.Dec.{eqb-suc-zero}
 use Rattle.mq_topic.specs.Texts.{contains_byte, is_plain}
 use Rattle.mq_acl.specs.Access.{begins_with_dollar}
 use Rattle.mq_walk.specs.Names.{is_name_level, is_choice}
@@ -14,61 +15,85 @@ use Rattle.mq_questions.specs.Literals.{is_named}
 use Rattle.mq_questions.specs.declared.ask.fresh.Fresh.{Fresh}
 use Rattle.mq_questions.specs.declared.ask.literals.Literals.{Literals}
 use Rattle.mq_questions.specs.declared.ask.texts.FreshTexts.{FreshTexts}
-use Rattle.mq_walk.proofs.BranchLemmas.{and_left, and_right, text_is}
-use Rattle.mq_walk.proofs.WalkLemmas.{not_true}
+use Rattle.mq_walk.proofs.TextLemmas.{text_is}
 
 many_lack : (b n : ℕ) → (120 == b) ≡ false → contains_byte b (replicate n 120) ≡ false
 many_lack b zero h = refl
 many_lack b (suc n) h = (λ i. h i || many_lack b n h i)
 
-made_lacks : (b : ℕ) (base text : List ℕ) → (120 == b) ≡ false → not (contains_byte b base) ≡ true → IsMade base text → not (contains_byte b text) ≡ true
+made_lacks : (b : ℕ) (base text : List ℕ) → (120 == b) ≡ false → not (contains_byte b base) ≡ true
+    → IsMade base text → not (contains_byte b text) ≡ true
 made_lacks b base text n h m =
-    ap (λ t. not (contains_byte b t)) m.is ∙ ap not (list_any-append (λ c. c == b) base (replicate m.count 120)) ∙ ap (λ k. not (contains_byte b base || k)) (many_lack b m.count n) ∙ ap (λ k. not (k || false)) (not_true (contains_byte b base) h)
+    ap (λ t. not (contains_byte b t)) m.is
+    ∙ ap not (list_any-append (λ c. c == b) base (replicate m.count 120))
+    ∙ ap (λ k. not (contains_byte b base || k)) (many_lack b m.count n)
+    ∙ ap (λ k. not (k || false)) (not-true (contains_byte b base) h)
 
-le_is : (n m : ℕ) → nat_le n m ≡ true → n ≤ m
-le_is n m e = grind (arith, nat_tests)
-
-is_le : (n m : ℕ) → n ≤ m → nat_le n m ≡ true
-is_le n m e = grind (arith, nat_tests)
-
-made_level : (base text : List ℕ) → is_base base ≡ true → IsMade base text → is_name_level text ≡ true
+made_level : (base text : List ℕ) → is_base base ≡ true → IsMade base text
+    → is_name_level text ≡ true
 made_level base text h m =
-    let e2 = and_left (is_plain base && not (contains_byte 0 base) && not (contains_byte 47 base)) (nat_le (length base) 20) h in
-    let e1 = and_left (is_plain base && not (contains_byte 0 base)) (not (contains_byte 47 base)) e2 in
-    let plain = and_left (is_plain base) (not (contains_byte 0 base)) e1 in
-    let short = le_is (length base) 20 (and_right (is_plain base && not (contains_byte 0 base) && not (contains_byte 47 base)) (nat_le (length base) 20) h) in
+    let e2 = (and_parts (is_plain base && not (contains_byte 0 base) && not (contains_byte 47 base))
+    (nat_le (length base) 20) h).0 in
+    let e1 = (and_parts (is_plain base && not (contains_byte 0 base)) (not (contains_byte 47 base))
+    e2).0 in
+    let plain = (and_parts (is_plain base) (not (contains_byte 0 base)) e1).0 in
+    let short = leb-true (length base) 20
+    (and_parts (is_plain base && not (contains_byte 0 base) && not (contains_byte 47 base))
+    (nat_le (length base) 20) h).1 in
     let few = m.few in
-    let size = ap length m.is ∙ length-append base (replicate m.count 120) ∙ ap (λ n. length base + n) (length-replicate m.count 120) in
+    let size = ap length m.is ∙ length-append base (replicate m.count 120)
+    ∙ ap (λ n. length base + n) (length-replicate m.count 120) in
     rw (
-      made_lacks 43 base text refl (and_left (not (contains_byte 43 base)) (not (contains_byte 35 base)) plain) m,
-      made_lacks 35 base text refl (and_right (not (contains_byte 43 base)) (not (contains_byte 35 base)) plain) m,
-      made_lacks 0 base text refl (and_right (is_plain base) (not (contains_byte 0 base)) e1) m,
-      made_lacks 47 base text refl (and_right (is_plain base && not (contains_byte 0 base)) (not (contains_byte 47 base)) e2) m,
+      made_lacks 43 base text refl
+          (and_parts (not (contains_byte 43 base)) (not (contains_byte 35 base)) plain).0 m,
+      made_lacks 35 base text refl
+          (and_parts (not (contains_byte 43 base)) (not (contains_byte 35 base)) plain).1 m,
+      made_lacks 0 base text refl (and_parts (is_plain base) (not (contains_byte 0 base)) e1).1 m,
+      made_lacks 47 base text refl
+          (and_parts (is_plain base && not (contains_byte 0 base)) (not (contains_byte 47 base))
+          e2).1 m,
     )
-    (is_le (length text) 321 (omega (arith, size, short, few)))
+    (le-leb (length text) 321 (omega (arith, size, short, few)))
 
 -- texts of bases that differ at the front differ
-made_apart : (a b s t : List ℕ) → ((x y : List ℕ) → bytes_eq (a ++ x) (b ++ y) ≡ false) → IsMade a s → IsMade b t → not (bytes_eq s t) ≡ true
-made_apart a b s t h m n = ap not ((λ i. bytes_eq (m.is i) (n.is i)) ∙ h (replicate m.count 120) (replicate n.count 120))
+made_apart : (a b s t : List ℕ) → ((x y : List ℕ) → bytes_eq (a ++ x) (b ++ y) ≡ false) → IsMade a s
+    → IsMade b t → not (bytes_eq s t) ≡ true
+made_apart a b s t h m n =
+    ap not ((λ i. bytes_eq (m.is i) (n.is i)) ∙ h (replicate m.count 120) (replicate n.count 120))
 
-module _ (f : Fresh) (p : IsMade (codes "x") f.others.plain.now) (d : IsMade (codes "$x") f.others.dollar.now) where
-  choice : (base text : List ℕ) → is_base base ≡ true → ((x y : List ℕ) → bytes_eq (base ++ x) (codes "x" ++ y) ≡ false) → ((x y : List ℕ) → bytes_eq (base ++ x) (codes "$x" ++ y) ≡ false)
+module _ (f : Fresh) (p : IsMade (codes "x") f.others.plain.now)
+    (d : IsMade (codes "$x") f.others.dollar.now) where
+  choice : (base text : List ℕ) → is_base base ≡ true
+      → ((x y : List ℕ) → bytes_eq (base ++ x) (codes "x" ++ y) ≡ false)
+      → ((x y : List ℕ) → bytes_eq (base ++ x) (codes "$x" ++ y) ≡ false)
       → IsMade base text → is_choice f.others text ≡ true
   choice base text h s t m =
-      rw (made_level base text h m, made_apart base (codes "x") text f.others.plain.now s m p, made_apart base (codes "$x") text f.others.dollar.now t m d) refl
+      rw (
+        made_level base text h m,
+        made_apart base (codes "x") text f.others.plain.now s m p,
+        made_apart base (codes "$x") text f.others.dollar.now t m d,
+      ) refl
 
   empty_choice : is_choice f.others [] ≡ true
   empty_choice = (λ i. not (bytes_eq [] (p.is i)) && not (bytes_eq [] (d.is i)))
 
-no_zero : (n : ℕ) → (suc n == 0) ≡ false
-no_zero n = grind (arith, nat_tests)
-
 -- texts that are made so are fresh
-pub are_fresh : (f : Fresh) → IsMade (codes "x") f.others.plain.now → IsMade (codes "$x") f.others.dollar.now → IsMade (codes "client") f.client.now → IsMade (codes "$client") f.dollar_client.now → IsMade (codes "user") f.user.now → IsMade (codes "$user") f.dollar_user.now → AreFresh f
+pub are_fresh : (f : Fresh) → IsMade (codes "x") f.others.plain.now
+    → IsMade (codes "$x") f.others.dollar.now → IsMade (codes "client") f.client.now
+    → IsMade (codes "$client") f.dollar_client.now → IsMade (codes "user") f.user.now
+    → IsMade (codes "$user") f.dollar_user.now → AreFresh f
 are_fresh f p d c dc u du = record {
-  others = rw (made_level (codes "x") f.others.plain.now refl p, made_level (codes "$x") f.others.dollar.now refl d) ((λ i. not (length (p.is i) == 0) && not (begins_with_dollar (p.is i)) && true && begins_with_dollar (d.is i) && true) ∙ ap (λ b. not b && true && true && true && true) (no_zero (length (replicate p.count 120))));
+  others = rw (
+    made_level (codes "x") f.others.plain.now refl p,
+    made_level (codes "$x") f.others.dollar.now refl d,
+  )
+      ((λ i. not (length (p.is i) == 0) && not (begins_with_dollar (p.is i)) && true
+      && begins_with_dollar (d.is i) && true)
+      ∙ ap (λ b. not b && true && true && true && true)
+      (eqb-suc-zero (length (replicate p.count 120))));
   client = choice f p d (codes "client") f.client.now refl (λ x y. refl) (λ x y. refl) c;
-  dollar_client = choice f p d (codes "$client") f.dollar_client.now refl (λ x y. refl) (λ x y. refl) dc;
+  dollar_client = choice f p d (codes "$client") f.dollar_client.now refl (λ x y. refl)
+      (λ x y. refl) dc;
   user = choice f p d (codes "user") f.user.now refl (λ x y. refl) (λ x y. refl) u;
   dollar_user = choice f p d (codes "$user") f.dollar_user.now refl (λ x y. refl) (λ x y. refl) du;
   empty = empty_choice f p d;
@@ -76,48 +101,82 @@ are_fresh f p d c dc u du = record {
   dollar_client_first = ap begins_with_dollar dc.is;
   user_first = ap begins_with_dollar u.is;
   dollar_user_first = ap begins_with_dollar du.is;
-  client_some = ap (λ t. length t == 0) c.is ∙ no_zero (length (codes "lient" ++ replicate c.count 120));
-  user_some = ap (λ t. length t == 0) u.is ∙ no_zero (length (codes "ser" ++ replicate u.count 120));
-  dollar_user_some = ap (λ t. length t == 0) du.is ∙ no_zero (length (codes "user" ++ replicate du.count 120));
-  user_apart = rw (made_apart (codes "user") (codes "client") f.user.now f.client.now (λ x y. refl) u c, made_apart (codes "user") (codes "$client") f.user.now f.dollar_client.now (λ x y. refl) u dc) refl;
-  dollar_user_apart = rw (made_apart (codes "$user") (codes "client") f.dollar_user.now f.client.now (λ x y. refl) du c, made_apart (codes "$user") (codes "$client") f.dollar_user.now f.dollar_client.now (λ x y. refl) du dc) refl;
+  client_some = ap (λ t. length t == 0) c.is
+      ∙ eqb-suc-zero (length (codes "lient" ++ replicate c.count 120));
+  user_some = ap (λ t. length t == 0) u.is
+      ∙ eqb-suc-zero (length (codes "ser" ++ replicate u.count 120));
+  dollar_user_some = ap (λ t. length t == 0) du.is
+      ∙ eqb-suc-zero (length (codes "user" ++ replicate du.count 120));
+  user_apart = rw (
+    made_apart (codes "user") (codes "client") f.user.now f.client.now (λ x y. refl)
+        u c,
+    made_apart (codes "user") (codes "$client") f.user.now f.dollar_client.now
+        (λ x y. refl) u dc,
+  ) refl;
+  dollar_user_apart =
+      rw (
+        made_apart (codes "$user") (codes "client") f.dollar_user.now f.client.now (λ x y. refl)
+            du c,
+        made_apart (codes "$user") (codes "$client") f.dollar_user.now f.dollar_client.now
+            (λ x y. refl) du dc,
+      ) refl;
   empty_apart = (λ i. not (bytes_eq [] (c.is i)) && not (bytes_eq [] (dc.is i)));
 }
 
-pub seen_fresh : (t : FreshTexts) (f : Fresh) (literals : Literals) → AreMade t literals → IsSeen t f → AreFresh f
+pub seen_fresh : (t : FreshTexts) (f : Fresh) (literals : Literals) → AreMade t literals
+    → IsSeen t f → AreFresh f
 seen_fresh t f literals m s =
-    are_fresh f (subst (IsMade (codes "x")) (sym s.plain) m.plain.made) (subst (IsMade (codes "$x")) (sym s.dollar) m.dollar.made) (subst (IsMade (codes "client")) (sym s.client) m.client.made)
-    (subst (IsMade (codes "$client")) (sym s.dollar_client) m.dollar_client.made) (subst (IsMade (codes "user")) (sym s.user) m.user.made) (subst (IsMade (codes "$user")) (sym s.dollar_user) m.dollar_user.made)
+    are_fresh f (subst (IsMade (codes "x")) (sym s.plain) m.plain.made)
+    (subst (IsMade (codes "$x")) (sym s.dollar) m.dollar.made)
+    (subst (IsMade (codes "client")) (sym s.client) m.client.made)
+    (subst (IsMade (codes "$client")) (sym s.dollar_client) m.dollar_client.made)
+    (subst (IsMade (codes "user")) (sym s.user) m.user.made)
+    (subst (IsMade (codes "$user")) (sym s.dollar_user) m.dollar_user.made)
 
 -- a level that is named is none of them
-apart_from : (literals : Literals) (l t u : List ℕ) → is_named l literals ≡ true → u ≡ t → is_named t literals ≡ false → not (bytes_eq l u) ≡ true
+apart_from : (literals : Literals) (l t u : List ℕ) → is_named l literals ≡ true → u ≡ t
+    → is_named t literals ≡ false → not (bytes_eq l u) ≡ true
 apart_from literals l t u h e n = at (bytes_eq l u) refl
   where
     at : (b : Bool) → bytes_eq l u ≡ b → not b ≡ true
-    at true k = absurd (let f : true ≡ false = sym h ∙ ap (λ x. is_named x literals) (text_is l u k ∙ e) ∙ n in cc)
+    at true k = absurd (let f : true ≡ false = sym h
+        ∙ ap (λ x. is_named x literals) (text_is l u k ∙ e) ∙ n in cc)
     at false k = refl
 
-pub named_no_fresh : (t : FreshTexts) (f : Fresh) (literals : Literals) → AreMade t literals → IsSeen t f → (l : List ℕ) → is_named l literals ≡ true → is_no_fresh f l ≡ true
+pub named_no_fresh : (t : FreshTexts) (f : Fresh) (literals : Literals) → AreMade t literals
+    → IsSeen t f → (l : List ℕ) → is_named l literals ≡ true → is_no_fresh f l ≡ true
 named_no_fresh t f literals m s l h =
     rw (
       apart_from literals l (string_bytes t.plain) f.others.plain.now h s.plain m.plain.unnamed,
       apart_from literals l (string_bytes t.dollar) f.others.dollar.now h s.dollar m.dollar.unnamed,
       apart_from literals l (string_bytes t.client) f.client.now h s.client m.client.unnamed,
-      apart_from literals l (string_bytes t.dollar_client) f.dollar_client.now h s.dollar_client m.dollar_client.unnamed,
+      apart_from literals l (string_bytes t.dollar_client) f.dollar_client.now h s.dollar_client
+          m.dollar_client.unnamed,
       apart_from literals l (string_bytes t.user) f.user.now h s.user m.user.unnamed,
-      apart_from literals l (string_bytes t.dollar_user) f.dollar_user.now h s.dollar_user m.dollar_user.unnamed,
+      apart_from literals l (string_bytes t.dollar_user) f.dollar_user.now h s.dollar_user
+          m.dollar_user.unnamed,
     ) refl
 
 -- none of them is named
-pub made_unnamed : (t : FreshTexts) (literals : Literals) → AreMade t literals → (text : List ℕ) → list_any (bytes_eq text) (made_texts t) ≡ true → is_named text literals ≡ false
+pub made_unnamed : (t : FreshTexts) (literals : Literals) → AreMade t literals → (text : List ℕ)
+    → list_any (bytes_eq text) (made_texts t) ≡ true → is_named text literals ≡ false
 made_unnamed t literals m text h =
-    one (bytes_eq text (string_bytes t.plain)) (bytes_eq text (string_bytes t.dollar)) (bytes_eq text (string_bytes t.client)) (bytes_eq text (string_bytes t.dollar_client)) (bytes_eq text (string_bytes t.user)) (bytes_eq text (string_bytes t.dollar_user))
-    (same (string_bytes t.plain) m.plain.unnamed) (same (string_bytes t.dollar) m.dollar.unnamed) (same (string_bytes t.client) m.client.unnamed) (same (string_bytes t.dollar_client) m.dollar_client.unnamed) (same (string_bytes t.user) m.user.unnamed) (same (string_bytes t.dollar_user) m.dollar_user.unnamed) h
+    one (bytes_eq text (string_bytes t.plain)) (bytes_eq text (string_bytes t.dollar))
+    (bytes_eq text (string_bytes t.client)) (bytes_eq text (string_bytes t.dollar_client))
+    (bytes_eq text (string_bytes t.user)) (bytes_eq text (string_bytes t.dollar_user))
+    (same (string_bytes t.plain) m.plain.unnamed) (same (string_bytes t.dollar) m.dollar.unnamed)
+    (same (string_bytes t.client) m.client.unnamed)
+    (same (string_bytes t.dollar_client) m.dollar_client.unnamed)
+    (same (string_bytes t.user) m.user.unnamed)
+    (same (string_bytes t.dollar_user) m.dollar_user.unnamed) h
   where
-    same : (other : List ℕ) → is_named other literals ≡ false → bytes_eq text other ≡ true → is_named text literals ≡ false
+    same : (other : List ℕ) → is_named other literals ≡ false → bytes_eq text other ≡ true
+        → is_named text literals ≡ false
     same other n e = ap (λ x. is_named x literals) (text_is text other e) ∙ n
 
-    one : {A : Type 0} (p q r s t u : Bool) → (p ≡ true → A) → (q ≡ true → A) → (r ≡ true → A) → (s ≡ true → A) → (t ≡ true → A) → (u ≡ true → A) → (p || (q || (r || (s || (t || (u || false)))))) ≡ true → A
+    one : {A : Type 0} (p q r s t u : Bool) → (p ≡ true → A) → (q ≡ true → A) → (r ≡ true → A)
+        → (s ≡ true → A) → (t ≡ true → A) → (u ≡ true → A)
+        → (p || (q || (r || (s || (t || (u || false)))))) ≡ true → A
     one true q r s t u a b c d e f h = a refl
     one false true r s t u a b c d e f h = b refl
     one false false true s t u a b c d e f h = c refl

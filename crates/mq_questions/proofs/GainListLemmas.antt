@@ -10,8 +10,6 @@ use Rattle.mq_questions.specs.Texts.{level_of}
 use Rattle.mq_questions.specs.declared.ask.fresh.Fresh.{Fresh}
 use Rattle.mq_questions.proofs.ClientLemmas.{one_more_done, all_done, no_client_gains, tried_is_choice}
 use Rattle.mq_questions.proofs.MarkLemmas.{any_client_nothing}
-use Rattle.mq_walk.proofs.WalkLemmas.{same_text}
-use Rattle.mq_walk.proofs.BranchLemmas.{text_is}
 use Rattle.mq_topic.specs.Levels.{levels}
 use Rattle.mq_acl.specs.Rows.{AclRow}
 use Rattle.mq_acl.specs.declared.access.Direction.{Direction}
@@ -25,8 +23,10 @@ use Rattle.mq_questions.specs.declared.ask.clients.Gain.{Gain}
 use Rattle.mq_walk.specs.declared.path.Path.{Path}
 use Rattle.mq_walk.specs.declared.remainder.Remainder.{Remainder}
 use Rattle.mq_walk.specs.declared.start.Start.{Start}
+use Rattle.mq_walk.proofs.TextLemmas.{text_is, same_text}
 
-pub split_push : {X : Type 0} (P : X → Type 0) (xs : List X) (x : X) → All P (xs ++ x ∷ []) → All P xs × P x
+pub split_push : {X : Type 0} (P : X → Type 0) (xs : List X) (x : X) → All P (xs ++ x ∷ [])
+    → All P xs × P x
 split_push P [] x h = (All-nil P, All-head P x [] h)
 split_push P (y ∷ ys) x h =
     let rest = split_push P ys x (All-tail P y (ys ++ x ∷ []) h) in
@@ -35,138 +35,202 @@ split_push P (y ∷ ys) x h =
 pub all_yielded : {X : Type 0} (xs ys : List X) → map (λ x. x) xs ≡ ys → xs ≡ ys
 all_yielded xs ys e = sym (map-id xs) ∙ e
 
-pub not_pushed : {X : Type 0} (xs : List X) (x : X) (next : List X) → next ≡ xs ++ x ∷ [] → next ≡ [] → ⊥
+pub not_pushed : {X : Type 0} (xs : List X) (x : X) (next : List X) → next ≡ xs ++ x ∷ []
+    → next ≡ [] → ⊥
 not_pushed [] x next e h = let k = sym h ∙ e in cc
 not_pushed (y ∷ ys) x next e h = let k = sym h ∙ e in cc
 
 -- the gains of these paths are among the gains, but for those that are like others
-pub record IsAdded (client : List ℕ) (before : List Gain) (done : List Path) (gains : List Gain) : Type 0 where
+pub record IsAdded (client : List ℕ) (before : List Gain) (done : List Path) (gains : List Gain) :
+    Type 0 where
   pub kept : gains ≡ [] → before ≡ []
   pub none : gains ≡ [] → done ≡ []
-  pub each : (start : Start) (user : Option (List ℕ)) (old new : List Remainder) → All (IsGainOf start user old new) before
-      → All (IsGain start 200 (marks_of client user) old new) (all_levels done) → All (IsGainOf start user old new) gains
+  pub each : (start : Start) (user : Option (List ℕ)) (old new : List Remainder)
+      → All (IsGainOf start user old new) before
+      → All (IsGain start 200 (marks_of client user) old new) (all_levels done)
+      → All (IsGainOf start user old new) gains
 
-one_less : (start : Start) (user : Option (List ℕ)) (old new : List Remainder) (client : List ℕ) (done : List Path) (path : Path)
+one_less : (start : Start) (user : Option (List ℕ)) (old new : List Remainder) (client : List ℕ)
+    (done : List Path) (path : Path)
     → All (IsGain start 200 (marks_of client user) old new) (all_levels (done ++ path ∷ []))
-    → All (IsGain start 200 (marks_of client user) old new) (all_levels done) × IsGain start 200 (marks_of client user) old new (levels_of path)
+    → All (IsGain start 200 (marks_of client user) old new) (all_levels done)
+    × IsGain start 200 (marks_of client user) old new (levels_of path)
 one_less start user old new client done path h =
     let P = IsGain start 200 (marks_of client user) old new in
     split_push P (all_levels done) (levels_of path) (subst (All P) (map_push levels_of done path) h)
 
-pub added_none : (client : List ℕ) (before : List Gain) → IsAdded client before [] before
-added_none client before = record { kept = λ e. e; none = λ e. refl; each = λ start user old new a p. a }
-
-pub added_like : (client : List ℕ) (before : List Gain) (done : List Path) (path : Path) (gains : List Gain) → (gains ≡ [] → ⊥) → IsAdded client before done gains → IsAdded client before (done ++ path ∷ []) gains
+pub added_like : (client : List ℕ) (before : List Gain) (done : List Path) (path : Path)
+    (gains : List Gain) → (gains ≡ [] → ⊥) → IsAdded client before done gains
+    → IsAdded client before (done ++ path ∷ []) gains
 added_like client before done path gains some a = record {
   kept = a.kept;
   none = λ e. absurd (some e);
-  each = λ start user old new b p. a.each start user old new b (one_less start user old new client done path p).0;
+  each = λ start user old new b p. a.each start user old new b
+      (one_less start user old new client done path p).0;
 }
 
-pub added_new : (client : List ℕ) (before : List Gain) (done : List Path) (path : Path) (gain : Gain) (gains next : List Gain)
-    → gain.client.now ≡ client → levels_of gain.path ≡ levels_of path → next ≡ gains ++ gain ∷ [] → IsAdded client before done gains → IsAdded client before (done ++ path ∷ []) next
+pub added_new : (client : List ℕ) (before : List Gain) (done : List Path) (path : Path)
+    (gain : Gain) (gains next : List Gain)
+    → gain.client.now ≡ client → levels_of gain.path ≡ levels_of path → next ≡ gains ++ gain ∷ []
+    → IsAdded client before done gains → IsAdded client before (done ++ path ∷ []) next
 added_new client before done path gain gains next e f g a = record {
   kept = λ h. absurd (not_pushed gains gain next g h);
   none = λ h. absurd (not_pushed gains gain next g h);
   each = λ start user old new b p.
       let parts = one_less start user old new client done path p in
       All-same (IsGainOf start user old new) next (gains ++ gain ∷ []) g
-      (All-push (IsGainOf start user old new) gains gain (a.each start user old new b parts.0) (subst (λ c. IsGain start 200 (marks_of c user) old new (levels_of gain.path)) (sym e) (subst (IsGain start 200 (marks_of client user) old new) (sym f) parts.1)));
+      (All-push (IsGainOf start user old new) gains gain (a.each start user old new b parts.0)
+      (subst (λ c. IsGain start 200 (marks_of c user) old new (levels_of gain.path)) (sym e)
+      (subst (IsGain start 200 (marks_of client user) old new) (sym f) parts.1)));
 }
 
 -- ---- client by client
-pub record AreGains (start : Start) (user : Option (List ℕ)) (old new : List Remainder) (items : List (Bor (List ℕ))) (i : ℕ) (gains : List Gain) : Type 0 where
-  pub tried : gains ≡ [] → (c : List ℕ) → is_among c items ≡ true → is_among c (drop i items) ≡ false → GainsNothing start 200 (marks_of c user) old new
+pub record AreGains (start : Start) (user : Option (List ℕ)) (old new : List Remainder)
+    (items : List (Bor (List ℕ))) (i : ℕ) (gains : List Gain) : Type 0 where
+  pub tried : gains ≡ [] → (c : List ℕ) → is_among c items ≡ true
+      → is_among c (drop i items) ≡ false → GainsNothing start 200 (marks_of c user) old new
   pub each : All (IsGainOf start user old new) gains
 
-pub gains_none : (start : Start) (user : Option (List ℕ)) (old new : List Remainder) (items : List (Bor (List ℕ))) (gains : List Gain) → gains ≡ [] → AreGains start user old new items 0 gains
+pub gains_none : (start : Start) (user : Option (List ℕ)) (old new : List Remainder)
+    (items : List (Bor (List ℕ))) (gains : List Gain) → gains ≡ []
+    → AreGains start user old new items 0 gains
 gains_none start user old new items gains h = record {
   tried = λ e c all rest. absurd (let k : true ≡ false = sym all ∙ rest in cc);
   each = All-same (IsGainOf start user old new) gains [] h (All-nil (IsGainOf start user old new));
 }
 
-pub gains_more : (start : Start) (user : Option (List ℕ)) (old new : List Remainder) (items : List (Bor (List ℕ))) (i : ℕ) (d : Bor (List ℕ)) (before after : List Gain) (paths : List Path)
+pub gains_more : (start : Start) (user : Option (List ℕ)) (old new : List Remainder)
+    (items : List (Bor (List ℕ))) (i : ℕ) (d : Bor (List ℕ)) (before after : List Gain)
+    (paths : List Path)
     → i < length items → (after ≡ [] → before ≡ []) → (after ≡ [] → paths ≡ [])
-    → ((start : Start) (user : Option (List ℕ)) (old new : List Remainder) → All (IsGainOf start user old new) before
-    → All (IsGain start 200 (marks_of (get_or items i d).now user) old new) (all_levels paths) → All (IsGainOf start user old new) after)
-    → (paths ≡ [] → GainsNothing start 200 (marks_of (get_or items i d).now user) old new) → All (IsGain start 200 (marks_of (get_or items i d).now user) old new) (all_levels paths)
+    → ((start : Start) (user : Option (List ℕ)) (old new : List Remainder)
+    → All (IsGainOf start user old new) before
+    → All (IsGain start 200 (marks_of (get_or items i d).now user) old new) (all_levels paths)
+    → All (IsGainOf start user old new) after)
+    → (paths ≡ [] → GainsNothing start 200 (marks_of (get_or items i d).now user) old new)
+    → All (IsGain start 200 (marks_of (get_or items i d).now user) old new) (all_levels paths)
     → AreGains start user old new items i before → AreGains start user old new items (i + 1) after
 gains_more start user old new items i d before after paths h kept none each nothing all a = record {
-  tried = λ e. one_more_done (λ t. GainsNothing start 200 (marks_of t user) old new) items i d h (nothing (none e)) (a.tried (kept e));
+  tried = λ e. one_more_done (λ t. GainsNothing start 200 (marks_of t user) old new) items i d h
+      (nothing (none e)) (a.tried (kept e));
   each = each start user old new a.each all;
 }
 
 -- all that stand for others have been tried
-pub no_client : (f : Fresh) (user : Option (List ℕ)) (old new : List Remainder) (start : Start) (items : List (Bor (List ℕ))) (i : ℕ) (gains : List Gain)
-    → AreFresh f → mark_passes (is_no_client f) user ≡ true → remainders_fit (is_literal f) old ≡ true → remainders_fit (is_literal f) new ≡ true
+pub no_client : (f : Fresh) (user : Option (List ℕ)) (old new : List Remainder) (start : Start)
+    (items : List (Bor (List ℕ))) (i : ℕ) (gains : List Gain)
+    → AreFresh f → mark_passes (is_no_client f) user ≡ true
+    → remainders_fit (is_literal f) old ≡ true → remainders_fit (is_literal f) new ≡ true
     → length items ≤ i
-    → ((c : List ℕ) → is_among c items ≡ (if has_mark (codes "%c") old || has_mark (codes "%c") new then is_tried_client f user old new c else bytes_eq c f.client.now))
-    → AreGains start user old new items i gains → gains ≡ [] → (c : List ℕ) → GainsNothing start 200 (marks_of c user) old new
-no_client f user old new start items i gains a u o n end listed g e = at (has_mark (codes "%c") old) refl (has_mark (codes "%c") new) refl
+    → ((c : List ℕ) → is_among c items
+    ≡ (if has_mark (codes "%c") old || has_mark (codes "%c") new then
+    is_tried_client f user old new c else bytes_eq c f.client.now))
+    → AreGains start user old new items i gains → gains ≡ [] → (c : List ℕ)
+    → GainsNothing start 200 (marks_of c user) old new
+no_client f user old new start items i gains a u o n end listed g e =
+    at (has_mark (codes "%c") old) refl (has_mark (codes "%c") new) refl
   where
     done : (c : List ℕ) → is_among c items ≡ true → GainsNothing start 200 (marks_of c user) old new
-    done c h = all_done (λ t. GainsNothing start 200 (marks_of t user) old new) items i end (g.tried e) c h
+    done c h = all_done (λ t. GainsNothing start 200 (marks_of t user) old new) items i end
+        (g.tried e) c h
 
-    by_all : (has_mark (codes "%c") old || has_mark (codes "%c") new) ≡ true → (c : List ℕ) → GainsNothing start 200 (marks_of c user) old new
-    by_all m = no_client_gains f user old new start a u o n (λ c h. done c (listed c ∙ ap (λ b. if b then is_tried_client f user old new c else bytes_eq c f.client.now) m ∙ h))
+    by_all : (has_mark (codes "%c") old || has_mark (codes "%c") new) ≡ true → (c : List ℕ)
+        → GainsNothing start 200 (marks_of c user) old new
+    by_all m = no_client_gains f user old new start a u o n
+        (λ c h. done c (listed c
+        ∙ ap (λ b. if b then is_tried_client f user old new c else bytes_eq c f.client.now) m
+        ∙ h))
 
-    by_one : has_mark (codes "%c") old ≡ false → has_mark (codes "%c") new ≡ false → (c : List ℕ) → GainsNothing start 200 (marks_of c user) old new
+    by_one : has_mark (codes "%c") old ≡ false → has_mark (codes "%c") new ≡ false → (c : List ℕ)
+        → GainsNothing start 200 (marks_of c user) old new
     by_one p q c =
         any_client_nothing f.client.now c user start 200 old new p q
-        (done f.client.now (listed f.client.now ∙ (λ j. if p j || q j then is_tried_client f user old new f.client.now else bytes_eq f.client.now f.client.now) ∙ same_text f.client.now))
+        (done f.client.now (listed f.client.now
+        ∙ (λ j. if p j || q j then is_tried_client f user old new f.client.now
+        else bytes_eq f.client.now f.client.now) ∙ same_text f.client.now))
 
-    at : (p : Bool) → has_mark (codes "%c") old ≡ p → (q : Bool) → has_mark (codes "%c") new ≡ q → (c : List ℕ) → GainsNothing start 200 (marks_of c user) old new
+    at : (p : Bool) → has_mark (codes "%c") old ≡ p → (q : Bool) → has_mark (codes "%c") new ≡ q
+        → (c : List ℕ) → GainsNothing start 200 (marks_of c user) old new
     at true p q h = by_all (ap (λ b. b || has_mark (codes "%c") new) p)
     at false p true h = by_all ((λ j. p j || h j))
     at false p false h = by_one p h
 
-pub listed_is_choice : (f : Fresh) (user : Option (List ℕ)) (old new : List Remainder) → AreFresh f → mark_passes (is_choice f.others) user ≡ true
+pub listed_is_choice : (f : Fresh) (user : Option (List ℕ)) (old new : List Remainder) → AreFresh f
+    → mark_passes (is_choice f.others) user ≡ true
     → remainders_fit (is_literal f) old ≡ true → remainders_fit (is_literal f) new ≡ true
-    → (c : List ℕ) → (if has_mark (codes "%c") old || has_mark (codes "%c") new then is_tried_client f user old new c else bytes_eq c f.client.now) ≡ true → is_choice f.others c ≡ true
-listed_is_choice f user old new a u o n c = at (has_mark (codes "%c") old || has_mark (codes "%c") new)
+    → (c : List ℕ) → (if has_mark (codes "%c") old || has_mark (codes "%c") new then
+    is_tried_client f user old new c else bytes_eq c f.client.now) ≡ true
+    → is_choice f.others c ≡ true
+listed_is_choice f user old new a u o n c =
+    at (has_mark (codes "%c") old || has_mark (codes "%c") new)
   where
-    at : (b : Bool) → (if b then is_tried_client f user old new c else bytes_eq c f.client.now) ≡ true → is_choice f.others c ≡ true
+    at : (b : Bool) → (if b then is_tried_client f user old new c else bytes_eq c f.client.now)
+        ≡ true → is_choice f.others c ≡ true
     at true h = tried_is_choice f user old new a u o n c h
     at false h = ap (is_choice f.others) (text_is c f.client.now h) ∙ a.client
 
 -- ---- what is shown
-pub shown_none : {A B C : Type 0} (f : A → C) (g : B → C) (xs : List A) (ys : List B) → map f xs ≡ map g ys → xs ≡ [] → ys ≡ []
+pub shown_none : {A B C : Type 0} (f : A → C) (g : B → C) (xs : List A) (ys : List B)
+    → map f xs ≡ map g ys → xs ≡ [] → ys ≡ []
 shown_none f g xs [] e h = refl
 shown_none f g [] (y ∷ ys) e h = absurd (let k = e in cc)
 shown_none f g (x ∷ xs) (y ∷ ys) e h = absurd (let k = h in cc)
 
-pub shown_each : {A B C : Type 0} (f : A → C) (g : B → C) (P : C → Type 0) (xs : List A) (ys : List B) → map f xs ≡ map g ys → All (λ y. P (g y)) ys → All (λ x. P (f x)) xs
+pub shown_each : {A B C : Type 0} (f : A → C) (g : B → C) (P : C → Type 0) (xs : List A)
+    (ys : List B) → map f xs ≡ map g ys → All (λ y. P (g y)) ys → All (λ x. P (f x)) xs
 shown_each f g P [] ys e a = All-nil (λ x. P (f x))
 shown_each f g P (x ∷ xs) [] e a = absurd (let k = e in cc)
 shown_each f g P (x ∷ xs) (y ∷ ys) e a =
     let first : g y ≡ f x = (let k = e in cc) in
     let rest : map f xs ≡ map g ys = (let k = e in cc) in
-    All-cons (λ x. P (f x)) x xs (subst P first (All-head (λ y. P (g y)) y ys a)) (shown_each f g P xs ys rest (All-tail (λ y. P (g y)) y ys a))
+    All-cons (λ x. P (f x)) x xs (subst P first (All-head (λ y. P (g y)) y ys a))
+    (shown_each f g P xs ys rest (All-tail (λ y. P (g y)) y ys a))
 
-pub gain_named : (start : Start) (dollar : Bool) (user : Option (List ℕ)) (old new : List Remainder) → start ≡ start_of dollar → (gain : Gain) → IsGainOf start user old new gain → IsNamed dollar gain
-gain_named start dollar user old new e gain h = record { valid = h.valid; few = h.few; suitable = (λ i. suits (sym e i) (levels_of gain.path)) ∙ h.suitable }
+pub gain_named : (start : Start) (dollar : Bool) (user : Option (List ℕ)) (old new : List Remainder)
+    → start ≡ start_of dollar → (gain : Gain) → IsGainOf start user old new gain
+    → IsNamed dollar gain
+gain_named start dollar user old new e gain h =
+    record {
+      valid = h.valid;
+      few = h.few;
+      suitable = (λ i. suits (sym e i) (levels_of gain.path))
+          ∙ h.suitable;
+    }
 
 -- names that are gained by these rows
-module _ (old new : List AclRow) (olds news : List Remainder) (user : Option (List ℕ)) (direction : Direction) (dollar : Bool) (start : Start) (a : AreRoots old user direction dollar olds) (b : AreRoots new user direction dollar news) (e : start ≡ start_of dollar) where
-  pub each_gained : (ws : List Witness) (gs : List Gain) → map shown ws ≡ map told gs → All (IsGainOf start (level_of user) olds news) gs
+module _ (old new : List AclRow) (olds news : List Remainder) (user : Option (List ℕ))
+    (direction : Direction) (dollar : Bool) (start : Start)
+    (a : AreRoots old user direction dollar olds) (b : AreRoots new user direction dollar news)
+    (e : start ≡ start_of dollar) where
+  pub each_gained : (ws : List Witness) (gs : List Gain) → map shown ws ≡ map told gs
+      → All (IsGainOf start (level_of user) olds news) gs
       → All (λ w. gained old new (string_bytes w.client) user w.name direction ≡ true) ws
   each_gained ws gs f h =
-      All-weaker (λ (w : Witness). IsGain start 200 (marks_of (string_bytes w.client) (level_of user)) olds news (levels w.name)) (λ w. gained old new (string_bytes w.client) user w.name direction ≡ true)
-      (λ w g. name_gained old new olds news user direction dollar start a b e (string_bytes w.client) w.name (levels w.name) refl g) ws
-      (shown_each shown told (λ p. IsGain start 200 (marks_of p.0 (level_of user)) olds news p.1) ws gs f h)
+      All-weaker (λ (w : Witness). IsGain start 200
+      (marks_of (string_bytes w.client) (level_of user)) olds news (levels w.name))
+      (λ w. gained old new (string_bytes w.client) user w.name direction ≡ true)
+      (λ w g. name_gained old new olds news user direction dollar start a b e
+      (string_bytes w.client) w.name (levels w.name) refl g) ws
+      (shown_each shown told (λ p. IsGain start 200 (marks_of p.0 (level_of user)) olds news p.1) ws
+      gs f h)
 
 -- ---- the first of two lists
-pub none_taken : {X : Type 0} (n : ℕ) (xs next : List X) → 0 < n → next ≡ take n xs → next ≡ [] → xs ≡ []
+pub none_taken : {X : Type 0} (n : ℕ) (xs next : List X) → 0 < n → next ≡ take n xs → next ≡ []
+    → xs ≡ []
 none_taken n [] next h e f = refl
 none_taken zero (x ∷ xs) next h e f = absurd (omega arith)
 none_taken (suc n) (x ∷ xs) next h e f = absurd (let k = sym f ∙ e in cc)
 
-pub none_joined : {X : Type 0} (xs ys next : List X) → next ≡ xs ++ ys → next ≡ [] → (xs ≡ []) × (ys ≡ [])
+pub none_joined : {X : Type 0} (xs ys next : List X) → next ≡ xs ++ ys → next ≡ [] → (xs ≡ [])
+    × (ys ≡ [])
 none_joined [] ys next e f = (refl, sym e ∙ f)
 none_joined (x ∷ xs) ys next e f = absurd (let k = sym f ∙ e in cc)
 
-pub each_taken : {X : Type 0} (P : X → Type 0) (n : ℕ) (xs ys next last : List X) → next ≡ xs ++ ys → last ≡ take n next → All P xs → All P ys → All P last
-each_taken P n xs ys next last e f a b = All-same P last (take n next) f (All-take P n next (All-same P next (xs ++ ys) e (All-append P xs ys a b)))
+pub each_taken : {X : Type 0} (P : X → Type 0) (n : ℕ) (xs ys next last : List X) → next ≡ xs ++ ys
+    → last ≡ take n next → All P xs → All P ys → All P last
+each_taken P n xs ys next last e f a b =
+    All-same P last (take n next) f
+    (All-take P n next (All-same P next (xs ++ ys) e (All-append P xs ys a b)))
 
 pub either : {A : Type 0} (b : Bool) → (b ≡ false → A) → (b ≡ true → A) → A
 either false f g = f refl

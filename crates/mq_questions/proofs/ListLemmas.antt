@@ -3,6 +3,7 @@ use Rattle.std.proofs.Common.{◌≡◌, ℕ, ◌==◌, ◌-◌, Bool, true, fal
 use Rattle.std.specs.Prelude.{nat_le, nat_lt}
 use Rattle.std.specs.List.{list_all}
 use Rattle.std.proofs.lemmas.Bool.Decides.{nat_tests}
+use Rattle.std.proofs.lemmas.Bool.{and_parts, not-true, leb-true}
 use Rattle.mq_topic.specs.Levels.{levels}
 use Rattle.mq_topic.specs.Matching.{is_wildcard}
 use Rattle.mq_topic.specs.Texts.{contains_byte, is_level, parents, wildcards_fit, is_text, is_filter}
@@ -17,15 +18,15 @@ use Rattle.mq_questions.specs.Roots.{rows_fit}
 use Rattle.mq_questions.specs.Fresh.{is_literal, is_user_level, is_no_client, is_no_user}
 use Rattle.mq_questions.specs.Made.{is_no_fresh}
 use Rattle.mq_questions.specs.declared.ask.fresh.Fresh.{Fresh}
-use Rattle.mq_walk.proofs.BranchLemmas.{and_left, and_right, text_is}
-use Rattle.mq_walk.proofs.WalkLemmas.{not_true, same_text}
 use Rattle.mq_questions.proofs.NameLemmas.{levels_without}
-use Rattle.mq_questions.proofs.LiteralLemmas.{fits_both, literal_passes, or_cases}
+use Rattle.mq_questions.proofs.LiteralLemmas.{fits_both, literal_passes}
 use Rattle.mq_questions.proofs.ClientLemmas.{level_is_no_wildcard}
+use Rattle.mq_walk.proofs.TextLemmas.{text_is, same_text, or_cases}
 
 -- ---- a filter's levels
 -- the last level
-last_fits : (plus hash zero slash p h short : Bool) → ((not plus || p) && (not hash || h)) ≡ true → not zero ≡ true → not slash ≡ true → short ≡ true
+last_fits : (plus hash zero slash p h short : Bool) → ((not plus || p) && (not hash || h)) ≡ true
+    → not zero ≡ true → not slash ≡ true → short ≡ true
     → (p || (h && true) || (not plus && not hash && not zero && not slash && short)) ≡ true
 last_fits plus hash zero slash true h short a b c d = refl
 last_fits plus hash zero slash false true short a b c d = refl
@@ -34,13 +35,17 @@ last_fits false true zero slash false false short a b c d = absurd (let n : fals
 last_fits false false zero slash false false short a b c d = rw (b, c, d) refl
 
 -- a level before the last
-inner_fits : (plus hash zero slash p h last short : Bool) → ((not plus || p) && (not hash || h)) ≡ true → not zero ≡ true → not slash ≡ true → short ≡ true → not hash ≡ true
+inner_fits : (plus hash zero slash p h last short : Bool)
+    → ((not plus || p) && (not hash || h)) ≡ true → not zero ≡ true → not slash ≡ true
+    → short ≡ true → not hash ≡ true
     → (p || (h && last) || (not plus && not hash && not zero && not slash && short)) ≡ true
 inner_fits plus hash zero slash true h last short a b c d e = refl
 inner_fits plus hash zero slash false true true short a b c d e = refl
-inner_fits true hash zero slash false true false short a b c d e = absurd (let n : false ≡ true = a in cc)
+inner_fits true hash zero slash false true false short a b c d e =
+    absurd (let n : false ≡ true = a in cc)
 inner_fits false hash zero slash false true false short a b c d e = rw (b, c, d, e) refl
-inner_fits true hash zero slash false false last short a b c d e = absurd (let n : false ≡ true = a in cc)
+inner_fits true hash zero slash false false last short a b c d e =
+    absurd (let n : false ≡ true = a in cc)
 inner_fits false hash zero slash false false last short a b c d e = rw (b, c, d, e) refl
 
 abbrev all_lack : ℕ → List (List ℕ) → Bool
@@ -49,58 +54,87 @@ all_lack b ls = list_all (λ l. not (contains_byte b l)) ls
 abbrev all_short : List (List ℕ) → Bool
 all_short ls = list_all (λ l. nat_le (length l) 300) ls
 
-levels_fit : (ls : List (List ℕ)) → list_all is_level ls ≡ true → all_lack 35 (parents ls) ≡ true → all_lack 0 ls ≡ true → all_lack 47 ls ≡ true → all_short ls ≡ true → fits is_short_level ls ≡ true
+levels_fit : (ls : List (List ℕ)) → list_all is_level ls ≡ true → all_lack 35 (parents ls) ≡ true
+    → all_lack 0 ls ≡ true → all_lack 47 ls ≡ true → all_short ls ≡ true
+    → fits is_short_level ls ≡ true
 levels_fit [] a b c d e = refl
 levels_fit (l ∷ []) a b c d e =
-    rw (last_fits (contains_byte 43 l) (contains_byte 35 l) (contains_byte 0 l) (contains_byte 47 l) (bytes_eq l (codes "+")) (bytes_eq l (codes "#")) (nat_le (length l) 300)
-    (and_left (is_level l) true a) (and_left (not (contains_byte 0 l)) true c) (and_left (not (contains_byte 47 l)) true d) (and_left (nat_le (length l) 300) true e)) refl
+    rw (last_fits (contains_byte 43 l) (contains_byte 35 l) (contains_byte 0 l) (contains_byte 47 l)
+    (bytes_eq l (codes "+")) (bytes_eq l (codes "#")) (nat_le (length l) 300)
+    (and_parts (is_level l) true a).0 (and_parts (not (contains_byte 0 l)) true c).0
+    (and_parts (not (contains_byte 47 l)) true d).0
+    (and_parts (nat_le (length l) 300) true e).0) refl
 levels_fit (l ∷ m ∷ ms) a b c d e =
     let more : length (l ∷ m ∷ ms) - 1 ≡ suc (length ms) = omega arith in
     let less : length (m ∷ ms) - 1 ≡ length ms = omega arith in
-    let front : (not (contains_byte 35 l) && all_lack 35 (take (length ms) (m ∷ ms))) ≡ true = sym (ap (λ k. all_lack 35 (take k (l ∷ m ∷ ms))) more) ∙ b in
-    let rest : all_lack 35 (parents (m ∷ ms)) ≡ true = ap (λ k. all_lack 35 (take k (m ∷ ms))) less ∙ and_right (not (contains_byte 35 l)) (all_lack 35 (take (length ms) (m ∷ ms))) front in
-    rw (inner_fits (contains_byte 43 l) (contains_byte 35 l) (contains_byte 0 l) (contains_byte 47 l) (bytes_eq l (codes "+")) (bytes_eq l (codes "#")) (length (m ∷ ms) == 0) (nat_le (length l) 300)
-    (and_left (is_level l) (list_all is_level (m ∷ ms)) a) (and_left (not (contains_byte 0 l)) (all_lack 0 (m ∷ ms)) c) (and_left (not (contains_byte 47 l)) (all_lack 47 (m ∷ ms)) d) (and_left (nat_le (length l) 300) (all_short (m ∷ ms)) e)
-    (and_left (not (contains_byte 35 l)) (all_lack 35 (take (length ms) (m ∷ ms))) front))
-    (levels_fit (m ∷ ms) (and_right (is_level l) (list_all is_level (m ∷ ms)) a) rest (and_right (not (contains_byte 0 l)) (all_lack 0 (m ∷ ms)) c) (and_right (not (contains_byte 47 l)) (all_lack 47 (m ∷ ms)) d) (and_right (nat_le (length l) 300) (all_short (m ∷ ms)) e))
+    let front : (not (contains_byte 35 l) && all_lack 35 (take (length ms) (m ∷ ms))) ≡ true =
+    sym (ap (λ k. all_lack 35 (take k (l ∷ m ∷ ms))) more) ∙ b in
+    let rest : all_lack 35 (parents (m ∷ ms)) ≡ true = ap (λ k. all_lack 35 (take k (m ∷ ms))) less
+    ∙ (and_parts (not (contains_byte 35 l)) (all_lack 35 (take (length ms) (m ∷ ms))) front).1
+    in
+    rw (inner_fits (contains_byte 43 l) (contains_byte 35 l) (contains_byte 0 l)
+    (contains_byte 47 l) (bytes_eq l (codes "+")) (bytes_eq l (codes "#"))
+    (length (m ∷ ms) == 0) (nat_le (length l) 300)
+    (and_parts (is_level l) (list_all is_level (m ∷ ms)) a).0
+    (and_parts (not (contains_byte 0 l)) (all_lack 0 (m ∷ ms)) c).0
+    (and_parts (not (contains_byte 47 l)) (all_lack 47 (m ∷ ms)) d).0
+    (and_parts (nat_le (length l) 300) (all_short (m ∷ ms)) e).0
+    (and_parts (not (contains_byte 35 l)) (all_lack 35 (take (length ms) (m ∷ ms))) front).0)
+    (levels_fit (m ∷ ms) (and_parts (is_level l) (list_all is_level (m ∷ ms)) a).1 rest
+    (and_parts (not (contains_byte 0 l)) (all_lack 0 (m ∷ ms)) c).1
+    (and_parts (not (contains_byte 47 l)) (all_lack 47 (m ∷ ms)) d).1
+    (and_parts (nat_le (length l) 300) (all_short (m ∷ ms)) e).1)
 
-pub filter_usable : (text : List ℕ) → is_filter text ≡ true → all_short (levels text) ≡ true → fits is_short_level (levels text) ≡ true
+pub filter_usable : (text : List ℕ) → is_filter text ≡ true → all_short (levels text) ≡ true
+    → fits is_short_level (levels text) ≡ true
 filter_usable text h s =
-    let front = and_left (is_text text && wildcards_fit (levels text)) (nat_le (length (levels text)) 200) h in
-    let bytes = and_left (is_text text) (wildcards_fit (levels text)) front in
-    let wild = and_right (is_text text) (wildcards_fit (levels text)) front in
-    levels_fit (levels text) (and_left (list_all is_level (levels text)) (list_all (λ l. not (contains_byte 35 l)) (parents (levels text))) wild)
-    (and_right (list_all is_level (levels text)) (list_all (λ l. not (contains_byte 35 l)) (parents (levels text))) wild)
-    (levels_lack 0 text (not_true (contains_byte 0 text) (and_right (nat_lt 0 (length text) && nat_le (length text) 65535) (not (contains_byte 0 text)) bytes)))
+    let front = (and_parts (is_text text && wildcards_fit (levels text))
+    (nat_le (length (levels text)) 200) h).0 in
+    let bytes = (and_parts (is_text text) (wildcards_fit (levels text)) front).0 in
+    let wild = (and_parts (is_text text) (wildcards_fit (levels text)) front).1 in
+    levels_fit (levels text) (and_parts (list_all is_level (levels text))
+    (list_all (λ l. not (contains_byte 35 l)) (parents (levels text))) wild).0
+    (and_parts (list_all is_level (levels text))
+    (list_all (λ l. not (contains_byte 35 l)) (parents (levels text))) wild).1
+    (levels_lack 0 text (not-true (contains_byte 0 text)
+    (and_parts (nat_lt 0 (length text) && nat_le (length text) 65535)
+    (not (contains_byte 0 text)) bytes).1))
     (levels_without text) s
 
 -- ---- what rows that keep to the limit name
-le_is : (n m : ℕ) → nat_le n m ≡ true → n ≤ m
-le_is n m e = grind (arith, nat_tests)
-
 longer : (n : ℕ) → nat_le n 300 ≡ true → nat_le n 321 ≡ true
 longer n e = grind (arith, nat_tests)
 
-name_short : (l : List ℕ) (who : Who) → short_who who ≡ true → is_name_of l who ≡ true → length l ≤ 300
+name_short : (l : List ℕ) (who : Who) → short_who who ≡ true → is_name_of l who ≡ true
+    → length l ≤ 300
 name_short l Anonymous s h = absurd (let n : false ≡ true = h in cc)
-name_short l (Named name) s h = subst (λ t. length t ≤ 300) (sym (text_is l name h)) (le_is (length name) 300 s)
+name_short l (Named name) s h = subst (λ t. length t ≤ 300) (sym (text_is l name h))
+    (leb-true (length name) 300 s)
 name_short l Everyone s h = absurd (let n : false ≡ true = h in cc)
 
-pub names_short : (rows : List AclRow) → list_all usable rows ≡ true → (l : List ℕ) → rows_name l rows ≡ true → length l ≤ 300
+pub names_short : (rows : List AclRow) → list_all usable rows ≡ true → (l : List ℕ)
+    → rows_name l rows ≡ true → length l ≤ 300
 names_short [] u l h = absurd (let n : false ≡ true = h in cc)
 names_short (row ∷ rows) u l h =
-    let first = and_left (usable row) (list_all usable rows) u in
+    let first = (and_parts (usable row) (list_all usable rows) u).0 in
     or_cases (row_names l row) (rows_name l rows) h
     (λ here. or_cases (is_literal_in l (levels row.filter)) (is_name_of l row.who) here
-    (λ e. le_is (length l) 300 (and_right (can_be_level l) (nat_le (length l) 300) (literal_passes is_short_level (levels row.filter) (and_left (fits is_short_level (levels row.filter)) (short_who row.who) first) l e)))
-    (λ e. name_short l row.who (and_right (fits is_short_level (levels row.filter)) (short_who row.who) first) e))
-    (λ there. names_short rows (and_right (usable row) (list_all usable rows) u) l there)
+    (λ e. leb-true (length l) 300
+    (and_parts (can_be_level l) (nat_le (length l) 300)
+    (literal_passes is_short_level (levels row.filter)
+    (and_parts (fits is_short_level (levels row.filter)) (short_who row.who) first).0 l
+    e)).1)
+    (λ e. name_short l row.who
+    (and_parts (fits is_short_level (levels row.filter)) (short_who row.who) first).1 e))
+    (λ there. names_short rows (and_parts (usable row) (list_all usable rows) u).1 l there)
 
-pub user_is_named : (rows : List AclRow) (l : List ℕ) → is_user_of l rows ≡ true → rows_name l rows ≡ true
+pub user_is_named : (rows : List AclRow) (l : List ℕ) → is_user_of l rows ≡ true
+    → rows_name l rows ≡ true
 user_is_named [] l h = h
 user_is_named (row ∷ rows) l h =
     or_cases (is_name_of l row.who) (is_user_of l rows) h
-    (λ e. rw e (or_true (is_literal_in l (levels row.filter)) (rows_name l rows))) (λ e. rw (user_is_named rows l e) (last_true (row_names l row)))
+    (λ e. rw e (or_true (is_literal_in l (levels row.filter)) (rows_name l rows)))
+    (λ e. rw (user_is_named rows l e) (last_true (row_names l row)))
   where
     or_true : (a b : Bool) → ((a || true) || b) ≡ true
     or_true true b = refl
@@ -111,40 +145,59 @@ user_is_named (row ∷ rows) l h =
     last_true false = refl
 
 -- ---- they fit where none of their levels is fresh
-named_fits : (p q : List ℕ → Bool) → ((w : List ℕ) → p w ≡ true → is_wildcard w ≡ false) → (ws : List (List ℕ)) → fits p ws ≡ true → ((l : List ℕ) → is_literal_in l ws ≡ true → q l ≡ true) → fits q ws ≡ true
+named_fits : (p q : List ℕ → Bool) → ((w : List ℕ) → p w ≡ true → is_wildcard w ≡ false)
+    → (ws : List (List ℕ)) → fits p ws ≡ true
+    → ((l : List ℕ) → is_literal_in l ws ≡ true → q l ≡ true) → fits q ws ≡ true
 named_fits p q plain [] e h = refl
 named_fits p q plain (w ∷ ws) e h =
-    one (bytes_eq w (codes "+") || (bytes_eq w (codes "#") && (length ws == 0))) (p w) (q w) (fits p ws) (fits q ws)
-    (λ k. h w (ap (λ b. (b && not (is_wildcard w)) || is_literal_in w ws) (same_text w) ∙ ap (λ b. not b || is_literal_in w ws) (plain w k)))
-    (λ k. named_fits p q plain ws k (λ l m. h l (rw m (last_true (bytes_eq l w && not (is_wildcard w)))))) e
+    one (bytes_eq w (codes "+") || (bytes_eq w (codes "#") && (length ws == 0))) (p w) (q w)
+    (fits p ws) (fits q ws)
+    (λ k. h w (ap (λ b. (b && not (is_wildcard w)) || is_literal_in w ws) (same_text w)
+    ∙ ap (λ b. not b || is_literal_in w ws) (plain w k)))
+    (λ k. named_fits p q plain ws k
+    (λ l m. h l (rw m (last_true (bytes_eq l w && not (is_wildcard w)))))) e
   where
     last_true : (a : Bool) → (a || true) ≡ true
     last_true true = refl
     last_true false = refl
 
-    one : (wild a b c d : Bool) → (a ≡ true → b ≡ true) → (c ≡ true → d ≡ true) → ((wild || a) && c) ≡ true → ((wild || b) && d) ≡ true
+    one : (wild a b c d : Bool) → (a ≡ true → b ≡ true) → (c ≡ true → d ≡ true)
+        → ((wild || a) && c) ≡ true → ((wild || b) && d) ≡ true
     one true a b c d f g k = g k
     one false true b c d f g k = rw (f refl, g k) refl
     one false false b c d f g k = absurd (let n : false ≡ true = k in cc)
 
 short_is_name : (w : List ℕ) → is_short_level w ≡ true → is_name_level w ≡ true
-short_is_name w h = rw (and_left (can_be_level w) (nat_le (length w) 300) h, longer (length w) (and_right (can_be_level w) (nat_le (length w) 300) h)) refl
+short_is_name w h =
+    rw (
+      (and_parts (can_be_level w) (nat_le (length w) 300) h).0,
+      longer (length w) (and_parts (can_be_level w) (nat_le (length w) 300) h).1,
+    ) refl
 
 -- a short level that is not fresh
-literal : (f : Fresh) (w : List ℕ) → is_short_level w ≡ true → is_no_fresh f w ≡ true → is_literal f w ≡ true
-literal f w s n = join (is_name_level w) (not (bytes_eq w f.others.plain.now)) (not (bytes_eq w f.others.dollar.now)) (is_no_client f w) (is_no_user f w) (short_is_name w s) n
+literal : (f : Fresh) (w : List ℕ) → is_short_level w ≡ true → is_no_fresh f w ≡ true
+    → is_literal f w ≡ true
+literal f w s n = join (is_name_level w) (not (bytes_eq w f.others.plain.now))
+    (not (bytes_eq w f.others.dollar.now)) (is_no_client f w) (is_no_user f w) (short_is_name w s) n
   where
-    join : (v a b c d : Bool) → v ≡ true → (a && b && c && d) ≡ true → (v && a && b && c && d) ≡ true
+    join : (v a b c d : Bool) → v ≡ true → (a && b && c && d) ≡ true
+        → (v && a && b && c && d) ≡ true
     join v a b c d e h = rw e h
 
-pub rows_literal : (f : Fresh) (rows : List AclRow) → list_all usable rows ≡ true → ((l : List ℕ) → rows_name l rows ≡ true → is_no_fresh f l ≡ true) → rows_fit (is_literal f) rows ≡ true
+pub rows_literal : (f : Fresh) (rows : List AclRow) → list_all usable rows ≡ true
+    → ((l : List ℕ) → rows_name l rows ≡ true → is_no_fresh f l ≡ true)
+    → rows_fit (is_literal f) rows ≡ true
 rows_literal f [] u h = refl
 rows_literal f (row ∷ rows) u h =
-    let first = and_left (fits is_short_level (levels row.filter)) (short_who row.who) (and_left (usable row) (list_all usable rows) u) in
+    let first = (and_parts (fits is_short_level (levels row.filter)) (short_who row.who)
+    (and_parts (usable row) (list_all usable rows) u).0).0 in
     rw (
       fits_both is_short_level (is_no_fresh f) (is_literal f) (levels row.filter) (literal f) first
-          (named_fits is_short_level (is_no_fresh f) (λ w k. level_is_no_wildcard w (short_is_name w k)) (levels row.filter) first (λ l e. h l (rw e refl))),
-      rows_literal f rows (and_right (usable row) (list_all usable rows) u) (λ l e. h l (rw e (last_true (row_names l row)))),
+          (named_fits is_short_level (is_no_fresh f)
+          (λ w k. level_is_no_wildcard w (short_is_name w k)) (levels row.filter) first
+          (λ l e. h l (rw e refl))),
+      rows_literal f rows (and_parts (usable row) (list_all usable rows) u).1
+          (λ l e. h l (rw e (last_true (row_names l row)))),
     ) refl
   where
     last_true : (a : Bool) → (a || true) ≡ true
@@ -152,7 +205,8 @@ rows_literal f (row ∷ rows) u h =
     last_true false = refl
 
 -- the level that a short text is, if it can be one, may be that of a user
-pub user_fits : (f : Fresh) (u : List ℕ) → length u ≤ 300 → is_no_fresh f u ≡ true → mark_passes (is_user_level f) (level_of (Some u)) ≡ true
+pub user_fits : (f : Fresh) (u : List ℕ) → length u ≤ 300 → is_no_fresh f u ≡ true
+    → mark_passes (is_user_level f) (level_of (Some u)) ≡ true
 user_fits f u s n = at (can_be_level u) refl
   where
     parts : (a b c d : Bool) → (a && b && c && d) ≡ true → ((a && b) && c) ≡ true
@@ -164,9 +218,14 @@ user_fits f u s n = at (can_be_level u) refl
     size : nat_le (length u) 321 ≡ true
     size = grind (arith, nat_tests)
 
-    whole : (v w a b c : Bool) → v ≡ true → w ≡ true → ((a && b) && c) ≡ true → ((v && w) && a && b && c) ≡ true
+    whole : (v w a b c : Bool) → v ≡ true → w ≡ true → ((a && b) && c) ≡ true
+        → ((v && w) && a && b && c) ≡ true
     whole v w a b c e f h = rw (e, f) h
 
-    at : (b : Bool) → can_be_level u ≡ b → mark_passes (is_user_level f) (cond b (Some u) None) ≡ true
-    at true e = whole (can_be_level u) (nat_le (length u) 321) (not (bytes_eq u f.others.plain.now)) (not (bytes_eq u f.others.dollar.now)) (is_no_client f u) e size (parts (not (bytes_eq u f.others.plain.now)) (not (bytes_eq u f.others.dollar.now)) (is_no_client f u) (is_no_user f u) n)
+    at : (b : Bool) → can_be_level u ≡ b → mark_passes (is_user_level f) (cond b (Some u) None)
+        ≡ true
+    at true e = whole (can_be_level u) (nat_le (length u) 321) (not (bytes_eq u f.others.plain.now))
+        (not (bytes_eq u f.others.dollar.now)) (is_no_client f u) e size
+        (parts (not (bytes_eq u f.others.plain.now)) (not (bytes_eq u f.others.dollar.now))
+        (is_no_client f u) (is_no_user f u) n)
     at false e = refl

@@ -1,6 +1,7 @@
 -- When two lists can be compared.
 use Rattle.std.proofs.Common.{◌≡◌, ℕ, Bool, true, false, ◌||◌, List, length, refl, ap, sym, ◌∙◌, ◌≤◌}
 use Rattle.std.specs.List.{list_all}
+use Rattle.std.proofs.lemmas.Bool.{or_left, or_right}
 use Rattle.mq_acl.specs.Rows.{AclRow}
 use Rattle.mq_questions.specs.Ready.{IsReady}
 use Rattle.mq_questions.specs.Literals.{is_named}
@@ -11,41 +12,48 @@ use Rattle.mq_questions.specs.declared.ask.literals.Literals.{Literals}
 use Rattle.mq_questions.specs.declared.ask.texts.FreshTexts.{FreshTexts}
 use Rattle.mq_questions.proofs.FreshLemmas.{seen_fresh, named_no_fresh, made_unnamed}
 use Rattle.mq_questions.proofs.ListLemmas.{names_short, user_is_named, rows_literal, user_fits}
-use Rattle.mq_questions.proofs.LiteralLemmas.{or_cases}
-use Rattle.mq_walk.proofs.WalkLemmas.{false_is}
-
-or_first : (a b : Bool) → a ≡ true → (a || b) ≡ true
-or_first a b e = rw e refl
-
-or_second : (a b : Bool) → b ≡ true → (a || b) ≡ true
-or_second true b e = refl
-or_second false b e = e
+use Rattle.mq_walk.proofs.TextLemmas.{or_cases, false_is}
 
 -- the levels and user names of both lists keep to the limit
-pub both_short : (old new : List AclRow) (literals : Literals) → ((l : List ℕ) → is_named l literals ≡ (rows_name l old || rows_name l new)) → list_all usable old ≡ true → list_all usable new ≡ true
+pub both_short : (old new : List AclRow) (literals : Literals)
+    → ((l : List ℕ) → is_named l literals ≡ (rows_name l old || rows_name l new))
+    → list_all usable old ≡ true → list_all usable new ≡ true
     → (l : List ℕ) → is_named l literals ≡ true → length l ≤ 300
-both_short old new literals e u v l h = or_cases (rows_name l old) (rows_name l new) (sym (e l) ∙ h) (names_short old u l) (names_short new v l)
+both_short old new literals e u v l h =
+    or_cases (rows_name l old) (rows_name l new) (sym (e l) ∙ h) (names_short old u l)
+    (names_short new v l)
 
-pub ready : (old new : List AclRow) (texts : FreshTexts) (named literals : Literals) → ((l : List ℕ) → is_named l literals ≡ (rows_name l old || rows_name l new))
-    → ((l : List ℕ) → is_named l named ≡ (is_user_of l old || is_user_of l new)) → list_all usable old ≡ true → list_all usable new ≡ true → AreMade texts literals → IsReady old new texts named
+pub ready : (old new : List AclRow) (texts : FreshTexts) (named literals : Literals)
+    → ((l : List ℕ) → is_named l literals ≡ (rows_name l old || rows_name l new))
+    → ((l : List ℕ) → is_named l named ≡ (is_user_of l old || is_user_of l new))
+    → list_all usable old ≡ true → list_all usable new ≡ true → AreMade texts literals
+    → IsReady old new texts named
 ready old new texts named literals e n u v m = record {
   fresh = λ f s. seen_fresh texts f literals m s;
-  old_fits = λ f s. rows_literal f old u (λ l h. no_fresh f s l (or_first (rows_name l old) (rows_name l new) h));
-  new_fits = λ f s. rows_literal f new v (λ l h. no_fresh f s l (or_second (rows_name l old) (rows_name l new) h));
-  user = λ f s. false_is (is_named f.user.now named) (is_named f.user.now literals) (users_named f.user.now) (ap (λ t. is_named t literals) s.user ∙ m.user.unnamed);
-  dollar_user = λ f s. false_is (is_named f.dollar_user.now named) (is_named f.dollar_user.now literals) (users_named f.dollar_user.now) (ap (λ t. is_named t literals) s.dollar_user ∙ m.dollar_user.unnamed);
+  old_fits = λ f s. rows_literal f old u
+      (λ l h. no_fresh f s l (or_left (rows_name l old) (rows_name l new) h));
+  new_fits = λ f s. rows_literal f new v
+      (λ l h. no_fresh f s l (or_right (rows_name l old) (rows_name l new) h));
+  user = λ f s. false_is (is_named f.user.now named) (is_named f.user.now literals)
+      (users_named f.user.now) (ap (λ t. is_named t literals) s.user ∙ m.user.unnamed);
+  dollar_user = λ f s. false_is (is_named f.dollar_user.now named)
+      (is_named f.dollar_user.now literals) (users_named f.dollar_user.now)
+      (ap (λ t. is_named t literals) s.dollar_user ∙ m.dollar_user.unnamed);
   named = n;
-  level = λ f s user h. user_fits f user (both_short old new literals e u v user (users_named user h)) (named_no_fresh texts f literals m s user (users_named user h));
+  level = λ f s user h. user_fits f user
+      (both_short old new literals e u v user (users_named user h))
+      (named_no_fresh texts f literals m s user (users_named user h));
   unnamed = λ text h. sym (e text) ∙ made_unnamed texts literals m text h;
 }
   where
-    no_fresh : (f : Fresh) → IsSeen texts f → (l : List ℕ) → (rows_name l old || rows_name l new) ≡ true → is_no_fresh f l ≡ true
+    no_fresh : (f : Fresh) → IsSeen texts f → (l : List ℕ)
+        → (rows_name l old || rows_name l new) ≡ true → is_no_fresh f l ≡ true
     no_fresh f s l h = named_no_fresh texts f literals m s l (e l ∙ h)
 
     users_named : (l : List ℕ) → is_named l named ≡ true → is_named l literals ≡ true
     users_named l h = e l ∙ or_cases (is_user_of l old) (is_user_of l new) (sym (n l) ∙ h)
-        (λ k. or_first (rows_name l old) (rows_name l new) (user_is_named old l k))
-        (λ k. or_second (rows_name l old) (rows_name l new) (user_is_named new l k))
+        (λ k. or_left (rows_name l old) (rows_name l new) (user_is_named old l k))
+        (λ k. or_right (rows_name l old) (rows_name l new) (user_is_named new l k))
 
 pub twice : (b : Bool) → (false || b) ≡ (b || b)
 twice true = refl

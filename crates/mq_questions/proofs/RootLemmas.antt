@@ -2,7 +2,10 @@
 use Rattle.std.proofs.Common.{◌≡◌, ℕ, Bool, true, false, ◌&&◌, ◌||◌, List, [], ◌∷◌, ◌++◌, length, Option, refl, ap, sym, ◌∙◌, ◌<◌, ◌≤◌, ◌+◌, get_or, take, append_assoc, subst}
 use Rattle.std.proofs.lemmas.Grind.{take_at_read}
 use Rattle.std.proofs.lemmas.List.{take_all, map_push}
-use Rattle.std.proofs.lemmas.List.Folds.{list_any-append}
+use Rattle.std.proofs.lemmas.List.Folds.{list_any-append, list_all-append}
+use Rattle.std.proofs.lemmas.Bool.{and_parts, and_from}
+use Rattle.std.proofs.Math.Bool.{or-false}
+use Rattle.std.specs.List.{list_all}
 use Rattle.mq_topic.specs.Levels.{levels}
 use Rattle.mq_acl.specs.Rows.{AclRow}
 use Rattle.mq_acl.specs.Access.{applies, concerns, begins_with_dollar}
@@ -13,32 +16,52 @@ use Rattle.mq_walk.specs.Remainders.{covers, same, hit, fits, remainder_fits, re
 use Rattle.mq_questions.specs.Fresh.{marks_of}
 use Rattle.mq_questions.specs.Roots.{decides, rows_hit, rows_fit, alike, AreRoots}
 use Rattle.mq_walk.specs.declared.remainder.Remainder.{Remainder}
-use Rattle.mq_walk.proofs.BranchLemmas.{and_left, and_right, or_false, hit-append, list_all-append}
+use Rattle.mq_walk.proofs.RemainderLemmas.{hit-append, kind_is}
 
 abbrev decided : Bool → List ℕ → Option (List ℕ) → List ℕ → Direction → AclRow → Bool
-decided deny client user name direction row = concerns client user name row && decides deny direction row.access
+decided deny client user name direction row = concerns client user name row
+    && decides deny direction row.access
 
-hit_more : (deny : Bool) (client : List ℕ) (user : Option (List ℕ)) (name : List ℕ) (direction : Direction) (before : List AclRow) (row : AclRow)
-    → rows_hit deny client user name direction (before ++ row ∷ []) ≡ (rows_hit deny client user name direction before || decided deny client user name direction row)
+hit_more : (deny : Bool) (client : List ℕ) (user : Option (List ℕ)) (name : List ℕ)
+    (direction : Direction) (before : List AclRow) (row : AclRow)
+    → rows_hit deny client user name direction (before ++ row ∷ [])
+    ≡ (rows_hit deny client user name direction before
+    || decided deny client user name direction row)
 hit_more deny client user name direction before row =
-    list_any-append (decided deny client user name direction) before (row ∷ []) ∙ ap (λ b. rows_hit deny client user name direction before || b) (or_false (decided deny client user name direction row))
+    list_any-append (decided deny client user name direction) before (row ∷ [])
+    ∙ ap (λ b. rows_hit deny client user name direction before || b)
+    (or-false (decided deny client user name direction row))
 
-fit_before : (p : List ℕ → Bool) (before : List AclRow) (row : AclRow) → rows_fit p (before ++ row ∷ []) ≡ true → (rows_fit p before ≡ true) × (fits p (levels row.filter) ≡ true)
-fit_before p [] row h = (refl, and_left (fits p (levels row.filter)) true h)
+fit_before : (p : List ℕ → Bool) (before : List AclRow) (row : AclRow)
+    → rows_fit p (before ++ row ∷ []) ≡ true → (rows_fit p before ≡ true)
+    × (fits p (levels row.filter) ≡ true)
+fit_before p [] row h = (refl, (and_parts (fits p (levels row.filter)) true h).0)
 fit_before p (x ∷ xs) row h =
-    let rest = fit_before p xs row (and_right (fits p (levels x.filter)) (rows_fit p (xs ++ row ∷ [])) h) in
-    (rw (and_left (fits p (levels x.filter)) (rows_fit p (xs ++ row ∷ [])) h, rest.0) refl, rest.1)
+    let rest = fit_before p xs row
+    (and_parts (fits p (levels x.filter)) (rows_fit p (xs ++ row ∷ [])) h).1 in (
+      rw ((and_parts (fits p (levels x.filter)) (rows_fit p (xs ++ row ∷ [])) h).0, rest.0) refl,
+      rest.1,
+    )
 
-kind_is : (a b : Bool) → same a b ≡ true → a ≡ b
-kind_is true b e = sym e
-kind_is false true e = absurd (let f : false ≡ true = e in cc)
-kind_is false false e = refl
-
-alike_before : (other user : Option (List ℕ)) (before : List AclRow) (row : AclRow) → alike other user (before ++ row ∷ []) ≡ true → (alike other user before ≡ true) × (applies other row.who ≡ applies user row.who)
-alike_before other user [] row h = (refl, kind_is (applies other row.who) (applies user row.who) (and_left (same (applies other row.who) (applies user row.who)) true h))
+alike_before : (other user : Option (List ℕ)) (before : List AclRow) (row : AclRow)
+    → alike other user (before ++ row ∷ []) ≡ true → (alike other user before ≡ true)
+    × (applies other row.who ≡ applies user row.who)
+alike_before other user [] row h = (
+  refl,
+  kind_is (applies other row.who) (applies user row.who)
+      (and_parts (same (applies other row.who) (applies user row.who)) true h).0,
+)
 alike_before other user (x ∷ xs) row h =
-    let rest = alike_before other user xs row (and_right (same (applies other x.who) (applies user x.who)) (alike other user (xs ++ row ∷ [])) h) in
-    (rw (and_left (same (applies other x.who) (applies user x.who)) (alike other user (xs ++ row ∷ [])) h, rest.0) refl, rest.1)
+    let rest = alike_before other user xs row
+    (and_parts (same (applies other x.who) (applies user x.who))
+    (alike other user (xs ++ row ∷ [])) h).1 in (
+      rw (
+        (and_parts (same (applies other x.who) (applies user x.who))
+            (alike other user (xs ++ row ∷ [])) h).0,
+        rest.0,
+      ) refl,
+      rest.1,
+    )
 
 same_self : (b : Bool) → same b b ≡ true
 same_self true = refl
@@ -50,42 +73,72 @@ alike_self user (row ∷ rows) = rw (same_self (applies user row.who)) (alike_se
 
 module _ (user : Option (List ℕ)) (direction : Direction) (dollar : Bool) where
   pub no_root : (before : List AclRow) (row : AclRow) (roots : List Remainder)
-      → ((client name : List ℕ) (other : Option (List ℕ)) (deny : Bool) → applies other row.who ≡ applies user row.who → begins_with_dollar name ≡ dollar → decided deny client other name direction row ≡ false)
-      → AreRoots before user direction dollar roots → AreRoots (before ++ row ∷ []) user direction dollar roots
+      → ((client name : List ℕ) (other : Option (List ℕ)) (deny : Bool)
+      → applies other row.who ≡ applies user row.who → begins_with_dollar name ≡ dollar
+      → decided deny client other name direction row ≡ false)
+      → AreRoots before user direction dollar roots
+      → AreRoots (before ++ row ∷ []) user direction dollar roots
   no_root before row roots f a = record {
     hits = λ client name other deny like d.
         let parts = alike_before other user before row like in
-        a.hits client name other deny parts.0 d ∙ sym (hit_more deny client other name direction before row ∙ ap (λ b. rows_hit deny client other name direction before || b) (f client name other deny parts.1 d) ∙ or_false (rows_hit deny client other name direction before));
+        a.hits client name other deny parts.0 d
+        ∙ sym (hit_more deny client other name direction before row
+        ∙ ap (λ b. rows_hit deny client other name direction before || b)
+        (f client name other deny parts.1 d)
+        ∙ or-false (rows_hit deny client other name direction before));
     fit = λ p h. a.fit p (fit_before p before row h).0;
   }
 
   pub one_root : (before : List AclRow) (row : AclRow) (r : Remainder) (roots next : List Remainder)
-      → ((client name : List ℕ) (other : Option (List ℕ)) (deny : Bool) → applies other row.who ≡ applies user row.who → begins_with_dollar name ≡ dollar → (covers (marks_of client other) (levels name) r && same deny r.deny) ≡ decided deny client other name direction row)
-      → ((p : List ℕ → Bool) → fits p (levels row.filter) ≡ true → remainder_fits p r ≡ true) → next ≡ roots ++ r ∷ []
-      → AreRoots before user direction dollar roots → AreRoots (before ++ row ∷ []) user direction dollar next
+      → ((client name : List ℕ) (other : Option (List ℕ)) (deny : Bool)
+      → applies other row.who ≡ applies user row.who → begins_with_dollar name ≡ dollar
+      → (covers (marks_of client other) (levels name) r && same deny r.deny)
+      ≡ decided deny client other name direction row)
+      → ((p : List ℕ → Bool) → fits p (levels row.filter) ≡ true → remainder_fits p r ≡ true)
+      → next ≡ roots ++ r ∷ []
+      → AreRoots before user direction dollar roots
+      → AreRoots (before ++ row ∷ []) user direction dollar next
   one_root before row r roots next f g e a = record {
     hits = λ client name other deny like d.
         let parts = alike_before other user before row like in
-        ap (hit deny (marks_of client other) (levels name)) e ∙ hit-append deny (marks_of client other) (levels name) roots (r ∷ [])
-        ∙ (λ i. a.hits client name other deny parts.0 d i || (or_false (covers (marks_of client other) (levels name) r && same deny r.deny) ∙ f client name other deny parts.1 d) i)
+        ap (hit deny (marks_of client other) (levels name)) e
+        ∙ hit-append deny (marks_of client other) (levels name) roots (r ∷ [])
+        ∙ (λ i. a.hits client name other deny parts.0 d i
+        || (or-false (covers (marks_of client other) (levels name) r && same deny r.deny)
+        ∙ f client name other deny parts.1 d) i)
         ∙ sym (hit_more deny client other name direction before row);
-    fit = λ p h. let parts = fit_before p before row h in ap (remainders_fit p) e ∙ list_all-append (remainder_fits p) roots (r ∷ []) (a.fit p parts.0) (rw (g p parts.1) refl);
+    fit = λ p h. let parts = fit_before p before row h in ap (remainders_fit p) e
+        ∙ list_all-append (remainder_fits p) roots (r ∷ [])
+        ∙ and_from (list_all (remainder_fits p) roots) (list_all (remainder_fits p) (r ∷ []))
+        (a.fit p parts.0) (rw (g p parts.1) refl);
   }
 
   -- the rows so far
-  pub rows_more : (old : List Remainder) (rows : List Row) (i : ℕ) (x : Row) (now next : List Remainder) → i < length rows → x ≡ get_or rows i x
-      → ((before : List AclRow) → AreRoots before user direction dollar now → AreRoots (before ++ row_view x ∷ []) user direction dollar next)
-      → ((before : List AclRow) → AreRoots before user direction dollar old → AreRoots (before ++ row_views (take i rows)) user direction dollar now)
-      → (before : List AclRow) → AreRoots before user direction dollar old → AreRoots (before ++ row_views (take (i + 1) rows)) user direction dollar next
+  pub rows_more : (old : List Remainder) (rows : List Row) (i : ℕ) (x : Row)
+      (now next : List Remainder) → i < length rows → x ≡ get_or rows i x
+      → ((before : List AclRow) → AreRoots before user direction dollar now
+      → AreRoots (before ++ row_view x ∷ []) user direction dollar next)
+      → ((before : List AclRow) → AreRoots before user direction dollar old
+      → AreRoots (before ++ row_views (take i rows)) user direction dollar now)
+      → (before : List AclRow) → AreRoots before user direction dollar old
+      → AreRoots (before ++ row_views (take (i + 1) rows)) user direction dollar next
   rows_more old rows i x now next h e f g before a =
       subst (λ l. AreRoots l user direction dollar next)
-      (append_assoc before (row_views (take i rows)) (row_view x ∷ []) ∙ ap (λ l. before ++ l) (sym (map_push row_view (take i rows) x) ∙ ap (λ y. row_views (take i rows ++ y ∷ [])) e ∙ ap row_views (sym (take_at_read rows i x h).1)))
+      (append_assoc before (row_views (take i rows)) (row_view x ∷ [])
+      ∙ ap (λ l. before ++ l) (sym (map_push row_view (take i rows) x)
+      ∙ ap (λ y. row_views (take i rows ++ y ∷ [])) e
+      ∙ ap row_views (sym (take_at_read rows i x h).1)))
       (f (before ++ row_views (take i rows)) (g before a))
 
-  pub rows_all : (old : List Remainder) (rows : List Row) (i : ℕ) (now : List Remainder) → length rows ≤ i
-      → ((before : List AclRow) → AreRoots before user direction dollar old → AreRoots (before ++ row_views (take i rows)) user direction dollar now)
-      → (before : List AclRow) → AreRoots before user direction dollar old → AreRoots (before ++ row_views rows) user direction dollar now
-  rows_all old rows i now h g before a = subst (λ l. AreRoots (before ++ row_views l) user direction dollar now) (take_all i rows h) (g before a)
+  pub rows_all : (old : List Remainder) (rows : List Row) (i : ℕ) (now : List Remainder)
+      → length rows ≤ i
+      → ((before : List AclRow) → AreRoots before user direction dollar old
+      → AreRoots (before ++ row_views (take i rows)) user direction dollar now)
+      → (before : List AclRow) → AreRoots before user direction dollar old
+      → AreRoots (before ++ row_views rows) user direction dollar now
+  rows_all old rows i now h g before a =
+      subst (λ l. AreRoots (before ++ row_views l) user direction dollar now) (take_all i rows h)
+      (g before a)
 
   pub no_roots : AreRoots [] user direction dollar []
   no_roots = record { hits = λ client name other deny like d. refl; fit = λ p h. refl }

@@ -8,7 +8,11 @@ abbrev pub swap : List ℕ → List ℕ → List ℕ → List ℕ
 swap a b text = if bytes_eq text a then b else (if bytes_eq text b then a else text)
 
 abbrev pub swap_marks : List ℕ → List ℕ → MarkLevels → MarkLevels
-swap_marks a b marks = record { client = option_map (swap a b) marks.client; user = option_map (swap a b) marks.user }
+swap_marks a b marks = record {
+  client = option_map (swap a b) marks.client;
+  user =
+      option_map (swap a b) marks.user;
+}
 
 -- neither of the two
 abbrev pub is_apart : List ℕ → List ℕ → List ℕ → Bool

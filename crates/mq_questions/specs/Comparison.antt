@@ -30,7 +30,8 @@ rows_with Lost c = c.old
 
 -- the new list allows it and the old one doesn't, or the other way round
 abbrev pub changed : Way → Compared → List ℕ → Option (List ℕ) → List ℕ → Direction → Bool
-changed way c client user name direction = gained (rows_without way c) (rows_with way c) client user name direction
+changed way c client user name direction =
+    gained (rows_without way c) (rows_with way c) client user name direction
 
 -- it is one of the texts that stand for others
 abbrev pub is_made_up : List ℕ → Compared → Bool

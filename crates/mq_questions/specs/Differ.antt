@@ -7,7 +7,9 @@ use Rattle.mq_acl.specs.declared.access.Direction.{Direction}
 
 -- to all clients of this user name, or without one, in this direction
 abbrev pub AllowSameIn : List AclRow → List AclRow → Option (List ℕ) → Direction → Type 0
-AllowSameIn one other user direction = (client name : List ℕ) → IsTrue (is_name name) → allowed (Some one) client user name direction ≡ allowed (Some other) client user name direction
+AllowSameIn one other user direction = (client name : List ℕ) → IsTrue (is_name name)
+    → allowed (Some one) client user name direction
+    ≡ allowed (Some other) client user name direction
 
 -- in both
 abbrev pub AllowSame : List AclRow → List AclRow → Option (List ℕ) → Type 0
@@ -20,7 +22,8 @@ pub record Differ (one other : List AclRow) : Type 0 where
   pub name : List ℕ
   pub direction : Direction
   pub valid : IsTrue (is_name name)
-  pub differs : allowed (Some one) client user name direction ≢ allowed (Some other) client user name direction
+  pub differs : allowed (Some one) client user name direction
+      ≢ allowed (Some other) client user name direction
 
 -- the rows but for the one at this place
 abbrev pub without : ℕ → List AclRow → List AclRow

@@ -11,7 +11,8 @@ use Rattle.mq_walk.specs.declared.remainder.Remainder.{Remainder}
 
 -- a text that a few bytes can be added to
 abbrev pub is_base : List ℕ → Bool
-is_base base = is_plain base && not (contains_byte 0 base) && not (contains_byte 47 base) && nat_le (length base) 20
+is_base base = is_plain base && not (contains_byte 0 base) && not (contains_byte 47 base)
+    && nat_le (length base) 20
 
 -- a base, and as many `x` behind it
 pub record IsMade (base text : List ℕ) : Type 0 where
@@ -51,9 +52,11 @@ pub record AreFresh (f : Fresh) : Type 0 where
   pub empty_apart : is_no_client f [] ≡ true
 
 -- the client ids that are tried: others behave as one of the first two
-abbrev pub is_tried_client : Fresh → Option (List ℕ) → List Remainder → List Remainder → List ℕ → Bool
+abbrev pub is_tried_client : Fresh → Option (List ℕ) → List Remainder → List Remainder → List ℕ
+    → Bool
 is_tried_client f user old new client =
-    bytes_eq client f.client.now || bytes_eq client f.dollar_client.now || bytes_eq client [] || is_user client user
+    bytes_eq client f.client.now || bytes_eq client f.dollar_client.now || bytes_eq client []
+    || is_user client user
     || is_literal_of client old || is_literal_of client new
 
 -- what the marks stand for
@@ -67,4 +70,5 @@ is_user_level f text = is_choice f.others text && is_no_client f text
 -- the user names that are tried for all that no list names: others behave as one of the first two
 abbrev pub is_tried_user : Fresh → List Remainder → List Remainder → List ℕ → Bool
 is_tried_user f old new user =
-    bytes_eq user f.user.now || bytes_eq user f.dollar_user.now || bytes_eq user [] || is_literal_of user old || is_literal_of user new
+    bytes_eq user f.user.now || bytes_eq user f.dollar_user.now || bytes_eq user []
+    || is_literal_of user old || is_literal_of user new

@@ -17,10 +17,12 @@ use Rattle.mq_walk.specs.declared.start.Start.{Start}
 
 -- its client, with this user name, gains its name
 abbrev pub IsGainOf : Start → Option (List ℕ) → List Remainder → List Remainder → Gain → Type 0
-IsGainOf start user old new gain = IsGain start 200 (marks_of gain.client.now user) old new (levels_of gain.path)
+IsGainOf start user old new gain =
+    IsGain start 200 (marks_of gain.client.now user) old new (levels_of gain.path)
 
 -- a client with its user name does, and no list names that
-pub record IsOtherGain (start : Start) (old new : List Remainder) (named : Literals) (other : OtherGain) : Type 0 where
+pub record IsOtherGain (start : Start) (old new : List Remainder) (named : Literals)
+    (other : OtherGain) : Type 0 where
   pub unlisted : is_named other.user.now named ≡ false
   pub gain : IsGainOf start (Some other.user.now) old new other.gain
 

@@ -23,4 +23,5 @@ is_literal_of level rs = list_any (λ r. is_literal_in level (levels_left r.rest
 
 -- some `pattern` row has the mark as a level
 abbrev pub has_mark : List ℕ → List Remainder → Bool
-has_mark mark rs = list_any (λ r. r.pattern && list_any (λ w. bytes_eq w mark) (levels_left r.rest)) rs
+has_mark mark rs = list_any (λ r. r.pattern && list_any (λ w. bytes_eq w mark) (levels_left r.rest))
+    rs

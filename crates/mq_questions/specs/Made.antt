@@ -30,9 +30,11 @@ pub record IsSeen (t : FreshTexts) (f : Fresh) : Type 0 where
 
 -- none of the texts that stand for others
 abbrev pub is_no_fresh : Fresh → List ℕ → Bool
-is_no_fresh f text = not (bytes_eq text f.others.plain.now) && not (bytes_eq text f.others.dollar.now) && is_no_client f text && is_no_user f text
+is_no_fresh f text = not (bytes_eq text f.others.plain.now)
+    && not (bytes_eq text f.others.dollar.now) && is_no_client f text && is_no_user f text
 
 -- all of them
 abbrev pub made_texts : FreshTexts → List (List ℕ)
 made_texts t =
-    string_bytes t.plain ∷ string_bytes t.dollar ∷ string_bytes t.client ∷ string_bytes t.dollar_client ∷ string_bytes t.user ∷ string_bytes t.dollar_user ∷ []
+    string_bytes t.plain ∷ string_bytes t.dollar ∷ string_bytes t.client
+    ∷ string_bytes t.dollar_client ∷ string_bytes t.user ∷ string_bytes t.dollar_user ∷ []

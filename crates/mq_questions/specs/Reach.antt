@@ -11,7 +11,8 @@ use Rattle.mq_walk.specs.declared.others.Others.{Others}
 use Rattle.mq_questions.specs.Users.{is_short_level, usable}
 
 -- no level or id is longer than 300 bytes
-pub record AreShort (rows : List AclRow) (client : List ℕ) (user : Option (List ℕ)) (filter : List ℕ) : Type 0 where
+pub record AreShort (rows : List AclRow) (client : List ℕ) (user : Option (List ℕ))
+    (filter : List ℕ) : Type 0 where
   pub rows_usable : list_all usable rows ≡ true
   pub client_short : length client ≤ 300
   pub user_short : mark_passes (λ u. nat_le (length u) 300) user ≡ true
@@ -22,7 +23,8 @@ abbrev pub level_marks : List ℕ → Option (List ℕ) → MarkLevels
 level_marks client user = record { client = level_of (Some client); user = level_of user }
 
 -- the texts that stand for others are named by none of these
-pub record AreApart (rows : List AclRow) (client : List ℕ) (user : Option (List ℕ)) (filter : List ℕ) (others : Others) : Type 0 where
+pub record AreApart (rows : List AclRow) (client : List ℕ) (user : Option (List ℕ))
+    (filter : List ℕ) (others : Others) : Type 0 where
   pub usable : are_others others ≡ true
   pub marks_fit : marks_pass (is_choice others) (level_marks client user) ≡ true
   pub all_fit : rows_fit (is_choice others) rows ≡ true

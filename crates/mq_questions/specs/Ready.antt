@@ -22,5 +22,7 @@ pub record IsReady (old new : List AclRow) (texts : FreshTexts) (users : Literal
   pub user : (f : Fresh) → IsSeen texts f → is_named f.user.now users ≡ false
   pub dollar_user : (f : Fresh) → IsSeen texts f → is_named f.dollar_user.now users ≡ false
   pub named : (user : List ℕ) → is_named user users ≡ (is_user_of user old || is_user_of user new)
-  pub level : (f : Fresh) → IsSeen texts f → (user : List ℕ) → is_named user users ≡ true → mark_passes (is_user_level f) (level_of (Some user)) ≡ true
-  pub unnamed : (text : List ℕ) → list_any (bytes_eq text) (made_texts texts) ≡ true → (rows_name text old || rows_name text new) ≡ false
+  pub level : (f : Fresh) → IsSeen texts f → (user : List ℕ) → is_named user users ≡ true
+      → mark_passes (is_user_level f) (level_of (Some user)) ≡ true
+  pub unnamed : (text : List ℕ) → list_any (bytes_eq text) (made_texts texts) ≡ true
+      → (rows_name text old || rows_name text new) ≡ false

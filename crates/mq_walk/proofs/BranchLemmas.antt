@@ -3,19 +3,19 @@ use Rattle.std.proofs.Common.{◌≡◌, ℕ, Bool, true, false, ◌&&◌, ◌||
 use Rattle.std.specs.List.{list_all}
 use Rattle.std.proofs.lemmas.Grind.{take_at_read}
 use Rattle.std.proofs.lemmas.List.{take_all}
-use Rattle.std.proofs.lemmas.List.Folds.{list_any-append}
-use Rattle.std.proofs.lemmas.Slice.Eq.{bytes_eq-Decides}
+use Rattle.std.proofs.lemmas.List.Folds.{list_all-append}
+use Rattle.std.proofs.lemmas.Bool.{and_parts, and_from}
+use Rattle.std.proofs.Math.Bool.{or-false}
 use Rattle.mq_walk.specs.Remainders.{MarkLevels, covers, hit, same, remainder_fits, remainders_fit, marks_pass}
 use Rattle.mq_walk.specs.Branches.{at, has, IsBranched, BranchesFit}
 use Rattle.mq_walk.specs.declared.remainder.Remainder.{Remainder}
 use Rattle.mq_walk.specs.declared.branches.Branches.{Branches}
-
-pub or_false : (b : Bool) → (b || false) ≡ b
-or_false true = refl
-or_false false = refl
+use Rattle.mq_walk.proofs.TextLemmas.{text_is}
+use Rattle.mq_walk.proofs.RemainderLemmas.{hit-append}
 
 -- one more is covered, among those of this level
-more : (b covered kind at any : Bool) → ((at || any) || ((b && covered) && kind)) ≡ ((at || (b && (covered && kind))) || any)
+more : (b covered kind at any : Bool) → ((at || any) || ((b && covered) && kind))
+    ≡ ((at || (b && (covered && kind))) || any)
 more b c k true any = refl
 more true true true false true = refl
 more true true true false false = refl
@@ -26,81 +26,84 @@ more true false k false false = refl
 more false c k false true = refl
 more false c k false false = refl
 
-hit_if : (deny : Bool) (marks : MarkLevels) (ls : List (List ℕ)) (b : Bool) (r : Remainder) → hit deny marks ls (if b then r ∷ [] else []) ≡ (b && (covers marks ls r && same deny r.deny))
-hit_if deny marks ls true r = or_false (covers marks ls r && same deny r.deny)
+hit_if : (deny : Bool) (marks : MarkLevels) (ls : List (List ℕ)) (b : Bool) (r : Remainder)
+    → hit deny marks ls (if b then r ∷ [] else []) ≡ (b && (covers marks ls r && same deny r.deny))
+hit_if deny marks ls true r = or-false (covers marks ls r && same deny r.deny)
 hit_if deny marks ls false r = refl
 
-pub hit-append : (deny : Bool) (marks : MarkLevels) (ls : List (List ℕ)) (xs ys : List Remainder) → hit deny marks ls (xs ++ ys) ≡ (hit deny marks ls xs || hit deny marks ls ys)
-hit-append deny marks ls xs ys = list_any-append (λ r. covers marks ls r && same deny r.deny) xs ys
-
-pub at_level : (marks : MarkLevels) (rs : List Remainder) (r next : Remainder) (level : List ℕ) (old new : Branches)
-    → next.deny ≡ r.deny → ((l : List ℕ) (ls : List (List ℕ)) → covers marks (l ∷ ls) r ≡ (bytes_eq l level && covers marks ls next))
-    → ((l : List ℕ) → at l new ≡ at l old ++ (if bytes_eq l level then next ∷ [] else [])) → new.any.items ≡ old.any.items
+pub at_level : (marks : MarkLevels) (rs : List Remainder) (r next : Remainder) (level : List ℕ)
+    (old new : Branches)
+    → next.deny ≡ r.deny → ((l : List ℕ) (ls : List (List ℕ))
+    → covers marks (l ∷ ls) r ≡ (bytes_eq l level && covers marks ls next))
+    → ((l : List ℕ) → at l new ≡ at l old ++ (if bytes_eq l level then next ∷ [] else []))
+    → new.any.items ≡ old.any.items
     → IsBranched rs marks old → IsBranched (rs ++ r ∷ []) marks new
 at_level marks rs r next level old new d f a e b = record {
   hits = λ deny l ls.
-      hit-append deny marks (l ∷ ls) rs (r ∷ []) ∙ (λ i. b.hits deny l ls i || or_false (f l ls i && same deny (sym d i)) i)
-      ∙ more (bytes_eq l level) (covers marks ls next) (same deny next.deny) (hit deny marks ls (at l old)) (hit deny marks ls old.any.items)
-      ∙ (λ i. sym (ap (hit deny marks ls) (a l) ∙ hit-append deny marks ls (at l old) (if bytes_eq l level then next ∷ [] else []) ∙ ap (λ k. hit deny marks ls (at l old) || k) (hit_if deny marks ls (bytes_eq l level) next)) i || hit deny marks ls (sym e i));
+      hit-append deny marks (l ∷ ls) rs (r ∷ [])
+      ∙ (λ i. b.hits deny l ls i || or-false (f l ls i && same deny (sym d i)) i)
+      ∙ more (bytes_eq l level) (covers marks ls next) (same deny next.deny)
+      (hit deny marks ls (at l old)) (hit deny marks ls old.any.items)
+      ∙ (λ i. sym (ap (hit deny marks ls) (a l)
+      ∙ hit-append deny marks ls (at l old) (if bytes_eq l level then next ∷ [] else [])
+      ∙ ap (λ k. hit deny marks ls (at l old) || k)
+      (hit_if deny marks ls (bytes_eq l level) next)) i || hit deny marks ls (sym e i));
 }
 
-and_true : (a b : Bool) → a ≡ true → b ≡ true → (a && b) ≡ true
-and_true a b e f = rw (e, f) refl
-
-pub list_all-append : {A : Type 0} (p : A → Bool) (xs ys : List A) → list_all p xs ≡ true → list_all p ys ≡ true → list_all p (xs ++ ys) ≡ true
-list_all-append p [] ys e f = f
-list_all-append p (x ∷ xs) ys e f = both (p x) (list_all p xs) e (λ h. list_all-append p xs ys h f)
-  where
-    both : (a b : Bool) → (a && b) ≡ true → (b ≡ true → list_all p (xs ++ ys) ≡ true) → (a && list_all p (xs ++ ys)) ≡ true
-    both true b e g = g e
-    both false b e g = absurd (let f : false ≡ true = e in cc)
-
-fit_if : (p : List ℕ → Bool) (b : Bool) (r : Remainder) → remainder_fits p r ≡ true → remainders_fit p (if b then r ∷ [] else []) ≡ true
+fit_if : (p : List ℕ → Bool) (b : Bool) (r : Remainder) → remainder_fits p r ≡ true
+    → remainders_fit p (if b then r ∷ [] else []) ≡ true
 fit_if p true r h = rw h refl
 fit_if p false r h = refl
 
-or_cases : (p : List ℕ → Bool) (l level : List ℕ) (a b : Bool) → (a || b) ≡ true → (a ≡ true → p l ≡ true) → (b ≡ true → p l ≡ true) → p l ≡ true
+or_cases : (p : List ℕ → Bool) (l level : List ℕ) (a b : Bool) → (a || b) ≡ true
+    → (a ≡ true → p l ≡ true) → (b ≡ true → p l ≡ true) → p l ≡ true
 or_cases p l level true b e f g = f refl
 or_cases p l level false b e f g = g e
 
-pub text_is : (a b : List ℕ) → bytes_eq a b ≡ true → a ≡ b
-text_is a b e = (bytes_eq-Decides a b).0 e
-
-pub fit_level : (p : List ℕ → Bool) (next : Remainder) (level : List ℕ) (old new : Branches) → p level ≡ true → remainder_fits p next ≡ true
-    → ((l : List ℕ) → at l new ≡ at l old ++ (if bytes_eq l level then next ∷ [] else [])) → ((l : List ℕ) → has l new ≡ (has l old || bytes_eq l level)) → new.any.items ≡ old.any.items
+pub fit_level : (p : List ℕ → Bool) (next : Remainder) (level : List ℕ) (old new : Branches)
+    → p level ≡ true → remainder_fits p next ≡ true
+    → ((l : List ℕ) → at l new ≡ at l old ++ (if bytes_eq l level then next ∷ [] else []))
+    → ((l : List ℕ) → has l new ≡ (has l old || bytes_eq l level))
+    → new.any.items ≡ old.any.items
     → BranchesFit p old → BranchesFit p new
 fit_level p next level old new q h a k e b = record {
-  named = λ l n. or_cases p l level (has l old) (bytes_eq l level) (sym (k l) ∙ n) (b.named l) (λ s. ap p (text_is l level s) ∙ q);
-  behind = λ l. ap (remainders_fit p) (a l) ∙ list_all-append (remainder_fits p) (at l old) (if bytes_eq l level then next ∷ [] else []) (b.behind l) (fit_if p (bytes_eq l level) next h);
+  named = λ l n. or_cases p l level (has l old) (bytes_eq l level) (sym (k l) ∙ n) (b.named l)
+      (λ s. ap p (text_is l level s) ∙ q);
+  behind = λ l. ap (remainders_fit p) (a l)
+      ∙ list_all-append (remainder_fits p) (at l old) (if bytes_eq l level then next ∷ [] else [])
+      ∙ and_from (list_all (remainder_fits p) (at l old))
+      (list_all (remainder_fits p) (if bytes_eq l level then next ∷ [] else [])) (b.behind l)
+      (fit_if p (bytes_eq l level) next h);
   any = ap (remainders_fit p) e ∙ b.any;
 }
 
 -- the branches of the first remainders; all of them fit
-pub record IsBranchedTo (done all : List Remainder) (marks : MarkLevels) (b : Branches) : Type 0 where
+pub record IsBranchedTo (done all : List Remainder) (marks : MarkLevels) (b : Branches) :
+    Type 0 where
   pub branched : IsBranched done marks b
-  pub fit : (p : List ℕ → Bool) → marks_pass p marks ≡ true → remainders_fit p all ≡ true → BranchesFit p b
+  pub fit : (p : List ℕ → Bool) → marks_pass p marks ≡ true → remainders_fit p all ≡ true
+      → BranchesFit p b
 
-pub and_left : (a b : Bool) → (a && b) ≡ true → a ≡ true
-and_left true b e = refl
-and_left false b e = e
-
-pub and_right : (a b : Bool) → (a && b) ≡ true → b ≡ true
-and_right true b e = e
-and_right false b e = absurd (let f : false ≡ true = e in cc)
-
-pub all_at : {A : Type 0} (p : A → Bool) (xs : List A) (i : ℕ) (d : A) → i < length xs → list_all p xs ≡ true → p (get_or xs i d) ≡ true
+pub all_at : {A : Type 0} (p : A → Bool) (xs : List A) (i : ℕ) (d : A) → i < length xs
+    → list_all p xs ≡ true → p (get_or xs i d) ≡ true
 all_at p [] i d h f = absurd (omega arith)
-all_at p (y ∷ ys) zero d h f = and_left (p y) (list_all p ys) f
-all_at p (y ∷ ys) (suc i) d h f = all_at p ys i d (omega arith) (and_right (p y) (list_all p ys) f)
+all_at p (y ∷ ys) zero d h f = (and_parts (p y) (list_all p ys) f).0
+all_at p (y ∷ ys) (suc i) d h f = all_at p ys i d (omega arith)
+    (and_parts (p y) (list_all p ys) f).1
 
-pub branched_more : (rs : List Remainder) (i : ℕ) (d : Remainder) (marks : MarkLevels) (old new : Branches) → i < length rs
-    → ((xs : List Remainder) → IsBranched xs marks old → IsBranched (xs ++ get_or rs i d ∷ []) marks new)
-    → ((p : List ℕ → Bool) → marks_pass p marks ≡ true → remainder_fits p (get_or rs i d) ≡ true → BranchesFit p old → BranchesFit p new)
+pub branched_more : (rs : List Remainder) (i : ℕ) (d : Remainder) (marks : MarkLevels)
+    (old new : Branches) → i < length rs
+    → ((xs : List Remainder) → IsBranched xs marks old
+    → IsBranched (xs ++ get_or rs i d ∷ []) marks new)
+    → ((p : List ℕ → Bool) → marks_pass p marks ≡ true → remainder_fits p (get_or rs i d) ≡ true
+    → BranchesFit p old → BranchesFit p new)
     → IsBranchedTo (take i rs) rs marks old → IsBranchedTo (take (i + 1) rs) rs marks new
 branched_more rs i d marks old new h f g b = record {
-  branched = subst (λ xs. IsBranched xs marks new) (sym (take_at_read rs i d h).1) (f (take i rs) b.branched);
+  branched = subst (λ xs. IsBranched xs marks new) (sym (take_at_read rs i d h).1)
+      (f (take i rs) b.branched);
   fit = λ p m all. g p m (all_at (remainder_fits p) rs i d h all) (b.fit p m all);
 }
 
-pub branched_all : (rs : List Remainder) (i : ℕ) (marks : MarkLevels) (b : Branches) → length rs ≤ i → IsBranchedTo (take i rs) rs marks b → IsBranched rs marks b
+pub branched_all : (rs : List Remainder) (i : ℕ) (marks : MarkLevels) (b : Branches) → length rs ≤ i
+    → IsBranchedTo (take i rs) rs marks b → IsBranched rs marks b
 branched_all rs i marks b h t = subst (λ xs. IsBranched xs marks b) (take_all i rs h) t.branched

@@ -1,5 +1,7 @@
+pub mod TextLemmas
+pub mod NameLemmas
 pub mod RemainderLemmas
-pub mod BranchLemmas
-pub mod LevelLemmas
-pub mod EndLemmas
-pub mod WalkLemmas
+mod BranchLemmas
+mod LevelLemmas
+mod EndLemmas
+mod WalkLemmas

@@ -18,7 +18,8 @@ has level b = is_some (get_by (λ k. slice_cmp nat_cmp level k.now) b.named)
 
 -- what they say of a name that goes on with a level is what these remainders do
 pub record IsBranched (rs : List Remainder) (marks : MarkLevels) (b : Branches) : Type 0 where
-  pub hits : (deny : Bool) (l : List ℕ) (ls : List (List ℕ)) → hit deny marks (l ∷ ls) rs ≡ (hit deny marks ls (at l b) || hit deny marks ls b.any.items)
+  pub hits : (deny : Bool) (l : List ℕ) (ls : List (List ℕ))
+      → hit deny marks (l ∷ ls) rs ≡ (hit deny marks ls (at l b) || hit deny marks ls b.any.items)
 
 -- each level that is named passes the test, and so do the levels of the remainders
 pub record BranchesFit (p : List ℕ → Bool) (b : Branches) : Type 0 where

@@ -12,7 +12,8 @@ use Rattle.mq_walk.specs.declared.start.Start.TheVariants.{Plain, Dollar, Slash,
 abbrev pub is_among : List ℕ → List (Bor (List ℕ)) → Bool
 is_among level levels = list_any (λ other. bytes_eq level other.now) levels
 
--- whether a name may go on with this level: at its front its first byte tells the two kinds of names apart
+-- whether a name may go on with this level: at its front its first byte tells the two kinds of
+-- names apart
 abbrev pub fits_start : Start → List ℕ → Bool
 fits_start Plain level = not (begins_with_dollar level)
 fits_start Dollar level = begins_with_dollar level
@@ -45,16 +46,19 @@ start_of false = Plain
 abbrev pub can_be_level : List ℕ → Bool
 can_be_level text = is_plain text && not (contains_byte 0 text) && not (contains_byte 47 text)
 
--- a level of a name that is short enough: 200 of them and the slashes between them are at most 65,535 bytes
+-- a level of a name that is short enough: 200 of them and the slashes between them are at most
+-- 65,535 bytes
 abbrev pub is_name_level : List ℕ → Bool
 is_name_level level = can_be_level level && nat_le (length level) 321
 
 -- each can be a level where it is to stand
 abbrev pub are_others : Others → Bool
 are_others others =
-    not (length others.plain.now == 0) && not (begins_with_dollar others.plain.now) && is_name_level others.plain.now
+    not (length others.plain.now == 0) && not (begins_with_dollar others.plain.now)
+    && is_name_level others.plain.now
     && begins_with_dollar others.dollar.now && is_name_level others.dollar.now
 
 -- a level of a name, and none that stands for others
 abbrev pub is_choice : Others → List ℕ → Bool
-is_choice others level = is_name_level level && not (bytes_eq level others.plain.now) && not (bytes_eq level others.dollar.now)
+is_choice others level = is_name_level level && not (bytes_eq level others.plain.now)
+    && not (bytes_eq level others.dollar.now)

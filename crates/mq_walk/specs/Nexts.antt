@@ -10,8 +10,11 @@ use Rattle.mq_walk.specs.declared.remainder.Next.TheVariants.{Never, Always, At}
 -- what is covered of a name that goes on with a level
 abbrev pub GoesOn : MarkLevels → Remainder → Next → Type 0
 GoesOn marks r Never = (l : List ℕ) (ls : List (List ℕ)) → covers marks (l ∷ ls) r ≡ false
-GoesOn marks r (Always next) = (next.deny ≡ r.deny) × ((l : List ℕ) (ls : List (List ℕ)) → covers marks (l ∷ ls) r ≡ covers marks ls next)
-GoesOn marks r (At level next) = (next.deny ≡ r.deny) × ((l : List ℕ) (ls : List (List ℕ)) → covers marks (l ∷ ls) r ≡ (bytes_eq l level.now && covers marks ls next))
+GoesOn marks r (Always next) = (next.deny ≡ r.deny)
+    × ((l : List ℕ) (ls : List (List ℕ)) → covers marks (l ∷ ls) r ≡ covers marks ls next)
+GoesOn marks r (At level next) = (next.deny ≡ r.deny)
+    × ((l : List ℕ) (ls : List (List ℕ)) → covers marks (l ∷ ls) r
+    ≡ (bytes_eq l level.now && covers marks ls next))
 
 -- it goes on with the level that a mark stands for, if any
 abbrev pub at_mark : Option (Bor (List ℕ)) → Remainder → Next

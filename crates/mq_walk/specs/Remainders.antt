@@ -1,4 +1,5 @@
--- What is left of the rows of a list behind the first levels of a name, and what they allow of the levels that follow.
+-- What is left of the rows of a list behind the first levels of a name, and what they allow of the
+-- levels that follow.
 use Rattle.std.specs.Prelude.{◌≡◌, ◌≤◌, ℕ, Bool, true, false, List, [], ◌∷◌, length, codes, ◌&&◌, ◌||◌, not, ◌==◌, if◌then◌else◌, Option, Some, None}
 use Rattle.std.specs.List.{list_any, list_all}
 use Rattle.std.specs.Option.{option_copied}
@@ -19,7 +20,8 @@ pub record MarkLevels : Type 0 where
 abbrev pub marks_view : Marks → MarkLevels
 marks_view marks = record { client = option_copied marks.client; user = option_copied marks.user }
 
--- a level of a filter passes a level of a name; `%c` and `%u` stand for others in a `pattern` row alone
+-- a level of a filter passes a level of a name; `%c` and `%u` stand for others in a `pattern` row
+-- alone
 abbrev pub passes : Bool → MarkLevels → List ℕ → List ℕ → Bool
 passes pattern marks wanted level =
     if pattern && bytes_eq wanted (codes "%c") then is_user level marks.client
@@ -51,7 +53,8 @@ gains marks ls old new = allow marks ls new && not (allow marks ls old)
 -- each level of a filter passes the test, but for `+`, and `#` at the end
 abbrev pub fits : (List ℕ → Bool) → List (List ℕ) → Bool
 fits p [] = true
-fits p (l ∷ ls) = (bytes_eq l (codes "+") || (bytes_eq l (codes "#") && (length ls == 0)) || p l) && fits p ls
+fits p (l ∷ ls) = (bytes_eq l (codes "+") || (bytes_eq l (codes "#") && (length ls == 0)) || p l)
+    && fits p ls
 
 abbrev pub remainder_fits : (List ℕ → Bool) → Remainder → Bool
 remainder_fits p r = fits p (levels_left r.rest)
@@ -68,10 +71,12 @@ marks_pass p marks = mark_passes p marks.client && mark_passes p marks.user
 
 -- no name that goes on with at most n levels is gained
 abbrev pub GainsNothing : Start → ℕ → MarkLevels → List Remainder → List Remainder → Type 0
-GainsNothing start n marks old new = (ls : List (List ℕ)) → suits start ls ≡ true → length ls ≤ n → gains marks ls old new ≡ false
+GainsNothing start n marks old new = (ls : List (List ℕ)) → suits start ls ≡ true → length ls ≤ n
+    → gains marks ls old new ≡ false
 
 -- a name that goes on with these levels, at most n, is gained
-pub record IsGain (start : Start) (n : ℕ) (marks : MarkLevels) (old new : List Remainder) (ls : List (List ℕ)) : Type 0 where
+pub record IsGain (start : Start) (n : ℕ) (marks : MarkLevels) (old new : List Remainder)
+    (ls : List (List ℕ)) : Type 0 where
   pub suitable : suits start ls ≡ true
   pub few : length ls ≤ n
   pub gained : gains marks ls old new ≡ true

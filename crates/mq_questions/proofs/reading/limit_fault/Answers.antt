@@ -10,5 +10,7 @@ returns c = record {
   rows_usable = c.in_default.ensures;
   client_short = omega arith;
   user_short = sym c.is_short_user.ensures ∙ c.if-not-is_short_user.false;
-  filter_short = filter_usable c.args.filter.now c.text.ensures.valid (ap (λ t. list_all (λ level. nat_le (length level) 300) (levels t)) (sym c.text.ensures.text) ∙ sym c.is_short.ensures ∙ c.if-not-is_short.false);
+  filter_short = filter_usable c.args.filter.now c.text.ensures.valid
+      (ap (λ t. list_all (λ level. nat_le (length level) 300) (levels t)) (sym c.text.ensures.text)
+      ∙ sym c.is_short.ensures ∙ c.if-not-is_short.false);
 }

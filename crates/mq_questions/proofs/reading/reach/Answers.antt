@@ -6,4 +6,6 @@ use Rattle.mq_questions.proofs.reading.reach.Goals as goal
 pub returns-clause-none : goal.returns-clause-none
 returns-clause-none c =
     let plain = rw c.in_default-2.is at c.in_ok-name.ensures.none in
-    none_then c.in_ok-dollar_name.dollar_name (λ dollar name valid m. either (begins_with_dollar name) (λ d. plain name valid d m) (λ d. dollar name valid d m)) c.in_ok-dollar_name.ensures.none
+    none_then c.in_ok-dollar_name.dollar_name
+    (λ dollar name valid m. either (begins_with_dollar name) (λ d. plain name valid d m)
+    (λ d. dollar name valid d m)) c.in_ok-dollar_name.ensures.none

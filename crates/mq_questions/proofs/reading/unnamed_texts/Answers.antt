@@ -12,14 +12,28 @@ pub find-requires : goal.find-requires
 find-requires c =
     let rows = row_views c.args.rows.now in
     let user = option_copied c.args.user in
-    let named = λ (l : List ℕ). c.in_ok-add_mark.ensures l ∙ ap (λ b. b || is_user l user) (c.in_ok-add.ensures l ∙ ap (λ b. b || bytes_eq l c.args.client.now)
-    (c.in_ok-add_levels.ensures l ∙ (λ i. (c.in_ok-add_rows.ensures l ∙ ap (λ b. b || rows_name l rows) (c.new-literals.ensures l)) i || is_literal_in l (levels (c.text.ensures.text i))))) in
-    record { short = λ l h. names_size rows c.args.client.now user c.args.filter.now c.requires l (sym (named l) ∙ h) }
+    let named = λ (l : List ℕ). c.in_ok-add_mark.ensures l
+    ∙ ap (λ b. b || is_user l user) (c.in_ok-add.ensures l
+    ∙ ap (λ b. b || bytes_eq l c.args.client.now)
+    (c.in_ok-add_levels.ensures l
+    ∙ (λ i. (c.in_ok-add_rows.ensures l
+    ∙ ap (λ b. b || rows_name l rows) (c.new-literals.ensures l)) i
+    || is_literal_in l (levels (c.text.ensures.text i))))) in
+    record {
+      short = λ l h. names_size rows c.args.client.now user c.args.filter.now c.requires l
+          (sym (named l) ∙ h);
+    }
 
 pub returns : goal.returns
 returns c = λ fresh seen.
     let rows = row_views c.args.rows.now in
     let user = option_copied c.args.user in
-    let named = λ (l : List ℕ). c.in_ok-add_mark.ensures l ∙ ap (λ b. b || is_user l user) (c.in_ok-add.ensures l ∙ ap (λ b. b || bytes_eq l c.args.client.now)
-    (c.in_ok-add_levels.ensures l ∙ (λ i. (c.in_ok-add_rows.ensures l ∙ ap (λ b. b || rows_name l rows) (c.new-literals.ensures l)) i || is_literal_in l (levels (c.text.ensures.text i))))) in
-    are_apart rows c.args.client.now user c.args.filter.now c.in_ok-texts.texts c.add_mark.new.self fresh c.requires named c.in_ok-texts.ensures seen
+    let named = λ (l : List ℕ). c.in_ok-add_mark.ensures l
+    ∙ ap (λ b. b || is_user l user) (c.in_ok-add.ensures l
+    ∙ ap (λ b. b || bytes_eq l c.args.client.now)
+    (c.in_ok-add_levels.ensures l
+    ∙ (λ i. (c.in_ok-add_rows.ensures l
+    ∙ ap (λ b. b || rows_name l rows) (c.new-literals.ensures l)) i
+    || is_literal_in l (levels (c.text.ensures.text i))))) in
+    are_apart rows c.args.client.now user c.args.filter.now c.in_ok-texts.texts c.add_mark.new.self
+    fresh c.requires named c.in_ok-texts.ensures seen

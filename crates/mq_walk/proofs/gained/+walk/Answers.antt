@@ -1,10 +1,11 @@
-use Rattle.std.proofs.Common.{ℕ, List, [], ◌∷◌, length, sym, ◌∙◌, ap, ◌-◌, get_or, subst, Bor, arith}
+use Rattle.std.proofs.Common.{◌≤◌, ℕ, List, [], ◌∷◌, length, sym, ◌∙◌, ap, ◌-◌, get_or, subst, Bor, arith}
 use Rattle.std.specs.List.{All}
 use Rattle.mq_walk.specs.Paths.{levels_of, all_levels}
 use Rattle.mq_walk.specs.Remainders.{marks_view, GainsNothing, IsGain}
 use Rattle.mq_walk.specs.Names.{is_among, is_choice, is_name_level, fits_start}
 use Rattle.mq_walk.specs.Choices.{all_choices, other_at}
-use Rattle.mq_walk.proofs.WalkLemmas.{behind_hits, behind_fits, gains_longer, no_parts, tried_none, tried_more, other_is, tried_all, each_here, no_gain_here, nothing_here, nothing_settled, choice_is_level, choice_at}
+use Rattle.mq_walk.proofs.WalkLemmas.{behind_hits, behind_fits, gains_longer, no_parts, tried_none, tried_more, other_is, tried_all, each_here, no_gain_here, nothing_here, nothing_settled, choice_at}
+use Rattle.mq_walk.proofs.NameLemmas.{choice_is_level}
 use Rattle.mq_walk.proofs.gained.+walk.Goals as goal
 
 abbrev none : Bor (List ℕ)
@@ -12,23 +13,34 @@ none = record { ref_ptr = (0, 0); now = [] }
 
 pub returns-then-budget-eq0-clause-none : goal.returns-then-budget-eq0-clause-none
 returns-then-budget-eq0-clause-none t c = λ e.
-    nothing_here (marks_view c.args.marks) c.args.start c.args.budget c.args.old.now c.args.new.now c.if-budget-eq0.true (no_gain_here levels_of c.in_ok-paths.paths.items _ c.in_ok-paths.ensures e)
+    nothing_here (marks_view c.args.marks) c.args.start c.args.budget c.args.old.now c.args.new.now
+    c.if-budget-eq0.true (no_gain_here levels_of c.in_ok-paths.paths.items _
+    c.in_ok-paths.ensures e)
 
 pub returns-then-budget-eq0-clause-each : goal.returns-then-budget-eq0-clause-each
-returns-then-budget-eq0-clause-each t c = each_here (marks_view c.args.marks) c.args.start c.args.budget c.args.old.now c.args.new.now c.in_ok-paths.paths.items c.in_ok-paths.ensures
+returns-then-budget-eq0-clause-each t c =
+    each_here (marks_view c.args.marks) c.args.start c.args.budget c.args.old.now c.args.new.now
+    c.in_ok-paths.paths.items c.in_ok-paths.ensures
 
 pub returns-then-is_settled-clause-none : goal.returns-then-is_settled-clause-none
 returns-then-is_settled-clause-none t c = λ e.
-    nothing_settled (marks_view c.args.marks) c.args.start c.args.budget c.args.old.now c.args.new.now (c.is_settled.ensures.ends c.if-is_settled.true) (no_gain_here levels_of c.in_ok-paths.paths.items _ c.in_ok-paths.ensures e) (c.is_settled.ensures.same c.if-is_settled.true)
+    nothing_settled (marks_view c.args.marks) c.args.start c.args.budget c.args.old.now
+    c.args.new.now (c.is_settled.ensures.ends c.if-is_settled.true)
+    (no_gain_here levels_of c.in_ok-paths.paths.items _ c.in_ok-paths.ensures e)
+    (c.is_settled.ensures.same c.if-is_settled.true)
 
 pub returns-then-is_settled-clause-each : goal.returns-then-is_settled-clause-each
-returns-then-is_settled-clause-each t c = each_here (marks_view c.args.marks) c.args.start c.args.budget c.args.old.now c.args.new.now c.in_ok-paths.paths.items c.in_ok-paths.ensures
+returns-then-is_settled-clause-each t c =
+    each_here (marks_view c.args.marks) c.args.start c.args.budget c.args.old.now c.args.new.now
+    c.in_ok-paths.paths.items c.in_ok-paths.ensures
 
 pub loop-level-init : goal.loop-level-init
 loop-level-init t c = record {
   here = λ e. no_gain_here levels_of c.in_ok-paths.paths.items _ c.in_ok-paths.ensures e;
-  tried = λ e. tried_none (marks_view c.args.marks) c.args.start (c.args.budget - 1) c.args.old.now c.args.new.now c.deref-level-items.result.now;
-  each = each_here (marks_view c.args.marks) c.args.start c.args.budget c.args.old.now c.args.new.now c.in_ok-paths.paths.items c.in_ok-paths.ensures;
+  tried = λ e. tried_none (marks_view c.args.marks) c.args.start (c.args.budget - 1) c.args.old.now
+      c.args.new.now c.deref-level-items.result.now;
+  each = each_here (marks_view c.args.marks) c.args.start c.args.budget c.args.old.now
+      c.args.new.now c.in_ok-paths.paths.items c.in_ok-paths.ensures;
 }
 
 pub walk-requires : goal.walk-requires
@@ -43,8 +55,12 @@ walk-requires t c =
           (
             omega arith,
             (
-              behind_fits p c.in_ok-old_branches.old_branches level c.deref.result.now (c.in_ok-old_branches.ensures.fit p c.requires.marks c.requires.old) (c.deref.ensures.value ∙ c.in_ok-old.ensures),
-              behind_fits p c.in_ok-new_branches.new_branches level c.deref-in-loop-level.result.now (c.in_ok-new_branches.ensures.fit p c.requires.marks c.requires.new) (c.deref-in-loop-level.ensures.value ∙ c.in_ok-new.ensures),
+              behind_fits p c.in_ok-old_branches.old_branches level c.deref.result.now
+                  (c.in_ok-old_branches.ensures.fit p c.requires.marks c.requires.old)
+                  (c.deref.ensures.value ∙ c.in_ok-old.ensures),
+              behind_fits p c.in_ok-new_branches.new_branches level c.deref-in-loop-level.result.now
+                  (c.in_ok-new_branches.ensures.fit p c.requires.marks c.requires.new)
+                  (c.deref-in-loop-level.ensures.value ∙ c.in_ok-new.ensures),
             ),
           ),
         ),
@@ -61,22 +77,40 @@ loop-level-preserved t c =
     let level = (get_or items i none).now in
     let choice = choice_at c.args.start is_name_level items i none c.loop-level-test.true
     (ap (all_choices c.args.start is_name_level) c.deref-level-items.ensures.value
-    ∙ c.in_ok-levels.ensures.each is_name_level (ap is_name_level c.at.ensures ∙ other.valid) (ap (fits_start c.args.start) c.at.ensures ∙ other.fit)
-    (λ l h. choice_is_level c.args.others l ((c.in_ok-old_branches.ensures.fit p c.requires.marks c.requires.old).named l h))
-    (λ l h. choice_is_level c.args.others l ((c.in_ok-new_branches.ensures.fit p c.requires.marks c.requires.new).named l h))) in
-    let old_behind = behind_hits marks c.args.old.now c.in_ok-old_branches.old_branches level c.deref.result.now c.in_ok-old_branches.ensures.branched (c.deref.ensures.value ∙ c.in_ok-old.ensures) in
-    let new_behind = behind_hits marks c.args.new.now c.in_ok-new_branches.new_branches level c.deref-in-loop-level.result.now c.in_ok-new_branches.ensures.branched (c.deref-in-loop-level.ensures.value ∙ c.in_ok-new.ensures) in
-    let parts = no_parts levels_of c.loop-level.paths.items c.in_ok-behind.behind.items c.add_longer.new.paths.items (λ ls. level ∷ ls) c.in_ok-add_longer.ensures in
+    ∙ c.in_ok-levels.ensures.each is_name_level (ap is_name_level c.at.ensures ∙ other.valid)
+    (ap (fits_start c.args.start) c.at.ensures ∙ other.fit)
+    (λ l h. choice_is_level c.args.others l
+    ((c.in_ok-old_branches.ensures.fit p c.requires.marks c.requires.old).named l h))
+    (λ l h. choice_is_level c.args.others l
+    ((c.in_ok-new_branches.ensures.fit p c.requires.marks c.requires.new).named l h))) in
+    let old_behind = behind_hits marks c.args.old.now c.in_ok-old_branches.old_branches level
+    c.deref.result.now c.in_ok-old_branches.ensures.branched
+    (c.deref.ensures.value ∙ c.in_ok-old.ensures) in
+    let new_behind = behind_hits marks c.args.new.now c.in_ok-new_branches.new_branches level
+    c.deref-in-loop-level.result.now c.in_ok-new_branches.ensures.branched
+    (c.deref-in-loop-level.ensures.value ∙ c.in_ok-new.ensures) in
+    let parts = no_parts levels_of c.loop-level.paths.items c.in_ok-behind.behind.items
+    c.add_longer.new.paths.items (λ ls. level ∷ ls) c.in_ok-add_longer.ensures in
     record {
       here = λ e. c.loop-level.invariant.here (parts e).0;
       tried = λ e.
-          tried_more marks c.args.start (c.args.budget - 1) c.args.old.now c.args.new.now c.deref.result.now c.deref-in-loop-level.result.now items i none c.loop-level-test.true old_behind new_behind
-          (subst (λ start. GainsNothing start (c.args.budget - 1) marks c.deref.result.now c.deref-in-loop-level.result.now) c.behind-in-loop-level-2.ensures (c.in_ok-behind.ensures.none (parts e).1)) (c.loop-level.invariant.tried (parts e).0);
+          tried_more marks c.args.start (c.args.budget - 1) c.args.old.now c.args.new.now
+          c.deref.result.now c.deref-in-loop-level.result.now items i none
+          c.loop-level-test.true old_behind new_behind
+          (subst (λ start. GainsNothing start (c.args.budget - 1) marks c.deref.result.now
+          c.deref-in-loop-level.result.now) c.behind-in-loop-level-2.ensures
+          (c.in_ok-behind.ensures.none (parts e).1))
+          (c.loop-level.invariant.tried (parts e).0);
       each =
-          gains_longer marks c.args.start c.args.budget (c.args.budget - 1) c.args.old.now c.args.new.now c.deref.result.now c.deref-in-loop-level.result.now level
-          (all_levels c.loop-level.paths.items) (all_levels c.in_ok-behind.behind.items) (all_levels c.add_longer.new.paths.items)
-          (omega (arith, c.if-budget-eq0.false)) choice.0 choice.1 old_behind new_behind c.in_ok-add_longer.ensures c.loop-level.invariant.each
-          (subst (λ start. All (IsGain start (c.args.budget - 1) marks c.deref.result.now c.deref-in-loop-level.result.now) (all_levels c.in_ok-behind.behind.items)) c.behind-in-loop-level-2.ensures c.in_ok-behind.ensures.each);
+          gains_longer marks c.args.start c.args.budget (c.args.budget - 1) c.args.old.now
+          c.args.new.now c.deref.result.now c.deref-in-loop-level.result.now level
+          (all_levels c.loop-level.paths.items) (all_levels c.in_ok-behind.behind.items)
+          (all_levels c.add_longer.new.paths.items)
+          (omega (arith, c.if-budget-eq0.false)) choice.0 choice.1 old_behind new_behind
+          c.in_ok-add_longer.ensures c.loop-level.invariant.each
+          (subst (λ start. All (IsGain start (c.args.budget - 1) marks c.deref.result.now
+          c.deref-in-loop-level.result.now) (all_levels c.in_ok-behind.behind.items))
+          c.behind-in-loop-level-2.ensures c.in_ok-behind.ensures.each);
     }
 
 pub returns-then-len-most-clause-none : goal.returns-then-len-most-clause-none
@@ -90,11 +124,16 @@ returns-clause-none t c = λ e.
     let marks = marks_view c.args.marks in
     let p = is_choice c.args.others in
     let value = c.deref-level-items.ensures.value in
-    tried_all marks c.args.start c.args.budget c.args.others c.args.old.now c.args.new.now c.in_ok-old_branches.old_branches c.in_ok-new_branches.new_branches
-    c.deref-level-items.result.now c.loop-level.level-index c.requires.others c.loop-level-test.false (c.loop-level.invariant.here e)
+    tried_all marks c.args.start c.args.budget c.args.others c.args.old.now c.args.new.now
+    c.in_ok-old_branches.old_branches c.in_ok-new_branches.new_branches
+    c.deref-level-items.result.now c.loop-level.level-index c.requires.others
+    c.loop-level-test.false (c.loop-level.invariant.here e)
     c.in_ok-old_branches.ensures.branched c.in_ok-new_branches.ensures.branched
-    (c.in_ok-old_branches.ensures.fit p c.requires.marks c.requires.old) (c.in_ok-new_branches.ensures.fit p c.requires.marks c.requires.new)
-    (ap (is_among (other_at c.args.start c.args.others)) value ∙ ap (λ l. is_among l c.in_ok-levels.levels.items) (sym c.at.ensures) ∙ c.in_ok-levels.ensures.other)
+    (c.in_ok-old_branches.ensures.fit p c.requires.marks c.requires.old)
+    (c.in_ok-new_branches.ensures.fit p c.requires.marks c.requires.new)
+    (ap (is_among (other_at c.args.start c.args.others)) value
+    ∙ ap (λ l. is_among l c.in_ok-levels.levels.items) (sym c.at.ensures)
+    ∙ c.in_ok-levels.ensures.other)
     (λ l f h. ap (is_among l) value ∙ c.in_ok-levels.ensures.old l f h)
     (λ l f h. ap (is_among l) value ∙ c.in_ok-levels.ensures.new l f h)
     (c.loop-level.invariant.tried e)

@@ -10,7 +10,10 @@ returns c = λ l.
     let user = option_copied c.args.user in
     let first = c.in_ok-add.ensures l ∙ ap (λ b. b || bytes_eq l []) (c.new-named.ensures l) in
     let second = c.in_ok-add_mark.ensures l ∙ ap (λ b. b || is_user l user) first in
-    let third = c.in_ok-add_remainders.ensures l ∙ ap (λ b. b || is_literal_of l c.args.old.now) second in
-    let fourth = c.in_ok-add_remainders-2.ensures l ∙ ap (λ b. b || is_literal_of l c.args.new.now) third in
-    c.in_ok-all.ensures l ∙ ap (λ b. bytes_eq l c.args.fresh.client.now || (bytes_eq l c.args.fresh.dollar_client.now || b)) fourth
+    let third = c.in_ok-add_remainders.ensures l
+    ∙ ap (λ b. b || is_literal_of l c.args.old.now) second in
+    let fourth = c.in_ok-add_remainders-2.ensures l
+    ∙ ap (λ b. b || is_literal_of l c.args.new.now) third in
+    c.in_ok-all.ensures l ∙ ap (λ b. bytes_eq l c.args.fresh.client.now
+    || (bytes_eq l c.args.fresh.dollar_client.now || b)) fourth
     ∙ tried_as_listed c.args.fresh user c.args.old.now c.args.new.now l

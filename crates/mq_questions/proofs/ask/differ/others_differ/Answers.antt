@@ -5,4 +5,6 @@ use Rattle.mq_questions.proofs.ask.differ.others_differ.Goals as goal
 
 pub returns-clause-same : goal.returns-clause-same
 returns-clause-same c = λ e user unlisted.
-    both_ways (all_rows c.args.one) (all_rows c.args.other) (Some user) (c.in_ok-others_differ_in.ensures.same c.if-branch.false user unlisted) (c.in_ok-writing.ensures.same e user unlisted)
+    both_ways (all_rows c.args.one) (all_rows c.args.other) (Some user)
+    (c.in_ok-others_differ_in.ensures.same c.if-branch.false user unlisted)
+    (c.in_ok-writing.ensures.same e user unlisted)

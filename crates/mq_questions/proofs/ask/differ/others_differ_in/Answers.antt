@@ -6,17 +6,31 @@ use Rattle.mq_questions.proofs.ask.differ.others_differ_in.Goals as goal
 pub returns-in-Some-clause-differ : goal.returns-in-Some-clause-differ
 returns-in-Some-clause-differ c = λ e.
     let w = c.in-Some.other.now in
-    more_differ (all_rows c.args.one) (all_rows c.args.other) (string_bytes w.witness.client) (Some (string_bytes w.user)) w.witness.name c.args.direction c.shows.ensures.valid
-    (first_passes (λ w. gained (all_rows c.args.one) (all_rows c.args.other) (string_bytes w.witness.client) (Some (string_bytes w.user)) w.witness.name c.args.direction ≡ true) c.in_ok-more.more.items c.deref.result.now w c.deref.ensures.value c.in-Some.ensures.value c.in_ok-more.ensures.each)
+    more_differ (all_rows c.args.one) (all_rows c.args.other) (string_bytes w.witness.client)
+    (Some (string_bytes w.user)) w.witness.name c.args.direction c.shows.ensures.valid
+    (first_passes (λ w. gained (all_rows c.args.one) (all_rows c.args.other)
+    (string_bytes w.witness.client) (Some (string_bytes w.user)) w.witness.name
+    c.args.direction ≡ true) c.in_ok-more.more.items c.deref.result.now w
+    c.deref.ensures.value c.in-Some.ensures.value c.in_ok-more.ensures.each)
 
 pub returns-in-Some-first-clause-differ : goal.returns-in-Some-first-clause-differ
 returns-in-Some-first-clause-differ c = λ e.
     let w = c.in-Some-first.other.now in
-    fewer_differ (all_rows c.args.one) (all_rows c.args.other) (string_bytes w.witness.client) (Some (string_bytes w.user)) w.witness.name c.args.direction c.shows-in-Some-first.ensures.valid
-    (first_passes (λ w. gained (all_rows c.args.other) (all_rows c.args.one) (string_bytes w.witness.client) (Some (string_bytes w.user)) w.witness.name c.args.direction ≡ true) c.in_ok-fewer.fewer.items c.deref-2.result.now w c.deref-2.ensures.value c.in-Some-first.ensures.value c.in_ok-fewer.ensures.each)
+    fewer_differ (all_rows c.args.one) (all_rows c.args.other) (string_bytes w.witness.client)
+    (Some (string_bytes w.user)) w.witness.name c.args.direction
+    c.shows-in-Some-first.ensures.valid
+    (first_passes (λ w. gained (all_rows c.args.other) (all_rows c.args.one)
+    (string_bytes w.witness.client) (Some (string_bytes w.user)) w.witness.name
+    c.args.direction ≡ true) c.in_ok-fewer.fewer.items c.deref-2.result.now w
+    c.deref-2.ensures.value c.in-Some-first.ensures.value c.in_ok-fewer.ensures.each)
 
 pub returns-clause-same : goal.returns-clause-same
 returns-clause-same c = λ e user unlisted.
     none_differ (all_rows c.args.one) (all_rows c.args.other) (Some user) c.args.direction
-    (λ client name valid. c.in_ok-more.ensures.none (no_first c.in_ok-more.more.items c.deref.result.now c.first.result c.deref.ensures.value c.first.ensures.value c.in_default.is) user client name unlisted valid)
-    (λ client name valid. c.in_ok-fewer.ensures.none (no_first c.in_ok-fewer.fewer.items c.deref-2.result.now c.first-2.result c.deref-2.ensures.value c.first-2.ensures.value c.in_default-first.is) user client name unlisted valid)
+    (λ client name valid. c.in_ok-more.ensures.none
+    (no_first c.in_ok-more.more.items c.deref.result.now c.first.result c.deref.ensures.value
+    c.first.ensures.value c.in_default.is) user client name unlisted valid)
+    (λ client name valid. c.in_ok-fewer.ensures.none
+    (no_first c.in_ok-fewer.fewer.items c.deref-2.result.now c.first-2.result
+    c.deref-2.ensures.value c.first-2.ensures.value c.in_default-first.is) user client name
+    unlisted valid)

@@ -15,14 +15,19 @@ pub user_differs-requires-clause-user : goal.user_differs-requires-clause-user
 user_differs-requires-clause-user c =
     let items = c.deref-user-items.result.now in
     let user = (get_or items c.loop-user.user-index none).now in
-    c.requires.level user (sym (c.in_ok-users.ensures user) ∙ sym (ap (is_among user) c.deref-user-items.ensures.value) ∙ among_at items c.loop-user.user-index none c.loop-user-test.true)
+    c.requires.level user (sym (c.in_ok-users.ensures user)
+    ∙ sym (ap (is_among user) c.deref-user-items.ensures.value)
+    ∙ among_at items c.loop-user.user-index none c.loop-user-test.true)
 
 pub loop-user-preserved : goal.loop-user-preserved
 loop-user-preserved c =
-    one_more_done (λ u. AllowSame (all_rows c.args.one) (all_rows c.args.other) (Some u)) c.deref-user-items.result.now c.loop-user.user-index none c.loop-user-test.true
+    one_more_done (λ u. AllowSame (all_rows c.args.one) (all_rows c.args.other) (Some u))
+    c.deref-user-items.result.now c.loop-user.user-index none c.loop-user-test.true
     (c.in_ok-user_differs.ensures.same c.if-branch.false) c.loop-user.invariant
 
 pub returns-clause-same : goal.returns-clause-same
 returns-clause-same c = λ e user listed.
-    all_done (λ u. AllowSame (all_rows c.args.one) (all_rows c.args.other) (Some u)) c.deref-user-items.result.now c.loop-user.user-index c.loop-user-test.false c.loop-user.invariant user
+    all_done (λ u. AllowSame (all_rows c.args.one) (all_rows c.args.other) (Some u))
+    c.deref-user-items.result.now c.loop-user.user-index c.loop-user-test.false
+    c.loop-user.invariant user
     (ap (is_among user) c.deref-user-items.ensures.value ∙ c.in_ok-users.ensures user ∙ listed)

@@ -6,4 +6,6 @@ use Rattle.mq_questions.proofs.ask.differ.users_differ.Given as goal
 
 -- the lists allow the users that have been asked for the same
 abbrev pub invariant-loop-user : goal.invariant-loop-user
-invariant-loop-user l = (u : List ℕ) → is_among u l.user-items ≡ true → is_among u (drop l.user-index l.user-items) ≡ false → AllowSame (all_rows l.one) (all_rows l.other) (Some u)
+invariant-loop-user l = (u : List ℕ) → is_among u l.user-items ≡ true
+    → is_among u (drop l.user-index l.user-items) ≡ false
+    → AllowSame (all_rows l.one) (all_rows l.other) (Some u)

@@ -7,11 +7,18 @@ use Rattle.mq_questions.proofs.ask.gain.gains.Goals as goal
 
 pub returns-clause-none : goal.returns-clause-none
 returns-clause-none c = λ e client name v.
-    let parts = none_joined c.in_ok-found.found.items c.in_ok-more.more.items c.append.new.self.items c.in_ok-append.ensures.items
-    (none_taken c.args.most c.append.new.self.items c.truncate-2.new.self.items c.requires.most c.truncate-2.ensures.items e) in
-    either (begins_with_dollar name) (λ d. c.in_ok-found.ensures.none parts.0 client name v d) (λ d. c.in_ok-more.ensures.none parts.1 client name v d)
+    let parts = none_joined c.in_ok-found.found.items c.in_ok-more.more.items
+    c.append.new.self.items c.in_ok-append.ensures.items
+    (none_taken c.args.most c.append.new.self.items c.truncate-2.new.self.items c.requires.most
+    c.truncate-2.ensures.items e) in
+    either (begins_with_dollar name) (λ d. c.in_ok-found.ensures.none parts.0 client name v d)
+    (λ d. c.in_ok-more.ensures.none parts.1 client name v d)
 
 pub returns-clause-each : goal.returns-clause-each
 returns-clause-each c =
-    each_taken (λ w. gained (all_rows c.args.old) (all_rows c.args.new) (string_bytes w.client) (option_copied c.args.user) w.name c.args.direction ≡ true) c.args.most c.in_ok-found.found.items c.in_ok-more.more.items c.append.new.self.items c.truncate-2.new.self.items
-    c.in_ok-append.ensures.items c.truncate-2.ensures.items c.in_ok-found.ensures.each c.in_ok-more.ensures.each
+    each_taken (λ w. gained (all_rows c.args.old) (all_rows c.args.new) (string_bytes w.client)
+    (option_copied c.args.user) w.name c.args.direction ≡ true) c.args.most
+    c.in_ok-found.found.items c.in_ok-more.more.items c.append.new.self.items
+    c.truncate-2.new.self.items
+    c.in_ok-append.ensures.items c.truncate-2.ensures.items c.in_ok-found.ensures.each
+    c.in_ok-more.ensures.each

@@ -13,26 +13,42 @@ use Rattle.mq_questions.proofs.ask.gain.gains_in.Goals as goal
 
 pub show_all-requires : goal.show_all-requires
 show_all-requires c =
-    All-same (IsNamed c.args.scope.dollar) c.deref-3.result.now c.in_ok-gains.gains.items c.deref-3.ensures.value
-    (All-weaker (IsGainOf c.of-start.result (option_copied c.level_of-user.result) c.deref.result.now c.deref-2.result.now) (IsNamed c.args.scope.dollar)
-    (gain_named c.of-start.result c.args.scope.dollar (option_copied c.level_of-user.result) c.deref.result.now c.deref-2.result.now c.of-start.ensures) c.in_ok-gains.gains.items c.in_ok-gains.ensures.each)
+    All-same (IsNamed c.args.scope.dollar) c.deref-3.result.now c.in_ok-gains.gains.items
+    c.deref-3.ensures.value
+    (All-weaker (IsGainOf c.of-start.result (option_copied c.level_of-user.result)
+    c.deref.result.now c.deref-2.result.now) (IsNamed c.args.scope.dollar)
+    (gain_named c.of-start.result c.args.scope.dollar (option_copied c.level_of-user.result)
+    c.deref.result.now c.deref-2.result.now c.of-start.ensures) c.in_ok-gains.gains.items
+    c.in_ok-gains.ensures.each)
 
 pub returns-clause-none : goal.returns-clause-none
 returns-clause-none c = λ e.
     let user = option_copied c.args.scope.user in
-    nothing_gained (all_rows c.args.old) (all_rows c.args.new) c.deref.result.now c.deref-2.result.now user c.args.scope.direction c.args.scope.dollar c.of-start.result
-    (subst (AreRoots (all_rows c.args.old) user c.args.scope.direction c.args.scope.dollar) (sym c.deref.ensures.value) c.in_ok-old_roots.ensures)
-    (subst (AreRoots (all_rows c.args.new) user c.args.scope.direction c.args.scope.dollar) (sym c.deref-2.ensures.value) c.in_ok-new_roots.ensures)
+    nothing_gained (all_rows c.args.old) (all_rows c.args.new) c.deref.result.now
+    c.deref-2.result.now user c.args.scope.direction c.args.scope.dollar c.of-start.result
+    (subst (AreRoots (all_rows c.args.old) user c.args.scope.direction c.args.scope.dollar)
+    (sym c.deref.ensures.value) c.in_ok-old_roots.ensures)
+    (subst (AreRoots (all_rows c.args.new) user c.args.scope.direction c.args.scope.dollar)
+    (sym c.deref-2.ensures.value) c.in_ok-new_roots.ensures)
     c.of-start.ensures
-    (λ t. subst (λ m. GainsNothing c.of-start.result 200 (marks_of t m) c.deref.result.now c.deref-2.result.now) c.level_of-user.ensures
-    (c.in_ok-gains.ensures.none (sym c.deref-3.ensures.value ∙ shown_none shown told c.in_ok-witnesses.witnesses.items c.deref-3.result.now c.in_ok-witnesses.ensures e) t))
+    (λ t. subst (λ m. GainsNothing c.of-start.result 200 (marks_of t m) c.deref.result.now
+    c.deref-2.result.now) c.level_of-user.ensures
+    (c.in_ok-gains.ensures.none (sym c.deref-3.ensures.value
+    ∙ shown_none shown told c.in_ok-witnesses.witnesses.items c.deref-3.result.now
+    c.in_ok-witnesses.ensures e) t))
 
 pub returns-clause-each : goal.returns-clause-each
 returns-clause-each c =
     let user = option_copied c.args.scope.user in
-    each_gained (all_rows c.args.old) (all_rows c.args.new) c.deref.result.now c.deref-2.result.now user c.args.scope.direction c.args.scope.dollar c.of-start.result
-    (subst (AreRoots (all_rows c.args.old) user c.args.scope.direction c.args.scope.dollar) (sym c.deref.ensures.value) c.in_ok-old_roots.ensures)
-    (subst (AreRoots (all_rows c.args.new) user c.args.scope.direction c.args.scope.dollar) (sym c.deref-2.ensures.value) c.in_ok-new_roots.ensures)
-    c.of-start.ensures c.in_ok-witnesses.witnesses.items c.deref-3.result.now c.in_ok-witnesses.ensures
-    (All-same (IsGainOf c.of-start.result (level_of user) c.deref.result.now c.deref-2.result.now) c.deref-3.result.now c.in_ok-gains.gains.items c.deref-3.ensures.value
-    (subst (λ m. All (IsGainOf c.of-start.result m c.deref.result.now c.deref-2.result.now) c.in_ok-gains.gains.items) c.level_of-user.ensures c.in_ok-gains.ensures.each))
+    each_gained (all_rows c.args.old) (all_rows c.args.new) c.deref.result.now c.deref-2.result.now
+    user c.args.scope.direction c.args.scope.dollar c.of-start.result
+    (subst (AreRoots (all_rows c.args.old) user c.args.scope.direction c.args.scope.dollar)
+    (sym c.deref.ensures.value) c.in_ok-old_roots.ensures)
+    (subst (AreRoots (all_rows c.args.new) user c.args.scope.direction c.args.scope.dollar)
+    (sym c.deref-2.ensures.value) c.in_ok-new_roots.ensures)
+    c.of-start.ensures c.in_ok-witnesses.witnesses.items c.deref-3.result.now
+    c.in_ok-witnesses.ensures
+    (All-same (IsGainOf c.of-start.result (level_of user) c.deref.result.now c.deref-2.result.now)
+    c.deref-3.result.now c.in_ok-gains.gains.items c.deref-3.ensures.value
+    (subst (λ m. All (IsGainOf c.of-start.result m c.deref.result.now c.deref-2.result.now)
+    c.in_ok-gains.gains.items) c.level_of-user.ensures c.in_ok-gains.ensures.each))

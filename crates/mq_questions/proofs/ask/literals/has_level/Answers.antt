@@ -7,5 +7,7 @@ use Rattle.mq_questions.proofs.ask.literals.has_level.Goals as goal
 
 pub returns : goal.returns
 returns c =
-    any_from_yields_List (λ w. bytes_eq w c.args.mark.now) _ _ _ c.any.ensures.ran (YieldsList-from_str_split 47 c.in-Some.text.now (lit< tt) c.split.ensures.text c.split.ensures.has_more c.split.ensures.pattern) (λ x b q k. search (rules, tests))
+    any_from_yields_List (λ w. bytes_eq w c.args.mark.now) _ _ _ c.any.ensures.ran
+    (YieldsList-from_str_split 47 c.in-Some.text.now (lit< tt) c.split.ensures.text
+    c.split.ensures.has_more c.split.ensures.pattern) (λ x b q k. search (rules, tests))
     ∙ sym (ap (λ rest. list_any (λ w. bytes_eq w c.args.mark.now) (levels_left rest)) c.in-Some.is)

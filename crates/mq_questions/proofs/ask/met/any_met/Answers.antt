@@ -14,18 +14,26 @@ use Rattle.mq_questions.proofs.ask.met.any_met.Goals as goal
 
 pub returns-then-is_hidden-clause-none : goal.returns-then-is_hidden-clause-none
 returns-then-is_hidden-clause-none c = λ name valid d m.
-    absurd (let k : false ≡ true = sym (hidden_matches c.args.filter.now name c.args.dollar (sym c.is_hidden.ensures ∙ c.if-is_hidden.true) valid d) ∙ m in cc)
+    absurd (let k : false ≡ true =
+    sym (hidden_matches c.args.filter.now name c.args.dollar
+    (sym c.is_hidden.ensures ∙ c.if-is_hidden.true) valid d) ∙ m in cc)
 
 pub returns-clause-none : goal.returns-clause-none
 returns-clause-none c =
     let user = option_copied c.args.user in
     let rows = row_views c.args.rows.now in
     let roots = c.deref-2.result.now in
-    let a = subst (λ r. AreRoots r user Reading c.args.dollar roots) (append-nil rows) (subst (AreRoots _ user Reading c.args.dollar) (sym c.deref-2.ensures.value) c.in_ok-new.ensures) in
+    let a = subst (λ r. AreRoots r user Reading c.args.dollar roots) (append-nil rows)
+    (subst (AreRoots _ user Reading c.args.dollar) (sym c.deref-2.ensures.value)
+    c.in_ok-new.ensures) in
     none_then c.in_ok-name.name
-    (λ e. nothing_met c.args.filter.now rows c.args.client.now user c.args.dollar c.of-start.result c.deref.result.now roots a
-    (λ marks ls. ap (allow marks ls) c.deref.ensures.value ∙ c.in_ok-old.ensures.allow marks ls) c.of-start.ensures
-    (subst (λ m. GainsNothing c.of-start.result 200 m c.deref.result.now roots) (λ i. record { client = c.level_of.ensures i; user = c.level_of-2.ensures i }) (c.in_ok-paths.ensures.none (sym c.deref-3.ensures.value ∙ e))))
+    (λ e. nothing_met c.args.filter.now rows c.args.client.now user c.args.dollar c.of-start.result
+    c.deref.result.now roots a
+    (λ marks ls. ap (allow marks ls) c.deref.ensures.value ∙ c.in_ok-old.ensures.allow marks ls)
+    c.of-start.ensures
+    (subst (λ m. GainsNothing c.of-start.result 200 m c.deref.result.now roots)
+    (λ i. record { client = c.level_of.ensures i; user = c.level_of-2.ensures i })
+    (c.in_ok-paths.ensures.none (sym c.deref-3.ensures.value ∙ e))))
     c.in_ok-name.ensures.none
 
 pub returns-clause-matched : goal.returns-clause-matched
@@ -33,14 +41,23 @@ returns-clause-matched c =
     let user = option_copied c.args.user in
     let rows = row_views c.args.rows.now in
     let roots = c.deref-2.result.now in
-    let a = subst (λ r. AreRoots r user Reading c.args.dollar roots) (append-nil rows) (subst (AreRoots _ user Reading c.args.dollar) (sym c.deref-2.ensures.value) c.in_ok-new.ensures) in
-    let P = IsGain c.of-start.result 200 (level_marks c.args.client.now user) c.deref.result.now roots in
+    let a = subst (λ r. AreRoots r user Reading c.args.dollar roots) (append-nil rows)
+    (subst (AreRoots _ user Reading c.args.dollar) (sym c.deref-2.ensures.value)
+    c.in_ok-new.ensures) in
+    let P = IsGain c.of-start.result 200 (level_marks c.args.client.now user) c.deref.result.now
+    roots in
     let each : All P (all_levels c.in_ok-paths.paths.items) =
-    subst (λ m. All (IsGain c.of-start.result 200 m c.deref.result.now roots) (all_levels c.in_ok-paths.paths.items)) (λ i. record { client = c.level_of.ensures i; user = c.level_of-2.ensures i }) c.in_ok-paths.ensures.each in
+    subst (λ m. All (IsGain c.of-start.result 200 m c.deref.result.now roots)
+    (all_levels c.in_ok-paths.paths.items))
+    (λ i. record { client = c.level_of.ensures i; user = c.level_of-2.ensures i })
+    c.in_ok-paths.ensures.each in
     some_then c.in_ok-name.name
-    (λ name f. (name_met c.args.filter.now rows c.args.client.now user c.args.dollar c.of-start.result c.deref.result.now roots a
-    (λ marks ls. ap (allow marks ls) c.deref.ensures.value ∙ c.in_ok-old.ensures.allow marks ls) c.of-start.ensures (sym c.is_hidden.ensures ∙ c.if-is_hidden.false) name
-    (first_passes P (all_levels c.in_ok-paths.paths.items) (all_levels c.deref-3.result.now) (levels name) (ap all_levels c.deref-3.ensures.value) f each)).0)
+    (λ name f. (name_met c.args.filter.now rows c.args.client.now user c.args.dollar
+    c.of-start.result c.deref.result.now roots a
+    (λ marks ls. ap (allow marks ls) c.deref.ensures.value ∙ c.in_ok-old.ensures.allow marks ls)
+    c.of-start.ensures (sym c.is_hidden.ensures ∙ c.if-is_hidden.false) name
+    (first_passes P (all_levels c.in_ok-paths.paths.items) (all_levels c.deref-3.result.now)
+    (levels name) (ap all_levels c.deref-3.ensures.value) f each)).0)
     c.in_ok-name.ensures.some
 
 pub returns-clause-allowed : goal.returns-clause-allowed
@@ -48,12 +65,21 @@ returns-clause-allowed c =
     let user = option_copied c.args.user in
     let rows = row_views c.args.rows.now in
     let roots = c.deref-2.result.now in
-    let a = subst (λ r. AreRoots r user Reading c.args.dollar roots) (append-nil rows) (subst (AreRoots _ user Reading c.args.dollar) (sym c.deref-2.ensures.value) c.in_ok-new.ensures) in
-    let P = IsGain c.of-start.result 200 (level_marks c.args.client.now user) c.deref.result.now roots in
+    let a = subst (λ r. AreRoots r user Reading c.args.dollar roots) (append-nil rows)
+    (subst (AreRoots _ user Reading c.args.dollar) (sym c.deref-2.ensures.value)
+    c.in_ok-new.ensures) in
+    let P = IsGain c.of-start.result 200 (level_marks c.args.client.now user) c.deref.result.now
+    roots in
     let each : All P (all_levels c.in_ok-paths.paths.items) =
-    subst (λ m. All (IsGain c.of-start.result 200 m c.deref.result.now roots) (all_levels c.in_ok-paths.paths.items)) (λ i. record { client = c.level_of.ensures i; user = c.level_of-2.ensures i }) c.in_ok-paths.ensures.each in
+    subst (λ m. All (IsGain c.of-start.result 200 m c.deref.result.now roots)
+    (all_levels c.in_ok-paths.paths.items))
+    (λ i. record { client = c.level_of.ensures i; user = c.level_of-2.ensures i })
+    c.in_ok-paths.ensures.each in
     some_then c.in_ok-name.name
-    (λ name f. (name_met c.args.filter.now rows c.args.client.now user c.args.dollar c.of-start.result c.deref.result.now roots a
-    (λ marks ls. ap (allow marks ls) c.deref.ensures.value ∙ c.in_ok-old.ensures.allow marks ls) c.of-start.ensures (sym c.is_hidden.ensures ∙ c.if-is_hidden.false) name
-    (first_passes P (all_levels c.in_ok-paths.paths.items) (all_levels c.deref-3.result.now) (levels name) (ap all_levels c.deref-3.ensures.value) f each)).1)
+    (λ name f. (name_met c.args.filter.now rows c.args.client.now user c.args.dollar
+    c.of-start.result c.deref.result.now roots a
+    (λ marks ls. ap (allow marks ls) c.deref.ensures.value ∙ c.in_ok-old.ensures.allow marks ls)
+    c.of-start.ensures (sym c.is_hidden.ensures ∙ c.if-is_hidden.false) name
+    (first_passes P (all_levels c.in_ok-paths.paths.items) (all_levels c.deref-3.result.now)
+    (levels name) (ap all_levels c.deref-3.ensures.value) f each)).1)
     c.in_ok-name.ensures.some

@@ -27,5 +27,7 @@ memory_is Memory e = refl
 pub unreachable-requires : goal.unreachable-requires
 unreachable-requires c =
     let valid = ap is_name (c.as_str.ensures.value ∙ c.in_ok-text.ensures)
-    ∙ joined_is_name (texts c.args.parts.now) c.args.dollar c.requires.valid (subst (λ n. n ≤ 200) (sym (length-map c.args.parts.now (λ level. level.now))) c.requires.few) c.requires.suitable in
+    ∙ joined_is_name (texts c.args.parts.now) c.args.dollar c.requires.valid
+    (subst (λ n. n ≤ 200) (sym (length-map c.args.parts.now (λ level. level.now)))
+    c.requires.few) c.requires.suitable in
     c.in_default.not-Memory (memory_is c.in-Err.fault (c.in-Err.ensures.valid ∙ valid))

@@ -6,15 +6,26 @@ use Rattle.mq_questions.proofs.ask.name.name_on.Goals as goal
 
 pub name_of-requires-clause-valid : goal.name_of-requires-clause-valid
 name_of-requires-clause-valid c =
-    let texts = path_texts c.deref-2.result.now c.reverse.new.self.items c.args.path.now.levels.items c.deref-2.ensures.value (c.reverse.ensures.items ∙ ap reverse (c.in_ok-extend_from_slice.ensures.items ∙ (λ i. c.new-levels.ensures.items i ++ c.deref.ensures.value i))) in
+    let texts = path_texts c.deref-2.result.now c.reverse.new.self.items
+    c.args.path.now.levels.items c.deref-2.ensures.value
+    (c.reverse.ensures.items
+    ∙ ap reverse (c.in_ok-extend_from_slice.ensures.items
+    ∙ (λ i. c.new-levels.ensures.items i ++ c.deref.ensures.value i))) in
     ap (list_all is_name_level) texts ∙ c.requires.valid
 
 pub name_of-requires-clause-suitable : goal.name_of-requires-clause-suitable
 name_of-requires-clause-suitable c =
-    let texts = path_texts c.deref-2.result.now c.reverse.new.self.items c.args.path.now.levels.items c.deref-2.ensures.value (c.reverse.ensures.items ∙ ap reverse (c.in_ok-extend_from_slice.ensures.items ∙ (λ i. c.new-levels.ensures.items i ++ c.deref.ensures.value i))) in
+    let texts = path_texts c.deref-2.result.now c.reverse.new.self.items
+    c.args.path.now.levels.items c.deref-2.ensures.value
+    (c.reverse.ensures.items
+    ∙ ap reverse (c.in_ok-extend_from_slice.ensures.items
+    ∙ (λ i. c.new-levels.ensures.items i ++ c.deref.ensures.value i))) in
     ap (suits (start_of c.args.dollar)) texts ∙ c.requires.suitable
 
 pub returns : goal.returns
 returns c =
     c.in_ok-name.ensures
-    ∙ path_texts c.deref-2.result.now c.reverse.new.self.items c.args.path.now.levels.items c.deref-2.ensures.value (c.reverse.ensures.items ∙ ap reverse (c.in_ok-extend_from_slice.ensures.items ∙ (λ i. c.new-levels.ensures.items i ++ c.deref.ensures.value i)))
+    ∙ path_texts c.deref-2.result.now c.reverse.new.self.items c.args.path.now.levels.items
+    c.deref-2.ensures.value (c.reverse.ensures.items
+    ∙ ap reverse (c.in_ok-extend_from_slice.ensures.items
+    ∙ (λ i. c.new-levels.ensures.items i ++ c.deref.ensures.value i)))

@@ -8,20 +8,34 @@ use Rattle.mq_questions.proofs.ask.others.all_others.Goals as goal
 
 pub returns-then-len-most-clause-unlisted : goal.returns-then-len-most-clause-unlisted
 returns-then-len-most-clause-unlisted c =
-    All-same (λ w. is_named (string_bytes w.user) c.args.named.now ≡ false) c.truncate.new.self.items _ c.truncate.ensures.items (All-take (λ w. is_named (string_bytes w.user) c.args.named.now ≡ false) c.args.most c.in_ok-found.found.items c.in_ok-found.ensures.unlisted)
+    All-same (λ w. is_named (string_bytes w.user) c.args.named.now ≡ false)
+    c.truncate.new.self.items _ c.truncate.ensures.items
+    (All-take (λ w. is_named (string_bytes w.user) c.args.named.now ≡ false) c.args.most
+    c.in_ok-found.found.items c.in_ok-found.ensures.unlisted)
 
 pub returns-clause-none : goal.returns-clause-none
 returns-clause-none c = λ e user client name u v.
-    let parts = none_joined c.in_ok-found.found.items c.in_ok-more.more.items c.append.new.self.items c.in_ok-append.ensures.items
-    (none_taken c.args.most c.append.new.self.items c.truncate-2.new.self.items c.requires.most c.truncate-2.ensures.items e) in
-    either (begins_with_dollar name) (λ d. c.in_ok-found.ensures.none parts.0 user client name u v d) (λ d. c.in_ok-more.ensures.none parts.1 user client name u v d)
+    let parts = none_joined c.in_ok-found.found.items c.in_ok-more.more.items
+    c.append.new.self.items c.in_ok-append.ensures.items
+    (none_taken c.args.most c.append.new.self.items c.truncate-2.new.self.items c.requires.most
+    c.truncate-2.ensures.items e) in
+    either (begins_with_dollar name)
+    (λ d. c.in_ok-found.ensures.none parts.0 user client name u v d)
+    (λ d. c.in_ok-more.ensures.none parts.1 user client name u v d)
 
 pub returns-clause-unlisted : goal.returns-clause-unlisted
 returns-clause-unlisted c =
-    each_taken (λ w. is_named (string_bytes w.user) c.args.named.now ≡ false) c.args.most c.in_ok-found.found.items c.in_ok-more.more.items c.append.new.self.items c.truncate-2.new.self.items
-    c.in_ok-append.ensures.items c.truncate-2.ensures.items c.in_ok-found.ensures.unlisted c.in_ok-more.ensures.unlisted
+    each_taken (λ w. is_named (string_bytes w.user) c.args.named.now ≡ false) c.args.most
+    c.in_ok-found.found.items c.in_ok-more.more.items c.append.new.self.items
+    c.truncate-2.new.self.items
+    c.in_ok-append.ensures.items c.truncate-2.ensures.items c.in_ok-found.ensures.unlisted
+    c.in_ok-more.ensures.unlisted
 
 pub returns-clause-each : goal.returns-clause-each
 returns-clause-each c =
-    each_taken (λ w. gained (all_rows c.args.old) (all_rows c.args.new) (string_bytes w.witness.client) (Some (string_bytes w.user)) w.witness.name c.args.direction ≡ true) c.args.most c.in_ok-found.found.items c.in_ok-more.more.items c.append.new.self.items c.truncate-2.new.self.items
-    c.in_ok-append.ensures.items c.truncate-2.ensures.items c.in_ok-found.ensures.each c.in_ok-more.ensures.each
+    each_taken (λ w. gained (all_rows c.args.old) (all_rows c.args.new)
+    (string_bytes w.witness.client) (Some (string_bytes w.user)) w.witness.name
+    c.args.direction ≡ true) c.args.most c.in_ok-found.found.items c.in_ok-more.more.items
+    c.append.new.self.items c.truncate-2.new.self.items
+    c.in_ok-append.ensures.items c.truncate-2.ensures.items c.in_ok-found.ensures.each
+    c.in_ok-more.ensures.each

@@ -6,7 +6,10 @@ use Rattle.mq_questions.proofs.ask.others.named_users.Goals as goal
 pub returns : goal.returns
 returns c = λ l.
     let first = c.in_ok-add.ensures l ∙ ap (λ b. b || bytes_eq l []) (c.new-named.ensures l) in
-    let second = c.in_ok-add_remainders.ensures l ∙ ap (λ b. b || is_literal_of l c.args.old.now) first in
-    let third = c.in_ok-add_remainders-2.ensures l ∙ ap (λ b. b || is_literal_of l c.args.new.now) second in
-    c.in_ok-all.ensures l ∙ ap (λ b. bytes_eq l c.args.fresh.user.now || (bytes_eq l c.args.fresh.dollar_user.now || b)) third
+    let second = c.in_ok-add_remainders.ensures l
+    ∙ ap (λ b. b || is_literal_of l c.args.old.now) first in
+    let third = c.in_ok-add_remainders-2.ensures l
+    ∙ ap (λ b. b || is_literal_of l c.args.new.now) second in
+    c.in_ok-all.ensures l ∙ ap (λ b. bytes_eq l c.args.fresh.user.now
+    || (bytes_eq l c.args.fresh.dollar_user.now || b)) third
     ∙ tried_as_listed c.args.fresh c.args.old.now c.args.new.now l

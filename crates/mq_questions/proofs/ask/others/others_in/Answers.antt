@@ -12,28 +12,48 @@ use Rattle.mq_questions.proofs.ask.others.others_in.Goals as goal
 
 pub other_gains-requires-clause-old : goal.other_gains-requires-clause-old
 other_gains-requires-clause-old c =
-    subst (λ l. remainders_fit (is_literal c.args.fresh) l ≡ true) (sym c.deref.ensures.value) (c.in_ok-old_roots.ensures.fit (is_literal c.args.fresh) c.requires.old)
+    subst (λ l. remainders_fit (is_literal c.args.fresh) l ≡ true) (sym c.deref.ensures.value)
+    (c.in_ok-old_roots.ensures.fit (is_literal c.args.fresh) c.requires.old)
 
 pub other_gains-requires-clause-new : goal.other_gains-requires-clause-new
 other_gains-requires-clause-new c =
-    subst (λ l. remainders_fit (is_literal c.args.fresh) l ≡ true) (sym c.deref-2.ensures.value) (c.in_ok-new_roots.ensures.fit (is_literal c.args.fresh) c.requires.new)
+    subst (λ l. remainders_fit (is_literal c.args.fresh) l ≡ true) (sym c.deref-2.ensures.value)
+    (c.in_ok-new_roots.ensures.fit (is_literal c.args.fresh) c.requires.new)
 
 pub show_others-requires : goal.show_others-requires
 show_others-requires c =
-    All-same (λ o. IsNamed c.args.scope.dollar o.gain) c.deref-3.result.now c.in_ok-others.others.items c.deref-3.ensures.value
-    (All-weaker (IsOtherGain c.of-start.result c.deref.result.now c.deref-2.result.now c.args.named.now) (λ o. IsNamed c.args.scope.dollar o.gain)
-    (other_named c.of-start.result c.args.scope.dollar c.deref.result.now c.deref-2.result.now c.args.named.now c.of-start.ensures) c.in_ok-others.others.items c.in_ok-others.ensures.each)
+    All-same (λ o. IsNamed c.args.scope.dollar o.gain) c.deref-3.result.now
+    c.in_ok-others.others.items c.deref-3.ensures.value
+    (All-weaker (IsOtherGain c.of-start.result c.deref.result.now c.deref-2.result.now
+    c.args.named.now) (λ o. IsNamed c.args.scope.dollar o.gain)
+    (other_named c.of-start.result c.args.scope.dollar c.deref.result.now c.deref-2.result.now
+    c.args.named.now c.of-start.ensures) c.in_ok-others.others.items
+    c.in_ok-others.ensures.each)
 
 pub returns-clause-none : goal.returns-clause-none
 returns-clause-none c = λ e user client name unlisted valid d.
     let olds = c.deref.result.now in
     let news = c.deref-2.result.now in
     let first = c.args.fresh.user.now in
-    let a = subst (λ m. AreRoots (all_rows c.args.old) m c.args.scope.direction c.args.scope.dollar olds) c.requires.scope (subst (AreRoots (all_rows c.args.old) (option_copied c.args.scope.user) c.args.scope.direction c.args.scope.dollar) (sym c.deref.ensures.value) c.in_ok-old_roots.ensures) in
-    let b = subst (λ m. AreRoots (all_rows c.args.new) m c.args.scope.direction c.args.scope.dollar news) c.requires.scope (subst (AreRoots (all_rows c.args.new) (option_copied c.args.scope.user) c.args.scope.direction c.args.scope.dollar) (sym c.deref-2.ensures.value) c.in_ok-new_roots.ensures) in
-    let like = other_nothing (all_rows c.args.old) (all_rows c.args.new) olds news first c.args.scope.direction c.args.scope.dollar c.of-start.result c.args.named.now a b c.of-start.ensures c.requires.named c.requires.user user unlisted in
-    nothing_gained_by (all_rows c.args.old) (all_rows c.args.new) olds news (Some first) (Some user) c.args.scope.direction c.args.scope.dollar c.of-start.result a b like.0 like.1 c.of-start.ensures
-    (λ t. c.in_ok-others.ensures.none (sym c.deref-3.ensures.value ∙ shown_none other_shown other_told c.in_ok-witnesses.witnesses.items c.deref-3.result.now c.in_ok-witnesses.ensures e) user t unlisted)
+    let a = subst (λ m. AreRoots (all_rows c.args.old) m c.args.scope.direction c.args.scope.dollar
+    olds) c.requires.scope
+    (subst (AreRoots (all_rows c.args.old) (option_copied c.args.scope.user)
+    c.args.scope.direction c.args.scope.dollar) (sym c.deref.ensures.value)
+    c.in_ok-old_roots.ensures) in
+    let b = subst (λ m. AreRoots (all_rows c.args.new) m c.args.scope.direction c.args.scope.dollar
+    news) c.requires.scope
+    (subst (AreRoots (all_rows c.args.new) (option_copied c.args.scope.user)
+    c.args.scope.direction c.args.scope.dollar) (sym c.deref-2.ensures.value)
+    c.in_ok-new_roots.ensures) in
+    let like = other_nothing (all_rows c.args.old) (all_rows c.args.new) olds news first
+    c.args.scope.direction c.args.scope.dollar c.of-start.result c.args.named.now a b
+    c.of-start.ensures c.requires.named c.requires.user user unlisted in
+    nothing_gained_by (all_rows c.args.old) (all_rows c.args.new) olds news (Some first) (Some user)
+    c.args.scope.direction c.args.scope.dollar c.of-start.result a b like.0 like.1
+    c.of-start.ensures
+    (λ t. c.in_ok-others.ensures.none (sym c.deref-3.ensures.value
+    ∙ shown_none other_shown other_told c.in_ok-witnesses.witnesses.items
+    c.deref-3.result.now c.in_ok-witnesses.ensures e) user t unlisted)
     client name valid d
 
 pub returns-clause-unlisted : goal.returns-clause-unlisted
@@ -41,19 +61,41 @@ returns-clause-unlisted c =
     let olds = c.deref.result.now in
     let news = c.deref-2.result.now in
     let first = c.args.fresh.user.now in
-    let a = subst (λ m. AreRoots (all_rows c.args.old) m c.args.scope.direction c.args.scope.dollar olds) c.requires.scope (subst (AreRoots (all_rows c.args.old) (option_copied c.args.scope.user) c.args.scope.direction c.args.scope.dollar) (sym c.deref.ensures.value) c.in_ok-old_roots.ensures) in
-    let b = subst (λ m. AreRoots (all_rows c.args.new) m c.args.scope.direction c.args.scope.dollar news) c.requires.scope (subst (AreRoots (all_rows c.args.new) (option_copied c.args.scope.user) c.args.scope.direction c.args.scope.dollar) (sym c.deref-2.ensures.value) c.in_ok-new_roots.ensures) in
-    all_unlisted (all_rows c.args.old) (all_rows c.args.new) olds news first c.args.scope.direction c.args.scope.dollar c.of-start.result c.args.named.now a b c.of-start.ensures c.requires.named c.requires.user
+    let a = subst (λ m. AreRoots (all_rows c.args.old) m c.args.scope.direction c.args.scope.dollar
+    olds) c.requires.scope
+    (subst (AreRoots (all_rows c.args.old) (option_copied c.args.scope.user)
+    c.args.scope.direction c.args.scope.dollar) (sym c.deref.ensures.value)
+    c.in_ok-old_roots.ensures) in
+    let b = subst (λ m. AreRoots (all_rows c.args.new) m c.args.scope.direction c.args.scope.dollar
+    news) c.requires.scope
+    (subst (AreRoots (all_rows c.args.new) (option_copied c.args.scope.user)
+    c.args.scope.direction c.args.scope.dollar) (sym c.deref-2.ensures.value)
+    c.in_ok-new_roots.ensures) in
+    all_unlisted (all_rows c.args.old) (all_rows c.args.new) olds news first c.args.scope.direction
+    c.args.scope.dollar c.of-start.result c.args.named.now a b c.of-start.ensures
+    c.requires.named c.requires.user
     c.in_ok-witnesses.witnesses.items c.deref-3.result.now c.in_ok-witnesses.ensures
-    (All-same (IsOtherGain c.of-start.result olds news c.args.named.now) c.deref-3.result.now c.in_ok-others.others.items c.deref-3.ensures.value c.in_ok-others.ensures.each)
+    (All-same (IsOtherGain c.of-start.result olds news c.args.named.now) c.deref-3.result.now
+    c.in_ok-others.others.items c.deref-3.ensures.value c.in_ok-others.ensures.each)
 
 pub returns-clause-each : goal.returns-clause-each
 returns-clause-each c =
     let olds = c.deref.result.now in
     let news = c.deref-2.result.now in
     let first = c.args.fresh.user.now in
-    let a = subst (λ m. AreRoots (all_rows c.args.old) m c.args.scope.direction c.args.scope.dollar olds) c.requires.scope (subst (AreRoots (all_rows c.args.old) (option_copied c.args.scope.user) c.args.scope.direction c.args.scope.dollar) (sym c.deref.ensures.value) c.in_ok-old_roots.ensures) in
-    let b = subst (λ m. AreRoots (all_rows c.args.new) m c.args.scope.direction c.args.scope.dollar news) c.requires.scope (subst (AreRoots (all_rows c.args.new) (option_copied c.args.scope.user) c.args.scope.direction c.args.scope.dollar) (sym c.deref-2.ensures.value) c.in_ok-new_roots.ensures) in
-    all_gained (all_rows c.args.old) (all_rows c.args.new) olds news first c.args.scope.direction c.args.scope.dollar c.of-start.result c.args.named.now a b c.of-start.ensures c.requires.named c.requires.user
+    let a = subst (λ m. AreRoots (all_rows c.args.old) m c.args.scope.direction c.args.scope.dollar
+    olds) c.requires.scope
+    (subst (AreRoots (all_rows c.args.old) (option_copied c.args.scope.user)
+    c.args.scope.direction c.args.scope.dollar) (sym c.deref.ensures.value)
+    c.in_ok-old_roots.ensures) in
+    let b = subst (λ m. AreRoots (all_rows c.args.new) m c.args.scope.direction c.args.scope.dollar
+    news) c.requires.scope
+    (subst (AreRoots (all_rows c.args.new) (option_copied c.args.scope.user)
+    c.args.scope.direction c.args.scope.dollar) (sym c.deref-2.ensures.value)
+    c.in_ok-new_roots.ensures) in
+    all_gained (all_rows c.args.old) (all_rows c.args.new) olds news first c.args.scope.direction
+    c.args.scope.dollar c.of-start.result c.args.named.now a b c.of-start.ensures
+    c.requires.named c.requires.user
     c.in_ok-witnesses.witnesses.items c.deref-3.result.now c.in_ok-witnesses.ensures
-    (All-same (IsOtherGain c.of-start.result olds news c.args.named.now) c.deref-3.result.now c.in_ok-others.others.items c.deref-3.ensures.value c.in_ok-others.ensures.each)
+    (All-same (IsOtherGain c.of-start.result olds news c.args.named.now) c.deref-3.result.now
+    c.in_ok-others.others.items c.deref-3.ensures.value c.in_ok-others.ensures.each)

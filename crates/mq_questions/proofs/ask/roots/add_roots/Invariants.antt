@@ -6,5 +6,7 @@ use Rattle.mq_questions.specs.Roots.{AreRoots}
 use Rattle.mq_questions.proofs.ask.roots.add_roots.Given as goal
 
 abbrev pub invariant-loop-row : goal.invariant-loop-row
-invariant-loop-row l = (before : List AclRow) → AreRoots before (option_copied l.scope.user) l.scope.direction l.scope.dollar l.fn.roots.items
-    → AreRoots (before ++ row_views (take l.row-index l.rows)) (option_copied l.scope.user) l.scope.direction l.scope.dollar l.roots.items
+invariant-loop-row l = (before : List AclRow)
+    → AreRoots before (option_copied l.scope.user) l.scope.direction l.scope.dollar l.fn.roots.items
+    → AreRoots (before ++ row_views (take l.row-index l.rows)) (option_copied l.scope.user)
+    l.scope.direction l.scope.dollar l.roots.items

@@ -9,4 +9,7 @@ pub returns : goal.returns
 returns c =
     let user = option_copied c.args.scope.user in
     c.in_ok-add_roots-2.ensures (row_views c.args.rows.front.now)
-    (c.in_ok-add_roots.ensures [] (subst (AreRoots [] user c.args.scope.direction c.args.scope.dollar) (sym c.new-roots.ensures.items) (no_roots user c.args.scope.direction c.args.scope.dollar)))
+    (c.in_ok-add_roots.ensures []
+    (subst (AreRoots [] user c.args.scope.direction c.args.scope.dollar)
+    (sym c.new-roots.ensures.items)
+    (no_roots user c.args.scope.direction c.args.scope.dollar)))

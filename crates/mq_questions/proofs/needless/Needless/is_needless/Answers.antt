@@ -8,26 +8,39 @@ use Rattle.mq_questions.proofs.needless.Needless.is_needless.Goals as goal
 pub owner_differs-requires-clause-owner : goal.owner_differs-requires-clause-owner
 owner_differs-requires-clause-owner c =
     let rows = c.self.inside.rows.now in
-    let at = placed rows c.split_at.result.0.now c.split_at.result.1.now c.in-Some.back.now c.in-Some.row.now c.args.index c.split_at.ensures.by_index.0 c.in-Some.ensures.cases.0 c.split_at.ensures.front_len in
-    owner_named (row_views rows) (row_views c.split_at.result.0.now) (row_view c.in-Some.row.now) (row_views c.in-Some.back.now) c.args.index at c.self.inside.named c.self.invariant.named
+    let at = placed rows c.split_at.result.0.now c.split_at.result.1.now c.in-Some.back.now
+    c.in-Some.row.now c.args.index c.split_at.ensures.by_index.0 c.in-Some.ensures.cases.0
+    c.split_at.ensures.front_len in
+    owner_named (row_views rows) (row_views c.split_at.result.0.now) (row_view c.in-Some.row.now)
+    (row_views c.in-Some.back.now) c.args.index at c.self.inside.named c.self.invariant.named
 
 pub owner_differs-requires-clause-forth : goal.owner_differs-requires-clause-forth
 owner_differs-requires-clause-forth c =
     let rows = c.self.inside.rows.now in
-    let at = placed rows c.split_at.result.0.now c.split_at.result.1.now c.in-Some.back.now c.in-Some.row.now c.args.index c.split_at.ensures.by_index.0 c.in-Some.ensures.cases.0 c.split_at.ensures.front_len in
-    users_forth (row_views rows) (row_views c.split_at.result.0.now) (row_view c.in-Some.row.now) (row_views c.in-Some.back.now) c.args.index at c.self.inside.named c.self.invariant.named
+    let at = placed rows c.split_at.result.0.now c.split_at.result.1.now c.in-Some.back.now
+    c.in-Some.row.now c.args.index c.split_at.ensures.by_index.0 c.in-Some.ensures.cases.0
+    c.split_at.ensures.front_len in
+    users_forth (row_views rows) (row_views c.split_at.result.0.now) (row_view c.in-Some.row.now)
+    (row_views c.in-Some.back.now) c.args.index at c.self.inside.named c.self.invariant.named
 
 pub owner_differs-requires-clause-back : goal.owner_differs-requires-clause-back
 owner_differs-requires-clause-back c =
     let rows = c.self.inside.rows.now in
-    let at = placed rows c.split_at.result.0.now c.split_at.result.1.now c.in-Some.back.now c.in-Some.row.now c.args.index c.split_at.ensures.by_index.0 c.in-Some.ensures.cases.0 c.split_at.ensures.front_len in
-    users_back (row_views rows) (row_views c.split_at.result.0.now) (row_view c.in-Some.row.now) (row_views c.in-Some.back.now) c.args.index at c.self.inside.named c.self.invariant.named
+    let at = placed rows c.split_at.result.0.now c.split_at.result.1.now c.in-Some.back.now
+    c.in-Some.row.now c.args.index c.split_at.ensures.by_index.0 c.in-Some.ensures.cases.0
+    c.split_at.ensures.front_len in
+    users_back (row_views rows) (row_views c.split_at.result.0.now) (row_view c.in-Some.row.now)
+    (row_views c.in-Some.back.now) c.args.index at c.self.inside.named c.self.invariant.named
 
 pub owner_differs-requires-clause-other : goal.owner_differs-requires-clause-other
 owner_differs-requires-clause-other c =
     let rows = c.self.inside.rows.now in
-    let at = placed rows c.split_at.result.0.now c.split_at.result.1.now c.in-Some.back.now c.in-Some.row.now c.args.index c.split_at.ensures.by_index.0 c.in-Some.ensures.cases.0 c.split_at.ensures.front_len in
-    rest_fits (row_views rows) (row_views c.split_at.result.0.now) (row_view c.in-Some.row.now) (row_views c.in-Some.back.now) c.args.index at (is_literal c.fresh-fresh.result) (c.self.invariant.old_fits c.fresh-fresh.result c.fresh-fresh.ensures)
+    let at = placed rows c.split_at.result.0.now c.split_at.result.1.now c.in-Some.back.now
+    c.in-Some.row.now c.args.index c.split_at.ensures.by_index.0 c.in-Some.ensures.cases.0
+    c.split_at.ensures.front_len in
+    rest_fits (row_views rows) (row_views c.split_at.result.0.now) (row_view c.in-Some.row.now)
+    (row_views c.in-Some.back.now) c.args.index at (is_literal c.fresh-fresh.result)
+    (c.self.invariant.old_fits c.fresh-fresh.result c.fresh-fresh.ensures)
 
 false_is : (b : Bool) → not b ≡ true → b ≡ false
 false_is true e = absurd (let k : false ≡ true = e in cc)
@@ -40,15 +53,23 @@ true_is false e = absurd (let k : true ≡ false = e in cc)
 pub returns-clause-needless : goal.returns-clause-needless
 returns-clause-needless c = λ e.
     let rows = c.self.inside.rows.now in
-    let at = placed rows c.split_at.result.0.now c.split_at.result.1.now c.in-Some.back.now c.in-Some.row.now c.args.index c.split_at.ensures.by_index.0 c.in-Some.ensures.cases.0 c.split_at.ensures.front_len in
+    let at = placed rows c.split_at.result.0.now c.split_at.result.1.now c.in-Some.back.now
+    c.in-Some.row.now c.args.index c.split_at.ensures.by_index.0 c.in-Some.ensures.cases.0
+    c.split_at.ensures.front_len in
     let is : row_views rows ≡ c.args.self.now = (let v = c.self.view_is in cc) in
     subst (λ r. (user : Option (List ℕ)) → AllowSame r (without c.args.index r) user) is
-    (same_without (row_views rows) (row_views c.split_at.result.0.now) (row_view c.in-Some.row.now) (row_views c.in-Some.back.now) c.args.index at (c.in_ok-differ.ensures.same (false_is c.in_ok-differ.differ e)))
+    (same_without (row_views rows) (row_views c.split_at.result.0.now) (row_view c.in-Some.row.now)
+    (row_views c.in-Some.back.now) c.args.index at
+    (c.in_ok-differ.ensures.same (false_is c.in_ok-differ.differ e)))
 
 pub returns-clause-needed : goal.returns-clause-needed
 returns-clause-needed c = λ e.
     let rows = c.self.inside.rows.now in
-    let at = placed rows c.split_at.result.0.now c.split_at.result.1.now c.in-Some.back.now c.in-Some.row.now c.args.index c.split_at.ensures.by_index.0 c.in-Some.ensures.cases.0 c.split_at.ensures.front_len in
+    let at = placed rows c.split_at.result.0.now c.split_at.result.1.now c.in-Some.back.now
+    c.in-Some.row.now c.args.index c.split_at.ensures.by_index.0 c.in-Some.ensures.cases.0
+    c.split_at.ensures.front_len in
     let is : row_views rows ≡ c.args.self.now = (let v = c.self.view_is in cc) in
     subst (λ r. Differ r (without c.args.index r)) is
-    (differ_without (row_views rows) (row_views c.split_at.result.0.now) (row_view c.in-Some.row.now) (row_views c.in-Some.back.now) c.args.index at (c.in_ok-differ.ensures.differ (true_is c.in_ok-differ.differ e)))
+    (differ_without (row_views rows) (row_views c.split_at.result.0.now)
+    (row_view c.in-Some.row.now) (row_views c.in-Some.back.now) c.args.index at
+    (c.in_ok-differ.ensures.differ (true_is c.in_ok-differ.differ e)))

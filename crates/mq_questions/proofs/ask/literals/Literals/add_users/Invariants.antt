@@ -6,4 +6,6 @@ use Rattle.mq_questions.proofs.ask.literals.Literals.add_users.Given as goal
 
 -- the rows that are left add what all of them do
 abbrev pub invariant-loop-row : goal.invariant-loop-row
-invariant-loop-row l = (t : List ℕ) → (is_named t l.self || is_user_of t (row_views (drop l.row-index l.rows))) ≡ (is_named t l.fn.self || is_user_of t (row_views l.rows))
+invariant-loop-row l = (t : List ℕ)
+    → (is_named t l.self || is_user_of t (row_views (drop l.row-index l.rows)))
+    ≡ (is_named t l.fn.self || is_user_of t (row_views l.rows))
