@@ -1,12 +1,12 @@
 -- A walk over the levels of all names.
-use Rattle.std.proofs.Common.{◌≡◌, ℕ, ◌==◌, Bool, true, false, cond, not, ◌&&◌, ◌||◌, List, [], ◌∷◌, ◌++◌, length, Option, Some, None, refl, ap, sym, ◌∙◌, bytes_eq, arith, subst, ◌<◌, ◌≤◌, ◌+◌, ◌-◌, drop, get_or, map, Bor, Vec, Global, if◌then◌else◌}
+use Rattle.std.proofs.Common.{◌≡◌, ℕ, ◌==◌, Bool, true, false, cond, not, ◌&&◌, ◌||◌, List, [], ◌∷◌, ◌++◌, length, Option, Some, None, refl, ap, sym, ◌∙◌, bytes_eq, arith, subst, ◌<◌, ◌≤◌, ◌+◌, ◌-◌, drop, get_or, map, Bor, Vec, Global, if◌then◌else◌, length-append}
 use Rattle.std.specs.Prelude.{is_some}
 use Rattle.std.specs.Option.{option_map_or}
 use Rattle.std.proofs.Math.ListN.{drop_of_length-le}
 use Rattle.std.specs.List.{All, list_all}
 use Rattle.std.proofs.lemmas.List.Elements.{All-same, All-append, All-map, All-weaker, All-cons, All-nil}
 use Rattle.std.proofs.lemmas.Bool.{and_parts, and_from}
-use Rattle.std.proofs.lemmas.List.{drop_more}
+use Rattle.std.proofs.lemmas.List.{drop_more, length-map}
 use Rattle.std.proofs.lemmas.List.Folds.{list_all-append}
 use Rattle.mq_acl.specs.Access.{begins_with_dollar}
 use Rattle.mq_walk.specs.Remainders.{MarkLevels, no_marks, hit, gains, remainders_fit, remainder_fits, GainsNothing, IsGain}
@@ -302,6 +302,24 @@ pub nothing_settled : (marks : MarkLevels) (start : Start) (n : ℕ) (old new : 
 nothing_settled marks start n old new e end f ls s h = f marks ls ∙ gains_end marks old new
     ∙ sym (ap (λ b. b && gains no_marks [] old new) e) ∙ end
 
+-- at most one name ends here
+pub few_here : {A : Type 0} (f : A → List (List ℕ)) (paths : List A) (b : Bool) (most : ℕ)
+    → map f paths ≡ (if b then [] ∷ [] else []) → 0 < most → length paths ≤ most
+few_here f paths true most e h = let size = sym (length-map paths f) ∙ ap length e in
+    omega (arith, size, h)
+few_here f paths false most e h = let size = sym (length-map paths f) ∙ ap length e in
+    omega (arith, size)
+
+pub few_longer : {A B : Type 0} (f : A → B) (old more next : List A) (g : B → B) (most : ℕ)
+    → map f next ≡ map f old ++ map g (map f more) → length old ≤ most
+    → length more ≤ most - length old → length next ≤ most
+few_longer f old more next g most e h k =
+    let size = sym (length-map next f) ∙ ap length e
+    ∙ length-append (map f old) (map g (map f more)) in
+    let olds = length-map old f in
+    let mores = length-map (map f more) g ∙ length-map more f in
+    omega (arith, size, olds, mores, h, k)
+
 -- ---- the levels that are tried
 pub choice_at : (start : Start) (p : List ℕ → Bool) (items : List (Bor (List ℕ))) (i : ℕ)
     (d : Bor (List ℕ)) → i < length items → all_choices start p items ≡ true
@@ -315,7 +333,8 @@ choice_at start p items i d h e =
 
 -- ---- the walk so far
 pub record IsWalked (start : Start) (n : ℕ) (marks : MarkLevels) (old new : List Remainder)
-    (items : List (Bor (List ℕ))) (i : ℕ) (paths : List Path) : Type 0 where
+    (items : List (Bor (List ℕ))) (i : ℕ) (most : ℕ) (paths : List Path) : Type 0 where
   pub here : paths ≡ [] → (ends start && gains no_marks [] old new) ≡ false
   pub tried : paths ≡ [] → Tried start (n - 1) marks old new items i
   pub each : All (IsGain start n marks old new) (all_levels paths)
+  pub few : length paths ≤ most

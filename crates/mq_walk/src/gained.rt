@@ -1,4 +1,4 @@
-ghost use Rattle.std.specs.Prelude.{◌≡◌, ◌<◌, ℕ, Bool, List, true, IfOk, ◌&&◌, ◌∷◌, [], if◌then◌else◌};
+ghost use Rattle.std.specs.Prelude.{◌≡◌, ◌<◌, ◌≤◌, ℕ, length, Bool, List, true, IfOk, ◌&&◌, ◌∷◌, [], if◌then◌else◌};
 ghost use Rattle.std.specs.List.{All};
 ghost use Rattle.mq_walk.specs.Remainders.{marks_view, marks_pass, remainders_fit, no_marks, gains, GainsNothing, IsGain};
 ghost use Rattle.mq_walk.specs.Paths.{all_levels};
@@ -61,8 +61,9 @@ fn ends_here<'a>(
     Ok(paths)
 }
 
-/// Names that go on from here with at most so many levels, and that the new rows allow and the old ones don't: all of
-/// them, but for those that are alike to one, or the first that are found, about `most`; or that there is none.
+/// The names that the new rows allow and the old ones don't, each by its levels from here on, at most `budget` of them:
+/// the first `most` that are found, and none only where there is none. Where all names that go on from one are gained with
+/// it, that one alone is told.
 pub fn walk<'a>(
     alloc: Global,
     marks: Marks<'a>,
@@ -83,6 +84,7 @@ pub fn walk<'a>(
     ensures each { IfOk result (λ found.
         All (IsGain start budget (marks_view marks.entry) old.now new.now)
         (all_levels found.items)) }
+    ensures few { IfOk result (λ found. length found.items ≤ most) }
 {
     if is_barren(old, new) {
         return Ok(Vec::new(alloc));

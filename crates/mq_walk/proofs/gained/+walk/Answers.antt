@@ -4,7 +4,7 @@ use Rattle.mq_walk.specs.Paths.{levels_of, all_levels}
 use Rattle.mq_walk.specs.Remainders.{marks_view, GainsNothing, IsGain}
 use Rattle.mq_walk.specs.Names.{is_among, is_choice, is_name_level, fits_start}
 use Rattle.mq_walk.specs.Choices.{all_choices, other_at}
-use Rattle.mq_walk.proofs.WalkLemmas.{behind_hits, behind_fits, gains_longer, no_parts, tried_none, tried_more, other_is, tried_all, each_here, no_gain_here, nothing_here, nothing_settled, choice_at}
+use Rattle.mq_walk.proofs.WalkLemmas.{behind_hits, behind_fits, gains_longer, no_parts, tried_none, tried_more, other_is, tried_all, each_here, no_gain_here, nothing_here, nothing_settled, few_here, few_longer, choice_at}
 use Rattle.mq_walk.proofs.NameLemmas.{choice_is_level}
 use Rattle.mq_walk.proofs.gained.+walk.Goals as goal
 
@@ -22,6 +22,10 @@ returns-then-budget-eq0-clause-each t c =
     each_here (marks_view c.args.marks) c.args.start c.args.budget c.args.old.now c.args.new.now
     c.in_ok-paths.paths.items c.in_ok-paths.ensures
 
+pub returns-then-budget-eq0-clause-few : goal.returns-then-budget-eq0-clause-few
+returns-then-budget-eq0-clause-few t c =
+    few_here levels_of c.in_ok-paths.paths.items _ c.args.most c.in_ok-paths.ensures c.requires.most
+
 pub returns-then-is_settled-clause-none : goal.returns-then-is_settled-clause-none
 returns-then-is_settled-clause-none t c = λ e.
     nothing_settled (marks_view c.args.marks) c.args.start c.args.budget c.args.old.now
@@ -34,6 +38,10 @@ returns-then-is_settled-clause-each t c =
     each_here (marks_view c.args.marks) c.args.start c.args.budget c.args.old.now c.args.new.now
     c.in_ok-paths.paths.items c.in_ok-paths.ensures
 
+pub returns-then-is_settled-clause-few : goal.returns-then-is_settled-clause-few
+returns-then-is_settled-clause-few t c =
+    few_here levels_of c.in_ok-paths.paths.items _ c.args.most c.in_ok-paths.ensures c.requires.most
+
 pub loop-level-init : goal.loop-level-init
 loop-level-init t c = record {
   here = λ e. no_gain_here levels_of c.in_ok-paths.paths.items _ c.in_ok-paths.ensures e;
@@ -41,6 +49,8 @@ loop-level-init t c = record {
       c.args.new.now c.deref-level-items.result.now;
   each = each_here (marks_view c.args.marks) c.args.start c.args.budget c.args.old.now
       c.args.new.now c.in_ok-paths.paths.items c.in_ok-paths.ensures;
+  few = few_here levels_of c.in_ok-paths.paths.items _ c.args.most c.in_ok-paths.ensures
+      c.requires.most;
 }
 
 pub walk-requires : goal.walk-requires
@@ -91,6 +101,10 @@ loop-level-preserved t c =
     (c.deref-in-loop-level.ensures.value ∙ c.in_ok-new.ensures) in
     let parts = no_parts levels_of c.loop-level.paths.items c.in_ok-behind.behind.items
     c.add_longer.new.paths.items (λ ls. level ∷ ls) c.in_ok-add_longer.ensures in
+    let few : length c.in_ok-behind.behind.items ≤ c.args.most - c.len-in-loop-level.result =
+    c.in_ok-behind.ensures.few in
+    let size = c.len-in-loop-level.ensures in
+    let listed = c.loop-level.paths.ok in
     record {
       here = λ e. c.loop-level.invariant.here (parts e).0;
       tried = λ e.
@@ -111,6 +125,9 @@ loop-level-preserved t c =
           (subst (λ start. All (IsGain start (c.args.budget - 1) marks c.deref.result.now
           c.deref-in-loop-level.result.now) (all_levels c.in_ok-behind.behind.items))
           c.behind-in-loop-level-2.ensures c.in_ok-behind.ensures.each);
+      few = few_longer levels_of c.loop-level.paths.items c.in_ok-behind.behind.items
+          c.add_longer.new.paths.items (λ ls. level ∷ ls) c.args.most c.in_ok-add_longer.ensures
+          c.loop-level.invariant.few (omega (arith, few, size, listed));
     }
 
 pub returns-then-len-most-clause-none : goal.returns-then-len-most-clause-none
@@ -118,6 +135,9 @@ returns-then-len-most-clause-none t c = λ e. absurd (let h = ap length e in ome
 
 pub returns-then-len-most-clause-each : goal.returns-then-len-most-clause-each
 returns-then-len-most-clause-each t c = c.loop-level.invariant.each
+
+pub returns-then-len-most-clause-few : goal.returns-then-len-most-clause-few
+returns-then-len-most-clause-few t c = c.loop-level.invariant.few
 
 pub returns-clause-none : goal.returns-clause-none
 returns-clause-none t c = λ e.
@@ -140,3 +160,6 @@ returns-clause-none t c = λ e.
 
 pub returns-clause-each : goal.returns-clause-each
 returns-clause-each t c = c.loop-level.invariant.each
+
+pub returns-clause-few : goal.returns-clause-few
+returns-clause-few t c = c.loop-level.invariant.few
