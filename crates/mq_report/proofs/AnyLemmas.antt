@@ -12,8 +12,10 @@ other false b e = rw e refl
 
 pub any_kept : {X : Type 0} (p : X → Bool) (before more after : List X) → after ≡ before ++ more
     → list_any p before ≡ true → list_any p after ≡ true
-any_kept p before more after e h = ap (list_any p) e ∙ list_any-append p before more ∙ either (list_any p before) (list_any p more) h
+any_kept p before more after e h = ap (list_any p) e ∙ list_any-append p before more
+    ∙ either (list_any p before) (list_any p more) h
 
 pub any_last : {X : Type 0} (p : X → Bool) (before after : List X) (x : X)
     → after ≡ before ++ x ∷ [] → p x ≡ true → list_any p after ≡ true
-any_last p before after x e h = ap (list_any p) e ∙ list_any-append p before (x ∷ []) ∙ other (list_any p before) (p x) h
+any_last p before after x e h = ap (list_any p) e ∙ list_any-append p before (x ∷ [])
+    ∙ other (list_any p before) (p x) h

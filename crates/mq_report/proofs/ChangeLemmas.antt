@@ -19,36 +19,44 @@ use Rattle.mq_report.specs.declared.difference.Difference.{Difference}
 pub adds_many : (old new : List Row) (before after more : List Difference)
     → after ≡ before ++ more → All (IsReal old new) more → Adds old new before after
 adds_many old new before after more e r = record {
-  real = λ all. subst (All (IsReal old new)) (sym e) (All-append (IsReal old new) before more all r);
+  real = λ all. subst (All (IsReal old new)) (sym e)
+      (All-append (IsReal old new) before more all r);
   kept = λ p h. any_kept p before more after e h;
 }
 
 pub adds_one : (old new : List Row) (before after : List Difference) (d : Difference)
     → after ≡ before ++ d ∷ [] → IsReal old new d → Adds old new before after
-adds_one old new before after d e r = adds_many old new before after (d ∷ []) e (All-cons (IsReal old new) d [] r (All-nil (IsReal old new)))
+adds_one old new before after d e r =
+    adds_many old new before after (d ∷ []) e
+    (All-cons (IsReal old new) d [] r (All-nil (IsReal old new)))
 
 pub adds_none : (old new : List Row) (before : List Difference) → Adds old new before before
 adds_none old new before = record { real = λ all. all; kept = λ p h. h }
 
 pub adds_both : (old new : List Row) (a b c : List Difference) → Adds old new a b
     → Adds old new b c → Adds old new a c
-adds_both old new a b c f g = record { real = λ all. g.real (f.real all); kept = λ p h. g.kept p (f.kept p h) }
+adds_both old new a b c f g =
+    record { real = λ all. g.real (f.real all); kept = λ p h. g.kept p (f.kept p h) }
 
 -- ---- all classes
 -- whatever changes for a client of this user name, or of none, is told
 abbrev pub ToldFor : List Row → List Row → Option (List ℕ) → List Difference → Type 0
-ToldFor old new user all = (way : Way) (direction : Direction) → Tells (row_views old) (row_views new) way direction user all
+ToldFor old new user all = (way : Way) (direction : Direction)
+    → Tells (row_views old) (row_views new) way direction user all
 
 -- for the clients without a user name, and for those of the first names, all is told
-pub record IsTold (old new : List Row) (names : List (Bor (List ℕ))) (n : ℕ) (all : List Difference) : Type 0 where
+pub record IsTold (old new : List Row) (names : List (Bor (List ℕ))) (n : ℕ) (all : List Difference)
+    : Type 0 where
   pub real : All (IsReal old new) all
   pub anonymous : ToldFor old new None all
-  pub users : (t : List ℕ) → is_among t names ≡ true → is_among t (drop n names) ≡ false → ToldFor old new (Some t) all
+  pub users : (t : List ℕ) → is_among t names ≡ true → is_among t (drop n names) ≡ false
+      → ToldFor old new (Some t) all
 
 pub told_kept : (old new : List Row) (user : Option (List ℕ)) (before after : List Difference)
     → Adds old new before after → ToldFor old new user before → ToldFor old new user after
 told_kept old new user before after a h way direction client topic valid change =
-    a.kept (is_told_of (row_views old) (row_views new) way direction user) (h way direction client topic valid change)
+    a.kept (is_told_of (row_views old) (row_views new) way direction user)
+    (h way direction client topic valid change)
 
 not_among : (names : List (Bor (List ℕ))) (t : List ℕ) → is_among t names ≡ true
     → is_among t (drop 0 names) ≡ false → ⊥
@@ -69,7 +77,8 @@ pub told_one : (old new : List Row) (names : List (Bor (List ℕ))) (n : ℕ) (d
 told_one old new names n d before after h a here s = record {
   real = a.real s.real;
   anonymous = told_kept old new None before after a s.anonymous;
-  users = one_more_done (λ t. ToldFor old new (Some t) after) names n d h here (λ t e f. told_kept old new (Some t) before after a (s.users t e f));
+  users = one_more_done (λ t. ToldFor old new (Some t) after) names n d h here
+      (λ t e f. told_kept old new (Some t) before after a (s.users t e f));
 }
 
 pub told_all : (old new : List Row) (names : List (Bor (List ℕ))) (n : ℕ)
@@ -79,11 +88,15 @@ pub told_all : (old new : List Row) (names : List (Bor (List ℕ))) (n : ℕ)
     → is_listed (row_views old) (row_views new) t ≡ false → ToldFor old new (Some t) after)
     → IsTold old new names n before
     → (user : Option (List ℕ)) → ToldFor old new user after
-told_all old new names n before after h listed a others s None = told_kept old new None before after a s.anonymous
-told_all old new names n before after h listed a others s (Some t) = at (is_listed (row_views old) (row_views new) t) refl
+told_all old new names n before after h listed a others s None =
+    told_kept old new None before after a s.anonymous
+told_all old new names n before after h listed a others s (Some t) =
+    at (is_listed (row_views old) (row_views new) t) refl
   where
-    at : (b : Bool) → is_listed (row_views old) (row_views new) t ≡ b → ToldFor old new (Some t) after
-    at true e = told_kept old new (Some t) before after a (all_done (λ t. ToldFor old new (Some t) before) names n h s.users t (listed t ∙ e))
+    at : (b : Bool) → is_listed (row_views old) (row_views new) t ≡ b
+        → ToldFor old new (Some t) after
+    at true e = told_kept old new (Some t) before after a
+        (all_done (λ t. ToldFor old new (Some t) before) names n h s.users t (listed t ∙ e))
     at false e = others t e
 
 -- ---- where nothing is told, nothing changed
@@ -93,10 +106,12 @@ pub same_allowed : (old new : List Row) (client topic : List ℕ) (user : Option
     → allowed (Some (row_views old)) client user topic direction
     ≡ allowed (Some (row_views new)) client user topic direction
 same_allowed old new client topic user direction valid h =
-    at (allowed (Some (row_views old)) client user topic direction) (allowed (Some (row_views new)) client user topic direction)
+    at (allowed (Some (row_views old)) client user topic direction)
+    (allowed (Some (row_views new)) client user topic direction)
     (h Gained direction client topic valid) (h Lost direction client topic valid)
   where
-    at : (a b : Bool) → ((b && not a) ≡ true → false ≡ true) → ((a && not b) ≡ true → false ≡ true) → a ≡ b
+    at : (a b : Bool) → ((b && not a) ≡ true → false ≡ true) → ((a && not b) ≡ true → false ≡ true)
+        → a ≡ b
     at true true f g = refl
     at true false f g = absurd (let q = g refl in cc)
     at false true f g = absurd (let q = f refl in cc)

@@ -25,22 +25,28 @@ IsAlone p l = slice_split p l ≡ l ∷ []
 
 onto : {X : Type 0} (p : X → Bool) (x : X) (ls : List (List X)) → p x ≡ false
     → All (IsAlone p) ls → All (IsAlone p) (onto_first x ls)
-onto p x [] e h = All-cons (IsAlone p) (x ∷ []) [] (slice_split-cons_no p x [] e) (All-nil (IsAlone p))
+onto p x [] e h = All-cons (IsAlone p) (x ∷ []) [] (slice_split-cons_no p x [] e)
+    (All-nil (IsAlone p))
 onto p x (part ∷ parts) e h =
-    All-cons (IsAlone p) (x ∷ part) parts (slice_split-cons_no p x part e ∙ ap (onto_first x) (All-head (IsAlone p) part parts h)) (All-tail (IsAlone p) part parts h)
+    All-cons (IsAlone p) (x ∷ part) parts (slice_split-cons_no p x part e
+    ∙ ap (onto_first x) (All-head (IsAlone p) part parts h))
+    (All-tail (IsAlone p) part parts h)
 
 pieces_alone : {X : Type 0} (p : X → Bool) (xs : List X) → All (IsAlone p) (slice_split p xs)
 pieces_alone p [] = All-cons (IsAlone p) [] [] refl (All-nil (IsAlone p))
 pieces_alone p (x ∷ xs) = at (p x) refl (pieces_alone p xs)
   where
-    at : (b : Bool) → p x ≡ b → All (IsAlone p) (slice_split p xs) → All (IsAlone p) (cond b ([] ∷ slice_split p xs) (onto_first x (slice_split p xs)))
+    at : (b : Bool) → p x ≡ b → All (IsAlone p) (slice_split p xs)
+        → All (IsAlone p) (cond b ([] ∷ slice_split p xs) (onto_first x (slice_split p xs)))
     at true e h = All-cons (IsAlone p) [] (slice_split p xs) refl h
     at false e h = onto p x (slice_split p xs) e h
 
 pub line_alone : (text : List ℕ) (i : ℕ) (line : List ℕ) → i < length (lines text)
     → line ≡ get_or (lines text) i line → lines line ≡ line ∷ []
 line_alone text i line h e =
-    subst (λ l. lines l ≡ l ∷ []) (sym e) (All-get_or (λ l. lines l ≡ l ∷ []) (lines text) i line h (pieces_alone (λ b. b == 10) text))
+    subst (λ l. lines l ≡ l ∷ []) (sym e)
+    (All-get_or (λ l. lines l ≡ l ∷ []) (lines text) i line h
+    (pieces_alone (λ b. b == 10) text))
 
 -- ---- what a line alone says
 viewed : (p : AclRow → Bool) (rows : List Row)
@@ -57,16 +63,24 @@ says : (e : Result Entry AclKind) (rows : List AclRow)
     ≡ Ok rows
     → kind_if (list_any is_unmarked rows) NoMark ≡ entry_kind e
 says (Err kind) rows h = absurd (cc)
-says (Ok Skipped) rows h = (let e : [] ≡ rows = cc in subst (λ l. kind_if (list_any is_unmarked l) NoMark ≡ None) e refl)
-says (Ok (User name)) rows h = (let e : [] ≡ rows = cc in subst (λ l. kind_if (list_any is_unmarked l) NoMark ≡ None) e refl)
-says (Ok (Topic access topic)) rows h = (let e : rows_in (Topic access topic ∷ []) ≡ rows = cc in subst (λ l. kind_if (list_any is_unmarked l) NoMark ≡ None) e refl)
-says (Ok (Pattern access topic)) rows h = (let e : rows_in (Pattern access topic ∷ []) ≡ rows = cc in subst (λ l. kind_if (list_any is_unmarked l) NoMark ≡ kind_if (not (has_mark topic)) NoMark) e (unmarked_is (not (has_mark topic))))
+says (Ok Skipped) rows h =
+    (let e : [] ≡ rows = cc in subst (λ l. kind_if (list_any is_unmarked l) NoMark ≡ None) e refl)
+says (Ok (User name)) rows h =
+    (let e : [] ≡ rows = cc in subst (λ l. kind_if (list_any is_unmarked l) NoMark ≡ None) e refl)
+says (Ok (Topic access topic)) rows h =
+    (let e : rows_in (Topic access topic ∷ []) ≡ rows = cc in
+    subst (λ l. kind_if (list_any is_unmarked l) NoMark ≡ None) e refl)
+says (Ok (Pattern access topic)) rows h =
+    (let e : rows_in (Pattern access topic ∷ []) ≡ rows = cc in
+    subst (λ l. kind_if (list_any is_unmarked l) NoMark ≡ kind_if (not (has_mark topic)) NoMark) e
+    (unmarked_is (not (has_mark topic))))
 
 fails : (e : Result Entry AclKind) (rows : List AclRow) (fault : AclFault)
     → unless_faulty (cons_option (fault_at 1 e) []) rows ≡ Err fault
     → Some (Fault fault.kind) ≡ entry_kind e
 fails (Ok entry) rows fault h = absurd (cc)
-fails (Err kind) rows fault h = (let e : record { line = 1; kind = kind } ≡ fault = cc in ap (λ f. Some (Fault f.kind)) (sym e))
+fails (Err kind) rows fault h =
+    (let e : record { line = 1; kind = kind } ≡ fault = cc in ap (λ f. Some (Fault f.kind)) (sym e))
 
 pub line_says : (line : List ℕ) (rows : List Row) → lines line ≡ line ∷ []
     → rows_of line ≡ Ok (row_views rows)
@@ -74,14 +88,16 @@ pub line_says : (line : List ℕ) (rows : List Row) → lines line ≡ line ∷ 
     ≡ entry_kind (entry_of line)
 line_says line rows alone h =
     ap (λ b. kind_if b NoMark) (viewed is_unmarked rows)
-    ∙ says (entry_of line) (row_views rows) (ap (λ ls. unless_faulty (faults_of ls) (rows_in (entries_of ls))) (sym alone) ∙ h)
+    ∙ says (entry_of line) (row_views rows)
+    (ap (λ ls. unless_faulty (faults_of ls) (rows_in (entries_of ls))) (sym alone) ∙ h)
 
 pub line_fails : (line : List ℕ) (fault : AclFault) → lines line ≡ line ∷ []
     → fault.kind ≢ kinds.Memory → (fault ≡ out_of_memory) ⊎ (rows_of line ≡ Err fault)
     → Some (Fault fault.kind) ≡ entry_kind (entry_of line)
 line_fails line fault alone own h =
     ⊎_elim (λ same. absurd (own (ap (λ f. f.kind) same)))
-    (λ e. fails (entry_of line) (rows_in (entries_of (line ∷ []))) fault (ap (λ ls. unless_faulty (faults_of ls) (rows_in (entries_of ls))) (sym alone) ∙ e)) h
+    (λ e. fails (entry_of line) (rows_in (entries_of (line ∷ []))) fault
+    (ap (λ ls. unless_faulty (faults_of ls) (rows_in (entries_of ls))) (sym alone) ∙ e)) h
 
 -- ---- line by line
 pub remarks_step : (all : List (List ℕ)) (number : ℕ) (line : List ℕ) → number < length all
@@ -90,7 +106,8 @@ pub remarks_step : (all : List (List ℕ)) (number : ℕ) (line : List ℕ) → 
     ≡ line_remarks (number + 1) line ++ remarks_from (number + 1 + 1) (drop (number + 1) all)
 remarks_step all number line h e =
     at_drop_more (remarks_from (number + 1)) all number line h
-    ∙ ap (λ l. line_remarks (number + 1) l ++ remarks_from (number + 1 + 1) (drop (number + 1) all)) (sym e)
+    ∙ ap (λ l. line_remarks (number + 1) l ++ remarks_from (number + 1 + 1) (drop (number + 1) all))
+    (sym e)
 
 -- ---- the faults among the remarks
 
@@ -118,9 +135,11 @@ line_fault number line =
     let tab = remark_on number (kind_if (is_tabbed line) Tab) in
     filter_map-append told (entry ++ comment) tab
     ∙ ap (λ l. l ++ faults_told tab) (filter_map-append told entry comment)
-    ∙ ap (λ l. (faults_told entry ++ faults_told comment) ++ l) (no_fault number (is_tabbed line) Tab refl)
+    ∙ ap (λ l. (faults_told entry ++ faults_told comment) ++ l)
+    (no_fault number (is_tabbed line) Tab refl)
     ∙ append-nil (faults_told entry ++ faults_told comment)
-    ∙ ap (λ l. faults_told entry ++ l) (no_fault number (is_indented_comment line) IndentedComment refl)
+    ∙ ap (λ l. faults_told entry ++ l)
+    (no_fault number (is_indented_comment line) IndentedComment refl)
     ∙ append-nil (faults_told entry)
     ∙ entry_fault number (entry_of line)
 
@@ -135,4 +154,6 @@ faults_from number [] = refl
 faults_from number (line ∷ all) =
     filter_map-append told (line_remarks number line) (remarks_from (number + 1) all)
     ∙ (λ i. line_fault number line i ++ faults_from (number + 1) all i)
-    ∙ listed (fault_at number (entry_of line)) (filter_map (λ numbered. fault_at numbered.0 (entry_of numbered.1)) (enumerate_from (number + 1) all))
+    ∙ listed (fault_at number (entry_of line))
+    (filter_map (λ numbered. fault_at numbered.0 (entry_of numbered.1))
+    (enumerate_from (number + 1) all))

@@ -2,6 +2,7 @@
 use Rattle.std.proofs.Common.{◌≡◌, ◌<◌, ℕ, length, get_or, Bool, true, false, not, ◌&&◌, ◌||◌, List, [], ◌∷◌, ◌++◌, Option, Some, None, All, IsTrue, bytes_eq, string_bytes, refl, ap, sym, ◌∙◌, subst, Bor}
 use Rattle.std.specs.List.{list_any}
 use Rattle.std.proofs.lemmas.List.Elements.{All-nil, All-get_or}
+use Rattle.std.proofs.lemmas.Bool.{and_parts}
 use Rattle.mq_topic.specs.Texts.{is_name}
 use Rattle.mq_acl.specs.Rows.{AclRow}
 use Rattle.mq_acl.specs.Views.{row_views}
@@ -12,7 +13,6 @@ use Rattle.mq_questions.specs.Comparison.{Compared, changed, lists_user}
 use Rattle.mq_questions.specs.Roots.{gained}
 use Rattle.mq_questions.specs.declared.way.Way.{Way}
 use Rattle.mq_questions.specs.declared.way.Way.TheVariants.{Gained, Lost}
-use Rattle.mq_walk.proofs.BranchLemmas.{and_left, and_right, text_is}
 use Rattle.mq_report.specs.Classes.{is_in, is_listed, is_asked}
 use Rattle.mq_report.specs.Differences.{is_change, is_told_of, is_like, same_way, same_direction, same_class, same_reasons, IsReal, Compares, Tells, Adds}
 use Rattle.mq_report.specs.declared.class.Class.{Class}
@@ -20,14 +20,17 @@ use Rattle.mq_report.specs.declared.class.Class.TheVariants as classes
 use Rattle.mq_report.specs.declared.difference.Difference.{Difference}
 use Rattle.mq_report.specs.declared.witnesses.Clients.{Clients}
 use Rattle.mq_report.specs.declared.witnesses.Clients.TheVariants as clients
+use Rattle.mq_walk.proofs.TextLemmas.{text_is}
 
 -- ---- a change of the comparison is one of the lists
 pub change_is : (old new : List Row) (c : Compared) (way : Way) (client : List ℕ) (user : Option
     (List ℕ)) (topic : List ℕ) (direction : Direction) → Compares old new c
     → is_change way (row_views old) (row_views new) client user topic direction
     ≡ changed way c client user topic direction
-change_is old new c Gained client user topic direction h = λ i. gained (sym h.old_list i) (sym h.new_list i) client user topic direction
-change_is old new c Lost client user topic direction h = λ i. gained (sym h.new_list i) (sym h.old_list i) client user topic direction
+change_is old new c Gained client user topic direction h =
+    λ i. gained (sym h.old_list i) (sym h.new_list i) client user topic direction
+change_is old new c Lost client user topic direction h =
+    λ i. gained (sym h.new_list i) (sym h.old_list i) client user topic direction
 
 -- ---- what is like one that is told of somebody is told of him too
 way_is : (a b c : Way) → same_way a b ≡ true → same_way b c ≡ true → same_way a c ≡ true
@@ -46,15 +49,23 @@ direction_is Writing Writing c e f = f
 class_is : (old new : List AclRow) (user : Option (List ℕ)) (a b : Class)
     → is_in old new user a ≡ true → same_class a b ≡ true → is_in old new user b ≡ true
 class_is old new user classes.Anonymous classes.Anonymous e f = e
-class_is old new user classes.Anonymous (classes.User name) e f = absurd (let k : false ≡ true = f in cc)
-class_is old new user classes.Anonymous (classes.Others name) e f = absurd (let k : false ≡ true = f in cc)
-class_is old new user (classes.User name) classes.Anonymous e f = absurd (let k : false ≡ true = f in cc)
-class_is old new None (classes.User name) (classes.User other) e f = absurd (let k : false ≡ true = e in cc)
+class_is old new user classes.Anonymous (classes.User name) e f =
+    absurd (let k : false ≡ true = f in cc)
+class_is old new user classes.Anonymous (classes.Others name) e f =
+    absurd (let k : false ≡ true = f in cc)
+class_is old new user (classes.User name) classes.Anonymous e f =
+    absurd (let k : false ≡ true = f in cc)
+class_is old new None (classes.User name) (classes.User other) e f =
+    absurd (let k : false ≡ true = e in cc)
 class_is old new (Some user) (classes.User name) (classes.User other) e f =
-    subst (λ t. (bytes_eq user t && is_listed old new user) ≡ true) (text_is (string_bytes name) (string_bytes other) f) e
-class_is old new user (classes.User name) (classes.Others other) e f = absurd (let k : false ≡ true = f in cc)
-class_is old new user (classes.Others name) classes.Anonymous e f = absurd (let k : false ≡ true = f in cc)
-class_is old new user (classes.Others name) (classes.User other) e f = absurd (let k : false ≡ true = f in cc)
+    subst (λ t. (bytes_eq user t && is_listed old new user) ≡ true)
+    (text_is (string_bytes name) (string_bytes other) f) e
+class_is old new user (classes.User name) (classes.Others other) e f =
+    absurd (let k : false ≡ true = f in cc)
+class_is old new user (classes.Others name) classes.Anonymous e f =
+    absurd (let k : false ≡ true = f in cc)
+class_is old new user (classes.Others name) (classes.User other) e f =
+    absurd (let k : false ≡ true = f in cc)
 class_is old new None (classes.Others name) (classes.Others other) e f = e
 class_is old new (Some user) (classes.Others name) (classes.Others other) e f = e
 
@@ -66,16 +77,24 @@ like_one : (old new : List AclRow) (way : Way) (direction : Direction) (user : O
     → is_told_of old new way direction user d ≡ true
     → is_told_of old new way direction user e ≡ true
 like_one old new way direction user d e h t =
-    let same3 = and_left (same_class d.class e.class && same_direction d.direction e.direction && same_way d.way e.way) (same_reasons d e) h in
-    let same2 = and_left (same_class d.class e.class && same_direction d.direction e.direction) (same_way d.way e.way) same3 in
-    let told2 = and_left (same_way way d.way && same_direction direction d.direction) (is_in old new user d.class) t in
+    let same3 = (and_parts (same_class d.class e.class && same_direction d.direction e.direction
+    && same_way d.way e.way) (same_reasons d e) h).0 in
+    let same2 = (and_parts (same_class d.class e.class && same_direction d.direction e.direction)
+    (same_way d.way e.way) same3).0 in
+    let told2 = (and_parts (same_way way d.way && same_direction direction d.direction)
+    (is_in old new user d.class) t).0 in
     three (same_way way e.way) (same_direction direction e.direction) (is_in old new user e.class)
-    (way_is way d.way e.way (and_left (same_way way d.way) (same_direction direction d.direction) told2)
-    (and_right (same_class d.class e.class && same_direction d.direction e.direction) (same_way d.way e.way) same3))
-    (direction_is direction d.direction e.direction (and_right (same_way way d.way) (same_direction direction d.direction) told2)
-    (and_right (same_class d.class e.class) (same_direction d.direction e.direction) same2))
-    (class_is old new user d.class e.class (and_right (same_way way d.way && same_direction direction d.direction) (is_in old new user d.class) t)
-    (and_left (same_class d.class e.class) (same_direction d.direction e.direction) same2))
+    (way_is way d.way e.way (and_parts (same_way way d.way) (same_direction direction d.direction)
+    told2).0
+    (and_parts (same_class d.class e.class && same_direction d.direction e.direction)
+    (same_way d.way e.way) same3).1)
+    (direction_is direction d.direction e.direction
+    (and_parts (same_way way d.way) (same_direction direction d.direction) told2).1
+    (and_parts (same_class d.class e.class) (same_direction d.direction e.direction) same2).1)
+    (class_is old new user d.class e.class
+    (and_parts (same_way way d.way && same_direction direction d.direction)
+    (is_in old new user d.class) t).1
+    (and_parts (same_class d.class e.class) (same_direction d.direction e.direction) same2).0)
 
 pub like_told : (old new : List AclRow) (way : Way) (direction : Direction) (user : Option
     (List ℕ)) (d : Difference) (told : List Difference) → list_any (is_like d) told ≡ true
@@ -83,20 +102,25 @@ pub like_told : (old new : List AclRow) (way : Way) (direction : Direction) (use
     → list_any (is_told_of old new way direction user) told ≡ true
 like_told old new way direction user d [] h t = absurd (let k : false ≡ true = h in cc)
 like_told old new way direction user d (e ∷ told) h t =
-    at (is_like d e) (list_any (is_like d) told) (is_told_of old new way direction user e) (list_any (is_told_of old new way direction user) told) h
-    (λ k. like_one old new way direction user d e k t) (λ k. like_told old new way direction user d told k t)
+    at (is_like d e) (list_any (is_like d) told) (is_told_of old new way direction user e)
+    (list_any (is_told_of old new way direction user) told) h
+    (λ k. like_one old new way direction user d e k t)
+    (λ k. like_told old new way direction user d told k t)
   where
-    at : (p q r s : Bool) → (p || q) ≡ true → (p ≡ true → r ≡ true) → (q ≡ true → s ≡ true) → (r || s) ≡ true
+    at : (p q r s : Bool) → (p || q) ≡ true → (p ≡ true → r ≡ true) → (q ≡ true → s ≡ true)
+        → (r || s) ≡ true
     at true q r s h f g = rw (f refl) refl
     at false q true s h f g = refl
     at false q false s h f g = g h
 
 -- ---- the witnesses of a class
 -- what these witnesses show is told
-pub record IsFound {W : Type 0} (old new : List Row) (way : Way) (direction : Direction) (who : Clients) (done : List W) (told : List Difference) : Type 0 where
+pub record IsFound {W : Type 0} (old new : List Row) (way : Way) (direction : Direction)
+    (who : Clients) (done : List W) (told : List Difference) : Type 0 where
   pub real : All (IsReal old new) told
   pub none : (user : Option (List ℕ)) → is_asked (row_views old) (row_views new) user who ≡ true
-      → list_any (is_told_of (row_views old) (row_views new) way direction user) told ≡ false → done ≡ []
+      → list_any (is_told_of (row_views old) (row_views new) way direction user) told ≡ false
+      → done ≡ []
 
 pub found_start : {W : Type 0} (old new : List Row) (way : Way) (direction : Direction)
     (who : Clients) (told : List Difference) → told ≡ []
@@ -128,9 +152,11 @@ pub found_tells : {W : Type 0} (old new : List Row) (way : Way) (direction : Dir
 found_tells old new way direction who done told user asked nothing s client topic valid change =
     at (list_any (is_told_of (row_views old) (row_views new) way direction user) told) refl
   where
-    at : (b : Bool) → list_any (is_told_of (row_views old) (row_views new) way direction user) told ≡ b → b ≡ true
+    at : (b : Bool) → list_any (is_told_of (row_views old) (row_views new) way direction user) told
+        ≡ b → b ≡ true
     at true e = refl
-    at false e = absurd (let k : true ≡ false = sym change ∙ nothing (s.none user asked e) client topic valid in cc)
+    at false e = absurd (let k : true ≡ false = sym change
+        ∙ nothing (s.none user asked e) client topic valid in cc)
 
 -- ---- a class has all who are asked about
 pub asked_anonymous : (old new : List AclRow) (user : Option (List ℕ))
@@ -145,7 +171,8 @@ pub asked_user : (old new : List AclRow) (user : Option (List ℕ)) (name : Bor 
 asked_user old new None name text same listed e = absurd (let k : false ≡ true = e in cc)
 asked_user old new (Some user) name text same listed e =
     let is = text_is user name.now e in
-    subst (λ t. (bytes_eq user t && is_listed old new user) ≡ true) (sym same) (rw (e, ap (is_listed old new) is ∙ listed) refl)
+    subst (λ t. (bytes_eq user t && is_listed old new user) ≡ true) (sym same)
+    (rw (e, ap (is_listed old new) is ∙ listed) refl)
 
 pub asked_others : (old new : List AclRow) (user : Option (List ℕ)) (text : _)
     → is_asked old new user clients.Others ≡ true → is_in old new user (classes.Others text) ≡ true
@@ -181,4 +208,5 @@ pub told_by : (old new : List AclRow) (way : Way) (direction : Direction) (user 
     → is_told_of old new way direction user d ≡ true
 told_by old new way direction user class d e f g h =
     three (same_way way d.way) (same_direction direction d.direction) (is_in old new user d.class)
-    (ap (same_way way) f ∙ way_same way) (ap (same_direction direction) g ∙ direction_same direction) (ap (is_in old new user) e ∙ h)
+    (ap (same_way way) f ∙ way_same way) (ap (same_direction direction) g
+    ∙ direction_same direction) (ap (is_in old new user) e ∙ h)

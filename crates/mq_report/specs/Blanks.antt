@@ -23,7 +23,8 @@ behind_word text = drop (position_or_len is_blank text) text
 abbrev pub takes_access : List ℕ → Bool
 takes_access word = bytes_eq word (codes "topic") || bytes_eq word (codes "pattern")
 
--- there is a tab among the blanks behind the keyword or, where an access may stand there, behind the next word
+-- there is a tab among the blanks behind the keyword or, where an access may stand there, behind
+-- the next word
 abbrev pub has_tab_inside : List ℕ → Bool
 has_tab_inside text =
     begins_with_tab (behind_word text)

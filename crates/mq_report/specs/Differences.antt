@@ -58,23 +58,31 @@ same_reasons d e = same_reason d.old_reason e.old_reason && same_reason d.new_re
 
 -- both are of the same class, direction and way, and the same lines decide them
 abbrev pub is_like : Difference → Difference → Bool
-is_like d e = same_class d.class e.class && same_direction d.direction e.direction && same_way d.way e.way && same_reasons d e
+is_like d e = same_class d.class e.class && same_direction d.direction e.direction
+    && same_way d.way e.way && same_reasons d e
 
 -- the difference is of this way and direction, and of the class of this user name, or of none
 abbrev pub is_told_of : List AclRow → List AclRow → Way → Direction → Option (List ℕ)
     → Difference → Bool
-is_told_of old new way direction user d = same_way way d.way && same_direction direction d.direction && is_in old new user d.class
+is_told_of old new way direction user d = same_way way d.way && same_direction direction d.direction
+    && is_in old new user d.class
 
 -- no row names any of the texts
 abbrev pub AreUnnamed : List AclRow → List AclRow → List (String Global) → Type 0
-AreUnnamed old new texts = All (λ text. (rows_name (string_bytes text) old || rows_name (string_bytes text) new) ≡ false) texts
+AreUnnamed old new texts =
+    All (λ text. (rows_name (string_bytes text) old || rows_name (string_bytes text) new) ≡ false)
+    texts
 
--- its client and topic do differ in the way that it tells, these lines decide it, and no row names what it calls made up
+-- its client and topic do differ in the way that it tells, these lines decide it, and no row names
+-- what it calls made up
 pub record IsReal (old new : List Row) (d : Difference) : Type 0 where
   pub class : is_in (row_views old) (row_views new) (user_of d.class) d.class ≡ true
-  pub change : is_change d.way (row_views old) (row_views new) (string_bytes d.client) (user_of d.class) d.topic d.direction ≡ true
-  pub old_reason : d.old_reason ≡ reason_of old (string_bytes d.client) (user_of d.class) d.topic d.direction
-  pub new_reason : d.new_reason ≡ reason_of new (string_bytes d.client) (user_of d.class) d.topic d.direction
+  pub change : is_change d.way (row_views old) (row_views new) (string_bytes d.client)
+      (user_of d.class) d.topic d.direction ≡ true
+  pub old_reason : d.old_reason ≡ reason_of old (string_bytes d.client) (user_of d.class) d.topic
+      d.direction
+  pub new_reason : d.new_reason ≡ reason_of new (string_bytes d.client) (user_of d.class) d.topic
+      d.direction
   pub made_up : AreUnnamed (row_views old) (row_views new) d.made_up.items
 
 -- it compares these lists
@@ -82,11 +90,13 @@ pub record Compares (old new : List Row) (c : Compared) : Type 0 where
   pub old_list : c.old ≡ row_views old
   pub new_list : c.new ≡ row_views new
 
--- what changes in this way and direction for a client of this user name, or of none, is told of its class
+-- what changes in this way and direction for a client of this user name, or of none, is told of its
+-- class
 abbrev pub Tells : List AclRow → List AclRow → Way → Direction → Option (List ℕ)
     → List Difference → Type 0
 Tells old new way direction user all =
-    (client topic : List ℕ) → IsTrue (is_name topic) → is_change way old new client user topic direction ≡ true
+    (client topic : List ℕ) → IsTrue (is_name topic)
+    → is_change way old new client user topic direction ≡ true
     → list_any (is_told_of old new way direction user) all ≡ true
 
 -- what was told stays told, and what is added is real

@@ -9,7 +9,8 @@ use Rattle.mq_report.specs.declared.group.Group.{Group}
 -- of the same way, direction and topic, and decided by the same lines
 abbrev pub is_alike : Difference → Difference → Bool
 is_alike d e =
-    same_direction d.direction e.direction && same_way d.way e.way && same_reasons d e && bytes_eq d.topic e.topic
+    same_direction d.direction e.direction && same_way d.way e.way && same_reasons d e
+    && bytes_eq d.topic e.topic
 
 abbrev pub members : List Group → List Difference
 members groups = flat_map (λ group. group.first ∷ group.others.items) groups

@@ -19,11 +19,13 @@ granted_access access = access
 abbrev pub as_grant : AclRow → AclRow
 as_grant row = record { who = row.who; access = granted_access row.access; filter = row.filter }
 
--- the other row makes this one needless: it denies, or both grant; and of the two alone, a row that denies taken for one
+-- the other row makes this one needless: it denies, or both grant; and of the two alone, a row that
+-- denies taken for one
 -- that grants, the one without this row allows the same
 pub record MakesNeedless (other row : AclRow) : Type 0 where
   pub kind : (is_deny row.access && not (is_deny other.access)) ≡ false
-  pub same : (user : Option (List ℕ)) → AllowSame (as_grant row ∷ (as_grant other ∷ [])) (as_grant other ∷ []) user
+  pub same : (user : Option (List ℕ))
+      → AllowSame (as_grant row ∷ (as_grant other ∷ [])) (as_grant other ∷ []) user
 
 -- another row has this line and makes the row at this place needless
 pub record IsMaker (rows : List Row) (index : ℕ) (row : AclRow) (line : ℕ) : Type 0 where
@@ -37,24 +39,28 @@ pub record IsMaker (rows : List Row) (index : ℕ) (row : AclRow) (line : ℕ) :
 
 -- no other row makes it needless
 abbrev pub MakesNone : List Row → ℕ → AclRow → Type 0
-MakesNone rows index row = (place : ℕ) (d : Row) → place < length rows → place ≢ index → MakesNeedless (row_view (slice_index_or rows place d)) row → ⊥
+MakesNone rows index row = (place : ℕ) (d : Row) → place < length rows → place ≢ index
+    → MakesNeedless (row_view (slice_index_or rows place d)) row → ⊥
 
 abbrev pub IsBy : List Row → ℕ → AclRow → RemarkKind → Type 0
 IsBy rows index row (Needless (Some line)) = IsMaker rows index row line
 IsBy rows index row (Needless None) = MakesNone rows index row
 IsBy rows index row kind = ⊥
 
--- it is the line of a row without which the list allows the same, with the line that makes it needless, if one does
+-- it is the line of a row without which the list allows the same, with the line that makes it
+-- needless, if one does
 pub record IsNeedlessLine (rows : List Row) (remark : Remark) : Type 0 where
   pub place : ℕ
   pub row : Row
   pub in_range : place < length rows
   pub is : row ≡ slice_index_or rows place row
   pub line_is : remark.line ≡ row.line
-  pub needless : (user : Option (List ℕ)) → AllowSame (row_views rows) (without place (row_views rows)) user
+  pub needless : (user : Option (List ℕ))
+      → AllowSame (row_views rows) (without place (row_views rows)) user
   pub by : IsBy rows place (row_view row) remark.kind
 
 -- of the first rows, each that isn't told is needed
 abbrev pub AreRest : List Row → ℕ → List Remark → Type 0
 AreRest rows n told = (place : ℕ) (d : Row) → place < n
-    → (list_any (λ remark. remark.line == (slice_index_or rows place d).line) told ≡ true) ⊎ Differ (row_views rows) (without place (row_views rows))
+    → (list_any (λ remark. remark.line == (slice_index_or rows place d).line) told ≡ true)
+    ⊎ Differ (row_views rows) (without place (row_views rows))

@@ -15,7 +15,8 @@ first_deny rows client user topic =
 -- the first row that grants it
 abbrev pub first_grant : List Row → List ℕ → Option (List ℕ) → List ℕ → Direction → Option Row
 first_grant rows client user topic direction =
-    find (λ row. concerns client user topic (row_view row) && grants direction (row_view row).access) rows
+    find (λ row. concerns client user topic (row_view row)
+    && grants direction (row_view row).access) rows
 
 -- a row that denies decides; without one, a row that grants
 abbrev pub reason_by : Option Row → Option Row → Reason

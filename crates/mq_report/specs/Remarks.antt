@@ -15,7 +15,8 @@ use Rattle.mq_report.specs.declared.remark.RemarkKind.TheVariants.{Fault, NoMark
 
 -- `%c` or `%u` is a level of the topic
 abbrev pub has_mark : List ℕ → Bool
-has_mark topic = list_any (λ level. bytes_eq level (codes "%c") || bytes_eq level (codes "%u")) (levels topic)
+has_mark topic = list_any (λ level. bytes_eq level (codes "%c") || bytes_eq level (codes "%u"))
+    (levels topic)
 
 abbrev pub kind_if : Bool → RemarkKind → Option RemarkKind
 kind_if true kind = Some kind
@@ -34,12 +35,14 @@ remark_on number (Some kind) = record { line = number; kind = kind } ∷ []
 -- all that is odd about a line
 abbrev pub line_remarks : ℕ → List ℕ → List Remark
 line_remarks number line =
-    remark_on number (entry_kind (entry_of line)) ++ remark_on number (kind_if (is_indented_comment line) IndentedComment)
+    remark_on number (entry_kind (entry_of line))
+    ++ remark_on number (kind_if (is_indented_comment line) IndentedComment)
     ++ remark_on number (kind_if (is_tabbed line) Tab)
 
 -- all that is odd about the lines, which are counted from this number
 abbrev pub remarks_from : ℕ → List (List ℕ) → List Remark
-remarks_from number all = flat_map (λ numbered. line_remarks numbered.0 numbered.1) (enumerate_from number all)
+remarks_from number all = flat_map (λ numbered. line_remarks numbered.0 numbered.1)
+    (enumerate_from number all)
 
 -- all that is odd about the lines of the text
 abbrev pub remarks_of : List ℕ → List Remark

@@ -26,7 +26,8 @@ fn add_changes(
 ) -> Result<(), AllocError>
     requires lists { Compares lists.old.now lists.new.now lists.comparison.now }
     requires listed { AreListed (row_views lists.old.now) (row_views lists.new.now) clients }
-    ensures adds { OnOk result (Adds lists.entry.old.now lists.entry.new.now all.old.items all.new.items) }
+    ensures adds { OnOk result
+        (Adds lists.entry.old.now lists.entry.new.now all.old.items all.new.items) }
     ensures told { OnOk result ((user : Option (List ℕ))
         → is_asked (row_views lists.entry.old.now)
         (row_views lists.entry.new.now) user clients.entry ≡ true
@@ -48,7 +49,8 @@ fn add_direction(
 ) -> Result<(), AllocError>
     requires lists { Compares lists.old.now lists.new.now lists.comparison.now }
     requires listed { AreListed (row_views lists.old.now) (row_views lists.new.now) clients }
-    ensures adds { OnOk result (Adds lists.entry.old.now lists.entry.new.now all.old.items all.new.items) }
+    ensures adds { OnOk result
+        (Adds lists.entry.old.now lists.entry.new.now all.old.items all.new.items) }
     ensures told { OnOk result ((way : Way) (user : Option (List ℕ))
         → is_asked (row_views lists.entry.old.now)
         (row_views lists.entry.new.now) user clients.entry ≡ true
@@ -77,7 +79,8 @@ fn add_clients(
 ) -> Result<(), AllocError>
     requires lists { Compares lists.old.now lists.new.now lists.comparison.now }
     requires listed { AreListed (row_views lists.old.now) (row_views lists.new.now) clients }
-    ensures adds { OnOk result (Adds lists.entry.old.now lists.entry.new.now all.old.items all.new.items) }
+    ensures adds { OnOk result
+        (Adds lists.entry.old.now lists.entry.new.now all.old.items all.new.items) }
     ensures told { OnOk result ((way : Way) (direction : Direction) (user : Option (List ℕ))
         → is_asked (row_views lists.entry.old.now)
         (row_views lists.entry.new.now) user clients.entry ≡ true

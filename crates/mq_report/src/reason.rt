@@ -18,7 +18,8 @@ pub enum Reason {
 }
 
 fn reason_by(decision: Decision) -> Reason
-    ensures { result ≡ reason_by (option_copied decision.entry.deny) (option_copied decision.entry.grant) }
+    ensures { result
+        ≡ reason_by (option_copied decision.entry.deny) (option_copied decision.entry.grant) }
 {
     match (decision.deny, decision.grant) {
         (Some(row), _) => Reason::Deny(row.line),
@@ -35,7 +36,8 @@ pub(crate) fn reason_for(
     topic: &TopicName,
     direction: Direction,
 ) -> Reason
-    ensures { result ≡ reason_of rows.now client.now (option_copied user.entry) topic.now direction }
+    ensures { result
+        ≡ reason_of rows.now client.now (option_copied user.entry) topic.now direction }
 {
     reason_by(decide(rows, client, user, topic, direction))
 }

@@ -38,9 +38,11 @@ pub fn why(
     ensures reason { result.reason
         ≡ reason_of rows.now client.now (option_copied user.entry) topic.now direction }
     ensures grant { result.grant
-        ≡ option_map (λ row. row.line) (first_grant rows.now client.now (option_copied user.entry) topic.now direction) }
+        ≡ option_map (λ row. row.line)
+        (first_grant rows.now client.now (option_copied user.entry) topic.now direction) }
     ensures allowed { is_grant result.reason
-        ≡ allowed (Some (row_views rows.now)) client.now (option_copied user.entry) topic.now direction }
+        ≡ allowed (Some (row_views rows.now)) client.now
+        (option_copied user.entry) topic.now direction }
 {
     let decision = decide(rows, client, user, topic, direction);
     Verdict {

@@ -140,7 +140,8 @@ fn add_witness(
         (row_views lists.new.now) (user_of class) class ≡ true }
     requires change { is_change question.way (row_views lists.old.now) (row_views lists.new.now)
         (string_bytes witness.client) (user_of class) witness.name question.direction ≡ true }
-    ensures adds { OnOk result (Adds lists.entry.old.now lists.entry.new.now told.old.items told.new.items) }
+    ensures adds { OnOk result
+        (Adds lists.entry.old.now lists.entry.new.now told.old.items told.new.items) }
     ensures told { OnOk result ((user : Option (List ℕ))
         → is_in (row_views lists.entry.old.now) (row_views lists.entry.new.now) user class ≡ true
         → list_any (is_told_of (row_views lists.entry.old.now)

@@ -7,7 +7,8 @@ use Rattle.mq_report.proofs.blanks.without_endings.Given as goal
 abbrev pub invariant-loop-end : goal.invariant-loop-end
 invariant-loop-end l = record {
   in_range : l.end ≤ length l.text;
-  count : l.end + suffix_len is_ending l.text ≡ length l.text + suffix_len is_ending (take l.end l.text);
+  count : l.end + suffix_len is_ending l.text ≡ length l.text
+      + suffix_len is_ending (take l.end l.text);
 }
 
 abbrev pub decreases-loop-end : goal.decreases-loop-end

@@ -14,15 +14,31 @@ pub overflow_add-number : goal.overflow_add-number
 overflow_add-number c =
     let text = c.args.text.now in
     let same = c.into_iter-line-iterator.ensures.into_iter_gives in
-    let turn = YieldsList-turn (YieldsList-from_str_split 10 text (lit< tt) (ap split_text same ∙ c.split-line-items.ensures.text) (ap split_has_more same ∙ c.split-line-items.ensures.has_more) (ap split_pattern same ∙ c.split-line-items.ensures.pattern)) c.loop-line.yielded _ c.loop-line.yielded_by _ _ c.in-Some.line c.in-Some.is c.next.ensures.steps in
+    let turn = YieldsList-turn
+    (YieldsList-from_str_split 10 text (lit< tt)
+    (ap split_text same ∙ c.split-line-items.ensures.text)
+    (ap split_has_more same ∙ c.split-line-items.ensures.has_more)
+    (ap split_pattern same ∙ c.split-line-items.ensures.pattern)) c.loop-line.yielded _
+    c.loop-line.yielded_by _ _ c.in-Some.line c.in-Some.is c.next.ensures.steps in
     let left = turn.0 in
-    omega (arith, left, c.loop-line.invariant.count, length-slice_split (λ b. b == 10) text, count_by-le-length (λ b. b == 10) text)
+    omega (
+      arith,
+      left,
+      c.loop-line.invariant.count,
+      length-slice_split (λ b. b == 10) text,
+      count_by-le-length (λ b. b == 10) text,
+    )
 
 pub add_line-requires : goal.add_line-requires
 add_line-requires c =
     let text = c.args.text.now in
     let same = c.into_iter-line-iterator.ensures.into_iter_gives in
-    let turn = YieldsList-turn (YieldsList-from_str_split 10 text (lit< tt) (ap split_text same ∙ c.split-line-items.ensures.text) (ap split_has_more same ∙ c.split-line-items.ensures.has_more) (ap split_pattern same ∙ c.split-line-items.ensures.pattern)) c.loop-line.yielded _ c.loop-line.yielded_by _ _ c.in-Some.line c.in-Some.is c.next.ensures.steps in
+    let turn = YieldsList-turn
+    (YieldsList-from_str_split 10 text (lit< tt)
+    (ap split_text same ∙ c.split-line-items.ensures.text)
+    (ap split_has_more same ∙ c.split-line-items.ensures.has_more)
+    (ap split_pattern same ∙ c.split-line-items.ensures.pattern)) c.loop-line.yielded _
+    c.loop-line.yielded_by _ _ c.in-Some.line c.in-Some.is c.next.ensures.steps in
     line_alone text (length c.loop-line.yielded) c.in-Some.line.now turn.0 turn.1
 
 pub loop-line-preserved : goal.loop-line-preserved
@@ -30,19 +46,29 @@ loop-line-preserved c =
     let text = c.args.text.now in
     let number = c.loop-line.number in
     let same = c.into_iter-line-iterator.ensures.into_iter_gives in
-    let turn = YieldsList-turn (YieldsList-from_str_split 10 text (lit< tt) (ap split_text same ∙ c.split-line-items.ensures.text) (ap split_has_more same ∙ c.split-line-items.ensures.has_more) (ap split_pattern same ∙ c.split-line-items.ensures.pattern)) c.loop-line.yielded _ c.loop-line.yielded_by _ _ c.in-Some.line c.in-Some.is c.next.ensures.steps in
-    let left : number < length (lines text) = subst (λ n. n < length (lines text)) (sym c.loop-line.invariant.count) turn.0 in
+    let turn = YieldsList-turn
+    (YieldsList-from_str_split 10 text (lit< tt)
+    (ap split_text same ∙ c.split-line-items.ensures.text)
+    (ap split_has_more same ∙ c.split-line-items.ensures.has_more)
+    (ap split_pattern same ∙ c.split-line-items.ensures.pattern)) c.loop-line.yielded _
+    c.loop-line.yielded_by _ _ c.in-Some.line c.in-Some.is c.next.ensures.steps in
+    let left : number < length (lines text) =
+    subst (λ n. n < length (lines text)) (sym c.loop-line.invariant.count) turn.0 in
     let line : c.in-Some.line.now ≡ get_or (lines text) number c.in-Some.line.now =
-    subst (λ n. c.in-Some.line.now ≡ get_or (lines text) n c.in-Some.line.now) (sym c.loop-line.invariant.count) turn.1 in
+    subst (λ n. c.in-Some.line.now ≡ get_or (lines text) n c.in-Some.line.now)
+    (sym c.loop-line.invariant.count) turn.1 in
     let rest = remarks_from (number + 1 + 1) (drop (number + 1) (lines text)) in
     record {
       can_next = tt;
       is_finite = tt;
-      count = (let one_more = length_push c.loop-line.yielded c.in-Some.line in let count = c.loop-line.invariant.count in omega arith);
+      count = (let one_more = length_push c.loop-line.yielded c.in-Some.line in let count =
+          c.loop-line.invariant.count in omega arith);
       told =
           ap (λ l. l ++ rest) c.in_ok-add_line.ensures
-          ∙ append_assoc c.loop-line.remarks.items (line_remarks (number + 1) c.in-Some.line.now) rest
-          ∙ ap (λ l. c.loop-line.remarks.items ++ l) (sym (remarks_step (lines text) number c.in-Some.line.now left line))
+          ∙ append_assoc c.loop-line.remarks.items (line_remarks (number + 1) c.in-Some.line.now)
+          rest
+          ∙ ap (λ l. c.loop-line.remarks.items ++ l)
+          (sym (remarks_step (lines text) number c.in-Some.line.now left line))
           ∙ c.loop-line.invariant.told;
     }
 
@@ -51,10 +77,16 @@ all_told c =
     let text = c.args.text.now in
     let number = c.loop-line.number in
     let same = c.into_iter-line-iterator.ensures.into_iter_gives in
-    let end = YieldsList-end (YieldsList-from_str_split 10 text (lit< tt) (ap split_text same ∙ c.split-line-items.ensures.text) (ap split_has_more same ∙ c.split-line-items.ensures.has_more) (ap split_pattern same ∙ c.split-line-items.ensures.pattern)) c.loop-line.yielded _ c.loop-line.yielded_by _ _ c.in-None.is c.next.ensures.steps in
-    let none_left : length (lines text) ≤ number = (let count = c.loop-line.invariant.count in let all = end.1 in omega arith) in
+    let end = YieldsList-end (YieldsList-from_str_split 10 text (lit< tt)
+    (ap split_text same ∙ c.split-line-items.ensures.text)
+    (ap split_has_more same ∙ c.split-line-items.ensures.has_more)
+    (ap split_pattern same ∙ c.split-line-items.ensures.pattern)) c.loop-line.yielded _
+    c.loop-line.yielded_by _ _ c.in-None.is c.next.ensures.steps in
+    let none_left : length (lines text) ≤ number =
+    (let count = c.loop-line.invariant.count in let all = end.1 in omega arith) in
     sym (append-nil c.loop-line.remarks.items)
-    ∙ ap (λ l. c.loop-line.remarks.items ++ l) (sym (at_drop_all (remarks_from (number + 1)) (lines text) number none_left))
+    ∙ ap (λ l. c.loop-line.remarks.items ++ l)
+    (sym (at_drop_all (remarks_from (number + 1)) (lines text) number none_left))
     ∙ c.loop-line.invariant.told
 
 pub returns-clause-all : goal.returns-clause-all

@@ -10,8 +10,11 @@ loop-place-preserved c =
     let rows = c.args.rows.now in
     let row = row_view c.args.row.now in
     none_more rows c.args.index row c.loop-place.place
-    (λ d elsewhere. subst (λ r. MakesNeedless (row_view r) row → ⊥) (c.index-rows-place.is ∙ get_or_default rows c.loop-place.place c.index-rows-place.result d c.loop-place-test.true) (c.in_ok-makes_needless.ensures.no c.if-branch.false))
+    (λ d elsewhere. subst (λ r. MakesNeedless (row_view r) row → ⊥)
+    (c.index-rows-place.is ∙ get_or_default rows c.loop-place.place c.index-rows-place.result
+    d c.loop-place-test.true) (c.in_ok-makes_needless.ensures.no c.if-branch.false))
     c.loop-place.invariant
 
 pub returns-clause-none : goal.returns-clause-none
-returns-clause-none c = none_all c.args.rows.now c.args.index (row_view c.args.row.now) c.loop-place.place c.loop-place-test.false c.loop-place.invariant
+returns-clause-none c = none_all c.args.rows.now c.args.index (row_view c.args.row.now)
+    c.loop-place.place c.loop-place-test.false c.loop-place.invariant

@@ -13,7 +13,8 @@ pub loop-index-preserved-then-not-branch : goal.loop-index-preserved-then-not-br
 loop-index-preserved-then-not-branch c = record {
   each = c.loop-index.invariant.each;
   rest = rest_needed c.args.rows.now c.loop-index.index c.loop-index.remarks.items
-      (subst (λ l. Differ l (without c.loop-index.index l)) c.in_ok-question.ensures (c.in_ok-is_needless.ensures.needed c.if-not-branch.true)) c.loop-index.invariant.rest;
+      (subst (λ l. Differ l (without c.loop-index.index l)) c.in_ok-question.ensures
+      (c.in_ok-is_needless.ensures.needed c.if-not-branch.true)) c.loop-index.invariant.rest;
 }
 
 pub loop-index-preserved : goal.loop-index-preserved
@@ -29,13 +30,20 @@ loop-index-preserved c =
       in_range = c.loop-index-test.true;
       is = c.index-rows-index.is;
       line_is = refl;
-      needless = line_is_needless rows c.in_ok-question.question index c.in_ok-question.ensures (λ user direction. c.in_ok-is_needless.ensures.needless c.if-not-branch.false user direction);
-      by = by_of rows index (row_view row) c.in_ok-by.by c.in_ok-by.ensures.some c.in_ok-by.ensures.none;
+      needless = line_is_needless rows c.in_ok-question.question index c.in_ok-question.ensures
+          (λ user direction. c.in_ok-is_needless.ensures.needless c.if-not-branch.false user
+          direction);
+      by = by_of rows index (row_view row) c.in_ok-by.by c.in_ok-by.ensures.some
+          c.in_ok-by.ensures.none;
     } in
     record {
-      each = subst (All (IsNeedlessLine rows)) (sym c.in_ok-add.ensures) (All-push (IsNeedlessLine rows) told remark c.loop-index.invariant.each line);
-      rest = rest_told rows index told c.add.new.remarks.items remark c.in_ok-add.ensures (λ d. line_same rows index row d c.loop-index-test.true c.index-rows-index.is) c.loop-index.invariant.rest;
+      each = subst (All (IsNeedlessLine rows)) (sym c.in_ok-add.ensures)
+          (All-push (IsNeedlessLine rows) told remark c.loop-index.invariant.each line);
+      rest = rest_told rows index told c.add.new.remarks.items remark c.in_ok-add.ensures
+          (λ d. line_same rows index row d c.loop-index-test.true c.index-rows-index.is)
+          c.loop-index.invariant.rest;
     }
 
 pub returns-clause-rest : goal.returns-clause-rest
-returns-clause-rest c = λ place d h. c.loop-index.invariant.rest place d (let past = c.loop-index-test.false in omega arith)
+returns-clause-rest c = λ place d h. c.loop-index.invariant.rest place d
+    (let past = c.loop-index-test.false in omega arith)

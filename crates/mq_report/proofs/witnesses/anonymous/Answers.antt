@@ -12,18 +12,32 @@ use Rattle.mq_report.proofs.witnesses.anonymous.Goals as goal
 pub add_witness-requires-clause-change : goal.add_witness-requires-clause-change
 add_witness-requires-clause-change c =
     let gives = c.into_iter-witness-iterator.ensures.into_iter_gives in
-    let turn = YieldsList-turn (YieldsList-from_vec c.in_ok-witness-items.witness-items.items gives.0 (gives.1 ∙ c.in_ok-witness-items.witness-items.ok.0)) c.loop-witness.yielded c.loop-witness.witness-iterator c.loop-witness.yielded_by c.next.result c.next.new.self c.in-Some.witness c.in-Some.is c.next.ensures.steps in
-    change_is c.args.lists.old.now c.args.lists.new.now c.args.lists.comparison.now c.args.question.way (string_bytes c.in-Some.witness.client) None c.in-Some.witness.name c.args.question.direction c.requires
-    ∙ witness_at (λ (w : Witness). changed c.args.question.way c.args.lists.comparison.now (string_bytes w.client) None w.name c.args.question.direction ≡ true) c.in_ok-witness-items.witness-items.items (length c.loop-witness.yielded) c.in-Some.witness turn c.in_ok-witness-items.ensures.each
+    let turn = YieldsList-turn
+    (YieldsList-from_vec c.in_ok-witness-items.witness-items.items gives.0
+    (gives.1 ∙ c.in_ok-witness-items.witness-items.ok.0)) c.loop-witness.yielded
+    c.loop-witness.witness-iterator c.loop-witness.yielded_by c.next.result c.next.new.self
+    c.in-Some.witness c.in-Some.is c.next.ensures.steps in
+    change_is c.args.lists.old.now c.args.lists.new.now c.args.lists.comparison.now
+    c.args.question.way (string_bytes c.in-Some.witness.client) None c.in-Some.witness.name
+    c.args.question.direction c.requires
+    ∙ witness_at (λ (w : Witness). changed c.args.question.way c.args.lists.comparison.now
+    (string_bytes w.client) None w.name c.args.question.direction ≡ true)
+    c.in_ok-witness-items.witness-items.items (length c.loop-witness.yielded) c.in-Some.witness
+    turn c.in_ok-witness-items.ensures.each
 
 pub loop-witness-init : goal.loop-witness-init
-loop-witness-init c = found_start c.args.lists.old.now c.args.lists.new.now c.args.question.way c.args.question.direction clients.Anonymous c.new-told.result.items c.new-told.ensures.items
+loop-witness-init c = found_start c.args.lists.old.now c.args.lists.new.now c.args.question.way
+    c.args.question.direction clients.Anonymous c.new-told.result.items c.new-told.ensures.items
 
 pub loop-witness-preserved : goal.loop-witness-preserved
 loop-witness-preserved c =
-    found_one c.args.lists.old.now c.args.lists.new.now c.args.question.way c.args.question.direction clients.Anonymous c.loop-witness.yielded c.in-Some.witness c.loop-witness.told.items c.add_witness.new.told.items
+    found_one c.args.lists.old.now c.args.lists.new.now c.args.question.way
+    c.args.question.direction clients.Anonymous c.loop-witness.yielded c.in-Some.witness
+    c.loop-witness.told.items c.add_witness.new.told.items
     c.in_ok-add_witness.ensures.adds
-    (λ user asked. c.in_ok-add_witness.ensures.told user (asked_anonymous (row_views c.args.lists.old.now) (row_views c.args.lists.new.now) user asked))
+    (λ user asked. c.in_ok-add_witness.ensures.told user
+    (asked_anonymous (row_views c.args.lists.old.now) (row_views c.args.lists.new.now) user
+    asked))
     c.loop-witness.invariant
 
 pub returns-clause-real : goal.returns-clause-real
@@ -32,8 +46,17 @@ returns-clause-real c = c.loop-witness.invariant.real
 pub returns-clause-told : goal.returns-clause-told
 returns-clause-told c =
     let gives = c.into_iter-witness-iterator.ensures.into_iter_gives in
-    let end = YieldsList-end (YieldsList-from_vec c.in_ok-witness-items.witness-items.items gives.0 (gives.1 ∙ c.in_ok-witness-items.witness-items.ok.0)) c.loop-witness.yielded c.loop-witness.witness-iterator c.loop-witness.yielded_by c.next.result c.next.new.self c.in-None.is c.next.ensures.steps in
-    found_tells c.args.lists.old.now c.args.lists.new.now c.args.question.way c.args.question.direction clients.Anonymous c.loop-witness.yielded c.loop-witness.told.items None refl
-    (λ none client topic valid. change_is c.args.lists.old.now c.args.lists.new.now c.args.lists.comparison.now c.args.question.way client None topic c.args.question.direction c.requires
-    ∙ c.in_ok-witness-items.ensures.none (sym (all_yielded c.loop-witness.yielded c.in_ok-witness-items.witness-items.items end.0) ∙ none) client topic valid)
+    let end = YieldsList-end (YieldsList-from_vec c.in_ok-witness-items.witness-items.items gives.0
+    (gives.1 ∙ c.in_ok-witness-items.witness-items.ok.0)) c.loop-witness.yielded
+    c.loop-witness.witness-iterator c.loop-witness.yielded_by c.next.result c.next.new.self
+    c.in-None.is c.next.ensures.steps in
+    found_tells c.args.lists.old.now c.args.lists.new.now c.args.question.way
+    c.args.question.direction clients.Anonymous c.loop-witness.yielded c.loop-witness.told.items
+    None refl
+    (λ none client topic valid. change_is c.args.lists.old.now c.args.lists.new.now
+    c.args.lists.comparison.now c.args.question.way client None topic
+    c.args.question.direction c.requires
+    ∙ c.in_ok-witness-items.ensures.none
+    (sym (all_yielded c.loop-witness.yielded c.in_ok-witness-items.witness-items.items end.0)
+    ∙ none) client topic valid)
     c.loop-witness.invariant
