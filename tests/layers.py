@@ -14,7 +14,7 @@ TOP = pathlib.Path(__file__).resolve().parent.parent
 ORDER = {
     "mq_sessions": ["clock", "sessions", "access"],
     "mq_router": ["texts", "replies", "delivery", "router"],
-    "mq_script": ["devices", "outcome", "write", "keep", "answer", "progress", "runner"],
+    "mq_script": ["devices", "outcome", "write", "answer", "progress", "runner"],
 }
 
 

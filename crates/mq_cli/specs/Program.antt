@@ -7,7 +7,8 @@ use Rattle.mq_acl.specs.Rows.{AclRow}
 use Rattle.mq_world.specs.World.{World, Limits, default_limits, fresh_world, within}
 use Rattle.mq_cli.specs.CommandLine.{number_given}
 use Rattle.mq_script.specs.declared.outcome.Summary.{Summary}
-use Rattle.mq_script.specs.Output.{all_lines, refused_from, output, Summarizes}
+use Rattle.mq_script.specs.Output.{refused_from, output, Summarizes}
+use Rattle.mq_lines.specs.Lines.{all_lines}
 use Rattle.mq_cli.specs.AclFile.{IsAnswerTo}
 use Rattle.mq_script.specs.Ending.{AppendsSome}
 use Rattle.mq_cli.specs.declared.command_line.UsageFault.{UsageFault}

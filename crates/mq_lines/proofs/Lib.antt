@@ -8,3 +8,5 @@ pub mod KeptLemmas
 pub mod BehindLemmas
 pub mod RefillLemmas
 pub mod TextLemmas
+pub mod PieceLemmas
+pub mod LongLemmas

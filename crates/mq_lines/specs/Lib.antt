@@ -4,3 +4,4 @@ pub mod Reading
 pub mod Printed
 pub mod Kept
 pub mod Behind
+pub mod Lines

@@ -7,10 +7,10 @@ use Rattle.mq_world.specs.World.{World}
 use Rattle.mq_script.specs.declared.outcome.Summary.{Summary}
 use Rattle.mq_script.specs.declared.outcome.RunFault.{RunFault}
 use Rattle.mq_script.specs.declared.outcome.RunFault.TheVariants as fault
-use Rattle.mq_script.specs.Output.{whole_lines, last_piece, piece_line, text_from, text_of_lines}
-use Rattle.mq_script.specs.Output.{output, whole_output}
+use Rattle.mq_script.specs.Output.{text_from, text_of_lines, output, whole_output}
+use Rattle.mq_lines.specs.Lines.{whole_lines, last_piece, piece_line}
 use Rattle.mq_script.specs.Ending.{Seen, IsPrefix, AppendsSome, Ending}
-use Rattle.mq_script.proofs.PieceLemmas.{whole_lines-grown}
+use Rattle.mq_lines.proofs.PieceLemmas.{whole_lines-grown}
 use Rattle.mq_script.proofs.OutputLemmas.{text_from-append}
 use Rattle.mq_script.proofs.RunLemmas.{AppendsSome-all}
 

@@ -1,5 +1,4 @@
 pub mod WrittenLemmas
-pub mod PieceLemmas
 pub mod OutputLemmas
 pub mod RunLemmas
 pub mod StepLemmas

@@ -1,17 +1,15 @@
 -- What lines write, when more of them follow, and what is known of a long line by its front.
-use Rattle.std.proofs.Common.{◌≡◌, ◌⊎◌, inl, inr, ◌≤◌, ◌<◌, ◌-◌, ℕ, zero, suc, ◌+◌, List, [], ◌∷◌}
-use Rattle.std.proofs.Common.{◌++◌, true, cond, ltb, length, take, Option, Some, None, refl, sym}
-use Rattle.std.proofs.Common.{ap, ◌∙◌, arith, append_assoc, append-nil, length-take}
+use Rattle.std.proofs.Common.{◌≡◌, ℕ, ◌+◌, List, [], ◌∷◌, ◌++◌, cond, length, take, Option, Some}
+use Rattle.std.proofs.Common.{None, refl, sym, ap, ◌∙◌, arith, append_assoc, append-nil}
 use Rattle.std.specs.List.{filter_map, cons_option}
-use Rattle.std.proofs.lemmas.Bool.{cases_lt, lt-ltb}
-use Rattle.std.proofs.lemmas.List.{take_all}
 use Rattle.std.proofs.lemmas.List.Elements.{filter_map-append}
 use Rattle.mq_world.specs.World.{World, Request}
 use Rattle.mq_world.specs.After.{next, replay}
-use Rattle.mq_lines.specs.Reading.{reading, line_limit}
-use Rattle.mq_script.specs.Output.{command_in, world_after, text_of, is_refused, text_from}
-use Rattle.mq_script.specs.Output.{refused_from}
-use Rattle.mq_script.specs.Running.{kept, next_or, world_then}
+use Rattle.mq_lines.specs.Lines.{command_in, kept}
+use Rattle.mq_lines.specs.Reading.{reading}
+use Rattle.mq_script.specs.Output.{world_after, text_of, is_refused, text_from, refused_from}
+use Rattle.mq_lines.proofs.LongLemmas.{reading-kept}
+use Rattle.mq_script.specs.Running.{next_or, world_then}
 
 -- ## More lines
 
@@ -67,31 +65,6 @@ refused_from-push w xs y = let e = refused_from-append w [] xs (y ∷ []) in ome
 
 -- ## A long line is known by its front
 
-pub kept_is : kept ≡ line_limit + 1
-unfolding kept
-kept_is = refl
-
-pub kept_number : kept ≡ 1048577
-unfolding kept
-kept_number = refl
-
-over_limit : (n limit : ℕ) (p : List ℕ) → n ≡ limit + 1 → limit < length p
-    → limit < length (take n p)
-over_limit n limit p e h = simp length-take (omega arith)
-
-reading_at : (p : List ℕ) → (line_limit < length p) ⊎ (length p ≤ line_limit)
-    → reading (take kept p) ≡ reading p
-unfolding reading
-reading_at p (inl h) =
-    let a : ltb line_limit (length p) ≡ true = lt-ltb line_limit (length p) h in
-    let b : ltb line_limit (length (take kept p)) ≡ true =
-    lt-ltb line_limit (length (take kept p)) (over_limit kept line_limit p kept_is h) in
-    rw (b, a)
-reading_at p (inr h) = let e = kept_is in ap reading (take_all kept p (omega arith))
-
-reading-kept : (p : List ℕ) → reading (take kept p) ≡ reading p
-reading-kept p = reading_at p (cases_lt line_limit (length p))
-
 pub text_of-kept : (k : ℕ) (w : World) (p : List ℕ) → text_of k w (take kept p) ≡ text_of k w p
 unfolding text_of
 text_of-kept k w p = rw (reading-kept p)
@@ -103,22 +76,3 @@ is_refused-kept w p = rw (reading-kept p)
 pub world_then-kept : (w : World) (p : List ℕ) → world_then w (take kept p) ≡ world_then w p
 unfolding world_then
 world_then-kept w p = rw (reading-kept p)
-
--- ## What is kept of a line that grows
-
-minus_zero : (k : ℕ) → k - 0 ≡ k
-minus_zero k = omega arith
-
-minus_suc : (k n : ℕ) → suc k - suc n ≡ k - n
-minus_suc k n = omega arith
-
-take_more : (k : ℕ) (p xs : List ℕ) → take k p ++ take (k - length (take k p)) xs ≡ take k (p ++ xs)
-take_more zero p xs = refl
-take_more (suc k) [] xs = ap (λ (n : ℕ). take n xs) (minus_zero (suc k))
-take_more (suc k) (x ∷ p) xs =
-    ap (λ (n : ℕ). x ∷ (take k p ++ take n xs)) (minus_suc k (length (take k p)))
-    ∙ ap (λ l. x ∷ l) (take_more k p xs)
-
-pub kept_more : (line p xs : List ℕ) → line ≡ take kept p
-    → line ++ take (kept - length line) xs ≡ take kept (p ++ xs)
-kept_more line p xs e = ap (λ l. l ++ take (kept - length l) xs) e ∙ take_more kept p xs

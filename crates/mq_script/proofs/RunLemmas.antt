@@ -1,9 +1,7 @@
 -- A run, a line at a time.
-use Rattle.std.proofs.Common.{◌≡◌, ◌≤◌, ◌-◌, ℕ, zero, suc, ◌+◌, List, [], ◌∷◌, ◌++◌, Bool, true}
-use Rattle.std.proofs.Common.{false, cond, eqb, length, take, drop, take-append-drop, inl, inr, Err}
-use Rattle.std.proofs.Common.{min, Option, refl, sym, ap, subst, ◌∙◌, arith, append_assoc}
-use Rattle.std.proofs.Common.{append-nil, length-append, length-take}
-use Rattle.std.proofs.lemmas.Bool.Decides.{Decides-eqb}
+use Rattle.std.proofs.Common.{◌≡◌, ◌≤◌, ◌-◌, ℕ, zero, suc, ◌+◌, List, [], ◌∷◌, ◌++◌, Bool, cond}
+use Rattle.std.proofs.Common.{length, take, drop, take-append-drop, inl, inr, Err, Option, refl}
+use Rattle.std.proofs.Common.{sym, ap, subst, ◌∙◌, arith, append_assoc, append-nil, length-append}
 use Rattle.std.proofs.lemmas.List.{take_all, take-append-le}
 use Rattle.std.proofs.KnownBytes.{Appends-trans, Appends-nil, Appends-kept}
 use Rattle.std.proofs.Math.Seq.{take-append-add}
@@ -13,17 +11,18 @@ use Rattle.mq_router.specs.StandsFor.{State, StandsFor}
 use Rattle.mq_script.specs.declared.outcome.RunFault.{RunFault}
 use Rattle.mq_script.specs.declared.outcome.RunFault.TheVariants as fault
 use Rattle.mq_script.specs.declared.progress.Progress.{Progress}
-use Rattle.mq_script.specs.Output.{pieces, whole_lines, last_piece, piece_line, all_lines}
 use Rattle.mq_script.specs.Output.{world_after, text_of, is_refused, text_from, refused_from}
 use Rattle.mq_script.specs.Output.{whole_output}
+use Rattle.mq_lines.specs.Lines.{all_lines, kept, last_piece, piece_line, pieces, whole_lines}
 use Rattle.mq_script.specs.Ending.{Seen, IsPrefix, AppendsSome, WritesLines, write_failures, Ending}
-use Rattle.mq_script.specs.Running.{kept, world_then, Answered, Unanswered, Told, Stopped, Finished}
+use Rattle.mq_script.specs.Running.{world_then, Answered, Unanswered, Told, Stopped, Finished}
 use Rattle.mq_script.specs.Running.{StoppedLast}
-use Rattle.mq_script.proofs.PieceLemmas.{whole_lines-feed, last_piece-feed, whole_lines-text}
-use Rattle.mq_script.proofs.PieceLemmas.{last_piece-text, whole_lines-grown}
+use Rattle.mq_lines.proofs.PieceLemmas.{whole_lines-feed, last_piece-feed, whole_lines-text}
+use Rattle.mq_lines.proofs.PieceLemmas.{last_piece-text, whole_lines-grown}
 use Rattle.mq_script.proofs.OutputLemmas.{world_after-push, text_from-append, text_from-push}
-use Rattle.mq_script.proofs.OutputLemmas.{refused_from-push, kept_is, text_of-kept, is_refused-kept}
-use Rattle.mq_script.proofs.OutputLemmas.{world_then-kept, kept_more}
+use Rattle.mq_script.proofs.OutputLemmas.{refused_from-push, text_of-kept, is_refused-kept}
+use Rattle.mq_script.proofs.OutputLemmas.{world_then-kept}
+use Rattle.mq_lines.proofs.LongLemmas.{kept_more, no_piece, some_piece}
 
 -- ## What comes later adds text
 
@@ -191,21 +190,10 @@ Finished-empty_at w g p a b told none =
       written = rw same told.written;
     }
 
-no_piece : (p : List ℕ) → take kept p ≡ [] → p ≡ []
-no_piece [] h = refl
-no_piece (x ∷ xs) h =
-    let k = kept_is in
-    let e : min kept (length (x ∷ xs)) ≡ 0 = sym (length-take kept (x ∷ xs)) ∙ ap length h in
-    absurd (omega arith)
-
 pub Finished-empty : (w : World) (g : List ℕ) (p : Progress) (a b : Option (List ℕ))
     → Told w g p a b → p.line.items ≡ [] → Finished w g p a b
 Finished-empty w g p a b told h = Finished-empty_at w g p a b told
     (no_piece (last_piece g) (sym told.line ∙ h))
-
-some_piece : (p line : List ℕ) → line ≡ take kept p → (line ≡ [] → ⊥) → piece_line p ≡ p ∷ []
-some_piece [] line e h = absurd (h (e ∙ take_all kept [] (omega arith)))
-some_piece (x ∷ xs) line e h = refl
 
 pub Finished-piece : (w : World) (g : List ℕ) (p q : Progress) (a b c : Option (List ℕ))
     → Told w g p a b → (p.line.items ≡ [] → ⊥)
@@ -309,11 +297,3 @@ Told-start w p r a same s lines refused line = record {
   line = line ∙ sym (take_all kept [] (omega arith));
   written = Appends-nil a;
 }
-
-pub nil_from_count : (n : ℕ) (l : List ℕ) → n ≡ length l → eqb n 0 ≡ true → l ≡ []
-nil_from_count n [] e h = refl
-nil_from_count n (x ∷ xs) e h = absurd (let zero : n ≡ 0 = (Decides-eqb n 0).0 h in omega arith)
-
-pub not_nil_from_count : (n : ℕ) (l : List ℕ) → n ≡ length l → eqb n 0 ≡ false → l ≡ [] → ⊥
-not_nil_from_count n [] e h f = let bad : true ≡ false = sym (ap (λ k. eqb k 0) e) ∙ h in cc
-not_nil_from_count n (x ∷ xs) e h f = cc

@@ -9,10 +9,11 @@ use Rattle.mq_router.specs.StandsFor.{StandsFor}
 use Rattle.mq_script.specs.declared.outcome.RunFault.{RunFault}
 use Rattle.mq_script.specs.declared.outcome.RunFault.TheVariants as fault
 use Rattle.mq_script.specs.declared.progress.Progress.{Progress}
-use Rattle.mq_script.specs.Output.{pieces, whole_lines, world_after}
+use Rattle.mq_script.specs.Output.{world_after}
 use Rattle.mq_script.specs.Ending.{AppendsSome}
-use Rattle.mq_script.specs.Running.{kept, IsTold, Told, Stopped, Answers, AnswersLine, StopsAtLine}
+use Rattle.mq_script.specs.Running.{IsTold, Told, Stopped, Answers, AnswersLine, StopsAtLine}
 use Rattle.mq_script.specs.Running.{TakesBytes, StopsAmong, Takes, EndsLines, StopsLast, Ends}
+use Rattle.mq_lines.specs.Lines.{kept, pieces, whole_lines}
 use Rattle.mq_script.proofs.RunLemmas.{Told-text, Told-feed, Stopped-feed, Stopped-grown}
 use Rattle.mq_script.proofs.RunLemmas.{Stopped-memory, WritesLines-grown, Finished-empty}
 use Rattle.mq_script.proofs.RunLemmas.{Finished-piece, StoppedLast-piece, AppendsSome-all}

@@ -1,19 +1,15 @@
 -- What is appended to known bytes, in pieces.
-use Rattle.std.proofs.Common.{◌≡◌, ◌-◌, ℕ, ◌+◌, length, length-drop, arith, List, Option, take}
-use Rattle.std.proofs.Common.{drop, sym, take-append-drop}
+use Rattle.std.proofs.Common.{◌-◌, ℕ, ◌+◌, length, List, Option, take, drop, sym, take-append-drop}
 use Rattle.std.specs.Io.KnownBytes.{Appends}
 use Rattle.std.proofs.KnownBytes.{Appends-trans}
 use Rattle.std.proofs.Math.Seq.{take-add}
-use Rattle.std.proofs.lemmas.List.{take_all}
+use Rattle.mq_lines.proofs.PieceLemmas.{rest_whole}
 use Rattle.mq_script.specs.Ending.{AppendsSome}
 
 -- a front of a text is part of it
 pub AppendsSome-take : (a b : Option (List ℕ)) (n : ℕ) (text : List ℕ) → Appends a b (take n text)
     → AppendsSome a b text
 AppendsSome-take a b n text p = (take n text, p, (drop n text, sym (take-append-drop n text)))
-
-pub rest_whole : (i : ℕ) (t : List ℕ) → take (length t - i) (drop i t) ≡ drop i t
-rest_whole i t = take_all (length t - i) (drop i t) (simp length-drop (omega arith))
 
 pub Appends-more : (a b c : Option (List ℕ)) (i n : ℕ) (t : List ℕ) → Appends a b (take i t)
     → Appends b c (take n (take (length t - i) (drop i t))) → Appends a c (take (i + n) t)

@@ -6,7 +6,8 @@ use Rattle.mq_world.specs.World.{World}
 use Rattle.mq_script.specs.declared.outcome.Summary.{Summary}
 use Rattle.mq_script.specs.declared.outcome.RunFault.{RunFault}
 use Rattle.mq_script.specs.declared.outcome.RunFault.TheVariants as fault
-use Rattle.mq_script.specs.Output.{whole_lines, output, whole_output, text_of_lines, Summarizes}
+use Rattle.mq_script.specs.Output.{output, whole_output, text_of_lines, Summarizes}
+use Rattle.mq_lines.specs.Lines.{whole_lines}
 
 -- how many bytes a script may have
 unfoldable pub script_limit : ℕ

@@ -1,8 +1,7 @@
 -- What a script writes.
-use Rattle.std.specs.Prelude.{◌≡◌, ℕ, ◌+◌, List, [], ◌∷◌, ◌++◌, ◌==◌, length, Bool, true, false}
+use Rattle.std.specs.Prelude.{◌≡◌, ℕ, ◌+◌, List, [], ◌∷◌, ◌++◌, length, Bool, true, false}
 use Rattle.std.specs.Prelude.{if◌then◌else◌, Option, Some, None, Result, Ok, Err, is_some}
-use Rattle.std.specs.Prelude.{unwrap_or}
-use Rattle.std.specs.List.{slice_split, filter_map, last_or}
+use Rattle.std.specs.List.{filter_map}
 use Rattle.mq_world.specs.World.{World, Request}
 use Rattle.mq_world.specs.Refusals.{refusal}
 use Rattle.mq_world.specs.Answers.{answer}
@@ -10,45 +9,11 @@ use Rattle.mq_world.specs.After.{replay}
 use Rattle.mq_world.specs.declared.refusal.Refusal.{Refusal}
 use Rattle.mq_lines.specs.declared.fault.LineFault.{LineFault}
 use Rattle.mq_script.specs.declared.outcome.Summary.{Summary}
+use Rattle.mq_lines.specs.Lines.{all_lines, command_in, whole_lines}
 use Rattle.mq_lines.specs.Reading.{reading}
 use Rattle.mq_lines.specs.Printed.{answer_text, refusal_text, fault_text}
 
--- ## The lines of a script
-
-abbrev pub is_feed : ℕ → Bool
-is_feed b = b == 10
-
--- the pieces between the line feeds, empty ones too
-abbrev pub pieces : List ℕ → List (List ℕ)
-pieces s = slice_split is_feed s
-
-abbrev pub all_but_last : {X : Type 0} → List X → List X
-all_but_last [] = []
-all_but_last (x ∷ []) = []
-all_but_last (x ∷ y ∷ xs) = x ∷ all_but_last (y ∷ xs)
-
--- each line that a line feed ends
-abbrev pub whole_lines : List ℕ → List (List ℕ)
-whole_lines s = all_but_last (pieces s)
-
--- what follows the last line feed
-abbrev pub last_piece : List ℕ → List ℕ
-last_piece s = unwrap_or (last_or None (pieces s)) []
-
--- a last piece is a line if it isn't empty
-abbrev pub piece_line : List ℕ → List (List ℕ)
-piece_line [] = []
-piece_line (b ∷ bs) = (b ∷ bs) ∷ []
-
-abbrev pub all_lines : List ℕ → List (List ℕ)
-all_lines s = whole_lines s ++ piece_line (last_piece s)
-
 -- ## One line
-
--- the command of a line, if it has one
-abbrev pub command_in : Result (Option Request) LineFault → Option Request
-command_in (Ok command) = command
-command_in (Err fault) = None
 
 -- the world after lines: that of their commands
 abbrev pub world_after : World → List (List ℕ) → World

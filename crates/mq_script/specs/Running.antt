@@ -9,15 +9,11 @@ use Rattle.mq_router.specs.StandsFor.{State, StandsFor}
 use Rattle.mq_script.specs.declared.outcome.RunFault.{RunFault}
 use Rattle.mq_script.specs.declared.outcome.RunFault.TheVariants as fault
 use Rattle.mq_script.specs.declared.progress.Progress.{Progress}
-use Rattle.mq_lines.specs.Reading.{reading, line_limit}
-use Rattle.mq_script.specs.Output.{whole_lines, last_piece, output, whole_output, command_in}
-use Rattle.mq_script.specs.Output.{world_after, command_text, text_of, is_refused, refused_from}
-use Rattle.mq_script.specs.Output.{Summarizes}
+use Rattle.mq_lines.specs.Reading.{reading}
+use Rattle.mq_script.specs.Output.{output, whole_output, world_after, command_text, text_of}
+use Rattle.mq_script.specs.Output.{is_refused, refused_from, Summarizes}
+use Rattle.mq_lines.specs.Lines.{command_in, kept, last_piece, whole_lines}
 use Rattle.mq_script.specs.Ending.{AppendsSome, WritesLines}
-
--- how much of a line is kept: one byte more than a line may have
-unfoldable pub kept : ℕ
-kept = line_limit + 1
 
 abbrev pub next_or : World → Option Request → World
 next_or w None = w

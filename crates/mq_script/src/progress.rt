@@ -3,19 +3,15 @@ ghost use Rattle.std.specs.Prelude.{◌≡◌, ◌+◌, ◌≤◌, ◌<◌, ◌^
 ghost use Rattle.std.specs.Prelude.{length};
 ghost use Rattle.mq_world.specs.World.{World};
 ghost use Rattle.mq_router.specs.StandsFor.{StandsFor};
-ghost use Rattle.mq_script.specs.Output.{pieces};
+ghost use Rattle.mq_lines.specs.Lines.{pieces};
 
 use crate::answer::answer_line;
 use crate::devices::Sink;
-use crate::keep::{keep_front, split_line};
 use crate::outcome::{RunFault, Summary};
 use crate::write::{flush, write_all};
-use mq_lines::{LINE_LIMIT, Printer};
+use mq_lines::{KEPT, Printer, keep_front, split_line};
 use mq_router::Router;
 use std::alloc::Global;
-
-/// Of a longer line no more is kept: it is refused.
-const KEPT: usize = LINE_LIMIT + 1;
 
 /// How far a run has come.
 #[derive(Drop)]

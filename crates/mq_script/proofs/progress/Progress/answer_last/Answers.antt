@@ -1,5 +1,5 @@
 use Rattle.std.proofs.Common.{sym, ◌∙◌, arith}
-use Rattle.mq_script.proofs.RunLemmas.{nil_from_count, not_nil_from_count}
+use Rattle.mq_lines.proofs.LongLemmas.{nil_from_count, not_nil_from_count}
 use Rattle.mq_script.proofs.StepLemmas.{EndsLines-empty, Ends-piece}
 use Rattle.mq_script.proofs.progress.Progress.answer_last.Goals as goal
 

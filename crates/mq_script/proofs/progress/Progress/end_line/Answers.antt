@@ -1,6 +1,6 @@
 use Rattle.std.proofs.Common.{◌∷◌, [], refl}
 use Rattle.std.proofs.lemmas.Result.{err_from_is_err_and}
-use Rattle.mq_script.proofs.OutputLemmas.{kept_number}
+use Rattle.mq_lines.proofs.LongLemmas.{kept_number}
 use Rattle.mq_script.proofs.StepLemmas.{TakesBytes-text, StopsAmong-memory, Takes-then, Takes-feed}
 use Rattle.mq_script.proofs.progress.Progress.end_line.Goals as goal
 

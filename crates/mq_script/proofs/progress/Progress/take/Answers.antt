@@ -1,16 +1,11 @@
-use Rattle.std.proofs.Common.{◌≡◌, ◌+◌, ◌++◌, ◌∷◌, [], ℕ, List, length, arith, refl, sym, ap, ◌∙◌}
-use Rattle.std.proofs.Common.{append_assoc, length-append}
+use Rattle.std.proofs.Common.{◌≡◌, ◌+◌, ◌++◌, ◌∷◌, [], ℕ, List, length, arith, refl, ap, ◌∙◌}
+use Rattle.std.proofs.Common.{length-append}
 use Rattle.std.proofs.lemmas.Result.{err_from_is_err_and}
-use Rattle.mq_script.proofs.OutputLemmas.{kept_number}
+use Rattle.mq_lines.proofs.LongLemmas.{kept_number}
+use Rattle.mq_lines.proofs.PieceLemmas.{parted}
 use Rattle.mq_script.proofs.StepLemmas.{TakesBytes-none, TakesBytes-then, TakesBytes-text}
 use Rattle.mq_script.proofs.StepLemmas.{StopsAmong-then, StopsAmong-grown, StopsAmong-memory}
 use Rattle.mq_script.proofs.progress.Progress.take.Goals as goal
-
--- the bytes are those that are taken, the next line and what follows
-parted : (bytes done rest line others : List ℕ) → bytes ≡ done ++ rest → rest ≡ line ++ others
-    → bytes ≡ (done ++ line) ++ others
-parted bytes done rest line others e f = e ∙ ap (λ l. done ++ l) f
-    ∙ sym (append_assoc done line others)
 
 pub lines-init : goal.lines-init
 lines-init g c = record {

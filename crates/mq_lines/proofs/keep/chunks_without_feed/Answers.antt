@@ -1,8 +1,8 @@
 use Rattle.std.proofs.Common.{◌≡◌, ◌≤◌, ◌+◌, ◌-◌, ◌∙◌, ap, sym, ℕ, length, take, drop, false, arith}
 use Rattle.std.specs.List.{list_any}
-use Rattle.mq_script.specs.Output.{is_feed}
-use Rattle.mq_script.proofs.PieceLemmas.{chunk_passed}
-use Rattle.mq_script.proofs.keep.chunks_without_feed.Goals as goal
+use Rattle.mq_lines.specs.Lines.{is_feed}
+use Rattle.mq_lines.proofs.PieceLemmas.{chunk_passed}
+use Rattle.mq_lines.proofs.keep.chunks_without_feed.Goals as goal
 
 pub chunks-preserved : goal.chunks-preserved
 chunks-preserved c =

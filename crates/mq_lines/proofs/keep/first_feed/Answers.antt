@@ -1,9 +1,8 @@
 use Rattle.std.proofs.Common.{ap, sym}
 use Rattle.std.specs.Prelude.{position}
-use Rattle.mq_script.specs.Output.{is_feed}
-use Rattle.mq_script.proofs.PieceLemmas.{position-later}
-use Rattle.mq_script.proofs.WrittenLemmas.{rest_whole}
-use Rattle.mq_script.proofs.keep.first_feed.Goals as goal
+use Rattle.mq_lines.specs.Lines.{is_feed}
+use Rattle.mq_lines.proofs.PieceLemmas.{position-later, rest_whole}
+use Rattle.mq_lines.proofs.keep.first_feed.Goals as goal
 
 pub returns-in-Some : goal.returns-in-Some
 returns-in-Some c =

@@ -1,17 +1,17 @@
 -- The pieces of a script that grows.
-use Rattle.std.proofs.Common.{◌≡◌, ◌≤◌, ◌<◌, ℕ, suc, List, [], ◌∷◌, ◌++◌, Bool, true, false, cond}
-use Rattle.std.proofs.Common.{◌||◌, ◌+◌, length, length-take, length-drop, drop-drop, take, drop}
-use Rattle.std.proofs.Common.{drop-cons, take-append-drop, get_or, Option, Some, None, refl, sym}
-use Rattle.std.proofs.Common.{ap, ◌∙◌, arith, append_assoc, append-nil, nat_lt}
+use Rattle.std.proofs.Common.{◌≡◌, ◌≤◌, ◌<◌, ◌-◌, ℕ, suc, List, [], ◌∷◌, ◌++◌, Bool, true, false}
+use Rattle.std.proofs.Common.{cond, ◌||◌, ◌+◌, length, length-take, length-drop, drop-drop, take}
+use Rattle.std.proofs.Common.{drop, drop-cons, take-append-drop, get_or, Option, Some, None, refl}
+use Rattle.std.proofs.Common.{sym, ap, ◌∙◌, arith, append_assoc, append-nil, nat_lt}
 use Rattle.std.specs.Prelude.{unwrap_or, position, option_map}
 use Rattle.std.specs.List.{onto_first, last_or, list_any, position_or_len}
 use Rattle.std.proofs.lemmas.Bool.Decides.{nat_tests, Decides-eqb}
-use Rattle.std.proofs.lemmas.List.{get_or-take}
+use Rattle.std.proofs.lemmas.List.{get_or-take, take_all}
 use Rattle.std.proofs.lemmas.List.Splits.{slice_split_none}
 use Rattle.std.proofs.lemmas.List.Sums.{prefix_len-le-length}
 use Rattle.std.proofs.lemmas.List.Quantifiers.{position-Some}
 use Rattle.mq_topic.proofs.LevelLemmas.{slice_split_whole}
-use Rattle.mq_script.specs.Output.{is_feed, pieces, all_but_last, whole_lines, last_piece}
+use Rattle.mq_lines.specs.Lines.{is_feed, pieces, all_but_last, whole_lines, last_piece}
 
 -- ## All but the last, and the last
 
@@ -195,3 +195,14 @@ chunk_passed p xs i k within none e =
     rw (whole, len, same) at (position_or_len-later p (take k (drop i xs)) (drop k (drop i xs))
     none) in
     omega arith
+
+-- ## Parts of bytes
+
+pub rest_whole : (i : ℕ) (t : List ℕ) → take (length t - i) (drop i t) ≡ drop i t
+rest_whole i t = take_all (length t - i) (drop i t) (simp length-drop (omega arith))
+
+-- the bytes are those that are taken, the next line and what follows
+pub parted : (bytes done rest line others : List ℕ) → bytes ≡ done ++ rest → rest ≡ line ++ others
+    → bytes ≡ (done ++ line) ++ others
+parted bytes done rest line others e f = e ∙ ap (λ l. done ++ l) f
+    ∙ sym (append_assoc done line others)

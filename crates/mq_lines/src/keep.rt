@@ -2,9 +2,13 @@
 ghost use Rattle.std.specs.Prelude.{◌≡◌, ◌+◌, ◌-◌, ◌≤◌, ◌++◌, ◌∷◌, [], OnOk, MatchOption, length};
 ghost use Rattle.std.specs.Prelude.{take, drop, position};
 ghost use Rattle.std.specs.List.{position_or_len};
-ghost use Rattle.mq_script.specs.Output.{is_feed, pieces};
+ghost use Rattle.mq_lines.specs.Lines.{is_feed, pieces};
 
+use crate::read::LINE_LIMIT;
 use std::alloc::AllocError;
+
+/// How many bytes of a line are to be kept: one that is longer is no command, whatever follows.
+pub const KEPT: usize = LINE_LIMIT + 1;
 
 const LINE_FEED: u8 = b'\n';
 

@@ -1,8 +1,8 @@
 use Rattle.std.proofs.Common.{◌≡◌, ◌<◌, ◌+◌, ◌-◌, ◌++◌, ◌∷◌, [], ℕ, List, length, take, drop, suc}
 use Rattle.std.proofs.Common.{sym, ◌∙◌, ap, arith, length-drop}
 use Rattle.std.proofs.lemmas.List.{take_all}
-use Rattle.mq_script.proofs.PieceLemmas.{no_feed, feed_found}
-use Rattle.mq_script.proofs.keep.split_line.Goals as goal
+use Rattle.mq_lines.proofs.PieceLemmas.{no_feed, feed_found}
+use Rattle.mq_lines.proofs.keep.split_line.Goals as goal
 
 -- the ranges, as lists
 rest_is : (xs : List ℕ) (n : ℕ) → n < length xs
