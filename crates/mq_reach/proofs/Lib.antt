@@ -1,0 +1,4 @@
+pub mod ClientLemmas
+pub mod PushLemmas
+pub mod SearchLemmas
+pub mod ScriptLemmas

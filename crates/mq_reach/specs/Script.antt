@@ -1,0 +1,20 @@
+-- A script that is read.
+use Rattle.std.specs.Prelude.{◌≡◌, ℕ, List, ◌++◌, take}
+use Rattle.mq_acl.specs.Rows.{AclRow}
+use Rattle.mq_lines.specs.Lines.{kept, last_piece, whole_lines}
+use Rattle.mq_reach.specs.Search.{IsSearched}
+use Rattle.mq_reach.specs.declared.reading.Reading.{Reading}
+
+-- how many bytes a script may have
+unfoldable pub script_limit : ℕ
+script_limit = 4294967296
+
+-- the whole lines of what was given are searched, and what follows them is kept
+pub record HoldsScript (rows : List AclRow) (given : List ℕ) (r : Reading) : Type 0 where
+  pub searched : IsSearched rows (whole_lines given) r.search
+  pub line : r.line.items ≡ take kept (last_piece given)
+
+-- more bytes are given, and the lines that they end are searched
+unfoldable pub TakesBytes : List AclRow → (old new : Reading) → List ℕ → Type 0
+TakesBytes rows old new bytes =
+    (given : List ℕ) → HoldsScript rows given old → HoldsScript rows (given ++ bytes) new

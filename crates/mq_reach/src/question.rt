@@ -1,0 +1,82 @@
+//! Whether one subscription is in vain.
+ghost use Rattle.std.specs.Prelude.{◌≡◌, ◌&&◌, not, true, false, IfOk};
+ghost use Rattle.mq_topic.specs.Texts.{filter_part, is_shared, is_subscription};
+ghost use Rattle.mq_acl.specs.Views.{row_views};
+ghost use Rattle.mq_reach.specs.Search.{subscription_view};
+ghost use Rattle.mq_reach.specs.Vain.{IsReached, IsVain};
+
+use crate::subscription::Subscription;
+use mq_acl::Row;
+use mq_questions::{ReachFault, reach};
+use mq_topic::{LevelText, SubFilter, TopicFilter};
+use std::alloc::{AllocError, Global};
+
+/// Why it isn't told whether a subscription is in vain. `Memory` may stand in place of any answer.
+#[derive(Clone, Copy, Debug, PartialEq, Eq)]
+pub enum SearchFault {
+    /// The row of the list with this line has a level, or a user name, of more than 300 bytes.
+    Row(u64),
+    /// The subscription of this line of the script has a client id, a user name, or a level of its filter, of more than
+    /// 300 bytes.
+    Subscription(u64),
+    /// There was no memory.
+    Memory,
+}
+
+impl From<AllocError> for SearchFault {
+    fn from(_: AllocError) -> Self {
+        SearchFault::Memory
+    }
+}
+
+/// Whether a broker takes this subscribe of a client that is connected.
+pub(crate) fn is_taken(filter: &str, no_local: bool) -> bool
+    ensures { result ≡ (is_subscription filter.now && not (is_shared filter.now && no_local)) }
+{
+    SubFilter::is_valid(filter) && !(filter.starts_with("$share/") && no_local)
+}
+
+fn filter_in(alloc: Global, text: &str) -> Result<TopicFilter, SearchFault>
+    ensures { IfOk result (λ filter. filter ≡ filter_part text.now) }
+{
+    match SubFilter::parse(alloc, text) {
+        Ok(parts) => Ok(parts.filter),
+        // The text of a subscription has no other fault.
+        Err(_) => Err(SearchFault::Memory),
+    }
+}
+
+fn fault_of(line: u64, fault: ReachFault) -> SearchFault {
+    match fault {
+        ReachFault::Memory => SearchFault::Memory,
+        ReachFault::Line(row) => SearchFault::Row(row),
+        ReachFault::Client | ReachFault::User | ReachFault::Filter => {
+            SearchFault::Subscription(line)
+        }
+    }
+}
+
+/// Whether the client of a subscription may read no topic that its filter matches.
+pub(crate) fn is_vain(
+    alloc: Global,
+    rows: &[Row],
+    subscription: &Subscription,
+) -> Result<bool, SearchFault>
+    ensures vain { IfOk result (λ vain. vain ≡ true
+        → IsVain (row_views rows.now) (subscription_view subscription.now)) }
+    ensures reached { IfOk result (λ vain. vain ≡ false
+        → IsReached (row_views rows.now) (subscription_view subscription.now)) }
+{
+    let filter = filter_in(alloc, subscription.filter.as_str())?;
+    let client = subscription.client.as_str();
+    let user = subscription.user.as_deref();
+    match reach(alloc, rows, client, user, &filter) {
+        Ok(None) => Ok(true),
+        Ok(Some(topic)) => {
+            // Learns that it is valid.
+            let _text = topic.text();
+            Ok(false)
+        }
+        Err(fault) => Err(fault_of(subscription.line, fault)),
+    }
+}

@@ -1,0 +1,170 @@
+//! The lines of a script, read in little memory.
+ghost use Rattle.std.specs.Prelude.{◌≡◌, ◌+◌, ◌<◌, ◌≤◌, ◌^◌, ◌++◌, ◌∷◌, [], ℕ, List, IfOk, IfErr, OnOk, IfSome, length};
+ghost use Rattle.std.specs.Io.KnownBytes.{Consumes, IsAtEnd};
+ghost use Rattle.mq_acl.specs.Rows.{AclRow};
+ghost use Rattle.mq_acl.specs.Views.{row_views};
+ghost use Rattle.mq_lines.specs.Lines.{all_lines, pieces};
+ghost use Rattle.mq_reach.specs.Search.{IsFound};
+ghost use Rattle.mq_reach.specs.Script.{HoldsScript, TakesBytes, script_limit};
+
+use crate::question::SearchFault;
+use crate::search::{Findings, Search};
+use mq_acl::Row;
+use mq_lines::{KEPT, keep_front, split_line};
+use std::alloc::Global;
+use std::io::Read;
+
+/// How many bytes a script may have, as many as of a run.
+const SCRIPT_LIMIT: u64 = 4_294_967_296;
+
+/// How many bytes are asked for at a time.
+const PIECE: usize = 65_536;
+
+/// Why a script isn't searched to its end.
+#[derive(Clone, Copy, Debug, PartialEq, Eq)]
+pub enum ScriptFault {
+    /// The reader failed.
+    Read,
+    /// The script has more than 4,294,967,296 bytes.
+    TooLong,
+    /// It can't be told of one of its subscriptions whether it is in vain, or there was no memory.
+    Search(SearchFault),
+}
+
+impl From<SearchFault> for ScriptFault {
+    ghost use Rattle.std.specs.Prelude.{◌≡◌};
+    ghost use Rattle.mq_reach.specs.declared.reading.ScriptFault.TheVariants.{Search};
+
+    ghost from_gives = { λ e fault. fault ≡ Search e };
+
+    fn from(fault: SearchFault) -> Self {
+        ScriptFault::Search(fault)
+    }
+}
+
+/// How far a script is read.
+#[derive(Drop)]
+struct Reading {
+    search: Search,
+    /// What is kept of the line that has not ended yet.
+    line: Vec<u8>,
+}
+
+// Takes the rest of a line that a line feed ends, and searches the line.
+fn end_line(
+    reading: &mut Reading,
+    alloc: Global,
+    rows: &[Row],
+    rest: &[u8],
+) -> Result<(), SearchFault>
+    requires lines { reading.old.search.counts.lines + 1 < 2 ^ 64 }
+    requires rest { pieces rest.now ≡ rest.now ∷ [] }
+    ensures takes { OnOk result (TakesBytes (row_views rows.now) reading.old reading.new
+        (rest.now ++ 10 ∷ [])) }
+    ensures lines { OnOk result (reading.new.search.counts.lines
+        ≡ reading.old.search.counts.lines + 1) }
+    ensures line { OnOk result (reading.new.line.items ≡ []) }
+{
+    keep_front(&mut reading.line, rest, KEPT)?;
+    reading
+        .search
+        .take_line(alloc, rows, reading.line.as_slice())?;
+    reading.line.clear();
+    Ok(())
+}
+
+// Takes bytes of the script, and searches the lines that they end.
+fn take(reading: &mut Reading, alloc: Global, rows: &[Row], bytes: &[u8]) -> Result<(), SearchFault>
+    requires { reading.old.search.counts.lines + length reading.old.line.items
+        + length bytes.now < 2 ^ 64 }
+    ensures takes { OnOk result (TakesBytes (row_views rows.now) reading.old reading.new
+        bytes.now) }
+    ensures lines { OnOk result (reading.new.search.counts.lines + length reading.new.line.items
+        ≤ reading.old.search.counts.lines + length reading.old.line.items + length bytes.now) }
+{
+    let mut rest = bytes;
+    'lines: while let Some((line, others)) = split_line(rest) {
+        end_line(reading, alloc, rows, line)?;
+        rest = others;
+    }
+    keep_front(&mut reading.line, rest, KEPT)?;
+    Ok(())
+}
+
+// Searches a last piece that isn't empty.
+fn finish(mut reading: Reading, alloc: Global, rows: &[Row]) -> Result<Findings, SearchFault>
+    requires { reading.search.counts.lines + length reading.line.items < 2 ^ 64 }
+    ensures { (script : List ℕ) → HoldsScript (row_views rows.now) script reading
+        → IfOk result (IsFound (row_views rows.now) (all_lines script)) }
+{
+    if reading.line.is_empty() {
+        return Ok(reading.search.findings());
+    }
+    reading
+        .search
+        .take_line(alloc, rows, reading.line.as_slice())?;
+    Ok(reading.search.findings())
+}
+
+// Reads the script, and searches its whole lines.
+fn read_lines<R: Read>(
+    reading: &mut Reading,
+    alloc: Global,
+    rows: &[Row],
+    reader: &mut R,
+    piece: &mut [u8],
+) -> Result<(), ScriptFault>
+    requires piece { 0 < length piece.old }
+    requires lines { reading.old.search.counts.lines ≡ 0 }
+    requires line { reading.old.line.items ≡ [] }
+    ensures ok { OnOk result ((script : List ℕ)
+        × Consumes (R.remaining reader.old) (R.remaining reader.new) script
+        × IsAtEnd (R.remaining reader.new)
+        × TakesBytes (row_views rows.now) reading.old reading.new script) }
+    ensures lines { OnOk result (reading.new.search.counts.lines
+        + length reading.new.line.items ≤ script_limit) }
+    ensures long { IfErr result (λ fault. fault ≡ ScriptFault.TooLong
+        → IfSome (R.remaining reader.old) (λ bytes. script_limit < length bytes)) }
+{
+    let mut total: u64 = 0;
+    'reads: loop {
+        let n = match reader.read(piece) {
+            Ok(n) => n,
+            Err(_) => return Err(ScriptFault::Read),
+        };
+        if n == 0 {
+            return Ok(());
+        }
+        if n as u64 > SCRIPT_LIMIT - total {
+            return Err(ScriptFault::TooLong);
+        }
+        take(reading, alloc, rows, &piece[..n])?;
+        total += n as u64;
+    }
+}
+
+/// Reads a script, and finds its subscriptions that are in vain under these rows: those of a client that may read no topic
+/// that the filter matches. Who is connected with which user name, the commands of the script say; its `acl` lines say
+/// nothing here, and a line that is no command is passed over, and counted.
+pub fn find_vain<R: Read>(
+    alloc: Global,
+    rows: &[Row],
+    reader: &mut R,
+) -> Result<Findings, ScriptFault>
+    ensures ok { IfOk result (λ findings. (script : List ℕ)
+        × Consumes (R.remaining reader.old) (R.remaining reader.new) script
+        × IsAtEnd (R.remaining reader.new)
+        × IsFound (row_views rows.now) (all_lines script) findings) }
+    ensures long { IfErr result (λ fault. fault ≡ ScriptFault.TooLong
+        → IfSome (R.remaining reader.old) (λ bytes. script_limit < length bytes)) }
+{
+    let Ok(mut piece) = vec![in alloc; 0u8; PIECE] else {
+        return Err(ScriptFault::Search(SearchFault::Memory));
+    };
+    let mut reading = Reading {
+        search: Search::new(alloc),
+        line: Vec::new(alloc),
+    };
+    read_lines(&mut reading, alloc, rows, reader, piece.as_mut_slice())?;
+    Ok(finish(reading, alloc, rows)?)
+}

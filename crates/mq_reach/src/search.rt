@@ -1,0 +1,173 @@
+//! The search of a script, line by line.
+ghost use Rattle.std.specs.Prelude.{◌≡◌, ◌+◌, ◌<◌, ◌^◌, ◌≤◌, IfOk, OnOk, Ok, Some, None, string_bytes, option_map, length};
+ghost use Rattle.mq_acl.specs.Views.{row_views};
+ghost use Rattle.mq_world.specs.World.{Options, Subscribe};
+ghost use Rattle.mq_world.specs.Views.{request_of};
+ghost use Rattle.mq_lines.specs.Reading.{reading};
+
+use crate::clients::Clients;
+use crate::counts::{Counts, LineKind};
+use crate::question::{SearchFault, is_taken, is_vain};
+use crate::subscription::Subscription;
+use mq_acl::Row;
+use mq_lines::{LineFault, read_line};
+use mq_world::Command;
+use std::alloc::{AllocError, Global};
+
+/// What is found in a script.
+#[derive(Debug, Drop)]
+pub struct Findings {
+    /// The subscriptions that are in vain, in the order of their lines.
+    pub vain: Vec<Subscription>,
+    /// How many lines and subscriptions the script has.
+    pub counts: Counts,
+}
+
+/// How far a search has come.
+#[derive(Drop)]
+pub(crate) struct Search {
+    clients: Clients,
+    vain: Vec<Subscription>,
+    pub counts: Counts,
+    ghost subscriptions: { counts.subscriptions ≤ counts.lines },
+    ghost faulty: { counts.faulty ≤ counts.lines },
+}
+
+impl Search {
+    ghost use Rattle.std.specs.Prelude.{List, ℕ, ◌++◌, ◌∷◌, [], map};
+    ghost use Rattle.mq_acl.specs.Rows.{AclRow};
+    ghost use Rattle.mq_reach.specs.Subscriptions.{subscription_by};
+    ghost use Rattle.mq_reach.specs.Clients.{user_at};
+    ghost use Rattle.mq_reach.specs.Search.{Applies, IsFound, IsSearched, subscription_view};
+
+    pub fn new(alloc: Global) -> Search
+        ensures searched { (rows : List AclRow) → IsSearched rows [] result }
+        ensures lines { result.counts.lines ≡ 0 }
+    {
+        Search {
+            clients: Clients::new(alloc),
+            vain: Vec::new(alloc),
+            counts: Counts::new(),
+        }
+    }
+
+    // The subscription that a subscribe makes, if a broker takes it.
+    fn subscription(
+        &self,
+        client: String,
+        filter: String,
+        no_local: bool,
+    ) -> Result<Option<Subscription>, AllocError>
+        requires { self.now.counts.lines + 1 < 2 ^ 64 }
+        ensures { (options : Options) → options.no_local ≡ no_local → IfOk result (λ made.
+            option_map subscription_view made ≡ subscription_by (self.now.counts.lines + 1)
+            (user_at self.now.clients)
+            (Subscribe (string_bytes client) (string_bytes filter) options)) }
+    {
+        if !is_taken(filter.as_str(), no_local) {
+            return Ok(None);
+        }
+        let Some(user) = self.clients.user(client.as_str()) else {
+            return Ok(None);
+        };
+        let user = user.clone()?;
+        Ok(Some(Subscription {
+            line: self.counts.lines + 1,
+            client,
+            user,
+            filter,
+        }))
+    }
+
+    // A client subscribes.
+    fn subscribe(
+        &mut self,
+        alloc: Global,
+        rows: &[Row],
+        client: String,
+        filter: String,
+        no_local: bool,
+    ) -> Result<LineKind, SearchFault>
+        requires { self.old.counts.lines + 1 < 2 ^ 64 }
+        ensures { (options : Options) → options.no_local ≡ no_local → IfOk result
+            (Applies (row_views rows.now) (Ok (Some (Subscribe (string_bytes client)
+            (string_bytes filter) options))) self.old self.new) }
+    {
+        let Some(subscription) = self.subscription(client, filter, no_local)? else {
+            return Ok(LineKind::Other);
+        };
+        if !is_vain(alloc, rows, &subscription)? {
+            return Ok(LineKind::Subscription);
+        }
+        match self.vain.push(subscription) {
+            Ok(()) => Ok(LineKind::Subscription),
+            Err(_) => Err(SearchFault::Memory),
+        }
+    }
+
+    fn apply(
+        &mut self,
+        alloc: Global,
+        rows: &[Row],
+        command: Command,
+    ) -> Result<LineKind, SearchFault>
+        requires { self.old.counts.lines + 1 < 2 ^ 64 }
+        ensures { IfOk result (Applies (row_views rows.now) (Ok (Some (request_of command)))
+            self.old self.new) }
+    {
+        match command {
+            Command::Connect { client, user, .. } => {
+                self.clients.connect(client, user)?;
+                Ok(LineKind::Other)
+            }
+            Command::Disconnect { client } => {
+                self.clients.disconnect(client.as_str());
+                Ok(LineKind::Other)
+            }
+            Command::Subscribe {
+                client,
+                filter,
+                no_local,
+                ..
+            } => self.subscribe(alloc, rows, client, filter, no_local),
+            _ => Ok(LineKind::Other),
+        }
+    }
+
+    // What the line is counted as.
+    fn read(&mut self, alloc: Global, rows: &[Row], line: &[u8]) -> Result<LineKind, SearchFault>
+        requires { self.old.counts.lines + 1 < 2 ^ 64 }
+        ensures { IfOk result (Applies (row_views rows.now) (reading line.now) self.old self.new) }
+    {
+        match read_line(alloc, line) {
+            Ok(None) => Ok(LineKind::Other),
+            Ok(Some(command)) => self.apply(alloc, rows, command),
+            Err(LineFault::Memory) => Err(SearchFault::Memory),
+            Err(_) => Ok(LineKind::NoCommand),
+        }
+    }
+
+    /// Searches the next line.
+    pub fn take_line(&mut self, alloc: Global, rows: &[Row], line: &[u8]) -> Result<(), SearchFault>
+        requires { self.old.counts.lines + 1 < 2 ^ 64 }
+        ensures searched { (before : List (List ℕ))
+            → IsSearched (row_views rows.now) before self.old
+            → OnOk result (IsSearched (row_views rows.now) (before ++ line.now ∷ []) self.new) }
+        ensures lines { OnOk result (self.new.counts.lines ≡ self.old.counts.lines + 1) }
+    {
+        let kind = self.read(alloc, rows, line)?;
+        self.counts = self.counts.with_line(kind);
+        Ok(())
+    }
+
+    /// What is found so far.
+    pub fn findings(self) -> Findings
+        ensures { (rows : List AclRow) (lines : List (List ℕ)) → IsSearched rows lines self
+            → IsFound rows lines result }
+    {
+        Findings {
+            vain: self.vain,
+            counts: self.counts,
+        }
+    }
+}
