@@ -1,5 +1,6 @@
 -- What a client that connects or leaves makes of those that are connected.
-use Rattle.std.proofs.Common.{◌≡◌, ◌&&◌, Bool, true, false, cond, Option, Some, None, refl, ap, ◌∙◌, String, Global, string_bytes}
+use Rattle.std.proofs.Common.{◌≡◌, ◌&&◌, Bool, true, false, cond, Option, Some, None, refl, ap, ◌∙◌}
+use Rattle.std.proofs.Common.{String, Global, string_bytes}
 use Rattle.std.specs.BTreeMap.{BTreeMap, get_by_text, UpdatesBy}
 use Rattle.std.specs.Cmp.Lexicographic.{slice_cmp}
 use Rattle.std.specs.Option.{option_map}
@@ -20,7 +21,8 @@ at users id = option_map named (get_by_text users id)
 
 -- the map has this value at the client, and the others as before
 abbrev Sets : Text → Users → Users → Option (Option (String Global)) → Type 0
-Sets client m n value = UpdatesBy string_cmp (λ k. slice_cmp nat_cmp client (string_bytes k)) m n value
+Sets client m n value = UpdatesBy string_cmp (λ k. slice_cmp nat_cmp client (string_bytes k)) m n
+    value
 
 by_test : (t valid : Bool) (user : Option (String Global)) (o : Option (Option (String Global)))
     → valid ≡ true
@@ -44,7 +46,8 @@ gone false o = refl
 pub disconnected : (client : Text) (m n : Users) → Sets client m n None
     → (id : Text) → at n id ≡ cond (bytes_eq client id) None (at m id)
 disconnected client m n sets id =
-    ap (option_map named) (btree_map_updates_text client m n None sets id) ∙ gone (bytes_eq client id) (get_by_text m id)
+    ap (option_map named) (btree_map_updates_text client m n None sets id)
+    ∙ gone (bytes_eq client id) (get_by_text m id)
 
 pub both : (a b : Bool) → a ≡ true → b ≡ true → (a && b) ≡ true
 both a b p q = rw (p, q) refl

@@ -1,28 +1,37 @@
 -- What one more line adds.
-use Rattle.std.proofs.Common.{◌≡◌, inl, inr, ℕ, ◌+◌, Bool, true, false, cond, List, [], ◌∷◌, ◌++◌, length, Option, Some, None, refl, sym, ap, ◌∙◌, append_assoc, append-nil}
+use Rattle.std.proofs.Common.{◌≡◌, inl, inr, ℕ, ◌+◌, Bool, true, false, cond, List, [], ◌∷◌, ◌++◌}
+use Rattle.std.proofs.Common.{length, Option, Some, None, refl, sym, ap, ◌∙◌, append_assoc}
+use Rattle.std.proofs.Common.{append-nil}
 use Rattle.std.specs.Prelude.{slice_get}
 use Rattle.std.specs.List.{filter, cons_option, last_or}
 use Rattle.std.specs.Option.{option_and_then, option_map, option_or, option_to_list}
 use Rattle.std.proofs.lemmas.List.Elements.{filter-append, filter_map-append}
 use Rattle.mq_acl.specs.Rows.{AclRow}
 use Rattle.mq_world.specs.Lists.{Text}
-use Rattle.mq_world.specs.World.{Request, Connect, Disconnect, Subscribe, Unsubscribe, Publish, SetAcl, Advance, Stat}
+use Rattle.mq_world.specs.World.{Request, Connect, Disconnect, Subscribe, Unsubscribe, Publish}
+use Rattle.mq_world.specs.World.{SetAcl, Advance, Stat}
 use Rattle.mq_lines.specs.Lines.{command_in}
 use Rattle.mq_lines.specs.Reading.{reading}
 use Rattle.mq_reach.specs.Search.{connection_then, Tells}
-use Rattle.mq_reach.specs.Subscriptions.{Subscription, commands_of, concerns, connected_by, connection, fault_at, faulty_from, faulty_lines, is_taken, subscription_by, subscription_in, subscriptions, subscriptions_from}
+use Rattle.mq_reach.specs.Subscriptions.{Subscription, commands_of, concerns, connected_by}
+use Rattle.mq_reach.specs.Subscriptions.{connection, fault_at, faulty_from, faulty_lines, is_taken}
+use Rattle.mq_reach.specs.Subscriptions.{subscription_by, subscription_in, subscriptions}
+use Rattle.mq_reach.specs.Subscriptions.{subscriptions_from}
 use Rattle.mq_reach.specs.Vain.{AreVain, IsReached, IsVain}
 
 -- ## Subscriptions and faults
 
 subscriptions_from-append : (before xs ys : List (List ℕ))
-    → subscriptions_from before (xs ++ ys) ≡ subscriptions_from before xs ++ subscriptions_from (before ++ xs) ys
+    → subscriptions_from before (xs ++ ys) ≡ subscriptions_from before xs
+    ++ subscriptions_from (before ++ xs) ys
 subscriptions_from-append before [] ys = rw (append-nil before) refl
 subscriptions_from-append before (x ∷ xs) ys =
     let here : List Subscription = option_to_list (subscription_in before x) in
     ap (λ l. here ++ l) (subscriptions_from-append (before ++ x ∷ []) xs ys)
-    ∙ sym (append_assoc here (subscriptions_from (before ++ x ∷ []) xs) (subscriptions_from ((before ++ x ∷ []) ++ xs) ys))
-    ∙ ap (λ ls. (here ++ subscriptions_from (before ++ x ∷ []) xs) ++ subscriptions_from ls ys) (append_assoc before (x ∷ []) xs)
+    ∙ sym (append_assoc here (subscriptions_from (before ++ x ∷ []) xs)
+    (subscriptions_from ((before ++ x ∷ []) ++ xs) ys))
+    ∙ ap (λ ls. (here ++ subscriptions_from (before ++ x ∷ []) xs) ++ subscriptions_from ls ys)
+    (append_assoc before (x ∷ []) xs)
 
 pub subscriptions-push : (xs : List (List ℕ)) (y : List ℕ)
     → subscriptions (xs ++ y ∷ []) ≡ subscriptions xs ++ option_to_list (subscription_in xs y)
@@ -36,14 +45,18 @@ faulty_from-append before [] ys = rw (append-nil before) refl
 faulty_from-append before (x ∷ xs) ys =
     let here : List ℕ = option_to_list (fault_at (length before + 1) (reading x)) in
     ap (λ l. here ++ l) (faulty_from-append (before ++ x ∷ []) xs ys)
-    ∙ sym (append_assoc here (faulty_from (before ++ x ∷ []) xs) (faulty_from ((before ++ x ∷ []) ++ xs) ys))
-    ∙ ap (λ ls. (here ++ faulty_from (before ++ x ∷ []) xs) ++ faulty_from ls ys) (append_assoc before (x ∷ []) xs)
+    ∙ sym (append_assoc here (faulty_from (before ++ x ∷ []) xs)
+    (faulty_from ((before ++ x ∷ []) ++ xs) ys))
+    ∙ ap (λ ls. (here ++ faulty_from (before ++ x ∷ []) xs) ++ faulty_from ls ys)
+    (append_assoc before (x ∷ []) xs)
 
 pub faulty_lines-push : (xs : List (List ℕ)) (y : List ℕ)
-    → faulty_lines (xs ++ y ∷ []) ≡ faulty_lines xs ++ option_to_list (fault_at (length xs + 1) (reading y))
+    → faulty_lines (xs ++ y ∷ []) ≡ faulty_lines xs
+    ++ option_to_list (fault_at (length xs + 1) (reading y))
 faulty_lines-push xs y =
     faulty_from-append [] xs (y ∷ [])
-    ∙ ap (λ l. faulty_lines xs ++ l) (append-nil (option_to_list (fault_at (length xs + 1) (reading y))))
+    ∙ ap (λ l. faulty_lines xs ++ l)
+    (append-nil (option_to_list (fault_at (length xs + 1) (reading y))))
 
 pub first-push : (xs : List ℕ) (n : ℕ)
     → option_or (slice_get xs 0) (Some n) ≡ slice_get (xs ++ n ∷ []) 0
@@ -88,7 +101,8 @@ by_same : (n : ℕ) (f g : Text → Option (Option Text)) → ((id : Text) → f
     → subscription_by n f request ≡ subscription_by n g request
 by_same n f g same (Subscribe client filter options) =
     ap (λ (connected : Option (Option Text)). cond (is_taken filter options)
-    (option_map (λ user. record { line = n; client = client; user = user; filter = filter }) connected) None) (same client)
+    (option_map (λ user. record { line = n; client = client; user = user; filter = filter })
+    connected) None) (same client)
 by_same n f g same (Connect id user clean interval) = refl
 by_same n f g same (Disconnect id) = refl
 by_same n f g same (Unsubscribe id text) = refl
@@ -99,7 +113,8 @@ by_same n f g same Stat = refl
 
 pub made-same : (n m : ℕ) → n ≡ m → (f g : Text → Option (Option Text))
     → ((id : Text) → f id ≡ g id) → (command : Option Request)
-    → option_and_then (subscription_by (n + 1) f) command ≡ option_and_then (subscription_by (m + 1) g) command
+    → option_and_then (subscription_by (n + 1) f) command
+    ≡ option_and_then (subscription_by (m + 1) g) command
 made-same n m e f g same None = refl
 made-same n m e f g same (Some request) =
     by_same (n + 1) f g same request ∙ ap (λ (k : ℕ). subscription_by (k + 1) g request) e
@@ -109,7 +124,8 @@ made-same n m e f g same (Some request) =
 more_reached : (rows : List AclRow) (s : Subscription) (all told : List Subscription)
     → IsReached rows s → AreVain rows all told → AreVain rows (all ++ s ∷ []) told
 more_reached rows s [] told reached e = inl (reached, e)
-more_reached rows s (x ∷ all) told reached (inl h) = inl (h.0, more_reached rows s all told reached h.1)
+more_reached rows s (x ∷ all) told reached (inl h) =
+    inl (h.0, more_reached rows s all told reached h.1)
 more_reached rows s (x ∷ all) told reached (inr h) =
     inr (h.0, (h.1.0, h.1.1, more_reached rows s all h.1.0 reached h.1.2))
 
@@ -120,7 +136,8 @@ more_vain rows s (x ∷ all) told vain (inl h) = inl (h.0, more_vain rows s all 
 more_vain rows s (x ∷ all) told vain (inr h) =
     inr (h.0, (h.1.0 ++ s ∷ [], ap (λ l. l ++ s ∷ []) h.1.1, more_vain rows s all h.1.0 vain h.1.2))
 
-pub AreVain-push : (rows : List AclRow) (made : Option Subscription) (all told new : List Subscription)
+pub AreVain-push : (rows : List AclRow) (made : Option Subscription)
+    (all told new : List Subscription)
     → AreVain rows all told → Tells rows made told new
     → AreVain rows (all ++ option_to_list made) new
 AreVain-push rows None all told new are tells = rw (append-nil all, tells) are

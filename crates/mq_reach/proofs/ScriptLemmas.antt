@@ -1,5 +1,7 @@
 -- A script that is read piece by piece.
-use Rattle.std.proofs.Common.{◌≡◌, ◌<◌, ◌+◌, ◌-◌, ℕ, Option, Some, None, IfSome, List, [], ◌∷◌, ◌++◌, length, take, sym, ap, subst, ◌∙◌, append_assoc, append-nil, arith, length-append}
+use Rattle.std.proofs.Common.{◌≡◌, ◌<◌, ◌+◌, ◌-◌, ℕ, Option, Some, None, IfSome, List, [], ◌∷◌}
+use Rattle.std.proofs.Common.{◌++◌, length, take, sym, ap, subst, ◌∙◌, append_assoc, append-nil}
+use Rattle.std.proofs.Common.{arith, length-append}
 use Rattle.std.specs.Prelude.{slice_get}
 use Rattle.std.specs.Io.KnownBytes.{Consumes}
 use Rattle.std.specs.List.{cons_option}
@@ -7,13 +9,16 @@ use Rattle.std.specs.Option.{option_and_then, option_to_list}
 use Rattle.std.proofs.lemmas.List.{take_all}
 use Rattle.std.proofs.lemmas.List.Elements.{filter_map-append}
 use Rattle.mq_acl.specs.Rows.{AclRow}
-use Rattle.mq_lines.specs.Lines.{all_lines, command_in, kept, last_piece, piece_line, pieces, whole_lines}
+use Rattle.mq_lines.specs.Lines.{all_lines, command_in, kept, last_piece, piece_line, pieces}
+use Rattle.mq_lines.specs.Lines.{whole_lines}
 use Rattle.mq_lines.specs.Reading.{reading}
 use Rattle.mq_lines.proofs.LongLemmas.{kept_more, no_piece, reading-kept, some_piece}
-use Rattle.mq_lines.proofs.PieceLemmas.{whole_lines-feed, last_piece-feed, whole_lines-text, last_piece-text}
+use Rattle.mq_lines.proofs.PieceLemmas.{whole_lines-feed, last_piece-feed, whole_lines-text}
+use Rattle.mq_lines.proofs.PieceLemmas.{last_piece-text}
 use Rattle.mq_reach.specs.Script.{HoldsScript, TakesBytes}
 use Rattle.mq_reach.specs.Search.{IsSearched, subscription_views}
-use Rattle.mq_reach.specs.Subscriptions.{commands_of, connection, fault_at, faulty_lines, subscription_by, subscriptions}
+use Rattle.mq_reach.specs.Subscriptions.{commands_of, connection, fault_at, faulty_lines}
+use Rattle.mq_reach.specs.Subscriptions.{subscription_by, subscriptions}
 use Rattle.mq_reach.specs.Vain.{AreVain}
 use Rattle.mq_reach.specs.declared.reading.Reading.{Reading}
 use Rattle.mq_reach.specs.declared.search.Search.{Search}
@@ -27,7 +32,8 @@ pub TakesBytes-then : (rows : List AclRow) (p q r : Reading) (xs ys : List ℕ)
     → TakesBytes rows p q xs → TakesBytes rows q r ys → TakesBytes rows p r (xs ++ ys)
 unfolding TakesBytes
 TakesBytes-then rows p q r xs ys s t = λ given holds.
-    subst (λ (l : List ℕ). HoldsScript rows l r) (append_assoc given xs ys) (t (given ++ xs) (s given holds))
+    subst (λ (l : List ℕ). HoldsScript rows l r) (append_assoc given xs ys)
+    (t (given ++ xs) (s given holds))
 
 -- ## A long line is known by its front
 
@@ -42,7 +48,8 @@ subscriptions-kept : (lines : List (List ℕ)) (p : List ℕ)
     → subscriptions (lines ++ take kept p ∷ []) ≡ subscriptions (lines ++ p ∷ [])
 subscriptions-kept lines p =
     subscriptions-push lines (take kept p)
-    ∙ ap (λ said. subscriptions lines ++ option_to_list (option_and_then (subscription_by (length lines + 1)
+    ∙ ap (λ said. subscriptions lines ++ option_to_list
+    (option_and_then (subscription_by (length lines + 1)
     (λ client. connection client (commands_of lines))) (command_in said))) (reading-kept p)
     ∙ sym (subscriptions-push lines p)
 
@@ -50,7 +57,8 @@ faulty-kept : (lines : List (List ℕ)) (p : List ℕ)
     → faulty_lines (lines ++ take kept p ∷ []) ≡ faulty_lines (lines ++ p ∷ [])
 faulty-kept lines p =
     faulty_lines-push lines (take kept p)
-    ∙ ap (λ said. faulty_lines lines ++ option_to_list (fault_at (length lines + 1) said)) (reading-kept p)
+    ∙ ap (λ said. faulty_lines lines ++ option_to_list (fault_at (length lines + 1) said))
+    (reading-kept p)
     ∙ sym (faulty_lines-push lines p)
 
 length-kept : (lines : List (List ℕ)) (p : List ℕ)
@@ -61,7 +69,8 @@ IsSearched-kept : (rows : List AclRow) (lines : List (List ℕ)) (p : List ℕ) 
     → IsSearched rows (lines ++ take kept p ∷ []) s → IsSearched rows (lines ++ p ∷ []) s
 IsSearched-kept rows lines p s is = record {
   clients = λ id. is.clients id ∙ ap (connection id) (commands-kept lines p);
-  vain = subst (λ all. AreVain rows all (subscription_views s.vain.items)) (subscriptions-kept lines p) is.vain;
+  vain = subst (λ all. AreVain rows all (subscription_views s.vain.items))
+      (subscriptions-kept lines p) is.vain;
   counts = record {
     lines = is.counts.lines ∙ length-kept lines p;
     subscribed = is.counts.subscribed ∙ ap length (subscriptions-kept lines p);
@@ -77,7 +86,8 @@ kept_line : (n : ℕ) (line more p xs : List ℕ) → kept ≡ n → line ≡ ta
     → more ≡ line ++ take (n - length line) xs
     → more ≡ take kept (p ++ xs)
 kept_line n line more p xs is e f =
-    f ∙ subst (λ (k : ℕ). line ++ take (k - length line) xs ≡ take kept (p ++ xs)) is (kept_more line p xs e)
+    f ∙ subst (λ (k : ℕ). line ++ take (k - length line) xs ≡ take kept (p ++ xs)) is
+    (kept_more line p xs e)
 
 pub TakesBytes-text : (rows : List AclRow) (p q : Reading) (xs : List ℕ) (n : ℕ) → kept ≡ n
     → pieces xs ≡ xs ∷ []
@@ -95,22 +105,27 @@ TakesBytes-text rows p q xs n is one search line = λ given holds. record {
 pub TakesBytes-line : (rows : List AclRow) (p q : Reading) (rest line : List ℕ) (n : ℕ) → kept ≡ n
     → pieces rest ≡ rest ∷ []
     → line ≡ p.line.items ++ take (n - length p.line.items) rest
-    → ((before : List (List ℕ)) → IsSearched rows before p.search → IsSearched rows (before ++ line ∷ []) q.search)
+    → ((before : List (List ℕ)) → IsSearched rows before p.search
+    → IsSearched rows (before ++ line ∷ []) q.search)
     → q.line.items ≡ [] → TakesBytes rows p q (rest ++ 10 ∷ [])
 unfolding TakesBytes
 TakesBytes-line rows p q rest line n is one grown step none = λ given holds.
     let ls : List (List ℕ) = whole_lines given in
     let piece : List ℕ = last_piece given ++ rest in
-    let front : line ≡ take kept piece = kept_line n p.line.items line (last_piece given) rest is holds.line grown in
-    let same : given ++ (rest ++ 10 ∷ []) ≡ (given ++ rest) ++ 10 ∷ [] = sym (append_assoc given rest (10 ∷ [])) in
+    let front : line ≡ take kept piece =
+    kept_line n p.line.items line (last_piece given) rest is holds.line grown in
+    let same : given ++ (rest ++ 10 ∷ []) ≡ (given ++ rest) ++ 10 ∷ [] =
+    sym (append_assoc given rest (10 ∷ [])) in
     let all : whole_lines ((given ++ rest) ++ 10 ∷ []) ≡ ls ++ piece ∷ [] =
-    whole_lines-feed (given ++ rest) ∙ ap (λ l. l ++ last_piece (given ++ rest) ∷ []) (whole_lines-text given rest one)
+    whole_lines-feed (given ++ rest) ∙ ap (λ l. l ++ last_piece (given ++ rest) ∷ [])
+    (whole_lines-text given rest one)
     ∙ ap (λ l. ls ++ l ∷ []) (last_piece-text given rest one) in
     let searched : IsSearched rows (ls ++ piece ∷ []) q.search =
     IsSearched-kept rows ls piece q.search
     (subst (λ l. IsSearched rows (ls ++ l ∷ []) q.search) front (step ls holds.searched)) in
     record {
-      searched = subst (λ l. IsSearched rows (whole_lines l) q.search) (sym same) (subst (λ l. IsSearched rows l q.search) (sym all) searched);
+      searched = subst (λ l. IsSearched rows (whole_lines l) q.search) (sym same)
+          (subst (λ l. IsSearched rows l q.search) (sym all) searched);
       line =
           none ∙ sym (take_all kept [] (omega arith))
           ∙ ap (take kept) (sym (ap last_piece same ∙ last_piece-feed (given ++ rest)));
@@ -123,12 +138,14 @@ pub whole-empty : (rows : List AclRow) (script : List ℕ) (r : Reading) → Hol
     → IsSearched rows (all_lines script) r.search
 whole-empty rows script r holds none =
     let same : all_lines script ≡ whole_lines script =
-    ap (λ l. whole_lines script ++ piece_line l) (no_piece (last_piece script) (sym holds.line ∙ none)) ∙ append-nil (whole_lines script) in
+    ap (λ l. whole_lines script ++ piece_line l)
+    (no_piece (last_piece script) (sym holds.line ∙ none)) ∙ append-nil (whole_lines script) in
     rw same holds.searched
 
 pub whole-piece : (rows : List AclRow) (script : List ℕ) (r : Reading) (s : Search)
     → HoldsScript rows script r → (r.line.items ≡ [] → ⊥)
-    → ((before : List (List ℕ)) → IsSearched rows before r.search → IsSearched rows (before ++ r.line.items ∷ []) s)
+    → ((before : List (List ℕ)) → IsSearched rows before r.search
+    → IsSearched rows (before ++ r.line.items ∷ []) s)
     → IsSearched rows (all_lines script) s
 whole-piece rows script r s holds some step =
     let ls : List (List ℕ) = whole_lines script in

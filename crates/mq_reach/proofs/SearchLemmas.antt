@@ -1,5 +1,6 @@
 -- One more line is searched.
-use Rattle.std.proofs.Common.{◌≡◌, ℕ, ◌+◌, List, [], ◌∷◌, ◌++◌, length, Option, Some, None, Result, Ok, Err, refl, sym, ap, subst, ◌∙◌, append-nil, arith, length-append}
+use Rattle.std.proofs.Common.{◌≡◌, ℕ, ◌+◌, List, [], ◌∷◌, ◌++◌, length, Option, Some, None, Result}
+use Rattle.std.proofs.Common.{Ok, Err, refl, sym, ap, subst, ◌∙◌, append-nil, arith, length-append}
 use Rattle.std.specs.Prelude.{slice_get}
 use Rattle.std.specs.Option.{option_and_then, option_or, option_to_list}
 use Rattle.mq_acl.specs.Rows.{AclRow}
@@ -10,14 +11,17 @@ use Rattle.mq_lines.specs.Reading.{reading}
 use Rattle.mq_lines.specs.declared.fault.LineFault.{LineFault}
 use Rattle.mq_reach.specs.Clients.{user_at}
 use Rattle.mq_reach.specs.Counts.{counted}
-use Rattle.mq_reach.specs.Search.{AreCounted, Applies, IsSearched, Tells, connection_then, kind_of, made_by, subscription_view, subscription_views}
-use Rattle.mq_reach.specs.Subscriptions.{Subscription, commands_of, connection, fault_at, subscription_by, faulty_lines, subscriptions}
+use Rattle.mq_reach.specs.Search.{AreCounted, Applies, IsSearched, Tells, connection_then, kind_of}
+use Rattle.mq_reach.specs.Search.{made_by, subscription_view, subscription_views}
+use Rattle.mq_reach.specs.Subscriptions.{Subscription, commands_of, connection, fault_at}
+use Rattle.mq_reach.specs.Subscriptions.{subscription_by, faulty_lines, subscriptions}
 use Rattle.mq_reach.specs.declared.counts.Counts.{Counts}
 use Rattle.mq_reach.specs.declared.counts.LineKind.{LineKind}
 use Rattle.mq_reach.specs.declared.counts.LineKind.TheVariants as kinds
 use Rattle.mq_reach.specs.declared.search.Search.{Search}
 use Rattle.mq_reach.specs.declared.subscription.Subscription as declared
-use Rattle.mq_reach.proofs.PushLemmas.{AreVain-push, connection-line, faulty_lines-push, first-push, made-same, subscriptions-push}
+use Rattle.mq_reach.proofs.PushLemmas.{AreVain-push, connection-line, faulty_lines-push, first-push}
+use Rattle.mq_reach.proofs.PushLemmas.{made-same, subscriptions-push}
 
 -- these are the numbers of lines, of subscriptions and of faulty lines
 record Counts_are (n : ℕ) (made : List Subscription) (faulty : List ℕ) (c : Counts) : Type 0 where
@@ -33,7 +37,8 @@ one_longer n xs x e = simp length-append (omega arith)
 same_length : {X : Type 0} (n : ℕ) (xs : List X) → n ≡ length xs → n ≡ length (xs ++ [])
 same_length n xs e = rw (append-nil xs) e
 
-counted_command : (command : Option Request) (made : Option Subscription) (n : ℕ) (all : List Subscription) (faulty : List ℕ) (c : Counts)
+counted_command : (command : Option Request) (made : Option Subscription) (n : ℕ)
+    (all : List Subscription) (faulty : List ℕ) (c : Counts)
     → Counts_are n all faulty c
     → Counts_are (n + 1) (all ++ option_to_list made) (faulty ++ [])
     (counted c (kind_of made (Ok command)))
@@ -56,24 +61,30 @@ counted_line : (said : Result (Option Request) LineFault)
     → Counts_are (n + 1) (all ++ option_to_list (make (command_in said)))
     (faulty ++ option_to_list (fault_at (n + 1) said))
     (counted c (kind_of (make (command_in said)) said))
-counted_line (Ok command) make none n all faulty c are = counted_command command (make command) n all faulty c are
+counted_line (Ok command) make none n all faulty c are =
+    counted_command command (make command) n all faulty c are
 counted_line (Err fault) make none n all faulty c are = record {
   lines = ap (λ (k : ℕ). k + 1) are.lines;
   subscriptions = rw none (same_length c.subscriptions all are.subscriptions);
   faulty_count = one_longer c.faulty faulty (n + 1) are.faulty_count;
   first_faulty =
       ap (λ (k : ℕ). option_or c.first_faulty (Some (k + 1))) are.lines
-      ∙ ap (λ (first : Option ℕ). option_or first (Some (n + 1))) are.first_faulty ∙ first-push faulty (n + 1);
+      ∙ ap (λ (first : Option ℕ). option_or first (Some (n + 1))) are.first_faulty
+      ∙ first-push faulty (n + 1);
 }
 
 -- what the line subscribes to, by the search and by the lines before it
 made-is : (rows : List AclRow) (lines : List (List ℕ)) (s : Search) (command : Option Request)
     → IsSearched rows lines s
-    → made_by s command ≡ option_and_then (subscription_by (length lines + 1) (λ client. connection client (commands_of lines))) command
+    → made_by s command ≡ option_and_then
+    (subscription_by (length lines + 1) (λ client. connection client (commands_of lines)))
+    command
 made-is rows lines s command is =
-    made-same s.counts.lines (length lines) is.counts.lines (user_at s.clients) (λ client. connection client (commands_of lines)) is.clients command
+    made-same s.counts.lines (length lines) is.counts.lines (user_at s.clients)
+    (λ client. connection client (commands_of lines)) is.clients command
 
-counts-push : (rows : List AclRow) (lines : List (List ℕ)) (line : List ℕ) (old new : Search) (kind : LineKind)
+counts-push : (rows : List AclRow) (lines : List (List ℕ)) (line : List ℕ) (old new : Search)
+    (kind : LineKind)
     → IsSearched rows lines old → Applies rows (reading line) old new kind
     → AreCounted (lines ++ line ∷ []) (counted new.counts kind)
 counts-push rows lines line old new kind is applies =
@@ -84,23 +95,31 @@ counts-push rows lines line old new kind is applies =
       faulty_count = is.counts.faulty;
       first_faulty = is.counts.first_faulty;
     } in
-    let after = counted_line (reading line) (made_by old) refl (length lines) (subscriptions lines) (faulty_lines lines) old.counts before in
-    let same : counted new.counts kind ≡ counted old.counts (kind_of (made_by old (command_in (reading line))) (reading line)) =
+    let after = counted_line (reading line) (made_by old) refl (length lines) (subscriptions lines)
+    (faulty_lines lines) old.counts before in
+    let same : counted new.counts kind ≡ counted old.counts
+    (kind_of (made_by old (command_in (reading line))) (reading line)) =
     ap (λ (c : Counts). counted c kind) applies.counts ∙ ap (counted old.counts) applies.kind in
-    let made : subscriptions (lines ++ line ∷ []) ≡ subscriptions lines ++ option_to_list (made_by old (command_in (reading line))) =
+    let made : subscriptions (lines ++ line ∷ []) ≡ subscriptions lines
+    ++ option_to_list (made_by old (command_in (reading line))) =
     subscriptions-push lines line
-    ∙ ap (λ o. subscriptions lines ++ option_to_list o) (sym (made-is rows lines old (command_in (reading line)) is)) in
+    ∙ ap (λ o. subscriptions lines ++ option_to_list o)
+    (sym (made-is rows lines old (command_in (reading line)) is)) in
     record {
-      lines = ap (λ (c : Counts). c.lines) same ∙ after.lines ∙ sym (length-append lines (line ∷ []));
-      subscribed = ap (λ (c : Counts). c.subscriptions) same ∙ after.subscriptions ∙ sym (ap length made);
-      faulty = ap (λ (c : Counts). c.faulty) same ∙ after.faulty_count ∙ sym (ap length (faulty_lines-push lines line));
+      lines = ap (λ (c : Counts). c.lines) same ∙ after.lines
+          ∙ sym (length-append lines (line ∷ []));
+      subscribed = ap (λ (c : Counts). c.subscriptions) same ∙ after.subscriptions
+          ∙ sym (ap length made);
+      faulty = ap (λ (c : Counts). c.faulty) same ∙ after.faulty_count
+          ∙ sym (ap length (faulty_lines-push lines line));
       first_faulty =
           ap (λ (c : Counts). c.first_faulty) same ∙ after.first_faulty
           ∙ sym (ap (λ l. slice_get l 0) (faulty_lines-push lines line));
     }
 
 -- one more line is searched, and counted
-pub IsSearched-push : (rows : List AclRow) (lines : List (List ℕ)) (line : List ℕ) (old mid new : Search) (kind : LineKind)
+pub IsSearched-push : (rows : List AclRow) (lines : List (List ℕ)) (line : List ℕ)
+    (old mid new : Search) (kind : LineKind)
     → IsSearched rows lines old → Applies rows (reading line) old mid kind
     → new.clients ≡ mid.clients → new.vain.items ≡ mid.vain.items
     → new.counts ≡ counted mid.counts kind
@@ -109,13 +128,18 @@ IsSearched-push rows lines line old mid new kind is applies clients vain counts 
     let command : Option Request = command_in (reading line) in
     record {
       clients = λ id.
-          ap (λ c. user_at c id) clients ∙ applies.clients id ∙ ap (connection_then id command) (is.clients id)
+          ap (λ c. user_at c id) clients ∙ applies.clients id
+          ∙ ap (connection_then id command) (is.clients id)
           ∙ sym (connection-line id lines line);
       vain =
-          let made : subscriptions (lines ++ line ∷ []) ≡ subscriptions lines ++ option_to_list (made_by old command) =
-          subscriptions-push lines line ∙ ap (λ o. subscriptions lines ++ option_to_list o) (sym (made-is rows lines old command is)) in
+          let made : subscriptions (lines ++ line ∷ []) ≡ subscriptions lines
+          ++ option_to_list (made_by old command) =
+          subscriptions-push lines line ∙ ap (λ o. subscriptions lines ++ option_to_list o)
+          (sym (made-is rows lines old command is)) in
           rw (made, vain)
-          (AreVain-push rows (made_by old command) (subscriptions lines) (subscription_views old.vain.items) (subscription_views mid.vain.items) is.vain applies.told);
+          (AreVain-push rows (made_by old command) (subscriptions lines)
+          (subscription_views old.vain.items) (subscription_views mid.vain.items) is.vain
+          applies.told);
       counts = rw counts (counts-push rows lines line old mid kind is applies);
     }
 
@@ -128,13 +152,16 @@ pub Applies-none : (rows : List AclRow) (client filter : Text) (options : Option
     → Applies rows (Ok (Some (Subscribe client filter options))) old old kinds.Other
 Applies-none rows client filter options old e = record {
   clients = λ id. refl;
-  told = subst (λ made. Tells rows made (subscription_views old.vain.items) (subscription_views old.vain.items)) (sym e) refl;
-  kind = subst (λ made. kinds.Other ≡ kind_of made (Ok (Some (Subscribe client filter options)))) (sym e) refl;
+  told = subst (λ made. Tells rows made (subscription_views old.vain.items)
+      (subscription_views old.vain.items)) (sym e) refl;
+  kind = subst (λ made. kinds.Other ≡ kind_of made (Ok (Some (Subscribe client filter options))))
+      (sym e) refl;
   counts = refl;
 }
 
 -- that makes one
-pub Applies-some : (rows : List AclRow) (client filter : Text) (options : Options) (old new : Search) (s : Subscription)
+pub Applies-some : (rows : List AclRow) (client filter : Text) (options : Options)
+    (old new : Search) (s : Subscription)
     → subscription_by (old.counts.lines + 1) (user_at old.clients)
     (Subscribe client filter options) ≡ Some s
     → new.clients ≡ old.clients → new.counts ≡ old.counts
@@ -142,8 +169,10 @@ pub Applies-some : (rows : List AclRow) (client filter : Text) (options : Option
     → Applies rows (Ok (Some (Subscribe client filter options))) old new kinds.Subscription
 Applies-some rows client filter options old new s e clients counts tells = record {
   clients = λ id. ap (λ c. user_at c id) clients;
-  told = subst (λ made. Tells rows made (subscription_views old.vain.items) (subscription_views new.vain.items)) (sym e) tells;
-  kind = subst (λ made. kinds.Subscription ≡ kind_of made (Ok (Some (Subscribe client filter options)))) (sym e) refl;
+  told = subst (λ made. Tells rows made (subscription_views old.vain.items)
+      (subscription_views new.vain.items)) (sym e) tells;
+  kind = subst (λ made. kinds.Subscription ≡ kind_of made
+      (Ok (Some (Subscribe client filter options)))) (sym e) refl;
   counts = counts;
 }
 

@@ -1,5 +1,6 @@
 -- What is found in a script.
-use Rattle.std.specs.Prelude.{◌≡◌, ◌⊎◌, ◌+◌, ℕ, List, [], ◌∷◌, ◌++◌, length, map, Option, Some, None, Result, Ok, Err, slice_get, string_bytes, if◌then◌else◌}
+use Rattle.std.specs.Prelude.{◌≡◌, ◌⊎◌, ◌+◌, ℕ, List, [], ◌∷◌, ◌++◌, length, map, Option, Some}
+use Rattle.std.specs.Prelude.{None, Result, Ok, Err, slice_get, string_bytes, if◌then◌else◌}
 use Rattle.std.specs.Option.{option_and_then, option_map}
 use Rattle.mq_acl.specs.Rows.{AclRow}
 use Rattle.mq_world.specs.Lists.{Text}
@@ -7,7 +8,8 @@ use Rattle.mq_world.specs.World.{Request}
 use Rattle.mq_lines.specs.Lines.{command_in}
 use Rattle.mq_lines.specs.declared.fault.LineFault.{LineFault}
 use Rattle.mq_reach.specs.Clients.{user_at}
-use Rattle.mq_reach.specs.Subscriptions.{commands_of, concerns, connected_by, connection, faulty_lines, subscription_by, subscriptions}
+use Rattle.mq_reach.specs.Subscriptions.{commands_of, concerns, connected_by, connection}
+use Rattle.mq_reach.specs.Subscriptions.{faulty_lines, subscription_by, subscriptions}
 use Rattle.mq_reach.specs.Subscriptions as spec
 use Rattle.mq_reach.specs.Vain.{AreVain, IsReached, IsVain}
 use Rattle.mq_reach.specs.declared.counts.Counts.{Counts}

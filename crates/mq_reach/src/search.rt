@@ -1,5 +1,6 @@
 //! The search of a script, line by line.
-ghost use Rattle.std.specs.Prelude.{◌≡◌, ◌+◌, ◌<◌, ◌^◌, ◌≤◌, IfOk, OnOk, Ok, Some, None, string_bytes, option_map, length};
+ghost use Rattle.std.specs.Prelude.{◌≡◌, ◌+◌, ◌<◌, ◌^◌, ◌≤◌, IfOk, OnOk, Ok, Some, None};
+ghost use Rattle.std.specs.Prelude.{string_bytes, option_map, length};
 ghost use Rattle.mq_acl.specs.Views.{row_views};
 ghost use Rattle.mq_world.specs.World.{Options, Subscribe};
 ghost use Rattle.mq_world.specs.Views.{request_of};

@@ -1,4 +1,5 @@
-use Rattle.std.proofs.Common.{◌≡◌, ◌++◌, ◌+◌, ◌≤◌, ◌<◌, [], ℕ, List, take, length, refl, ap, arith, length-append, length-take-le}
+use Rattle.std.proofs.Common.{◌≡◌, ◌++◌, ◌+◌, ◌≤◌, ◌<◌, [], ℕ, List, take, length, refl, ap, arith}
+use Rattle.std.proofs.Common.{length-append, length-take-le}
 use Rattle.std.proofs.KnownBytes.{Consumes-nil, Consumes-trans}
 use Rattle.mq_acl.specs.Views.{row_views}
 use Rattle.mq_reach.specs.Script.{script_limit}
@@ -12,7 +13,13 @@ reads-init g c = record {
       let lines = c.requires.lines in
       let none : length c.args.reading.now.line.items ≡ 0 = ap length c.requires.line in
       omega arith;
-  takes = ([], Consumes-nil _, refl, TakesBytes-none (row_views c.args.rows.now) c.args.reading.now);
+  takes = (
+    [],
+    Consumes-nil _,
+    refl,
+    TakesBytes-none (row_views c.args.rows.now)
+        c.args.reading.now,
+  );
 }
 
 pub reads-preserved : goal.reads-preserved
@@ -33,7 +40,8 @@ reads-preserved g c =
         given ++ take n buf,
         Consumes-trans _ (g.R.Read.remaining c.reads.reader) _ given (take n buf) so_far.1 read.0,
         omega arith,
-        TakesBytes-then (row_views c.args.rows.now) c.args.reading.now c.reads.reading c.take.new.reading given (take n buf) so_far.3 c.in_ok-take.ensures.takes,
+        TakesBytes-then (row_views c.args.rows.now) c.args.reading.now c.reads.reading
+            c.take.new.reading given (take n buf) so_far.3 c.in_ok-take.ensures.takes,
       );
     }
 

@@ -8,7 +8,8 @@ abbrev pub invariant-reads : goal.invariant-reads
 invariant-reads g l = record {
   within : l.total ≤ 4294967296;
   lines : l.reading.search.counts.lines + length l.reading.line.items ≤ l.total;
-  takes : (given : List ℕ) × Consumes (g.R.Read.remaining l.fn.reader) (g.R.Read.remaining l.reader) given × (length given ≡ l.total)
+  takes : (given : List ℕ) × Consumes (g.R.Read.remaining l.fn.reader) (g.R.Read.remaining l.reader)
+      given × (length given ≡ l.total)
       × TakesBytes (row_views l.rows) l.fn.reading l.reading given;
 }
 

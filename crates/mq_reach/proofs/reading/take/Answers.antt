@@ -1,4 +1,5 @@
-use Rattle.std.proofs.Common.{◌≡◌, ◌+◌, ◌++◌, ◌∷◌, [], ℕ, List, length, arith, refl, ap, ◌∙◌, length-append}
+use Rattle.std.proofs.Common.{◌≡◌, ◌+◌, ◌++◌, ◌∷◌, [], ℕ, List, length, arith, refl, ap, ◌∙◌}
+use Rattle.std.proofs.Common.{length-append}
 use Rattle.mq_acl.specs.Views.{row_views}
 use Rattle.mq_lines.proofs.LongLemmas.{kept_number}
 use Rattle.mq_lines.proofs.PieceLemmas.{parted}
@@ -15,15 +16,19 @@ pub lines-preserved : goal.lines-preserved
 lines-preserved c =
     let at = c.lines.invariant.takes in
     let line : List ℕ = c.in-Some.line.now ++ 10 ∷ [] in
-    let grown : length c.lines.rest.now ≡ (length c.in-Some.line.now + 1) + length c.in-Some.others.now = ap length c.in-Some.ensures.0 ∙ simp length-append in
+    let grown : length c.lines.rest.now ≡ (length c.in-Some.line.now + 1)
+    + length c.in-Some.others.now = ap length c.in-Some.ensures.0 ∙ simp length-append in
     record {
       takes = (
         at.0 ++ line,
-        parted c.args.bytes.now at.0 c.lines.rest.now line c.in-Some.others.now at.1 c.in-Some.ensures.0,
-        TakesBytes-then (row_views c.args.rows.now) c.args.reading.now c.lines.reading c.end_line.new.reading at.0 line at.2 c.in_ok-end_line.ensures.takes,
+        parted c.args.bytes.now at.0 c.lines.rest.now line c.in-Some.others.now at.1
+            c.in-Some.ensures.0,
+        TakesBytes-then (row_views c.args.rows.now) c.args.reading.now c.lines.reading
+            c.end_line.new.reading at.0 line at.2 c.in_ok-end_line.ensures.takes,
       );
       lines =
-          let none : length c.end_line.new.reading.line.items ≡ 0 = ap length c.in_ok-end_line.ensures.line in
+          let none : length c.end_line.new.reading.line.items ≡ 0 =
+          ap length c.in_ok-end_line.ensures.line in
           let more = c.in_ok-end_line.ensures.lines in
           omega arith;
     }
@@ -31,5 +36,7 @@ lines-preserved c =
 pub returns-clause-takes : goal.returns-clause-takes
 returns-clause-takes c =
     let at = c.lines.invariant.takes in
-    rw at.1 (TakesBytes-then (row_views c.args.rows.now) c.args.reading.now c.lines.reading _ at.0 c.lines.rest.now at.2
-    (TakesBytes-text (row_views c.args.rows.now) c.lines.reading _ c.lines.rest.now _ kept_number c.in_default.ensures refl c.in_ok-keep_front.ensures))
+    rw at.1 (TakesBytes-then (row_views c.args.rows.now) c.args.reading.now c.lines.reading _ at.0
+    c.lines.rest.now at.2
+    (TakesBytes-text (row_views c.args.rows.now) c.lines.reading _ c.lines.rest.now _ kept_number
+    c.in_default.ensures refl c.in_ok-keep_front.ensures))

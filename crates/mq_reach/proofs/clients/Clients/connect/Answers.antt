@@ -9,8 +9,12 @@ returns c = λ id.
     let client = string_bytes c.args.client in
     let user = option_map string_bytes c.args.user in
     let good_id : is_client_id client ≡ true =
-    ap is_client_id (sym c.as_str.ensures.value) ∙ sym c.is_client_id.ensures ∙ c.if-not-is_client_id.false in
+    ap is_client_id (sym c.as_str.ensures.value) ∙ sym c.is_client_id.ensures
+    ∙ c.if-not-is_client_id.false in
     let good_user : is_user_name user ≡ true =
-    ap is_user_name (sym c.as_deref.ensures.value) ∙ sym c.is_user_name.ensures ∙ c.if-not-is_user_name.false in
-    connected client c.args.user c.args.self.now.users c.insert.new.self (is_client_id client && is_user_name user)
-    (both (is_client_id client) (is_user_name user) good_id good_user) c.in_ok-insert.ensures.updates id
+    ap is_user_name (sym c.as_deref.ensures.value) ∙ sym c.is_user_name.ensures
+    ∙ c.if-not-is_user_name.false in
+    connected client c.args.user c.args.self.now.users c.insert.new.self
+    (is_client_id client && is_user_name user)
+    (both (is_client_id client) (is_user_name user) good_id good_user)
+    c.in_ok-insert.ensures.updates id

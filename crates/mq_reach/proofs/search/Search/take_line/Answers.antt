@@ -5,5 +5,6 @@ use Rattle.mq_reach.proofs.search.Search.take_line.Goals as goal
 
 pub returns-clause-searched : goal.returns-clause-searched
 returns-clause-searched c = λ before is.
-    IsSearched-push (row_views c.args.rows.now) before c.args.line.now c.args.self.now c.read.new.self _ c.in_ok-kind.kind is
+    IsSearched-push (row_views c.args.rows.now) before c.args.line.now c.args.self.now
+    c.read.new.self _ c.in_ok-kind.kind is
     c.in_ok-kind.ensures refl refl c.with_line-self.ensures
