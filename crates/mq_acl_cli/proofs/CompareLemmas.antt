@@ -31,7 +31,8 @@ differs Gained old new client user topic direction e same =
 differs Lost old new client user topic direction e same =
     not_same (allowed (Some new) client user topic direction) (allowed (Some old) client user topic direction) e (sym same)
 
-real_first : (old new : List Row) (all : List Difference) (first : Difference) → slice_get all 0 ≡ Some first
+real_first : (old new : List Row) (all : List Difference) (first : Difference)
+    → slice_get all 0 ≡ Some first
     → All (IsReal old new) all → IsReal old new first
 real_first old new [] first e real = absurd (let bad : None ≡ Some first = e in cc)
 real_first old new (d ∷ ds) first e real =
@@ -40,7 +41,8 @@ real_first old new (d ∷ ds) first e real =
 
 -- whether there is a difference tells whether the lists allow the same
 pub compared : (old new : List ℕ) (c : Changes) (outcome : Outcome) → AreChanges old new c
-    → (outcome ≡ Clear → c.differences.items ≡ []) → (outcome ≡ Remark → HasDifference c.differences.items)
+    → (outcome ≡ Clear → c.differences.items ≡ [])
+    → (outcome ≡ Remark → HasDifference c.differences.items)
     → IsCompared old new outcome
 compared old new c Clear are none some = record {
   old_rows = row_views c.old.items;
@@ -60,7 +62,7 @@ compared old new c Remark are none some =
       outcome_of = record {
         client = string_bytes first.client;
         user = user_of first.class;
-        topic = first.topic;
+        name = first.topic;
         direction = first.direction;
         valid = (some refl).2;
         differs = differs first.way (row_views c.old.items) (row_views c.new.items) (string_bytes first.client) (user_of first.class)

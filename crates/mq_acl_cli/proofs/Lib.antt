@@ -2,3 +2,4 @@ pub mod ListFileLemmas
 pub mod CompareLemmas
 pub mod LintLemmas
 pub mod ReachLemmas
+pub mod ScriptLemmas

@@ -6,7 +6,8 @@ use Rattle.mq_acl_cli.specs.declared.list_file.FileFault.TheVariants.{TooLong, U
 
 -- what is read of a limited reader is the front of the reader's bytes
 pub front_read : (known : Option (List ℕ)) (limit n : ℕ) (read : List ℕ) → limit ≡ n
-    → IfSome (option_map (take limit) known) (λ xs. read ≡ [] ++ xs) → IfSome known (λ xs. read ≡ take n xs)
+    → IfSome (option_map (take limit) known) (λ xs. read ≡ [] ++ xs)
+    → IfSome known (λ xs. read ≡ take n xs)
 front_read None limit n read e h = tt
 front_read (Some xs) limit n read e h = subst (λ (m : ℕ). read ≡ take m xs) e h
 
@@ -14,28 +15,33 @@ shorter : (xs front : List ℕ) (m : ℕ) → front ≡ take m xs → length fro
 shorter xs front m e = ap length e ∙ length-take m xs
 
 -- a front that is within the limit is the whole
-whole : (xs front : List ℕ) (n m : ℕ) → m ≡ n + 1 → front ≡ take m xs → length front ≤ n → (front ≡ xs) × (length xs ≤ n)
+whole : (xs front : List ℕ) (n m : ℕ) → m ≡ n + 1 → front ≡ take m xs → length front ≤ n
+    → (front ≡ xs) × (length xs ≤ n)
 whole xs front n m next e within =
     let count = shorter xs front m e in
     let few : length xs ≤ n = omega arith in
     (e ∙ take_all m xs (let more : length xs ≤ m = omega arith in more), few)
 
-pub text_whole : (known : Option (List ℕ)) (front text : List ℕ) → IfSome known (λ xs. front ≡ take 16777217 xs)
-    → length front ≤ 16777216 → text ≡ front → IfSome known (λ xs. (text ≡ xs) × (length xs ≤ file_limit))
+pub text_whole : (known : Option (List ℕ)) (front text : List ℕ)
+    → IfSome known (λ xs. front ≡ take 16777217 xs)
+    → length front ≤ 16777216 → text ≡ front
+    → IfSome known (λ xs. (text ≡ xs) × (length xs ≤ file_limit))
 unfolding file_limit
 text_whole None front text is within e = tt
 text_whole (Some xs) front text is within e =
     let all = whole xs front 16777216 16777217 (omega arith) is within in
     (e ∙ all.0, all.1)
 
-pub too_long : (known : Option (List ℕ)) (front : List ℕ) → IfSome known (λ xs. front ≡ take 16777217 xs)
+pub too_long : (known : Option (List ℕ)) (front : List ℕ)
+    → IfSome known (λ xs. front ≡ take 16777217 xs)
     → 16777216 < length front → IfSome known (IsFaultIn TooLong)
 unfolding file_limit
 too_long None front is over = tt
 too_long (Some xs) front is over =
     let count = shorter xs front 16777217 is in omega arith
 
-pub not_utf8 : (known : Option (List ℕ)) (front : List ℕ) → IfSome known (λ xs. front ≡ take 16777217 xs)
+pub not_utf8 : (known : Option (List ℕ)) (front : List ℕ)
+    → IfSome known (λ xs. front ≡ take 16777217 xs)
     → length front ≤ 16777216 → ¬ IsUtf8 front → IfSome known (IsFaultIn Utf8)
 not_utf8 None front is within bad = tt
 not_utf8 (Some xs) front is within bad =

@@ -12,6 +12,7 @@ use Rattle.mq_acl.specs.declared.row.Row.{Row}
 use Rattle.mq_report.specs.Reasons.{is_grant, reason_of}
 use Rattle.mq_report.specs.Differences.{IsReal, Tells}
 use Rattle.mq_report.specs.declared.difference.Difference.{Difference}
+use Rattle.mq_questions.specs.Differ.{AllowSame, Differ}
 use Rattle.mq_questions.specs.declared.way.Way.{Way}
 use Rattle.mq_acl_cli.specs.declared.changes.Changes.{Changes}
 use Rattle.mq_acl_cli.specs.declared.outcome.Outcome.{Outcome}
@@ -24,7 +25,8 @@ pub record AreRows (text : List ℕ) (rows : List Row) : Type 0 where
   pub numbered : line_views rows ≡ row_lines text
 
 -- it tells whether the client may read and write the topic, and the lines that decide it
-pub record Explains (text client : List ℕ) (user : Option (List ℕ)) (topic : List ℕ) (e : Explanation) : Type 0 where
+pub record Explains (text client : List ℕ) (user : Option (List ℕ)) (topic : List ℕ)
+    (e : Explanation) : Type 0 where
   pub rows : List Row
   pub are_rows : AreRows text rows
   pub reading : e.reading.reason ≡ reason_of rows client user topic Reading
@@ -32,20 +34,9 @@ pub record Explains (text client : List ℕ) (user : Option (List ℕ)) (topic :
   pub may_read : is_grant e.reading.reason ≡ allowed (Some (row_views rows)) client user topic Reading
   pub may_write : is_grant e.writing.reason ≡ allowed (Some (row_views rows)) client user topic Writing
 
--- every client may read and write the same topics by both
-abbrev pub AllowSame : List AclRow → List AclRow → Type 0
-AllowSame old new =
-    (client topic : List ℕ) (user : Option (List ℕ)) (direction : Direction) → IsTrue (is_name topic)
-    → allowed (Some old) client user topic direction ≡ allowed (Some new) client user topic direction
-
--- some client may read or write a topic by one of them, and not by the other
-pub record Differ (old new : List AclRow) : Type 0 where
-  pub client : List ℕ
-  pub user : Option (List ℕ)
-  pub topic : List ℕ
-  pub direction : Direction
-  pub valid : IsTrue (is_name topic)
-  pub differs : ¬ (allowed (Some old) client user topic direction ≡ allowed (Some new) client user topic direction)
+-- every client may read and write the same topics by both, whatever its user name
+abbrev pub AllowAllSame : List AclRow → List AclRow → Type 0
+AllowAllSame old new = (user : Option (List ℕ)) → AllowSame old new user
 
 -- the lists with these texts differ so, and not otherwise
 pub record AreChanges (old new : List ℕ) (c : Changes) : Type 0 where
@@ -54,7 +45,7 @@ pub record AreChanges (old new : List ℕ) (c : Changes) : Type 0 where
   pub told : (way : Way) (direction : Direction) (user : Option (List ℕ))
       → Tells (row_views c.old.items) (row_views c.new.items) way direction user c.differences.items
   pub real : All (IsReal c.old.items c.new.items) c.differences.items
-  pub same : c.differences.items ≡ [] → AllowSame (row_views c.old.items) (row_views c.new.items)
+  pub same : c.differences.items ≡ [] → AllowAllSame (row_views c.old.items) (row_views c.new.items)
 
 -- there is a first difference, and its topic is valid
 abbrev pub HasDifference : List Difference → Type 0
@@ -62,7 +53,7 @@ HasDifference all = (first : Difference) × (slice_get all 0 ≡ Some first) × 
 
 -- whether the rows allow the same is told
 abbrev pub TellsWhetherSame : List AclRow → List AclRow → Outcome → Type 0
-TellsWhetherSame old new Clear = AllowSame old new
+TellsWhetherSame old new Clear = AllowAllSame old new
 TellsWhetherSame old new Remark = Differ old new
 
 -- and so is it of the lists with these texts
@@ -75,7 +66,8 @@ pub record IsCompared (old new : List ℕ) (outcome : Outcome) : Type 0 where
 
 -- the topic, if there is one, is such that the subscription's filter matches it (MQTT 5.0, section 4.7) and the client may
 -- read it; and else no topic is
-abbrev pub IsReach : (text client : List ℕ) → Option (List ℕ) → (subscription : List ℕ) → Option (List ℕ) → Type 0
+abbrev pub IsReach : (text client : List ℕ) → Option (List ℕ) → (subscription : List ℕ)
+    → Option (List ℕ) → Type 0
 IsReach text client user subscription (Some topic) = record {
   rows : List AclRow;
   read : rows_of text ≡ Ok rows;
@@ -85,12 +77,14 @@ IsReach text client user subscription (Some topic) = record {
 IsReach text client user subscription None = record {
   rows : List AclRow;
   read : rows_of text ≡ Ok rows;
-  no_topic : (topic : List ℕ) → IsTrue (is_name topic) → matches (levels (filter_part subscription)) (levels topic) ≡ true
+  no_topic : (topic : List ℕ) → IsTrue (is_name topic)
+      → matches (levels (filter_part subscription)) (levels topic) ≡ true
       → allowed (Some rows) client user topic Reading ≡ false;
 }
 
 -- whether there is a topic is told
-abbrev pub IsReached : (text client : List ℕ) → Option (List ℕ) → (subscription : List ℕ) → Outcome → Type 0
+abbrev pub IsReached : (text client : List ℕ) → Option (List ℕ) → (subscription : List ℕ) → Outcome
+    → Type 0
 IsReached text client user subscription Clear =
     (topic : List ℕ) × IsTrue (is_name topic) × IsReach text client user subscription (Some topic)
 IsReached text client user subscription Remark = IsReach text client user subscription None

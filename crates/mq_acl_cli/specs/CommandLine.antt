@@ -18,6 +18,10 @@ use Rattle.mq_acl_cli.specs.declared.request.Question.TheVariants as asks
 abbrev pub argument : Text → Rule
 argument name = record (new_rule name) { value_names = 1; required = true }
 
+-- one that may be left out
+abbrev pub optional_argument : Text → Rule
+optional_argument name = record (new_rule name) { value_names = 1 }
+
 -- `--json`
 abbrev pub json_flag : Rule
 json_flag = record (new_rule (codes "json")) { long = Some (codes "json"); action = Some SetTrue }
@@ -26,14 +30,13 @@ json_flag = record (new_rule (codes "json")) { long = Some (codes "json"); actio
 abbrev pub user_option : Rule
 user_option = record (new_rule (codes "user")) { long = Some (codes "user"); value_names = 1 }
 
+-- `--script SCRIPT`
+abbrev pub script_option : Rule
+script_option = record (new_rule (codes "script")) { long = Some (codes "script"); value_names = 1 }
+
 -- `NAME LIST [--json]`
 abbrev pub question : (name list : Text) → App
 question name list = with_rule (with_rule (new_app name) (argument list)) json_flag
-
--- `NAME FILE CLIENT TOPICS [--user NAME] [--json]`
-abbrev pub client_question : (name topics : Text) → App
-client_question name topics =
-    with_rule (with_rule (with_rule (question name (codes "FILE")) (argument (codes "CLIENT"))) (argument topics)) user_option
 
 -- `compare OLD NEW [--json]`
 abbrev pub compare : App
@@ -41,15 +44,23 @@ compare = with_rule (question (codes "compare") (codes "OLD")) (argument (codes 
 
 -- `why FILE CLIENT TOPIC [--user NAME] [--json]`
 abbrev pub why : App
-why = client_question (codes "why") (codes "TOPIC")
+why =
+    with_rule (with_rule (with_rule (question (codes "why") (codes "FILE"))
+    (argument (codes "CLIENT"))) (argument (codes "TOPIC"))) user_option
 
 -- `lint FILE [--json]`
 abbrev pub lint : App
 lint = question (codes "lint") (codes "FILE")
 
--- `reach FILE CLIENT FILTER [--user NAME] [--json]`
+-- `reach FILE [CLIENT] [FILTER] [--json]`
+abbrev pub reach_question : App
+reach_question =
+    with_rule (with_rule (question (codes "reach") (codes "FILE")) (optional_argument (codes "CLIENT")))
+    (optional_argument (codes "FILTER"))
+
+-- `reach FILE [CLIENT] [FILTER] [--user NAME] [--script SCRIPT] [--json]`
 abbrev pub reach : App
-reach = client_question (codes "reach") (codes "FILTER")
+reach = with_rule (with_rule reach_question user_option) script_option
 
 -- a command that wants a subcommand
 abbrev pub wanting : App → App
@@ -71,6 +82,7 @@ pub data Asked : Type 0 where
   Why : (file : Text) (client : ClientAsked) (topic : Text) → Asked
   Lint : (file : Text) → Asked
   Reach : (file : Text) (client : ClientAsked) (filter : Text) → Asked
+  ReachAll : (file script : Text) → Asked
 
 abbrev pub compare_asked : (old new : Option Text) → Option Asked
 compare_asked (Some old) (Some new) = Some (Compare old new)
@@ -80,21 +92,43 @@ abbrev pub lint_asked : (file : Option Text) → Option Asked
 lint_asked (Some file) = Some (Lint file)
 lint_asked None = None
 
-abbrev pub client_asked : (Text → ClientAsked → Text → Asked) → (file id user topics : Option Text) → Option Asked
-client_asked make (Some file) (Some id) user (Some topics) = Some (make file (record { id = id; user = user }) topics)
-client_asked make file id user topics = None
+abbrev pub why_asked : (file id user topic : Option Text) → Option Asked
+why_asked (Some file) (Some id) user (Some topic) =
+    Some (Why file (record { id = id; user = user }) topic)
+why_asked file id user topic = None
 
-abbrev pub about_client : (Text → ClientAsked → Text → Asked) → Text → List Row → Option Asked
-about_client make topics rows =
-    client_asked make (first_of (codes "FILE") rows) (first_of (codes "CLIENT") rows) (first_of (codes "user") rows)
-    (first_of topics rows)
+-- of one subscription
+abbrev pub one_asked : (file id filter user : Option Text) → Option Asked
+one_asked (Some file) (Some id) (Some filter) user =
+    Some (Reach file (record { id = id; user = user }) filter)
+one_asked file id filter user = None
+
+-- of those of a script: neither client nor filter nor user name stands beside it
+abbrev pub all_asked : (file id filter user : Option Text) → (script : Text) → Option Asked
+all_asked (Some file) None None None script = Some (ReachAll file script)
+all_asked file id filter user script = None
+
+abbrev pub reach_asked : (file id filter user script : Option Text) → Option Asked
+reach_asked file id filter user None = one_asked file id filter user
+reach_asked file id filter user (Some script) = all_asked file id filter user script
+
+abbrev pub why_asked_by : List Row → Option Asked
+why_asked_by rows =
+    why_asked (first_of (codes "FILE") rows) (first_of (codes "CLIENT") rows)
+    (first_of (codes "user") rows) (first_of (codes "TOPIC") rows)
+
+abbrev pub reach_asked_by : List Row → Option Asked
+reach_asked_by rows =
+    reach_asked (first_of (codes "FILE") rows) (first_of (codes "CLIENT") rows)
+    (first_of (codes "FILTER") rows) (first_of (codes "user") rows) (first_of (codes "script") rows)
 
 abbrev pub asked : Text → List Row → Option Asked
 asked name rows =
-    if bytes_eq name (codes "compare") then compare_asked (first_of (codes "OLD") rows) (first_of (codes "NEW") rows)
-    else (if bytes_eq name (codes "why") then about_client Why (codes "TOPIC") rows
+    if bytes_eq name (codes "compare")
+    then compare_asked (first_of (codes "OLD") rows) (first_of (codes "NEW") rows)
+    else (if bytes_eq name (codes "why") then why_asked_by rows
     else (if bytes_eq name (codes "lint") then lint_asked (first_of (codes "FILE") rows)
-    else (if bytes_eq name (codes "reach") then about_client Reach (codes "FILTER") rows
+    else (if bytes_eq name (codes "reach") then reach_asked_by rows
     else None)))
 
 -- what the words ask, if they ask something
@@ -109,6 +143,7 @@ question_view (asks.Compare old new) = Compare old.now new.now
 question_view (asks.Why file client topic) = Why file.now (client_view client) topic.now
 question_view (asks.Lint file) = Lint file.now
 question_view (asks.Reach file client filter) = Reach file.now (client_view client) filter.now
+question_view (asks.ReachAll file script) = ReachAll file.now script.now
 
 -- the values of the subcommand
 abbrev pub values_of : Option (Text × List Row) → List Row
@@ -118,8 +153,10 @@ values_of (Some met) = met.1
 -- the request is what a subcommand with its values asks
 pub record IsAskedBy (subcommand : Option (Text × List Row)) (request : Request) : Type 0 where
   pub question : asked_by subcommand ≡ Some (question_view request.question)
-  pub json : one_of (codes "json") (values_of subcommand) ≡ Some (codes "true") → request.json ≡ true
-  pub no_json : one_of (codes "json") (values_of subcommand) ≡ Some (codes "false") → request.json ≡ false
+  pub json : one_of (codes "json") (values_of subcommand) ≡ Some (codes "true")
+      → request.json ≡ true
+  pub no_json : one_of (codes "json") (values_of subcommand) ≡ Some (codes "false")
+      → request.json ≡ false
 
 -- the request is what the words ask
 abbrev pub AreGiven : List Text → Request → Type 0

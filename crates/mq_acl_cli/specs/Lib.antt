@@ -3,4 +3,5 @@ pub mod ListFile
 pub mod Statuses
 pub mod Answers
 pub mod Lint
+pub mod Script
 pub mod Program

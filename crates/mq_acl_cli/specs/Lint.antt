@@ -1,12 +1,10 @@
 -- What is odd or needless in a list.
 use Rattle.std.specs.Prelude.{◌≡◌, ◌≢◌, ◌⊎◌, ◌<◌, ℕ, List, [], length, All}
-use Rattle.mq_acl.specs.Lines.{lines}
-use Rattle.mq_acl.specs.Rows.{faults_of}
 use Rattle.mq_acl.specs.Views.{row_views}
 use Rattle.mq_acl.specs.declared.row.Row.{Row}
 use Rattle.mq_questions.specs.Differ.{Differ, without}
 use Rattle.mq_report.specs.Needless.{AreRest, IsNeedlessLine}
-use Rattle.mq_report.specs.Remarks.{faults_told, remarks_of}
+use Rattle.mq_report.specs.Remarks.{remarks_of}
 use Rattle.mq_report.specs.declared.remark.Remark.{Remark}
 use Rattle.mq_acl_cli.specs.Answers.{AreRows}
 use Rattle.mq_acl_cli.specs.declared.outcome.Outcome.{Outcome}
@@ -31,7 +29,8 @@ pub record IsClean (text : List ℕ) : Type 0 where
   pub even : remarks_of text ≡ []
   pub rows : List Row
   pub are_rows : AreRows text rows
-  pub needed : (place : ℕ) → Row → place < length rows → Differ (row_views rows) (without place (row_views rows))
+  pub needed : (place : ℕ) → Row → place < length rows
+      → Differ (row_views rows) (without place (row_views rows))
 
 -- some line of the text is needless
 pub record HasNeedless (text : List ℕ) : Type 0 where

@@ -3,7 +3,8 @@ use Rattle.std.specs.Prelude.{◌≡◌, ◌⊎◌, ℕ, List, Option, Some, str
 use Rattle.std.specs.Io.KnownBytes.{Appends}
 use Rattle.mq_acl_cli.specs.Answers.{IsCompared, IsReached}
 use Rattle.mq_acl_cli.specs.Lint.{IsLinted}
-use Rattle.mq_acl_cli.specs.CommandLine.{Asked, Compare, Why, Lint, Reach}
+use Rattle.mq_acl_cli.specs.Script.{AreTold}
+use Rattle.mq_acl_cli.specs.CommandLine.{Asked, Compare, Why, Lint, Reach, ReachAll}
 use Rattle.mq_acl_cli.specs.Statuses.{outcome_status}
 use Rattle.mq_acl_cli.specs.declared.command_line.UsageFault.{UsageFault}
 use Rattle.mq_acl_cli.specs.declared.command_line.UsageFault.TheVariants.{Help, Usage, Memory}
@@ -16,6 +17,7 @@ IsAnswer (Compare old new) outcome = (old_text new_text : List ℕ) × IsCompare
 IsAnswer (Why file client topic) outcome = outcome ≡ Clear
 IsAnswer (Lint file) outcome = (text : List ℕ) × IsLinted text outcome
 IsAnswer (Reach file client filter) outcome = (text : List ℕ) × IsReached text client.id client.user filter outcome
+IsAnswer (ReachAll file script) outcome = (text lines : List ℕ) × AreTold text lines outcome
 
 -- what is asked is answered with this status
 abbrev pub IsAnswered : Option Asked → ℕ → Type 0

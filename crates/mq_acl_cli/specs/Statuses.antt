@@ -20,3 +20,6 @@ failure_status (failure.Long file line) = 2
 failure_status failure.LongWord = 2
 failure_status (failure.Topic text) = 2
 failure_status (failure.Filter text) = 2
+failure_status (failure.Script file) = 2
+failure_status (failure.LongScript file) = 2
+failure_status (failure.LongSubscription file line) = 2

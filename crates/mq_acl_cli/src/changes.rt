@@ -3,9 +3,10 @@ ghost use Rattle.std.specs.Prelude.{◌≡◌, [], IfOk};
 ghost use Rattle.mq_acl_cli.specs.Answers.{AreChanges, HasDifference};
 
 use crate::failure::Failure;
-use crate::list::ListText;
+use crate::list::rows_in;
 use crate::outcome::Outcome;
 use mq_acl::Row;
+use mq_acl_words::ListText;
 use mq_questions::ComparisonFault;
 use mq_report::{Difference, compare};
 use mq_topic::LevelText;
@@ -48,8 +49,8 @@ pub fn find_changes<'a>(
 ) -> Result<Changes, Failure<'a>>
     ensures { IfOk result (AreChanges old.entry.text.now new.entry.text.now) }
 {
-    let old_rows = old.rows(alloc)?;
-    let new_rows = new.rows(alloc)?;
+    let old_rows = rows_in(alloc, old)?;
+    let new_rows = rows_in(alloc, new)?;
     match compare(alloc, &old_rows, &new_rows) {
         Ok(differences) => Ok(Changes {
             old: old_rows,

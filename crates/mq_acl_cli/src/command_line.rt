@@ -3,22 +3,26 @@ ghost use Rattle.std.specs.Prelude.{◌≡◌, [], false, map, string_bytes, IfO
 ghost use Rattle.clap.specs.Words.{app_of, rule_of, fault_of, subcommand_of, FailsBy};
 ghost use Rattle.clap.specs.Words.{subcommand_rows_of};
 ghost use Rattle.clap.specs.declared.builder.command.Command.TheViews.{out-Command as fields_of};
-ghost use Rattle.mq_acl_cli.specs.CommandLine.{mqroute_acl, argument, json_flag, user_option, question, client_question};
-ghost use Rattle.mq_acl_cli.specs.CommandLine.{compare, why, lint, reach};
+ghost use Rattle.mq_acl_cli.specs.CommandLine.{mqroute_acl, argument, optional_argument, json_flag, user_option, script_option, question};
+ghost use Rattle.mq_acl_cli.specs.CommandLine.{compare, why, lint, reach, reach_question};
 ghost use Rattle.mq_acl_cli.specs.CommandLine.{AreGiven, IsFaultOf};
 
 use crate::help::{
     ABOUT, AFTER_HELP, CLIENT_HELP, COMPARE_ABOUT, COMPARE_AFTER_HELP, FILE_HELP, FILTER_HELP,
     JSON_HELP, LINT_ABOUT, LINT_AFTER_HELP, NEW_HELP, OLD_HELP, REACH_ABOUT, REACH_AFTER_HELP,
-    TOPIC_HELP, USER_HELP, WHY_ABOUT, WHY_AFTER_HELP,
+    SCRIPT_HELP, SUBSCRIBER_HELP, TOPIC_HELP, USER_HELP, WHY_ABOUT, WHY_AFTER_HELP,
 };
 use crate::request::{Request, request_in};
 use clap::error::ErrorKind;
 use clap::{Arg, ArgAction, ArgMatches, Command, Error};
 use std::alloc::{AllocError, Global};
 
-// Said of words that ask nothing and that `clap` takes all the same.
-const NO_QUESTION: &str = "mqroute-acl: nothing is asked\n";
+// Said of words that ask nothing and that `clap` takes all the same: of `reach` alone are there such.
+const NO_QUESTION: &str = "\
+error: reach takes either CLIENT and FILTER, or --script SCRIPT without --user
+
+For more information, try 'mqroute-acl reach --help'.
+";
 
 /// Why the command line asks for nothing.
 #[derive(Debug, Drop)]
@@ -52,6 +56,13 @@ fn argument<'a>(alloc: Global, name: &'a str, help: &'a str) -> Arg<'a>
         .help(help)
 }
 
+// One that may be left out.
+fn optional_argument<'a>(alloc: Global, name: &'a str, help: &'a str) -> Arg<'a>
+    ensures { (rule_of result ≡ optional_argument name.entry.now) × (result.global ≡ false) }
+{
+    Arg::new(alloc, name).value_name(name).help(help)
+}
+
 // `--json`
 fn json_flag<'a>(alloc: Global) -> Arg<'a>
     ensures { (rule_of result ≡ json_flag) × (result.global ≡ false) }
@@ -72,6 +83,16 @@ fn user_option<'a>(alloc: Global) -> Arg<'a>
         .help(USER_HELP)
 }
 
+// `--script SCRIPT`
+fn script_option<'a>(alloc: Global) -> Arg<'a>
+    ensures { (rule_of result ≡ script_option) × (result.global ≡ false) }
+{
+    Arg::new(alloc, "script")
+        .long("script")
+        .value_name("SCRIPT")
+        .help(SCRIPT_HELP)
+}
+
 // `NAME LIST [--json]`
 fn question<'a>(
     alloc: Global,
@@ -79,28 +100,13 @@ fn question<'a>(
     list: &'a str,
     help: &'a str,
 ) -> Result<Command<'a>, AllocError>
-    ensures { IfOk result (λ c. (app_of c ≡ question name.entry.now list.entry.now) × ((fields_of c).has_globals ≡ false)) }
+    ensures { IfOk result (λ c. (app_of c ≡ question name.entry.now list.entry.now)
+        × ((fields_of c).has_globals ≡ false)) }
 {
     let empty = Command::new(alloc, name);
     let listed = empty.arg(argument(alloc, list, help))?;
     let flagged = listed.arg(json_flag(alloc))?;
     Ok(flagged)
-}
-
-// `NAME FILE CLIENT TOPICS [--user NAME] [--json]`
-fn client_question<'a>(
-    alloc: Global,
-    name: &'a str,
-    topics: &'a str,
-    help: &'a str,
-) -> Result<Command<'a>, AllocError>
-    ensures { IfOk result (λ c. (app_of c ≡ client_question name.entry.now topics.entry.now) × ((fields_of c).has_globals ≡ false)) }
-{
-    let listed = question(alloc, name, "FILE", FILE_HELP)?;
-    let held = listed.arg(argument(alloc, "CLIENT", CLIENT_HELP))?;
-    let about = held.arg(argument(alloc, topics, help))?;
-    let whole = about.arg(user_option(alloc))?;
-    Ok(whole)
 }
 
 // `compare OLD NEW [--json]`
@@ -112,11 +118,21 @@ fn compare_command<'a>(alloc: Global) -> Result<Command<'a>, AllocError>
     Ok(whole.about(COMPARE_ABOUT).after_help(COMPARE_AFTER_HELP))
 }
 
-// `why FILE CLIENT TOPIC [--user NAME] [--json]`
+// The arguments of `why FILE CLIENT TOPIC [--user NAME] [--json]`.
+fn why_arguments<'a>(alloc: Global) -> Result<Command<'a>, AllocError>
+    ensures { IfOk result (λ c. (app_of c ≡ why) × ((fields_of c).has_globals ≡ false)) }
+{
+    let listed = question(alloc, "why", "FILE", FILE_HELP)?;
+    let held = listed.arg(argument(alloc, "CLIENT", CLIENT_HELP))?;
+    let about = held.arg(argument(alloc, "TOPIC", TOPIC_HELP))?;
+    let whole = about.arg(user_option(alloc))?;
+    Ok(whole)
+}
+
 fn why_command<'a>(alloc: Global) -> Result<Command<'a>, AllocError>
     ensures { IfOk result (λ c. (app_of c ≡ why) × ((fields_of c).has_globals ≡ false)) }
 {
-    let whole = client_question(alloc, "why", "TOPIC", TOPIC_HELP)?;
+    let whole = why_arguments(alloc)?;
     Ok(whole.about(WHY_ABOUT).after_help(WHY_AFTER_HELP))
 }
 
@@ -128,11 +144,31 @@ fn lint_command<'a>(alloc: Global) -> Result<Command<'a>, AllocError>
     Ok(whole.about(LINT_ABOUT).after_help(LINT_AFTER_HELP))
 }
 
-// `reach FILE CLIENT FILTER [--user NAME] [--json]`
+// `reach FILE [CLIENT] [FILTER] [--json]`
+fn reach_question<'a>(alloc: Global) -> Result<Command<'a>, AllocError>
+    ensures { IfOk result (λ c. (app_of c ≡ reach_question)
+        × ((fields_of c).has_globals ≡ false)) }
+{
+    let listed = question(alloc, "reach", "FILE", FILE_HELP)?;
+    let held = listed.arg(optional_argument(alloc, "CLIENT", SUBSCRIBER_HELP))?;
+    let about = held.arg(optional_argument(alloc, "FILTER", FILTER_HELP))?;
+    Ok(about)
+}
+
+// The arguments of `reach FILE [CLIENT] [FILTER] [--user NAME] [--script SCRIPT] [--json]`.
+fn reach_arguments<'a>(alloc: Global) -> Result<Command<'a>, AllocError>
+    ensures { IfOk result (λ c. (app_of c ≡ reach) × ((fields_of c).has_globals ≡ false)) }
+{
+    let about = reach_question(alloc)?;
+    let named = about.arg(user_option(alloc))?;
+    let whole = named.arg(script_option(alloc))?;
+    Ok(whole)
+}
+
 fn reach_command<'a>(alloc: Global) -> Result<Command<'a>, AllocError>
     ensures { IfOk result (λ c. (app_of c ≡ reach) × ((fields_of c).has_globals ≡ false)) }
 {
-    let whole = client_question(alloc, "reach", "FILTER", FILTER_HELP)?;
+    let whole = reach_arguments(alloc)?;
     Ok(whole.about(REACH_ABOUT).after_help(REACH_AFTER_HELP))
 }
 
@@ -148,7 +184,8 @@ fn command<'a>(alloc: Global) -> Result<Command<'a>, AllocError>
 }
 
 fn matches_in<'a>(alloc: Global, words: &'a [String]) -> Result<ArgMatches<'a>, Error>
-    ensures rows { IfOk result (λ m. subcommand_rows_of m ≡ subcommand_of mqroute_acl (map string_bytes words.entry.now)) }
+    ensures rows { IfOk result (λ m. subcommand_rows_of m
+        ≡ subcommand_of mqroute_acl (map string_bytes words.entry.now)) }
     ensures kinds { FailsBy (fault_of mqroute_acl (map string_bytes words.entry.now)) result }
 {
     let command = command(alloc)?;

@@ -4,9 +4,10 @@ ghost use Rattle.std.specs.Option.{option_copied};
 ghost use Rattle.mq_acl_cli.specs.Answers.{Explains};
 
 use crate::failure::Failure;
-use crate::list::ListText;
+use crate::list::rows_in;
 use crate::request::Client;
 use mq_acl::Direction;
+use mq_acl_words::ListText;
 use mq_report::{Verdict, why};
 use mq_topic::{TopicFault, TopicName};
 use std::alloc::Global;
@@ -37,10 +38,11 @@ pub fn explain<'a>(
     client: Client<'a>,
     topic: &'a str,
 ) -> Result<Explanation, Failure<'a>>
-    ensures { IfOk result (Explains list.entry.text.now client.entry.id.now (option_copied client.entry.user) topic.entry.now) }
+    ensures { IfOk result (Explains list.entry.text.now client.entry.id.now
+        (option_copied client.entry.user) topic.entry.now) }
 {
     let name = topic_name(alloc, topic)?;
-    let rows = list.rows(alloc)?;
+    let rows = rows_in(alloc, list)?;
     Ok(Explanation {
         reading: why(&rows, client.id, client.user, &name, Direction::Reading),
         writing: why(&rows, client.id, client.user, &name, Direction::Writing),

@@ -6,7 +6,7 @@ use std::alloc::AllocError;
 use std::io::{self, ErrorKind};
 use thiserror::Error;
 
-/// The exit status where the words are not understood, or an access list can't be opened, read or understood.
+/// The exit status where the words are not understood, or a file can't be opened, read or understood.
 pub const UNREADABLE: u8 = 2;
 
 /// The exit status where a write failed or memory ran out.
@@ -46,6 +46,18 @@ pub enum Failure<'a> {
     /// What is to be a filter is no topic filter.
     #[error("{0:?} is no topic filter")]
     Filter(&'a str),
+    /// The script can't be opened or read.
+    #[error("cannot read script {0}")]
+    Script(&'a str),
+    /// The script has more than 4,294,967,296 bytes.
+    #[error("script {0} is too long")]
+    LongScript(&'a str),
+    /// The client id, the user name or a level of the filter of a subscription of the script has over 300 bytes.
+    #[error("script {file} line {line}: a client id, a user name or a level of more than 300 bytes")]
+    LongSubscription {
+        file: &'a str,
+        line: u64,
+    },
     /// A write failed.
     #[error("write fault")]
     Write,
@@ -91,6 +103,14 @@ impl<'a> Failure<'a> {
         match error.kind() {
             ErrorKind::OutOfMemory => Failure::Memory,
             _ => Failure::Read(file),
+        }
+    }
+
+    /// Why a script can't be opened.
+    pub(crate) fn of_script(script: &'a str, error: io::Error) -> Failure<'a> {
+        match error.kind() {
+            ErrorKind::OutOfMemory => Failure::Memory,
+            _ => Failure::Script(script),
         }
     }
 }

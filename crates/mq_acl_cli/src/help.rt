@@ -8,11 +8,11 @@ An access list is a file in the form of mosquitto.conf(5)'s acl_file. What is
 answered holds for every client id, every user name or none, and every topic.
 
 Exit status:
-  0  both lists allow the same, no line is remarked on, a subscription can be
+  0  both lists allow the same, no line is remarked on, each subscription can be
      sent a topic, or why was answered
   1  the lists differ, a line is remarked on, or a subscription is in vain
-  2  the arguments aren't understood, or an access list can't be opened, read or
-     understood
+  2  the arguments aren't understood, an access list can't be opened, read or
+     understood, or a script can't be opened or read
   3  a write failed, or memory ran out
 
 Example:
@@ -69,12 +69,33 @@ With --json each remark is an object with
   kind              fault, no mark, indented comment, tab or needless
   words             what is told of it";
 
-pub(crate) const REACH_ABOUT: &str = "Tells whether a subscription can be sent anything";
+pub(crate) const SUBSCRIBER_HELP: &str = "The client id of the subscriber";
+
+pub(crate) const SCRIPT_HELP: &str =
+    "The script of mqroute whose subscriptions are asked about, in place of CLIENT and FILTER";
+
+pub(crate) const REACH_ABOUT: &str =
+    "Tells whether a subscription, or each of a script, can be sent anything";
 
 pub(crate) const REACH_AFTER_HELP: &str = "\
 A client is sent what its filter matches and the list lets it read. A topic that
 a subscription to FILTER can be sent is told, or that there is none.
 
+With --script SCRIPT, those subscriptions of the script are told that can be sent
+nothing: line, client, user name and filter. A client's user name is that of its
+last connect; a subscribe of a client that isn't connected is none. Lines acl of
+the script say nothing here. Lines that are no commands are passed over, and told.
+
 With --json the answer is an object with
   filter  the subscription
-  topic   a topic that it can be sent, or null";
+  topic   a topic that it can be sent, or null
+With --json and --script each subscription in vain is an object with
+  file, line  the script, and the line of its subscribe
+  client      the client id
+  user        its user name, or null
+  filter      the subscription
+and the last object has
+  in_vain           how many they are
+  subscriptions     how many subscriptions the script has
+  no_commands       how many of its lines are no commands
+  first_no_command  the number of the first of these lines, or null";

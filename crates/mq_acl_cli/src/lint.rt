@@ -4,11 +4,10 @@ ghost use Rattle.mq_acl_cli.specs.Lint.{IsLinted};
 ghost use Rattle.mq_acl_cli.specs.Statuses.{failure_status};
 
 use crate::failure::Failure;
-use crate::list::ListText;
 use crate::outcome::Outcome;
 use crate::print::print;
 use crate::remarks::{find_remarks, outcome_of};
-use crate::words::remarks_text;
+use mq_acl_words::{ListText, remarks_text};
 use std::alloc::Global;
 use std::io::Write;
 
@@ -24,7 +23,7 @@ pub fn tell_remarks<'a, W: Write>(
 {
     let found = find_remarks(alloc, list)?;
     let outcome = outcome_of(&found);
-    let text = remarks_text(alloc, list, &found, json)?;
+    let text = remarks_text(alloc, list, &found.odd, &found.needless, json)?;
     print(out, text.as_str())?;
     Ok(outcome)
 }

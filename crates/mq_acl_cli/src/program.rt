@@ -4,6 +4,7 @@ ghost use Rattle.std.specs.Option.{option_copied};
 ghost use Rattle.clap.specs.Words.{fault_of, subcommand_of};
 ghost use Rattle.mq_acl_cli.specs.Answers.{IsCompared, IsReached};
 ghost use Rattle.mq_acl_cli.specs.Lint.{IsLinted};
+ghost use Rattle.mq_acl_cli.specs.Script.{AreTold};
 ghost use Rattle.mq_acl_cli.specs.CommandLine.{mqroute_acl, asked_by, question_view, IsFaultOf};
 ghost use Rattle.mq_acl_cli.specs.Program.{IsAnswer, IsAnswered, TellsUsage};
 ghost use Rattle.mq_acl_cli.specs.Statuses.{failure_status, outcome_status};
@@ -12,13 +13,14 @@ use crate::command_line::{UsageFault, arguments};
 use crate::compare::tell_changes;
 use crate::failure::{FAILED, Failure, UNREADABLE};
 use crate::lint::tell_remarks;
-use crate::list::ListText;
 use crate::list_file::read_text;
 use crate::outcome::Outcome;
 use crate::print::print;
 use crate::reach::tell_reach;
 use crate::request::{Client, Question, Request};
+use crate::script::tell_subscriptions;
 use crate::why::tell_why;
+use mq_acl_words::ListText;
 use std::alloc::{AllocError, Global};
 use std::fs;
 use std::io::Write;
@@ -119,6 +121,29 @@ fn answer_reach<'a, R: Files, W: Write>(
     tell_reach(alloc, list, client, filter, json, out)
 }
 
+fn answer_reach_all<'a, R: Files, W: Write>(
+    rt: &R,
+    alloc: Global,
+    file: &'a str,
+    script: &'a str,
+    json: bool,
+    out: &mut W,
+) -> Result<Outcome, Failure<'a>>
+    ensures ok { IfOk result (λ outcome. (text lines : List ℕ) × AreTold text lines outcome) }
+    ensures unread { IfErr result (λ failure. failure_status failure ≡ 2 → out.new ≡ out.old) }
+{
+    let text = text_of(rt, alloc, file)?;
+    let list = ListText {
+        file,
+        text: text.as_str(),
+    };
+    let mut opened = match fs::open(rt, script) {
+        Ok(opened) => opened,
+        Err(error) => return Err(Failure::of_script(script, error)),
+    };
+    tell_subscriptions(alloc, list, script, &mut opened, json, out)
+}
+
 /// Answers what is asked for.
 fn answer<'a, R: Files, W: Write>(
     rt: &R,
@@ -143,6 +168,9 @@ fn answer<'a, R: Files, W: Write>(
             client,
             filter,
         } => answer_reach(rt, alloc, file, client, filter, json, out),
+        Question::ReachAll { file, script } => {
+            answer_reach_all(rt, alloc, file, script, json, out)
+        }
     }
 }
 
@@ -190,8 +218,8 @@ fn report_usage<W: Write, E: Write>(
 
 /// Runs the program: `words` are its name and its arguments, answers go to `out`, and a line on `err` says what failed.
 /// Answers the exit status: 0 where nothing is to be remarked or help was asked for, 1 where something is, 2 where the
-/// words are not understood, or an access list can't be opened, read or understood, and 3 where a write failed or memory
-/// ran out, even if only for the line on `err`.
+/// words are not understood, or a file can't be opened, read or understood, and 3 where a write failed or memory ran out,
+/// even if only for the line on `err`.
 pub fn start<R: Files, W: Write, E: Write>(
     rt: &R,
     alloc: Global,

@@ -5,12 +5,11 @@ ghost use Rattle.mq_acl_cli.specs.Answers.{IsReached};
 ghost use Rattle.mq_acl_cli.specs.Statuses.{failure_status};
 
 use crate::failure::Failure;
-use crate::list::ListText;
 use crate::outcome::Outcome;
 use crate::print::print;
 use crate::reached::{find_topic, outcome_of};
 use crate::request::Client;
-use crate::words::topic_text;
+use mq_acl_words::{ListText, topic_text};
 use std::alloc::Global;
 use std::io::Write;
 

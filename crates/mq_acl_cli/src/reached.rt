@@ -5,9 +5,10 @@ ghost use Rattle.mq_topic.specs.Texts.{filter_part, is_name};
 ghost use Rattle.mq_acl_cli.specs.Answers.{IsReach};
 
 use crate::failure::Failure;
-use crate::list::ListText;
+use crate::list::rows_in;
 use crate::outcome::Outcome;
 use crate::request::Client;
+use mq_acl_words::ListText;
 use mq_questions::{ReachFault, reach};
 use mq_topic::{LevelText, SubFilter, TopicFault, TopicFilter, TopicName};
 use std::alloc::Global;
@@ -42,7 +43,7 @@ pub fn find_topic<'a>(
         (option_copied client.entry.user) subscription.entry.now) }
 {
     let filter = filter_in(alloc, subscription)?;
-    let rows = list.rows(alloc)?;
+    let rows = rows_in(alloc, list)?;
     match reach(alloc, &rows, client.id, client.user, &filter) {
         Ok(found) => Ok(found),
         Err(fault) => Err(reach_failure(list.file, fault)),

@@ -3,8 +3,9 @@ ghost use Rattle.std.specs.Prelude.{◌≡◌, ◌≢◌, ◌⊎◌, [], IfOk, f
 ghost use Rattle.mq_acl_cli.specs.Lint.{AreRemarks, IsNeedlessIn};
 
 use crate::failure::Failure;
-use crate::list::ListText;
+use crate::list::rows_in;
 use crate::outcome::Outcome;
+use mq_acl_words::ListText;
 use mq_questions::NeedlessFault;
 use mq_report::{Remark, RemarkKind, needless, remarks};
 use std::alloc::Global;
@@ -28,7 +29,7 @@ fn has_fault(odd: &[Remark]) -> bool
 fn needless_in<'a>(alloc: Global, list: ListText<'a, '_>) -> Result<Vec<Remark>, Failure<'a>>
     ensures { IfOk result (λ told. IsNeedlessIn list.entry.text.now told.items) }
 {
-    let rows = list.rows(alloc)?;
+    let rows = rows_in(alloc, list)?;
     match needless(alloc, &rows) {
         Ok(told) => Ok(told),
         Err(NeedlessFault::Memory) => Err(Failure::Memory),
@@ -44,7 +45,8 @@ fn needless_unless_faulty<'a>(
     list: ListText<'a, '_>,
     odd: &[Remark],
 ) -> Result<Vec<Remark>, Failure<'a>>
-    ensures some { IfOk result (λ told. (told.items ≡ []) ⊎ IsNeedlessIn list.entry.text.now told.items) }
+    ensures some { IfOk result (λ told. (told.items ≡ [])
+        ⊎ IsNeedlessIn list.entry.text.now told.items) }
     ensures all { IfOk result (λ told. odd.now ≡ [] → IsNeedlessIn list.entry.text.now told.items) }
 {
     if has_fault(odd) {

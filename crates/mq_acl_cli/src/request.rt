@@ -2,8 +2,8 @@
 ghost use Rattle.std.specs.Prelude.{◌≡◌, Some, None, IfSome, IfNone, codes, option_map};
 ghost use Rattle.std.specs.Option.{option_copied};
 ghost use Rattle.clap.specs.Words.{first_of, rows_of, found_of, subcommand_rows_of};
-ghost use Rattle.mq_acl_cli.specs.CommandLine.{Why, Reach, question_view, asked, asked_by, IsAskedBy};
-ghost use Rattle.mq_acl_cli.specs.CommandLine.{compare_asked, lint_asked, about_client};
+ghost use Rattle.mq_acl_cli.specs.CommandLine.{question_view, asked, asked_by, IsAskedBy};
+ghost use Rattle.mq_acl_cli.specs.CommandLine.{all_asked, compare_asked, lint_asked, one_asked, reach_asked_by, why_asked_by};
 
 use clap::ArgMatches;
 
@@ -43,6 +43,13 @@ pub enum Question<'a> {
         /// The filter, or a shared subscription.
         filter: &'a str,
     },
+    /// Which subscriptions of a script can be sent nothing.
+    ReachAll {
+        /// The file of the list.
+        file: &'a str,
+        /// The file of the script.
+        script: &'a str,
+    },
 }
 
 /// What the command line asks for.
@@ -63,7 +70,8 @@ fn value<'a>(matches: &ArgMatches<'a>, id: &str) -> Option<&'a str>
 
 fn compare_in<'a>(matches: &ArgMatches<'a>) -> Option<Question<'a>>
     ensures { let rows = rows_of (found_of matches.now) in
-        option_map question_view result ≡ compare_asked (first_of (codes "OLD") rows) (first_of (codes "NEW") rows) }
+        option_map question_view result
+        ≡ compare_asked (first_of (codes "OLD") rows) (first_of (codes "NEW") rows) }
 {
     match (value(matches, "OLD"), value(matches, "NEW")) {
         (Some(old), Some(new)) => Some(Question::Compare { old, new }),
@@ -72,7 +80,7 @@ fn compare_in<'a>(matches: &ArgMatches<'a>) -> Option<Question<'a>>
 }
 
 fn why_in<'a>(matches: &ArgMatches<'a>) -> Option<Question<'a>>
-    ensures { option_map question_view result ≡ about_client Why (codes "TOPIC") (rows_of (found_of matches.now)) }
+    ensures { option_map question_view result ≡ why_asked_by (rows_of (found_of matches.now)) }
 {
     let user = value(matches, "user");
     match (
@@ -90,7 +98,8 @@ fn why_in<'a>(matches: &ArgMatches<'a>) -> Option<Question<'a>>
 }
 
 fn lint_in<'a>(matches: &ArgMatches<'a>) -> Option<Question<'a>>
-    ensures { option_map question_view result ≡ lint_asked (first_of (codes "FILE") (rows_of (found_of matches.now))) }
+    ensures { option_map question_view result
+        ≡ lint_asked (first_of (codes "FILE") (rows_of (found_of matches.now))) }
 {
     match value(matches, "FILE") {
         Some(file) => Some(Question::Lint { file }),
@@ -98,10 +107,12 @@ fn lint_in<'a>(matches: &ArgMatches<'a>) -> Option<Question<'a>>
     }
 }
 
-fn reach_in<'a>(matches: &ArgMatches<'a>) -> Option<Question<'a>>
-    ensures { option_map question_view result ≡ about_client Reach (codes "FILTER") (rows_of (found_of matches.now)) }
+// Of one subscription.
+fn reach_one_in<'a>(matches: &ArgMatches<'a>, user: Option<&'a str>) -> Option<Question<'a>>
+    ensures { let rows = rows_of (found_of matches.now) in option_map question_view result
+        ≡ one_asked (first_of (codes "FILE") rows) (first_of (codes "CLIENT") rows)
+        (first_of (codes "FILTER") rows) (option_copied user.entry) }
 {
-    let user = value(matches, "user");
     match (
         value(matches, "FILE"),
         value(matches, "CLIENT"),
@@ -113,6 +124,37 @@ fn reach_in<'a>(matches: &ArgMatches<'a>) -> Option<Question<'a>>
             filter,
         }),
         _ => None,
+    }
+}
+
+// Of the subscriptions of a script: no client, filter and user name stand beside it.
+fn reach_all_in<'a>(
+    matches: &ArgMatches<'a>,
+    user: Option<&'a str>,
+    script: &'a str,
+) -> Option<Question<'a>>
+    ensures { let rows = rows_of (found_of matches.now) in option_map question_view result
+        ≡ all_asked (first_of (codes "FILE") rows) (first_of (codes "CLIENT") rows)
+        (first_of (codes "FILTER") rows) (option_copied user.entry) script.entry.now }
+{
+    match (
+        value(matches, "FILE"),
+        value(matches, "CLIENT"),
+        value(matches, "FILTER"),
+        user,
+    ) {
+        (Some(file), None, None, None) => Some(Question::ReachAll { file, script }),
+        _ => None,
+    }
+}
+
+fn reach_in<'a>(matches: &ArgMatches<'a>) -> Option<Question<'a>>
+    ensures { option_map question_view result ≡ reach_asked_by (rows_of (found_of matches.now)) }
+{
+    let user = value(matches, "user");
+    match value(matches, "script") {
+        None => reach_one_in(matches, user),
+        Some(script) => reach_all_in(matches, user, script),
     }
 }
 

@@ -2,12 +2,11 @@
 ghost use Rattle.std.specs.Prelude.{◌≡◌, IfErr};
 ghost use Rattle.mq_acl_cli.specs.Statuses.{failure_status};
 
-use crate::explanation::explain;
+use crate::explanation::{Explanation, explain};
 use crate::failure::Failure;
-use crate::list::ListText;
 use crate::print::print;
 use crate::request::Client;
-use crate::words::explanation_text;
+use mq_acl_words::{ListText, explanation_text};
 use std::alloc::Global;
 use std::io::Write;
 
@@ -22,7 +21,7 @@ pub fn tell_why<'a, W: Write>(
 ) -> Result<(), Failure<'a>>
     ensures unread { IfErr result (λ failure. failure_status failure ≡ 2 → out.new ≡ out.old) }
 {
-    let explanation = explain(alloc, list, client, topic)?;
-    let text = explanation_text(alloc, list, explanation, json)?;
+    let Explanation { reading, writing } = explain(alloc, list, client, topic)?;
+    let text = explanation_text(alloc, list, reading, writing, json)?;
     print(out, text.as_str())
 }

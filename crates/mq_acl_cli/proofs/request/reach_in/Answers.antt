@@ -1,6 +1,8 @@
-use Rattle.std.proofs.Common.{sym, refl}
+use Rattle.std.proofs.Common.{sym}
 use Rattle.mq_acl_cli.proofs.request.reach_in.Goals as goal
 
-pub returns-in-Some-Some-Some : goal.returns-in-Some-Some-Some
-returns-in-Some-Some-Some c =
-    rw (sym c.value-user.ensures, sym c.value.ensures, sym c.value-2.ensures, sym c.value-3.ensures, c.in-Some-Some-Some.is-0, c.in-Some-Some-Some.is-1, c.in-Some-Some-Some.is-2) refl
+pub returns-in-Some : goal.returns-in-Some
+returns-in-Some c = rw (sym c.value-user.ensures, sym c.value.ensures, c.in-Some.is) c.reach_all_in.ensures
+
+pub returns-in-None : goal.returns-in-None
+returns-in-None c = rw (sym c.value-user.ensures, sym c.value.ensures, c.in-None.is) c.reach_one_in.ensures

@@ -21,7 +21,7 @@ fn topic_in(line: &str) -> &str {
 }
 
 /// What is wrong with this line, which stands without the blanks round it.
-pub(crate) fn fault_words(alloc: Global, line: &str, kind: AclKind) -> Result<String, AllocError> {
+pub fn fault_words(alloc: Global, line: &str, kind: AclKind) -> Result<String, AllocError> {
     let (keyword, rest) = split_word(line);
     match kind {
         AclKind::Keyword => {

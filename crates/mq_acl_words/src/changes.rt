@@ -1,11 +1,10 @@
 //! Where two lists differ, in words and as JSON.
-use crate::changes::Changes;
+use crate::lines::line_value;
 use crate::list::ListText;
-use crate::words::lines::line_value;
-use crate::words::notes::{is_made_up, notes_on};
-use crate::words::table::{add_cell, widened};
-use crate::words::who::who_text;
-use mq_acl::{Direction, Row};
+use crate::notes::notes_on;
+use crate::table::{add_cell, widened};
+use crate::who::who_text;
+use mq_acl::Direction;
 use mq_questions::Way;
 use mq_report::{Difference, Group, Reason, gather};
 use mq_topic::LevelText;
@@ -71,7 +70,6 @@ fn change_row(
     alloc: Global,
     old: ListText<'_, '_>,
     new: ListText<'_, '_>,
-    rows: (&[Row], &[Row]),
     group: &Group,
 ) -> Result<ChangeRow, AllocError> {
     let difference = &group.first;
@@ -79,7 +77,7 @@ fn change_row(
         who: who_text(alloc, group)?,
         access: access_words(difference.direction, difference.way),
         topic: String::from_str(alloc, difference.topic.text())?,
-        notes: notes_on(alloc, rows.0, rows.1, difference)?,
+        notes: notes_on(alloc, difference)?,
         sides: [
             decision(alloc, old, difference.old_reason)?,
             decision(alloc, new, difference.new_reason)?,
@@ -137,39 +135,10 @@ fn table(alloc: Global, rows: &[ChangeRow]) -> Result<String, AllocError> {
     Ok(text)
 }
 
-// Adds a text that stands for others, once.
-fn add_made_up<'a>(
-    made_up: &mut Vec<&'a str>,
-    changes: &Changes,
-    text: &'a str,
-) -> Result<(), AllocError> {
-    if is_made_up(&changes.old, &changes.new, text) && !made_up.contains(&text) {
-        made_up.push(text)?;
-    }
-    Ok(())
-}
-
-// The client id, the user name and the levels of the topic that stand for others.
-fn made_up_in<'a>(
-    alloc: Global,
-    changes: &Changes,
-    difference: &'a Difference,
-) -> Result<Vec<&'a str>, AllocError> {
-    let mut made_up = Vec::new(alloc);
-    add_made_up(&mut made_up, changes, difference.client.as_str())?;
-    if let Some(user) = difference.class.user() {
-        add_made_up(&mut made_up, changes, user)?;
-    }
-    for level in difference.topic.text().split('/') {
-        add_made_up(&mut made_up, changes, level)?;
-    }
-    Ok(made_up)
-}
-
-fn texts_value(alloc: Global, texts: &[&str]) -> Result<Value, AllocError> {
+fn texts_value(alloc: Global, texts: &[String]) -> Result<Value, AllocError> {
     let mut values = Vec::new(alloc);
     for text in texts {
-        values.push(Value::try_from_str(alloc, text)?)?;
+        values.push(Value::try_from_str(alloc, text.as_str())?)?;
     }
     Ok(Value::Array(values))
 }
@@ -186,7 +155,6 @@ fn add_json(
     text: &mut String,
     old: ListText<'_, '_>,
     new: ListText<'_, '_>,
-    changes: &Changes,
     difference: &Difference,
 ) -> Result<(), AllocError> {
     let access = match difference.direction {
@@ -198,7 +166,7 @@ fn add_json(
         Way::Lost => "lost",
     };
     let user = user_value(alloc, difference.class.user())?;
-    let made_up = texts_value(alloc, &made_up_in(alloc, changes, difference)?)?;
+    let made_up = texts_value(alloc, &difference.made_up)?;
     let old_line = line_value(alloc, old, deciding_line(difference.old_reason))?;
     let new_line = line_value(alloc, new, deciding_line(difference.new_reason))?;
     let client = difference.client.as_str();
@@ -216,33 +184,33 @@ fn json_lines(
     alloc: Global,
     old: ListText<'_, '_>,
     new: ListText<'_, '_>,
-    changes: &Changes,
+    differences: &[Difference],
 ) -> Result<String, AllocError> {
     let mut text = String::new(alloc);
-    for difference in &changes.differences {
-        add_json(alloc, &mut text, old, new, changes, difference)?;
+    for difference in differences {
+        add_json(alloc, &mut text, old, new, difference)?;
     }
     Ok(text)
 }
 
 /// Where the lists differ: as a table of differences that are alike, or as JSON, one difference a line.
-pub(crate) fn changes_text(
+pub fn changes_text(
     alloc: Global,
     old: ListText<'_, '_>,
     new: ListText<'_, '_>,
-    changes: Changes,
+    differences: Vec<Difference>,
     json: bool,
 ) -> Result<String, AllocError> {
     if json {
-        return json_lines(alloc, old, new, &changes);
+        return json_lines(alloc, old, new, &differences);
     }
-    if changes.differences.is_empty() {
+    if differences.is_empty() {
         return String::from_str(alloc, SAME);
     }
-    let groups = gather(alloc, changes.differences)?;
+    let groups = gather(alloc, differences)?;
     let mut rows = Vec::new(alloc);
     for group in &groups {
-        rows.push(change_row(alloc, old, new, (&changes.old, &changes.new), group)?)?;
+        rows.push(change_row(alloc, old, new, group)?)?;
     }
     table(alloc, &rows)
 }

@@ -1,7 +1,6 @@
 //! Remarks on lines, in words and as JSON.
-use crate::fault_words::fault_words;
+use crate::faults::fault_words;
 use crate::list::ListText;
-use crate::remarks::Remarks;
 use mq_report::{Remark, RemarkKind};
 use serde_json::json;
 use std::alloc::{AllocError, Global};
@@ -87,14 +86,15 @@ fn add_all(
 }
 
 /// The remarks on the lines of a list, one a line; needless lines come last.
-pub(crate) fn remarks_text(
+pub fn remarks_text(
     alloc: Global,
     list: ListText<'_, '_>,
-    remarks: &Remarks,
+    odd: &[Remark],
+    needless: &[Remark],
     json: bool,
 ) -> Result<String, AllocError> {
     let mut text = String::new(alloc);
-    add_all(alloc, &mut text, list, &remarks.odd, json)?;
-    add_all(alloc, &mut text, list, &remarks.needless, json)?;
+    add_all(alloc, &mut text, list, odd, json)?;
+    add_all(alloc, &mut text, list, needless, json)?;
     Ok(text)
 }

@@ -1,27 +1,19 @@
 //! What stands for others in a difference.
-use mq_acl::{Owner, Row};
 use mq_report::{Class, Difference};
 use mq_topic::LevelText;
 use std::alloc::{AllocError, Global};
 
-fn row_names(row: &Row, text: &str) -> bool {
-    let named = match &row.owner {
-        Owner::Named(name) => name.as_str() == text,
-        _ => false,
-    };
-    named || row.filter.text().split('/').any(|level| level == text)
-}
-
-/// Whether no row of either list names the text as a level or a user name, so that it stands for others.
-pub(crate) fn is_made_up(old: &[Row], new: &[Row], text: &str) -> bool {
-    !text.is_empty()
-        && !old.iter().any(|row| row_names(row, text))
-        && !new.iter().any(|row| row_names(row, text))
+// Whether the text stands for any that no line names.
+fn is_made_up(difference: &Difference, text: &str) -> bool {
+    difference
+        .made_up
+        .iter()
+        .any(|other| other.as_str() == text)
 }
 
 // What a level stands for, if it stands for others.
-fn meaning(old: &[Row], new: &[Row], difference: &Difference, level: &str) -> Option<&'static str> {
-    if !is_made_up(old, new, level) {
+fn meaning(difference: &Difference, level: &str) -> Option<&'static str> {
+    if !is_made_up(difference, level) {
         return None;
     }
     if level == difference.client.as_str() {
@@ -43,12 +35,7 @@ fn add_note(notes: &mut String, text: &str, meaning: &str) -> Result<(), AllocEr
 }
 
 /// What stands for others in a difference, in words, and the client id where it stands for itself alone.
-pub(crate) fn notes_on(
-    alloc: Global,
-    old: &[Row],
-    new: &[Row],
-    difference: &Difference,
-) -> Result<String, AllocError> {
+pub(crate) fn notes_on(alloc: Global, difference: &Difference) -> Result<String, AllocError> {
     let mut notes = String::new(alloc);
     let mut seen = Vec::new(alloc);
     for level in difference.topic.text().split('/') {
@@ -56,12 +43,12 @@ pub(crate) fn notes_on(
             continue;
         }
         seen.push(level)?;
-        if let Some(meaning) = meaning(old, new, difference, level) {
+        if let Some(meaning) = meaning(difference, level) {
             add_note(&mut notes, level, meaning)?;
         }
     }
     let client = difference.client.as_str();
-    if !is_made_up(old, new, client) {
+    if !is_made_up(difference, client) {
         let client = format!(in alloc; "{client:?}")?;
         add_note(&mut notes, "client id", client.as_str())?;
     }

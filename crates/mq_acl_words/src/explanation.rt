@@ -1,6 +1,6 @@
-use crate::explanation::Explanation;
+//! Which lines decide whether a client may read and write a topic, in words and as JSON.
+use crate::lines::{line_text, line_value};
 use crate::list::ListText;
-use crate::words::lines::{line_text, line_value};
 use mq_report::{Reason, Verdict};
 use serde_json::json;
 use std::alloc::{AllocError, Global};
@@ -62,14 +62,15 @@ fn told(
 }
 
 /// The answers for reading and writing, each with the line that decides it.
-pub(crate) fn explanation_text(
+pub fn explanation_text(
     alloc: Global,
     list: ListText<'_, '_>,
-    explanation: Explanation,
+    reading: Verdict,
+    writing: Verdict,
     json: bool,
 ) -> Result<String, AllocError> {
-    let mut text = told(alloc, list, "read", explanation.reading, json)?;
-    let writing = told(alloc, list, "write", explanation.writing, json)?;
+    let mut text = told(alloc, list, "read", reading, json)?;
+    let writing = told(alloc, list, "write", writing, json)?;
     text.push_str(writing.as_str())?;
     Ok(text)
 }

@@ -23,7 +23,7 @@ fn topic_line(
 }
 
 /// A topic that the subscription can be sent, or that there is none.
-pub(crate) fn topic_text(
+pub fn topic_text(
     alloc: Global,
     subscription: &str,
     found: &Option<TopicName>,
