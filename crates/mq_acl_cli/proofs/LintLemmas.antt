@@ -1,5 +1,6 @@
 -- What the remarks on a list say of it.
-use Rattle.std.proofs.Common.{◌≡◌, ◌≢◌, ◌⊎◌, ◌∙◌, ◌<◌, ℕ, suc, length, arith, true, false, true≢false, inl, inr, List, [], ◌∷◌, refl, sym}
+use Rattle.std.proofs.Common.{◌≡◌, ◌≢◌, ◌⊎◌, ◌∙◌, ◌<◌, ℕ, suc, length, arith, true, false}
+use Rattle.std.proofs.Common.{true≢false, inl, inr, List, [], ◌∷◌, refl, sym}
 use Rattle.mq_acl.specs.Views.{row_views}
 use Rattle.mq_acl.specs.declared.row.Row.{Row}
 use Rattle.mq_questions.specs.Differ.{Differ, without}

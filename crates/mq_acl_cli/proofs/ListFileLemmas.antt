@@ -1,5 +1,6 @@
 -- The front of a file, and the whole of it.
-use Rattle.std.proofs.Common.{◌≡◌, ◌∙◌, ◌≤◌, ◌<◌, ◌+◌, ◌++◌, ℕ, List, [], length, take, min, Option, Some, None, IfSome, IsUtf8, option_map, arith, ap, subst}
+use Rattle.std.proofs.Common.{◌≡◌, ◌∙◌, ◌≤◌, ◌<◌, ◌+◌, ◌++◌, ℕ, List, [], length, take, min, Option}
+use Rattle.std.proofs.Common.{Some, None, IfSome, IsUtf8, option_map, arith, ap, subst}
 use Rattle.std.proofs.lemmas.List.{length-take, take_all}
 use Rattle.mq_acl_cli.specs.ListFile.{file_limit, IsFaultIn}
 use Rattle.mq_acl_cli.specs.declared.list_file.FileFault.TheVariants.{TooLong, Utf8}

@@ -6,7 +6,8 @@ use Rattle.mq_acl_cli.specs.declared.outcome.Outcome.{Outcome}
 use Rattle.mq_acl_cli.specs.declared.outcome.Outcome.TheVariants.{Clear, Remark}
 
 -- whether a topic is found tells whether there is one
-pub reached : (text client : List ℕ) (user : Option (List ℕ)) (subscription : List ℕ) (found : Option (List ℕ)) (outcome : Outcome)
+pub reached : (text client : List ℕ) (user : Option (List ℕ)) (subscription : List ℕ)
+    (found : Option (List ℕ)) (outcome : Outcome)
     → IsReach text client user subscription found
     → (outcome ≡ Clear → (topic : List ℕ) × (found ≡ Some topic) × IsTrue (is_name topic))
     → (outcome ≡ Remark → found ≡ None) → IsReached text client user subscription outcome

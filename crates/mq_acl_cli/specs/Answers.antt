@@ -1,5 +1,6 @@
 -- What is true of the lists that are asked about.
-use Rattle.std.specs.Prelude.{◌≡◌, ℕ, List, [], All, IsTrue, true, false, Option, Some, None, Ok, slice_get}
+use Rattle.std.specs.Prelude.{◌≡◌, ℕ, List, [], All, IsTrue, true, false, Option, Some, None, Ok}
+use Rattle.std.specs.Prelude.{slice_get}
 use Rattle.mq_topic.specs.Levels.{levels}
 use Rattle.mq_topic.specs.Matching.{matches}
 use Rattle.mq_topic.specs.Texts.{filter_part, is_name}
@@ -31,8 +32,10 @@ pub record Explains (text client : List ℕ) (user : Option (List ℕ)) (topic :
   pub are_rows : AreRows text rows
   pub reading : e.reading.reason ≡ reason_of rows client user topic Reading
   pub writing : e.writing.reason ≡ reason_of rows client user topic Writing
-  pub may_read : is_grant e.reading.reason ≡ allowed (Some (row_views rows)) client user topic Reading
-  pub may_write : is_grant e.writing.reason ≡ allowed (Some (row_views rows)) client user topic Writing
+  pub may_read : is_grant e.reading.reason ≡ allowed (Some (row_views rows)) client user topic
+      Reading
+  pub may_write : is_grant e.writing.reason
+      ≡ allowed (Some (row_views rows)) client user topic Writing
 
 -- every client may read and write the same topics by both, whatever its user name
 abbrev pub AllowAllSame : List AclRow → List AclRow → Type 0
@@ -49,7 +52,8 @@ pub record AreChanges (old new : List ℕ) (c : Changes) : Type 0 where
 
 -- there is a first difference, and its topic is valid
 abbrev pub HasDifference : List Difference → Type 0
-HasDifference all = (first : Difference) × (slice_get all 0 ≡ Some first) × IsTrue (is_name first.topic)
+HasDifference all = (first : Difference) × (slice_get all 0 ≡ Some first)
+    × IsTrue (is_name first.topic)
 
 -- whether the rows allow the same is told
 abbrev pub TellsWhetherSame : List AclRow → List AclRow → Outcome → Type 0

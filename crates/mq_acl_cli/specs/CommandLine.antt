@@ -1,8 +1,10 @@
 -- The command line of the program, in the words of `clap`.
-use Rattle.std.specs.Prelude.{◌≡◌, ◌≢◌, ◌⊎◌, true, false, if◌then◌else◌, List, [], Option, Some, None, option_and_then, codes}
+use Rattle.std.specs.Prelude.{◌≡◌, ◌≢◌, ◌⊎◌, true, false, if◌then◌else◌, List, [], Option, Some}
+use Rattle.std.specs.Prelude.{None, option_and_then, codes}
 use Rattle.std.specs.Option.{option_copied}
 use Rattle.std.specs.Str.{bytes_eq}
-use Rattle.clap.specs.Words.{App, Row, Rule, Text, Kinds, IsAmong, new_app, new_rule, with_rule, with_subcommand}
+use Rattle.clap.specs.Words.{App, Row, Rule, Text, Kinds, IsAmong, new_app, new_rule, with_rule}
+use Rattle.clap.specs.Words.{with_subcommand}
 use Rattle.clap.specs.Words.{first_of, one_of, subcommand_of}
 use Rattle.clap.specs.declared.builder.action.ArgAction.TheVariants.{SetTrue}
 use Rattle.clap.specs.declared.error.ErrorKind.{ErrorKind}
@@ -55,7 +57,8 @@ lint = question (codes "lint") (codes "FILE")
 -- `reach FILE [CLIENT] [FILTER] [--json]`
 abbrev pub reach_question : App
 reach_question =
-    with_rule (with_rule (question (codes "reach") (codes "FILE")) (optional_argument (codes "CLIENT")))
+    with_rule (with_rule (question (codes "reach") (codes "FILE"))
+    (optional_argument (codes "CLIENT")))
     (optional_argument (codes "FILTER"))
 
 -- `reach FILE [CLIENT] [FILTER] [--user NAME] [--script SCRIPT] [--json]`
@@ -69,7 +72,8 @@ wanting a = record a { top = record a.top { subcommand_required = true } }
 -- `mqroute-acl compare|why|lint|reach ..`
 abbrev pub mqroute_acl : App
 mqroute_acl =
-    with_subcommand (with_subcommand (with_subcommand (with_subcommand (wanting (new_app (codes "mqroute-acl")))
+    with_subcommand
+    (with_subcommand (with_subcommand (with_subcommand (wanting (new_app (codes "mqroute-acl")))
     compare.top) why.top) lint.top) reach.top
 
 -- what a subcommand with these values asks
@@ -166,5 +170,6 @@ AreGiven words request = IsAskedBy (subcommand_of mqroute_acl words) request
 abbrev pub IsFaultOf : List Text → Kinds → UsageFault → Type 0
 IsFaultOf words kinds (Help text) = IsAmong DisplayHelp kinds
 IsFaultOf words kinds (Usage text) =
-    ((k : ErrorKind) × (k ≢ DisplayHelp) × IsAmong k kinds) ⊎ (asked_by (subcommand_of mqroute_acl words) ≡ None)
+    ((k : ErrorKind) × (k ≢ DisplayHelp) × IsAmong k kinds)
+    ⊎ (asked_by (subcommand_of mqroute_acl words) ≡ None)
 IsFaultOf words kinds Memory = Unit {0}

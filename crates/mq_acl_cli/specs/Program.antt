@@ -13,10 +13,12 @@ use Rattle.mq_acl_cli.specs.declared.outcome.Outcome.TheVariants.{Clear}
 
 -- the outcome is right for some texts of the files
 abbrev pub IsAnswer : Asked → Outcome → Type 0
-IsAnswer (Compare old new) outcome = (old_text new_text : List ℕ) × IsCompared old_text new_text outcome
+IsAnswer (Compare old new) outcome = (old_text new_text : List ℕ)
+    × IsCompared old_text new_text outcome
 IsAnswer (Why file client topic) outcome = outcome ≡ Clear
 IsAnswer (Lint file) outcome = (text : List ℕ) × IsLinted text outcome
-IsAnswer (Reach file client filter) outcome = (text : List ℕ) × IsReached text client.id client.user filter outcome
+IsAnswer (Reach file client filter) outcome = (text : List ℕ)
+    × IsReached text client.id client.user filter outcome
 IsAnswer (ReachAll file script) outcome = (text lines : List ℕ) × AreTold text lines outcome
 
 -- what is asked is answered with this status
@@ -27,6 +29,7 @@ IsAnswered asked status =
 
 -- how a fault of the words is told: of help the status is 0, and all of the text is written, or 3 where it can't be
 abbrev pub TellsUsage : UsageFault → ℕ → (before after : Option (List ℕ)) → Type 0
-TellsUsage (Help text) status before after = ((status ≡ 0) × Appends before after (string_bytes text)) ⊎ (status ≡ 3)
+TellsUsage (Help text) status before after =
+    ((status ≡ 0) × Appends before after (string_bytes text)) ⊎ (status ≡ 3)
 TellsUsage (Usage text) status before after = (status ≡ 2) × (after ≡ before)
 TellsUsage Memory status before after = (status ≡ 3) × (after ≡ before)

@@ -3,7 +3,8 @@ ghost use Rattle.std.specs.Prelude.{◌≡◌, [], false, map, string_bytes, IfO
 ghost use Rattle.clap.specs.Words.{app_of, rule_of, fault_of, subcommand_of, FailsBy};
 ghost use Rattle.clap.specs.Words.{subcommand_rows_of};
 ghost use Rattle.clap.specs.declared.builder.command.Command.TheViews.{out-Command as fields_of};
-ghost use Rattle.mq_acl_cli.specs.CommandLine.{mqroute_acl, argument, optional_argument, json_flag, user_option, script_option, question};
+ghost use Rattle.mq_acl_cli.specs.CommandLine.{mqroute_acl, argument, optional_argument, json_flag};
+ghost use Rattle.mq_acl_cli.specs.CommandLine.{user_option, script_option, question};
 ghost use Rattle.mq_acl_cli.specs.CommandLine.{compare, why, lint, reach, reach_question};
 ghost use Rattle.mq_acl_cli.specs.CommandLine.{AreGiven, IsFaultOf};
 

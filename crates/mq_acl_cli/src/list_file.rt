@@ -1,5 +1,6 @@
 //! The file of an access list.
-ghost use Rattle.std.specs.Prelude.{◌≡◌, ◌≤◌, ℕ, List, IfOk, IfErr, IfSome, IsUtf8, length, take, string_bytes};
+ghost use Rattle.std.specs.Prelude.{◌≡◌, ◌≤◌, ℕ, List, IfOk, IfErr, IfSome, IsUtf8, length, take};
+ghost use Rattle.std.specs.Prelude.{string_bytes};
 ghost use Rattle.mq_acl_cli.specs.ListFile.{file_limit, IsFaultIn};
 
 use std::alloc::Global;

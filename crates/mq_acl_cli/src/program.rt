@@ -1,5 +1,6 @@
 //! All of the program but its `main`.
-ghost use Rattle.std.specs.Prelude.{◌≡◌, ◌≢◌, ◌≤◌, ◌⊎◌, ℕ, List, [], IfOk, IfErr, OnOk, map, string_bytes, if◌then◌else◌, is_ok};
+ghost use Rattle.std.specs.Prelude.{◌≡◌, ◌≢◌, ◌≤◌, ◌⊎◌, ℕ, List, [], IfOk, IfErr, OnOk, map};
+ghost use Rattle.std.specs.Prelude.{string_bytes, if◌then◌else◌, is_ok};
 ghost use Rattle.std.specs.Option.{option_copied};
 ghost use Rattle.clap.specs.Words.{fault_of, subcommand_of};
 ghost use Rattle.mq_acl_cli.specs.Answers.{IsCompared, IsReached};

@@ -3,7 +3,8 @@ ghost use Rattle.std.specs.Prelude.{◌≡◌, Some, None, IfSome, IfNone, codes
 ghost use Rattle.std.specs.Option.{option_copied};
 ghost use Rattle.clap.specs.Words.{first_of, rows_of, found_of, subcommand_rows_of};
 ghost use Rattle.mq_acl_cli.specs.CommandLine.{question_view, asked, asked_by, IsAskedBy};
-ghost use Rattle.mq_acl_cli.specs.CommandLine.{all_asked, compare_asked, lint_asked, one_asked, reach_asked_by, why_asked_by};
+ghost use Rattle.mq_acl_cli.specs.CommandLine.{all_asked, compare_asked, lint_asked, one_asked};
+ghost use Rattle.mq_acl_cli.specs.CommandLine.{reach_asked_by, why_asked_by};
 
 use clap::ArgMatches;
 

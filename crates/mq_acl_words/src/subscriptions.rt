@@ -142,7 +142,8 @@ fn json_lines(alloc: Global, script: &str, findings: &Findings) -> Result<String
     Ok(text)
 }
 
-/// The subscriptions in vain of the script with this name, one a line, then the lines that are no commands, and the number of
+/// The subscriptions in vain of the script with this name, one a line, then the lines that are no
+/// commands, and the number of
 /// all subscriptions.
 pub fn subscriptions_text(
     alloc: Global,

@@ -11,6 +11,9 @@ returns c =
     ∙ ap₂ with_subcommand (c.in_ok-linted.ensures.shape c.in_ok-lint_command.ensures.1
     ∙ ap₂ with_subcommand (c.in_ok-explained.ensures.shape c.in_ok-why_command.ensures.1
     ∙ ap₂ with_subcommand (c.in_ok-compared.ensures.shape c.in_ok-compare_command.ensures.1
-    ∙ ap₂ with_subcommand (ap app_of_fields c.subcommand_required-empty.ensures ∙ ap wanting c.new.ensures.app)
-    (ap (λ (a : App). a.top) c.in_ok-compare_command.ensures.0)) (ap (λ (a : App). a.top) c.in_ok-why_command.ensures.0))
-    (ap (λ (a : App). a.top) c.in_ok-lint_command.ensures.0)) (ap (λ (a : App). a.top) c.in_ok-reach_command.ensures.0)
+    ∙ ap₂ with_subcommand (ap app_of_fields c.subcommand_required-empty.ensures
+    ∙ ap wanting c.new.ensures.app)
+    (ap (λ (a : App). a.top) c.in_ok-compare_command.ensures.0))
+    (ap (λ (a : App). a.top) c.in_ok-why_command.ensures.0))
+    (ap (λ (a : App). a.top) c.in_ok-lint_command.ensures.0))
+    (ap (λ (a : App). a.top) c.in_ok-reach_command.ensures.0)

@@ -7,6 +7,7 @@ returns-clause-ok g c =
       found.0,
       found.1,
       found.2,
-      told c.args.list.text.now found.0 c.in_ok-findings.findings c.outcome_of-outcome.result found.3 c.outcome_of-outcome.ensures.clear
+      told c.args.list.text.now found.0 c.in_ok-findings.findings c.outcome_of-outcome.result
+          found.3 c.outcome_of-outcome.ensures.clear
           c.outcome_of-outcome.ensures.remark,
     )
