@@ -1,5 +1,6 @@
 #!/usr/bin/env python3
-"""Times mqroute-acl on made lists: compare on equal ones, on one with a line more and on one with a pattern more, and lint.
+"""Times mqroute-acl on made lists: compare on equal ones, on one with a line more and on one with a pattern more, lint, and
+reach on a script with as many subscribes as the list has lines.
 
 usage: acl.py PROGRAM. Prints a table: user seconds (best of three) and peak memory of each.
 """
@@ -24,6 +25,15 @@ def made(lines: int, users: int) -> str:
     return "\n".join(text) + "\n"
 
 
+def made_script(subscribes: int, users: int) -> str:
+    """A client of each user name, whose subscribes are granted in part."""
+    text = [f'{{"do":"connect","client":"c{user}","user":"u{user}"}}' for user in range(users)]
+    for machine in range(subscribes):
+        wanted = (f"plant/hall-{machine % HALLS}/m{machine}/#", f"plant/+/m{machine}", f"plant/hall-{machine % HALLS}/#")[machine % 3]
+        text.append(f'{{"do":"subscribe","client":"c{machine % users}","filter":"{wanted}"}}')
+    return "\n".join(text) + "\n"
+
+
 def measured(words: list[str]) -> tuple[float, int]:
     """User seconds and peak memory in KB. The peak is that of all children so far: the cheapest come first."""
     best = float("inf")
@@ -45,9 +55,11 @@ def main() -> int:
             text = made(lines, users)
             for file, more in (("old", ""), ("line", "topic read other/#\n"), ("pattern", "pattern read plant/%c/#\n")):
                 (folder / file).write_text(text + more)
-            old = str(folder / "old")
+            old, script = str(folder / "old"), str(folder / "script")
+            (folder / "script").write_text(made_script(lines, users))
             for what, words in (("compare, equal", ["compare", old, old]), ("compare, one line more", ["compare", old, str(folder / "line")]),
-                                ("compare, one pattern more", ["compare", old, str(folder / "pattern")]), ("lint", ["lint", old])):
+                                ("compare, one pattern more", ["compare", old, str(folder / "pattern")]), ("lint", ["lint", old]),
+                                ("reach, a script", ["reach", old, "--script", script])):
                 seconds, peak = measured([program, *words])
                 print(f"| {what} | {lines:,} | {users:,} | {seconds:.2f} | {peak:,} |", flush=True)
     return 0

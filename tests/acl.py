@@ -53,7 +53,34 @@ may not write: current.acl:13  topic deny mill/+/+/secret
     (["reach", "current.acl", "press", "mill/line1/#", "--user", "plc"], 1, "a subscription to mill/line1/# can be sent nothing\n"),
     (["reach", "--json", "current.acl", "press", "$share/g/mill/orders/+", "--user=plc"], 0,
      '{"filter":"$share/g/mill/orders/+","topic":"mill/orders/press"}\n'),
+    (["reach", "current.acl", "--script", "day.jsonl"], 1, """\
+day.jsonl:7   press  user plc      mill/line1/#
+day.jsonl:11  wall   no user name  mill/line1/press/state
+2 of 5 subscriptions in vain
+"""),
+    (["reach", "--json", "current.acl", "--script=day.jsonl"], 1, """\
+{"client":"press","file":"day.jsonl","filter":"mill/line1/#","line":7,"user":"plc"}
+{"client":"wall","file":"day.jsonl","filter":"mill/line1/press/state","line":11,"user":null}
+{"first_no_command":null,"in_vain":2,"no_commands":0,"subscriptions":5}
+"""),
 ]
+
+# A script of which little is in vain or no command: its lines, and what is told under a list that grants `a`.
+ODD_SCRIPT = """\
+{"do":"subscribe","client":"c","filter":"b"}
+
+{"do":"connect","client":"c"}
+{"do":"subscribe","client":"c","filter":"a"}
+{"do":"acl","text":""}
+{"do":"subscribe","client":"c","filter":"#"}
+{"do":"subscribe","client":"c","filter":"a/#/b"}
+{"do":"subscribe","client":"c","filter":"$share/g/b","no_local":true}
+{"do":"connect","client":"c","user":"u\\u0000"}
+{"do":"subscribe","client":"c","filter":"$share/g/a"}
+{"do":"connect","client":"","user":"u"}
+{"do":"subscribe","client":"","filter":"a"}
+"""
+FAULTY_LINES = ["x", '{"do":"melt"}', '{"do":"connect"}', '{"do":"stat","extra":1}', "[]", '{"do":"subscribe","client":"c1"}']
 
 # What is told of lines by lint: their text, and what is told.
 REMARKED = """\
@@ -100,6 +127,16 @@ MISUSED = [
     (["reach", "current.acl", "c" * 301, "a"], "a client id, a user name or a level of more than 300 bytes"),
     (["why", "nowhere.acl", "c", "a"], "cannot read access list nowhere.acl"),
     (["compare", "current.acl", "."], "cannot read access list ."),
+    (["reach", "current.acl"], "either CLIENT and FILTER, or --script SCRIPT"),
+    (["reach", "current.acl", "c"], "either CLIENT and FILTER, or --script SCRIPT"),
+    (["reach", "current.acl", "c", "a", "--script", "day.jsonl"], "either CLIENT and FILTER, or --script SCRIPT"),
+    (["reach", "current.acl", "c", "--script", "day.jsonl"], "either CLIENT and FILTER, or --script SCRIPT"),
+    (["reach", "current.acl", "--script", "day.jsonl", "--user", "u"], "either CLIENT and FILTER, or --script SCRIPT"),
+    (["reach", "--script", "day.jsonl"], "<FILE>"),
+    (["reach", "nowhere.acl", "--script", "day.jsonl"], "cannot read access list nowhere.acl"),
+    (["reach", "current.acl", "--script", "nowhere.jsonl"], "cannot read script nowhere.jsonl"),
+    (["reach", "current.acl", "--script", "-"], "cannot read script -"),
+    (["reach", "current.acl", "--script", "."], "cannot read script ."),
 ]
 
 
@@ -323,6 +360,82 @@ def faults_of_reach(folder, chance, text):
             return
 
 
+# Topics with all that small lists and filters tell apart: no row has more than three levels.
+DEEP = ["/".join(levels) for levels in itertools.product(LEVELS + ["x", "$x"], repeat=3)]
+DEEP += [topic + "/x" for topic in DEEP]
+
+
+def is_reached(rows, client, user, text):
+    """Whether the client may read some topic that the subscription's filter matches."""
+    wanted = text.split("/", 2)[2] if text.startswith("$share/") else text
+    return any(filter_matches(wanted, topic) and allowed(rows, client, user, topic, "read")
+               for topics in (TOPICS, DEEP) for topic in topics)
+
+
+def random_script(chance):
+    """The lines of a script, its subscriptions, each with its line, client, user and filter, and its faulty lines."""
+    lines, users, subscriptions, faulty = [], {}, [], []
+    for number in range(1, chance.randint(2, 14)):
+        client, user = chance.choice(CLIENTS), chance.choice(USERS)
+        kind = chance.random()
+        if kind < 0.35:
+            users[client] = user
+            lines.append({"do": "connect", "client": client} | ({} if user is None else {"user": user}))
+        elif kind < 0.45:
+            users.pop(client, None)
+            lines.append({"do": "disconnect", "client": client})
+        elif kind < 0.8:
+            text = chance.choice(["", "", "$share/g/"]) + random_filter(chance, False)
+            lines.append({"do": "subscribe", "client": client, "filter": text})
+            if client in users:
+                subscriptions.append((number, client, users[client], text))
+        elif kind < 0.9:
+            lines.append(chance.choice([{"do": "acl", "text": "topic deny #"}, {"do": "publish", "client": client, "topic": "a"}, ""]))
+        else:
+            lines.append(chance.choice(FAULTY_LINES))
+            faulty.append(number)
+    return [line if isinstance(line, str) else json.dumps(line) for line in lines], subscriptions, faulty
+
+
+def faults_of_script(folder, chance, text):
+    rows = rows_of(text)
+    lines, subscriptions, faulty = random_script(chance)
+    script = "\n".join(lines) + chance.choice(["", "\n", "\n\n"])
+    pathlib.Path(folder, "s.jsonl").write_text(script)
+    vain = [each for each in subscriptions if not is_reached(rows, *each[1:])]
+    done = run(["reach", "--json", "old.acl", "--script", "s.jsonl"], folder)
+    *told, counts = [json.loads(line) for line in done.stdout.splitlines()] or [None]
+    wanted = {"in_vain": len(vain), "subscriptions": len(subscriptions), "no_commands": len(faulty),
+              "first_no_command": faulty[0] if faulty else None}
+    if done.returncode != (1 if vain else 0) or done.stderr or counts != wanted:
+        yield f"reach --script: status {done.returncode}, {counts}, not {wanted}: {done.stderr}\n{script}"
+    if [(each["line"], each["client"], each["user"], each["filter"]) for each in told] != vain or \
+            any(each["file"] != "s.jsonl" for each in told):
+        yield f"reach --script: {told}, not {vain}\n{script}"
+
+
+def faults_of_odd_scripts(folder):
+    """Lines that a broker refuses, that are no commands or too long, and a script without a last line feed."""
+    pathlib.Path(folder, "a.acl").write_text("topic read a\ntopic read b/" + "c" * 300 + "\n")
+    cases = [
+        (ODD_SCRIPT, 0, "0 of 3 subscriptions in vain\n", ""),
+        ("", 0, "0 of 0 subscriptions in vain\n", ""),
+        ('{"do":"connect","client":"c","user":"\u00fc"}\n{"do":"subscribe","client":"c","filter":"b"}', 1,
+         "s.jsonl:2  c  user \u00fc  b\n1 of 1 subscriptions in vain\n", ""),
+        ('\nx\n{"do":"connect","client":"c"}\n' + " " * 1_048_577 + '\n{"do":"subscribe","client":"c","filter":"b"}', 1,
+         "s.jsonl:5  c  no user name  b\n2 lines are no commands, the first is s.jsonl:2\n1 of 1 subscriptions in vain\n", ""),
+        (" " * 1_048_576 + '\n{"do":"connect","client":"c"}\n{"do":"subscribe","client":"c","filter":"a"}\nx', 0,
+         "s.jsonl:4 is no command\n0 of 1 subscriptions in vain\n", ""),
+        ('{"do":"connect","client":"c"}\n{"do":"subscribe","client":"c","filter":"' + "b" * 301 + '"}', 2, "",
+         "mqroute-acl: script s.jsonl line 2: a client id, a user name or a level of more than 300 bytes\n"),
+    ]
+    for script, status, told, failed in cases:
+        pathlib.Path(folder, "s.jsonl").write_text(script, encoding="utf-8")
+        done = run(["reach", "a.acl", "--script", "s.jsonl"], folder)
+        if (done.returncode, done.stdout, done.stderr) != (status, told, failed):
+            yield f"reach --script of {script[:60]!r}: status {done.returncode}: {done.stdout}{done.stderr}"
+
+
 def faults_of_needless(folder, lines):
     """Without a line that is told as needless a list allows the same."""
     done = run(["lint", "--json", "old.acl"], folder)
@@ -347,7 +460,7 @@ def faults_of_random(folder, count):
         pathlib.Path(folder, "old.acl").write_text(old)
         pathlib.Path(folder, "new.acl").write_text(new)
         faults = itertools.chain(faults_of_compare(folder, old, new), faults_of_why(folder, chance, old), faults_of_reach(folder, chance, old),
-                                 faults_of_needless(folder, lines))
+                                 faults_of_script(folder, chance, old), faults_of_needless(folder, lines))
         for fault in faults:
             yield f"seed {seed}: {fault}\n{old}\n--\n{new}"
 
@@ -358,7 +471,8 @@ def main():
         return 1
     count = int(sys.argv[1]) if len(sys.argv) > 1 else 300
     with tempfile.TemporaryDirectory() as folder:
-        faults = [*faults_of_walk(), *faults_of_remarks(folder), *faults_of_refusals(folder), *faults_of_random(folder, count)]
+        faults = [*faults_of_walk(), *faults_of_remarks(folder), *faults_of_refusals(folder), *faults_of_odd_scripts(folder),
+                  *faults_of_random(folder, count)]
     for fault in faults:
         print(f"acl: {fault}")
     print(f"acl: {len(WALK)} examples, {len(FAULTY) + len(MISUSED)} refusals, {count} random pairs of lists, {len(faults)} faults")
