@@ -360,8 +360,9 @@ def faults_of_reach(folder, chance, text):
             return
 
 
-# Topics with all that small lists and filters tell apart: no row has more than three levels.
-DEEP = ["/".join(levels) for levels in itertools.product(LEVELS + ["x", "$x"], repeat=3)]
+# Topics with all that small lists and filters tell apart: no row has more than three levels, %c and %u are names.
+NAMES = sorted({*LEVELS, *CLIENTS, *(user for user in USERS if user), "x", "$x"})
+DEEP = ["/".join(levels) for levels in itertools.product(NAMES, repeat=3)]
 DEEP += [topic + "/x" for topic in DEEP]
 
 

@@ -5,7 +5,7 @@ use Rattle.std.specs.Prelude.{slice_get}
 use Rattle.std.specs.Option.{option_and_then, option_or, option_to_list}
 use Rattle.mq_acl.specs.Rows.{AclRow}
 use Rattle.mq_world.specs.Lists.{Text}
-use Rattle.mq_world.specs.World.{Options, Request, Subscribe}
+use Rattle.mq_world.specs.World.{SubscriptionOptions, Request, Subscribe}
 use Rattle.mq_lines.specs.Lines.{command_in}
 use Rattle.mq_lines.specs.Reading.{reading}
 use Rattle.mq_lines.specs.declared.fault.LineFault.{LineFault}
@@ -146,7 +146,8 @@ IsSearched-push rows lines line old mid new kind is applies clients vain counts 
 -- ## A subscribe
 
 -- that makes no subscription
-pub Applies-none : (rows : List AclRow) (client filter : Text) (options : Options) (old : Search)
+pub Applies-none : (rows : List AclRow) (client filter : Text) (options : SubscriptionOptions)
+    (old : Search)
     → subscription_by (old.counts.lines + 1) (user_at old.clients)
     (Subscribe client filter options) ≡ None
     → Applies rows (Ok (Some (Subscribe client filter options))) old old kinds.Other
@@ -160,7 +161,7 @@ Applies-none rows client filter options old e = record {
 }
 
 -- that makes one
-pub Applies-some : (rows : List AclRow) (client filter : Text) (options : Options)
+pub Applies-some : (rows : List AclRow) (client filter : Text) (options : SubscriptionOptions)
     (old new : Search) (s : Subscription)
     → subscription_by (old.counts.lines + 1) (user_at old.clients)
     (Subscribe client filter options) ≡ Some s

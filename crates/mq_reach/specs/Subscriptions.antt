@@ -7,7 +7,7 @@ use Rattle.std.specs.Str.{bytes_eq}
 use Rattle.mq_topic.specs.Texts.{is_shared, is_subscription}
 use Rattle.mq_world.specs.Lists.{Text}
 use Rattle.mq_world.specs.Refusals.{is_client_id, is_user_name}
-use Rattle.mq_world.specs.World.{Request, Connect, Disconnect, Subscribe, Options}
+use Rattle.mq_world.specs.World.{Request, Connect, Disconnect, Subscribe, SubscriptionOptions}
 use Rattle.mq_lines.specs.Lines.{command_in}
 use Rattle.mq_lines.specs.Reading.{reading}
 use Rattle.mq_lines.specs.declared.fault.LineFault.{LineFault}
@@ -43,7 +43,7 @@ connection client commands = connected_by (last_or None (filter (concerns client
 -- ## What is a subscription
 
 -- a broker takes it of a client that is connected (MQTT 5.0, sections 4.7.1, 4.8.2 and 3.8.3.1)
-abbrev pub is_taken : Text → Options → Bool
+abbrev pub is_taken : Text → SubscriptionOptions → Bool
 is_taken filter options = is_subscription filter && not (is_shared filter && options.no_local)
 
 -- what a command of this line subscribes to, where clients are connected so

@@ -2,7 +2,7 @@
 ghost use Rattle.std.specs.Prelude.{◌≡◌, ◌+◌, ◌<◌, ◌^◌, ◌≤◌, IfOk, OnOk, Ok, Some, None};
 ghost use Rattle.std.specs.Prelude.{string_bytes, option_map, length};
 ghost use Rattle.mq_acl.specs.Views.{row_views};
-ghost use Rattle.mq_world.specs.World.{Options, Subscribe};
+ghost use Rattle.mq_world.specs.World.{SubscriptionOptions, Subscribe};
 ghost use Rattle.mq_world.specs.Views.{request_of};
 ghost use Rattle.mq_lines.specs.Reading.{reading};
 
@@ -60,7 +60,8 @@ impl Search {
         no_local: bool,
     ) -> Result<Option<Subscription>, AllocError>
         requires { self.now.counts.lines + 1 < 2 ^ 64 }
-        ensures { (options : Options) → options.no_local ≡ no_local → IfOk result (λ made.
+        ensures { (options : SubscriptionOptions) → options.no_local ≡ no_local
+            → IfOk result (λ made.
             option_map subscription_view made ≡ subscription_by (self.now.counts.lines + 1)
             (user_at self.now.clients)
             (Subscribe (string_bytes client) (string_bytes filter) options)) }
@@ -90,7 +91,7 @@ impl Search {
         no_local: bool,
     ) -> Result<LineKind, SearchFault>
         requires { self.old.counts.lines + 1 < 2 ^ 64 }
-        ensures { (options : Options) → options.no_local ≡ no_local → IfOk result
+        ensures { (options : SubscriptionOptions) → options.no_local ≡ no_local → IfOk result
             (Applies (row_views rows.now) (Ok (Some (Subscribe (string_bytes client)
             (string_bytes filter) options))) self.old self.new) }
     {
