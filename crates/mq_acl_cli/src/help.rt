@@ -1,15 +1,15 @@
 //! The texts of help.
 
 pub(crate) const ABOUT: &str =
-    "Answers questions to access lists of mosquitto, for every client, user and topic";
+    "Answers questions to mosquitto's access lists, for all clients and topics";
 
 pub(crate) const AFTER_HELP: &str = "\
 An access list is a file in the form of mosquitto.conf(5)'s acl_file. What is
 answered holds for every client id, every user name or none, and every topic.
 
 Exit status:
-  0  both lists allow the same, no line is remarked on, each subscription can be
-     sent a topic, or why was answered
+  0  both lists allow the same, no line is remarked on, each subscription can
+     be sent a topic, or why was answered
   1  the lists differ, a line is remarked on, or a subscription is in vain
   2  the arguments aren't understood, an access list can't be opened, read or
      understood, or a script can't be opened or read
@@ -30,7 +30,7 @@ pub(crate) const TOPIC_HELP: &str = "The topic that is read or written";
 
 pub(crate) const FILTER_HELP: &str = "The topic filter of the subscription; $share/NAME/FILTER too";
 
-pub(crate) const USER_HELP: &str = "The user name of the client; without it the client has none";
+pub(crate) const USER_HELP: &str = "The user name of the client (none)";
 
 pub(crate) const JSON_HELP: &str = "Write JSON, one object a line";
 
@@ -52,7 +52,7 @@ With --json each difference is an object with
             no line allows it";
 
 pub(crate) const WHY_ABOUT: &str =
-    "Tells whether a client may read and write a topic, and which line decides it";
+    "Tells whether a client may read and write a topic, and by which line";
 
 pub(crate) const WHY_AFTER_HELP: &str = "\
 With --json one object tells of reading and one of writing, each with
@@ -71,20 +71,20 @@ With --json each remark is an object with
 
 pub(crate) const SUBSCRIBER_HELP: &str = "The client id of the subscriber";
 
-pub(crate) const SCRIPT_HELP: &str =
-    "The script of mqroute whose subscriptions are asked about, in place of CLIENT and FILTER";
+pub(crate) const SCRIPT_HELP: &str = "Ask about all subscriptions of this script";
 
 pub(crate) const REACH_ABOUT: &str =
     "Tells whether a subscription, or each of a script, can be sent anything";
 
 pub(crate) const REACH_AFTER_HELP: &str = "\
-A client is sent what its filter matches and the list lets it read. A topic that
-a subscription to FILTER can be sent is told, or that there is none.
+A client is sent what its filter matches and the list lets it read. A topic
+that a subscription to FILTER can be sent is told, or that there is none.
 
-With --script SCRIPT, those subscriptions of the script are told that can be sent
-nothing: line, client, user name and filter. A client's user name is that of its
-last connect; a subscribe of a client that isn't connected is none. Lines acl of
-the script say nothing here. Lines that are no commands are passed over, and told.
+With --script SCRIPT, in place of CLIENT and FILTER, those subscriptions of the
+script are told that can be sent nothing: line, client, user name and filter. A
+client's user name is that of its last connect; a subscribe of a client that
+isn't connected is none. Lines acl of the script say nothing here. Lines that
+are no commands are passed over, and told.
 
 With --json the answer is an object with
   filter  the subscription
