@@ -6,7 +6,7 @@ ghost use Rattle.mq_world.specs.Lists.{Text};
 ghost use Rattle.mq_world.specs.Refusals.{is_client_id, is_user_name};
 ghost use Rattle.mq_reach.specs.Clients.{user_at};
 
-use crate::ids::{is_client_id, is_user_name};
+use mq_world::{is_client_id, is_user_name};
 use std::alloc::{AllocError, Global};
 use std::collections::BTreeMap;
 

@@ -3,7 +3,6 @@
 
 mod clients;
 mod counts;
-mod ids;
 mod question;
 mod reading;
 mod search;

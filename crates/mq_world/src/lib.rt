@@ -4,6 +4,7 @@
 
 mod answer;
 mod command;
+mod ids;
 mod limits;
 mod message;
 mod options;
@@ -11,6 +12,7 @@ mod refusal;
 
 pub use answer::{Answer, Delivery, Outcome};
 pub use command::Command;
+pub use ids::{is_client_id, is_user_name};
 pub use limits::Limits;
 pub use message::Message;
 pub use options::SubscriptionOptions;

@@ -12,13 +12,15 @@ fn has_nul(text: &str) -> bool
     text.as_bytes().contains(&0)
 }
 
-pub(crate) fn is_client_id(id: &str) -> bool
+/// Whether a client id has 1 to 65,535 bytes and no U+0000 (MQTT 5.0, sections 1.5.4 and 3.1.3.1).
+pub fn is_client_id(id: &str) -> bool
     ensures { result ≡ is_client_id id.now }
 {
     !id.is_empty() && id.len() <= MAX_BYTES && !has_nul(id)
 }
 
-pub(crate) fn is_user_name(user: Option<&str>) -> bool
+/// Whether there is no user name, or one of at most 65,535 bytes and no U+0000 (MQTT 5.0, sections 1.5.4 and 3.1.3.5).
+pub fn is_user_name(user: Option<&str>) -> bool
     ensures { result ≡ is_user_name (option_copied user.entry) }
 {
     match user {
