@@ -46,7 +46,8 @@ impl Acl {
     pub fn read(alloc: Global, text: &str) -> Result<Acl, AclFault>
         ensures rows { MatchResult result (λ acl. rows_of text.now ≡ Ok acl)
             (λ fault. (fault ≡ out_of_memory) ⊎ (rows_of text.now ≡ Err fault)) }
-        ensures memory { IfErr result (λ fault. fault.kind ≡ AclKind.Memory → fault ≡ out_of_memory) }
+        ensures memory { IfErr result
+            (λ fault. fault.kind ≡ AclKind.Memory → fault ≡ out_of_memory) }
         ensures line { IfErr result (λ fault. fault.kind ≢ AclKind.Memory
             → (rows_of text.now ≡ Err fault) × (0 < fault.line)) }
     {

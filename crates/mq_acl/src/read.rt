@@ -43,7 +43,8 @@ fn add_row(
         ≡ row_views rows.old.items ++ option_to_list
         (row_of (user_who user.entry) (entry_view entry.entry))) }
     ensures lines { OnOk result (line_views rows.new.items
-        ≡ line_views rows.old.items ++ option_to_list (row_line line (Ok (entry_view entry.entry)))) }
+        ≡ line_views rows.old.items
+        ++ option_to_list (row_line line (Ok (entry_view entry.entry)))) }
 {
     let (owner, access, filter) = match entry {
         Entry::Skipped | Entry::User(_) => return Ok(()),

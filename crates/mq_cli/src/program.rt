@@ -352,7 +352,8 @@ fn report<E: Sink>(alloc: Global, failure: Failure<'_>, err: &mut E) -> u8
 /// Prints help, or why the words are not understood, and answers the status.
 fn report_usage<W: Sink, E: Sink>(alloc: Global, fault: UsageFault, out: &mut W, err: &mut E) -> u8
     ensures bound { result ≤ 3 }
-    ensures tells { TellsUsage fault result (W.taken out.old) (W.taken out.new) (W.flushed out.new) }
+    ensures tells { TellsUsage fault result (W.taken out.old) (W.taken out.new)
+        (W.flushed out.new) }
     ensures unreadable { result ≡ 2 → out.new ≡ out.old }
     ensures quiet { result ≡ 0 → err.new ≡ err.old }
 {

@@ -1,5 +1,5 @@
 mod CountLemmas
 pub mod SameLemmas
 mod HeapLemmas
-mod KeptLemmas
+mod IndexLemmas
 mod PairLemmas

@@ -1,4 +1,4 @@
 pub mod Counts
 pub mod Moments
 pub mod Pairs
-pub mod Kept
+pub mod Index

@@ -32,13 +32,13 @@ pub struct Ends {
 impl Model for Ends {
     ghost use Rattle.mq_ends.specs.Moments.{Moments};
     ghost use Rattle.mq_ends.specs.Pairs.{without};
-    ghost use Rattle.mq_ends.specs.Kept.{IsKept};
+    ghost use Rattle.mq_ends.specs.Index.{IsIndex};
 
     ghost Value = { Moments };
 
     ghost view = { λ e. record { ends = without e.gone.ends e.ends.ends; room = e.room } };
 
-    ghost invariant = { λ e. IsKept e.ends e.gone e.spare e.room };
+    ghost invariant = { λ e. IsIndex e.ends e.gone e.spare e.room };
 }
 
 impl Ends {

@@ -16,7 +16,7 @@ use Rattle.serde_json.specs.Data.{Data, object, Members, no_members, member}
 use Rattle.serde_json.specs.Find.{get, get_member}
 use Rattle.serde_json.specs.View.{members_view}
 use Rattle.serde_json.specs.declared.value.Value.{Value}
-use Rattle.mq_lines.specs.Kept.{names_of}
+use Rattle.mq_lines.specs.Objects.{names_of}
 use Rattle.mq_lines.specs.Fields.{is_among, all_among, has_only}
 use Rattle.mq_lines.specs.Ahead.{Above, Ascends, ahead, past, end}
 use Rattle.mq_lines.specs.declared.fault.LineFault.{LineFault}

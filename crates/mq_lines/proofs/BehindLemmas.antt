@@ -6,7 +6,7 @@ use Rattle.mq_world.specs.World.{Copy, Group}
 use Rattle.mq_lines.specs.Printed.{copy_members}
 use Rattle.mq_lines.specs.Behind.{with_client, IsAlike, IsBehind, held_for, Keeps, Follows}
 use Rattle.mq_lines.specs.declared.object.Object.{Object}
-use Rattle.mq_lines.proofs.KeptLemmas.{copy}
+use Rattle.mq_lines.proofs.ObjectLemmas.{copy}
 
 put_client : (k : ℕ) (x client topic payload : List ℕ) (qos : ℕ) (retain : Bool) (expiry : Option ℕ)
     (ids : List ℕ) (group : Option Group)

@@ -4,7 +4,7 @@ pub mod TakenLemmas
 pub mod FloatLemmas
 pub mod SetLemmas
 pub mod EntryLemmas
-pub mod KeptLemmas
+pub mod ObjectLemmas
 pub mod BehindLemmas
 pub mod RefillLemmas
 pub mod TextLemmas

@@ -7,7 +7,7 @@ use Rattle.serde_json.specs.Data.{Data}
 use Rattle.serde_json.specs.View.{view, members_view}
 use Rattle.serde_json.specs.Written.{has_float, members_have_float}
 use Rattle.serde_json.specs.declared.value.Value.{Value}
-use Rattle.mq_lines.specs.Kept.{names_of, values_of, data_of, WritesNext}
+use Rattle.mq_lines.specs.Objects.{names_of, values_of, data_of, WritesNext}
 use Rattle.mq_lines.specs.declared.datum.Datum.{Datum}
 use Rattle.mq_lines.specs.declared.datum.Datum.TheVariants.{Text, Number, Flag, Numbers}
 use Rattle.mq_lines.proofs.FloatLemmas.{both_none, numbers_none}

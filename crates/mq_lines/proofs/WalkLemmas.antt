@@ -4,7 +4,7 @@ use Rattle.std.proofs.Common.{refl, rules, sym, ap, ◌∙◌}
 use Rattle.std.specs.Prelude.{Result, Ok, Err, codes}
 use Rattle.serde_json.specs.Data.{Data, object, Members}
 use Rattle.serde_json.specs.Find.{get}
-use Rattle.mq_lines.specs.Kept.{names_of}
+use Rattle.mq_lines.specs.Objects.{names_of}
 use Rattle.mq_world.specs.World.{Request, Connect, Disconnect, Subscribe, Unsubscribe, Publish}
 use Rattle.mq_world.specs.World.{SetAcl, Advance, Stat}
 use Rattle.mq_lines.specs.Fields.{◌>>=◌, text, flag, unsigned, whole, of_kind, optional, required}

@@ -2,6 +2,6 @@ pub mod Fields
 pub mod Ahead
 pub mod Reading
 pub mod Printed
-pub mod Kept
+pub mod Objects
 pub mod Behind
 pub mod Lines

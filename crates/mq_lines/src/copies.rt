@@ -5,7 +5,7 @@ ghost use Rattle.std.specs.Option.{option_copied, option_map};
 ghost use Rattle.serde_json.specs.View.{members_view};
 ghost use Rattle.mq_world.specs.Views.{copy_of};
 ghost use Rattle.mq_lines.specs.Printed.{copy_members, copy_text};
-ghost use Rattle.mq_lines.specs.Kept.{IsFor, copy_names, parts, parts_of};
+ghost use Rattle.mq_lines.specs.Objects.{IsFor, copy_names, parts, parts_of};
 ghost use Rattle.mq_lines.specs.Behind.{IsAlike, IsBehind, Follows, Keeps};
 
 use crate::datum::Datum;
@@ -15,7 +15,8 @@ use mq_world::Delivery;
 use std::alloc::{AllocError, Global};
 
 fn share_of(delivery: &Delivery) -> Option<&str>
-    ensures { option_copied result ≡ option_map (λ group. group.share) (copy_of delivery.now).group }
+    ensures { option_copied result
+        ≡ option_map (λ group. group.share) (copy_of delivery.now).group }
 {
     match &delivery.group {
         Some((share, _)) => Some(share.as_str()),
@@ -24,7 +25,8 @@ fn share_of(delivery: &Delivery) -> Option<&str>
 }
 
 fn filter_of(delivery: &Delivery) -> Option<&str>
-    ensures { option_copied result ≡ option_map (λ group. group.filter) (copy_of delivery.now).group }
+    ensures { option_copied result
+        ≡ option_map (λ group. group.filter) (copy_of delivery.now).group }
 {
     match &delivery.group {
         Some((_, filter)) => Some(filter.text()),
@@ -58,7 +60,7 @@ fn put_copy(
 }
 
 // Members that are there are written over in one walk, in the order of their names.
-#[tactic(auto, unfolding(crate::specs::Kept::copy_names))]
+#[tactic(auto, unfolding(crate::specs::Objects::copy_names))]
 fn set_copy(
     alloc: Global,
     object: &mut Object,

@@ -4,7 +4,7 @@ ghost use Rattle.serde_json.specs.Data.{string, array};
 ghost use Rattle.serde_json.specs.View.{view};
 ghost use Rattle.serde_json.specs.Written.{has_float};
 ghost use Rattle.mq_lines.specs.Printed.{whole_data, numbers_data};
-ghost use Rattle.mq_lines.specs.Kept.{data_of};
+ghost use Rattle.mq_lines.specs.Objects.{data_of};
 
 use serde_json::Value;
 use std::alloc::{AllocError, Global};

@@ -4,7 +4,7 @@ ghost use Rattle.serde_json.specs.View.{view, members_view};
 ghost use Rattle.serde_json.specs.Find.{get, get_member};
 ghost use Rattle.mq_lines.specs.Fields.{Gives, text as text_kind, flag as flag_kind, unsigned};
 ghost use Rattle.mq_lines.specs.Fields.{whole, optional, required, defaulted};
-ghost use Rattle.mq_lines.specs.Kept.{names_of};
+ghost use Rattle.mq_lines.specs.Objects.{names_of};
 ghost use Rattle.mq_lines.specs.Ahead.{Ascends, ahead, past, end as ending, members_left};
 
 use crate::fault::LineFault;

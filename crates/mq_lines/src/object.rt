@@ -6,7 +6,7 @@ ghost use Rattle.serde_json.specs.Data.{string, boolean, no_members, put};
 ghost use Rattle.serde_json.specs.Find.{as_object};
 ghost use Rattle.serde_json.specs.View.{view, members_view};
 ghost use Rattle.serde_json.specs.Written.{members_have_float, has_float};
-ghost use Rattle.mq_lines.specs.Kept.{names_of, values_of, data_of, WritesNext};
+ghost use Rattle.mq_lines.specs.Objects.{names_of, values_of, data_of, WritesNext};
 ghost use Rattle.mq_lines.specs.Printed.{put_if, whole_data, text_if, whole_if, numbers_if};
 ghost use Rattle.mq_lines.specs.Printed.{line_text};
 
@@ -50,7 +50,8 @@ impl Object {
         requires { length (names_of (members_view self.old.members.entries)) ≡ length row.now }
         ensures names { OnOk result (names_of (members_view self.new.members.entries)
             ≡ names_of (members_view self.old.members.entries)) }
-        ensures values { OnOk result (values_of (members_view self.new.members.entries) ≡ map data_of row.now) }
+        ensures values { OnOk result
+            (values_of (members_view self.new.members.entries) ≡ map data_of row.now) }
     {
         let mut next = 0;
         self.members.retain(

@@ -8,7 +8,7 @@ ghost use Rattle.mq_world.specs.declared.answer.Outcome.TheVariants.{Reason, Cou
 ghost use Rattle.mq_lines.specs.Printed.{answer_text, line_text, closing_members};
 ghost use Rattle.mq_lines.specs.Printed.{report_members, report_text, report_of, refusal_text};
 ghost use Rattle.mq_lines.specs.Printed.{fault_text};
-ghost use Rattle.mq_lines.specs.Kept.{IsFor, reason_names, report_names};
+ghost use Rattle.mq_lines.specs.Objects.{IsFor, reason_names, report_names};
 
 use crate::copies::Copies;
 use crate::datum::Datum;
@@ -18,7 +18,7 @@ use crate::report::{Reported, line_fault_report, refusal_report};
 use mq_world::{Answer, Outcome, Refusal};
 use std::alloc::{AllocError, Global};
 
-#[tactic(auto, unfolding(crate::specs::Printed::closing_members, crate::specs::Kept::reason_names))]
+#[tactic(auto, unfolding(crate::specs::Printed::closing_members, crate::specs::Objects::reason_names))]
 fn set_reason(alloc: Global, object: &mut Object, line: u64, reason: u8) -> Result<(), AllocError>
     requires { IsFor reason_names (members_view object.old.members.entries) }
     ensures { OnOk result (members_view object.new.members.entries

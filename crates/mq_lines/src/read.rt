@@ -123,7 +123,8 @@ fn publish(alloc: Global, members: &mut Map<String, Value>) -> Result<Command, L
 
 #[tactic(auto, using(crate::proofs::WalkLemmas::acl_walked))]
 fn acl(members: &mut Map<String, Value>) -> Result<Command, LineFault>
-    ensures value { Gives request_of result (acl_fields (object (members_view members.old.entries))) }
+    ensures value { Gives request_of result
+        (acl_fields (object (members_view members.old.entries))) }
     ensures valid { IfOk result (λ c. IsTrue (is_valid (request_of c))) }
 {
     let mut fields = Fields::of(members);
@@ -160,7 +161,8 @@ fn stat(members: &mut Map<String, Value>) -> Result<Command, LineFault>
 
 #[tactic(auto, unfolding(crate::specs::Reading::command_of, crate::specs::Reading::fields_of))]
 fn command_in(alloc: Global, members: &mut Map<String, Value>) -> Result<Command, LineFault>
-    ensures value { Gives request_of result (command_of (object (members_view members.old.entries))) }
+    ensures value { Gives request_of result
+        (command_of (object (members_view members.old.entries))) }
     ensures valid { IfOk result (λ c. IsTrue (is_valid (request_of c))) }
 {
     let Some(word) = field(members, "do").and_then(Value::as_str) else {

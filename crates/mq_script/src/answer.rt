@@ -23,7 +23,8 @@ fn answer_command(
 ) -> Result<bool, AllocError>
     requires { IsTrue (is_valid (request_of command.now)) }
     ensures ok { (w : World) → StandsFor router.old w → IfOk result (λ refused.
-        IsAnswered number w (request_of command.now) refused router.new out.old.items out.new.items) }
+        IsAnswered number w (request_of command.now) refused router.new out.old.items
+        out.new.items) }
     ensures err { OnErr result (out.new.items ≡ out.old.items) }
 {
     match router.apply(command) {

@@ -55,7 +55,8 @@ impl Progress {
     #[tactic(auto, unfolding(crate::specs::Running::AnswersLine, crate::specs::Running::StopsAtLine))]
     fn answer<W: Sink>(&mut self, writer: &mut W) -> Result<(), RunFault>
         requires { self.old.summary.lines + 1 < 2 ^ 64 }
-        ensures answers { Answers self.old self.new result (W.taken writer.old) (W.taken writer.new) }
+        ensures answers { Answers self.old self.new result (W.taken writer.old)
+            (W.taken writer.new) }
         ensures counted { W.failures writer.new ≡ W.failures writer.old + failures_of result }
         ensures lines { OnOk result (self.new.summary.lines ≡ self.old.summary.lines + 1) }
         ensures line { OnOk result (self.new.line.items ≡ []) }

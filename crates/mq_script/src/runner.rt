@@ -53,7 +53,8 @@ fn read_lines<R: Source, W: Sink>(
         → IfErr result (λ e.
         EndsOver limit w (Err e) (watch R.to_come R.failures reader.old reader.new)
         (watch W.taken W.failures writer.old writer.new)) }
-    ensures lines { OnOk result (progress.new.summary.lines + length progress.new.line.items ≤ limit) }
+    ensures lines { OnOk result
+        (progress.new.summary.lines + length progress.new.line.items ≤ limit) }
     ensures unbuffered { IsTrue unbuffered → R.failures reader.new ≢ R.failures reader.old
         → W.flushed writer.new ≡ W.taken writer.new }
 {

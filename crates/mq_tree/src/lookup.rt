@@ -56,7 +56,8 @@ fn below_by_name<'a, V>(
     requires { ArePlain (levels_left name) }
     ensures found { OnOk result (Adds found.old.items found.new.items
         (values_at (suits_name (levels_left name.entry)) (entries_of node.now))) }
-    ensures count { OnOk result (steps.new ≡ steps.old + nodes_at (meets_name (levels_left name.entry))
+    ensures count { OnOk result
+        (steps.new ≡ steps.old + nodes_at (meets_name (levels_left name.entry))
         (entries_of node.now)) }
 {
     let Some(name) = name else {
@@ -97,7 +98,8 @@ fn at_end<'a, V>(
 ) -> Result<(), AllocError>
     ensures found { OnOk result (Adds found.old.items found.new.items
         (values_at (suits_name []) (entries_of node.now))) }
-    ensures count { OnOk result (steps.new ≡ steps.old + nodes_at (meets_name []) (entries_of node.now)) }
+    ensures count { OnOk result
+        (steps.new ≡ steps.old + nodes_at (meets_name []) (entries_of node.now)) }
 {
     add_value(node, found)?;
     match node.child("#", steps) {
@@ -171,7 +173,8 @@ fn shown_by_filter<'a, V>(
     requires { HashLast (levels_left wanted) }
     ensures found { OnOk result (Adds found.old.items found.new.items
         (values_below (matches_below (levels_left wanted.entry)) (shown root.now.1))) }
-    ensures count { OnOk result (steps.new ≡ steps.old + nodes_below (meets_filter (levels_left wanted.entry))
+    ensures count { OnOk result
+        (steps.new ≡ steps.old + nodes_below (meets_filter (levels_left wanted.entry))
         (shown root.now.1)) }
     ensures children { AreChildren root.now.1 }
 {
@@ -195,7 +198,8 @@ fn below_by_filter<'a, V>(
     requires { HashLast (levels_left wanted) }
     ensures found { OnOk result (Adds found.old.items found.new.items
         (values_at (matches_below (levels_left wanted.entry)) (entries_of node.now))) }
-    ensures count { OnOk result (steps.new ≡ steps.old + nodes_at (meets_filter (levels_left wanted.entry))
+    ensures count { OnOk result
+        (steps.new ≡ steps.old + nodes_at (meets_filter (levels_left wanted.entry))
         (entries_of node.now)) }
 {
     let Some(wanted) = wanted else {
@@ -219,8 +223,10 @@ fn below_by_filter<'a, V>(
 
 // The values of the node and of all nodes below it.
 fn all<'a, V>(node: &'a Node<V>, steps: &mut Walk, found: &mut Vec<&'a V>) -> Result<(), AllocError>
-    ensures found { OnOk result (Adds found.old.items found.new.items (values_of (entries_of node.now))) }
-    ensures count { OnOk result (steps.new ≡ steps.old + length (prefixes (keys_of (entries_of node.now)))) }
+    ensures found { OnOk result
+        (Adds found.old.items found.new.items (values_of (entries_of node.now))) }
+    ensures count { OnOk result
+        (steps.new ≡ steps.old + length (prefixes (keys_of (entries_of node.now)))) }
 {
     add_value(node, found)?;
     for child in node.children() {

@@ -60,7 +60,8 @@ impl<V> LevelTree<V> {
 
     /// The value at the key, lent so that it can be written. It takes no memory.
     pub fn get_mut<K: LevelText>(&mut self, key: &K) -> Option<&mut V>
-        ensures* writes_back { sem 𝓛 (LendsAt V.row self.entry (levels (K.text_of key.now)) result) }
+        ensures* writes_back { sem 𝓛
+            (LendsAt V.row self.entry (levels (K.text_of key.now)) result) }
         ensures value { option_copied_mut result
             ≡ lookup (is_key (levels (K.text_of key.now))) self.old }
     {
@@ -72,11 +73,13 @@ impl<V> LevelTree<V> {
     pub fn put<K: LevelText>(&mut self, key: &K, value: V) -> Result<Option<V>, AllocError>
     where
         V: Drop,
-        ensures older { IfOk result (λ older. older ≡ lookup (is_key (levels (K.text_of key.now))) self.old) }
+        ensures older { IfOk result
+            (λ older. older ≡ lookup (is_key (levels (K.text_of key.now))) self.old) }
         ensures ok { OnOk result
             (self.new ≡ insert_entry level_order self.old (levels (K.text_of key.now)) value) }
         ensures err { OnErr result (self.new ≡ self.old) }
-        ensures absent { OnErr result (lookup (is_key (levels (K.text_of key.now))) self.old ≡ None) }
+        ensures absent { OnErr result
+            (lookup (is_key (levels (K.text_of key.now))) self.old ≡ None) }
     {
         self.root.put(self.alloc, Some(key.text()), value)
     }

@@ -71,7 +71,8 @@ impl<V> Node<V> {
     pub(crate) fn child(&self, level: &str, steps: &mut Walk) -> Option<&Node<V>>
         ensures found { option_map entries_of (option_copied result)
             ≡ lookup (is_level level.now) self.now.1 }
-        ensures count { MatchOption result (steps.new ≡ steps.old) (λ _. steps.new ≡ steps.old + 1) }
+        ensures count { MatchOption result (steps.new ≡ steps.old)
+            (λ _. steps.new ≡ steps.old + 1) }
         ensures children { AreChildren self.now.1 }
     {
         let child = self.children.get(level)?;

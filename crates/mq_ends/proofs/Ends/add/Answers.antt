@@ -1,5 +1,5 @@
 use Rattle.std.proofs.Common.{arith}
-use Rattle.mq_ends.proofs.KeptLemmas.{without-length, le_from_fits, SameEnds-added, IsKept-added}
+use Rattle.mq_ends.proofs.IndexLemmas.{without-length, le_from_fits, SameEnds-added, IsIndex-added}
 use Rattle.mq_ends.proofs.Ends.add.Goals as goal
 
 pub add-requires : goal.add-requires
@@ -11,7 +11,7 @@ add-requires c =
 
 pub invariant_of-self : goal.invariant_of-self
 invariant_of-self c =
-    IsKept-added c.args.end _ _ _ _ _ c.self.invariant (rw (← c.self.view_is) at c.requires)
+    IsIndex-added c.args.end _ _ _ _ _ c.self.invariant (rw (← c.self.view_is) at c.requires)
     c.add.ensures.ends c.add.ensures.room
 
 pub returns-clause-ends : goal.returns-clause-ends

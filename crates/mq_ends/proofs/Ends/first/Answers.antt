@@ -1,5 +1,5 @@
 use Rattle.std.proofs.lemmas.Option.{IfSome_then}
-use Rattle.mq_ends.proofs.KeptLemmas.{Contains-first, All-first, none_left}
+use Rattle.mq_ends.proofs.IndexLemmas.{Contains-first, All-first, none_left}
 use Rattle.mq_ends.proofs.Ends.first.Goals as goal
 
 pub returns-clause-none : goal.returns-clause-none

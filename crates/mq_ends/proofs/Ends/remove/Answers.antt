@@ -3,9 +3,9 @@ use Rattle.mq_ends.specs.Counts.{IsFirst}
 use Rattle.mq_ends.specs.Pairs.{IsPart, without}
 use Rattle.mq_ends.proofs.PairLemmas.{IsPart-gone, IsPart-kept}
 use Rattle.mq_ends.proofs.SameLemmas.{SameEnds-shorter, SameEnds-then}
-use Rattle.mq_ends.proofs.KeptLemmas.{left_more, IsPart-none, before_unless_first, SameEnds-gone}
-use Rattle.mq_ends.proofs.KeptLemmas.{SameEnds-taken, SameEnds-rest, IsKept-settled, IsKept-gone}
-use Rattle.mq_ends.proofs.KeptLemmas.{IsKept-sorted}
+use Rattle.mq_ends.proofs.IndexLemmas.{left_more, IsPart-none, before_unless_first, SameEnds-gone}
+use Rattle.mq_ends.proofs.IndexLemmas.{SameEnds-taken, SameEnds-rest, IsIndex-settled, IsIndex-gone}
+use Rattle.mq_ends.proofs.IndexLemmas.{IsIndex-sorted}
 use Rattle.mq_ends.proofs.Ends.remove.Goals as goal
 
 pub settle-requires : goal.settle-requires
@@ -18,7 +18,7 @@ settle-requires c =
 pub invariant_of-self : goal.invariant_of-self
 invariant_of-self c =
     let is : IsFirst c.args.end c.self.inside.ends.ends = c.if-is_first.ensures.0 refl in
-    IsKept-settled c.args.end _ _ _ _ _ _ _ c.self.invariant (c.pop.ensures.ends c.args.end is)
+    IsIndex-settled c.args.end _ _ _ _ _ _ _ c.self.invariant (c.pop.ensures.ends c.args.end is)
     c.pop.ensures.room c.settle.ensures.rest c.settle.ensures.part c.settle.ensures.later
     c.settle.ensures.gone c.settle.ensures.room c.settle.ensures.gone_room
 
@@ -42,7 +42,7 @@ invariant_of-self-then-len-self c =
     in
     let before = before_unless_first c.args.end c.self.inside.ends.ends (omega (arith, more))
     (λ is. true≢false (sym (c.if-is_first.ensures.1 is))) in
-    IsKept-gone c.args.end _ _ _ _ _ c.self.invariant more before c.add.ensures.ends
+    IsIndex-gone c.args.end _ _ _ _ _ c.self.invariant more before c.add.ensures.ends
     c.add.ensures.room
     (omega (arith, c.len.ensures, c.if-len-self.true))
 
@@ -68,7 +68,7 @@ sort_out-requires-clause-room c =
 
 pub invariant_of-self-2 : goal.invariant_of-self-2
 invariant_of-self-2 c =
-    IsKept-sorted c.args.end _ _ _ _ _ _ _ _ c.self.invariant c.add.ensures.ends c.add.ensures.room
+    IsIndex-sorted c.args.end _ _ _ _ _ _ _ _ c.self.invariant c.add.ensures.ends c.add.ensures.room
     c.sort_out.ensures.rest c.sort_out.ensures.gone c.sort_out.ensures.spare c.sort_out.ensures.room
     c.sort_out.ensures.gone_room c.sort_out.ensures.spare_room
 

@@ -1,5 +1,5 @@
 use Rattle.std.proofs.Common.{◌∙◌, arith}
-use Rattle.mq_ends.proofs.KeptLemmas.{SameAfter-removed, SameAfter-all, SameAfter-nil}
+use Rattle.mq_ends.proofs.IndexLemmas.{SameAfter-removed, SameAfter-all, SameAfter-nil}
 use Rattle.mq_ends.proofs.SameLemmas.{SameEnds-shorter}
 use Rattle.mq_ends.proofs.Ends.remove_until.Goals as goal
 

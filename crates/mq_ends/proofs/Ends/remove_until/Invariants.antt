@@ -1,5 +1,5 @@
 use Rattle.std.proofs.Common.{◌≡◌, length}
-use Rattle.mq_ends.proofs.KeptLemmas.{SameAfter}
+use Rattle.mq_ends.proofs.IndexLemmas.{SameAfter}
 use Rattle.mq_ends.proofs.Ends.remove_until.Given as goal
 
 abbrev pub invariant-loop-first : goal.invariant-loop-first

@@ -1,6 +1,6 @@
 use Rattle.std.proofs.Common.{◌∙◌}
 use Rattle.mq_world.specs.Views.{copy_of}
-use Rattle.mq_lines.proofs.KeptLemmas.{copy_fits}
+use Rattle.mq_lines.proofs.ObjectLemmas.{copy_fits}
 use Rattle.mq_lines.proofs.copies.print_copy.Goals as goal
 
 pub returns-clause-fits : goal.returns-clause-fits

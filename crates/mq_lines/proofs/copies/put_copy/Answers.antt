@@ -1,7 +1,7 @@
 use Rattle.std.proofs.Common.{◌≡◌, ◌∙◌}
 use Rattle.serde_json.specs.View.{members_view}
 use Rattle.mq_world.specs.Views.{copy_of}
-use Rattle.mq_lines.proofs.KeptLemmas.{set_copy, copy_again}
+use Rattle.mq_lines.proofs.ObjectLemmas.{set_copy, copy_again}
 use Rattle.mq_lines.proofs.copies.put_copy.Goals as goal
 
 pub returns : goal.returns

@@ -1,6 +1,6 @@
 use Rattle.std.proofs.Common.{sym}
 use Rattle.mq_world.specs.Views.{copy_of}
-use Rattle.mq_lines.proofs.KeptLemmas.{copy_refilled, no_numbers, some_numbers}
+use Rattle.mq_lines.proofs.ObjectLemmas.{copy_refilled, no_numbers, some_numbers}
 use Rattle.mq_lines.proofs.copies.set_copy.Goals as goal
 
 pub returns-in-true-None-None : goal.returns-in-true-None-None

@@ -1,5 +1,5 @@
 use Rattle.std.proofs.Common.{◌∙◌}
-use Rattle.mq_lines.proofs.KeptLemmas.{reason_fits}
+use Rattle.mq_lines.proofs.ObjectLemmas.{reason_fits}
 use Rattle.mq_lines.proofs.printer.print_reason.Goals as goal
 
 pub returns-clause-kept : goal.returns-clause-kept

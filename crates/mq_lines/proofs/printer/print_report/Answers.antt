@@ -1,6 +1,6 @@
 use Rattle.std.proofs.Common.{◌∙◌}
 use Rattle.mq_lines.specs.Printed.{report_of}
-use Rattle.mq_lines.proofs.KeptLemmas.{report_fits}
+use Rattle.mq_lines.proofs.ObjectLemmas.{report_fits}
 use Rattle.mq_lines.proofs.printer.print_report.Goals as goal
 
 pub returns-clause-kept : goal.returns-clause-kept

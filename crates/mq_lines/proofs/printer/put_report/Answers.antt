@@ -1,7 +1,7 @@
 use Rattle.std.proofs.Common.{◌≡◌, ◌∙◌}
 use Rattle.serde_json.specs.View.{members_view}
 use Rattle.mq_lines.specs.Printed.{report_of}
-use Rattle.mq_lines.proofs.KeptLemmas.{set_report, report_again}
+use Rattle.mq_lines.proofs.ObjectLemmas.{set_report, report_again}
 use Rattle.mq_lines.proofs.printer.put_report.Goals as goal
 
 pub returns : goal.returns

@@ -1,6 +1,6 @@
 use Rattle.std.proofs.Common.{◌≡◌, ◌∙◌}
 use Rattle.serde_json.specs.View.{members_view}
-use Rattle.mq_lines.proofs.KeptLemmas.{set_reason, reason_again, reason_refilled}
+use Rattle.mq_lines.proofs.ObjectLemmas.{set_reason, reason_again, reason_refilled}
 use Rattle.mq_lines.proofs.printer.set_reason.Goals as goal
 
 pub returns-then-is_empty : goal.returns-then-is_empty

@@ -1,6 +1,6 @@
 use Rattle.std.proofs.Common.{sym, ◌∙◌}
 use Rattle.mq_lines.specs.Printed.{report_of}
-use Rattle.mq_lines.proofs.KeptLemmas.{report_count, report_refilled}
+use Rattle.mq_lines.proofs.ObjectLemmas.{report_count, report_refilled}
 use Rattle.mq_lines.proofs.printer.set_report.Goals as goal
 
 pub refill-requires : goal.refill-requires

@@ -52,7 +52,8 @@ impl<V> Node<V> {
         ensures ok { OnOk result (entries_of self.new
             ≡ insert_entry level_order (entries_of self.old) (levels_left key.entry) value) }
         ensures err { OnErr result (entries_of self.new ≡ entries_of self.old) }
-        ensures absent { OnErr result (lookup (is_key (levels_left key.entry)) (entries_of self.old) ≡ None) }
+        ensures absent { OnErr result
+            (lookup (is_key (levels_left key.entry)) (entries_of self.old) ≡ None) }
     {
         let Some(key) = key else {
             return Ok(self.value.replace(value));

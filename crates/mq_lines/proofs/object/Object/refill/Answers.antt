@@ -1,6 +1,6 @@
 use Rattle.std.proofs.Common.{map, drop, rules, sym, ◌∙◌}
 use Rattle.std.proofs.lemmas.List.{length-map}
-use Rattle.mq_lines.specs.Kept.{data_of}
+use Rattle.mq_lines.specs.Objects.{data_of}
 use Rattle.mq_lines.specs.contracts.object.fn.Object.refill.retain as closure
 use Rattle.mq_lines.proofs.RefillLemmas.{IsRefilled, refilled, refilled_none, data_none}
 use Rattle.mq_lines.proofs.RefillLemmas.{length_names}

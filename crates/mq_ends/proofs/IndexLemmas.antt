@@ -7,7 +7,7 @@ use Rattle.std.proofs.lemmas.List.Elements.{All-weaker, All-contains_itself, All
 use Rattle.std.proofs.lemmas.Bool.Decides.{nat_tests}
 use borrow.Author.Tests.{eqb-true, le-leb}
 use Rattle.mq_ends.specs.Counts.{count_of, count_before, IsFirst, SameEnds}
-use Rattle.mq_ends.specs.Kept.{IsKept}
+use Rattle.mq_ends.specs.Index.{IsIndex}
 use Rattle.mq_ends.specs.Moments.{Moments}
 use Rattle.mq_ends.specs.Pairs.{without, IsPart, IsLater, KeepsRest}
 use Rattle.mq_ends.proofs.CountLemmas.{one_if, count-cons, count_of-contained, Contains-counted}
@@ -156,10 +156,10 @@ KeepsRest-length gone ends gone' ends' rest =
 
 -- ## What the queues keep
 
-pub IsKept-added : (x : ℕ) (ends ends' gone spare : Moments) (room : ℕ)
-    → IsKept ends gone spare room → length (without gone.ends ends.ends) < room
-    → SameEnds ends'.ends (x ∷ ends.ends) → ends.room ≤ ends'.room → IsKept ends' gone spare room
-IsKept-added x ends ends' gone spare room kept less same more =
+pub IsIndex-added : (x : ℕ) (ends ends' gone spare : Moments) (room : ℕ)
+    → IsIndex ends gone spare room → length (without gone.ends ends.ends) < room
+    → SameEnds ends'.ends (x ∷ ends.ends) → ends.room ≤ ends'.room → IsIndex ends' gone spare room
+IsIndex-added x ends ends' gone spare room kept less same more =
     let long = SameEnds-shorter x ends'.ends ends.ends same in
     let left = without-length gone.ends ends.ends kept.part in
     record {
@@ -178,12 +178,12 @@ le_from_fits zero room h = omega arith
 le_from_fits (suc n) room h = let less = h (omega arith) in omega arith
 
 -- the first left, and what had the same moment before it in both
-pub IsKept-settled : (x : ℕ) (ends ends' ends'' gone gone'' spare : Moments) (room : ℕ)
-    → IsKept ends gone spare room → SameEnds ends.ends (x ∷ ends'.ends) → ends'.room ≡ ends.room
+pub IsIndex-settled : (x : ℕ) (ends ends' ends'' gone gone'' spare : Moments) (room : ℕ)
+    → IsIndex ends gone spare room → SameEnds ends.ends (x ∷ ends'.ends) → ends'.room ≡ ends.room
     → KeepsRest gone.ends ends'.ends gone''.ends ends''.ends → IsPart gone''.ends ends''.ends
     → IsLater gone''.ends ends''.ends → length gone''.ends ≤ length gone.ends
-    → ends''.room ≡ ends'.room → gone''.room ≡ gone.room → IsKept ends'' gone'' spare room
-IsKept-settled x ends ends' ends'' gone gone'' spare room kept same room' rest part later shorter
+    → ends''.room ≡ ends'.room → gone''.room ≡ gone.room → IsIndex ends'' gone'' spare room
+IsIndex-settled x ends ends' ends'' gone gone'' spare room kept same room' rest part later shorter
     room'' gone_room =
     let long = SameEnds-shorter x ends.ends ends'.ends same in
     let left = KeepsRest-length gone.ends ends'.ends gone''.ends ends''.ends rest in
@@ -199,11 +199,11 @@ IsKept-settled x ends ends' ends'' gone gone'' spare room kept same room' rest p
     }
 
 -- one more is gone
-pub IsKept-gone : (x : ℕ) (ends gone gone' spare : Moments) (room : ℕ) → IsKept ends gone spare room
+pub IsIndex-gone : (x : ℕ) (ends gone gone' spare : Moments) (room : ℕ) → IsIndex ends gone spare room
     → count_of x gone.ends < count_of x ends.ends → 0 < count_before x ends.ends
     → SameEnds gone'.ends (x ∷ gone.ends) → gone.room ≤ gone'.room → length gone'.ends < room
-    → IsKept ends gone' spare room
-IsKept-gone x ends gone gone' spare room kept more before same gone_room less =
+    → IsIndex ends gone' spare room
+IsIndex-gone x ends gone gone' spare room kept more before same gone_room less =
     let long = SameEnds-shorter x gone'.ends gone.ends same in
     record {
       part = IsPart-gone x gone.ends gone'.ends ends.ends kept.part more same;
@@ -221,12 +221,12 @@ IsPart-none gone ends none = λ m. let zero' : count_of m gone ≡ 0 = ap (count
     omega arith
 
 -- all that is gone was sorted out
-pub IsKept-sorted : (x : ℕ) (ends ends'' gone gone' gone'' spare spare'' : Moments) (room : ℕ)
-    → IsKept ends gone spare room → SameEnds gone'.ends (x ∷ gone.ends) → gone.room ≤ gone'.room
+pub IsIndex-sorted : (x : ℕ) (ends ends'' gone gone' gone'' spare spare'' : Moments) (room : ℕ)
+    → IsIndex ends gone spare room → SameEnds gone'.ends (x ∷ gone.ends) → gone.room ≤ gone'.room
     → KeepsRest gone'.ends ends.ends gone''.ends ends''.ends → gone''.ends ≡ [] → spare''.ends ≡ []
     → ends.room ≤ ends''.room → gone''.room ≡ gone'.room → spare.room ≤ spare''.room
-    → IsKept ends'' gone'' spare'' room
-IsKept-sorted x ends ends'' gone gone' gone'' spare spare'' room kept same room' rest none empty
+    → IsIndex ends'' gone'' spare'' room
+IsIndex-sorted x ends ends'' gone gone' gone'' spare spare'' room kept same room' rest none empty
     ends_room gone_room spare_room =
     let long = SameEnds-shorter x gone'.ends gone.ends same in
     let left = KeepsRest-length gone'.ends ends.ends gone''.ends ends''.ends rest in

@@ -4,7 +4,7 @@ use Rattle.mq_ends.specs.Moments.{Moments}
 use Rattle.mq_ends.specs.Pairs.{IsPart, IsLater}
 
 -- what is gone is among the ends, and none of it first; as many may be gone as may be left
-pub record IsKept (ends gone spare : Moments) (room : ℕ) : Type 0 where
+pub record IsIndex (ends gone spare : Moments) (room : ℕ) : Type 0 where
   pub part : IsPart gone.ends ends.ends
   pub later : IsLater gone.ends ends.ends
   pub fits : length ends.ends ≤ room + length gone.ends

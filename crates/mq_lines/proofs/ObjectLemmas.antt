@@ -10,8 +10,8 @@ use Rattle.mq_world.specs.World.{Copy, Group}
 use Rattle.mq_world.specs.declared.answer.Outcome.TheVariants.{Reason}
 use Rattle.mq_lines.specs.Printed.{put_if, whole_data, numbers_data, text_if, whole_if, numbers_if}
 use Rattle.mq_lines.specs.Printed.{Report, copy_members, closing_members, report_members}
-use Rattle.mq_lines.specs.Kept.{names_of, values_of, IsFor, parts_of, copy_names, reason_names}
-use Rattle.mq_lines.specs.Kept.{report_names}
+use Rattle.mq_lines.specs.Objects.{names_of, values_of, IsFor, parts_of, copy_names, reason_names}
+use Rattle.mq_lines.specs.Objects.{report_names}
 use Rattle.std.specs.Option.{option_map}
 
 -- ## Members as names and values
