@@ -15,7 +15,7 @@ use Rattle.mq_world.specs.Lists.{Text, same_text, text_cmp, in_order, with_row}
 use Rattle.mq_world.specs.World.{Retained, Message, retained_cmp}
 use Rattle.mq_retained.specs.Deadlines.{Pair, is_pair, has_pair, pair_cmp, SamePairs}
 use Rattle.mq_world.specs.Retained.{is_stored, stored, has_topic, retained_after}
-use Rattle.mq_retained.specs.Stored.{AreFiled, IsSound, kept_retained, retained_in}
+use Rattle.mq_retained.specs.Stored.{AreFiled, IsSound, retained_view, retained_in}
 use Rattle.mq_world.proofs.ListLemmas.{list_any-same}
 use Rattle.mq_world.proofs.OrderLemmas.{text_flip, same_text-is}
 use Rattle.mq_world.proofs.SortedLemmas.{ties, any-in_order, same_in_order}
@@ -60,7 +60,7 @@ has-in_order d topic pairs = sym (any_pair (d, topic) (in_order pair_cmp pairs))
     ∙ any-in_order pair_cmp pair_total pair_tied (d, topic) pairs ∙ any_pair (d, topic) pairs
 
 pub sound-filed : (tree : Entries Stored) (pairs : List Pair) → IsSound tree pairs
-    → AreFiled (kept_retained tree pairs)
+    → AreFiled (retained_view tree pairs)
 sound-filed tree pairs sound = record {
   keys = keys-retained tree sound.placed;
   pairs = λ d topic. has-in_order d topic pairs ∙ sound.indexed d topic;
@@ -68,7 +68,7 @@ sound-filed tree pairs sound = record {
 
 -- the same tree and the same pairs are seen as the same
 pub same-kept : (old new : Entries Stored) (pairs others : List Pair) → new ≡ old
-    → SamePairs others pairs → kept_retained new others ≡ kept_retained old pairs
+    → SamePairs others pairs → retained_view new others ≡ retained_view old pairs
 same-kept old new pairs others tree same =
     let index : in_order pair_cmp others ≡ in_order pair_cmp pairs = pairs-same others pairs same in
     λ i. record { messages = retained_in (tree i); keys = keys_of (tree i); pairs = index i }

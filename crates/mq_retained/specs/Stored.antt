@@ -48,20 +48,20 @@ AreNear moment retained =
     AllByRecursion (λ kept. IfSome kept.deadline (λ deadline. deadline < moment + 2 ^ 32)) retained
 
 -- what the retained messages show: themselves, the keys of their tree, and the pairs of the index in order
-pub record KeptRetained : Type 0 where
+pub record RetainedView : Type 0 where
   pub messages : List Retained
   pub keys : List (List Text)
   pub pairs : List Pair
 
-abbrev pub kept_retained : Entries Stored → List Pair → KeptRetained
-kept_retained tree pairs = record {
+abbrev pub retained_view : Entries Stored → List Pair → RetainedView
+retained_view tree pairs = record {
   messages = retained_in tree;
   keys = map (λ entry. entry.0) tree;
   pairs = in_order pair_cmp pairs;
 }
 
 -- the keys and the pairs are those of the messages
-pub record AreFiled (kept : KeptRetained) : Type 0 where
+pub record AreFiled (kept : RetainedView) : Type 0 where
   pub keys : kept.keys ≡ topics_of kept.messages
   pub pairs : Indexes kept.pairs kept.messages
 

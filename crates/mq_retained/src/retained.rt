@@ -17,7 +17,7 @@ mod stored;
 pub use copies::Receiver;
 use copies::copies_of;
 use deadlines::Deadlines;
-use edits::{expire, forget, has_message, is_stored, store};
+use edits::{forget, has_message, is_stored, store};
 use messages::Messages;
 use mq_tree::Steps;
 use mq_world::{Delivery, Message};
@@ -34,13 +34,13 @@ pub struct Retained {
 }
 
 impl Model for Retained {
-    ghost use Rattle.mq_retained.specs.Stored.{KeptRetained};
+    ghost use Rattle.mq_retained.specs.Stored.{RetainedView};
 
-    ghost Value = { KeptRetained };
+    ghost Value = { RetainedView };
 
-    ghost use Rattle.mq_retained.specs.Stored.{kept_retained, IsSound};
+    ghost use Rattle.mq_retained.specs.Stored.{retained_view, IsSound};
 
-    ghost view = { λ a. kept_retained a.tree a.deadlines };
+    ghost view = { λ a. retained_view a.tree a.deadlines };
 
     ghost invariant = { λ a. IsSound a.tree a.deadlines };
 }
@@ -65,7 +65,8 @@ impl Retained {
     pub fn publish(&mut self, message: &Message) -> Result<(), AllocError>
         ensures ok { OnOk result ((moment : ℕ) → message.now.deadline
             ≡ deadline_of moment message.now.expiry
-            → self.new.messages ≡ retained_after moment self.old.messages (message_of message.now)) }
+            → self.new.messages ≡ retained_after moment self.old.messages
+            (message_of message.now)) }
         ensures filed { OnOk result (AreFiled self.old → AreFiled self.new) }
         ensures near { OnOk result ((moment : ℕ)
             → IfSome message.now.deadline (λ d. d < moment + 2 ^ 32)
@@ -83,13 +84,15 @@ impl Retained {
         Ok(())
     }
 
-    /// Removes each message whose deadline is at the moment or before it. It takes no memory.
+    /// Removes each message whose deadline is at the moment or before it, each at one step. It takes no memory.
     pub fn advance(&mut self, moment: u64, steps: &mut Steps)
         ensures rest { self.new.messages ≡ unexpired moment self.old.messages }
         ensures filed { AreFiled self.new }
         ensures count { steps.new ≡ steps.old + length (filter (is_due moment) self.old.messages) }
     {
-        expire(&mut self.tree, &mut self.deadlines, moment, steps);
+        while let Some(topic) = self.deadlines.take_due(moment, steps) {
+            let _ = self.tree.take(&topic);
+        }
     }
 
     /// Whether the message would be stored for another topic, where as many are stored as may be. It takes no memory.
@@ -112,7 +115,8 @@ impl Retained {
         steps: &mut Steps,
     ) -> Result<Vec<Delivery>, AllocError>
         requires { AreNear receiver.now.clock.moment self.now.messages }
-        ensures copies { IfOk result (λ copies. copies_in copies ≡ copies_for receiver.now self.now.messages) }
+        ensures copies { IfOk result
+            (λ copies. copies_in copies ≡ copies_for receiver.now self.now.messages) }
         ensures count { OnOk result (steps.new ≡ steps.old + steps_among receiver.now.filter.now
             self.now.messages) }
     {

@@ -37,7 +37,7 @@ use Rattle.mq_router.specs.delivery.Summaries.{Summary, summary_of, summary_for,
 use Rattle.mq_router.specs.delivery.Summaries.{copy_from}
 use Rattle.mq_router.specs.delivery.Copies.{gives, gives_options, copy_for, copies_by, begin_for}
 use Rattle.mq_router.specs.delivery.Copies.{begins_by, by_client}
-use Rattle.mq_subscriptions.specs.Matches.{is_own_match, own_matches, matched, clients_of}
+use Rattle.mq_subscriptions.specs.Matches.{is_unshared_match, unshared_matches, matched, clients_of}
 use Rattle.mq_subscriptions.specs.Matches.{options_among, AreAscending, AreByClient}
 use Rattle.mq_world.proofs.BoolLemmas.{pick, and_false, and_true}
 use Rattle.mq_world.proofs.OrderLemmas.{text_flip, same_text-is, same_text-itself}
@@ -173,10 +173,10 @@ module _ (c : Text) where
 -- ## What takes part
 
 pub options-own : (m : Message) (id : Text) (rows : List Subscription)
-    → options_among id (own_matches m rows) ≡ gives_options m id rows
+    → options_among id (unshared_matches m rows) ≡ gives_options m id rows
 options-own m id [] = refl
 options-own m id (s ∷ rows) =
-    let kept : List Subscription = filter (is_own_match m) rows in
+    let kept : List Subscription = filter (is_unshared_match m) rows in
     let P : Bool → Bool → Type 0 = λ a b. options_among id
     (map (λ (s : Subscription). (s.client, s.options)) (cond a (s ∷ kept) kept))
     ≡ map (λ (s : Subscription). s.options)
@@ -184,24 +184,24 @@ options-own m id (s ∷ rows) =
     let rest : P false false = options-own m id rows in
     pick (same_text s.client id)
     (λ t. (let one : s.client ≡ id = same_text-is s.client id t in
-    subst (λ b. P (is_own_match m s) b) (sym (mine t one))
-    (elim (is_own_match m s) as (λ a. P a a) [
+    subst (λ b. P (is_unshared_match m s) b) (sym (mine t one))
+    (elim (is_unshared_match m s) as (λ a. P a a) [
       | true ↦ ap (λ b. map (λ (x : Text × SubscriptionOptions). x.1)
-          (cond b ((s.client, s.options) ∷ filter (λ x. same_text x.0 id) (own_matches m rows))
-          (filter (λ x. same_text x.0 id) (own_matches m rows)))) t
+          (cond b ((s.client, s.options) ∷ filter (λ x. same_text x.0 id) (unshared_matches m rows))
+          (filter (λ x. same_text x.0 id) (unshared_matches m rows)))) t
           ∙ ap (λ l. s.options ∷ l) rest
       | false ↦ rest
     ])))
-    (λ f. subst (λ b. P (is_own_match m s) b) (sym (other f))
-    (elim (is_own_match m s) as (λ a. P a false) [
+    (λ f. subst (λ b. P (is_unshared_match m s) b) (sym (other f))
+    (elim (is_unshared_match m s) as (λ a. P a false) [
       | true ↦ ap (λ b. map (λ (x : Text × SubscriptionOptions). x.1)
-          (cond b ((s.client, s.options) ∷ filter (λ x. same_text x.0 id) (own_matches m rows))
-          (filter (λ x. same_text x.0 id) (own_matches m rows)))) f
+          (cond b ((s.client, s.options) ∷ filter (λ x. same_text x.0 id) (unshared_matches m rows))
+          (filter (λ x. same_text x.0 id) (unshared_matches m rows)))) f
           ∙ rest
       | false ↦ rest
     ]))
   where
-    mine : same_text s.client id ≡ true → s.client ≡ id → gives m id s ≡ is_own_match m s
+    mine : same_text s.client id ≡ true → s.client ≡ id → gives m id s ≡ is_unshared_match m s
     mine t one =
         ap (λ b. is_none s.share && b && not (s.options.no_local && same_text id m.publisher)) t
         ∙ ap (λ b. b && not (s.options.no_local && same_text id m.publisher))
@@ -327,25 +327,25 @@ module _ (limit : ℕ) (access : Option (List AclRow)) (sessions : List Session)
       ∙ ap (λ p. copies ++ cons_option p (copies_by access sessions m L)) (sym is ∙ sym copy-by_way)
       ∙ ap (λ k. copies ++ copies_by access sessions m k) (sym e)
 
-  pub begins-first : (begun : List Begin) (L all : List (Text × Summary)) → all ≡ l ∷ L
+  pub begins-first : (queued : List Begin) (L all : List (Text × Summary)) → all ≡ l ∷ L
       → (o : Option Begin)
       → (if waits w then option_map (begin_with l.0 deadline) (with_qos (copy_from l.0 None m l.1))
-      else None) ≡ o → (begun ++ option_to_list o) ++ begins_by limit access sessions m deadline L
-      ≡ begun ++ begins_by limit access sessions m deadline all
-  begins-first begun L all e o is =
-      onto begun o (begins_by limit access sessions m deadline L)
-      ∙ ap (λ p. begun ++ cons_option p (begins_by limit access sessions m deadline L))
+      else None) ≡ o → (queued ++ option_to_list o) ++ begins_by limit access sessions m deadline L
+      ≡ queued ++ begins_by limit access sessions m deadline all
+  begins-first queued L all e o is =
+      onto queued o (begins_by limit access sessions m deadline L)
+      ∙ ap (λ p. queued ++ cons_option p (begins_by limit access sessions m deadline L))
       (sym is ∙ sym begin-by_way)
-      ∙ ap (λ k. begun ++ begins_by limit access sessions m deadline k) (sym e)
+      ∙ ap (λ k. queued ++ begins_by limit access sessions m deadline k) (sym e)
 
-  module _ (copies : List Copy) (begun : List Begin) (L all : List (Text × Summary))
+  module _ (copies : List Copy) (queued : List Begin) (L all : List (Text × Summary))
       (e : all ≡ l ∷ L) where
     abbrev copies_stay : Type 0
     copies_stay = copies ++ copies_by access sessions m L ≡ copies
         ++ copies_by access sessions m all
 
-    abbrev begun_stay : Type 0
-    begun_stay = begun ++ begins_by limit access sessions m deadline L ≡ begun
+    abbrev queued_stay : Type 0
+    queued_stay = queued ++ begins_by limit access sessions m deadline L ≡ queued
         ++ begins_by limit access sessions m deadline all
 
     no_copy : is_sent w ≡ false → copies_stay
@@ -354,16 +354,16 @@ module _ (limit : ℕ) (access : Option (List AclRow)) (sessions : List Session)
         ∙ copies-first copies L all e None
         (ap (λ b. if b then Some (copy_from l.0 None m l.1) else None) h)
 
-    none_begins : waits w ≡ false → begun_stay
+    none_begins : waits w ≡ false → queued_stay
     none_begins h =
-        ap (λ k. k ++ begins_by limit access sessions m deadline L) (sym (append-nil begun))
-        ∙ begins-first begun L all e None
+        ap (λ k. k ++ begins_by limit access sessions m deadline L) (sym (append-nil queued))
+        ∙ begins-first queued L all e None
         (ap (λ b. if b then option_map (begin_with l.0 deadline)
         (with_qos (copy_from l.0 None m l.1)) else None) h)
 
     pub sent-first : w ≡ Sent → (copy : Copy) → copy ≡ copy_from l.0 None m l.1
         → ((copies ++ copy ∷ []) ++ copies_by access sessions m L ≡ copies
-        ++ copies_by access sessions m all) × begun_stay
+        ++ copies_by access sessions m all) × queued_stay
     sent-first h copy is = (
       copies-first copies L all e (Some copy)
           (ap (λ v. if is_sent v then Some (copy_from l.0 None m l.1) else None) h
@@ -373,14 +373,14 @@ module _ (limit : ℕ) (access : Option (List AclRow)) (sessions : List Session)
 
     pub waits-first : w ≡ Waits → (o : Option Begin)
         → o ≡ option_map (begin_with l.0 deadline) (with_qos (copy_from l.0 None m l.1))
-        → copies_stay × ((begun ++ option_to_list o) ++ begins_by limit access sessions m deadline L
-        ≡ begun ++ begins_by limit access sessions m deadline all)
+        → copies_stay × ((queued ++ option_to_list o) ++ begins_by limit access sessions m deadline L
+        ≡ queued ++ begins_by limit access sessions m deadline all)
     waits-first h o is = (
       no_copy (ap is_sent h),
-      begins-first begun L all e o
+      begins-first queued L all e o
           (ap (λ v. if waits v then option_map (begin_with l.0 deadline)
           (with_qos (copy_from l.0 None m l.1)) else None) h ∙ sym is),
     )
 
-    pub nowhere-first : w ≡ Nowhere → copies_stay × begun_stay
+    pub nowhere-first : w ≡ Nowhere → copies_stay × queued_stay
     nowhere-first h = (no_copy (ap is_sent h), none_begins (ap waits h))

@@ -2,9 +2,9 @@ pub mod SummaryLemmas
 pub mod ClientLemmas
 pub mod GroupLemmas
 pub mod ServedMembers
-pub mod OwnCopies
+pub mod UnsharedCopies
 pub mod NothingLemmas
-pub mod BegunLemmas
+pub mod QueuedLemmas
 pub mod ServeTurn
 pub mod SameCopies
 pub mod NextLemmas

@@ -12,11 +12,11 @@ use Rattle.mq_world.specs.World as world
 use Rattle.mq_world.specs.Copies.{filter_matches, options_for, copy_by, direct_copy, direct_copies}
 use Rattle.mq_world.specs.Waiting.{has_room, with_qos}
 use Rattle.mq_sessions.specs.Queue.{begin_with}
-use Rattle.mq_router.specs.delivery.Copies.{begins, begun_by}
+use Rattle.mq_router.specs.delivery.Copies.{begins, queued_by}
 use Rattle.mq_router.specs.delivery.Copies.{gives_options}
 use Rattle.mq_subscriptions.specs.Turns.{next_members, groups_among}
 use Rattle.mq_world.proofs.SameLemmas.{some_pass}
-use Rattle.mq_router.proofs.OwnCopies.{options-matching}
+use Rattle.mq_router.proofs.UnsharedCopies.{options-matching}
 use Rattle.mq_router.proofs.GroupLemmas.{members-matching}
 
 none-made : {X Y : Type 0} (f : X → Option Y) → ((x : X) → f x ≡ None) → (xs : List X)
@@ -45,9 +45,9 @@ module _ (access : Option (List AclRow)) (sessions : List Session)
   no-copies = none-made (λ (s : Session). direct_copy access subscriptions m s.id s.user)
       (λ s. no-copy s.id s.user) sessions
 
-  pub no-begun : (limit : ℕ) (deadline : Option ℕ)
-      → begun_by limit access sessions subscriptions m deadline ≡ []
-  no-begun limit deadline =
+  pub no-queued : (limit : ℕ) (deadline : Option ℕ)
+      → queued_by limit access sessions subscriptions m deadline ≡ []
+  no-queued limit deadline =
       none-made (begins limit access subscriptions m deadline)
       (λ s. ap (λ (o : Option Copy). option_map (begin_with s.id deadline)
       (if has_room limit s then option_and_then with_qos o else None)) (no-copy s.id s.user)

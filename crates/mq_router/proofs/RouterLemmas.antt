@@ -26,11 +26,11 @@ use Rattle.mq_world.specs.Turns.{SameInTurn}
 use Rattle.mq_world.specs.Answers.{reason, published}
 use Rattle.mq_world.specs.After.{access_of}
 use Rattle.mq_router.specs.StandsFor.{State, Refuses}
-use Rattle.mq_router.specs.router.Effects.{Applied, Does, world_of, copies_held, members_held}
-use Rattle.mq_router.specs.router.Effects.{copies_sent, counts_held, without, lasts}
+use Rattle.mq_router.specs.router.Effects.{Applied, Does, world_of, copies_now, members_now}
+use Rattle.mq_router.specs.router.Effects.{copies_sent, counts_now, without, lasts}
 use Rattle.mq_subscriptions.specs.Turns.{joined, all_turned}
-use Rattle.mq_subscriptions.specs.Filters.{KeptSubscriptions, AreKeys}
-use Rattle.mq_retained.specs.Stored.{KeptRetained, AreFiled}
+use Rattle.mq_subscriptions.specs.Filters.{SubscriptionsView, AreKeys}
+use Rattle.mq_retained.specs.Stored.{RetainedView, AreFiled}
 use Rattle.mq_subscriptions.proofs.InTurn.{same-is, same-itself}
 use Rattle.mq_world.specs.declared.answer.Answer.{Answer}
 use Rattle.mq_world.specs.declared.answer.Outcome.TheVariants.{Reason}
@@ -110,7 +110,7 @@ abbrev pub connect_rows : State → Text → Bool → List Subscription
 connect_rows s id resumed = if resumed then s.subscriptions else without id s.subscriptions
 
 pub connect-does : (s : State) (id : Text) (user : Option Text) (clean : Bool) (interval : ℕ)
-    (sessions : List Session) (subs : KeptSubscriptions) (copies : List Copy)
+    (sessions : List Session) (subs : SubscriptionsView) (copies : List Copy)
     → is_client_id id ≡ true → is_user_name user ≡ true
     → copies ≡ resumed_copies s.moment s.sessions id clean
     → sessions ≡ with_row session_cmp (new_session id user interval) s.sessions
@@ -169,7 +169,7 @@ disconnect-leaves s id sessions reply h stays r ss = record {
   };
 }
 
-pub disconnect-does : (s : State) (id : Text) (sessions : List Session) (subs : KeptSubscriptions)
+pub disconnect-does : (s : State) (id : Text) (sessions : List Session) (subs : SubscriptionsView)
     (reply : Reply) → None ≡ first_refusal (client_conditions s.sessions id)
     → outlives s.sessions id ≡ false → reply ≡ reason 0
     → sessions ≡ filter (λ session. not (has_id id session)) s.sessions
@@ -235,7 +235,7 @@ subscribe-shared s id text options h f e =
     (sym (ap (λ b. b && options.no_local) (shared-is text)) ∙ e))
 
 pub subscribe-does : (s : State) (id text : Text) (options : SubscriptionOptions)
-    (subs : KeptSubscriptions) (reply : Reply)
+    (subs : SubscriptionsView) (reply : Reply)
     → None ≡ first_refusal (client_conditions s.sessions id) → is_subscription text ≡ true
     → (is_some (share_of text) && options.no_local) ≡ false
     → reply ≡ record {
@@ -301,7 +301,7 @@ unfolding refusal
 unsubscribe-filter s id text r h why =
     refused-behind (client_conditions s.sessions id) [] r TopicFilter (is_subscription text) h why
 
-pub unsubscribe-does : (s : State) (id text : Text) (subs : KeptSubscriptions) (reply : Reply)
+pub unsubscribe-does : (s : State) (id text : Text) (subs : SubscriptionsView) (reply : Reply)
     → None ≡ first_refusal (client_conditions s.sessions id) → is_subscription text ≡ true
     → reply ≡ reason (if list_any (has_key id (share_of text) (filter_part text)) s.subscriptions
     then 0 else 17) → subs.rows ≡ filter
@@ -391,12 +391,12 @@ publish-accepted s m h n e room =
     NotAuthorized (full_condition s m) e
     ∙ ap (λ b. first_refusal ((b, RetainedFull) ∷ [])) room
 
-pub publish-does : (s : State) (m : Message) (sessions : List Session) (subs : KeptSubscriptions)
-    (kept : KeptRetained) (reply : Reply) → refusal (world_of s) (Publish m) ≡ None
-    → reply ≡ published (copies_held s m)
+pub publish-does : (s : State) (m : Message) (sessions : List Session) (subs : SubscriptionsView)
+    (kept : RetainedView) (reply : Reply) → refusal (world_of s) (Publish m) ≡ None
+    → reply ≡ published (copies_now s m)
     (begins_to_wait s.limits.queued s.access s.sessions s.subscriptions m)
     → sessions ≡ map (waiting_after s.limits.queued s.access s.subscriptions s.moment m) s.sessions
-    → SameInTurn subs.rows (all_turned (members_held s m) s.subscriptions)
+    → SameInTurn subs.rows (all_turned (members_now s m) s.subscriptions)
     → (s.filter_keys ≡ filters_among s.subscriptions → AreKeys subs)
     → kept.messages ≡ retained_after s.moment s.retained m
     → (s.topic_keys ≡ topics_of s.retained → Indexes s.deadlines s.retained → AreFiled kept)
@@ -477,7 +477,7 @@ advance-refused s seconds h =
     (is_above last_moment (s.moment + seconds) h))
 
 pub advance-does : (s : State) (seconds moment : ℕ) (sessions : List Session)
-    (subs : KeptSubscriptions) (kept : KeptRetained) (reply : Reply) → moment ≤ last_moment
+    (subs : SubscriptionsView) (kept : RetainedView) (reply : Reply) → moment ≤ last_moment
     → moment ≡ s.moment + seconds → sessions
     ≡ filter (λ session. not (has_ended moment session)) s.sessions
     → subs.rows ≡ filter (lasts moment s.sessions) s.subscriptions
@@ -519,7 +519,7 @@ advance-does s seconds moment sessions subs kept reply within m ss xs keys rs fi
 -- ## Counts
 
 pub stat-does : (s : State) (reply : Reply)
-    → reply ≡ record { copies = []; outcome = counts_held s } → Does s Stat reply s
+    → reply ≡ record { copies = []; outcome = counts_now s } → Does s Stat reply s
 unfolding refusal
 stat-does s reply r = record {
   accepted = refl;

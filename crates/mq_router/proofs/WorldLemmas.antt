@@ -35,7 +35,7 @@ use Rattle.mq_world.specs.Turns.{by_turn, in_turn, SameInTurn}
 use Rattle.mq_router.specs.StandsFor.{State, Holds, StandsFor, Answers, AnswersFor, CountsFor}
 use Rattle.mq_router.specs.StandsFor.{Refuses}
 use Rattle.mq_router.specs.router.Effects.{Applied, CountsSteps, Does, IsFiled, world_of, reply_to}
-use Rattle.mq_router.specs.router.Effects.{counts_held, steps_to, moved, member_copy, without}
+use Rattle.mq_router.specs.router.Effects.{counts_now, steps_to, moved, member_copy, without}
 use Rattle.mq_router.specs.router.Effects.{lasts}
 use Rattle.mq_subscriptions.specs.Turns.{next_in, next_members, all_turned}
 use Rattle.mq_world.specs.Views.{reply_of}
@@ -210,7 +210,7 @@ module _ (s : State) (w : World) (h : HasRows s w) where
       ∙ begins_to_wait-same w.limits.queued w.access w.sessions s.subscriptions (subscriptions_of w)
       m all_told
 
-  pub answer-held : counts_held s ≡ counts w → (request : Request)
+  pub answer-held : counts_now s ≡ counts w → (request : Request)
       → reply_to s request ≡ answer w request
   unfolding answer
   answer-held told (Connect id user clean interval) =
@@ -425,7 +425,7 @@ holds-filed s w h = record {
 
 -- ## Counts
 
-counts-held : (s : State) (w : World) → Holds s w → counts_held s ≡ counts w
+counts-held : (s : State) (w : World) → Holds s w → counts_now s ≡ counts w
 unfolding counts
 counts-held s w h =
     let many : length s.subscriptions ≡ length w.rows =

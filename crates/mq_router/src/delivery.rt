@@ -6,7 +6,7 @@ ghost use Rattle.mq_world.specs.Lists.{Text};
 ghost use Rattle.mq_world.specs.Views.{message_of};
 ghost use Rattle.mq_subscriptions.specs.Turns.{turn_of};
 ghost use Rattle.mq_sessions.specs.Views.{begin_of};
-ghost use Rattle.mq_router.specs.delivery.Copies.{begun_by};
+ghost use Rattle.mq_router.specs.delivery.Copies.{queued_by};
 
 pub(crate) mod outgoing;
 pub(crate) mod summary;
@@ -25,7 +25,7 @@ use std::alloc::{AllocError, Global};
 #[derive(Debug, Drop)]
 pub(crate) struct Deliveries {
     pub(crate) copies: Vec<Delivery>,
-    pub(crate) begun: Vec<QueuedCopy>,
+    pub(crate) queued: Vec<QueuedCopy>,
     pub(crate) served: Vec<Turn>,
 }
 
@@ -33,12 +33,12 @@ impl Deliveries {
     // What is made of a message that nobody gets.
     fn nothing(alloc: Global) -> Deliveries
         ensures copies { copies_in result.copies ≡ [] }
-        ensures begun { result.begun.items ≡ [] }
+        ensures queued { result.queued.items ≡ [] }
         ensures served { turns_in result.served ≡ [] }
     {
         Deliveries {
             copies: Vec::new(alloc),
-            begun: Vec::new(alloc),
+            queued: Vec::new(alloc),
             served: Vec::new(alloc),
         }
     }
@@ -54,10 +54,10 @@ pub(crate) fn make_copies(
     steps: &mut Steps,
 ) -> Result<Deliveries, AllocError>
     ensures copies { IfOk result (λ m. copies_in m.copies
-        ≡ copies_made readers.now.access.now readers.now.sessions.now subscriptions.now.rows
+        ≡ message_copies readers.now.access.now readers.now.sessions.now subscriptions.now.rows
         (message_of message.now)) }
-    ensures begun { IfOk result (λ m. map begin_of m.begun.items
-        ≡ begun_by limit readers.now.access.now readers.now.sessions.now subscriptions.now.rows
+    ensures queued { IfOk result (λ m. map begin_of m.queued.items
+        ≡ queued_by limit readers.now.access.now readers.now.sessions.now subscriptions.now.rows
         (message_of message.now)
         message.now.deadline) }
     ensures served { IfOk result (λ m. turns_in m.served
@@ -84,9 +84,9 @@ ghost use Rattle.mq_subscriptions.specs.Matches.{seen, matched, options_among, A
 ghost use Rattle.mq_world.specs.Views.{copies_in};
 ghost use Rattle.mq_subscriptions.specs.Turns.{turns_in};
 ghost use Rattle.mq_router.specs.delivery.Copies.{by_client};
-ghost use Rattle.mq_router.specs.router.Effects.{copies_made, member_copy};
+ghost use Rattle.mq_router.specs.router.Effects.{message_copies, member_copy};
 ghost use Rattle.mq_subscriptions.specs.Turns.{next_members};
-ghost use Rattle.mq_subscriptions.specs.Matches.{rows_found, own_matches};
+ghost use Rattle.mq_subscriptions.specs.Matches.{rows_found, unshared_matches};
 ghost use Rattle.mq_router.specs.delivery.Copies.{copies_by, begins_by};
 
 // How many subscriptions of clients in their own name there are at most. It is a measure of room alone.
@@ -106,7 +106,7 @@ fn matches_by_client<'a>(
 ) -> Result<Vec<Match<'a>>, AllocError>
     ensures sorted { IfOk result (λ ms. AreByClient (matched ms.items)) }
     ensures options { IfOk result (λ ms. (id : Text) → options_among id (matched ms.items)
-        ≡ options_among id (own_matches (message_of message.now) (rows_found (seen found.now)))) }
+        ≡ options_among id (unshared_matches (message_of message.now) (rows_found (seen found.now)))) }
 {
     let mut matches = Vec::with_capacity(alloc, own_count(found))?;
     for at in found {
@@ -150,7 +150,7 @@ fn made_for(
         ≡ copies_by readers.now.access.now readers.now.sessions.now (message_of message.now)
         (by_client (matched matches.now))
         ++ map (member_copy (message_of message.now)) (turns_in served)) }
-    ensures begun { IfOk result (λ m. map begin_of m.begun.items
+    ensures queued { IfOk result (λ m. map begin_of m.queued.items
         ≡ begins_by limit readers.now.access.now readers.now.sessions.now (message_of message.now)
         message.now.deadline
         (by_client (matched matches.now))) }
@@ -163,11 +163,11 @@ fn made_for(
         });
     }
     let outgoing = Outgoing::new(alloc, message)?;
-    let Direct { mut copies, begun } = direct_copies(alloc, readers, matches, &outgoing, limit)?;
+    let Direct { mut copies, queued } = direct_copies(alloc, readers, matches, &outgoing, limit)?;
     add_group_copies(alloc, served.as_slice(), &outgoing, &mut copies)?;
     Ok(Deliveries {
         copies,
-        begun,
+        queued,
         served,
     })
 }

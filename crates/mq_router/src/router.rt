@@ -10,8 +10,8 @@ ghost use Rattle.mq_world.specs.World.{fresh_world, empty_world, within};
 ghost use Rattle.mq_router.specs.StandsFor.{StandsFor, AnswersFor, CountsFor};
 ghost use Rattle.mq_router.specs.router.Effects.{Applied, CountsSteps, Does, world_of, refused_by};
 ghost use Rattle.mq_router.specs.router.Effects.{copies_sent, steps_sent, steps_to};
-ghost use Rattle.mq_router.specs.router.Effects.{counts_held, copies_held, begun_held};
-ghost use Rattle.mq_router.specs.router.Effects.{members_held};
+ghost use Rattle.mq_router.specs.router.Effects.{counts_now, copies_now, queued_now};
+ghost use Rattle.mq_router.specs.router.Effects.{members_now};
 ghost use Rattle.mq_world.specs.Views.{limits_of, request_of, reply_of};
 ghost use Rattle.mq_world.specs.Views.{options_of};
 ghost use Rattle.mq_subscriptions.specs.Wanted.{wanted_row};
@@ -25,9 +25,7 @@ mod ended;
 
 use crate::delivery::{Deliveries, make_copies};
 use crate::replies::{published, reason_to_leave, with_reason};
-use crate::texts::{
-    copied, is_client_id, is_shared_no_local, is_user_name, parse_filter, parse_name, read_access,
-};
+use crate::texts::{copied, is_shared_no_local, parse_filter, parse_name, read_access};
 use ended::remove_ended;
 use mq_acl::Acl;
 use mq_retained::{Receiver, Retained};
@@ -36,6 +34,7 @@ use mq_subscriptions::Subscriptions;
 use mq_topic::SubFilter;
 use mq_tree::Steps;
 use mq_world::{Answer, Command, Delivery, Limits, Message, Outcome, Refusal, SubscriptionOptions};
+use mq_world::{is_client_id, is_user_name};
 use std::alloc::{AllocError, Global};
 use std::marker::Model;
 use std::rc::RcStr;
@@ -184,7 +183,8 @@ impl Router {
         clean: bool,
         session_expiry: u32,
     ) -> Result<Answer, Refusal>
-        ensures applied { Applied self.old (world.Connect client.now (option_copied user.entry) clean
+        ensures applied { Applied self.old
+            (world.Connect client.now (option_copied user.entry) clean
             session_expiry) result self.new }
         ensures err { OnErr result (self.new ≡ self.old) }
     {
@@ -232,7 +232,8 @@ impl Router {
         options: SubscriptionOptions,
         steps: &mut Steps,
     ) -> Result<Answer, Refusal>
-        ensures applied { Applied self.old (world.Subscribe client.now text.now (options_of options)) result
+        ensures applied { Applied self.old
+            (world.Subscribe client.now text.now (options_of options)) result
             self.new }
         ensures counted { CountsSteps self.old
             (world.Subscribe client.now text.now (options_of options)) result steps.old steps.new }
@@ -353,17 +354,19 @@ impl Router {
         let made = self.make_copies(message, steps)?;
         self.retained.publish(message)?;
         self.subscriptions.serve_all(made.served.as_slice());
-        let waits = !made.begun.is_empty();
-        self.sessions.join_all(self.limits.queued, made.begun);
+        let waits = !made.queued.is_empty();
+        self.sessions.join_all(self.limits.queued, made.queued);
         Ok(published(made.copies, waits))
     }
 
     // The copies that a publish sends, and those that begin to wait.
     fn make_copies(&self, message: &Message, steps: &mut Steps) -> Result<Deliveries, AllocError>
-        ensures copies { IfOk result (λ m. copies_in m.copies ≡ copies_held self.now (message_of message.now)) }
-        ensures begun { IfOk result (λ m. map begin_of m.begun.items
-            ≡ begun_held self.now (message_of message.now) message.now.deadline) }
-        ensures served { IfOk result (λ m. turns_in m.served ≡ members_held self.now (message_of message.now)) }
+        ensures copies { IfOk result
+            (λ m. copies_in m.copies ≡ copies_now self.now (message_of message.now)) }
+        ensures queued { IfOk result (λ m. map begin_of m.queued.items
+            ≡ queued_now self.now (message_of message.now) message.now.deadline) }
+        ensures served { IfOk result
+            (λ m. turns_in m.served ≡ members_now self.now (message_of message.now)) }
         ensures count { OnOk result (steps.new ≡ steps.old + steps_to self.now
             (world.Publish (message_of message.now))) }
     {
@@ -383,7 +386,8 @@ impl Router {
     }
 
     fn set_acl(&mut self, text: Option<&str>) -> Result<Answer, Refusal>
-        ensures applied { Applied self.old (world.SetAcl (option_copied text.entry)) result self.new }
+        ensures applied { Applied self.old (world.SetAcl (option_copied text.entry)) result
+            self.new }
         ensures err { OnErr result (self.new ≡ self.old) }
     {
         let access = read_access(self.alloc, text)?;
@@ -408,7 +412,7 @@ impl Router {
     }
 
     fn stat(&self) -> Answer
-        ensures { reply_of result ≡ record { copies = []; outcome = counts_held self.now } }
+        ensures { reply_of result ≡ record { copies = []; outcome = counts_now self.now } }
     {
         let nodes = self.subscriptions.nodes();
         Answer {

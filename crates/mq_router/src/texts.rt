@@ -2,8 +2,8 @@
 ghost use Rattle.std.specs.Prelude.{◌≡◌, ◌&&◌, None, Some, is_some, string_bytes, IfOk, IfErr, ◌⊎◌};
 ghost use Rattle.std.specs.Prelude.{true, false};
 ghost use Rattle.std.specs.Option.{option_copied, option_map};
-ghost use Rattle.mq_topic.specs.Texts.{contains_byte, is_name, is_subscription};
-ghost use Rattle.mq_world.specs.Refusals.{is_client_id, is_user_name, faulty_line, acl_refusal};
+ghost use Rattle.mq_topic.specs.Texts.{is_name, is_subscription};
+ghost use Rattle.mq_world.specs.Refusals.{faulty_line, acl_refusal};
 ghost use Rattle.mq_subscriptions.specs.Wanted.{IsAskedBy};
 ghost use Rattle.mq_world.specs.After.{access_of};
 
@@ -11,29 +11,6 @@ use mq_acl::{Acl, AclKind};
 use mq_topic::{SubFilter, TopicFault, TopicName};
 use mq_world::Refusal;
 use std::alloc::{AllocError, Global};
-
-const MAX_BYTES: usize = 65_535;
-
-fn has_nul(text: &str) -> bool
-    ensures { result ≡ contains_byte 0 text.now }
-{
-    text.as_bytes().contains(&0)
-}
-
-pub(crate) fn is_client_id(id: &str) -> bool
-    ensures { result ≡ is_client_id id.now }
-{
-    !id.is_empty() && id.len() <= MAX_BYTES && !has_nul(id)
-}
-
-pub(crate) fn is_user_name(user: Option<&str>) -> bool
-    ensures { result ≡ is_user_name (option_copied user.entry) }
-{
-    match user {
-        None => true,
-        Some(user) => user.len() <= MAX_BYTES && !has_nul(user),
-    }
-}
 
 /// A filter, and a share name or none.
 pub(crate) fn parse_filter(alloc: Global, text: &str) -> Result<SubFilter, Refusal>

@@ -1,11 +1,11 @@
 -- The ends of sessions, as one of them is put, edited or taken out, and as they end.
 use Rattle.std.proofs.Common.{◌≡◌, ℕ, ◌+◌, ◌≤◌, nat_le, Bool, true, false, true≢false, cond, ◌||◌}
-use Rattle.std.proofs.Common.{not, List, [], ◌∷◌, ◌++◌, map, length, Option, Some, None, ◌<◌, zero}
+use Rattle.std.proofs.Common.{not, List, [], ◌∷◌, ◌++◌, length, Option, Some, None, ◌<◌, zero}
 use Rattle.std.proofs.Common.{suc, get_or, if◌then◌else◌, inl, inr, refl, sym, ◌∙◌, ap, subst}
 use Rattle.std.proofs.Common.{arith}
 use Rattle.std.specs.Option.{option_to_list, option_and_then, IfSome}
 use Rattle.std.specs.Ordering.{is_eq, match_ordering}
-use Rattle.std.specs.List.{filter, filter_map, cons_option, list_any, All, Contains}
+use Rattle.std.specs.List.{filter, cons_option, list_any, All, Contains}
 use Rattle.std.specs.List.Sorted.{IsStrictlySortedBy}
 use Rattle.std.specs.Map.{lookup, set_value, remove_entry, keys_of}
 use Rattle.std.specs.BTreeMap.{insert_entry}

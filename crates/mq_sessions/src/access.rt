@@ -53,7 +53,8 @@ impl Readers<'_> {
     pub fn way(&self, client: &RcStr, name: &TopicName, limit: u32) -> Way
         ensures sent { is_sent result ≡ is_reader self.now.access.now self.now.sessions.now name.now
             (rc_str_bytes client.now) }
-        ensures waits { waits result ≡ (room_for limit self.now.sessions.now (rc_str_bytes client.now)
+        ensures waits { waits result
+            ≡ (room_for limit self.now.sessions.now (rc_str_bytes client.now)
             && allowed self.now.access.now (rc_str_bytes client.now)
             (user_of self.now.sessions.now (rc_str_bytes client.now)) name.now Reading) }
     {

@@ -13,10 +13,10 @@ ghost use Rattle.mq_sessions.specs.Resumed.{resumed};
 ghost use Rattle.mq_sessions.specs.Queue.{queued_one, queued_all};
 ghost use Rattle.mq_sessions.specs.Near.{AllReached};
 ghost use Rattle.mq_world.specs.Views.{copy_of};
+ghost use Rattle.mq_sessions.specs.Views.{session_in};
 
 mod edits;
 mod ends;
-mod found;
 pub(crate) mod queue;
 pub(crate) mod queued;
 mod resume;
@@ -25,9 +25,8 @@ pub(crate) mod session;
 use crate::clock::Clock;
 use crate::sessions::queued::QueuedCopy;
 use crate::sessions::session::Session;
-use edits::{EndMove, end, join, leave, put, remove};
+use edits::{EndMove, end, leave, put, remove};
 use ends::{add_end, has_come, remove_end};
-use found::{connected, find, learn_order, outlives, user_in, waited_copies};
 use mq_ends::Ends;
 use mq_world::Delivery;
 use std::alloc::{AllocError, Global};
@@ -57,7 +56,7 @@ impl Model for Sessions {
 }
 
 impl Sessions {
-    ghost use Rattle.mq_sessions.specs.Views.{begin_of, session_at, session_in};
+    ghost use Rattle.mq_sessions.specs.Views.{begin_of, session_at};
 
     pub fn new(alloc: Global) -> Self
         ensures { result ≡ [] }
@@ -82,21 +81,36 @@ impl Sessions {
         ensures connected { is_some result ≡ is_connected self.now id.now }
         ensures same { IfSome result (λ key. rc_str_bytes key.now ≡ id.now) }
     {
-        connected(&self.by_id, id)
+        match self.by_id.get_key_value(id) {
+            None => None,
+            Some((key, session)) => {
+                if session.is_present() {
+                    Some(key)
+                } else {
+                    None
+                }
+            }
+        }
     }
 
     /// The user name of a client with a session, if it has one.
     pub fn user(&self, id: &str) -> Option<&str>
         ensures { option_copied result ≡ user_of self.now id.now }
     {
-        user_in(&self.by_id, id)
+        match self.by_id.get(id) {
+            None => None,
+            Some(session) => session.user.as_deref(),
+        }
     }
 
     /// Whether the client has a session that stays when its connection ends.
     pub fn outlives(&self, id: &str) -> bool
         ensures { result ≡ outlives self.now id.now }
     {
-        outlives(&self.by_id, id)
+        match self.by_id.get(id) {
+            None => false,
+            Some(session) => session.outlives_connection(),
+        }
     }
 
     /// The session of a client, if it has one.
@@ -104,10 +118,10 @@ impl Sessions {
         ensures { option_map (λ session. session_at id.now session.now) result
             ≡ session_of self.now id.now }
     {
-        find(&self.by_id, id)
+        self.by_id.get(id)
     }
 
-    /// The copies that waited for a client that connects, if it resumes its session.
+    /// The copies that waited for a client that connects, with what is left of their intervals, if it resumes its session.
     pub fn resumed_copies(
         &self,
         alloc: Global,
@@ -122,7 +136,14 @@ impl Sessions {
         if clean {
             return Ok(None);
         }
-        waited_copies(alloc, clock, &self.by_id, id)
+        let Some(session) = self.by_id.get(id) else {
+            return Ok(None);
+        };
+        if !session.outlives_connection() {
+            return Ok(None);
+        }
+        let copies = resume::resumed_copies(alloc, clock, &session.waiting)?;
+        Ok(Some(copies))
     }
 
     /// Adds the session of a client that connects, in place of an older one.
@@ -172,10 +193,13 @@ impl Sessions {
     }
 
     // One more copy waits for a client.
-    fn join(&mut self, limit: u32, begun: QueuedCopy)
-        ensures { self.new ≡ queued_one limit (begin_of begun) self.old }
+    fn join(&mut self, limit: u32, queued_copy: QueuedCopy)
+        ensures { self.new ≡ queued_one limit (begin_of queued_copy) self.old }
     {
-        join(&mut self.by_id, limit, begun);
+        let Some(session) = self.by_id.get_mut(queued_copy.client.as_str()) else {
+            return;
+        };
+        session.queue(limit, queued_copy.copies);
     }
 
     /// The copies begin to wait, each where fewer wait than may. It takes no memory.
@@ -184,8 +208,8 @@ impl Sessions {
         ensures ordered { IsStrictlySortedBy session_cmp self.old }
     {
         learn_order(&self.by_id);
-        for begun in all {
-            self.join(limit, begun);
+        for queued_copy in all {
+            self.join(limit, queued_copy);
         }
     }
 
@@ -202,4 +226,11 @@ impl Sessions {
     {
         &self.by_id
     }
+}
+
+// Learns that the map's keys are in order.
+fn learn_order(sessions: &BTreeMap<RcStr, Session>)
+    ensures { IsStrictlySortedBy session_cmp (map session_in sessions.now.entries) }
+{
+    let _count = sessions.len();
 }

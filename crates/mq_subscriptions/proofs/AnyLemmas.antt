@@ -4,21 +4,22 @@ use Rattle.std.proofs.Common.{◌∷◌, map, Option, Some, None, if◌then◌el
 use Rattle.std.proofs.Common.{subst}
 use Rattle.std.specs.List.{filter, list_any, AllByRecursion}
 use Rattle.std.proofs.lemmas.Map.Views.{any-filter_same}
-use Rattle.mq_world.specs.Keys.{Key, key_cmp}
+use Rattle.mq_world.specs.Keys.{key_cmp}
 use Rattle.mq_world.specs.Lists.{Text, same_text}
 use Rattle.mq_world.specs.World.{Subscription, same_share, has_key, same_key}
 use Rattle.mq_world.specs.Turns.{SameInTurn}
 use Rattle.mq_subscriptions.specs.Turns.{put_last, joined}
-use Rattle.mq_subscriptions.specs.Filters.{OwnKey, AtEntries, AreKept, AreListed, is_text}
+use Rattle.mq_subscriptions.specs.Filters.{FilterKey, AtEntries, AreEntries, AreListed, is_text}
 use Rattle.mq_subscriptions.specs.Filters.{is_in_list, is_listed, is_empty, all_rows}
 use Rattle.mq_world.proofs.ListLemmas.{list_any-map, list_any-same, any-append}
 use Rattle.mq_world.proofs.SameLemmas.{list_any-SameElements}
 use Rattle.mq_world.proofs.BoolLemmas.{pick, left_true, right_true, and_true, or_false}
 use Rattle.mq_world.proofs.OrderLemmas.{same_text-is, same_share-is}
 use Rattle.mq_world.proofs.OrderLemmas.{text_flip, all_weaker}
-use Rattle.mq_subscriptions.proofs.OwnLemmas.{flip_share}
+use Rattle.mq_subscriptions.proofs.ClientFilterLemmas.{flip_share}
 use Rattle.mq_subscriptions.proofs.OneServed.{turned-elements}
 use Rattle.mq_subscriptions.specs.Views.{texts}
+use Rattle.mq_subscriptions.specs.Wanted.{ClientLists}
 use Rattle.mq_subscriptions.proofs.AtLemmas.{own_key_is}
 use Rattle.mq_sessions.proofs.SessionLemmas.{finds}
 use Rattle.mq_world.proofs.Splits.{set_same}
@@ -124,13 +125,13 @@ any-turned x s new rows same = list_any-SameElements (same_key s) new rows
 -- ## Tree and lists
 
 abbrev Lists : Type 0
-Lists = List (Text × List OwnKey)
+Lists = List (Text × List FilterKey)
 
 abbrev AreLive : Lists → Type 0
 AreLive lists = AllByRecursion (λ l. is_empty l.1 ≡ false) lists
 
 pub listed-joined : (x : Subscription) (old new : AtEntries) (before after : Lists)
-    → AreListed old before → AreKept new → SameInTurn (all_rows new) (joined x (all_rows old))
+    → AreListed old before → AreEntries new → SameInTurn (all_rows new) (joined x (all_rows old))
     → ((s : Subscription) → is_listed after s
     ≡ (has_key x.client x.share x.filter s || is_listed before s)) → AreLive after
     → AreListed new after
@@ -151,8 +152,8 @@ listed-again x old lists h found s =
     ∙ sym (ap (λ b. b || is_listed lists s) t))
     (λ f. sym (ap (λ b. b || is_listed lists s) f))
 
-pub listed-left : (client : Text) (k : OwnKey) (old new : AtEntries) (before after : Lists)
-    → AreListed old before → AreKept new → all_rows new
+pub listed-left : (client : Text) (k : FilterKey) (old new : AtEntries) (before after : Lists)
+    → AreListed old before → AreEntries new → all_rows new
     ≡ filter (λ s. not (has_key client k.0 k.1 s)) (all_rows old)
     → ((s : Subscription) → is_listed after s
     ≡ (not (has_key client k.0 k.1 s) && is_listed before s)) → AreLive after
@@ -167,7 +168,7 @@ listed-left client k old new before after h kept rows drops live = record {
 }
 
 -- a key that joined and left again
-pub listed-undone : (client : Text) (k : OwnKey) (old new : AtEntries) (before added after : Lists)
+pub listed-undone : (client : Text) (k : FilterKey) (old new : AtEntries) (before added after : Lists)
     → AreListed old before → new ≡ old → list_any (has_key client k.0 k.1) (all_rows old) ≡ false
     → ((s : Subscription) → is_listed added s ≡ (has_key client k.0 k.1 s || is_listed before s))
     → ((s : Subscription) → is_listed after s
@@ -203,7 +204,7 @@ listed-undone client k old new before added after h same absent adds drops live 
         ∙ absent
 
 pub listed-turned : (x : Subscription) (old new : AtEntries) (lists : Lists) → AreListed old lists
-    → AreKept new → SameInTurn (all_rows new) (put_last (same_key x) (all_rows old))
+    → AreEntries new → SameInTurn (all_rows new) (put_last (same_key x) (all_rows old))
     → AreListed new lists
 listed-turned x old new lists h kept same = record {
   kept = kept;
@@ -212,9 +213,6 @@ listed-turned x old new lists h kept same = record {
 }
 
 -- ## A client's session ends
-
-abbrev Held : Type 0
-Held = List (Key × List OwnKey)
 
 any_more : {X : Type 0} (p : X → Bool) (x : X) (xs : List X) → list_any p xs ≡ true
     → list_any p (x ∷ xs) ≡ true
@@ -237,7 +235,7 @@ each_listed old lists h =
     (λ s. is_listed lists s ≡ true) (λ s e. h.listed s ∙ e) (all_rows old)
     (each_there (all_rows old))
 
-leaving : (c : Text) (ls : Held) (v : List OwnKey) (rows : List Subscription)
+leaving : (c : Text) (ls : ClientLists) (v : List FilterKey) (rows : List Subscription)
     → lookup (finds c) ls ≡ Some v → AllByRecursion (λ s. is_listed (texts ls) s ≡ true) rows
     → filter (leaves c v) rows ≡ filter (λ s. not (same_text s.client c)) rows
 leaving c ls v [] found h = refl
@@ -256,12 +254,12 @@ leaving c ls v (s ∷ rows) found h =
     no : same_text s.client c ≡ false → leaves c v s ≡ not (same_text s.client c)
     no f = ap (λ b. not (b && is_in_list v s)) f ∙ ap not (sym f)
 
-pub all-leave : (c : Text) (ls : Held) (v : List OwnKey) (old : AtEntries)
+pub all-leave : (c : Text) (ls : ClientLists) (v : List FilterKey) (old : AtEntries)
     → lookup (finds c) ls ≡ Some v → AreListed old (texts ls)
     → filter (leaves c v) (all_rows old) ≡ filter (λ s. not (same_text s.client c)) (all_rows old)
 all-leave c ls v old found h = leaving c ls v (all_rows old) found (each_listed old (texts ls) h)
 
-staying : (c : Text) (ls : Held) (rows : List Subscription) → lookup (finds c) ls ≡ None
+staying : (c : Text) (ls : ClientLists) (rows : List Subscription) → lookup (finds c) ls ≡ None
     → AllByRecursion (λ s. is_listed (texts ls) s ≡ true) rows
     → rows ≡ filter (λ s. not (same_text s.client c)) rows
 staying c ls [] none h = refl
@@ -277,7 +275,7 @@ staying c ls (s ∷ rows) none h =
         (same_text-is s.client c t) ∙ ap (found_in s) (lookup-texts c ls ∙ none)))
 
 -- where the client has no list, it has nothing
-pub none-had : (c : Text) (ls : Held) (old : AtEntries) → lookup (finds c) ls ≡ None
+pub none-had : (c : Text) (ls : ClientLists) (old : AtEntries) → lookup (finds c) ls ≡ None
     → AreListed old (texts ls) → all_rows old
     ≡ filter (λ s. not (same_text s.client c)) (all_rows old)
 none-had c ls old none h = staying c ls (all_rows old) none (each_listed old (texts ls) h)
@@ -286,10 +284,10 @@ others : (a b o : Bool) → a ≡ b → (if a then false else o) ≡ (not b && o
 others true b o e = ap (λ v. not v && o) e
 others false b o e = ap (λ v. not v && o) e
 
-pub listed-gone : (c : Text) (ls : Held) → IsStrictlySortedBy key_cmp (keys_of ls)
-    → (v : List OwnKey) (out : Held) → lookup (finds c) ls ≡ Some v
+pub listed-gone : (c : Text) (ls : ClientLists) → IsStrictlySortedBy key_cmp (keys_of ls)
+    → (v : List FilterKey) (out : ClientLists) → lookup (finds c) ls ≡ Some v
     → out ≡ remove_entry (finds c) ls → (old new : AtEntries) → AreListed old (texts ls)
-    → AreKept new → all_rows new ≡ filter (λ s. not (same_text s.client c)) (all_rows old)
+    → AreEntries new → all_rows new ≡ filter (λ s. not (same_text s.client c)) (all_rows old)
     → AreListed new (texts out)
 listed-gone c ls sorted v out found gone old new h kept rows =
     let same : ls ≡ set_value (finds c) ls v = sym (set_same (finds c) ls v found) in

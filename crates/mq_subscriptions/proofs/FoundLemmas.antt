@@ -11,7 +11,7 @@ use Rattle.mq_topic.specs.Matching.{matches}
 use Rattle.mq_world.specs.Lists.{Text}
 use Rattle.mq_world.specs.World.{Subscription}
 use Rattle.mq_world.specs.Copies.{filter_matches}
-use Rattle.mq_subscriptions.specs.Filters.{At, AtEntries, AreHere, AllKept, AreAtFilters, all_rows}
+use Rattle.mq_subscriptions.specs.Filters.{At, AtEntries, AreHere, AllEntries, AreAtFilters, all_rows}
 
 abbrev pub found_for : Text → AtEntries → List At
 found_for topic es = values_of (filter (λ e. matches e.0 (levels topic)) es)
@@ -31,7 +31,7 @@ all_alike topic f false (x ∷ xs) h e =
     ap (λ v. cond v (x ∷ rest) rest) (ap (λ g. filter_matches g topic) h.0 ∙ e)
     ∙ all_alike topic f false xs h.1 e
 
-pub found-rows : (topic : Text) (es : AtEntries) → AllKept es
+pub found-rows : (topic : Text) (es : AtEntries) → AllEntries es
     → flat_map (λ (a : At). a.rows) (found_for topic es)
     ≡ filter (λ s. filter_matches s.filter topic) (all_rows es)
 found-rows topic [] h = refl
@@ -54,7 +54,7 @@ found-rows topic (e ∷ es) h =
           ∙ sym (filter-append q e.1.rows (all_rows es))
     ]) refl
 
-above : (topic : Text) (k : List Text) (es : AtEntries) → AllKept es
+above : (topic : Text) (k : List Text) (es : AtEntries) → AllEntries es
     → AllByRecursion (λ y. level_order k y ≡ Less) (keys_of es)
     → AllByRecursion (λ y. level_order k y ≡ Less) (map (λ a. levels a.filter) (found_for topic es))
 above topic k [] h s = tt
@@ -67,7 +67,7 @@ above topic k (e ∷ es) h s =
       | false ↦ above topic k es h.1 s.1
     ]
 
-ordered : (topic : Text) (es : AtEntries) → AllKept es → IsStrictlySortedBy level_order (keys_of es)
+ordered : (topic : Text) (es : AtEntries) → AllEntries es → IsStrictlySortedBy level_order (keys_of es)
     → IsStrictlySortedBy level_order (map (λ a. levels a.filter) (found_for topic es))
 unfolding IsStrictlySortedBy
 ordered topic [] h s = tt
@@ -85,7 +85,7 @@ ordered topic (e ∷ es) h s =
       | false ↦ ordered topic es h.1 s.1
     ]
 
-all_here : (topic : Text) (es : AtEntries) → AllKept es
+all_here : (topic : Text) (es : AtEntries) → AllEntries es
     → AllByRecursion AreHere (found_for topic es)
 all_here topic [] h = tt
 all_here topic (e ∷ es) h =
@@ -94,7 +94,7 @@ all_here topic (e ∷ es) h =
     as (λ b. AllByRecursion AreHere (values_of (cond b (e ∷ rest) rest)))
     [ true ↦ (h.0.here, all_here topic es h.1) | false ↦ all_here topic es h.1 ]
 
-all_match : (topic : Text) (es : AtEntries) → AllKept es
+all_match : (topic : Text) (es : AtEntries) → AllEntries es
     → AllByRecursion (λ a. filter_matches a.filter topic ≡ true) (found_for topic es)
 all_match topic [] h = tt
 all_match topic (e ∷ es) h =
@@ -111,7 +111,7 @@ all_match topic (e ∷ es) h =
       | false ↦ λ t. all_match topic es h.1
     ]) refl
 
-pub found-order : (topic : Text) (es : AtEntries) → AllKept es
+pub found-order : (topic : Text) (es : AtEntries) → AllEntries es
     → IsStrictlySortedBy level_order (keys_of es) → AreAtFilters topic (found_for topic es)
 found-order topic es h s =
     record {

@@ -9,8 +9,8 @@ use Rattle.mq_topic.specs.Levels.{levels, level_order}
 use Rattle.mq_world.specs.Lists.{Text, in_order, SameElements}
 use Rattle.mq_world.specs.World.{Subscription}
 use Rattle.mq_world.specs.Counts.{filters_among}
-use Rattle.mq_subscriptions.specs.Filters.{At, AtEntries, IsKept, AllKept, AreKept, AreKeys}
-use Rattle.mq_subscriptions.specs.Filters.{all_rows, kept_at, is_empty}
+use Rattle.mq_subscriptions.specs.Filters.{At, AtEntries, IsEntry, AllEntries, AreEntries, AreKeys}
+use Rattle.mq_subscriptions.specs.Filters.{all_rows, entries_view, is_empty}
 use Rattle.mq_world.proofs.ListLemmas.{list_any-map, any-append}
 use Rattle.mq_world.proofs.SameLemmas.{list_any-SameElements}
 use Rattle.mq_world.proofs.OrderLemmas.{levels_total, equal_from}
@@ -56,7 +56,7 @@ any_here z f s (x ∷ rows) e h =
     || ties level_order levels_total z (levels f)) e
     ∙ or_twice (ties level_order levels_total z (levels f))
 
-any_rows : (z key : List (List ℕ)) (a : At) → IsKept key a
+any_rows : (z key : List (List ℕ)) (a : At) → IsEntry key a
     → list_any (to z) a.rows ≡ ties level_order levels_total z key
 any_rows z key a k = go a.rows k.here k.live ∙ ap (ties level_order levels_total z) (sym k.key_is)
   where
@@ -66,7 +66,7 @@ any_rows z key a k = go a.rows k.here k.live ∙ ap (ties level_order levels_tot
     go [] h live = absurd (let no : true ≡ false = live in cc)
     go (s ∷ rows) h live = any_here z a.filter s rows h.0 h.1
 
-any_keys : (z : List (List ℕ)) (es : AtEntries) → AllKept es
+any_keys : (z : List (List ℕ)) (es : AtEntries) → AllEntries es
     → list_any (ties level_order levels_total z) (keys_of es) ≡ list_any (to z) (all_rows es)
 any_keys z [] h = refl
 any_keys z (e ∷ es) h =
@@ -75,7 +75,7 @@ any_keys z (e ∷ es) h =
     ∙ ap (λ b. list_any (to z) e.1.rows || b) (any_keys z es h.1)
     ∙ sym (any-append (to z) e.1.rows (all_rows es))
 
-pub kept-keys : (es : AtEntries) → AreKept es → AreKeys (kept_at es)
+pub kept-keys : (es : AtEntries) → AreEntries es → AreKeys (entries_view es)
 kept-keys es kept =
     let filters : List (List (List ℕ)) =
     map (λ (s : Subscription). levels s.filter) (all_rows es) in

@@ -10,7 +10,7 @@ pub mod ListedLemmas
 pub mod JoinTurn
 pub mod OneServed
 pub mod AnyLemmas
-pub mod OwnLemmas
+pub mod ClientFilterLemmas
 pub mod TurnsAtLemmas
 pub mod AscendingLemmas
 pub mod MatchLemmas

@@ -11,7 +11,7 @@ use Rattle.mq_world.specs.Lists.{Text, same_text}
 use Rattle.mq_world.specs.World.{SubscriptionOptions, Subscription, Message}
 use Rattle.mq_subscriptions.specs.Filters.{Member, direct_rows, group_rows, row}
 use Rattle.mq_world.specs.Views.{options_of}
-use Rattle.mq_subscriptions.specs.Matches.{is_own_match, own_matches, matched, options_among}
+use Rattle.mq_subscriptions.specs.Matches.{is_unshared_match, unshared_matches, matched, options_among}
 use Rattle.mq_subscriptions.specs.Matches.{AreAscending, AreByClient}
 use Rattle.mq_world.proofs.ListLemmas.{map-filter}
 use Rattle.mq_subscriptions.specs.declared.subscriptions.matches.Match.{Match}
@@ -37,38 +37,38 @@ stable-matches xs ys stable id =
 
 -- the members of groups are no match in a client's own name
 no_group_matches : (m : Message) (f share : Text) (ms : List Member)
-    → filter (is_own_match m) (map (row (Some share) f) ms) ≡ []
+    → filter (is_unshared_match m) (map (row (Some share) f) ms) ≡ []
 no_group_matches m f share [] = refl
 no_group_matches m f share (x ∷ ms) = no_group_matches m f share ms
 
 no_groups_match : (m : Message) (f : Text) (gs : List (Text × List Member))
-    → filter (is_own_match m) (group_rows f gs) ≡ []
+    → filter (is_unshared_match m) (group_rows f gs) ≡ []
 no_groups_match m f [] = refl
 no_groups_match m f (g ∷ gs) =
-    filter-append (is_own_match m) (map (row (Some g.0) f) g.1) (group_rows f gs)
-    ∙ ap (λ l. l ++ filter (is_own_match m) (group_rows f gs)) (no_group_matches m f g.0 g.1)
+    filter-append (is_unshared_match m) (map (row (Some g.0) f) g.1) (group_rows f gs)
+    ∙ ap (λ l. l ++ filter (is_unshared_match m) (group_rows f gs)) (no_group_matches m f g.0 g.1)
     ∙ no_groups_match m f gs
 
 -- by whichever filter
 by_any : (m : Message) (f : Text) (ms : List Member)
-    → own_matches m (direct_rows [] ms) ≡ own_matches m (direct_rows f ms)
+    → unshared_matches m (direct_rows [] ms) ≡ unshared_matches m (direct_rows f ms)
 by_any m f [] = refl
 by_any m f (x ∷ ms) =
     let pair : Subscription → Text × SubscriptionOptions = λ s. (s.client, s.options) in
-    elim (is_own_match m (row None [] x))
-    as (λ b. map pair (cond b (row None [] x ∷ filter (is_own_match m) (direct_rows [] ms))
-    (filter (is_own_match m) (direct_rows [] ms)))
-    ≡ map pair (cond b (row None f x ∷ filter (is_own_match m) (direct_rows f ms))
-    (filter (is_own_match m) (direct_rows f ms)))) [
+    elim (is_unshared_match m (row None [] x))
+    as (λ b. map pair (cond b (row None [] x ∷ filter (is_unshared_match m) (direct_rows [] ms))
+    (filter (is_unshared_match m) (direct_rows [] ms)))
+    ≡ map pair (cond b (row None f x ∷ filter (is_unshared_match m) (direct_rows f ms))
+    (filter (is_unshared_match m) (direct_rows f ms)))) [
       | true ↦ ap (λ l. (x.0, options_of x.1) ∷ l) (by_any m f ms)
       | false ↦ by_any m f ms
     ]
 
 pub matches-at : (m : Message) (f : Text) (ds : List Member) (gs : List (Text × List Member))
-    → own_matches m (direct_rows [] ds) ≡ own_matches m (direct_rows f ds ++ group_rows f gs)
+    → unshared_matches m (direct_rows [] ds) ≡ unshared_matches m (direct_rows f ds ++ group_rows f gs)
 matches-at m f ds gs =
     by_any m f ds
     ∙ sym (ap (map (λ (s : Subscription). (s.client, s.options)))
-    (filter-append (is_own_match m) (direct_rows f ds) (group_rows f gs)
-    ∙ ap (λ l. filter (is_own_match m) (direct_rows f ds) ++ l) (no_groups_match m f gs)
-    ∙ append-nil (filter (is_own_match m) (direct_rows f ds))))
+    (filter-append (is_unshared_match m) (direct_rows f ds) (group_rows f gs)
+    ∙ ap (λ l. filter (is_unshared_match m) (direct_rows f ds) ++ l) (no_groups_match m f gs)
+    ∙ append-nil (filter (is_unshared_match m) (direct_rows f ds))))

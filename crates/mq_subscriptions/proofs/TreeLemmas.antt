@@ -19,7 +19,7 @@ use Rattle.mq_world.specs.Lists.{Text, same_text}
 use Rattle.mq_world.specs.World.{Subscription, same_key}
 use Rattle.mq_world.specs.Turns.{SameInTurn}
 use Rattle.mq_subscriptions.specs.Turns.{put_last, joined}
-use Rattle.mq_subscriptions.specs.Filters.{At, AtEntries, AreHere, IsKept, AllKept, AreKept}
+use Rattle.mq_subscriptions.specs.Filters.{At, AtEntries, AreHere, IsEntry, AllEntries, AreEntries}
 use Rattle.mq_subscriptions.specs.Filters.{all_rows, is_empty}
 use Rattle.mq_world.proofs.OrderLemmas.{equal_from, same_levels, sorted-with_row, levels_total}
 use Rattle.mq_subscriptions.proofs.InTurn.{Unlike, unlike-filter}
@@ -69,7 +69,7 @@ abbrev rows_of : List Text × At → List Subscription
 rows_of e = e.1.rows
 
 abbrev Kept : List Text × At → Type 0
-Kept e = IsKept e.0 e.1
+Kept e = IsEntry e.0 e.1
 
 -- what stands at another key is to another filter
 other_filter : (f : Text) (e : List Text × At) → Kept e → is_key (levels f) e.0 ≡ false
@@ -97,7 +97,7 @@ tree_unlike f s own e h n = go e.1.rows h.here
       go xs k.1,
     )
 
-module _ (f : Text) (es : AtEntries) (kept : AllKept es) where
+module _ (f : Text) (es : AtEntries) (kept : AllEntries es) where
   abbrev k : List Text
   k = levels f
 
@@ -131,21 +131,21 @@ module _ (f : Text) (es : AtEntries) (kept : AllKept es) where
       }
 
       pub set-kept : (new : AtEntries) → new ≡ set_value (is_key k) es w → is_empty w.rows ≡ false
-          → AreKept new
+          → AreEntries new
       set-kept new set live = record {
-        each = subst (λ (l : AtEntries). AllKept l) (sym set)
+        each = subst (λ (l : AtEntries). AllEntries l) (sym set)
             (live-set rows_of Kept (is_key k) any_one (tree_unlike f any_one refl) es kept v cut w
             (w_kept live));
         ordered = subst (λ (l : AtEntries). AreInOrder l) (sym set) (set_order k es w sorted);
       }
 
       pub out-kept : (mid new : AtEntries) → mid ≡ set_value (is_key k) es w
-          → new ≡ remove_entry (is_key k) mid → AreKept new
+          → new ≡ remove_entry (is_key k) mid → AreEntries new
       out-kept mid new set out =
           let is : new ≡ remove_entry (is_key k) (set_value (is_key k) es w) = out
           ∙ ap (remove_entry (is_key k)) set in
           record {
-            each = subst (λ (l : AtEntries). AllKept l) (sym is)
+            each = subst (λ (l : AtEntries). AllEntries l) (sym is)
                 (live-out rows_of Kept (is_key k) any_one (tree_unlike f any_one refl) es kept v cut
                 w);
             ordered = subst (λ (l : AtEntries). AreInOrder l) (sym is)
@@ -219,12 +219,12 @@ module _ (f : Text) (es : AtEntries) (kept : AllKept es) where
           subst (λ (l : AtEntries). SameInTurn (all_rows l) (joined s (all_rows es))) (sym put)
           (put-joined rows_of Kept level_order k s (tree_unlike f s own) es kept gap one h)
 
-      pub tree-added_kept : AreInOrder es → is_empty one.rows ≡ false → AreKept new
+      pub tree-added_kept : AreInOrder es → is_empty one.rows ≡ false → AreEntries new
       tree-added_kept sorted live =
           let any_one : Subscription =
           record { client = []; share = None; filter = f; options = nothing } in
           record {
-            each = subst (λ (l : AtEntries). AllKept l) (sym put)
+            each = subst (λ (l : AtEntries). AllEntries l) (sym put)
                 (live-put rows_of Kept level_order k any_one (tree_unlike f any_one refl) es kept
                 gap one (record {
                   key_is = ap levels (sym own_filter);

@@ -68,32 +68,32 @@ abbrev pub AtEntries : Type 0
 AtEntries = List (List Text × At)
 
 -- what stands at a key is to its filter, and something
-pub record IsKept (key : List Text) (a : At) : Type 0 where
+pub record IsEntry (key : List Text) (a : At) : Type 0 where
   pub key_is : key ≡ levels a.filter
   pub here : AreHere a
   pub live : is_empty a.rows ≡ false
 
-abbrev pub AllKept : AtEntries → Type 0
-AllKept es = AllByRecursion (λ e. IsKept e.0 e.1) es
+abbrev pub AllEntries : AtEntries → Type 0
+AllEntries es = AllByRecursion (λ e. IsEntry e.0 e.1) es
 
 -- so at each key, and the keys are in order
-pub record AreKept (es : AtEntries) : Type 0 where
-  pub each : AllKept es
+pub record AreEntries (es : AtEntries) : Type 0 where
+  pub each : AllEntries es
   pub ordered : AreInOrder es
 
 abbrev pub all_rows : AtEntries → List Subscription
 all_rows es = flat_map (λ (e : List Text × At). e.1.rows) es
 
 -- what the subscriptions show: themselves, and the keys of their tree
-pub record KeptSubscriptions : Type 0 where
+pub record SubscriptionsView : Type 0 where
   pub rows : List Subscription
   pub keys : List (List Text)
 
-abbrev pub kept_at : AtEntries → KeptSubscriptions
-kept_at es = record { rows = all_rows es; keys = map (λ e. e.0) es }
+abbrev pub entries_view : AtEntries → SubscriptionsView
+entries_view es = record { rows = all_rows es; keys = map (λ e. e.0) es }
 
 -- the keys are the filters of the subscriptions
-abbrev pub AreKeys : KeptSubscriptions → Type 0
+abbrev pub AreKeys : SubscriptionsView → Type 0
 AreKeys kept = kept.keys ≡ filters_among kept.rows
 
 -- what is found for a name: matching filters in level order, each with what is to it
@@ -105,30 +105,30 @@ pub record AreAtFilters (topic : Text) (found : List At) : Type 0 where
 -- ## What each client has
 
 -- a share name or none, and a filter
-abbrev pub OwnKey : Type 0
-OwnKey = Option Text × Text
+abbrev pub FilterKey : Type 0
+FilterKey = Option Text × Text
 
-abbrev pub wanted_key : SubFilter → OwnKey
+abbrev pub wanted_key : SubFilter → FilterKey
 wanted_key wanted = (option_map string_bytes wanted.share, wanted.filter)
 
 -- that of a subscription's text
-abbrev pub text_key : Text → OwnKey
+abbrev pub text_key : Text → FilterKey
 text_key text = (share_of text, filter_part text)
 
-abbrev pub is_own : Subscription → OwnKey → Bool
-is_own s key = same_share s.share key.0 && same_text s.filter key.1
+abbrev pub has_filter_key : Subscription → FilterKey → Bool
+has_filter_key s key = same_share s.share key.0 && same_text s.filter key.1
 
 -- the subscription is one of these
-abbrev pub is_in_list : List OwnKey → Subscription → Bool
-is_in_list list s = list_any (is_own s) list
+abbrev pub is_in_list : List FilterKey → Subscription → Bool
+is_in_list list s = list_any (has_filter_key s) list
 
 -- the subscription is in the list of its client
-abbrev pub is_listed : List (Text × List OwnKey) → Subscription → Bool
+abbrev pub is_listed : List (Text × List FilterKey) → Subscription → Bool
 is_listed lists s = option_map_or (λ list. is_in_list list s) (lookup (is_text s.client) lists)
     false
 
 -- the tree, with a list for each client that has subscriptions: in it stand those, and no others
-pub record AreListed (es : AtEntries) (lists : List (Text × List OwnKey)) : Type 0 where
-  pub kept : AreKept es
+pub record AreListed (es : AtEntries) (lists : List (Text × List FilterKey)) : Type 0 where
+  pub kept : AreEntries es
   pub listed : (s : Subscription) → is_listed lists s ≡ list_any (same_key s) (all_rows es)
   pub live : AllByRecursion (λ l. is_empty l.1 ≡ false) lists

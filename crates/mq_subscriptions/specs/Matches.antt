@@ -15,11 +15,11 @@ abbrev pub rows_found : List At → List Subscription
 rows_found found = flat_map (λ (a : At). a.rows) found
 
 -- those in a client's own name that take part, whoever's they are
-abbrev pub is_own_match : Message → Subscription → Bool
-is_own_match m s = is_none s.share && not (s.options.no_local && same_text s.client m.publisher)
+abbrev pub is_unshared_match : Message → Subscription → Bool
+is_unshared_match m s = is_none s.share && not (s.options.no_local && same_text s.client m.publisher)
 
-abbrev pub own_matches : Message → List Subscription → List (Text × world.SubscriptionOptions)
-own_matches m rows = map (λ s. (s.client, s.options)) (filter (is_own_match m) rows)
+abbrev pub unshared_matches : Message → List Subscription → List (Text × world.SubscriptionOptions)
+unshared_matches m rows = map (λ s. (s.client, s.options)) (filter (is_unshared_match m) rows)
 
 -- subscriptions, each by its client and what it asks for
 abbrev pub matched : List Match → List (Text × SubscriptionOptions)

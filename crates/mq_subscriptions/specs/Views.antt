@@ -4,7 +4,7 @@ use Rattle.std.specs.Rc.{rc_str_bytes}
 use Rattle.mq_world.specs.Keys.{Key}
 use Rattle.mq_world.specs.Lists.{Text}
 use Rattle.mq_subscriptions.specs.Filters.{Member, At, direct_rows, group_rows, NoneEmpty}
-use Rattle.mq_subscriptions.specs.Filters.{AreListed, KeptSubscriptions, kept_at}
+use Rattle.mq_subscriptions.specs.Filters.{AreListed, SubscriptionsView, entries_view}
 use Rattle.mq_subscriptions.specs.declared.subscriptions.group.Group.TheInside as in_group
 use Rattle.mq_subscriptions.specs.declared.subscriptions.filter_entry.FilterEntry.TheInside as in_at
 use Rattle.mq_subscriptions.specs.declared.subscriptions.Subscriptions.TheInside as in_subscriptions
@@ -26,8 +26,8 @@ at_of inside = record {
 abbrev pub GroupsLive : in_at.Inside → Type 0
 GroupsLive inside = NoneEmpty (texts inside.groups.entries)
 
-abbrev pub subscriptions_of : in_subscriptions.Inside → KeptSubscriptions
-subscriptions_of inside = kept_at inside.tree
+abbrev pub subscriptions_of : in_subscriptions.Inside → SubscriptionsView
+subscriptions_of inside = entries_view inside.tree
 
 abbrev pub AreSubscriptions : in_subscriptions.Inside → Type 0
 AreSubscriptions inside = AreListed inside.tree (texts inside.lists.entries)

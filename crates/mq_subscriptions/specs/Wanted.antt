@@ -7,7 +7,7 @@ use Rattle.mq_topic.specs.declared.subscription.SubFilter.{SubFilter}
 use Rattle.mq_world.specs.Keys.{Key}
 use Rattle.mq_world.specs.Lists.{Text}
 use Rattle.mq_world.specs.World.{Subscription, has_key}
-use Rattle.mq_subscriptions.specs.Filters.{OwnKey, row, is_empty, is_listed}
+use Rattle.mq_subscriptions.specs.Filters.{FilterKey, row, is_empty, is_listed}
 use Rattle.mq_subscriptions.specs.Views.{texts}
 use Rattle.mq_world.specs.declared.options.SubscriptionOptions.{SubscriptionOptions}
 
@@ -29,19 +29,19 @@ has_wanted client wanted s = has_key client (option_map string_bytes wanted.shar
 abbrev pub has_asked : Text → Text → Subscription → Bool
 has_asked client text s = has_key client (share_of text) (filter_part text) s
 
-abbrev pub OwnLists : Type 0
-OwnLists = List (Key × List OwnKey)
+abbrev pub ClientLists : Type 0
+ClientLists = List (Key × List FilterKey)
 
 -- the lists have the key too, or no longer
-abbrev pub ListsMore : Text → OwnKey → OwnLists → OwnLists → Type 0
+abbrev pub ListsMore : Text → FilterKey → ClientLists → ClientLists → Type 0
 ListsMore client key old new =
     (s : Subscription) → is_listed (texts new) s
     ≡ (has_key client key.0 key.1 s || is_listed (texts old) s)
 
-abbrev pub ListsLess : Text → OwnKey → OwnLists → OwnLists → Type 0
+abbrev pub ListsLess : Text → FilterKey → ClientLists → ClientLists → Type 0
 ListsLess client key old new =
     (s : Subscription) → is_listed (texts new) s
     ≡ (not (has_key client key.0 key.1 s) && is_listed (texts old) s)
 
-abbrev pub NoneEmptied : OwnLists → Type 0
+abbrev pub NoneEmptied : ClientLists → Type 0
 NoneEmptied lists = AllByRecursion (λ l. is_empty l.1 ≡ false) (texts lists)

@@ -45,9 +45,9 @@ pub struct Subscriptions {
 }
 
 impl Model for Subscriptions {
-    ghost use Rattle.mq_subscriptions.specs.Filters.{KeptSubscriptions};
+    ghost use Rattle.mq_subscriptions.specs.Filters.{SubscriptionsView};
 
-    ghost Value = { KeptSubscriptions };
+    ghost Value = { SubscriptionsView };
 
     ghost use Rattle.mq_subscriptions.specs.Views.{subscriptions_of, AreSubscriptions};
 
@@ -70,7 +70,10 @@ impl Subscriptions {
     pub fn contains(&self, client: &str, wanted: &SubFilter) -> bool
         ensures { result ≡ list_any (has_wanted client.now wanted.now) self.now.rows }
     {
-        contains_in(&self.tree, client, wanted)
+        match self.tree.get(&wanted.filter) {
+            Some(at) => at.contains(wanted.share.as_deref(), client),
+            None => false,
+        }
     }
 
     /// Whether a subscribe is sent retained messages.
@@ -107,15 +110,20 @@ impl Subscriptions {
         ensures keys { OnOk result (AreKeys self.new) }
         ensures err { OnErr result (self.new ≡ self.old) }
     {
-        put_in(
-            &mut self.tree,
-            &mut self.lists,
-            self.alloc,
-            client,
-            text,
-            wanted,
-            options,
-        )
+        let id = client.as_str();
+        if self.contains(id, wanted) {
+            join_in(&mut self.tree, self.alloc, client, wanted, options)?;
+            return Ok(());
+        }
+        list_add(&mut self.lists, self.alloc, client, text)?;
+        // Where there is no memory, nothing is left beside the tree that leads to no subscription.
+        match join_in(&mut self.tree, self.alloc, client, wanted, options) {
+            Ok(()) => Ok(()),
+            Err(fault) => {
+                list_remove(&mut self.lists, id, text);
+                Err(fault)
+            }
+        }
     }
 
     /// Takes the subscription with this text out, and says whether there was one. It takes no memory.
@@ -126,7 +134,9 @@ impl Subscriptions {
             self.old.rows }
         ensures keys { AreKeys self.new }
     {
-        take_out(&mut self.tree, &mut self.lists, client, text)
+        let existed = leave_in(&mut self.tree, client, text);
+        list_remove(&mut self.lists, client, text);
+        existed
     }
 
     /// Takes a client's subscriptions out, and no other is looked at. It takes no memory.
@@ -135,7 +145,12 @@ impl Subscriptions {
             self.old.rows }
         ensures keys { AreKeys self.new }
     {
-        take_all(&mut self.tree, &mut self.lists, client);
+        // Learns that the clients are in order.
+        let _count = self.lists.len();
+        let Some(own) = self.lists.remove(client) else {
+            return;
+        };
+        leave_all(&mut self.tree, &own, client);
     }
 
     /// What is kept at the filters that match the name, in level order of the filters.
@@ -159,12 +174,16 @@ impl Subscriptions {
             (put_last (has_key client.now (Some share.now) wanted.now) self.old.rows) }
         ensures keys { AreKeys self.new }
     {
-        serve_in(&mut self.tree, share, wanted, client);
+        let Some(at) = self.tree.get_mut(wanted) else {
+            return;
+        };
+        at.serve(share, client);
     }
 
     /// Each member that was served goes last in its group. It takes no memory.
     pub fn serve_all(&mut self, served: &[Turn])
-        ensures rows { SameInTurn self.new.rows (all_turned (map turn_of served.now) self.old.rows) }
+        ensures rows { SameInTurn self.new.rows
+            (all_turned (map turn_of served.now) self.old.rows) }
         ensures keys { AreKeys self.old → AreKeys self.new }
     {
         for turn in served {
@@ -191,19 +210,9 @@ ghost use Rattle.std.specs.Prelude.{Some, true, false, IsSome, None};
 ghost use Rattle.std.specs.Map.{lookup};
 ghost use Rattle.mq_topic.specs.Levels.{levels};
 ghost use Rattle.mq_tree.specs.Entries.{is_key};
-ghost use Rattle.mq_subscriptions.specs.Filters.{all_rows, AreKept, AreAtFilters, is_listed};
+ghost use Rattle.mq_subscriptions.specs.Filters.{all_rows, AreEntries, AreAtFilters, is_listed};
 ghost use Rattle.mq_subscriptions.specs.Views.{texts};
 ghost use Rattle.mq_world.specs.World.{Subscription};
-
-fn contains_in(tree: &LevelTree<FilterEntry>, client: &str, wanted: &SubFilter) -> bool
-    requires { AreKept tree.now }
-    ensures { result ≡ list_any (has_wanted client.now wanted.now) (all_rows tree.now) }
-{
-    match tree.get(&wanted.filter) {
-        Some(at) => at.contains(wanted.share.as_deref(), client),
-        None => false,
-    }
-}
 
 fn join_in(
     tree: &mut LevelTree<FilterEntry>,
@@ -212,11 +221,11 @@ fn join_in(
     wanted: &SubFilter,
     options: SubscriptionOptions,
 ) -> Result<(), AllocError>
-    requires { AreKept tree.old }
+    requires { AreEntries tree.old }
     ensures ok { OnOk result (SameInTurn (all_rows tree.new)
         (joined (wanted_row (rc_str_bytes client.now) wanted.now options) (all_rows tree.old))) }
     ensures err { OnErr result (tree.new ≡ tree.old) }
-    ensures kept { AreKept tree.new }
+    ensures kept { AreEntries tree.new }
 {
     let client = client.clone()?;
     match tree.get_mut(&wanted.filter) {
@@ -236,12 +245,12 @@ fn add_in(
     wanted: &SubFilter,
     options: SubscriptionOptions,
 ) -> Result<(), AllocError>
-    requires kept { AreKept tree.old }
+    requires kept { AreEntries tree.old }
     requires absent { lookup (is_key (levels wanted.now.filter)) tree.old ≡ None }
     ensures ok { OnOk result (SameInTurn (all_rows tree.new)
         (joined (wanted_row (rc_str_bytes client) wanted.now options) (all_rows tree.old))) }
     ensures err { OnErr result (tree.new ≡ tree.old) }
-    ensures kept { AreKept tree.new }
+    ensures kept { AreEntries tree.new }
 {
     let filter = Rc::new(alloc, wanted.filter.clone()?)?;
     let mut at = FilterEntry::new(alloc, filter);
@@ -252,12 +261,12 @@ fn add_in(
 
 // Takes a subscription out, and the filter with its last one; says whether there was one.
 fn leave_in(tree: &mut LevelTree<FilterEntry>, client: &str, text: &str) -> bool
-    requires kept { AreKept tree.old }
+    requires kept { AreEntries tree.old }
     requires valid { IsTrue (is_subscription text.now) }
     ensures existed { result ≡ list_any (has_asked client.now text.now) (all_rows tree.old) }
     ensures rows { all_rows tree.new ≡ filter (λ s. not (has_asked client.now text.now s))
         (all_rows tree.old) }
-    ensures kept { AreKept tree.new }
+    ensures kept { AreEntries tree.new }
 {
     let (share, filter) = SubFilter::split(text);
     let Some(at) = tree.get_mut(&filter) else {
@@ -271,98 +280,19 @@ fn leave_in(tree: &mut LevelTree<FilterEntry>, client: &str, text: &str) -> bool
     existed
 }
 
-fn serve_in(tree: &mut LevelTree<FilterEntry>, share: &str, wanted: &TopicFilter, client: &str)
-    requires { AreKept tree.old }
-    ensures turned { SameInTurn (all_rows tree.new)
-        (put_last (has_key client.now (Some share.now) wanted.now) (all_rows tree.old)) }
-    ensures kept { AreKept tree.new }
-{
-    match tree.get_mut(wanted) {
-        Some(at) => at.serve(share, client),
-        None => {}
-    }
-}
-
 ghost use Rattle.std.specs.Prelude.{◌&&◌, ◌||◌};
 ghost use Rattle.std.specs.List.{AllByRecursion};
-ghost use Rattle.mq_subscriptions.specs.Filters.{AreListed, is_empty, is_in_list, is_text, OwnKey};
-
-// Where there is no memory, nothing is left beside the tree that leads to no subscription.
-fn put_in(
-    tree: &mut LevelTree<FilterEntry>,
-    lists: &mut BTreeMap<RcStr, ClientFilters>,
-    alloc: Global,
-    client: &RcStr,
-    text: &str,
-    wanted: &SubFilter,
-    options: SubscriptionOptions,
-) -> Result<(), AllocError>
-    requires listed { AreListed tree.old (texts lists.old.entries) }
-    requires asked { IsAskedBy text.now wanted.now }
-    ensures ok { OnOk result (SameInTurn (all_rows tree.new)
-        (joined (wanted_row (rc_str_bytes client.now) wanted.now options) (all_rows tree.old))) }
-    ensures err { OnErr result (tree.new ≡ tree.old) }
-    ensures listed { AreListed tree.new (texts lists.new.entries) }
-{
-    let id = client.as_str();
-    if contains_in(tree, id, wanted) {
-        join_in(tree, alloc, client, wanted, options)?;
-        return Ok(());
-    }
-    list_add(lists, alloc, client, text)?;
-    match join_in(tree, alloc, client, wanted, options) {
-        Ok(()) => Ok(()),
-        Err(fault) => {
-            list_remove(lists, id, text);
-            Err(fault)
-        }
-    }
-}
-
-fn take_out(
-    tree: &mut LevelTree<FilterEntry>,
-    lists: &mut BTreeMap<RcStr, ClientFilters>,
-    client: &str,
-    text: &str,
-) -> bool
-    requires listed { AreListed tree.old (texts lists.old.entries) }
-    requires valid { IsTrue (is_subscription text.now) }
-    ensures existed { result ≡ list_any (has_asked client.now text.now) (all_rows tree.old) }
-    ensures rows { all_rows tree.new ≡ filter (λ s. not (has_asked client.now text.now s))
-        (all_rows tree.old) }
-    ensures listed { AreListed tree.new (texts lists.new.entries) }
-{
-    let existed = leave_in(tree, client, text);
-    list_remove(lists, client, text);
-    existed
-}
+ghost use Rattle.mq_subscriptions.specs.Filters.{AreListed, is_empty, is_in_list, is_text, FilterKey};
 
 // Takes a client's subscriptions out of the tree.
 fn leave_all(tree: &mut LevelTree<FilterEntry>, own: &ClientFilters, client: &str)
-    requires { AreKept tree.old }
+    requires { AreEntries tree.old }
     ensures rows { all_rows tree.new ≡ filter
         (λ s. not (same_text s.client client.now && is_in_list own.now s)) (all_rows tree.old) }
-    ensures kept { AreKept tree.new }
+    ensures kept { AreEntries tree.new }
 {
     for text in own.texts() {
         let _ = leave_in(tree, client, text.as_str());
-    }
-}
-
-fn take_all(
-    tree: &mut LevelTree<FilterEntry>,
-    lists: &mut BTreeMap<RcStr, ClientFilters>,
-    client: &str,
-)
-    requires { AreListed tree.old (texts lists.old.entries) }
-    ensures rows { all_rows tree.new ≡ filter (λ s. not (same_text s.client client.now))
-        (all_rows tree.old) }
-    ensures listed { AreListed tree.new (texts lists.new.entries) }
-{
-    let _count = lists.len();
-    match lists.remove(client) {
-        Some(own) => leave_all(tree, &own, client),
-        None => {}
     }
 }
 

@@ -15,7 +15,6 @@ use crate::retained::deadlines::{Deadlines, Due};
 use crate::retained::messages::Messages;
 use crate::retained::stored::Stored;
 use mq_topic::TopicName;
-use mq_tree::Steps;
 use mq_world::Message;
 use std::alloc::{AllocError, Global};
 
@@ -107,16 +106,4 @@ pub(crate) fn forget(
     let _ = tree.take(topic);
     deadlines.remove(&older);
     Ok(())
-}
-
-/// Removes the messages that are due, each at one step.
-pub(crate) fn expire(tree: &mut Messages, deadlines: &mut Deadlines, moment: u64, steps: &mut Steps)
-    requires { IsSound tree.old deadlines.old }
-    ensures sound { IsSound tree.new deadlines.new }
-    ensures rest { retained_in tree.new ≡ unexpired moment (retained_in tree.old) }
-    ensures count { steps.new ≡ steps.old + length (filter (is_due moment) (retained_in tree.old)) }
-{
-    while let Some(topic) = deadlines.take_due(moment, steps) {
-        let _ = tree.take(&topic);
-    }
 }

@@ -23,9 +23,9 @@ abbrev pub begins : ℕ → Option (List AclRow) → List Subscription → Messa
 begins limit access subscriptions m deadline session =
     option_map (begin_with session.id deadline) (waiting_copy limit access subscriptions m session)
 
-abbrev pub begun_by : ℕ → Option (List AclRow) → List Session → List Subscription → Message
+abbrev pub queued_by : ℕ → Option (List AclRow) → List Session → List Subscription → Message
     → Option ℕ → List Begin
-begun_by limit access sessions subscriptions m deadline =
+queued_by limit access sessions subscriptions m deadline =
     filter_map (begins limit access subscriptions m deadline) sessions
 
 -- of subscriptions that match, those of the client in its own name that take part

@@ -14,7 +14,7 @@ use Rattle.mq_world.specs.World.{Reply, asked, session_cmp, has_id, has_key}
 use Rattle.mq_world.specs.Sessions.{new_session, connected, user_of, outlives, resumes, left_by}
 use Rattle.mq_world.specs.Sessions.{has_ended, is_among}
 use Rattle.mq_sessions.specs.Queue.{Begin}
-use Rattle.mq_router.specs.delivery.Copies.{begun_by}
+use Rattle.mq_router.specs.delivery.Copies.{queued_by}
 use Rattle.mq_world.specs.Waiting.{begins_to_wait, waiting_after, resumed_copies}
 use Rattle.mq_world.specs.Refusals.{refusal}
 use Rattle.mq_world.specs.Copies.{direct_copies}
@@ -56,22 +56,22 @@ world_of s = record {
 abbrev pub member_copy : Message → Subscription → Copy
 member_copy m s = group_copy m (unstamped s)
 
-abbrev pub copies_made : Option (List AclRow) → List Session → List Subscription → Message
+abbrev pub message_copies : Option (List AclRow) → List Session → List Subscription → Message
     → List Copy
-copies_made access sessions subscriptions m =
+message_copies access sessions subscriptions m =
     direct_copies access (connected sessions) subscriptions m
     ++ map (member_copy m) (next_members access sessions subscriptions m)
 
 -- those of a state
-abbrev pub copies_held : State → Message → List Copy
-copies_held s m = copies_made s.access s.sessions s.subscriptions m
+abbrev pub copies_now : State → Message → List Copy
+copies_now s m = message_copies s.access s.sessions s.subscriptions m
 
-abbrev pub members_held : State → Message → List Subscription
-members_held s m = next_members s.access s.sessions s.subscriptions m
+abbrev pub members_now : State → Message → List Subscription
+members_now s m = next_members s.access s.sessions s.subscriptions m
 
 -- what begins to wait, until this deadline or for ever
-abbrev pub begun_held : State → Message → Option ℕ → List Begin
-begun_held s m deadline = begun_by s.limits.queued s.access s.sessions s.subscriptions m deadline
+abbrev pub queued_now : State → Message → Option ℕ → List Begin
+queued_now s m deadline = queued_by s.limits.queued s.access s.sessions s.subscriptions m deadline
 
 abbrev pub copies_sent : State → Subscription → List Copy
 copies_sent s new =
@@ -80,8 +80,8 @@ copies_sent s new =
     else []
 
 -- the nodes of both trees, the retained messages and the subscriptions
-abbrev pub counts_held : State → Outcome
-counts_held s =
+abbrev pub counts_now : State → Outcome
+counts_now s =
     Counts (capped (length (prefixes s.filter_keys) + length (prefixes s.topic_keys)))
     (capped (length s.retained))
     (capped (length s.subscriptions))
@@ -96,11 +96,11 @@ reply_to s (Unsubscribe id text) =
     reason (if list_any (has_key id (share_of text) (filter_part text)) s.subscriptions then
     0 else 17)
 reply_to s (Publish m) =
-    published (copies_made s.access s.sessions s.subscriptions m)
+    published (message_copies s.access s.sessions s.subscriptions m)
     (begins_to_wait s.limits.queued s.access s.sessions s.subscriptions m)
 reply_to s (SetAcl text) = reason 0
 reply_to s (Advance seconds) = reason 0
-reply_to s Stat = record { copies = []; outcome = counts_held s }
+reply_to s Stat = record { copies = []; outcome = counts_now s }
 
 -- the subscriptions without those of a client
 abbrev pub without : Text → List Subscription → List Subscription

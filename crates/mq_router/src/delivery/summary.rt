@@ -53,7 +53,8 @@ impl Summary {
 
     /// One more subscription.
     pub(crate) fn add(&mut self, options: SubscriptionOptions) -> Result<(), AllocError>
-        ensures { OnOk result (self.new ≡ together self.old (summary_of (options_of options ∷ []))) }
+        ensures { OnOk result (self.new
+            ≡ together self.old (summary_of (options_of options ∷ []))) }
     {
         push_id(&mut self.ids, options.id)?;
         self.qos = self.qos.max(options.qos);

@@ -23,7 +23,7 @@ use std::rc::RcStr;
 #[derive(Debug, Drop)]
 pub(crate) struct Direct {
     pub(crate) copies: Vec<Delivery>,
-    pub(crate) begun: Vec<QueuedCopy>,
+    pub(crate) queued: Vec<QueuedCopy>,
 }
 
 /// The copies for the clients that may read the topic, by client id: for those that are connected, and for those that are
@@ -39,7 +39,7 @@ pub(crate) fn direct_copies(
     ensures copies { IfOk result (λ d. copies_in d.copies
         ≡ copies_by readers.now.access.now readers.now.sessions.now
         (message_of outgoing.now.message) (by_client (matched matches.now))) }
-    ensures begun { IfOk result (λ d. map begin_of d.begun.items
+    ensures queued { IfOk result (λ d. map begin_of d.queued.items
         ≡ begins_by limit readers.now.access.now readers.now.sessions.now
         (message_of outgoing.now.message) outgoing.now.message.deadline
         (by_client (matched matches.now))) }
@@ -47,7 +47,7 @@ pub(crate) fn direct_copies(
     // A client gets a copy if it has a session.
     let most = matches.len().min(readers.sessions.len());
     let mut copies = Vec::with_capacity(alloc, most)?;
-    let mut begun = Vec::new(alloc);
+    let mut queued = Vec::new(alloc);
     for own in matches.chunk_by(|a, b| a.client == b.client) {
         let client = own[0].client;
         match readers.way(client, outgoing.message.topic, limit) {
@@ -55,13 +55,13 @@ pub(crate) fn direct_copies(
             Way::Waits => {
                 let copy = own_copy(alloc, client, own, outgoing)?;
                 if let Some(one) = begin(alloc, copy, outgoing.message.deadline)? {
-                    begun.push(one)?;
+                    queued.push(one)?;
                 }
             }
             Way::Nowhere => {}
         }
     }
-    Ok(Direct { copies, begun })
+    Ok(Direct { copies, queued })
 }
 
 // The copy for a client, by its subscriptions.

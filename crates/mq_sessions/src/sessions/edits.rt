@@ -7,13 +7,11 @@ ghost use Rattle.mq_world.specs.World.{has_id, session_cmp};
 ghost use Rattle.std.specs.Option.{option_to_list};
 ghost use Rattle.std.specs.List.{filter};
 ghost use Rattle.mq_world.specs.Sessions.{left_by, has_ended};
-ghost use Rattle.mq_sessions.specs.Queue.{queued_one};
 ghost use Rattle.mq_ends.specs.Counts.{SameEnds};
 ghost use Rattle.mq_sessions.specs.Ends.{end_of, ends_at};
-ghost use Rattle.mq_sessions.specs.Views.{session_at, session_in, shown, begin_of};
+ghost use Rattle.mq_sessions.specs.Views.{session_at, session_in, shown};
 
 use crate::clock::Clock;
-use crate::sessions::queued::QueuedCopy;
 use crate::sessions::session::Session;
 use std::alloc::AllocError;
 use std::collections::BTreeMap;
@@ -83,15 +81,6 @@ pub(crate) fn leave(sessions: &mut BTreeMap<RcStr, Session>, id: &str, clock: Cl
                 to: session.end(),
             }
         }
-    }
-}
-
-pub(crate) fn join(sessions: &mut BTreeMap<RcStr, Session>, limit: u32, begun: QueuedCopy)
-    ensures { map session_in sessions.new.entries
-        ≡ queued_one limit (begin_of begun) (map session_in sessions.old.entries) }
-{
-    if let Some(session) = sessions.get_mut(begun.client.as_str()) {
-        session.queue(limit, begun.copies);
     }
 }
 

@@ -27,7 +27,7 @@ pub fn begin(
     copy: Delivery,
     deadline: Option<u64>,
 ) -> Result<Option<QueuedCopy>, AllocError>
-    ensures { IfOk result (λ begun. option_map begin_of begun
+    ensures { IfOk result (λ queued_copy. option_map begin_of queued_copy
         ≡ option_map (begin_with (rc_str_bytes copy.client) deadline) (with_qos (copy_of copy))) }
 {
     if copy.qos == 0 {

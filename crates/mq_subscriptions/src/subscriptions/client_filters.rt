@@ -3,7 +3,7 @@ ghost use Rattle.std.specs.Prelude.{◌≡◌, ◌&&◌, ◌||◌, [], true, map
 ghost use Rattle.std.specs.List.{AllByRecursion};
 ghost use Rattle.mq_topic.specs.Texts.{is_subscription};
 ghost use Rattle.mq_world.specs.World.{Subscription};
-ghost use Rattle.mq_subscriptions.specs.Filters.{is_empty, is_own, is_in_list, text_key};
+ghost use Rattle.mq_subscriptions.specs.Filters.{is_empty, has_filter_key, is_in_list, text_key};
 ghost use Rattle.mq_subscriptions.specs.ClientViews.{key_in, IsAsked};
 
 use std::alloc::{AllocError, Global};
@@ -20,13 +20,13 @@ pub(crate) struct ClientFilters {
 
 impl Model for ClientFilters {
     ghost use Rattle.std.specs.Prelude.{List};
-    ghost use Rattle.mq_subscriptions.specs.Filters.{OwnKey};
+    ghost use Rattle.mq_subscriptions.specs.Filters.{FilterKey};
 
-    ghost Value = { List OwnKey };
+    ghost Value = { List FilterKey };
 
-    ghost use Rattle.mq_subscriptions.specs.ClientViews.{own_of, AreAsked};
+    ghost use Rattle.mq_subscriptions.specs.ClientViews.{filters_view, AreAsked};
 
-    ghost view = { own_of };
+    ghost view = { filters_view };
 
     ghost invariant = { AreAsked };
 }
@@ -50,7 +50,7 @@ impl ClientFilters {
     pub(crate) fn add(&mut self, alloc: Global, text: &str) -> Result<(), AllocError>
         requires { IsTrue (is_subscription text.now) }
         ensures ok { OnOk result ((s : Subscription)
-            → is_in_list self.new s ≡ (is_own s (text_key text.now) || is_in_list self.old s)) }
+            → is_in_list self.new s ≡ (has_filter_key s (text_key text.now) || is_in_list self.old s)) }
         ensures err { OnErr result (self.new ≡ self.old) }
     {
         let text = RcStr::from_str(alloc, text)?;
@@ -62,7 +62,8 @@ impl ClientFilters {
     pub(crate) fn remove(&mut self, text: &str)
         requires { IsTrue (is_subscription text.now) }
         ensures { (s : Subscription)
-            → is_in_list self.new s ≡ (not (is_own s (text_key text.now)) && is_in_list self.old s) }
+            → is_in_list self.new s ≡
+            (not (has_filter_key s (text_key text.now)) && is_in_list self.old s) }
     {
         // Learns that the keys are in order.
         let _count = self.texts.len();

@@ -125,7 +125,7 @@ impl FilterEntry {
         matches: &mut Vec<Match<'a>>,
     ) -> Result<(), AllocError>
         ensures { OnOk result (matched matches.new.items ≡ matched matches.old.items
-            ++ own_matches (message_of message.now) self.now.rows) }
+            ++ unshared_matches (message_of message.now) self.now.rows) }
     {
         for (client, options) in &self.direct {
             if !is_held_back(*options, client.as_str(), message) {
@@ -189,7 +189,7 @@ fn member_count(groups: &BTreeMap<RcStr, Group>) -> u64
 }
 
 ghost use Rattle.mq_world.specs.Views.{message_of};
-ghost use Rattle.mq_subscriptions.specs.Matches.{own_matches};
+ghost use Rattle.mq_subscriptions.specs.Matches.{unshared_matches};
 ghost use Rattle.mq_subscriptions.specs.Matches.{matched};
 ghost use Rattle.mq_subscriptions.specs.Turns.{GathersTurns};
 ghost use Rattle.mq_subscriptions.specs.Edits.{JoinsAt, DirectJoins, GroupJoins, DirectLeaves};

@@ -15,9 +15,9 @@ use Rattle.mq_subscriptions.specs.Turns.{turns_in}
 use Rattle.mq_subscriptions.specs.Matches.{matched, options_among}
 use Rattle.mq_router.specs.delivery.Copies.{by_client}
 use Rattle.mq_router.proofs.ClientLemmas.{sorted-by_client, lookup-by_client, options-own}
-use Rattle.mq_router.proofs.OwnCopies.{own-copies, own-begun, options-matching}
+use Rattle.mq_router.proofs.UnsharedCopies.{own-copies, own-queued, options-matching}
 use Rattle.mq_router.proofs.GroupLemmas.{members-matching}
-use Rattle.mq_router.proofs.NothingLemmas.{empty-is, no-copies, no-begun, no-members}
+use Rattle.mq_router.proofs.NothingLemmas.{empty-is, no-copies, no-queued, no-members}
 use Rattle.mq_router.proofs.delivery.make_copies.Goals as goal
 
 pub returns-then-is_empty-clause-served : goal.returns-then-is_empty-clause-served
@@ -32,8 +32,8 @@ returns-then-is_empty-clause-served c =
     c.nothing.ensures.served
     ∙ sym (no-members c.args.readers.now.access.now c.args.readers.now.sessions.now subs m none)
 
-pub returns-then-is_empty-clause-begun : goal.returns-then-is_empty-clause-begun
-returns-then-is_empty-clause-begun c =
+pub returns-then-is_empty-clause-queued : goal.returns-then-is_empty-clause-queued
+returns-then-is_empty-clause-queued c =
     let m = message_of c.args.message.now in
     let subs = c.args.subscriptions.now.rows in
     let none : filter (λ s. filter_matches s.filter m.topic) subs ≡ [] =
@@ -41,8 +41,8 @@ returns-then-is_empty-clause-begun c =
     ∙ ap (λ l. rows_found (map (λ a. a.now) l))
     (sym c.as_slice-found.ensures.value
     ∙ empty-is c.as_slice-found.result.now (sym c.is_empty.ensures ∙ c.if-is_empty.true)) in
-    ap (map begin_of) c.nothing.ensures.begun
-    ∙ sym (no-begun c.args.readers.now.access.now c.args.readers.now.sessions.now subs m none
+    ap (map begin_of) c.nothing.ensures.queued
+    ∙ sym (no-queued c.args.readers.now.access.now c.args.readers.now.sessions.now subs m none
     c.args.limit c.args.message.now.deadline)
 
 pub returns-then-is_empty-clause-copies : goal.returns-then-is_empty-clause-copies
@@ -75,8 +75,8 @@ returns-clause-served c =
     c.args.subscriptions.now.rows m)
     c.made_for.ensures.served
 
-pub returns-clause-begun : goal.returns-clause-begun
-returns-clause-begun c =
+pub returns-clause-queued : goal.returns-clause-queued
+returns-clause-queued c =
     let m = message_of c.args.message.now in
     let A = c.args.readers.now.access.now in
     let S = c.args.readers.now.sessions.now in
@@ -84,7 +84,7 @@ returns-clause-begun c =
     let ms = matched c.as_slice.result.now in
     IfOk-weaker c.made_for.result _ _
     (λ made e. e
-    ∙ own-begun c.args.limit A S subs m c.args.message.now.deadline (by_client ms)
+    ∙ own-queued c.args.limit A S subs m c.args.message.now.deadline (by_client ms)
     c.len-sessions.ensures.ordered (sorted-by_client ms)
     (λ id. lookup-by_client id ms
     ∙ ap summary_for (ap (λ l. options_among id (matched l)) c.as_slice.ensures.value
@@ -92,7 +92,7 @@ returns-clause-begun c =
     ∙ options-own m id (rows_found (map (λ a. a.now) c.as_slice-found.result.now))
     ∙ ap (λ l. gives_options m id (rows_found (map (λ a. a.now) l))) c.as_slice-found.ensures.value
     ∙ ap (gives_options m id) c.in_ok-candidates.ensures.rows ∙ options-matching m id subs)))
-    c.made_for.ensures.begun
+    c.made_for.ensures.queued
 
 pub returns-clause-copies : goal.returns-clause-copies
 returns-clause-copies c =

@@ -9,7 +9,7 @@ use Rattle.mq_world.specs.Lists.{Text}
 use Rattle.mq_world.specs.World.{Subscription}
 use Rattle.mq_world.specs.Turns.{SameInTurn}
 use Rattle.mq_subscriptions.specs.Turns.{joined}
-use Rattle.mq_subscriptions.specs.Filters.{At, AtEntries, AreKept, row, all_rows}
+use Rattle.mq_subscriptions.specs.Filters.{At, AtEntries, AreEntries, row, all_rows}
 use Rattle.mq_subscriptions.proofs.InTurn.{same-is, same-then}
 use Rattle.mq_world.proofs.ListLemmas.{on_err}
 use Rattle.mq_world.proofs.Splits.{set_same}
@@ -30,7 +30,7 @@ pub returns-in_err-join-in-Some-clause-kept : goal.returns-in_err-join-in-Some-c
 returns-in_err-join-in-Some-clause-kept c =
     let found = sym c.get_mut.ensures.value ∙ ap option_copied_mut c.in-Some.is in
     let set = rw c.in-Some.is at (c.get_mut.follows.holds c.join.new.self) in
-    subst (λ (l : AtEntries). AreKept l)
+    subst (λ (l : AtEntries). AreEntries l)
     (sym (set ∙ ap (set_value (is_key (levels c.args.wanted.now.filter)) c.args.tree.now)
     c.in_err-join-in-Some.ensures.err
     ∙ set_same (is_key (levels c.args.wanted.now.filter)) c.args.tree.now c.in-Some.at.now

@@ -4,7 +4,7 @@ use Rattle.std.specs.Rc.{rc_str_bytes}
 use Rattle.std.specs.List.{AllByRecursion}
 use Rattle.std.specs.Map.{lookup, set_value}
 use Rattle.mq_world.specs.Keys.{Key}
-use Rattle.mq_subscriptions.specs.Filters.{is_text, text_key, is_empty, OwnKey}
+use Rattle.mq_subscriptions.specs.Filters.{is_text, text_key, is_empty, FilterKey}
 use Rattle.mq_subscriptions.specs.Views.{texts}
 use Rattle.mq_world.proofs.ListLemmas.{on_err}
 use Rattle.mq_sessions.proofs.SessionLemmas.{finds}
@@ -53,5 +53,5 @@ returns-in_err-add-in-Some-clause-live c =
     let same = (c.get_mut.follows.holds c.add.new.self).0
     ∙ ap (set_value test ls) c.in_err-add-in-Some.ensures.err
     ∙ set_same test ls c.in-Some.own.now found in
-    subst (λ (es : List (Key × List OwnKey)). AllByRecursion (λ l. is_empty l.1 ≡ false) (texts es))
+    subst (λ (es : List (Key × List FilterKey)). AllByRecursion (λ l. is_empty l.1 ≡ false) (texts es))
     (sym same) c.requires.live

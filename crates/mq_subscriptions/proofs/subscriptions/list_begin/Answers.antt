@@ -1,6 +1,6 @@
 use Rattle.std.proofs.Common.{◌∙◌, ◌||◌, ap}
 use Rattle.std.specs.Rc.{rc_str_bytes}
-use Rattle.mq_subscriptions.specs.Filters.{text_key, is_own, is_in_list}
+use Rattle.mq_subscriptions.specs.Filters.{text_key, has_filter_key, is_in_list}
 use Rattle.mq_subscriptions.proofs.ListedLemmas.{added-first, added-live, live-begun}
 use Rattle.mq_subscriptions.proofs.subscriptions.list_begin.Goals as goal
 
@@ -9,7 +9,7 @@ returns-clause-ok c =
     added-first (rc_str_bytes c.args.client.now) (text_key c.args.text.now) c.args.lists.now.entries
     c.in_ok-client.client c.in_ok-client.ensures.cases c.requires.absent
     c.add.new.self c.insert.new.self.entries c.in_ok-insert.ensures.entries
-    (λ s. c.in_ok-add.ensures.ok s ∙ ap (λ l. is_own s (text_key c.args.text.now) || is_in_list l s)
+    (λ s. c.in_ok-add.ensures.ok s ∙ ap (λ l. has_filter_key s (text_key c.args.text.now) || is_in_list l s)
     c.new-own.ensures)
 
 pub returns-clause-live : goal.returns-clause-live

@@ -8,7 +8,7 @@ use Rattle.mq_world.specs.World.{Retained}
 use Rattle.mq_world.specs.Counts.{topics_of}
 use Rattle.mq_world.specs.Copies.{filter_matches}
 use Rattle.mq_retained.specs.Receivers.{subscription_for}
-use Rattle.mq_retained.specs.Stored.{AreNear, message_in, KeptRetained}
+use Rattle.mq_retained.specs.Stored.{AreNear, message_in, RetainedView}
 use Rattle.mq_retained.proofs.RetainedLemmas.{matched-retained, keys-retained}
 use Rattle.mq_retained.proofs.SendingLemmas.{sent-is}
 use Rattle.mq_retained.proofs.NearLemmas.{near-filter}
@@ -23,7 +23,7 @@ copies_of-requires c =
     ∙ sym (map-map message_in (λ s. s.now) c.in_ok-found.found.items)
     ∙ ap (map message_in) c.in_ok-found.ensures.found
     ∙ matched-retained wanted c.self.inside.tree c.self.invariant.placed
-    ∙ ap (λ (k : KeptRetained). filter (λ (kept : Retained). filter_matches wanted kept.topic)
+    ∙ ap (λ (k : RetainedView). filter (λ (kept : Retained). filter_matches wanted kept.topic)
     k.messages) c.self.view_is in
     subst (λ retained. AreNear c.args.receiver.now.clock.moment retained) (sym seen)
     (near-filter c.args.receiver.now.clock.moment (λ kept. filter_matches wanted kept.topic)
@@ -38,7 +38,7 @@ returns-clause-copies c =
     ∙ sym (map-map message_in (λ s. s.now) c.in_ok-found.found.items)
     ∙ ap (map message_in) c.in_ok-found.ensures.found
     ∙ matched-retained wanted c.self.inside.tree c.self.invariant.placed
-    ∙ ap (λ (k : KeptRetained). filter (λ (kept : Retained). filter_matches wanted kept.topic)
+    ∙ ap (λ (k : RetainedView). filter (λ (kept : Retained). filter_matches wanted kept.topic)
     k.messages) c.self.view_is in
     c.in_ok-copies.ensures
     ∙ sent-is c.args.receiver.now.clock.moment c.args.receiver.now.access.now
@@ -51,4 +51,4 @@ returns-clause-count c =
     c.in_ok-found.ensures.count
     ∙ ap (λ keys. c.args.steps.now + length (met_by_filter (levels wanted) (prefixes keys)))
     (keys-retained c.self.inside.tree c.self.invariant.placed
-    ∙ ap (λ (k : KeptRetained). topics_of k.messages) c.self.view_is)
+    ∙ ap (λ (k : RetainedView). topics_of k.messages) c.self.view_is)

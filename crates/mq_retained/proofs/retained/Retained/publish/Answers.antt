@@ -1,7 +1,7 @@
 use Rattle.std.proofs.Common.{◌∙◌, ap, sym, subst, not, true, false, List, ℕ, Option}
 use Rattle.mq_world.specs.World.{Retained, Message, retained_cmp}
 use Rattle.mq_world.specs.Retained.{has_topic, retained_after}
-use Rattle.mq_retained.specs.Stored.{stored_until, AreNear, retained_in, KeptRetained}
+use Rattle.mq_retained.specs.Stored.{stored_until, AreNear, retained_in, RetainedView}
 use Rattle.mq_world.specs.Views.{message_of}
 use Rattle.mq_world.specs.Lists.{with_row}
 use Rattle.mq_world.proofs.ListLemmas.{on_err}
@@ -14,7 +14,7 @@ returns-then-not-is_stored-clause-near c = λ moment due near.
     subst (λ retained. AreNear moment retained) (sym c.in_ok-forget.ensures.ok)
     (near-filter moment (λ kept. not (has_topic c.args.message.now.topic.now kept))
     (retained_in c.self.inside.tree)
-    (subst (λ (k : KeptRetained). AreNear moment k.messages) (sym c.self.view_is) near))
+    (subst (λ (k : RetainedView). AreNear moment k.messages) (sym c.self.view_is) near))
 
 pub returns-clause-near : goal.returns-clause-near
 returns-clause-near c = λ moment due near.
@@ -22,7 +22,7 @@ returns-clause-near c = λ moment due near.
     in
     subst (λ retained. AreNear moment retained) (sym c.in_ok-store.ensures.ok)
     (near-with_row moment kept (retained_in c.self.inside.tree) due
-    (subst (λ (k : KeptRetained). AreNear moment k.messages) (sym c.self.view_is) near))
+    (subst (λ (k : RetainedView). AreNear moment k.messages) (sym c.self.view_is) near))
 
 pub returns-then-not-message-clause-ok : goal.returns-then-not-message-clause-ok
 returns-then-not-message-clause-ok c =
@@ -35,7 +35,7 @@ returns-then-not-is_stored-clause-ok c = λ now same.
     c.in_ok-forget.ensures.ok
     ∙ sym (after-by now (retained_in c.self.inside.tree) m false c.if-not-message.false
     (sym c.is_stored.ensures ∙ c.if-not-is_stored.true))
-    ∙ ap (λ (k : KeptRetained). retained_after now k.messages m) c.self.view_is
+    ∙ ap (λ (k : RetainedView). retained_after now k.messages m) c.self.view_is
 
 pub returns-clause-ok : goal.returns-clause-ok
 returns-clause-ok c = λ now same.
@@ -47,7 +47,7 @@ returns-clause-ok c = λ now same.
     ∙ ap kept same
     ∙ sym (after-by now (retained_in c.self.inside.tree) m true c.if-not-message.false
     (sym c.is_stored.ensures ∙ c.if-not-is_stored.false))
-    ∙ ap (λ (k : KeptRetained). retained_after now k.messages m) c.self.view_is
+    ∙ ap (λ (k : RetainedView). retained_after now k.messages m) c.self.view_is
 
 pub returns-then-not-is_stored-clause-filed : goal.returns-then-not-is_stored-clause-filed
 returns-then-not-is_stored-clause-filed c =

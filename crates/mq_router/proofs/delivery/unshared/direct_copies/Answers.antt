@@ -27,11 +27,11 @@ loop-own-preserved c =
     let step =
     nowhere-first c.args.limit A S m c.args.outgoing.now.message.deadline _ c.way.result
     c.way.ensures.sent c.way.ensures.waits
-    (map copy_of c.loop-own.copies.items) (map begin_of c.loop-own.begun.items)
+    (map copy_of c.loop-own.copies.items) (map begin_of c.loop-own.queued.items)
     (by_client (matched (chunk_by_rest c.next.new.self)))
     (by_client (matched (chunk_by_rest c.loop-own.own-iterator))) first.1
     c.in-Nowhere.is in
-    record { sorted = first.0; copies = step.0 ∙ held.copies; begun = step.1 ∙ held.begun }
+    record { sorted = first.0; copies = step.0 ∙ held.copies; queued = step.1 ∙ held.queued }
 
 pub loop-own-preserved-in_default : goal.loop-own-preserved-in_default
 loop-own-preserved-in_default c =
@@ -46,7 +46,7 @@ loop-own-preserved-in_default c =
     let step =
     waits-first c.args.limit A S m c.args.outgoing.now.message.deadline _ c.way.result
     c.way.ensures.sent c.way.ensures.waits
-    (map copy_of c.loop-own.copies.items) (map begin_of c.loop-own.begun.items)
+    (map copy_of c.loop-own.copies.items) (map begin_of c.loop-own.queued.items)
     (by_client (matched (chunk_by_rest c.next.new.self)))
     (by_client (matched (chunk_by_rest c.loop-own.own-iterator))) first.1
     c.in-Waits.is (option_map begin_of c.in_ok-one-in-Waits.field-0)
@@ -58,10 +58,10 @@ loop-own-preserved-in_default c =
     record {
       sorted = first.0;
       copies = step.0 ∙ held.copies;
-      begun = ap (λ l. l ++ left) (sym (append-nil (map begin_of c.loop-own.begun.items)))
-          ∙ ap (λ o. (map begin_of c.loop-own.begun.items ++ option_to_list (option_map begin_of o))
+      queued = ap (λ l. l ++ left) (sym (append-nil (map begin_of c.loop-own.queued.items)))
+          ∙ ap (λ o. (map begin_of c.loop-own.queued.items ++ option_to_list (option_map begin_of o))
           ++ left) (sym c.in_default.is)
-          ∙ step.1 ∙ held.begun;
+          ∙ step.1 ∙ held.queued;
     }
 
 pub loop-own-preserved-in_ok-push-in-Sent : goal.loop-own-preserved-in_ok-push-in-Sent
@@ -78,7 +78,7 @@ loop-own-preserved-in_ok-push-in-Sent c =
     let step =
     sent-first c.args.limit A S m c.args.outgoing.now.message.deadline _ c.way.result
     c.way.ensures.sent c.way.ensures.waits
-    (map copy_of c.loop-own.copies.items) (map begin_of c.loop-own.begun.items)
+    (map copy_of c.loop-own.copies.items) (map begin_of c.loop-own.queued.items)
     (by_client (matched (chunk_by_rest c.next.new.self)))
     (by_client (matched (chunk_by_rest c.loop-own.own-iterator))) first.1
     c.in-Sent.is (copy_of copy) c.in_ok-own_copy-in-Sent.ensures in
@@ -88,7 +88,7 @@ loop-own-preserved-in_ok-push-in-Sent c =
       copies = ap (λ l. map copy_of l ++ left) c.in_ok-push-in-Sent.ensures.items
           ∙ ap (λ l. l ++ left) (map-append copy_of c.loop-own.copies.items (copy ∷ []))
           ∙ step.0 ∙ held.copies;
-      begun = step.1 ∙ held.begun;
+      queued = step.1 ∙ held.queued;
     }
 
 pub loop-own-preserved-in_ok-push-in-Waits : goal.loop-own-preserved-in_ok-push-in-Waits
@@ -105,7 +105,7 @@ loop-own-preserved-in_ok-push-in-Waits c =
     let step =
     waits-first c.args.limit A S m c.args.outgoing.now.message.deadline _ c.way.result
     c.way.ensures.sent c.way.ensures.waits
-    (map copy_of c.loop-own.copies.items) (map begin_of c.loop-own.begun.items)
+    (map copy_of c.loop-own.copies.items) (map begin_of c.loop-own.queued.items)
     (by_client (matched (chunk_by_rest c.next.new.self)))
     (by_client (matched (chunk_by_rest c.loop-own.own-iterator))) first.1
     c.in-Waits.is (option_map begin_of c.in_ok-one-in-Waits.field-0)
@@ -117,9 +117,9 @@ loop-own-preserved-in_ok-push-in-Waits c =
     record {
       sorted = first.0;
       copies = step.0 ∙ held.copies;
-      begun = ap (λ l. map begin_of l ++ left) c.in_ok-push-in-Waits.ensures.items
-          ∙ ap (λ l. l ++ left) (map-append begin_of c.loop-own.begun.items (one ∷ []))
-          ∙ ap (λ o. (map begin_of c.loop-own.begun.items ++ option_to_list (option_map begin_of o))
+      queued = ap (λ l. map begin_of l ++ left) c.in_ok-push-in-Waits.ensures.items
+          ∙ ap (λ l. l ++ left) (map-append begin_of c.loop-own.queued.items (one ∷ []))
+          ∙ ap (λ o. (map begin_of c.loop-own.queued.items ++ option_to_list (option_map begin_of o))
           ++ left) (sym c.in-Some-2.is)
-          ∙ step.1 ∙ held.begun;
+          ∙ step.1 ∙ held.queued;
     }

@@ -15,7 +15,7 @@ invariant-loop-own l = record {
       (message_of l.outgoing.message) (by_client (matched (chunk_by_rest l.own-iterator)))
       ≡ copies_by l.readers.access.now l.readers.sessions.now (message_of l.outgoing.message)
       (by_client (matched l.fn.matches));
-  begun : map begin_of l.begun.items ++ begins_by l.limit l.readers.access.now
+  queued : map begin_of l.queued.items ++ begins_by l.limit l.readers.access.now
       l.readers.sessions.now (message_of l.outgoing.message) l.outgoing.message.deadline
       (by_client (matched (chunk_by_rest l.own-iterator)))
       ≡ begins_by l.limit l.readers.access.now l.readers.sessions.now

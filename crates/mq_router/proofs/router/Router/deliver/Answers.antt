@@ -8,17 +8,17 @@ use Rattle.mq_world.specs.Refusals.{refusal}
 use Rattle.mq_world.specs.Clock.{deadline_of}
 use Rattle.mq_world.specs.Waiting.{waiting_after, begins_to_wait}
 use Rattle.mq_sessions.specs.Queue.{Begin, queued_all}
-use Rattle.mq_router.specs.delivery.Copies.{begun_by}
+use Rattle.mq_router.specs.delivery.Copies.{queued_by}
 use Rattle.mq_sessions.specs.Near.{AllReached}
 use Rattle.std.specs.Option.{IfSome}
 use Rattle.mq_world.specs.Answers.{published}
 use Rattle.mq_router.specs.StandsFor.{State}
-use Rattle.mq_router.specs.router.Effects.{Does, world_of, copies_held, begun_held, members_held}
+use Rattle.mq_router.specs.router.Effects.{Does, world_of, copies_now, queued_now, members_now}
 use Rattle.mq_subscriptions.specs.Turns.{all_turned}
 use Rattle.mq_world.specs.Views.{reply_of, message_of}
 use Rattle.mq_subscriptions.proofs.InTurn.{same-is, same-then}
 use Rattle.mq_router.proofs.RouterLemmas.{publish-does}
-use Rattle.mq_router.proofs.BegunLemmas.{queued-is, waits-is}
+use Rattle.mq_router.proofs.QueuedLemmas.{queued-is, waits-is}
 use Rattle.mq_sessions.proofs.ReachedLemmas.{reached-after}
 use Rattle.std.proofs.lemmas.List.{length-map}
 use Rattle.mq_router.proofs.router.Router.deliver.Goals as goal
@@ -38,8 +38,8 @@ invariant_of-self-2 c =
     let waiting : c.join_all.new.self
     ≡ map (waiting_after limit s.access s.subscriptions s.moment m) s.sessions =
     c.join_all.ensures.new ∙ ap (λ bs. queued_all limit bs s.sessions)
-    (c.in_ok-made.ensures.begun ∙ ap (λ (v : State). begun_held v m c.args.message.now.deadline)
-    (sym c.self.view_is) ∙ ap (begun_held s m) value)
+    (c.in_ok-made.ensures.queued ∙ ap (λ (v : State). queued_now v m c.args.message.now.deadline)
+    (sym c.self.view_is) ∙ ap (queued_now s m) value)
     ∙ queued-is limit s.access s.subscriptions s.moment m s.sessions c.join_all.ensures.ordered in (
       c.in_ok-publish.ensures.near s.moment within c.self.invariant.0,
       subst (AllReached s.moment) (sym waiting)
@@ -67,32 +67,32 @@ returns-clause-done c = λ accepted.
     let deadline : Option ℕ = deadline_of s.moment m.expiry in
     let value : c.args.message.now.deadline ≡ deadline =
     c.requires.value ∙ ap (λ (v : State). deadline_of v.moment m.expiry) (sym c.self.view_is) in
-    let begun : map begin_of c.in_ok-made.made.begun.items
-    ≡ begun_by limit s.access s.sessions s.subscriptions m deadline =
-    c.in_ok-made.ensures.begun ∙ ap (λ (v : State). begun_held v m c.args.message.now.deadline)
-    (sym c.self.view_is) ∙ ap (begun_held s m) value in
-    let none : c.is_empty-waits.result ≡ (length c.in_ok-made.made.begun.items == 0) =
+    let queued : map begin_of c.in_ok-made.made.queued.items
+    ≡ queued_by limit s.access s.sessions s.subscriptions m deadline =
+    c.in_ok-made.ensures.queued ∙ ap (λ (v : State). queued_now v m c.args.message.now.deadline)
+    (sym c.self.view_is) ∙ ap (queued_now s m) value in
+    let none : c.is_empty-waits.result ≡ (length c.in_ok-made.made.queued.items == 0) =
     search rules in
     let waits : not c.is_empty-waits.result ≡ begins_to_wait limit s.access s.sessions
     s.subscriptions m =
-    ap not none ∙ ap (λ n. not (n == 0)) (sym (length-map c.in_ok-made.made.begun.items begin_of))
-    ∙ ap (λ (bs : List Begin). not (length bs == 0)) begun
+    ap not none ∙ ap (λ n. not (n == 0)) (sym (length-map c.in_ok-made.made.queued.items begin_of))
+    ∙ ap (λ (bs : List Begin). not (length bs == 0)) queued
     ∙ waits-is limit s.access s.subscriptions m deadline s.sessions in
     let waiting : c.join_all.new.self
     ≡ map (waiting_after limit s.access s.subscriptions s.moment m) s.sessions =
-    c.join_all.ensures.new ∙ ap (λ bs. queued_all limit bs s.sessions) begun
+    c.join_all.ensures.new ∙ ap (λ bs. queued_all limit bs s.sessions) queued
     ∙ queued-is limit s.access s.subscriptions s.moment m s.sessions c.join_all.ensures.ordered in
     subst (λ (v : State). Does v (Publish m) (reply_of c.published.result) new) c.self.view_is
     (publish-does s m c.join_all.new.self subs kept _
     (ap (λ (v : State). refusal (world_of v) (Publish m)) c.self.view_is ∙ accepted)
     (c.published.ensures ∙ ap (λ l. published l (not c.is_empty-waits.result))
-    (c.in_ok-made.ensures.copies ∙ ap (λ (v : State). copies_held v m) (sym c.self.view_is))
-    ∙ ap (published (copies_held s m)) waits)
+    (c.in_ok-made.ensures.copies ∙ ap (λ (v : State). copies_now v m) (sym c.self.view_is))
+    ∙ ap (published (copies_now s m)) waits)
     waiting
     (same-then _ _ _ c.serve_all.ensures.rows
     (same-is _ _ (ap (λ l. turned (map turn_of l)) c.as_slice.ensures.value
     ∙ ap turned (c.in_ok-made.ensures.served
-    ∙ ap (λ (v : State). members_held v m) (sym c.self.view_is)))))
+    ∙ ap (λ (v : State). members_now v m) (sym c.self.view_is)))))
     c.serve_all.ensures.keys
     (c.in_ok-publish.ensures.ok s.moment value)
     (λ keys pairs. c.in_ok-publish.ensures.filed (record { keys = keys; pairs = pairs })))

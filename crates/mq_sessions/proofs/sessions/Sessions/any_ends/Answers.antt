@@ -1,4 +1,4 @@
-use Rattle.std.proofs.Common.{◌≡◌, nat_le, sym, ap, ◌∙◌}
+use Rattle.std.proofs.Common.{nat_le, sym, ap, ◌∙◌}
 use Rattle.std.specs.List.{list_any}
 use Rattle.mq_world.specs.Sessions.{has_ended}
 use Rattle.mq_world.proofs.SameLemmas.{list_any-SameElements}

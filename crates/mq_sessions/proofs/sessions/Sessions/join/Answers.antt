@@ -1,24 +1,62 @@
-use Rattle.std.proofs.Common.{◌≡◌, map, length, sym, ap, ◌∙◌, arith}
+use Rattle.std.proofs.Common.{◌≡◌, ◌∙◌, List, map, length, sym, ap, arith}
 use Rattle.std.specs.List.{filter}
 use Rattle.std.proofs.lemmas.List.{length-map}
+use Rattle.mq_world.specs.World.{Session}
 use Rattle.mq_sessions.specs.Ends.{ends_of}
 use Rattle.mq_sessions.specs.Queue.{queued, edited, queued_one}
-use Rattle.mq_sessions.specs.Views.{session_in, sessions_of, begin_of}
+use Rattle.mq_sessions.specs.Views.{session_in, sessions_of, begin_of, shown, waiting_of}
 use Rattle.mq_sessions.proofs.EndLemmas.{ends-queued}
+use Rattle.mq_sessions.proofs.QueueLemmas.{queued-id}
+use Rattle.mq_sessions.proofs.SessionLemmas.{edited-is, nobody-edited}
 use Rattle.mq_sessions.proofs.sessions.Sessions.join.Goals as goal
 
-pub invariant_of-self : goal.invariant_of-self
-invariant_of-self c =
+pub invariant_of-self-2 : goal.invariant_of-self-2
+invariant_of-self-2 c =
     let sessions = sessions_of c.self.inside in
-    let begun = begin_of c.args.begun in
+    let begin = begin_of c.args.queued_copy in
+    let id = c.as_str.result.now in
+    let es = c.self.inside.by_id.entries in
+    let put = queued c.args.limit (map waiting_of c.args.queued_copy.copies) in
+    let is : map session_in (c.get_mut.follows.lender c.queue.new.self).entries
+    ≡ queued_one c.args.limit begin sessions =
+    ap (map session_in) (c.get_mut.follows.holds c.queue.new.self).0
+    ∙ edited-is id put c.in-Some.session.now c.queue.new.self es (sym c.in-Some.ensures.value)
+    (ap (λ (s : Session). record s { id = id }) c.queue.ensures
+    ∙ queued-id c.args.limit id (map waiting_of c.args.queued_copy.copies)
+    (shown c.in-Some.session.now)) c.in-Some.ensures.ordered
+    ∙ ap (λ i. map (edited put i) (map session_in es)) c.as_str.ensures.value in
     record {
       same = λ test.
           c.self.invariant.same test
-          ∙ ap (λ es. length (filter test es)) (sym (ends-queued c.args.limit begun sessions))
-          ∙ ap (λ ss. length (filter test (ends_of ss))) (sym c.join.ensures);
+          ∙ ap (λ es. length (filter test es)) (sym (ends-queued c.args.limit begin sessions))
+          ∙ ap (λ ss. length (filter test (ends_of ss))) (sym is);
       room =
-          let count : length (map session_in c.join.new.sessions.entries) ≡ length sessions =
-          ap length c.join.ensures ∙ length-map sessions
-          (edited (queued c.args.limit begun.1) begun.0) in
+          let count : length (map session_in (c.get_mut.follows.lender c.queue.new.self).entries)
+          ≡ length sessions =
+          ap length is ∙ length-map sessions (edited (queued c.args.limit begin.1) begin.0) in
           omega (arith, c.self.invariant.room);
     }
+
+pub returns : goal.returns
+returns c =
+    let id = c.as_str.result.now in
+    let es = c.self.inside.by_id.entries in
+    let put = queued c.args.limit (map waiting_of c.args.queued_copy.copies) in
+    ap (map session_in) (c.get_mut.follows.holds c.queue.new.self).0
+    ∙ edited-is id put c.in-Some.session.now c.queue.new.self es (sym c.in-Some.ensures.value)
+    (ap (λ (s : Session). record s { id = id }) c.queue.ensures
+    ∙ queued-id c.args.limit id (map waiting_of c.args.queued_copy.copies)
+    (shown c.in-Some.session.now)) c.in-Some.ensures.ordered
+    ∙ ap (λ i. map (edited put i) (map session_in es)) c.as_str.ensures.value
+    ∙ ap (λ (l : List Session). queued_one c.args.limit (begin_of c.args.queued_copy) l)
+    c.self.view_is
+
+pub returns-in_default : goal.returns-in_default
+returns-in_default c =
+    let es = c.self.inside.by_id.entries in
+    let put = queued c.args.limit (map waiting_of c.args.queued_copy.copies) in
+    ap (λ m. map session_in m.entries) c.get_mut.follows.holds-at-none
+    ∙ nobody-edited c.as_str.result.now put es (sym c.in_default.ensures.value)
+    ∙ ap (λ i. map (edited put i) (map session_in es)) c.as_str.ensures.value
+    ∙ ap (λ (l : List Session). queued_one c.args.limit (begin_of c.args.queued_copy) l)
+    c.self.view_is

@@ -1,9 +1,9 @@
-use Rattle.std.proofs.Common.{◌≡◌, ◌++◌, ◌≤◌, map, max, length, List, ℕ, sym, ap, subst, ◌∙◌, arith}
+use Rattle.std.proofs.Common.{◌≡◌, map, length, List, ℕ, sym, subst, ◌∙◌, arith}
 use Rattle.std.specs.Option.{option_to_list}
 use Rattle.std.proofs.lemmas.List.{length-map}
 use Rattle.mq_ends.specs.Counts.{SameEnds}
 use Rattle.mq_sessions.specs.Ends.{ends_at}
-use Rattle.mq_sessions.specs.Views.{session_in, sessions_of}
+use Rattle.mq_sessions.specs.Views.{session_in}
 use Rattle.mq_sessions.proofs.EndLemmas.{first-among, same-rest}
 use Rattle.mq_sessions.proofs.sessions.Sessions.put.Goals as goal
 

@@ -1,7 +1,6 @@
-use Rattle.std.proofs.Common.{◌≡◌, ◌≤◌, ◌+◌, ◌++◌, length, Option, Some, None, map, sym, ap, subst}
+use Rattle.std.proofs.Common.{◌≤◌, ◌+◌, ◌++◌, length, Some, None, map, sym, ap, subst}
 use Rattle.std.proofs.Common.{◌∙◌}
 use Rattle.std.specs.Option.{option_to_list}
-use Rattle.std.specs.Rc.{rc_str_bytes}
 use Rattle.mq_ends.specs.Counts.{SameEnds}
 use Rattle.mq_sessions.specs.Ends.{end_of, ends_at}
 use Rattle.mq_sessions.specs.Views.{session_in, shown}

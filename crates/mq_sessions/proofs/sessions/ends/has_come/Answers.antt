@@ -1,4 +1,4 @@
-use Rattle.std.proofs.Common.{◌≡◌, nat_le, true, false, sym, ap, ◌∙◌}
+use Rattle.std.proofs.Common.{nat_le, sym, ap}
 use Rattle.std.specs.List.{list_any}
 use Rattle.mq_sessions.proofs.EndLemmas.{come-is}
 use Rattle.mq_sessions.proofs.sessions.ends.has_come.Goals as goal

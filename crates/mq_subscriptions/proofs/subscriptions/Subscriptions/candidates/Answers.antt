@@ -1,7 +1,7 @@
 use Rattle.std.proofs.Common.{◌∙◌, ap, List, List, subst, sym}
 use Rattle.std.specs.List.{flat_map, filter}
 use Rattle.mq_world.specs.Copies.{filter_matches}
-use Rattle.mq_subscriptions.specs.Filters.{At, AreAtFilters, KeptSubscriptions}
+use Rattle.mq_subscriptions.specs.Filters.{At, AreAtFilters, SubscriptionsView}
 use Rattle.mq_subscriptions.proofs.FoundLemmas.{found-rows, found-order}
 use Rattle.mq_subscriptions.proofs.subscriptions.Subscriptions.candidates.Goals as goal
 
@@ -9,7 +9,7 @@ pub returns-clause-rows : goal.returns-clause-rows
 returns-clause-rows c =
     ap (flat_map (λ (a : At). a.rows)) c.in_ok-for_name.ensures.found
     ∙ found-rows c.args.name.now c.self.inside.tree c.self.invariant.kept.each
-    ∙ ap (λ (k : KeptSubscriptions). filter (λ s. filter_matches s.filter c.args.name.now) k.rows)
+    ∙ ap (λ (k : SubscriptionsView). filter (λ s. filter_matches s.filter c.args.name.now) k.rows)
     c.self.view_is
 
 pub returns-clause-order : goal.returns-clause-order

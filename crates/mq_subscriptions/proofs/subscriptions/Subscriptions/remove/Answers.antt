@@ -1,5 +1,16 @@
+use Rattle.mq_subscriptions.specs.Filters.{text_key}
+use Rattle.mq_subscriptions.specs.Views.{texts}
+use Rattle.mq_subscriptions.proofs.AnyLemmas.{listed-left}
 use Rattle.mq_subscriptions.proofs.KeyLemmas.{kept-keys}
 use Rattle.mq_subscriptions.proofs.subscriptions.Subscriptions.remove.Goals as goal
 
+pub invariant_of-self : goal.invariant_of-self
+invariant_of-self c =
+    listed-left c.args.client.now (text_key c.args.text.now) c.self.inside.tree
+    c.leave_in-existed.new.tree (texts c.self.inside.lists.entries)
+    (texts c.list_remove.new.lists.entries)
+    c.self.invariant c.leave_in-existed.ensures.kept c.leave_in-existed.ensures.rows
+    c.list_remove.ensures.rest c.list_remove.ensures.live
+
 pub returns-clause-keys : goal.returns-clause-keys
-returns-clause-keys c = kept-keys c.take_out.new.tree c.take_out.ensures.listed.kept
+returns-clause-keys c = kept-keys c.leave_in-existed.new.tree c.leave_in-existed.ensures.kept

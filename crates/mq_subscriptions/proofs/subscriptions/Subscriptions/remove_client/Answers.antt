@@ -1,5 +1,37 @@
+use Rattle.std.proofs.Common.{◌∙◌, sym, ap, not}
+use Rattle.std.specs.List.{filter}
+use Rattle.mq_world.specs.Lists.{same_text}
+use Rattle.mq_subscriptions.specs.Filters.{SubscriptionsView}
+use Rattle.mq_subscriptions.proofs.AnyLemmas.{listed-gone, all-leave, none-had}
 use Rattle.mq_subscriptions.proofs.KeyLemmas.{kept-keys}
 use Rattle.mq_subscriptions.proofs.subscriptions.Subscriptions.remove_client.Goals as goal
 
+pub invariant_of-self-2 : goal.invariant_of-self-2
+invariant_of-self-2 c =
+    let found = sym c.remove.ensures.value ∙ c.in-Some.is in
+    listed-gone c.args.client.now c.self.inside.lists.entries c.len-count.ensures.ordered
+    c.in-Some.own c.remove.new.self.entries found c.remove.ensures.entries
+    c.self.inside.tree c.leave_all.new.tree c.self.invariant c.leave_all.ensures.kept
+    (c.leave_all.ensures.rows
+    ∙ all-leave c.args.client.now c.self.inside.lists.entries c.in-Some.own c.self.inside.tree found
+    c.self.invariant)
+
+pub returns-clause-rows : goal.returns-clause-rows
+returns-clause-rows c =
+    c.leave_all.ensures.rows ∙ all-leave c.args.client.now c.self.inside.lists.entries c.in-Some.own
+    c.self.inside.tree (sym c.remove.ensures.value ∙ c.in-Some.is) c.self.invariant
+    ∙ ap (λ (k : SubscriptionsView). filter (λ s. not (same_text s.client c.args.client.now)) k.rows)
+    c.self.view_is
+
 pub returns-clause-keys : goal.returns-clause-keys
-returns-clause-keys c = kept-keys c.take_all.new.tree c.take_all.ensures.listed.kept
+returns-clause-keys c = kept-keys c.leave_all.new.tree c.leave_all.ensures.kept
+
+pub returns-in_default-clause-rows : goal.returns-in_default-clause-rows
+returns-in_default-clause-rows c =
+    none-had c.args.client.now c.self.inside.lists.entries c.self.inside.tree
+    (sym c.remove.ensures.value ∙ c.in_default.is) c.self.invariant
+    ∙ ap (λ (k : SubscriptionsView). filter (λ s. not (same_text s.client c.args.client.now)) k.rows)
+    c.self.view_is
+
+pub returns-in_default-clause-keys : goal.returns-in_default-clause-keys
+returns-in_default-clause-keys c = kept-keys c.self.inside.tree c.self.invariant.kept

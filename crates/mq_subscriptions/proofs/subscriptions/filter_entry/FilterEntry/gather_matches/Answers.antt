@@ -3,7 +3,7 @@ use Rattle.mq_subscriptions.specs.Filters.{At, direct_rows}
 use Rattle.mq_subscriptions.specs.Views.{texts}
 use Rattle.mq_subscriptions.specs.Matches.{matched}
 use Rattle.mq_world.specs.Views.{message_of}
-use Rattle.mq_subscriptions.specs.Matches.{own_matches}
+use Rattle.mq_subscriptions.specs.Matches.{unshared_matches}
 use Rattle.mq_subscriptions.proofs.MatchLemmas.{matches-at}
 use Rattle.mq_subscriptions.proofs.subscriptions.filter_entry.FilterEntry.gather_matches.Goals as goal
 
@@ -11,10 +11,10 @@ pub loop-client-init : goal.loop-client-init
 loop-client-init c =
     let m = message_of c.args.message.now in
     let start = matched c.args.matches.now.items in
-    ap (λ es. start ++ own_matches m (direct_rows [] (texts es)))
+    ap (λ es. start ++ unshared_matches m (direct_rows [] (texts es)))
     c.into_iter-client-iterator.ensures.into_iter_gives.0
     ∙ ap (λ l. start ++ l)
-    (subst (λ (a : At). own_matches m (direct_rows [] (texts c.self.inside.direct.entries))
-    ≡ own_matches m a.rows) c.self.view_is
+    (subst (λ (a : At). unshared_matches m (direct_rows [] (texts c.self.inside.direct.entries))
+    ≡ unshared_matches m a.rows) c.self.view_is
     (matches-at m c.self.inside.filter.value (texts c.self.inside.direct.entries)
     (texts c.self.inside.groups.entries)))

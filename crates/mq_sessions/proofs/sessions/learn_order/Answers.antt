@@ -1,5 +1,5 @@
 use Rattle.mq_sessions.proofs.SessionLemmas.{sorted-is}
-use Rattle.mq_sessions.proofs.sessions.found.learn_order.Goals as goal
+use Rattle.mq_sessions.proofs.sessions.learn_order.Goals as goal
 
 pub returns : goal.returns
 returns c = sorted-is c.args.sessions.now.entries c.len-count.ensures.ordered

@@ -14,7 +14,7 @@ use Rattle.mq_topic.proofs.PartLemmas.{same_parts}
 use Rattle.mq_world.specs.Keys.{Key, key_cmp}
 use Rattle.mq_world.specs.Lists.{Text, same_text}
 use Rattle.mq_world.specs.World.{Subscription, same_share}
-use Rattle.mq_subscriptions.specs.Filters.{OwnKey, text_key, is_text, is_own, is_in_list}
+use Rattle.mq_subscriptions.specs.Filters.{FilterKey, text_key, is_text, has_filter_key, is_in_list}
 use Rattle.mq_subscriptions.specs.ClientViews.{key_in, IsAsked}
 use Rattle.mq_world.proofs.ListLemmas.{list_any-map, remove_key-filter}
 use Rattle.mq_subscriptions.proofs.TextMaps.{key_text, text-apart, is_text-is}
@@ -32,7 +32,7 @@ flip_share a b = both_same (same_share a b) (same_share b a)
     (λ t. ap (λ v. same_share v a) (sym (same_share-is a b t)) ∙ same_share-itself a)
     (λ t. ap (λ v. same_share v b) (sym (same_share-is b a t)) ∙ same_share-itself b)
 
-abbrev keys_in : List Key → List OwnKey
+abbrev keys_in : List Key → List FilterKey
 keys_in ks = map key_in ks
 
 -- ## One that joins
@@ -43,27 +43,27 @@ tied-keys k x h = ap text_key (key_text (rc_str_bytes k) (rc_str_bytes x) (ap is
 
 pub own-insert : (k : Key) (ks : List Key) (s : Subscription)
     → is_in_list (keys_in (insert_key key_cmp ks k)) s
-    ≡ (is_own s (key_in k) || is_in_list (keys_in ks) s)
+    ≡ (has_filter_key s (key_in k) || is_in_list (keys_in ks) s)
 own-insert k [] s = refl
 own-insert k (x ∷ xs) s =
     let P : Ordering → Type 0 = λ r. key_cmp k x ≡ r
     → is_in_list (keys_in (match_ordering r (k ∷ x ∷ xs) (x ∷ xs)
     (x ∷ insert_key key_cmp xs k))) s
-    ≡ (is_own s (key_in k) || is_in_list (keys_in (x ∷ xs)) s) in
+    ≡ (has_filter_key s (key_in k) || is_in_list (keys_in (x ∷ xs)) s) in
     let rest : Bool = is_in_list (keys_in xs) s in
     (elim (key_cmp k x) as P [
       | Less ↦ λ h. refl
-      | Equal ↦ λ h. or_again (is_own s (key_in x)) rest
-          ∙ ap (λ k. is_own s k || (is_own s (key_in x) || rest)) (sym (tied-keys k x h))
-      | Greater ↦ λ h. ap (λ b. is_own s (key_in x) || b) (own-insert k xs s)
-          ∙ or_swapped (is_own s (key_in x)) (is_own s (key_in k)) rest
+      | Equal ↦ λ h. or_again (has_filter_key s (key_in x)) rest
+          ∙ ap (λ k. has_filter_key s k || (has_filter_key s (key_in x) || rest)) (sym (tied-keys k x h))
+      | Greater ↦ λ h. ap (λ b. has_filter_key s (key_in x) || b) (own-insert k xs s)
+          ∙ or_swapped (has_filter_key s (key_in x)) (has_filter_key s (key_in k)) rest
     ]) refl
 
 -- ## One that leaves
 
 -- the texts of one subscription are equal
 own-text : (s : Subscription) (a b : Text) → is_subscription a ≡ true → is_subscription b ≡ true
-    → is_own s (text_key a) ≡ true → is_own s (text_key b) ≡ true → a ≡ b
+    → has_filter_key s (text_key a) ≡ true → has_filter_key s (text_key b) ≡ true → a ≡ b
 own-text s a b valid_a valid_b own_a own_b =
     same_parts a b valid_a valid_b
     (sym (same_share-is s.share (share_of a)
@@ -79,10 +79,10 @@ own-text s a b valid_a valid_b own_a own_b =
 
 -- so of a text that has the subscription, the one that leaves is told by the subscription too
 named : (s : Subscription) (text : Text) (x : Key) → is_subscription text ≡ true → IsAsked x
-    → is_own s (key_in x) ≡ true → is_text text (rc_str_bytes x) ≡ is_own s (text_key text)
+    → has_filter_key s (key_in x) ≡ true → is_text text (rc_str_bytes x) ≡ has_filter_key s (text_key text)
 named s text x valid asked own = both_same (is_text text (rc_str_bytes x))
-    (is_own s (text_key text))
-    (λ t. ap (λ (v : Text). is_own s (text_key v)) (key_text text (rc_str_bytes x) t) ∙ own)
+    (has_filter_key s (text_key text))
+    (λ t. ap (λ (v : Text). has_filter_key s (text_key v)) (key_text text (rc_str_bytes x) t) ∙ own)
     (λ t. is_text-is text (rc_str_bytes x)
     ∙ ap (same_text text) (own-text s (rc_str_bytes x) text asked valid own t)
     ∙ same_text-itself text)
@@ -101,33 +101,33 @@ any_cond true p x xs = refl
 any_cond false p x xs = refl
 
 any_left : (s : Subscription) (text : Text) → is_subscription text ≡ true → (ks : List Key)
-    → AllByRecursion IsAsked ks → list_any (λ k. is_own s (key_in k))
+    → AllByRecursion IsAsked ks → list_any (λ k. has_filter_key s (key_in k))
     (filter (λ k. not (is_text text (rc_str_bytes k))) ks)
-    ≡ (not (is_own s (text_key text)) && list_any (λ k. is_own s (key_in k)) ks)
-any_left s text valid [] asked = sym (none (is_own s (text_key text)))
+    ≡ (not (has_filter_key s (text_key text)) && list_any (λ k. has_filter_key s (key_in k)) ks)
+any_left s text valid [] asked = sym (none (has_filter_key s (text_key text)))
   where
     none : (b : Bool) → (not b && false) ≡ false
     none true = refl
     none false = refl
 any_left s text valid (x ∷ xs) asked =
-    let p : Key → Bool = λ k. is_own s (key_in k) in
+    let p : Key → Bool = λ k. has_filter_key s (key_in k) in
     any_cond (not (is_text text (rc_str_bytes x))) p x
     (filter (λ k. not (is_text text (rc_str_bytes k))) xs)
-    ∙ one_gone (is_text text (rc_str_bytes x)) (p x) (is_own s (text_key text)) (list_any p xs)
+    ∙ one_gone (is_text text (rc_str_bytes x)) (p x) (has_filter_key s (text_key text)) (list_any p xs)
     (list_any p (filter (λ k. not (is_text text (rc_str_bytes k))) xs))
     (named s text x valid asked.0) (any_left s text valid xs asked.1)
 
 pub own-remove : (text : Text) (ks : List Key) → is_subscription text ≡ true
     → AllByRecursion IsAsked ks → IsStrictlySortedBy key_cmp ks → (s : Subscription)
     → is_in_list (keys_in (remove_key (λ k. is_text text (rc_str_bytes k)) ks)) s
-    ≡ (not (is_own s (text_key text)) && is_in_list (keys_in ks) s)
+    ≡ (not (has_filter_key s (text_key text)) && is_in_list (keys_in ks) s)
 own-remove text ks valid asked sorted s =
     ap (λ l. is_in_list (keys_in l) s)
     (remove_key-filter key_cmp (λ k. is_text text (rc_str_bytes k))
     (λ x y. text-apart text (rc_str_bytes x) (rc_str_bytes y)) ks sorted)
-    ∙ list_any-map key_in (is_own s) (filter (λ k. not (is_text text (rc_str_bytes k))) ks)
+    ∙ list_any-map key_in (has_filter_key s) (filter (λ k. not (is_text text (rc_str_bytes k))) ks)
     ∙ any_left s text valid ks asked
-    ∙ ap (λ b. not (is_own s (text_key text)) && b) (sym (list_any-map key_in (is_own s) ks))
+    ∙ ap (λ b. not (has_filter_key s (text_key text)) && b) (sym (list_any-map key_in (has_filter_key s) ks))
 
 -- ## The texts stay a subscription's each
 

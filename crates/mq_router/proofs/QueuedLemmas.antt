@@ -40,18 +40,18 @@ module _ (limit : ℕ) (access : Option (List AclRow)) (subs : List Subscription
   apart_below s x less = sym (is_eq-slice_cmp s.id x.id) ∙ ap is_eq less
 
   -- what begins to wait for later clients is not for this one
-  begun_apart : (m : Message) (deadline : Option ℕ) (s : Session) (ss : List Session)
+  begins_apart : (m : Message) (deadline : Option ℕ) (s : Session) (ss : List Session)
       → AllByRecursion (λ x. session_cmp s x ≡ Less) ss
       → AllByRecursion (λ b. same_text s.id b.0 ≡ false)
       (filter_map (begins limit access subs m deadline) ss)
-  begun_apart m deadline s [] h = tt
-  begun_apart m deadline s (x ∷ xs) h =
+  begins_apart m deadline s [] h = tt
+  begins_apart m deadline s (x ∷ xs) h =
       elim (waiting_copy limit access subs m x)
       as (λ o. AllByRecursion (λ (b : Begin). same_text s.id b.0 ≡ false)
       (cons_option (option_map (begin_with x.id deadline) o)
       (filter_map (begins limit access subs m deadline) xs))) [
-        | None ↦ begun_apart m deadline s xs h.1
-        | Some copy ↦ (apart_below s x h.0, begun_apart m deadline s xs h.1)
+        | None ↦ begins_apart m deadline s xs h.1
+        | Some copy ↦ (apart_below s x h.0, begins_apart m deadline s xs h.1)
       ]
 
   queued_apart : (bs : List Begin) (s : Session) (ss : List Session)
@@ -84,7 +84,7 @@ module _ (limit : ℕ) (access : Option (List AclRow)) (subs : List Subscription
       (record { copy = copy; deadline = deadline } ∷ [])) o s
       ∷ map (waiting_after limit access subs now m) ss in
       (elim (waiting_copy limit access subs m s) as P [
-        | None ↦ λ e. queued_apart bs s ss (begun_apart m deadline s ss sorted.0)
+        | None ↦ λ e. queued_apart bs s ss (begins_apart m deadline s ss sorted.0)
             ∙ ap (λ l. s ∷ l) rest
         | Some copy ↦ λ e. (
             let ws : List Waiting = record { copy = copy; deadline = deadline } ∷ [] in
@@ -94,7 +94,7 @@ module _ (limit : ℕ) (access : Option (List AclRow)) (subs : List Subscription
             ap (λ l. queued_all limit bs (edited (queued limit ws) s.id s ∷ l))
             (others_stay s ws ss sorted.0)
             ∙ ap (λ x. queued_all limit bs (x ∷ ss)) here
-            ∙ queued_apart bs (with_waiting s ws) ss (begun_apart m deadline s ss sorted.0)
+            ∙ queued_apart bs (with_waiting s ws) ss (begins_apart m deadline s ss sorted.0)
             ∙ ap (λ l. with_waiting s ws ∷ l) rest)
       ]) refl
 

@@ -16,7 +16,7 @@ use Rattle.mq_world.specs.World.{Session, Subscription, Message, Copy, session_c
 use Rattle.mq_world.specs.Sessions.{session_of, is_present, connected, user_of}
 use Rattle.mq_world.specs.Waiting.{has_room, with_qos}
 use Rattle.mq_sessions.specs.Queue.{Begin, begin_with}
-use Rattle.mq_router.specs.delivery.Copies.{begins, begun_by}
+use Rattle.mq_router.specs.delivery.Copies.{begins, queued_by}
 use Rattle.mq_world.specs.Copies.{filter_matches, takes_part, options_for, copy_by, direct_copy}
 use Rattle.mq_world.specs.Copies.{direct_copies}
 use Rattle.mq_subscriptions.specs.Filters.{is_text}
@@ -229,14 +229,14 @@ own-copies access sessions subscriptions m L s t found =
     sessions
 
 -- those that begin to wait
-pub own-begun : (limit : ℕ) (access : Option (List AclRow)) (sessions : List Session)
+pub own-queued : (limit : ℕ) (access : Option (List AclRow)) (sessions : List Session)
     (subscriptions : List Subscription) (m : Message) (deadline : Option ℕ)
     (L : List (Text × Summary)) → IsStrictlySortedBy session_cmp sessions
     → IsStrictlySortedBy text_cmp (keys_of L)
     → ((id : Text) → lookup (is_text id) L ≡ summary_for (options_for subscriptions m id))
     → begins_by limit access sessions m deadline L
-    ≡ begun_by limit access sessions subscriptions m deadline
-own-begun limit access sessions subscriptions m deadline L s t found =
+    ≡ queued_by limit access sessions subscriptions m deadline
+own-queued limit access sessions subscriptions m deadline L s t found =
     own-made (has_room limit) begin access sessions subscriptions m L s t found
     ∙ filter_map-same (made_for (has_room limit) begin access sessions subscriptions m)
     (begins limit access subscriptions m deadline) each sessions

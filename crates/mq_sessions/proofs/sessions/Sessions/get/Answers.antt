@@ -1,8 +1,10 @@
-use Rattle.std.proofs.Common.{◌≡◌, Some, None, refl, ◌∙◌, ap}
+use Rattle.std.proofs.Common.{◌≡◌, Some, None, refl, ◌∙◌, ap, List}
+use Rattle.mq_world.specs.Sessions.{session_of}
+use Rattle.mq_world.specs.World.{Session}
 use Rattle.std.specs.Option.{option_map, option_copied}
 use Rattle.mq_sessions.specs.Views.{session_at}
 use Rattle.mq_sessions.proofs.SessionLemmas.{found-is}
-use Rattle.mq_sessions.proofs.sessions.found.find.Goals as goal
+use Rattle.mq_sessions.proofs.sessions.Sessions.get.Goals as goal
 
 pub returns : goal.returns
 returns c =
@@ -10,4 +12,5 @@ returns c =
     ≡ option_map (session_at c.args.id.now) (option_copied o))
     [ None ↦ refl | Some session ↦ refl ])
     ∙ ap (option_map (session_at c.args.id.now)) c.get.ensures.value
-    ∙ found-is c.args.id.now c.args.sessions.now.entries
+    ∙ found-is c.args.id.now c.self.inside.by_id.entries
+    ∙ ap (λ (l : List Session). session_of l c.args.id.now) c.self.view_is

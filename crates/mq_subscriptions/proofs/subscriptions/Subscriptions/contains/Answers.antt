@@ -2,9 +2,11 @@ use Rattle.std.proofs.Common.{◌∙◌, sym, ap, refl, string_bytes}
 use Rattle.std.specs.Option.{option_copied, option_map}
 use Rattle.std.specs.List.{list_any}
 use Rattle.mq_world.specs.World.{Subscription, has_key}
+use Rattle.mq_subscriptions.specs.Filters.{SubscriptionsView}
+use Rattle.mq_subscriptions.specs.Wanted.{has_wanted}
 use Rattle.mq_subscriptions.proofs.AtLemmas.{nothing}
 use Rattle.mq_subscriptions.proofs.TreeLemmas.{tree-any, tree-absent_any, found_filter}
-use Rattle.mq_subscriptions.proofs.subscriptions.contains_in.Goals as goal
+use Rattle.mq_subscriptions.proofs.subscriptions.Subscriptions.contains.Goals as goal
 
 pub returns-in-Some : goal.returns-in-Some
 returns-in-Some c =
@@ -19,10 +21,13 @@ returns-in-Some c =
     } in
     let v = c.in-Some.at.now in
     let found = sym c.get.ensures ∙ ap option_copied c.in-Some.is in
-    let is = found_filter f c.args.tree.now c.requires.each c.requires.ordered v found in
+    let is = found_filter f c.self.inside.tree c.self.invariant.kept.each c.self.invariant.kept.ordered v found in
     c.contains.ensures ∙ ap (λ sh. list_any (has_key c.args.client.now sh v.filter) v.rows)
     c.as_deref.ensures.value ∙ ap (λ g. list_any (has_key c.args.client.now share g) v.rows) is
-    ∙ tree-any f c.args.tree.now c.requires.each c.requires.ordered v found s refl
+    ∙ tree-any f c.self.inside.tree c.self.invariant.kept.each c.self.invariant.kept.ordered v found s
+    refl
+    ∙ ap (λ (k : SubscriptionsView). list_any (has_wanted c.args.client.now c.args.wanted.now) k.rows)
+    c.self.view_is
 
 pub returns-in-None : goal.returns-in-None
 returns-in-None c =
@@ -34,5 +39,7 @@ returns-in-None c =
       filter = f;
       options = nothing;
     } in
-    tree-absent_any f c.args.tree.now c.requires.each
+    tree-absent_any f c.self.inside.tree c.self.invariant.kept.each
     (sym c.get.ensures ∙ ap option_copied c.in-None.is) s refl
+    ∙ ap (λ (k : SubscriptionsView). list_any (has_wanted c.args.client.now c.args.wanted.now) k.rows)
+    c.self.view_is
