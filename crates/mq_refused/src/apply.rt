@@ -76,6 +76,13 @@ impl Replay {
         Ok(())
     }
 
+    /// Answers the lines before and after one that is left out.
+    pub fn answer_around(&mut self, before: &[Line], after: &[Line]) -> Result<(), AllocError> {
+        self.answer_all(before)?;
+        self.leave_out();
+        self.answer_all(after)
+    }
+
     // The numbers of nodes, retained messages and subscriptions.
     fn counts(&mut self) -> Option<Outcome> {
         match self.router.apply(&Command::Stat) {
@@ -119,11 +126,8 @@ pub struct Apply<'a> {
     pub without: Vec<u8>,
 }
 
-impl<'a> Trial for Apply<'a> {
-    // Where it is refused, all that follows is answered as in a script without the command, or, if it comes again, as if
-    // nothing had happened.
-    fn attempt(&self, alloc: Global, nth: u32) -> Result<Attempt, AllocError> {
-        let mut replay = Replay::new(alloc, self.row)?;
+impl<'a> Apply<'a> {
+    fn attempt_on(&self, replay: &mut Replay, nth: u32) -> Result<Attempt, AllocError> {
         replay.answer_all(self.before)?;
         let (wanted, was_refused) = match replay.answer_refused(self.command, nth)? {
             Met::Fault => return Ok(Attempt::Wrong),
@@ -144,5 +148,14 @@ impl<'a> Trial for Apply<'a> {
             return Ok(Attempt::Wrong);
         }
         Ok(Attempt::right(was_refused))
+    }
+}
+
+impl<'a> Trial for Apply<'a> {
+    // Where it is refused, all that follows is answered as in a script without the command, or, if it comes again, as if
+    // nothing had happened.
+    fn attempt(&self, alloc: Global, nth: u32) -> Result<Attempt, AllocError> {
+        let mut replay = Replay::new(alloc, self.row)?;
+        self.attempt_on(&mut replay, nth)
     }
 }

@@ -48,6 +48,41 @@ impl<'a> Put<'a> {
     }
 }
 
+/// The tree before a put, the one after it, and the value that it answers.
+#[derive(Clone, Copy)]
+struct Wanted<'a> {
+    before: &'a LevelTree<u32>,
+    after: &'a LevelTree<u32>,
+    older: Option<u32>,
+}
+
+impl<'a> Put<'a> {
+    fn attempt_on(
+        &self,
+        alloc: Global,
+        tree: &mut LevelTree<u32>,
+        wanted: Wanted,
+        nth: u32,
+    ) -> Result<Attempt, AllocError> {
+        refuse(alloc, nth);
+        let mut answer = tree.put(self.key, VALUE);
+        let was_refused = was_refused(alloc);
+        if was_refused && wanted.older.is_some() {
+            return Ok(Attempt::Wrong);
+        }
+        if answer.is_err() {
+            if !was_refused || !self.are_same(tree, wanted.before)? {
+                return Ok(Attempt::Wrong);
+            }
+            answer = tree.put(self.key, VALUE);
+        }
+        if answer? != wanted.older || !self.are_same(tree, wanted.after)? {
+            return Ok(Attempt::Wrong);
+        }
+        Ok(Attempt::right(was_refused))
+    }
+}
+
 impl<'a> Trial for Put<'a> {
     // Where it is refused, the tree is as before, and the next put makes the tree that it should. A key that is there takes
     // no memory: no growth is met.
@@ -56,21 +91,11 @@ impl<'a> Trial for Put<'a> {
         let mut after = tree_of(alloc, self.keys)?;
         let older = after.put(self.key, VALUE)?;
         let mut tree = tree_of(alloc, self.keys)?;
-        refuse(alloc, nth);
-        let mut answer = tree.put(self.key, VALUE);
-        let was_refused = was_refused(alloc);
-        if was_refused && older.is_some() {
-            return Ok(Attempt::Wrong);
-        }
-        if answer.is_err() {
-            if !was_refused || !self.are_same(&tree, &before)? {
-                return Ok(Attempt::Wrong);
-            }
-            answer = tree.put(self.key, VALUE);
-        }
-        if answer? != older || !self.are_same(&tree, &after)? {
-            return Ok(Attempt::Wrong);
-        }
-        Ok(Attempt::right(was_refused))
+        let wanted = Wanted {
+            before: &before,
+            after: &after,
+            older,
+        };
+        self.attempt_on(alloc, &mut tree, wanted, nth)
     }
 }

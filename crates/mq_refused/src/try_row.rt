@@ -1,11 +1,12 @@
 //! Tries a worked row: its run, and each of its lines, commands and answers.
 use crate::apply::{Apply, Replay, Then};
 use crate::calls::{Asked, Call};
-use crate::reply::Print;
+use crate::reply::{Print, Reply};
 use crate::row::{Line, Row};
 use crate::run::Run;
 use crate::tally::Tally;
 use crate::trial::Verdict;
+use mq_router::Router;
 use std::alloc::{AllocError, Global};
 
 pub fn try_row(alloc: Global, row: Row, tally: &mut Tally) -> Result<(), AllocError> {
@@ -48,9 +49,7 @@ fn written(
     after: &[Line],
 ) -> Result<Vec<u8>, AllocError> {
     let mut replay = Replay::new(alloc, row)?;
-    replay.answer_all(before)?;
-    replay.leave_out();
-    replay.answer_all(after)?;
+    replay.answer_around(before, after)?;
     Ok(replay.out)
 }
 
@@ -88,18 +87,33 @@ fn try_command<'a>(
 }
 
 fn try_answers(alloc: Global, row: Row, tally: &mut Tally) -> Result<(), AllocError> {
+    let lines = row.lines(alloc, 1)?;
     let mut router = row.router(alloc)?;
+    try_answers_of(alloc, lines.as_slice(), &mut router, tally)
+}
+
+fn try_answers_of(
+    alloc: Global,
+    lines: &[Line],
+    router: &mut Router,
+    tally: &mut Tally,
+) -> Result<(), AllocError> {
     let mut number = 0u64;
-    for line in &row.lines(alloc, 1)? {
+    for line in lines {
         number = number.saturating_add(1);
-        if let Some(reply) = line.reply(&mut router) {
-            let subject = format!(in alloc; "of line {number}")?;
-            let print = Print {
-                reply: &reply,
-                line: number,
-            };
-            tally.add("print", subject.as_str(), &print)?;
+        if let Some(reply) = line.reply(router) {
+            try_answer(alloc, &reply, number, tally)?;
         }
     }
     Ok(())
+}
+
+fn try_answer(
+    alloc: Global,
+    reply: &Reply,
+    line: u64,
+    tally: &mut Tally,
+) -> Result<(), AllocError> {
+    let subject = format!(in alloc; "of line {line}")?;
+    tally.add("print", subject.as_str(), &Print { reply, line })
 }
