@@ -1,9 +1,10 @@
 #!/usr/bin/env bash
-# Runs long scripts through the built program in a small address space: what it takes doesn't grow with the script, and
-# what it has answered when memory runs out is written.
+# Runs long scripts through the built programs in a small address space: what they take doesn't grow with the script, and
+# what mqroute has answered when memory runs out is written.
 set -uo pipefail
 cd "$(dirname "$0")/.."
 program=$PWD/crates/mqroute/out/mqroute
+acl=$PWD/crates/mqroute_acl/out/mqroute_acl
 passed=0
 failed=0
 
@@ -19,10 +20,12 @@ say() { # WHETHER_RIGHT TEXT
     fi
 }
 
-if [ ! -x "$program" ]; then
-    echo "memory: there is no $program: run 'rt ci' first"
-    exit 1
-fi
+for built in "$program" "$acl"; do
+    if [ ! -x "$built" ]; then
+        echo "memory: there is no $built: run 'rt ci' first"
+        exit 1
+    fi
+done
 work=$(mktemp -d)
 trap 'rm -rf "$work"' EXIT
 
@@ -97,6 +100,16 @@ written=$(wc -c < "$work/out")
 [ "$written" -gt 0 ] && cmp -s -n "$written" "$work/out" "$work/wanted" && [ -z "$(tail -c 1 "$work/out")" ]
 say $? "$clients clients in $room KiB: what is written should be whole lines from the front of the answers: \
 $(tail -n 1 "$work/out")"
+
+# Of a script whose subscriptions are asked about, none is kept but those in vain, and here none is.
+subscribes=300000
+echo "topic read t/#" > "$work/list"
+{ echo '{"do":"connect","client":"c"}'; seq -f '{"do":"subscribe","client":"c","filter":"t/%.0f/#"}' "$subscribes"; } \
+    > "$work/script"
+told=$( (ulimit -v "$room" && exec "$acl" reach "$work/list" --script "$work/script") 2>&1)
+status=$?
+[ "$status" = 0 ] && [ "$told" = "0 of $subscribes subscriptions in vain" ]
+say $? "reach on $subscribes subscribes in $room KiB: wanted status 0 and none in vain, got status $status: $told"
 
 echo "$passed passed, $failed failed"
 [ "$failed" = 0 ] && [ "$passed" != 0 ]

@@ -74,7 +74,7 @@ pub(crate) const SUBSCRIBER_HELP: &str = "The client id of the subscriber";
 pub(crate) const SCRIPT_HELP: &str = "Ask about all subscriptions of this script";
 
 pub(crate) const REACH_ABOUT: &str =
-    "Tells whether a subscription, or each of a script, can be sent anything";
+    "Tells whether a subscription, or each of a script, is in vain";
 
 pub(crate) const REACH_AFTER_HELP: &str = "\
 A client is sent what its filter matches and the list lets it read. A topic

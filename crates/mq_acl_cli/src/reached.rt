@@ -2,14 +2,16 @@
 ghost use Rattle.std.specs.Prelude.{◌≡◌, ℕ, List, IfOk, Some, None, IsTrue};
 ghost use Rattle.std.specs.Option.{option_copied};
 ghost use Rattle.mq_topic.specs.Texts.{filter_part, is_name};
+ghost use Rattle.mq_acl.specs.Views.{row_views};
 ghost use Rattle.mq_acl_cli.specs.Answers.{IsReach};
 
 use crate::failure::Failure;
 use crate::list::rows_in;
 use crate::outcome::Outcome;
 use crate::request::Client;
+use mq_acl::Row;
 use mq_acl_words::ListText;
-use mq_questions::{ReachFault, reach};
+use mq_questions::{ListFault, Reach, ReachFault};
 use mq_topic::{LevelText, SubFilter, TopicFault, TopicFilter, TopicName};
 use std::alloc::Global;
 
@@ -23,11 +25,13 @@ fn filter_in(alloc: Global, subscription: &str) -> Result<TopicFilter, Failure<'
     }
 }
 
-fn reach_failure<'a>(file: &'a str, fault: ReachFault) -> Failure<'a> {
-    match fault {
-        ReachFault::Memory => Failure::Memory,
-        ReachFault::Line(line) => Failure::Long { file, line },
-        ReachFault::Client | ReachFault::User | ReachFault::Filter => Failure::LongWord,
+fn reach_of<'a, 'r>(alloc: Global, file: &'a str, rows: &'r [Row]) -> Result<Reach<'r>, Failure<'a>>
+    ensures { IfOk result (λ reach. reach ≡ row_views rows.entry.now) }
+{
+    match Reach::new(alloc, rows) {
+        Ok(reach) => Ok(reach),
+        Err(ListFault::Memory) => Err(Failure::Memory),
+        Err(ListFault::Line(line)) => Err(Failure::Long { file, line }),
     }
 }
 
@@ -44,9 +48,11 @@ pub fn find_topic<'a>(
 {
     let filter = filter_in(alloc, subscription)?;
     let rows = rows_in(alloc, list)?;
-    match reach(alloc, &rows, client.id, client.user, &filter) {
+    let reach = reach_of(alloc, list.file, &rows)?;
+    match reach.topic(alloc, client.id, client.user, &filter) {
         Ok(found) => Ok(found),
-        Err(fault) => Err(reach_failure(list.file, fault)),
+        Err(ReachFault::Memory) => Err(Failure::Memory),
+        Err(_) => Err(Failure::LongWord),
     }
 }
 

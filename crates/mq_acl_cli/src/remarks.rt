@@ -6,7 +6,7 @@ use crate::failure::Failure;
 use crate::list::rows_in;
 use crate::outcome::Outcome;
 use mq_acl_words::ListText;
-use mq_questions::NeedlessFault;
+use mq_questions::ListFault;
 use mq_report::{Remark, RemarkKind, needless, remarks};
 use std::alloc::Global;
 
@@ -32,8 +32,8 @@ fn needless_in<'a>(alloc: Global, list: ListText<'a, '_>) -> Result<Vec<Remark>,
     let rows = rows_in(alloc, list)?;
     match needless(alloc, &rows) {
         Ok(told) => Ok(told),
-        Err(NeedlessFault::Memory) => Err(Failure::Memory),
-        Err(NeedlessFault::Line(line)) => Err(Failure::Long {
+        Err(ListFault::Memory) => Err(Failure::Memory),
+        Err(ListFault::Line(line)) => Err(Failure::Long {
             file: list.file,
             line,
         }),

@@ -1,5 +1,7 @@
 -- A few client ids stand for all.
-use Rattle.std.proofs.Common.{◌≡◌, ℕ, ◌==◌, Bool, true, false, not, ◌&&◌, ◌||◌, List, [], ◌∷◌, length, codes, bytes_eq, refl, ap, sym, ◌∙◌, Bor, subst, Option, Some, None, ◌<◌, ◌≤◌, ◌+◌, arith, zero, suc, get_or, drop}
+use Rattle.std.proofs.Common.{◌≡◌, ℕ, ◌==◌, Bool, true, false, not, ◌&&◌, ◌||◌, List, [], ◌∷◌}
+use Rattle.std.proofs.Common.{length, codes, bytes_eq, refl, ap, sym, ◌∙◌, Bor, subst, Option}
+use Rattle.std.proofs.Common.{Some, None, ◌<◌, ◌≤◌, ◌+◌, arith, zero, suc, get_or, drop}
 use Rattle.std.specs.Option.{option_map}
 use Rattle.std.proofs.Math.ListN.{drop_of_length-le}
 use Rattle.std.proofs.lemmas.Bool.Decides.{nat_tests}
@@ -11,7 +13,8 @@ use Rattle.mq_acl.specs.Access.{begins_with_dollar, is_user}
 use Rattle.mq_walk.specs.Names.{is_among, is_name_level, is_choice}
 use Rattle.mq_walk.specs.Remainders.{mark_passes, remainders_fit, GainsNothing}
 use Rattle.mq_questions.specs.Literals.{is_literal_of}
-use Rattle.mq_questions.specs.Fresh.{AreFresh, is_tried_client, is_no_client, is_no_user, is_literal, marks_of}
+use Rattle.mq_questions.specs.Fresh.{AreFresh, is_tried_client, is_no_client, is_no_user}
+use Rattle.mq_questions.specs.Fresh.{is_literal, marks_of}
 use Rattle.mq_questions.specs.declared.ask.fresh.Fresh.{Fresh}
 use Rattle.mq_walk.specs.declared.remainder.Remainder.{Remainder}
 use Rattle.mq_walk.specs.declared.start.Start.{Start}

@@ -1,5 +1,7 @@
 -- Texts that are made to be named by no row.
-use Rattle.std.proofs.Common.{◌≡◌, ℕ, ◌==◌, Bool, true, false, not, ◌&&◌, ◌||◌, List, [], ◌++◌, length, codes, bytes_eq, refl, ap, sym, ◌∙◌, arith, ◌+◌, replicate, zero, suc, length-append, subst, string_bytes}
+use Rattle.std.proofs.Common.{◌≡◌, ℕ, ◌==◌, Bool, true, false, not, ◌&&◌, ◌||◌, List, [], ◌++◌}
+use Rattle.std.proofs.Common.{length, codes, bytes_eq, refl, ap, sym, ◌∙◌, arith, ◌+◌, ◌<◌, ◌≤◌}
+use Rattle.std.proofs.Common.{replicate, zero, suc, length-append, subst, string_bytes}
 use Rattle.std.specs.Prelude.{nat_le}
 use Rattle.std.specs.List.{list_any}
 use Rattle.std.proofs.lemmas.List.{length-replicate}
@@ -9,11 +11,10 @@ use Rattle.std.proofs.Math.Dec.{eqb-suc-zero}
 use Rattle.mq_topic.specs.Texts.{contains_byte, is_plain}
 use Rattle.mq_acl.specs.Access.{begins_with_dollar}
 use Rattle.mq_walk.specs.Names.{is_name_level, is_choice}
-use Rattle.mq_questions.specs.Fresh.{is_base, IsMade, AreFresh}
-use Rattle.mq_questions.specs.Made.{AreMade, IsSeen, is_no_fresh, made_texts}
-use Rattle.mq_questions.specs.Literals.{is_named}
+use Rattle.mq_questions.specs.Fresh.{is_base, IsLong, IsPadded, AreFresh}
+use Rattle.mq_questions.specs.FreshTexts.{AreLong, AreLonger, AreNew, IsNew, IsSeen, is_no_fresh}
+use Rattle.mq_questions.specs.FreshTexts.{fresh_texts}
 use Rattle.mq_questions.specs.declared.ask.fresh.Fresh.{Fresh}
-use Rattle.mq_questions.specs.declared.ask.literals.Literals.{Literals}
 use Rattle.mq_questions.specs.declared.ask.texts.FreshTexts.{FreshTexts}
 use Rattle.mq_walk.proofs.TextLemmas.{text_is}
 
@@ -22,14 +23,14 @@ many_lack b zero h = refl
 many_lack b (suc n) h = (λ i. h i || many_lack b n h i)
 
 made_lacks : (b : ℕ) (base text : List ℕ) → (120 == b) ≡ false → not (contains_byte b base) ≡ true
-    → IsMade base text → not (contains_byte b text) ≡ true
+    → IsPadded base text → not (contains_byte b text) ≡ true
 made_lacks b base text n h m =
     ap (λ t. not (contains_byte b t)) m.is
     ∙ ap not (list_any-append (λ c. c == b) base (replicate m.count 120))
     ∙ ap (λ k. not (contains_byte b base || k)) (many_lack b m.count n)
     ∙ ap (λ k. not (k || false)) (not-true (contains_byte b base) h)
 
-made_level : (base text : List ℕ) → is_base base ≡ true → IsMade base text
+made_level : (base text : List ℕ) → is_base base ≡ true → IsPadded base text
     → is_name_level text ≡ true
 made_level base text h m =
     let e2 = (and_parts (is_plain base && not (contains_byte 0 base) && not (contains_byte 47 base))
@@ -56,17 +57,29 @@ made_level base text h m =
     (le-leb (length text) 321 (omega (arith, size, short, few)))
 
 -- texts of bases that differ at the front differ
-made_apart : (a b s t : List ℕ) → ((x y : List ℕ) → bytes_eq (a ++ x) (b ++ y) ≡ false) → IsMade a s
-    → IsMade b t → not (bytes_eq s t) ≡ true
+made_apart : (a b s t : List ℕ) → ((x y : List ℕ) → bytes_eq (a ++ x) (b ++ y) ≡ false) → IsPadded a s
+    → IsPadded b t → not (bytes_eq s t) ≡ true
 made_apart a b s t h m n =
     ap not ((λ i. bytes_eq (m.is i) (n.is i)) ∙ h (replicate m.count 120) (replicate n.count 120))
 
-module _ (f : Fresh) (p : IsMade (codes "x") f.others.plain.now)
-    (d : IsMade (codes "$x") f.others.dollar.now) where
+-- a text that is longer than what is named isn't named
+pub too_long : (named : Bool) (n : ℕ) → (named ≡ true → n ≤ 300) → 300 < n → named ≡ false
+too_long true n f h = absurd (let g = f refl in omega arith)
+too_long false n f h = refl
+
+long_is_new : (base text : List ℕ) (named : List ℕ → Bool) → IsLong base text
+    → ((l : List ℕ) → named l ≡ true → length l ≤ 300) → IsNew base named text
+long_is_new base text named long short = record {
+  made = long.made;
+  unnamed = too_long (named text) (length text) (short text) long.long;
+}
+
+module _ (f : Fresh) (p : IsPadded (codes "x") f.others.plain.now)
+    (d : IsPadded (codes "$x") f.others.dollar.now) where
   choice : (base text : List ℕ) → is_base base ≡ true
       → ((x y : List ℕ) → bytes_eq (base ++ x) (codes "x" ++ y) ≡ false)
       → ((x y : List ℕ) → bytes_eq (base ++ x) (codes "$x" ++ y) ≡ false)
-      → IsMade base text → is_choice f.others text ≡ true
+      → IsPadded base text → is_choice f.others text ≡ true
   choice base text h s t m =
       rw (
         made_level base text h m,
@@ -78,10 +91,10 @@ module _ (f : Fresh) (p : IsMade (codes "x") f.others.plain.now)
   empty_choice = (λ i. not (bytes_eq [] (p.is i)) && not (bytes_eq [] (d.is i)))
 
 -- texts that are made so are fresh
-pub are_fresh : (f : Fresh) → IsMade (codes "x") f.others.plain.now
-    → IsMade (codes "$x") f.others.dollar.now → IsMade (codes "client") f.client.now
-    → IsMade (codes "$client") f.dollar_client.now → IsMade (codes "user") f.user.now
-    → IsMade (codes "$user") f.dollar_user.now → AreFresh f
+pub are_fresh : (f : Fresh) → IsPadded (codes "x") f.others.plain.now
+    → IsPadded (codes "$x") f.others.dollar.now → IsPadded (codes "client") f.client.now
+    → IsPadded (codes "$client") f.dollar_client.now → IsPadded (codes "user") f.user.now
+    → IsPadded (codes "$user") f.dollar_user.now → AreFresh f
 are_fresh f p d c dc u du = record {
   others = rw (
     made_level (codes "x") f.others.plain.now refl p,
@@ -123,44 +136,44 @@ are_fresh f p d c dc u du = record {
   empty_apart = (λ i. not (bytes_eq [] (c.is i)) && not (bytes_eq [] (dc.is i)));
 }
 
-pub seen_fresh : (t : FreshTexts) (f : Fresh) (literals : Literals) → AreMade t literals
+pub seen_fresh : (t : FreshTexts) (f : Fresh) (named : List ℕ → Bool) → AreNew t named
     → IsSeen t f → AreFresh f
-seen_fresh t f literals m s =
-    are_fresh f (subst (IsMade (codes "x")) (sym s.plain) m.plain.made)
-    (subst (IsMade (codes "$x")) (sym s.dollar) m.dollar.made)
-    (subst (IsMade (codes "client")) (sym s.client) m.client.made)
-    (subst (IsMade (codes "$client")) (sym s.dollar_client) m.dollar_client.made)
-    (subst (IsMade (codes "user")) (sym s.user) m.user.made)
-    (subst (IsMade (codes "$user")) (sym s.dollar_user) m.dollar_user.made)
+seen_fresh t f named m s =
+    are_fresh f (subst (IsPadded (codes "x")) (sym s.plain) m.plain.made)
+    (subst (IsPadded (codes "$x")) (sym s.dollar) m.dollar.made)
+    (subst (IsPadded (codes "client")) (sym s.client) m.client.made)
+    (subst (IsPadded (codes "$client")) (sym s.dollar_client) m.dollar_client.made)
+    (subst (IsPadded (codes "user")) (sym s.user) m.user.made)
+    (subst (IsPadded (codes "$user")) (sym s.dollar_user) m.dollar_user.made)
 
 -- a level that is named is none of them
-apart_from : (literals : Literals) (l t u : List ℕ) → is_named l literals ≡ true → u ≡ t
-    → is_named t literals ≡ false → not (bytes_eq l u) ≡ true
-apart_from literals l t u h e n = at (bytes_eq l u) refl
+apart_from : (named : List ℕ → Bool) (l t u : List ℕ) → named l ≡ true → u ≡ t
+    → named t ≡ false → not (bytes_eq l u) ≡ true
+apart_from named l t u h e n = at (bytes_eq l u) refl
   where
     at : (b : Bool) → bytes_eq l u ≡ b → not b ≡ true
     at true k = absurd (let f : true ≡ false = sym h
-        ∙ ap (λ x. is_named x literals) (text_is l u k ∙ e) ∙ n in cc)
+        ∙ ap named (text_is l u k ∙ e) ∙ n in cc)
     at false k = refl
 
-pub named_no_fresh : (t : FreshTexts) (f : Fresh) (literals : Literals) → AreMade t literals
-    → IsSeen t f → (l : List ℕ) → is_named l literals ≡ true → is_no_fresh f l ≡ true
-named_no_fresh t f literals m s l h =
+pub named_no_fresh : (t : FreshTexts) (f : Fresh) (named : List ℕ → Bool) → AreNew t named
+    → IsSeen t f → (l : List ℕ) → named l ≡ true → is_no_fresh f l ≡ true
+named_no_fresh t f named m s l h =
     rw (
-      apart_from literals l (string_bytes t.plain) f.others.plain.now h s.plain m.plain.unnamed,
-      apart_from literals l (string_bytes t.dollar) f.others.dollar.now h s.dollar m.dollar.unnamed,
-      apart_from literals l (string_bytes t.client) f.client.now h s.client m.client.unnamed,
-      apart_from literals l (string_bytes t.dollar_client) f.dollar_client.now h s.dollar_client
+      apart_from named l (string_bytes t.plain) f.others.plain.now h s.plain m.plain.unnamed,
+      apart_from named l (string_bytes t.dollar) f.others.dollar.now h s.dollar m.dollar.unnamed,
+      apart_from named l (string_bytes t.client) f.client.now h s.client m.client.unnamed,
+      apart_from named l (string_bytes t.dollar_client) f.dollar_client.now h s.dollar_client
           m.dollar_client.unnamed,
-      apart_from literals l (string_bytes t.user) f.user.now h s.user m.user.unnamed,
-      apart_from literals l (string_bytes t.dollar_user) f.dollar_user.now h s.dollar_user
+      apart_from named l (string_bytes t.user) f.user.now h s.user m.user.unnamed,
+      apart_from named l (string_bytes t.dollar_user) f.dollar_user.now h s.dollar_user
           m.dollar_user.unnamed,
     ) refl
 
 -- none of them is named
-pub made_unnamed : (t : FreshTexts) (literals : Literals) → AreMade t literals → (text : List ℕ)
-    → list_any (bytes_eq text) (made_texts t) ≡ true → is_named text literals ≡ false
-made_unnamed t literals m text h =
+pub made_unnamed : (t : FreshTexts) (named : List ℕ → Bool) → AreNew t named → (text : List ℕ)
+    → list_any (bytes_eq text) (fresh_texts t) ≡ true → named text ≡ false
+made_unnamed t named m text h =
     one (bytes_eq text (string_bytes t.plain)) (bytes_eq text (string_bytes t.dollar))
     (bytes_eq text (string_bytes t.client)) (bytes_eq text (string_bytes t.dollar_client))
     (bytes_eq text (string_bytes t.user)) (bytes_eq text (string_bytes t.dollar_user))
@@ -170,9 +183,9 @@ made_unnamed t literals m text h =
     (same (string_bytes t.user) m.user.unnamed)
     (same (string_bytes t.dollar_user) m.dollar_user.unnamed) h
   where
-    same : (other : List ℕ) → is_named other literals ≡ false → bytes_eq text other ≡ true
-        → is_named text literals ≡ false
-    same other n e = ap (λ x. is_named x literals) (text_is text other e) ∙ n
+    same : (other : List ℕ) → named other ≡ false → bytes_eq text other ≡ true
+        → named text ≡ false
+    same other n e = ap named (text_is text other e) ∙ n
 
     one : {A : Type 0} (p q r s t u : Bool) → (p ≡ true → A) → (q ≡ true → A) → (r ≡ true → A)
         → (s ≡ true → A) → (t ≡ true → A) → (u ≡ true → A)
@@ -184,3 +197,14 @@ made_unnamed t literals m text h =
     one false false false false true u a b c d e f h = e refl
     one false false false false false true a b c d e f h = f refl
     one false false false false false false a b c d e f h = absurd (let k : false ≡ true = h in cc)
+
+pub are_longer : (t : FreshTexts) → AreLong t → AreLonger t
+are_longer t l = λ named short. record {
+  plain = long_is_new (codes "x") (string_bytes t.plain) named l.plain short;
+  dollar = long_is_new (codes "$x") (string_bytes t.dollar) named l.dollar short;
+  client = long_is_new (codes "client") (string_bytes t.client) named l.client short;
+  dollar_client = long_is_new (codes "$client") (string_bytes t.dollar_client) named l.dollar_client
+      short;
+  user = long_is_new (codes "user") (string_bytes t.user) named l.user short;
+  dollar_user = long_is_new (codes "$user") (string_bytes t.dollar_user) named l.dollar_user short;
+}

@@ -1,5 +1,7 @@
 -- From walks over levels to names.
-use Rattle.std.proofs.Common.{◌≡◌, ℕ, ◌==◌, Bool, true, false, cond, not, ◌&&◌, ◌||◌, List, [], ◌∷◌, length, Option, Some, None, refl, ap, sym, ◌∙◌, IsTrue, bytes_eq, codes, map, Bor, reverse, ◌++◌}
+use Rattle.std.proofs.Common.{◌≡◌, ℕ, ◌==◌, Bool, true, false, cond, not, ◌&&◌, ◌||◌, List, []}
+use Rattle.std.proofs.Common.{◌∷◌, length, Option, Some, None, refl, ap, sym, ◌∙◌, IsTrue}
+use Rattle.std.proofs.Common.{bytes_eq, codes, map, Bor, reverse, ◌++◌}
 use Rattle.std.proofs.lemmas.List.{map_push, reverse-append, map-id}
 use Rattle.std.specs.List.{list_all}
 use Rattle.std.proofs.lemmas.Bool.{and_parts}
@@ -12,7 +14,8 @@ use Rattle.mq_acl.specs.declared.access.Direction.{Direction}
 use Rattle.mq_acl.proofs.AccessLemmas.{allowed_by_list}
 use Rattle.mq_walk.specs.Names.{can_be_level, is_name_level, start_of, suits}
 use Rattle.mq_questions.specs.Texts.{level_of}
-use Rattle.mq_walk.specs.Remainders.{passes, same, hit, allow, gains, fits, mark_passes, GainsNothing, IsGain}
+use Rattle.mq_walk.specs.Remainders.{passes, same, hit, allow, gains, fits, mark_passes}
+use Rattle.mq_walk.specs.Remainders.{GainsNothing, IsGain}
 use Rattle.mq_walk.specs.Paths.{path_levels}
 use Rattle.mq_questions.specs.Fresh.{marks_of, is_user_level}
 use Rattle.mq_questions.specs.Roots.{alike, AreRoots, gained}

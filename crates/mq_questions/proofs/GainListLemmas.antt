@@ -1,14 +1,18 @@
 -- Gains that are listed.
-use Rattle.std.proofs.Common.{◌≡◌, ◌<◌, ◌≤◌, ◌+◌, ℕ, Bool, true, false, ◌||◌, List, [], ◌∷◌, ◌++◌, length, get_or, drop, refl, ap, sym, ◌∙◌, subst, map, Option, Bor, codes, bytes_eq, if◌then◌else◌, string_bytes, take, zero, suc, arith}
+use Rattle.std.proofs.Common.{◌≡◌, ◌<◌, ◌≤◌, ◌+◌, ℕ, Bool, true, false, ◌||◌, List, [], ◌∷◌, ◌++◌}
+use Rattle.std.proofs.Common.{length, get_or, drop, refl, ap, sym, ◌∙◌, subst, map, Option, Bor}
+use Rattle.std.proofs.Common.{codes, bytes_eq, if◌then◌else◌, string_bytes, take, zero, suc, arith}
 use Rattle.std.specs.List.{All}
 use Rattle.std.proofs.lemmas.List.{map_push, map-id}
-use Rattle.std.proofs.lemmas.List.Elements.{All-same, All-push, All-head, All-tail, All-append, All-take, All-weaker, All-cons, All-nil}
+use Rattle.std.proofs.lemmas.List.Elements.{All-same, All-push, All-head, All-tail, All-append}
+use Rattle.std.proofs.lemmas.List.Elements.{All-take, All-weaker, All-cons, All-nil}
 use Rattle.mq_questions.specs.Fresh.{AreFresh, marks_of, is_tried_client, is_no_client, is_literal}
 use Rattle.mq_questions.specs.Literals.{has_mark}
 use Rattle.mq_walk.specs.Names.{is_among, is_choice, start_of, suits}
 use Rattle.mq_questions.specs.Texts.{level_of}
 use Rattle.mq_questions.specs.declared.ask.fresh.Fresh.{Fresh}
-use Rattle.mq_questions.proofs.ClientLemmas.{one_more_done, all_done, no_client_gains, tried_is_choice}
+use Rattle.mq_questions.proofs.ClientLemmas.{one_more_done, all_done, no_client_gains}
+use Rattle.mq_questions.proofs.ClientLemmas.{tried_is_choice}
 use Rattle.mq_questions.proofs.MarkLemmas.{any_client_nothing}
 use Rattle.mq_topic.specs.Levels.{levels}
 use Rattle.mq_acl.specs.Rows.{AclRow}

@@ -1,22 +1,26 @@
 -- Rows that keep to the limit.
-use Rattle.std.proofs.Common.{◌≡◌, ℕ, ◌==◌, ◌-◌, Bool, true, false, not, ◌&&◌, ◌||◌, List, [], ◌∷◌, length, take, codes, bytes_eq, refl, ap, sym, ◌∙◌, arith, ◌≤◌, suc, Some, None, subst, cond}
+use Rattle.std.proofs.Common.{◌≡◌, ℕ, ◌==◌, ◌-◌, Bool, true, false, not, ◌&&◌, ◌||◌, List, [], ◌∷◌}
+use Rattle.std.proofs.Common.{length, take, codes, bytes_eq, refl, ap, sym, ◌∙◌, arith, ◌≤◌, suc}
+use Rattle.std.proofs.Common.{Some, None, subst, cond}
 use Rattle.std.specs.Prelude.{nat_le, nat_lt}
 use Rattle.std.specs.List.{list_all}
 use Rattle.std.proofs.lemmas.Bool.Decides.{nat_tests}
 use Rattle.std.proofs.lemmas.Bool.{and_parts, not-true, leb-true}
 use Rattle.mq_topic.specs.Levels.{levels}
 use Rattle.mq_topic.specs.Matching.{is_wildcard}
-use Rattle.mq_topic.specs.Texts.{contains_byte, is_level, parents, wildcards_fit, is_text, is_filter}
+use Rattle.mq_topic.specs.Texts.{contains_byte, is_level, parents, wildcards_fit, is_text}
+use Rattle.mq_topic.specs.Texts.{is_filter}
 use Rattle.mq_topic.proofs.TextLemmas.{levels_lack}
 use Rattle.mq_acl.specs.Rows.{Who, Anonymous, Named, Everyone, AclRow}
 use Rattle.mq_walk.specs.Names.{can_be_level, is_name_level}
 use Rattle.mq_questions.specs.Texts.{level_of}
 use Rattle.mq_walk.specs.Remainders.{fits, mark_passes}
 use Rattle.mq_questions.specs.Literals.{is_literal_in}
-use Rattle.mq_questions.specs.Users.{is_name_of, is_user_of, row_names, rows_name, short_who, is_short_level, usable}
+use Rattle.mq_questions.specs.Users.{is_name_of, is_user_of, row_names, rows_name, short_who}
+use Rattle.mq_questions.specs.Users.{is_short_level, usable}
 use Rattle.mq_questions.specs.Roots.{rows_fit}
 use Rattle.mq_questions.specs.Fresh.{is_literal, is_user_level, is_no_client, is_no_user}
-use Rattle.mq_questions.specs.Made.{is_no_fresh}
+use Rattle.mq_questions.specs.FreshTexts.{is_no_fresh}
 use Rattle.mq_questions.specs.declared.ask.fresh.Fresh.{Fresh}
 use Rattle.mq_questions.proofs.NameLemmas.{levels_without}
 use Rattle.mq_questions.proofs.LiteralLemmas.{fits_both, literal_passes}

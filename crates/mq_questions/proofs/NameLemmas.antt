@@ -1,5 +1,7 @@
 -- Levels of names, and the names that they make.
-use Rattle.std.proofs.Common.{◌≡◌, ℕ, ◌==◌, Bool, true, false, cond, not, ◌&&◌, ◌||◌, List, [], ◌∷◌, ◌++◌, length, refl, ap, sym, ◌∙◌, arith, ◌<◌, ◌≤◌, ◌*◌, append-nil, length-append, suc}
+use Rattle.std.proofs.Common.{◌≡◌, ℕ, ◌==◌, Bool, true, false, cond, not, ◌&&◌, ◌||◌, List, []}
+use Rattle.std.proofs.Common.{◌∷◌, ◌++◌, length, refl, ap, sym, ◌∙◌, arith, ◌<◌, ◌≤◌, ◌*◌}
+use Rattle.std.proofs.Common.{append-nil, length-append, suc}
 use Rattle.std.specs.Prelude.{nat_le, nat_lt}
 use Rattle.std.specs.List.{list_all, flat_map, onto_first}
 use Rattle.std.proofs.lemmas.Bool.Decides.{nat_tests}

@@ -1,5 +1,7 @@
 -- What clients gain with user names that no list names.
-use Rattle.std.proofs.Common.{◌≡◌, ◌<◌, ◌≤◌, ◌+◌, ℕ, Bool, true, false, ◌||◌, List, [], ◌∷◌, ◌++◌, length, get_or, drop, refl, ap, sym, ◌∙◌, subst, map, Some, Bor, codes, bytes_eq, if◌then◌else◌, string_bytes}
+use Rattle.std.proofs.Common.{◌≡◌, ◌<◌, ◌≤◌, ◌+◌, ℕ, Bool, true, false, ◌||◌, List, [], ◌∷◌, ◌++◌}
+use Rattle.std.proofs.Common.{length, get_or, drop, refl, ap, sym, ◌∙◌, subst, map, Some, Bor}
+use Rattle.std.proofs.Common.{codes, bytes_eq, if◌then◌else◌, string_bytes}
 use Rattle.std.specs.List.{All}
 use Rattle.std.proofs.lemmas.List.Elements.{All-same, All-push, All-weaker, All-nil}
 use Rattle.mq_topic.specs.Levels.{levels}
@@ -23,7 +25,8 @@ use Rattle.mq_questions.proofs.ClientLemmas.{one_more_done, all_done}
 use Rattle.mq_questions.proofs.GainLemmas.{name_gained_by}
 use Rattle.mq_questions.proofs.GainListLemmas.{split_push, not_pushed, shown_each, gain_named}
 use Rattle.mq_questions.proofs.MarkLemmas.{any_user_nothing}
-use Rattle.mq_questions.proofs.UserLemmas.{others_alike, no_user_gains, tried_user_is_choice, tried_user_is_no_client}
+use Rattle.mq_questions.proofs.UserLemmas.{others_alike, no_user_gains, tried_user_is_choice}
+use Rattle.mq_questions.proofs.UserLemmas.{tried_user_is_no_client}
 use Rattle.mq_walk.proofs.TextLemmas.{text_is, same_text}
 
 -- what clients gain with this user name is among the others, but for what is like others
@@ -117,7 +120,8 @@ pub others_more : (start : Start) (old new : List Remainder) (named : Literals)
     → AreOthers start old new named items (i + 1) after
 others_more start old new named items i d before after gains h unlisted kept none each nothing all a
     = record {
-      tried = λ e. one_more_done (NothingWith start old new named) items i d h (λ u. nothing (none e))
+      tried = λ e. one_more_done (NothingWith start old new named) items i d h
+          (λ u. nothing (none e))
           (a.tried (kept e));
       each = each start old new named unlisted a.each all;
     }

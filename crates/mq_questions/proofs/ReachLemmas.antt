@@ -1,5 +1,7 @@
 -- What a client may read of the topics that a filter matches.
-use Rattle.std.proofs.Common.{◌≡◌, ℕ, ◌==◌, Bool, true, false, cond, not, ◌&&◌, ◌||◌, List, [], ◌∷◌, length, codes, bytes_eq, refl, ap, sym, ◌∙◌, Option, Some, IsTrue, arith}
+use Rattle.std.proofs.Common.{◌≡◌, ℕ, ◌==◌, Bool, true, false, cond, not, ◌&&◌, ◌||◌, List, []}
+use Rattle.std.proofs.Common.{◌∷◌, length, codes, bytes_eq, refl, ap, sym, ◌∙◌, Option, Some}
+use Rattle.std.proofs.Common.{IsTrue, arith}
 use Rattle.std.specs.List.{list_all}
 use Rattle.std.specs.Prelude.{IfNone, IfSome, None}
 use Rattle.std.proofs.lemmas.Bool.Decides.{nat_tests}
@@ -7,7 +9,8 @@ use Rattle.std.proofs.lemmas.Bool.{and_parts, not-true}
 use Rattle.std.proofs.lemmas.List.{map-id}
 use Rattle.std.proofs.Math.Bool.{and-false}
 use Rattle.mq_topic.specs.Levels.{levels, levels_left}
-use Rattle.mq_topic.specs.Matching.{is_hidden, is_wildcard, level_at, level_matches, levels_match_by, matches}
+use Rattle.mq_topic.specs.Matching.{is_hidden, is_wildcard, level_at, level_matches}
+use Rattle.mq_topic.specs.Matching.{levels_match_by, matches}
 use Rattle.mq_topic.specs.Texts.{is_name}
 use Rattle.mq_acl.specs.Access.{allowed, begins_with_dollar}
 use Rattle.mq_acl.specs.Rows.{AclRow}
@@ -15,7 +18,8 @@ use Rattle.mq_acl.specs.declared.access.Direction.TheVariants.{Reading}
 use Rattle.mq_questions.specs.Fresh.{marks_of}
 use Rattle.mq_walk.specs.Names.{can_be_level, is_name_level, start_of, suits}
 use Rattle.mq_questions.specs.Reach.{level_marks}
-use Rattle.mq_walk.specs.Remainders.{MarkLevels, passes, same, hit, allow, gains, GainsNothing, IsGain}
+use Rattle.mq_walk.specs.Remainders.{MarkLevels, passes, same, hit, allow, gains, GainsNothing}
+use Rattle.mq_walk.specs.Remainders.{IsGain}
 use Rattle.mq_questions.specs.Roots.{AreRoots}
 use Rattle.mq_walk.specs.declared.remainder.Remainder.{Remainder}
 use Rattle.mq_walk.specs.declared.start.Start.{Start}

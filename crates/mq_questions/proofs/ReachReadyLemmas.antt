@@ -1,5 +1,6 @@
 -- Texts that neither rows, a filter, a client id nor a user name name.
-use Rattle.std.proofs.Common.{◌≡◌, ◌≤◌, ℕ, Bool, true, false, ◌||◌, List, [], ◌∷◌, length, bytes_eq, refl, sym, ◌∙◌, subst, Option, Some, None}
+use Rattle.std.proofs.Common.{◌≡◌, ◌≤◌, ℕ, Bool, true, false, ◌||◌, List, [], ◌∷◌, length}
+use Rattle.std.proofs.Common.{bytes_eq, refl, sym, ◌∙◌, subst, Option, Some, None}
 use Rattle.std.specs.Prelude.{nat_le}
 use Rattle.std.proofs.lemmas.Bool.{and_parts, leb-true, or_left, or_right}
 use Rattle.mq_topic.specs.Levels.{levels}
@@ -7,8 +8,8 @@ use Rattle.mq_acl.specs.Access.{is_user}
 use Rattle.mq_acl.specs.Lines.{Read}
 use Rattle.mq_acl.specs.Rows.{AclRow, Anonymous}
 use Rattle.mq_questions.specs.Fresh.{is_literal, is_no_client, is_user_level}
-use Rattle.mq_questions.specs.Literals.{is_literal_in, is_named}
-use Rattle.mq_questions.specs.Made.{AreMade, IsSeen, is_no_fresh}
+use Rattle.mq_questions.specs.Literals.{is_literal_in}
+use Rattle.mq_questions.specs.FreshTexts.{AreLonger, AreNew, IsSeen, is_no_fresh}
 use Rattle.mq_walk.specs.Names.{can_be_level, are_others, is_choice}
 use Rattle.mq_questions.specs.Texts.{level_of}
 use Rattle.mq_questions.specs.Reach.{AreApart, AreShort, level_marks}
@@ -16,7 +17,6 @@ use Rattle.mq_walk.specs.Remainders.{fits, mark_passes, marks_pass}
 use Rattle.mq_questions.specs.Roots.{rows_fit}
 use Rattle.mq_questions.specs.Users.{is_short_level, rows_name}
 use Rattle.mq_questions.specs.declared.ask.fresh.Fresh.{Fresh}
-use Rattle.mq_questions.specs.declared.ask.literals.Literals.{Literals}
 use Rattle.mq_questions.specs.declared.ask.texts.FreshTexts.{FreshTexts}
 use Rattle.mq_questions.proofs.ClientLemmas.{literal_is_choice}
 use Rattle.mq_questions.proofs.FreshLemmas.{named_no_fresh, seen_fresh}
@@ -63,15 +63,15 @@ rows_mono p q (row ∷ rows) f h =
     ) refl
 
 module _ (rows : List AclRow) (client : List ℕ) (user : Option (List ℕ)) (filter : List ℕ)
-    (texts : FreshTexts) (literals : Literals) (f : Fresh)
+    (texts : FreshTexts) (named : List ℕ → Bool) (f : Fresh)
     (short : AreShort rows client user filter)
-    (named : (l : List ℕ) → is_named l literals ≡ names rows client user filter l)
-    (made : AreMade texts literals) (seen : IsSeen texts f) where
+    (named_is : (l : List ℕ) → named l ≡ names rows client user filter l)
+    (made : AreNew texts named) (seen : IsSeen texts f) where
   no_fresh : (l : List ℕ) → names rows client user filter l ≡ true → is_no_fresh f l ≡ true
-  no_fresh l h = named_no_fresh texts f literals made seen l (named l ∙ h)
+  no_fresh l h = named_no_fresh texts f named made seen l (named_is l ∙ h)
 
   others_made : are_others f.others ≡ true
-  others_made = (seen_fresh texts f literals made seen).others
+  others_made = (seen_fresh texts f named made seen).others
 
   rows_made : rows_fit (is_choice f.others) rows ≡ true
   rows_made =
@@ -130,3 +130,11 @@ module _ (rows : List AclRow) (client : List ℕ) (user : Option (List ℕ)) (fi
     all_fit = rows_made;
     filter_fits = filter_made;
   }
+
+-- so are texts that are longer than all of these
+pub longer_are_apart : (rows : List AclRow) (client : List ℕ) (user : Option (List ℕ))
+    (filter : List ℕ) (texts : FreshTexts) (f : Fresh) → AreShort rows client user filter
+    → AreLonger texts → IsSeen texts f → AreApart rows client user filter f.others
+longer_are_apart rows client user filter texts f short longer seen =
+    are_apart rows client user filter texts (names rows client user filter) f short (λ l. refl)
+    (longer (names rows client user filter) (names_size rows client user filter short)) seen

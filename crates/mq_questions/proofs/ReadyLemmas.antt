@@ -1,11 +1,12 @@
 -- When two lists can be compared.
-use Rattle.std.proofs.Common.{◌≡◌, ℕ, Bool, true, false, ◌||◌, List, length, refl, ap, sym, ◌∙◌, ◌≤◌}
+use Rattle.std.proofs.Common.{◌≡◌, ℕ, Bool, true, false, ◌||◌, List, length, refl, ap, sym, ◌∙◌}
+use Rattle.std.proofs.Common.{◌≤◌}
 use Rattle.std.specs.List.{list_all}
 use Rattle.std.proofs.lemmas.Bool.{or_left, or_right}
 use Rattle.mq_acl.specs.Rows.{AclRow}
 use Rattle.mq_questions.specs.Ready.{IsReady}
 use Rattle.mq_questions.specs.Literals.{is_named}
-use Rattle.mq_questions.specs.Made.{AreMade, IsSeen, is_no_fresh}
+use Rattle.mq_questions.specs.FreshTexts.{AreNew, IsSeen, is_no_fresh}
 use Rattle.mq_questions.specs.Users.{is_user_of, rows_name, usable}
 use Rattle.mq_questions.specs.declared.ask.fresh.Fresh.{Fresh}
 use Rattle.mq_questions.specs.declared.ask.literals.Literals.{Literals}
@@ -26,10 +27,11 @@ both_short old new literals e u v l h =
 pub ready : (old new : List AclRow) (texts : FreshTexts) (named literals : Literals)
     → ((l : List ℕ) → is_named l literals ≡ (rows_name l old || rows_name l new))
     → ((l : List ℕ) → is_named l named ≡ (is_user_of l old || is_user_of l new))
-    → list_all usable old ≡ true → list_all usable new ≡ true → AreMade texts literals
+    → list_all usable old ≡ true → list_all usable new ≡ true
+    → AreNew texts (λ l. is_named l literals)
     → IsReady old new texts named
 ready old new texts named literals e n u v m = record {
-  fresh = λ f s. seen_fresh texts f literals m s;
+  fresh = λ f s. seen_fresh texts f (λ l. is_named l literals) m s;
   old_fits = λ f s. rows_literal f old u
       (λ l h. no_fresh f s l (or_left (rows_name l old) (rows_name l new) h));
   new_fits = λ f s. rows_literal f new v
@@ -42,13 +44,13 @@ ready old new texts named literals e n u v m = record {
   named = n;
   level = λ f s user h. user_fits f user
       (both_short old new literals e u v user (users_named user h))
-      (named_no_fresh texts f literals m s user (users_named user h));
-  unnamed = λ text h. sym (e text) ∙ made_unnamed texts literals m text h;
+      (named_no_fresh texts f (λ l. is_named l literals) m s user (users_named user h));
+  unnamed = λ text h. sym (e text) ∙ made_unnamed texts (λ l. is_named l literals) m text h;
 }
   where
     no_fresh : (f : Fresh) → IsSeen texts f → (l : List ℕ)
         → (rows_name l old || rows_name l new) ≡ true → is_no_fresh f l ≡ true
-    no_fresh f s l h = named_no_fresh texts f literals m s l (e l ∙ h)
+    no_fresh f s l h = named_no_fresh texts f (λ l. is_named l literals) m s l (e l ∙ h)
 
     users_named : (l : List ℕ) → is_named l named ≡ true → is_named l literals ≡ true
     users_named l h = e l ∙ or_cases (is_user_of l old) (is_user_of l new) (sym (n l) ∙ h)

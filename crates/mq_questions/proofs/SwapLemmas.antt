@@ -1,5 +1,7 @@
 -- Two texts that no row names can stand in each other's place.
-use Rattle.std.proofs.Common.{◌≡◌, ℕ, ◌==◌, Bool, true, false, cond, not, ◌&&◌, ◌||◌, List, [], ◌∷◌, length, Option, Some, None, codes, bytes_eq, refl, ap, sym, ◌∙◌, map, subst, ◌≤◌}
+use Rattle.std.proofs.Common.{◌≡◌, ℕ, ◌==◌, Bool, true, false, cond, not, ◌&&◌, ◌||◌, List, []}
+use Rattle.std.proofs.Common.{◌∷◌, length, Option, Some, None, codes, bytes_eq, refl, ap, sym, ◌∙◌}
+use Rattle.std.proofs.Common.{map, subst, ◌≤◌}
 use Rattle.std.specs.List.{list_all}
 use Rattle.std.specs.Option.{option_map}
 use Rattle.std.proofs.lemmas.Bool.{and_parts, not-true}
@@ -9,7 +11,8 @@ use Rattle.mq_topic.specs.Levels.{levels_left}
 use Rattle.mq_topic.specs.Matching.{level_matches, levels_match_by}
 use Rattle.mq_topic.proofs.Walk.{levels_match_end}
 use Rattle.mq_acl.specs.Access.{is_user, begins_with_dollar}
-use Rattle.mq_walk.specs.Remainders.{MarkLevels, passes, same, hit, fits, remainder_fits, remainders_fit, GainsNothing}
+use Rattle.mq_walk.specs.Remainders.{MarkLevels, passes, same, hit, fits, remainder_fits}
+use Rattle.mq_walk.specs.Remainders.{remainders_fit, GainsNothing}
 use Rattle.mq_walk.specs.Names.{fits_start, behind, suits}
 use Rattle.mq_walk.specs.declared.remainder.Remainder.{Remainder}
 use Rattle.mq_walk.specs.declared.start.Start.{Start}

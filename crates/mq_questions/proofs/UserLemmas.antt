@@ -1,12 +1,14 @@
 -- A few user names stand for all that no list names.
-use Rattle.std.proofs.Common.{◌≡◌, ℕ, ◌==◌, Bool, true, false, not, ◌||◌, List, [], ◌∷◌, length, bytes_eq, refl, ap, sym, ◌∙◌, subst, Some}
+use Rattle.std.proofs.Common.{◌≡◌, ℕ, ◌==◌, Bool, true, false, not, ◌||◌, List, [], ◌∷◌, length}
+use Rattle.std.proofs.Common.{bytes_eq, refl, ap, sym, ◌∙◌, subst, Some}
 use Rattle.std.proofs.lemmas.Bool.{and_parts, or_parts}
 use Rattle.mq_acl.specs.Rows.{Who, Anonymous, Named, Everyone, AclRow}
 use Rattle.mq_acl.specs.Access.{begins_with_dollar, applies}
 use Rattle.mq_walk.specs.Names.{is_choice}
 use Rattle.mq_walk.specs.Remainders.{remainders_fit, same, GainsNothing}
 use Rattle.mq_questions.specs.Literals.{is_literal_of}
-use Rattle.mq_questions.specs.Fresh.{AreFresh, is_tried_user, is_no_client, is_no_user, is_literal, marks_of}
+use Rattle.mq_questions.specs.Fresh.{AreFresh, is_tried_user, is_no_client, is_no_user, is_literal}
+use Rattle.mq_questions.specs.Fresh.{marks_of}
 use Rattle.mq_questions.specs.Roots.{alike}
 use Rattle.mq_questions.specs.Users.{is_name_of, is_user_of}
 use Rattle.mq_questions.specs.declared.ask.fresh.Fresh.{Fresh}
@@ -15,7 +17,9 @@ use Rattle.mq_walk.specs.declared.start.Start.{Start}
 use Rattle.mq_questions.proofs.Swaps.{swap, is_apart}
 use Rattle.mq_questions.proofs.SwapLemmas.{swap_first, swap_nothing}
 use Rattle.mq_questions.proofs.LiteralLemmas.{all_fit_both, literals_pass, apart_rows}
-use Rattle.mq_questions.proofs.ClientLemmas.{literal_is_choice, literal_is_no_client, literal_is_no_user, literal_is_no_wildcard, not_empty, apart_by}
+use Rattle.mq_questions.proofs.ClientLemmas.{literal_is_choice, literal_is_no_client}
+use Rattle.mq_questions.proofs.ClientLemmas.{literal_is_no_user, literal_is_no_wildcard, not_empty}
+use Rattle.mq_questions.proofs.ClientLemmas.{apart_by}
 use Rattle.mq_walk.proofs.TextLemmas.{text_is, same_text}
 
 -- ---- rows that name neither of two users apply to both alike

@@ -1,5 +1,6 @@
 -- Texts that no row names, and which client ids stand for all.
-use Rattle.std.specs.Prelude.{◌≡◌, ◌≤◌, ℕ, Bool, true, false, List, [], ◌++◌, length, ◌&&◌, ◌||◌, not, ◌==◌, nat_le, replicate, Option, Some}
+use Rattle.std.specs.Prelude.{◌≡◌, ◌≤◌, ◌<◌, ℕ, Bool, true, false, List, [], ◌++◌, length}
+use Rattle.std.specs.Prelude.{◌&&◌, ◌||◌, not, ◌==◌, nat_le, replicate, Option, Some}
 use Rattle.std.specs.Str.{bytes_eq}
 use Rattle.mq_topic.specs.Texts.{contains_byte, is_plain}
 use Rattle.mq_acl.specs.Access.{begins_with_dollar, is_user}
@@ -15,10 +16,15 @@ is_base base = is_plain base && not (contains_byte 0 base) && not (contains_byte
     && nat_le (length base) 20
 
 -- a base, and as many `x` behind it
-pub record IsMade (base text : List ℕ) : Type 0 where
+pub record IsPadded (base text : List ℕ) : Type 0 where
   pub count : ℕ
   pub few : count ≤ 301
   pub is : text ≡ base ++ replicate count 120
+
+-- one with so many that it is longer than any level of at most 300 bytes
+pub record IsLong (base text : List ℕ) : Type 0 where
+  pub made : IsPadded base text
+  pub long : 300 < length text
 
 -- neither of the client ids that stand for others
 abbrev pub is_no_client : Fresh → List ℕ → Bool

@@ -1,5 +1,6 @@
 -- What clients gain.
-use Rattle.std.specs.Prelude.{◌≡◌, ◌≤◌, ℕ, Bool, true, false, List, length, Option, Some, string_bytes}
+use Rattle.std.specs.Prelude.{◌≡◌, ◌≤◌, ℕ, Bool, true, false, List, length, Option, Some}
+use Rattle.std.specs.Prelude.{string_bytes}
 use Rattle.std.specs.List.{list_all}
 use Rattle.mq_topic.specs.Levels.{levels}
 use Rattle.mq_walk.specs.Names.{is_name_level, suits, start_of}

@@ -3,7 +3,7 @@ pub mod Literals
 pub mod Fresh
 pub mod Gains
 pub mod Roots
-pub mod Made
+pub mod FreshTexts
 pub mod Users
 pub mod Differ
 pub mod Reach

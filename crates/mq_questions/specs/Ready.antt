@@ -5,7 +5,7 @@ use Rattle.std.specs.Str.{bytes_eq}
 use Rattle.mq_acl.specs.Rows.{AclRow}
 use Rattle.mq_questions.specs.Fresh.{AreFresh, is_literal, is_user_level}
 use Rattle.mq_questions.specs.Literals.{is_named}
-use Rattle.mq_questions.specs.Made.{IsSeen, made_texts}
+use Rattle.mq_questions.specs.FreshTexts.{IsSeen, fresh_texts}
 use Rattle.mq_questions.specs.Texts.{level_of}
 use Rattle.mq_walk.specs.Remainders.{mark_passes}
 use Rattle.mq_questions.specs.Roots.{rows_fit}
@@ -24,5 +24,5 @@ pub record IsReady (old new : List AclRow) (texts : FreshTexts) (users : Literal
   pub named : (user : List ℕ) → is_named user users ≡ (is_user_of user old || is_user_of user new)
   pub level : (f : Fresh) → IsSeen texts f → (user : List ℕ) → is_named user users ≡ true
       → mark_passes (is_user_level f) (level_of (Some user)) ≡ true
-  pub unnamed : (text : List ℕ) → list_any (bytes_eq text) (made_texts texts) ≡ true
+  pub unnamed : (text : List ℕ) → list_any (bytes_eq text) (fresh_texts texts) ≡ true
       → (rows_name text old || rows_name text new) ≡ false

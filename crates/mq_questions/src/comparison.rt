@@ -1,8 +1,10 @@
-ghost use Rattle.std.specs.Prelude.{◌≡◌, ◌≤◌, ◌||◌, ℕ, List, [], IfOk, IsTrue, true, false, length, string_bytes, Some, None};
+ghost use Rattle.std.specs.Prelude.{◌≡◌, ◌≤◌, ◌||◌, ℕ, List, [], IfOk, IsTrue, true, false, length};
+ghost use Rattle.std.specs.Prelude.{string_bytes, Some, None};
 ghost use Rattle.std.specs.List.{All};
 ghost use Rattle.mq_topic.specs.Texts.{is_name};
 ghost use Rattle.mq_acl.specs.Views.{row_views};
-ghost use Rattle.mq_questions.specs.Comparison.{changed, is_made_up, lists_user, rows_with, rows_without};
+ghost use Rattle.mq_questions.specs.Comparison.{changed, is_made_up, lists_user, rows_with};
+ghost use Rattle.mq_questions.specs.Comparison.{rows_without};
 ghost use Rattle.mq_walk.specs.Names.{is_among};
 ghost use Rattle.mq_questions.specs.Roots.{all_rows};
 ghost use Rattle.mq_questions.specs.Users.{rows_name};
@@ -53,7 +55,7 @@ pub struct Comparison<'a> {
 impl<'a> Model for Comparison<'a> {
     ghost use Rattle.mq_acl.specs.Views.{row_views};
     ghost use Rattle.mq_questions.specs.Comparison.{Compared};
-    ghost use Rattle.mq_questions.specs.Made.{made_texts};
+    ghost use Rattle.mq_questions.specs.FreshTexts.{fresh_texts};
     ghost use Rattle.mq_questions.specs.Ready.{IsReady};
 
     ghost Value = { Compared };
@@ -61,7 +63,7 @@ impl<'a> Model for Comparison<'a> {
     ghost view = { λ c. record {
       old = row_views c.old.now;
       new = row_views c.new.now;
-      made_up = made_texts c.texts;
+      made_up = fresh_texts c.texts;
     } };
 
     ghost invariant = { λ c. IsReady (row_views c.old.now) (row_views c.new.now) c.texts c.named };

@@ -4,15 +4,17 @@
 
 mod ask;
 mod comparison;
+mod list_fault;
 mod needless;
-mod reading;
+mod reach;
 mod way;
 mod why;
 
 pub use ask::gain::Witness;
 pub use ask::others::OtherWitness;
 pub use comparison::{Comparison, ComparisonFault, MAX_WITNESSES};
-pub use needless::{Needless, NeedlessFault};
-pub use reading::{ReachFault, reach};
+pub use list_fault::ListFault;
+pub use needless::Needless;
+pub use reach::{Reach, ReachFault};
 pub use way::Way;
 pub use why::{Decision, decide};

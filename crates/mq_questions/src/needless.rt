@@ -10,24 +10,10 @@ use crate::ask::lists::long_line;
 use crate::ask::literals::Literals;
 use crate::ask::rows::Rows;
 use crate::ask::texts::FreshTexts;
+use crate::list_fault::ListFault;
 use mq_acl::Row;
 use std::alloc::{AllocError, Global};
 use std::marker::Model;
-
-/// Why a list can't be asked which of its rows are needless.
-#[derive(Clone, Copy, Debug, PartialEq, Eq)]
-pub enum NeedlessFault {
-    /// There was no memory.
-    Memory,
-    /// The row with this line has a level, or a user name, of more than 300 bytes.
-    Line(u64),
-}
-
-impl From<AllocError> for NeedlessFault {
-    fn from(_: AllocError) -> Self {
-        NeedlessFault::Memory
-    }
-}
 
 /// A list that is asked which of its rows are needless: without such a row it allows each client the same.
 #[derive(Drop)]
@@ -54,11 +40,11 @@ impl<'a> Model for Needless<'a> {
 impl<'a> Needless<'a> {
     /// Takes the rows of a list. One with a level or a user name of more than 300 bytes is told by its line: a topic
     /// name made of such levels could be too long.
-    pub fn new(alloc: Global, rows: &'a [Row]) -> Result<Needless<'a>, NeedlessFault>
+    pub fn new(alloc: Global, rows: &'a [Row]) -> Result<Needless<'a>, ListFault>
         ensures { IfOk result (λ needless. needless ≡ row_views rows.entry.now) }
     {
         if let Some(line) = long_line(rows) {
-            return Err(NeedlessFault::Line(line));
+            return Err(ListFault::Line(line));
         }
         let mut literals = Literals::new(alloc);
         literals.add_rows(rows)?;

@@ -7,8 +7,8 @@ ghost use Rattle.mq_reach.specs.Vain.{IsReached, IsVain};
 
 use crate::subscription::Subscription;
 use mq_acl::Row;
-use mq_questions::{ReachFault, reach};
-use mq_topic::{LevelText, SubFilter, TopicFilter};
+use mq_questions::{ListFault, Reach, ReachFault};
+use mq_topic::{SubFilter, TopicFilter};
 use std::alloc::{AllocError, Global};
 
 /// Why it isn't told whether a subscription is in vain. `Memory` may stand in place of any answer.
@@ -46,37 +46,43 @@ fn filter_in(alloc: Global, text: &str) -> Result<TopicFilter, SearchFault>
     }
 }
 
+// The line is the subscription's.
 fn fault_of(line: u64, fault: ReachFault) -> SearchFault {
     match fault {
         ReachFault::Memory => SearchFault::Memory,
-        ReachFault::Line(row) => SearchFault::Row(row),
         ReachFault::Client | ReachFault::User | ReachFault::Filter => {
             SearchFault::Subscription(line)
         }
     }
 }
 
+/// The list with these rows, which is asked about subscriptions.
+pub(crate) fn list_of(alloc: Global, rows: &[Row]) -> Result<Reach<'_>, SearchFault>
+    ensures { IfOk result (λ list. list ≡ row_views rows.entry.now) }
+{
+    match Reach::new(alloc, rows) {
+        Ok(list) => Ok(list),
+        Err(ListFault::Memory) => Err(SearchFault::Memory),
+        Err(ListFault::Line(row)) => Err(SearchFault::Row(row)),
+    }
+}
+
 /// Whether the client of a subscription may read no topic that its filter matches.
 pub(crate) fn is_vain(
     alloc: Global,
-    rows: &[Row],
+    list: &Reach,
     subscription: &Subscription,
 ) -> Result<bool, SearchFault>
     ensures vain { IfOk result (λ vain. vain ≡ true
-        → IsVain (row_views rows.now) (subscription_view subscription.now)) }
+        → IsVain list.now (subscription_view subscription.now)) }
     ensures reached { IfOk result (λ vain. vain ≡ false
-        → IsReached (row_views rows.now) (subscription_view subscription.now)) }
+        → IsReached list.now (subscription_view subscription.now)) }
 {
     let filter = filter_in(alloc, subscription.filter.as_str())?;
     let client = subscription.client.as_str();
     let user = subscription.user.as_deref();
-    match reach(alloc, rows, client, user, &filter) {
-        Ok(None) => Ok(true),
-        Ok(Some(topic)) => {
-            // Learns that it is valid.
-            let _text = topic.text();
-            Ok(false)
-        }
+    match list.is_vain(alloc, client, user, &filter) {
+        Ok(vain) => Ok(vain),
         Err(fault) => Err(fault_of(subscription.line, fault)),
     }
 }

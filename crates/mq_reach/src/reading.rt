@@ -8,10 +8,11 @@ ghost use Rattle.mq_lines.specs.Lines.{all_lines, pieces};
 ghost use Rattle.mq_reach.specs.Search.{IsFound};
 ghost use Rattle.mq_reach.specs.Script.{HoldsScript, TakesBytes, script_limit};
 
-use crate::question::SearchFault;
+use crate::question::{SearchFault, list_of};
 use crate::search::{Findings, Search};
 use mq_acl::Row;
 use mq_lines::{KEPT, keep_front, split_line};
+use mq_questions::Reach;
 use std::alloc::Global;
 use std::io::Read;
 
@@ -55,12 +56,12 @@ struct Reading {
 fn end_line(
     reading: &mut Reading,
     alloc: Global,
-    rows: &[Row],
+    list: &Reach,
     rest: &[u8],
 ) -> Result<(), SearchFault>
     requires lines { reading.old.search.counts.lines + 1 < 2 ^ 64 }
     requires rest { pieces rest.now ≡ rest.now ∷ [] }
-    ensures takes { OnOk result (TakesBytes (row_views rows.now) reading.old reading.new
+    ensures takes { OnOk result (TakesBytes list.now reading.old reading.new
         (rest.now ++ 10 ∷ [])) }
     ensures lines { OnOk result (reading.new.search.counts.lines
         ≡ reading.old.search.counts.lines + 1) }
@@ -69,23 +70,23 @@ fn end_line(
     keep_front(&mut reading.line, rest, KEPT)?;
     reading
         .search
-        .take_line(alloc, rows, reading.line.as_slice())?;
+        .take_line(alloc, list, reading.line.as_slice())?;
     reading.line.clear();
     Ok(())
 }
 
 // Takes bytes of the script, and searches the lines that they end.
-fn take(reading: &mut Reading, alloc: Global, rows: &[Row], bytes: &[u8]) -> Result<(), SearchFault>
+fn take(reading: &mut Reading, alloc: Global, list: &Reach, bytes: &[u8]) -> Result<(), SearchFault>
     requires { reading.old.search.counts.lines + length reading.old.line.items
         + length bytes.now < 2 ^ 64 }
-    ensures takes { OnOk result (TakesBytes (row_views rows.now) reading.old reading.new
+    ensures takes { OnOk result (TakesBytes list.now reading.old reading.new
         bytes.now) }
     ensures lines { OnOk result (reading.new.search.counts.lines + length reading.new.line.items
         ≤ reading.old.search.counts.lines + length reading.old.line.items + length bytes.now) }
 {
     let mut rest = bytes;
     'lines: while let Some((line, others)) = split_line(rest) {
-        end_line(reading, alloc, rows, line)?;
+        end_line(reading, alloc, list, line)?;
         rest = others;
     }
     keep_front(&mut reading.line, rest, KEPT)?;
@@ -93,17 +94,17 @@ fn take(reading: &mut Reading, alloc: Global, rows: &[Row], bytes: &[u8]) -> Res
 }
 
 // Searches a last piece that isn't empty.
-fn finish(mut reading: Reading, alloc: Global, rows: &[Row]) -> Result<Findings, SearchFault>
+fn finish(mut reading: Reading, alloc: Global, list: &Reach) -> Result<Findings, SearchFault>
     requires { reading.search.counts.lines + length reading.line.items < 2 ^ 64 }
-    ensures { (script : List ℕ) → HoldsScript (row_views rows.now) script reading
-        → IfOk result (IsFound (row_views rows.now) (all_lines script)) }
+    ensures { (script : List ℕ) → HoldsScript list.now script reading
+        → IfOk result (IsFound list.now (all_lines script)) }
 {
     if reading.line.is_empty() {
         return Ok(reading.search.findings());
     }
     reading
         .search
-        .take_line(alloc, rows, reading.line.as_slice())?;
+        .take_line(alloc, list, reading.line.as_slice())?;
     Ok(reading.search.findings())
 }
 
@@ -111,7 +112,7 @@ fn finish(mut reading: Reading, alloc: Global, rows: &[Row]) -> Result<Findings,
 fn read_lines<R: Read>(
     reading: &mut Reading,
     alloc: Global,
-    rows: &[Row],
+    list: &Reach,
     reader: &mut R,
     piece: &mut [u8],
 ) -> Result<(), ScriptFault>
@@ -121,7 +122,7 @@ fn read_lines<R: Read>(
     ensures ok { OnOk result ((script : List ℕ)
         × Consumes (R.remaining reader.old) (R.remaining reader.new) script
         × IsAtEnd (R.remaining reader.new)
-        × TakesBytes (row_views rows.now) reading.old reading.new script) }
+        × TakesBytes list.now reading.old reading.new script) }
     ensures lines { OnOk result (reading.new.search.counts.lines
         + length reading.new.line.items ≤ script_limit) }
     ensures long { IfErr result (λ fault. fault ≡ ScriptFault.TooLong
@@ -139,7 +140,7 @@ fn read_lines<R: Read>(
         if n as u64 > SCRIPT_LIMIT - total {
             return Err(ScriptFault::TooLong);
         }
-        take(reading, alloc, rows, &piece[..n])?;
+        take(reading, alloc, list, &piece[..n])?;
         total += n as u64;
     }
 }
@@ -159,6 +160,7 @@ pub fn find_vain<R: Read>(
     ensures long { IfErr result (λ fault. fault ≡ ScriptFault.TooLong
         → IfSome (R.remaining reader.old) (λ bytes. script_limit < length bytes)) }
 {
+    let list = list_of(alloc, rows)?;
     let Ok(mut piece) = vec![in alloc; 0u8; PIECE] else {
         return Err(ScriptFault::Search(SearchFault::Memory));
     };
@@ -166,6 +168,6 @@ pub fn find_vain<R: Read>(
         search: Search::new(alloc),
         line: Vec::new(alloc),
     };
-    read_lines(&mut reading, alloc, rows, reader, piece.as_mut_slice())?;
-    Ok(finish(reading, alloc, rows)?)
+    read_lines(&mut reading, alloc, &list, reader, piece.as_mut_slice())?;
+    Ok(finish(reading, alloc, &list)?)
 }

@@ -1,7 +1,6 @@
 //! The search of a script, line by line.
 ghost use Rattle.std.specs.Prelude.{◌≡◌, ◌+◌, ◌<◌, ◌^◌, ◌≤◌, IfOk, OnOk, Ok, Some, None};
 ghost use Rattle.std.specs.Prelude.{string_bytes, option_map, length};
-ghost use Rattle.mq_acl.specs.Views.{row_views};
 ghost use Rattle.mq_world.specs.World.{SubscriptionOptions, Subscribe};
 ghost use Rattle.mq_world.specs.Views.{request_of};
 ghost use Rattle.mq_lines.specs.Reading.{reading};
@@ -10,8 +9,8 @@ use crate::clients::Clients;
 use crate::counts::{Counts, LineKind};
 use crate::question::{SearchFault, is_taken, is_vain};
 use crate::subscription::Subscription;
-use mq_acl::Row;
 use mq_lines::{LineFault, read_line};
+use mq_questions::Reach;
 use mq_world::Command;
 use std::alloc::{AllocError, Global};
 
@@ -85,20 +84,20 @@ impl Search {
     fn subscribe(
         &mut self,
         alloc: Global,
-        rows: &[Row],
+        list: &Reach,
         client: String,
         filter: String,
         no_local: bool,
     ) -> Result<LineKind, SearchFault>
         requires { self.old.counts.lines + 1 < 2 ^ 64 }
         ensures { (options : SubscriptionOptions) → options.no_local ≡ no_local → IfOk result
-            (Applies (row_views rows.now) (Ok (Some (Subscribe (string_bytes client)
+            (Applies list.now (Ok (Some (Subscribe (string_bytes client)
             (string_bytes filter) options))) self.old self.new) }
     {
         let Some(subscription) = self.subscription(client, filter, no_local)? else {
             return Ok(LineKind::Other);
         };
-        if !is_vain(alloc, rows, &subscription)? {
+        if !is_vain(alloc, list, &subscription)? {
             return Ok(LineKind::Subscription);
         }
         match self.vain.push(subscription) {
@@ -110,11 +109,11 @@ impl Search {
     fn apply(
         &mut self,
         alloc: Global,
-        rows: &[Row],
+        list: &Reach,
         command: Command,
     ) -> Result<LineKind, SearchFault>
         requires { self.old.counts.lines + 1 < 2 ^ 64 }
-        ensures { IfOk result (Applies (row_views rows.now) (Ok (Some (request_of command)))
+        ensures { IfOk result (Applies list.now (Ok (Some (request_of command)))
             self.old self.new) }
     {
         match command {
@@ -131,33 +130,33 @@ impl Search {
                 filter,
                 no_local,
                 ..
-            } => self.subscribe(alloc, rows, client, filter, no_local),
+            } => self.subscribe(alloc, list, client, filter, no_local),
             _ => Ok(LineKind::Other),
         }
     }
 
     // What the line is counted as.
-    fn read(&mut self, alloc: Global, rows: &[Row], line: &[u8]) -> Result<LineKind, SearchFault>
+    fn read(&mut self, alloc: Global, list: &Reach, line: &[u8]) -> Result<LineKind, SearchFault>
         requires { self.old.counts.lines + 1 < 2 ^ 64 }
-        ensures { IfOk result (Applies (row_views rows.now) (reading line.now) self.old self.new) }
+        ensures { IfOk result (Applies list.now (reading line.now) self.old self.new) }
     {
         match read_line(alloc, line) {
             Ok(None) => Ok(LineKind::Other),
-            Ok(Some(command)) => self.apply(alloc, rows, command),
+            Ok(Some(command)) => self.apply(alloc, list, command),
             Err(LineFault::Memory) => Err(SearchFault::Memory),
             Err(_) => Ok(LineKind::NoCommand),
         }
     }
 
     /// Searches the next line.
-    pub fn take_line(&mut self, alloc: Global, rows: &[Row], line: &[u8]) -> Result<(), SearchFault>
+    pub fn take_line(&mut self, alloc: Global, list: &Reach, line: &[u8]) -> Result<(), SearchFault>
         requires { self.old.counts.lines + 1 < 2 ^ 64 }
         ensures searched { (before : List (List ℕ))
-            → IsSearched (row_views rows.now) before self.old
-            → OnOk result (IsSearched (row_views rows.now) (before ++ line.now ∷ []) self.new) }
+            → IsSearched list.now before self.old
+            → OnOk result (IsSearched list.now (before ++ line.now ∷ []) self.new) }
         ensures lines { OnOk result (self.new.counts.lines ≡ self.old.counts.lines + 1) }
     {
-        let kind = self.read(alloc, rows, line)?;
+        let kind = self.read(alloc, list, line)?;
         self.counts = self.counts.with_line(kind);
         Ok(())
     }

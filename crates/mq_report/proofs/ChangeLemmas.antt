@@ -1,5 +1,7 @@
 -- Differences that are told.
-use Rattle.std.proofs.Common.{◌≡◌, ℕ, ◌+◌, ◌<◌, ◌≤◌, Bool, true, false, not, ◌&&◌, List, [], ◌∷◌, ◌++◌, length, drop, get_or, Option, Some, None, All, IsTrue, refl, ap, sym, ◌∙◌, subst, Bor}
+use Rattle.std.proofs.Common.{◌≡◌, ℕ, ◌+◌, ◌<◌, ◌≤◌, Bool, true, false, not, ◌&&◌, List, [], ◌∷◌}
+use Rattle.std.proofs.Common.{◌++◌, length, drop, get_or, Option, Some, None, All, IsTrue, refl}
+use Rattle.std.proofs.Common.{ap, sym, ◌∙◌, subst, Bor}
 use Rattle.std.proofs.lemmas.List.Elements.{All-append, All-nil, All-cons}
 use Rattle.mq_topic.specs.Texts.{is_name}
 use Rattle.mq_acl.specs.Access.{allowed}

@@ -1,23 +1,30 @@
 -- Remarks on lines.
-use Rattle.std.proofs.Common.{◌≡◌, ◌≢◌, ◌⊎◌, ⊎_elim, ℕ, ◌+◌, ◌<◌, Bool, true, false, not, ◌||◌, ◌==◌, cond, List, [], ◌∷◌, ◌++◌, length, drop, get_or, Option, Some, None, Result, Ok, Err, All, refl, ap, sym, ◌∙◌, subst, append-nil}
-use Rattle.std.specs.List.{list_any, slice_split, onto_first, filter_map, cons_option, enumerate_from}
+use Rattle.std.proofs.Common.{◌≡◌, ◌≢◌, ◌⊎◌, ⊎_elim, ℕ, ◌+◌, ◌<◌, Bool, true, false, not, ◌||◌}
+use Rattle.std.proofs.Common.{◌==◌, cond, List, [], ◌∷◌, ◌++◌, length, drop, get_or, Option, Some}
+use Rattle.std.proofs.Common.{None, Result, Ok, Err, All, refl, ap, sym, ◌∙◌, subst, append-nil}
+use Rattle.std.specs.List.{list_any, slice_split, onto_first, filter_map, cons_option}
+use Rattle.std.specs.List.{enumerate_from}
 use Rattle.std.specs.Option.{option_to_list}
 use Rattle.std.specs.Result.{result_ok}
 use Rattle.std.proofs.lemmas.List.{at_drop_more}
-use Rattle.std.proofs.lemmas.List.Elements.{All-cons, All-nil, All-head, All-tail, All-get_or, filter_map-append}
+use Rattle.std.proofs.lemmas.List.Elements.{All-cons, All-nil, All-head, All-tail, All-get_or}
+use Rattle.std.proofs.lemmas.List.Elements.{filter_map-append}
 use Rattle.std.proofs.lemmas.List.Splits.{slice_split-cons_no}
 use Rattle.mq_acl.specs.Lines.{Entry, Skipped, User, Topic, Pattern, entry_of, lines}
-use Rattle.mq_acl.specs.Rows.{AclRow, rows_in, entries_of, fault_at, faults_of, unless_faulty, rows_of, out_of_memory}
+use Rattle.mq_acl.specs.Rows.{AclRow, rows_in, entries_of, fault_at, faults_of, unless_faulty}
+use Rattle.mq_acl.specs.Rows.{rows_of, out_of_memory}
 use Rattle.mq_acl.specs.Views.{row_view, row_views}
 use Rattle.mq_acl.specs.declared.fault.AclFault.{AclFault}
 use Rattle.mq_acl.specs.declared.fault.AclKind.{AclKind}
 use Rattle.mq_acl.specs.declared.fault.AclKind.TheVariants as kinds
 use Rattle.mq_acl.specs.declared.row.Row.{Row}
 use Rattle.mq_report.specs.Blanks.{is_indented_comment, is_tabbed}
-use Rattle.mq_report.specs.Remarks.{has_mark, is_unmarked, entry_kind, kind_if, remark_on, line_remarks, remarks_from, fault_by, faults_told}
+use Rattle.mq_report.specs.Remarks.{has_mark, is_unmarked, entry_kind, kind_if, remark_on}
+use Rattle.mq_report.specs.Remarks.{line_remarks, remarks_from, fault_by, faults_told}
 use Rattle.mq_report.specs.declared.remark.Remark.{Remark}
 use Rattle.mq_report.specs.declared.remark.RemarkKind.{RemarkKind}
-use Rattle.mq_report.specs.declared.remark.RemarkKind.TheVariants.{Fault, NoMark, IndentedComment, Tab}
+use Rattle.mq_report.specs.declared.remark.RemarkKind.TheVariants.{Fault, NoMark, IndentedComment}
+use Rattle.mq_report.specs.declared.remark.RemarkKind.TheVariants.{Tab}
 
 -- ---- a line alone is a text
 abbrev IsAlone : {X : Type 0} → (X → Bool) → List X → Type 0

@@ -1,5 +1,7 @@
 -- What is told of witnesses.
-use Rattle.std.proofs.Common.{◌≡◌, ◌<◌, ℕ, length, get_or, Bool, true, false, not, ◌&&◌, ◌||◌, List, [], ◌∷◌, ◌++◌, Option, Some, None, All, IsTrue, bytes_eq, string_bytes, refl, ap, sym, ◌∙◌, subst, Bor}
+use Rattle.std.proofs.Common.{◌≡◌, ◌<◌, ℕ, length, get_or, Bool, true, false, not, ◌&&◌, ◌||◌}
+use Rattle.std.proofs.Common.{List, [], ◌∷◌, ◌++◌, Option, Some, None, All, IsTrue, bytes_eq}
+use Rattle.std.proofs.Common.{string_bytes, refl, ap, sym, ◌∙◌, subst, Bor}
 use Rattle.std.specs.List.{list_any}
 use Rattle.std.proofs.lemmas.List.Elements.{All-nil, All-get_or}
 use Rattle.std.proofs.lemmas.Bool.{and_parts}
@@ -14,7 +16,8 @@ use Rattle.mq_questions.specs.Roots.{gained}
 use Rattle.mq_questions.specs.declared.way.Way.{Way}
 use Rattle.mq_questions.specs.declared.way.Way.TheVariants.{Gained, Lost}
 use Rattle.mq_report.specs.Classes.{is_in, is_listed, is_asked}
-use Rattle.mq_report.specs.Differences.{is_change, is_told_of, is_like, same_way, same_direction, same_class, same_reasons, IsReal, Compares, Tells, Adds}
+use Rattle.mq_report.specs.Differences.{is_change, is_told_of, is_like, same_way, same_direction}
+use Rattle.mq_report.specs.Differences.{same_class, same_reasons, IsReal, Compares, Tells, Adds}
 use Rattle.mq_report.specs.declared.class.Class.{Class}
 use Rattle.mq_report.specs.declared.class.Class.TheVariants as classes
 use Rattle.mq_report.specs.declared.difference.Difference.{Difference}

@@ -1,5 +1,6 @@
 -- Blanks in the line of an access list, as mosquitto 2.0 sees them.
-use Rattle.std.specs.Prelude.{ℕ, Bool, List, ◌==◌, ◌&&◌, ◌||◌, not, length, take, drop, codes, slice_index}
+use Rattle.std.specs.Prelude.{ℕ, Bool, List, ◌==◌, ◌&&◌, ◌||◌, not, length, take, drop, codes}
+use Rattle.std.specs.Prelude.{slice_index}
 use Rattle.std.specs.List.{prefix_len, position_or_len, list_any}
 use Rattle.std.specs.Str.{bytes_eq}
 use Rattle.mq_acl.specs.Words.{is_blank, trimmed, first_word, after_word}

@@ -1,5 +1,6 @@
 -- The clients that a difference concerns.
-use Rattle.std.specs.Prelude.{◌≡◌, ℕ, Bool, true, false, List, ◌||◌, ◌&&◌, not, Option, Some, None, string_bytes}
+use Rattle.std.specs.Prelude.{◌≡◌, ℕ, Bool, true, false, List, ◌||◌, ◌&&◌, not, Option, Some, None}
+use Rattle.std.specs.Prelude.{string_bytes}
 use Rattle.std.specs.Str.{bytes_eq}
 use Rattle.mq_acl.specs.Rows.{AclRow}
 use Rattle.mq_questions.specs.Users.{is_user_of}

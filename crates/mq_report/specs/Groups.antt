@@ -1,5 +1,6 @@
 -- Differences that are alike.
-use Rattle.std.specs.Prelude.{◌≡◌, Bool, true, false, List, [], ◌∷◌, ◌++◌, ◌&&◌, All, AllPairs, IsPermutation, map}
+use Rattle.std.specs.Prelude.{◌≡◌, Bool, true, false, List, [], ◌∷◌, ◌++◌, ◌&&◌, All, AllPairs}
+use Rattle.std.specs.Prelude.{IsPermutation, map}
 use Rattle.std.specs.List.{flat_map}
 use Rattle.std.specs.Str.{bytes_eq}
 use Rattle.mq_report.specs.Differences.{same_direction, same_way, same_reasons}

@@ -1,5 +1,6 @@
 -- Lines without which a list allows the same.
-use Rattle.std.specs.Prelude.{◌≡◌, ◌≢◌, ◌<◌, ◌⊎◌, ℕ, true, false, List, [], ◌∷◌, ◌==◌, ◌&&◌, not, length, slice_index_or, Option, Some, None}
+use Rattle.std.specs.Prelude.{◌≡◌, ◌≢◌, ◌<◌, ◌⊎◌, ℕ, true, false, List, [], ◌∷◌, ◌==◌, ◌&&◌, not}
+use Rattle.std.specs.Prelude.{length, slice_index_or, Option, Some, None}
 use Rattle.std.specs.List.{list_any}
 use Rattle.mq_acl.specs.Access.{is_deny}
 use Rattle.mq_acl.specs.Lines.{Access, ReadWrite, Deny}

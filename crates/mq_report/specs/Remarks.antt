@@ -1,5 +1,6 @@
 -- What is odd about the lines of an access list.
-use Rattle.std.specs.Prelude.{ℕ, Bool, true, false, List, [], ◌∷◌, ◌++◌, ◌||◌, ◌&&◌, not, codes, Option, Some, None, Result, Ok, Err}
+use Rattle.std.specs.Prelude.{ℕ, Bool, true, false, List, [], ◌∷◌, ◌++◌, ◌||◌, ◌&&◌, not, codes}
+use Rattle.std.specs.Prelude.{Option, Some, None, Result, Ok, Err}
 use Rattle.std.specs.List.{list_any, flat_map, filter_map, enumerate_from}
 use Rattle.std.specs.Str.{bytes_eq}
 use Rattle.mq_topic.specs.Levels.{levels}
@@ -11,7 +12,8 @@ use Rattle.mq_acl.specs.declared.fault.AclFault.{AclFault}
 use Rattle.mq_report.specs.Blanks.{is_indented_comment, is_tabbed}
 use Rattle.mq_report.specs.declared.remark.Remark.{Remark}
 use Rattle.mq_report.specs.declared.remark.RemarkKind.{RemarkKind}
-use Rattle.mq_report.specs.declared.remark.RemarkKind.TheVariants.{Fault, NoMark, IndentedComment, Tab}
+use Rattle.mq_report.specs.declared.remark.RemarkKind.TheVariants.{Fault, NoMark, IndentedComment}
+use Rattle.mq_report.specs.declared.remark.RemarkKind.TheVariants.{Tab}
 
 -- `%c` or `%u` is a level of the topic
 abbrev pub has_mark : List ℕ → Bool

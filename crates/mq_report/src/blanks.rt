@@ -1,8 +1,11 @@
 //! Blanks in the line of an access list, as mosquitto 2.0 sees them.
 ghost use Rattle.std.specs.Prelude.{◌≡◌, ◌≤◌, ◌&&◌, ◌||◌, not, length, ◌==◌, slice_index, take};
 ghost use Rattle.std.specs.List.{list_any, prefix_len, position_or_len};
-ghost use Rattle.mq_acl.specs.Words.{is_blank, is_ending, trimmed, first_word, after_word, without_leading, without_trailing};
-ghost use Rattle.mq_report.specs.Blanks.{behind_word, begins_with_tab, takes_access, has_tab_inside, is_comment, is_indented_comment, is_tabbed};
+ghost use Rattle.mq_acl.specs.Words.{is_blank, is_ending, trimmed, first_word, after_word};
+ghost use Rattle.mq_acl.specs.Words.{without_leading, without_trailing};
+ghost use Rattle.mq_report.specs.Blanks.{behind_word, begins_with_tab, takes_access};
+ghost use Rattle.mq_report.specs.Blanks.{has_tab_inside, is_comment, is_indented_comment};
+ghost use Rattle.mq_report.specs.Blanks.{is_tabbed};
 
 fn is_blank(byte: u8) -> bool
     ensures { result ≡ is_blank byte }

@@ -1,5 +1,6 @@
 //! Where two lists differ.
-ghost use Rattle.std.specs.Prelude.{◌≡◌, ℕ, Bool, List, [], All, IfOk, OnOk, IsTrue, true, false, Option, Some};
+ghost use Rattle.std.specs.Prelude.{◌≡◌, ℕ, Bool, List, [], All, IfOk, OnOk, IsTrue, true, false};
+ghost use Rattle.std.specs.Prelude.{Option, Some};
 ghost use Rattle.std.specs.List.{list_any};
 ghost use Rattle.mq_topic.specs.Texts.{is_name};
 ghost use Rattle.mq_acl.specs.Access.{allowed};

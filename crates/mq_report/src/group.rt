@@ -1,4 +1,5 @@
-ghost use Rattle.std.specs.Prelude.{◌≡◌, ◌++◌, ◌∷◌, [], List, All, IfOk, OnOk, IfNone, false, position};
+ghost use Rattle.std.specs.Prelude.{◌≡◌, ◌++◌, ◌∷◌, [], List, All, IfOk, OnOk, IfNone, false};
+ghost use Rattle.std.specs.Prelude.{position};
 ghost use Rattle.mq_report.specs.Groups.{is_alike, IsGathering, JoinsGroup};
 ghost use Rattle.mq_report.specs.declared.difference.Difference.{Difference};
 

@@ -7,7 +7,8 @@ ghost use Rattle.mq_acl.specs.Lines.{lines, entry_of};
 ghost use Rattle.mq_acl.specs.Rows.{faults_of};
 ghost use Rattle.mq_acl.specs.Views.{row_view};
 ghost use Rattle.mq_report.specs.Blanks.{is_indented_comment, is_tabbed};
-ghost use Rattle.mq_report.specs.Remarks.{has_mark, is_unmarked, entry_kind, kind_if, remark_on, line_remarks, remarks_of, faults_told};
+ghost use Rattle.mq_report.specs.Remarks.{has_mark, is_unmarked, entry_kind, kind_if, remark_on};
+ghost use Rattle.mq_report.specs.Remarks.{line_remarks, remarks_of, faults_told};
 
 use crate::blanks::{is_indented_comment, is_tabbed};
 use crate::remark::{Remark, RemarkKind};

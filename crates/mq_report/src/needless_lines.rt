@@ -1,11 +1,13 @@
 //! Lines without which a list allows the same.
-ghost use Rattle.std.specs.Prelude.{◌≡◌, ◌≢◌, ◌<◌, ℕ, List, [], ◌∷◌, All, IfOk, OnOk, IfSome, IfNone, ◌++◌, true, false, length, Some};
+ghost use Rattle.std.specs.Prelude.{◌≡◌, ◌≢◌, ◌<◌, ℕ, List, [], ◌∷◌, All, IfOk, OnOk, IfSome};
+ghost use Rattle.std.specs.Prelude.{IfNone, ◌++◌, true, false, length, Some};
 ghost use Rattle.mq_acl.specs.Views.{access_view, owner_view, row_view, row_views};
-ghost use Rattle.mq_report.specs.Needless.{as_grant, granted_access, MakesNeedless, IsMaker, MakesNone, IsNeedlessLine, AreRest};
+ghost use Rattle.mq_report.specs.Needless.{as_grant, granted_access, MakesNeedless, IsMaker};
+ghost use Rattle.mq_report.specs.Needless.{MakesNone, IsNeedlessLine, AreRest};
 
 use crate::remark::{Remark, RemarkKind};
 use mq_acl::{Access, Owner, Row, is_deny};
-use mq_questions::{Needless, NeedlessFault};
+use mq_questions::{ListFault, Needless};
 use std::alloc::{AllocError, Global};
 
 fn clone_owner(owner: &Owner) -> Result<Owner, AllocError>
@@ -52,7 +54,7 @@ fn pair_of(alloc: Global, row: &Row, other: &Row) -> Result<Vec<Row>, AllocError
 }
 
 // Whether the other row makes the row needless.
-fn makes_needless(alloc: Global, row: &Row, other: &Row) -> Result<bool, NeedlessFault>
+fn makes_needless(alloc: Global, row: &Row, other: &Row) -> Result<bool, ListFault>
     ensures yes { IfOk result (λ b. b ≡ true
         → MakesNeedless (row_view other.now) (row_view row.now)) }
     ensures no { IfOk result (λ b. b ≡ false
@@ -68,7 +70,7 @@ fn makes_needless(alloc: Global, row: &Row, other: &Row) -> Result<bool, Needles
 }
 
 // The line of the first other row that makes the row at this place needless.
-fn maker(alloc: Global, rows: &[Row], index: usize, row: &Row) -> Result<Option<u64>, NeedlessFault>
+fn maker(alloc: Global, rows: &[Row], index: usize, row: &Row) -> Result<Option<u64>, ListFault>
     ensures some { IfOk result (λ found. IfSome found
         (λ line. IsMaker rows.now index (row_view row.now) line)) }
     ensures none { IfOk result
@@ -97,7 +99,7 @@ fn add(remarks: &mut Vec<Remark>, line: u64, by: Option<u64>) -> Result<(), Allo
 /// The lines without which, each by itself, the list allows the same to all: in the order of the rows, each with the line
 /// of the first other row that makes it needless, if one does. A row that denies makes another needless that covers no
 /// more; one that grants, another that grants and covers no more.
-pub fn needless(alloc: Global, rows: &[Row]) -> Result<Vec<Remark>, NeedlessFault>
+pub fn needless(alloc: Global, rows: &[Row]) -> Result<Vec<Remark>, ListFault>
     ensures each { IfOk result (λ told. All (IsNeedlessLine rows.now) told.items) }
     ensures rest { IfOk result (λ told. AreRest rows.now (length rows.now) told.items) }
 {

@@ -1,5 +1,6 @@
 //! The witnesses of what clients of one class gain or lose.
-ghost use Rattle.std.specs.Prelude.{◌≡◌, ◌||◌, ℕ, Bool, List, [], All, IfOk, OnOk, true, false, string_bytes, Option, None, Some};
+ghost use Rattle.std.specs.Prelude.{◌≡◌, ◌||◌, ℕ, Bool, List, [], All, IfOk, OnOk, true, false};
+ghost use Rattle.std.specs.Prelude.{string_bytes, Option, None, Some};
 ghost use Rattle.std.specs.List.{list_any};
 ghost use Rattle.std.specs.Option.{option_copied};
 ghost use Rattle.mq_acl.specs.Views.{row_views};
@@ -7,7 +8,8 @@ ghost use Rattle.mq_acl.specs.declared.access.Direction.{Direction};
 ghost use Rattle.mq_questions.specs.Users.{rows_name};
 ghost use Rattle.mq_questions.specs.declared.way.Way.{Way};
 ghost use Rattle.mq_report.specs.Classes.{is_in, user_of, is_listed, is_asked, AreListed};
-ghost use Rattle.mq_report.specs.Differences.{is_change, is_told_of, is_like, AreUnnamed, IsReal, Compares, Tells, Adds};
+ghost use Rattle.mq_report.specs.Differences.{is_change, is_told_of, is_like, AreUnnamed, IsReal};
+ghost use Rattle.mq_report.specs.Differences.{Compares, Tells, Adds};
 ghost use Rattle.mq_report.specs.declared.difference.Difference.{Difference};
 
 use crate::class::Class;

@@ -1,12 +1,15 @@
 -- The remainders of rows behind one more level.
-use Rattle.std.proofs.Common.{◌≡◌, ℕ, Bool, true, false, ◌&&◌, ◌||◌, if◌then◌else◌, List, [], ◌∷◌, ◌++◌, refl, ap, sym, ◌∙◌, bytes_eq, subst, ◌<◌, ◌≤◌, ◌+◌, zero, suc, arith, length, get_or, take}
+use Rattle.std.proofs.Common.{◌≡◌, ℕ, Bool, true, false, ◌&&◌, ◌||◌, if◌then◌else◌, List, [], ◌∷◌}
+use Rattle.std.proofs.Common.{◌++◌, refl, ap, sym, ◌∙◌, bytes_eq, subst, ◌<◌, ◌≤◌, ◌+◌, zero, suc}
+use Rattle.std.proofs.Common.{arith, length, get_or, take}
 use Rattle.std.specs.List.{list_all}
 use Rattle.std.proofs.lemmas.Grind.{take_at_read}
 use Rattle.std.proofs.lemmas.List.{take_all}
 use Rattle.std.proofs.lemmas.List.Folds.{list_all-append}
 use Rattle.std.proofs.lemmas.Bool.{and_parts, and_from}
 use Rattle.std.proofs.Math.Bool.{or-false}
-use Rattle.mq_walk.specs.Remainders.{MarkLevels, covers, hit, same, remainder_fits, remainders_fit, marks_pass}
+use Rattle.mq_walk.specs.Remainders.{MarkLevels, covers, hit, same, remainder_fits, remainders_fit}
+use Rattle.mq_walk.specs.Remainders.{marks_pass}
 use Rattle.mq_walk.specs.Branches.{at, has, IsBranched, BranchesFit}
 use Rattle.mq_walk.specs.declared.remainder.Remainder.{Remainder}
 use Rattle.mq_walk.specs.declared.branches.Branches.{Branches}

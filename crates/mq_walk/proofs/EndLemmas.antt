@@ -1,5 +1,7 @@
 -- Where a walk need not go on.
-use Rattle.std.proofs.Common.{◌≡◌, ℕ, ◌==◌, Bool, true, false, not, ◌&&◌, ◌||◌, List, [], ◌∷◌, length, codes, bytes_eq, refl, ap, sym, ◌∙◌, Option, Some, None, Bor, arith}
+use Rattle.std.proofs.Common.{◌≡◌, ℕ, ◌==◌, Bool, true, false, not, ◌&&◌, ◌||◌, List, [], ◌∷◌}
+use Rattle.std.proofs.Common.{length, codes, bytes_eq, refl, ap, sym, ◌∙◌, Option, Some, None, Bor}
+use Rattle.std.proofs.Common.{arith}
 use Rattle.std.specs.List.{list_all, zip}
 use Rattle.mq_topic.specs.Levels.{levels, levels_left}
 use Rattle.mq_topic.specs.Matching.{levels_match_by}

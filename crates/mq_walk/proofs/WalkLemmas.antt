@@ -1,17 +1,23 @@
 -- A walk over the levels of all names.
-use Rattle.std.proofs.Common.{◌≡◌, ℕ, ◌==◌, Bool, true, false, cond, not, ◌&&◌, ◌||◌, List, [], ◌∷◌, ◌++◌, length, Option, Some, None, refl, ap, sym, ◌∙◌, bytes_eq, arith, subst, ◌<◌, ◌≤◌, ◌+◌, ◌-◌, drop, get_or, map, Bor, Vec, Global, if◌then◌else◌, length-append}
+use Rattle.std.proofs.Common.{◌≡◌, ℕ, ◌==◌, Bool, true, false, cond, not, ◌&&◌, ◌||◌, List, []}
+use Rattle.std.proofs.Common.{◌∷◌, ◌++◌, length, Option, Some, None, refl, ap, sym, ◌∙◌, bytes_eq}
+use Rattle.std.proofs.Common.{arith, subst, ◌<◌, ◌≤◌, ◌+◌, ◌-◌, drop, get_or, map, Bor, Vec}
+use Rattle.std.proofs.Common.{Global, if◌then◌else◌, length-append}
 use Rattle.std.specs.Prelude.{is_some}
 use Rattle.std.specs.Option.{option_map_or}
 use Rattle.std.proofs.Math.ListN.{drop_of_length-le}
 use Rattle.std.specs.List.{All, list_all}
-use Rattle.std.proofs.lemmas.List.Elements.{All-same, All-append, All-map, All-weaker, All-cons, All-nil}
+use Rattle.std.proofs.lemmas.List.Elements.{All-same, All-append, All-map, All-weaker, All-cons}
+use Rattle.std.proofs.lemmas.List.Elements.{All-nil}
 use Rattle.std.proofs.lemmas.Bool.{and_parts, and_from}
 use Rattle.std.proofs.lemmas.List.{drop_more, length-map}
 use Rattle.std.proofs.lemmas.List.Folds.{list_all-append}
 use Rattle.mq_acl.specs.Access.{begins_with_dollar}
-use Rattle.mq_walk.specs.Remainders.{MarkLevels, no_marks, hit, gains, remainders_fit, remainder_fits, GainsNothing, IsGain}
+use Rattle.mq_walk.specs.Remainders.{MarkLevels, no_marks, hit, gains, remainders_fit}
+use Rattle.mq_walk.specs.Remainders.{remainder_fits, GainsNothing, IsGain}
 use Rattle.mq_walk.specs.Branches.{at, has, IsBranched, BranchesFit}
-use Rattle.mq_walk.specs.Names.{is_among, fits_start, behind, ends, suits, is_name_level, are_others, is_choice}
+use Rattle.mq_walk.specs.Names.{is_among, fits_start, behind, ends, suits, is_name_level}
+use Rattle.mq_walk.specs.Names.{are_others, is_choice}
 use Rattle.mq_walk.specs.Choices.{all_choices, other_at}
 use Rattle.mq_walk.specs.declared.remainder.Remainder.{Remainder}
 use Rattle.mq_walk.specs.declared.branches.Branches.{Branches}

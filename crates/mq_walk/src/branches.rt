@@ -1,10 +1,12 @@
-ghost use Rattle.std.specs.Prelude.{◌≡◌, ℕ, Bool, List, [], ◌∷◌, ◌++◌, ◌&&◌, ◌||◌, true, IfOk, OnOk, if◌then◌else◌, is_some};
+ghost use Rattle.std.specs.Prelude.{◌≡◌, ℕ, Bool, List, [], ◌∷◌, ◌++◌, ◌&&◌, ◌||◌, true, IfOk};
+ghost use Rattle.std.specs.Prelude.{OnOk, if◌then◌else◌, is_some};
 ghost use Rattle.std.specs.Ordering.{nat_cmp};
 ghost use Rattle.std.specs.Str.{bytes_eq};
 ghost use Rattle.std.specs.Option.{option_map_or};
 ghost use Rattle.std.specs.BTreeMap.{get_by};
 ghost use Rattle.std.specs.Cmp.Lexicographic.{slice_cmp};
-ghost use Rattle.mq_walk.specs.Remainders.{MarkLevels, marks_view, covers, hit, remainder_fits, remainders_fit, marks_pass};
+ghost use Rattle.mq_walk.specs.Remainders.{MarkLevels, marks_view, covers, hit, remainder_fits};
+ghost use Rattle.mq_walk.specs.Remainders.{remainders_fit, marks_pass};
 ghost use Rattle.mq_walk.specs.Branches.{at, has, IsBranched, BranchesFit};
 ghost use Rattle.mq_walk.specs.Names.{fits_start, is_among};
 ghost use Rattle.mq_walk.specs.Choices.{all_choices};

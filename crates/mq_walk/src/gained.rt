@@ -1,6 +1,8 @@
-ghost use Rattle.std.specs.Prelude.{◌≡◌, ◌<◌, ◌≤◌, ℕ, length, Bool, List, true, IfOk, ◌&&◌, ◌∷◌, [], if◌then◌else◌};
+ghost use Rattle.std.specs.Prelude.{◌≡◌, ◌<◌, ◌≤◌, ℕ, length, Bool, List, true, IfOk, ◌&&◌, ◌∷◌};
+ghost use Rattle.std.specs.Prelude.{[], if◌then◌else◌};
 ghost use Rattle.std.specs.List.{All};
-ghost use Rattle.mq_walk.specs.Remainders.{marks_view, marks_pass, remainders_fit, no_marks, gains, GainsNothing, IsGain};
+ghost use Rattle.mq_walk.specs.Remainders.{marks_view, marks_pass, remainders_fit, no_marks, gains};
+ghost use Rattle.mq_walk.specs.Remainders.{GainsNothing, IsGain};
 ghost use Rattle.mq_walk.specs.Paths.{all_levels};
 ghost use Rattle.mq_walk.specs.Names.{fits_start, is_among, are_others, is_choice, ends};
 ghost use Rattle.mq_walk.specs.Choices.{all_choices};

@@ -1,7 +1,9 @@
-ghost use Rattle.std.specs.Prelude.{◌≡◌, ℕ, Bool, List, [], length, ◌==◌, ◌&&◌, true, false, codes, MatchOption};
+ghost use Rattle.std.specs.Prelude.{◌≡◌, ℕ, Bool, List, [], length, ◌==◌, ◌&&◌, true, false, codes};
+ghost use Rattle.std.specs.Prelude.{MatchOption};
 ghost use Rattle.std.specs.Str.{bytes_eq};
 ghost use Rattle.mq_topic.specs.Levels.{levels_left};
-ghost use Rattle.mq_walk.specs.Remainders.{MarkLevels, marks_view, passes, covers, hit, allow, fits};
+ghost use Rattle.mq_walk.specs.Remainders.{MarkLevels, marks_view, passes, covers, hit, allow};
+ghost use Rattle.mq_walk.specs.Remainders.{fits};
 ghost use Rattle.mq_walk.specs.Remainders.{remainder_fits, marks_pass, no_marks};
 ghost use Rattle.mq_walk.specs.Nexts.{GoesOn, NextFits, at_mark};
 ghost use Rattle.mq_walk.specs.Ends.{is_open, is_same};

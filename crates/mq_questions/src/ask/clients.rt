@@ -1,8 +1,10 @@
-ghost use Rattle.std.specs.Prelude.{◌≡◌, ◌<◌, ◌||◌, ℕ, List, [], IfOk, OnOk, true, false, if◌then◌else◌, codes, Option};
+ghost use Rattle.std.specs.Prelude.{◌≡◌, ◌<◌, ◌||◌, ℕ, List, [], IfOk, OnOk, true, false};
+ghost use Rattle.std.specs.Prelude.{if◌then◌else◌, codes, Option};
 ghost use Rattle.std.specs.List.{All};
 ghost use Rattle.std.specs.Option.{option_copied};
 ghost use Rattle.std.specs.Str.{bytes_eq};
-ghost use Rattle.mq_questions.specs.Fresh.{AreFresh, is_tried_client, is_no_client, is_literal, marks_of};
+ghost use Rattle.mq_questions.specs.Fresh.{AreFresh, is_tried_client, is_no_client, is_literal};
+ghost use Rattle.mq_questions.specs.Fresh.{marks_of};
 ghost use Rattle.mq_questions.specs.Gains.{IsGainOf};
 ghost use Rattle.mq_questions.specs.Literals.{is_named, has_mark};
 ghost use Rattle.mq_walk.specs.Names.{is_among, is_choice};

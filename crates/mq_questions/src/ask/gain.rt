@@ -1,4 +1,5 @@
-ghost use Rattle.std.specs.Prelude.{◌≡◌, ◌<◌, ◌≤◌, ℕ, List, [], IfOk, IsTrue, true, false, string_bytes, length, map};
+ghost use Rattle.std.specs.Prelude.{◌≡◌, ◌<◌, ◌≤◌, ℕ, List, [], IfOk, IsTrue, true, false};
+ghost use Rattle.std.specs.Prelude.{string_bytes, length, map};
 ghost use Rattle.std.specs.List.{All};
 ghost use Rattle.std.specs.Option.{option_copied};
 ghost use Rattle.mq_topic.specs.Texts.{is_name, contains_byte};

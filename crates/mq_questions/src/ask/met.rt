@@ -1,16 +1,18 @@
 //! What a client may read of the topics that a filter matches.
-ghost use Rattle.std.specs.Prelude.{◌≡◌, ℕ, Bool, List, [], IfOk, IfNone, IfSome, IsTrue, true, false, not, ◌&&◌, Some, slice_get};
+ghost use Rattle.std.specs.Prelude.{◌≡◌, ℕ, Bool, List, [], IfOk, IfNone, IfSome, IsTrue, true};
+ghost use Rattle.std.specs.Prelude.{false, not, ◌&&◌, Some, slice_get};
 ghost use Rattle.std.specs.List.{All};
 ghost use Rattle.std.specs.Option.{option_copied};
 ghost use Rattle.mq_topic.specs.Levels.{levels};
-ghost use Rattle.mq_topic.specs.Matching.{is_wildcard, level_at, level_matches, levels_match_by, matches};
+ghost use Rattle.mq_topic.specs.Matching.{is_wildcard, level_at, level_matches, levels_match_by};
+ghost use Rattle.mq_topic.specs.Matching.{matches};
 ghost use Rattle.mq_topic.specs.Texts.{is_name};
 ghost use Rattle.mq_acl.specs.Access.{allowed, begins_with_dollar};
 ghost use Rattle.mq_acl.specs.Views.{row_views};
 ghost use Rattle.mq_acl.specs.declared.access.Direction.TheVariants.{Reading};
 ghost use Rattle.mq_walk.specs.Names.{are_others, is_choice};
 ghost use Rattle.mq_walk.specs.Paths.{all_levels};
-ghost use Rattle.mq_questions.specs.Reach.{IsNamedBy, level_marks};
+ghost use Rattle.mq_questions.specs.Reach.{AreApart, IsNamedBy, Reads, ReadsNone, level_marks};
 ghost use Rattle.mq_walk.specs.Remainders.{MarkLevels, allow, fits, marks_pass, remainders_fit};
 ghost use Rattle.mq_questions.specs.Roots.{rows_fit};
 
@@ -120,4 +122,26 @@ pub(crate) fn any_met<'a>(
     let paths = walk(alloc, marks, others, start, 200, 1, &old, &new)?;
     let name = first_name(alloc, dollar, &paths)?;
     Ok(name)
+}
+
+/// A topic that the filter matches and that the client may read, by these rows; or that there is none.
+pub(crate) fn any_read<'a>(
+    alloc: Global,
+    others: Others<'a>,
+    rows: &'a [Row],
+    client: &'a str,
+    user: Option<&'a str>,
+    filter: &'a TopicFilter,
+) -> Result<Option<TopicName>, AllocError>
+    requires { AreApart (row_views rows.now) client.now (option_copied user) filter.now others }
+    ensures none { IfOk result (λ found. IfNone found (ReadsNone (row_views rows.entry.now)
+        client.entry.now (option_copied user.entry) filter.entry.now)) }
+    ensures some { IfOk result (λ found. IfSome found (λ name. Reads (row_views rows.entry.now)
+        client.entry.now (option_copied user.entry) filter.entry.now name)) }
+{
+    if let Some(name) = any_met(alloc, others, rows, client, user, filter, false)? {
+        return Ok(Some(name));
+    }
+    let dollar_name = any_met(alloc, others, rows, client, user, filter, true)?;
+    Ok(dollar_name)
 }

@@ -1,5 +1,6 @@
 //! The clients of user names that no list names.
-ghost use Rattle.std.specs.Prelude.{◌≡◌, ◌<◌, ◌≤◌, ◌||◌, ℕ, List, [], IfOk, OnOk, IsTrue, true, false, string_bytes, Some, length, map, if◌then◌else◌, codes};
+ghost use Rattle.std.specs.Prelude.{◌≡◌, ◌<◌, ◌≤◌, ◌||◌, ℕ, List, [], IfOk, OnOk, IsTrue, true};
+ghost use Rattle.std.specs.Prelude.{false, string_bytes, Some, length, map, if◌then◌else◌, codes};
 ghost use Rattle.std.specs.List.{All};
 ghost use Rattle.std.specs.Str.{bytes_eq};
 ghost use Rattle.std.specs.Option.{option_copied};

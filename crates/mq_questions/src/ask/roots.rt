@@ -1,4 +1,5 @@
-ghost use Rattle.std.specs.Prelude.{◌≡◌, ℕ, Bool, List, ◌&&◌, ◌++◌, ◌∷◌, [], true, false, IfOk, OnOk, IfSome, MatchOption, Option};
+ghost use Rattle.std.specs.Prelude.{◌≡◌, ℕ, Bool, List, ◌&&◌, ◌++◌, ◌∷◌, [], true, false, IfOk};
+ghost use Rattle.std.specs.Prelude.{OnOk, IfSome, MatchOption, Option};
 ghost use Rattle.std.specs.Option.{option_copied};
 ghost use Rattle.mq_topic.specs.Levels.{levels};
 ghost use Rattle.mq_acl.specs.Access.{applies, concerns, begins_with_dollar, row_level_matches};

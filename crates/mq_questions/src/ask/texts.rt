@@ -2,9 +2,9 @@ ghost use Rattle.std.specs.Prelude.{◌≡◌, ◌≤◌, ℕ, List, IfOk, true,
 ghost use Rattle.std.specs.List.{list_any};
 ghost use Rattle.std.specs.Str.{bytes_eq};
 ghost use Rattle.mq_questions.specs.Literals.{is_named};
-ghost use Rattle.mq_questions.specs.Made.{AreMade, IsSeen, made_texts};
+ghost use Rattle.mq_questions.specs.FreshTexts.{AreLong, AreNew, IsSeen, fresh_texts};
 
-use crate::ask::fresh::{Fresh, fresh_text};
+use crate::ask::fresh::{Fresh, fresh_text, longest_text};
 use crate::ask::literals::Literals;
 use mq_walk::Others;
 use std::alloc::{AllocError, Global};
@@ -24,7 +24,7 @@ impl FreshTexts {
     /// Texts that are none of these levels.
     pub fn find(alloc: Global, literals: &Literals) -> Result<FreshTexts, AllocError>
         requires short { (l : List ℕ) → is_named l literals.now ≡ true → length l ≤ 300 }
-        ensures { IfOk result (λ texts. AreMade texts literals.now) }
+        ensures { IfOk result (λ texts. AreNew texts (λ l. is_named l literals.now)) }
     {
         Ok(FreshTexts {
             plain: fresh_text(alloc, "x", literals)?,
@@ -36,9 +36,23 @@ impl FreshTexts {
         })
     }
 
+    /// Texts that are longer than any level of at most 300 bytes.
+    pub fn longest(alloc: Global) -> Result<FreshTexts, AllocError>
+        ensures { IfOk result AreLong }
+    {
+        Ok(FreshTexts {
+            plain: longest_text(alloc, "x")?,
+            dollar: longest_text(alloc, "$x")?,
+            client: longest_text(alloc, "client")?,
+            dollar_client: longest_text(alloc, "$client")?,
+            user: longest_text(alloc, "user")?,
+            dollar_user: longest_text(alloc, "$user")?,
+        })
+    }
+
     /// Whether the text is one of them.
     pub fn has(&self, text: &str) -> bool
-        ensures { result ≡ list_any (bytes_eq text.now) (made_texts self.now) }
+        ensures { result ≡ list_any (bytes_eq text.now) (fresh_texts self.now) }
     {
         text == self.plain.as_str()
             || text == self.dollar.as_str()

@@ -1,7 +1,6 @@
 use Rattle.std.proofs.Common.{◌≡◌, ◌++◌, ◌+◌, ◌≤◌, ◌<◌, [], ℕ, List, take, length, refl, ap, arith}
 use Rattle.std.proofs.Common.{length-append, length-take-le}
 use Rattle.std.proofs.KnownBytes.{Consumes-nil, Consumes-trans}
-use Rattle.mq_acl.specs.Views.{row_views}
 use Rattle.mq_reach.specs.Script.{script_limit}
 use Rattle.mq_reach.proofs.ScriptLemmas.{TakesBytes-none, TakesBytes-then, too_long}
 use Rattle.mq_reach.proofs.reading.read_lines.Goals as goal
@@ -17,7 +16,7 @@ reads-init g c = record {
     [],
     Consumes-nil _,
     refl,
-    TakesBytes-none (row_views c.args.rows.now)
+    TakesBytes-none c.args.list.now
         c.args.reading.now,
   );
 }
@@ -40,7 +39,7 @@ reads-preserved g c =
         given ++ take n buf,
         Consumes-trans _ (g.R.Read.remaining c.reads.reader) _ given (take n buf) so_far.1 read.0,
         omega arith,
-        TakesBytes-then (row_views c.args.rows.now) c.args.reading.now c.reads.reading
+        TakesBytes-then c.args.list.now c.args.reading.now c.reads.reading
             c.take.new.reading given (take n buf) so_far.3 c.in_ok-take.ensures.takes,
       );
     }

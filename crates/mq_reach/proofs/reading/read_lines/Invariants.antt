@@ -1,6 +1,5 @@
 use Rattle.std.proofs.Common.{◌≡◌, ◌≤◌, ◌+◌, ◌-◌, ℕ, List, length}
 use Rattle.std.specs.Io.KnownBytes.{Consumes}
-use Rattle.mq_acl.specs.Views.{row_views}
 use Rattle.mq_reach.specs.Script.{TakesBytes}
 use Rattle.mq_reach.proofs.reading.read_lines.Given as goal
 
@@ -10,7 +9,7 @@ invariant-reads g l = record {
   lines : l.reading.search.counts.lines + length l.reading.line.items ≤ l.total;
   takes : (given : List ℕ) × Consumes (g.R.Read.remaining l.fn.reader) (g.R.Read.remaining l.reader)
       given × (length given ≡ l.total)
-      × TakesBytes (row_views l.rows) l.fn.reading l.reading given;
+      × TakesBytes l.list l.fn.reading l.reading given;
 }
 
 abbrev pub decreases-reads : goal.decreases-reads

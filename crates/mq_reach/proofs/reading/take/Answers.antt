@@ -1,6 +1,5 @@
 use Rattle.std.proofs.Common.{◌≡◌, ◌+◌, ◌++◌, ◌∷◌, [], ℕ, List, length, arith, refl, ap, ◌∙◌}
 use Rattle.std.proofs.Common.{length-append}
-use Rattle.mq_acl.specs.Views.{row_views}
 use Rattle.mq_lines.proofs.LongLemmas.{kept_number}
 use Rattle.mq_lines.proofs.PieceLemmas.{parted}
 use Rattle.mq_reach.proofs.ScriptLemmas.{TakesBytes-none, TakesBytes-then, TakesBytes-text}
@@ -8,7 +7,7 @@ use Rattle.mq_reach.proofs.reading.take.Goals as goal
 
 pub lines-init : goal.lines-init
 lines-init c = record {
-  takes = ([], refl, TakesBytes-none (row_views c.args.rows.now) c.args.reading.now);
+  takes = ([], refl, TakesBytes-none c.args.list.now c.args.reading.now);
   lines = omega arith;
 }
 
@@ -23,7 +22,7 @@ lines-preserved c =
         at.0 ++ line,
         parted c.args.bytes.now at.0 c.lines.rest.now line c.in-Some.others.now at.1
             c.in-Some.ensures.0,
-        TakesBytes-then (row_views c.args.rows.now) c.args.reading.now c.lines.reading
+        TakesBytes-then c.args.list.now c.args.reading.now c.lines.reading
             c.end_line.new.reading at.0 line at.2 c.in_ok-end_line.ensures.takes,
       );
       lines =
@@ -36,7 +35,7 @@ lines-preserved c =
 pub returns-clause-takes : goal.returns-clause-takes
 returns-clause-takes c =
     let at = c.lines.invariant.takes in
-    rw at.1 (TakesBytes-then (row_views c.args.rows.now) c.args.reading.now c.lines.reading _ at.0
+    rw at.1 (TakesBytes-then c.args.list.now c.args.reading.now c.lines.reading _ at.0
     c.lines.rest.now at.2
-    (TakesBytes-text (row_views c.args.rows.now) c.lines.reading _ c.lines.rest.now _ kept_number
+    (TakesBytes-text c.args.list.now c.lines.reading _ c.lines.rest.now _ kept_number
     c.in_default.ensures refl c.in_ok-keep_front.ensures))

@@ -1,12 +1,11 @@
 use Rattle.std.proofs.Common.{◌≡◌, ◌≤◌, ◌+◌, ◌++◌, List, ℕ, length}
-use Rattle.mq_acl.specs.Views.{row_views}
 use Rattle.mq_reach.specs.Script.{TakesBytes}
 use Rattle.mq_reach.proofs.reading.take.Given as goal
 
 abbrev pub invariant-lines : goal.invariant-lines
 invariant-lines l = record {
   takes : (done : List ℕ) × (l.bytes ≡ done ++ l.rest)
-      × TakesBytes (row_views l.rows) l.fn.reading l.reading done;
+      × TakesBytes l.list l.fn.reading l.reading done;
   lines : l.reading.search.counts.lines + length l.reading.line.items + length l.rest
       ≤ l.fn.reading.search.counts.lines + length l.fn.reading.line.items + length l.bytes;
 }

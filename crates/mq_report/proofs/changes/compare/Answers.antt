@@ -1,6 +1,8 @@
-use Rattle.std.proofs.Common.{ℕ, List, [], Bor, get_or, ap, not, sym, ◌∙◌, subst, Option, Some, refl}
+use Rattle.std.proofs.Common.{ℕ, List, [], Bor, get_or, ap, not, sym, ◌∙◌, subst, Option, Some}
+use Rattle.std.proofs.Common.{refl}
 use Rattle.mq_report.specs.Differences.{Adds}
-use Rattle.mq_report.proofs.ChangeLemmas.{ToldFor, told_start, told_one, told_all, same_allowed, listed_by}
+use Rattle.mq_report.proofs.ChangeLemmas.{ToldFor, told_start, told_one, told_all, same_allowed}
+use Rattle.mq_report.proofs.ChangeLemmas.{listed_by}
 use Rattle.mq_questions.proofs.ClientLemmas.{among_at}
 use Rattle.mq_walk.proofs.TextLemmas.{same_text}
 use Rattle.mq_report.proofs.changes.compare.Goals as goal

@@ -6,7 +6,8 @@ use Rattle.mq_questions.specs.Differ.{Differ, without}
 use Rattle.mq_report.specs.Needless.{IsNeedlessLine}
 use Rattle.mq_report.specs.declared.remark.Remark.{Remark}
 use Rattle.mq_report.specs.declared.remark.RemarkKind.TheVariants.{Needless}
-use Rattle.mq_report.proofs.NeedlessLemmas.{rest_needed, rest_told, line_same, by_of, line_is_needless}
+use Rattle.mq_report.proofs.NeedlessLemmas.{rest_needed, rest_told, line_same, by_of}
+use Rattle.mq_report.proofs.NeedlessLemmas.{line_is_needless}
 use Rattle.mq_report.proofs.needless_lines.needless.Goals as goal
 
 pub loop-index-preserved-then-not-branch : goal.loop-index-preserved-then-not-branch

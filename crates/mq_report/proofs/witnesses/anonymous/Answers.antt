@@ -6,7 +6,8 @@ use Rattle.mq_questions.specs.Comparison.{changed}
 use Rattle.mq_questions.specs.declared.ask.gain.Witness.{Witness}
 use Rattle.mq_questions.proofs.GainListLemmas.{all_yielded}
 use Rattle.mq_report.specs.declared.witnesses.Clients.TheVariants as clients
-use Rattle.mq_report.proofs.WitnessLemmas.{change_is, witness_at, found_start, found_one, found_tells, asked_anonymous}
+use Rattle.mq_report.proofs.WitnessLemmas.{change_is, witness_at, found_start, found_one}
+use Rattle.mq_report.proofs.WitnessLemmas.{found_tells, asked_anonymous}
 use Rattle.mq_report.proofs.witnesses.anonymous.Goals as goal
 
 pub add_witness-requires-clause-change : goal.add_witness-requires-clause-change

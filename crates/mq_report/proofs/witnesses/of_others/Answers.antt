@@ -6,7 +6,8 @@ use Rattle.mq_questions.specs.Comparison.{changed, lists_user}
 use Rattle.mq_questions.specs.declared.ask.others.OtherWitness.{OtherWitness}
 use Rattle.mq_questions.proofs.GainListLemmas.{all_yielded}
 use Rattle.mq_report.specs.declared.witnesses.Clients.TheVariants as clients
-use Rattle.mq_report.proofs.WitnessLemmas.{change_is, witness_at, found_start, found_one, found_tells, lists_is, unlisted_is, asked_others}
+use Rattle.mq_report.proofs.WitnessLemmas.{change_is, witness_at, found_start, found_one}
+use Rattle.mq_report.proofs.WitnessLemmas.{found_tells, lists_is, unlisted_is, asked_others}
 use Rattle.mq_report.proofs.witnesses.of_others.Goals as goal
 
 pub add_witness-requires-clause-class : goal.add_witness-requires-clause-class

@@ -1,10 +1,14 @@
-use Rattle.std.proofs.Common.{◌≤◌, ℕ, List, [], ◌∷◌, length, sym, ◌∙◌, ap, ◌-◌, get_or, subst, Bor, arith}
+use Rattle.std.proofs.Common.{◌≤◌, ℕ, List, [], ◌∷◌, length, sym, ◌∙◌, ap, ◌-◌, get_or, subst, Bor}
+use Rattle.std.proofs.Common.{arith}
 use Rattle.std.specs.List.{All}
 use Rattle.mq_walk.specs.Paths.{levels_of, all_levels}
 use Rattle.mq_walk.specs.Remainders.{marks_view, GainsNothing, IsGain}
 use Rattle.mq_walk.specs.Names.{is_among, is_choice, is_name_level, fits_start}
 use Rattle.mq_walk.specs.Choices.{all_choices, other_at}
-use Rattle.mq_walk.proofs.WalkLemmas.{behind_hits, behind_fits, gains_longer, no_parts, tried_none, tried_more, other_is, tried_all, each_here, no_gain_here, nothing_here, nothing_settled, few_here, few_longer, choice_at}
+use Rattle.mq_walk.proofs.WalkLemmas.{behind_hits, behind_fits, gains_longer, no_parts, tried_none}
+use Rattle.mq_walk.proofs.WalkLemmas.{tried_more, other_is, tried_all, each_here, no_gain_here}
+use Rattle.mq_walk.proofs.WalkLemmas.{nothing_here, nothing_settled, few_here, few_longer}
+use Rattle.mq_walk.proofs.WalkLemmas.{choice_at}
 use Rattle.mq_walk.proofs.NameLemmas.{choice_is_level}
 use Rattle.mq_walk.proofs.gained.+walk.Goals as goal
 

@@ -1,6 +1,7 @@
 use Rattle.std.proofs.Common.{◌≡◌, true, string_bytes, Some}
 use Rattle.mq_questions.specs.Roots.{all_rows, gained}
-use Rattle.mq_questions.proofs.DifferLemmas.{first_passes, no_first, none_differ, more_differ, fewer_differ}
+use Rattle.mq_questions.proofs.DifferLemmas.{first_passes, no_first, none_differ, more_differ}
+use Rattle.mq_questions.proofs.DifferLemmas.{fewer_differ}
 use Rattle.mq_questions.proofs.ask.differ.others_differ_in.Goals as goal
 
 pub returns-in-Some-clause-differ : goal.returns-in-Some-clause-differ

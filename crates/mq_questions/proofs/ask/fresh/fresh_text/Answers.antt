@@ -1,13 +1,11 @@
-use Rattle.std.proofs.Common.{◌≡◌, refl, ap, sym, ◌∙◌, arith, length, string_bytes, replicate, length-append, ◌+◌, ◌≤◌, ◌<◌, ℕ, false, true, Bool}
+use Rattle.std.proofs.Common.{ap, sym, ◌∙◌, arith, length, string_bytes, replicate, length-append}
+use Rattle.std.proofs.Common.{◌+◌}
 use Rattle.std.proofs.lemmas.List.{length-replicate}
 use Rattle.mq_questions.specs.Literals.{is_named}
 use Rattle.mq_walk.specs.Names.{is_among}
+use Rattle.mq_questions.proofs.FreshLemmas.{too_long}
 use Rattle.mq_questions.proofs.LiteralLemmas.{named_is}
 use Rattle.mq_questions.proofs.ask.fresh.fresh_text.Goals as goal
-
-too_long : (named : Bool) (n : ℕ) → (named ≡ true → n ≤ 300) → 300 < n → named ≡ false
-too_long true n f h = absurd (let g = f refl in omega arith)
-too_long false n f h = refl
 
 pub returns-then-not-names-clause-made : goal.returns-then-not-names-clause-made
 returns-then-not-names-clause-made c =

@@ -9,7 +9,8 @@ use Rattle.mq_questions.specs.Reach.{level_marks}
 use Rattle.mq_walk.specs.Remainders.{allow, GainsNothing, IsGain}
 use Rattle.mq_questions.specs.Roots.{AreRoots}
 use Rattle.mq_questions.proofs.DifferLemmas.{first_passes}
-use Rattle.mq_questions.proofs.ReachLemmas.{hidden_matches, nothing_met, name_met, none_then, some_then}
+use Rattle.mq_questions.proofs.ReachLemmas.{hidden_matches, nothing_met, name_met, none_then}
+use Rattle.mq_questions.proofs.ReachLemmas.{some_then}
 use Rattle.mq_questions.proofs.ask.met.any_met.Goals as goal
 
 pub returns-then-is_hidden-clause-none : goal.returns-then-is_hidden-clause-none

@@ -2,7 +2,8 @@ use Rattle.std.proofs.Common.{◌≡◌, refl, ap, sym, ◌∙◌, true, false, 
 use Rattle.mq_topic.specs.Levels.{levels}
 use Rattle.mq_topic.specs.Texts.{is_memory, is_name}
 use Rattle.mq_topic.specs.declared.fault.TopicFault.{TopicFault}
-use Rattle.mq_topic.specs.declared.fault.TopicFault.TheVariants.{Empty, TooLong, Nul, Wildcard, Levels, Share, Memory}
+use Rattle.mq_topic.specs.declared.fault.TopicFault.TheVariants.{Empty, TooLong, Nul, Wildcard}
+use Rattle.mq_topic.specs.declared.fault.TopicFault.TheVariants.{Levels, Share, Memory}
 use Rattle.mq_questions.proofs.NameLemmas.{levels_of_joined, joined_is_name}
 use Rattle.std.proofs.lemmas.List.{length-map}
 use Rattle.mq_questions.proofs.ask.name.name_of.Goals as goal

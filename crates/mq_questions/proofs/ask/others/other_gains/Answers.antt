@@ -2,7 +2,8 @@ use Rattle.std.proofs.Common.{ℕ, List, [], ap, sym, ◌∙◌, get_or, Bor, le
 use Rattle.mq_walk.specs.Names.{is_among}
 use Rattle.mq_questions.proofs.ClientLemmas.{among_at}
 use Rattle.mq_questions.proofs.LiteralLemmas.{named_is}
-use Rattle.mq_questions.proofs.OtherLemmas.{others_none, others_skip, others_more, no_other, listed_user_is_choice}
+use Rattle.mq_questions.proofs.OtherLemmas.{others_none, others_skip, others_more, no_other}
+use Rattle.mq_questions.proofs.OtherLemmas.{listed_user_is_choice}
 use Rattle.mq_questions.proofs.ask.others.other_gains.Goals as goal
 
 abbrev none : Bor (List ℕ)

@@ -2,7 +2,8 @@ use Rattle.std.proofs.Common.{◌≡◌, ℕ, Bool, true, false, not, refl, List
 use Rattle.mq_acl.specs.Views.{row_view, row_views}
 use Rattle.mq_questions.specs.Differ.{AllowSame, Differ, without}
 use Rattle.mq_questions.specs.Fresh.{is_literal}
-use Rattle.mq_questions.proofs.NeedlessLemmas.{placed, owner_named, users_forth, users_back, rest_fits, same_without, differ_without}
+use Rattle.mq_questions.proofs.NeedlessLemmas.{placed, owner_named, users_forth, users_back}
+use Rattle.mq_questions.proofs.NeedlessLemmas.{rest_fits, same_without, differ_without}
 use Rattle.mq_questions.proofs.needless.Needless.is_needless.Goals as goal
 
 pub owner_differs-requires-clause-owner : goal.owner_differs-requires-clause-owner

@@ -2,7 +2,8 @@ use Rattle.std.proofs.Common.{ap, sym, ◌∙◌, subst, map, ◌++◌, ◌≡�
 use Rattle.std.specs.Map.Iter.{deref}
 use Rattle.std.proofs.lemmas.List.{map_push}
 use Rattle.std.proofs.lemmas.Map.Iter.{rest_so_far, rest_more, rest_all}
-use Rattle.mq_walk.proofs.LevelLemmas.{IsAddedTo, added_none, added_skip, added_push, added_all, key_is_named}
+use Rattle.mq_walk.proofs.LevelLemmas.{IsAddedTo, added_none, added_skip, added_push, added_all}
+use Rattle.mq_walk.proofs.LevelLemmas.{key_is_named}
 use Rattle.mq_walk.proofs.branches.Branches.add_levels.Goals as goal
 
 pub loop-level-init : goal.loop-level-init

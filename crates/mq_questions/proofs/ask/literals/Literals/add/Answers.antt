@@ -1,4 +1,5 @@
-use Rattle.std.proofs.Common.{◌≡◌, refl, ap, ◌∙◌, List, ℕ, Bor, Bool, true, false, cond, ◌||◌, bytes_eq}
+use Rattle.std.proofs.Common.{◌≡◌, refl, ap, ◌∙◌, List, ℕ, Bor, Bool, true, false, cond, ◌||◌}
+use Rattle.std.proofs.Common.{bytes_eq}
 use Rattle.std.proofs.lemmas.Map.Text.{is_eq-slice_cmp}
 use Rattle.mq_questions.specs.Literals.{is_named}
 use Rattle.mq_walk.proofs.TextLemmas.{eq_sym}

@@ -3,10 +3,10 @@ use Rattle.std.specs.Option.{option_copied}
 use Rattle.mq_topic.specs.Levels.{levels}
 use Rattle.mq_acl.specs.Access.{is_user}
 use Rattle.mq_acl.specs.Views.{row_views}
-use Rattle.mq_questions.specs.Literals.{is_literal_in}
+use Rattle.mq_questions.specs.Literals.{is_literal_in, is_named}
 use Rattle.mq_questions.specs.Users.{rows_name}
 use Rattle.mq_questions.proofs.ReachReadyLemmas.{names_size, are_apart}
-use Rattle.mq_questions.proofs.reading.unnamed_texts.Goals as goal
+use Rattle.mq_questions.proofs.reach.unnamed_texts.Goals as goal
 
 pub find-requires : goal.find-requires
 find-requires c =
@@ -35,5 +35,5 @@ returns c = λ fresh seen.
     ∙ (λ i. (c.in_ok-add_rows.ensures l
     ∙ ap (λ b. b || rows_name l rows) (c.new-literals.ensures l)) i
     || is_literal_in l (levels (c.text.ensures.text i))))) in
-    are_apart rows c.args.client.now user c.args.filter.now c.in_ok-texts.texts c.add_mark.new.self
-    fresh c.requires named c.in_ok-texts.ensures seen
+    are_apart rows c.args.client.now user c.args.filter.now c.in_ok-texts.texts
+    (λ l. is_named l c.add_mark.new.self) fresh c.requires named c.in_ok-texts.ensures seen
