@@ -199,7 +199,8 @@ IsIndex-settled x ends ends' ends'' gone gone'' spare room kept same room' rest 
     }
 
 -- one more is gone
-pub IsIndex-gone : (x : ℕ) (ends gone gone' spare : Moments) (room : ℕ) → IsIndex ends gone spare room
+pub IsIndex-gone : (x : ℕ) (ends gone gone' spare : Moments) (room : ℕ)
+    → IsIndex ends gone spare room
     → count_of x gone.ends < count_of x ends.ends → 0 < count_before x ends.ends
     → SameEnds gone'.ends (x ∷ gone.ends) → gone.room ≤ gone'.room → length gone'.ends < room
     → IsIndex ends gone' spare room

@@ -1,5 +1,5 @@
 -- The lines of a script, how much of one is kept, and the commands that they say.
-use Rattle.std.specs.Prelude.{ℕ, ◌+◌, List, [], ◌∷◌, ◌++◌, ◌==◌, Bool, Option, Some, None, Result}
+use Rattle.std.specs.Prelude.{ℕ, ◌+◌, List, [], ◌∷◌, ◌++◌, ◌==◌, Bool, Option, None, Result}
 use Rattle.std.specs.Prelude.{Ok, Err, unwrap_or}
 use Rattle.std.specs.List.{slice_split, last_or}
 use Rattle.mq_world.specs.World.{Request}

@@ -57,7 +57,8 @@ made_level base text h m =
     (le-leb (length text) 321 (omega (arith, size, short, few)))
 
 -- texts of bases that differ at the front differ
-made_apart : (a b s t : List ℕ) → ((x y : List ℕ) → bytes_eq (a ++ x) (b ++ y) ≡ false) → IsPadded a s
+made_apart : (a b s t : List ℕ) → ((x y : List ℕ) → bytes_eq (a ++ x) (b ++ y) ≡ false)
+    → IsPadded a s
     → IsPadded b t → not (bytes_eq s t) ≡ true
 made_apart a b s t h m n =
     ap not ((λ i. bytes_eq (m.is i) (n.is i)) ∙ h (replicate m.count 120) (replicate n.count 120))

@@ -373,7 +373,8 @@ module _ (limit : ℕ) (access : Option (List AclRow)) (sessions : List Session)
 
     pub waits-first : w ≡ Waits → (o : Option Begin)
         → o ≡ option_map (begin_with l.0 deadline) (with_qos (copy_from l.0 None m l.1))
-        → copies_stay × ((queued ++ option_to_list o) ++ begins_by limit access sessions m deadline L
+        → copies_stay × ((queued ++ option_to_list o)
+        ++ begins_by limit access sessions m deadline L
         ≡ queued ++ begins_by limit access sessions m deadline all)
     waits-first h o is = (
       no_copy (ap is_sent h),

@@ -106,7 +106,8 @@ fn matches_by_client<'a>(
 ) -> Result<Vec<Match<'a>>, AllocError>
     ensures sorted { IfOk result (λ ms. AreByClient (matched ms.items)) }
     ensures options { IfOk result (λ ms. (id : Text) → options_among id (matched ms.items)
-        ≡ options_among id (unshared_matches (message_of message.now) (rows_found (seen found.now)))) }
+        ≡ options_among id (unshared_matches (message_of message.now)
+        (rows_found (seen found.now)))) }
 {
     let mut matches = Vec::with_capacity(alloc, own_count(found))?;
     for at in found {

@@ -33,8 +33,10 @@ use mq_sessions::{Clock, Readers, Sessions, may_publish};
 use mq_subscriptions::Subscriptions;
 use mq_topic::SubFilter;
 use mq_tree::Steps;
-use mq_world::{Answer, Command, Delivery, Limits, Message, Outcome, Refusal, SubscriptionOptions};
-use mq_world::{is_client_id, is_user_name};
+use mq_world::{
+    Answer, Command, Delivery, Limits, Message, Outcome, Refusal, SubscriptionOptions,
+    is_client_id, is_user_name,
+};
 use std::alloc::{AllocError, Global};
 use std::marker::Model;
 use std::rc::RcStr;

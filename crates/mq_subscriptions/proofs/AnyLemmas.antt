@@ -168,7 +168,8 @@ listed-left client k old new before after h kept rows drops live = record {
 }
 
 -- a key that joined and left again
-pub listed-undone : (client : Text) (k : FilterKey) (old new : AtEntries) (before added after : Lists)
+pub listed-undone : (client : Text) (k : FilterKey) (old new : AtEntries)
+    (before added after : Lists)
     → AreListed old before → new ≡ old → list_any (has_key client k.0 k.1) (all_rows old) ≡ false
     → ((s : Subscription) → is_listed added s ≡ (has_key client k.0 k.1 s || is_listed before s))
     → ((s : Subscription) → is_listed after s

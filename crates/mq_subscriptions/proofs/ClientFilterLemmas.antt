@@ -54,7 +54,8 @@ own-insert k (x ∷ xs) s =
     (elim (key_cmp k x) as P [
       | Less ↦ λ h. refl
       | Equal ↦ λ h. or_again (has_filter_key s (key_in x)) rest
-          ∙ ap (λ k. has_filter_key s k || (has_filter_key s (key_in x) || rest)) (sym (tied-keys k x h))
+          ∙ ap (λ k. has_filter_key s k || (has_filter_key s (key_in x) || rest))
+          (sym (tied-keys k x h))
       | Greater ↦ λ h. ap (λ b. has_filter_key s (key_in x) || b) (own-insert k xs s)
           ∙ or_swapped (has_filter_key s (key_in x)) (has_filter_key s (key_in k)) rest
     ]) refl
@@ -79,7 +80,8 @@ own-text s a b valid_a valid_b own_a own_b =
 
 -- so of a text that has the subscription, the one that leaves is told by the subscription too
 named : (s : Subscription) (text : Text) (x : Key) → is_subscription text ≡ true → IsAsked x
-    → has_filter_key s (key_in x) ≡ true → is_text text (rc_str_bytes x) ≡ has_filter_key s (text_key text)
+    → has_filter_key s (key_in x) ≡ true → is_text text (rc_str_bytes x)
+    ≡ has_filter_key s (text_key text)
 named s text x valid asked own = both_same (is_text text (rc_str_bytes x))
     (has_filter_key s (text_key text))
     (λ t. ap (λ (v : Text). has_filter_key s (text_key v)) (key_text text (rc_str_bytes x) t) ∙ own)
@@ -113,7 +115,8 @@ any_left s text valid (x ∷ xs) asked =
     let p : Key → Bool = λ k. has_filter_key s (key_in k) in
     any_cond (not (is_text text (rc_str_bytes x))) p x
     (filter (λ k. not (is_text text (rc_str_bytes k))) xs)
-    ∙ one_gone (is_text text (rc_str_bytes x)) (p x) (has_filter_key s (text_key text)) (list_any p xs)
+    ∙ one_gone (is_text text (rc_str_bytes x)) (p x) (has_filter_key s (text_key text))
+    (list_any p xs)
     (list_any p (filter (λ k. not (is_text text (rc_str_bytes k))) xs))
     (named s text x valid asked.0) (any_left s text valid xs asked.1)
 
@@ -127,7 +130,8 @@ own-remove text ks valid asked sorted s =
     (λ x y. text-apart text (rc_str_bytes x) (rc_str_bytes y)) ks sorted)
     ∙ list_any-map key_in (has_filter_key s) (filter (λ k. not (is_text text (rc_str_bytes k))) ks)
     ∙ any_left s text valid ks asked
-    ∙ ap (λ b. not (has_filter_key s (text_key text)) && b) (sym (list_any-map key_in (has_filter_key s) ks))
+    ∙ ap (λ b. not (has_filter_key s (text_key text)) && b)
+    (sym (list_any-map key_in (has_filter_key s) ks))
 
 -- ## The texts stay a subscription's each
 

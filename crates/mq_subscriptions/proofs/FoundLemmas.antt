@@ -67,7 +67,8 @@ above topic k (e ∷ es) h s =
       | false ↦ above topic k es h.1 s.1
     ]
 
-ordered : (topic : Text) (es : AtEntries) → AllEntries es → IsStrictlySortedBy level_order (keys_of es)
+ordered : (topic : Text) (es : AtEntries) → AllEntries es
+    → IsStrictlySortedBy level_order (keys_of es)
     → IsStrictlySortedBy level_order (map (λ a. levels a.filter) (found_for topic es))
 unfolding IsStrictlySortedBy
 ordered topic [] h s = tt

@@ -204,16 +204,19 @@ module _ (bs : Text) (k : FilterKey) (ls : List (Key × List FilterKey))
   added-there adds s =
       list-set bs ls sorted v w new found set s
       ∙ ap (λ b. if is_text s.client bs then b else is_listed (texts ls) s) (adds s)
-      ∙ add_case (is_text s.client bs) (has_filter_key s k) (is_in_list v s) (is_listed (texts ls) s)
+      ∙ add_case (is_text s.client bs) (has_filter_key s k) (is_in_list v s)
+      (is_listed (texts ls) s)
       (list-had bs ls sorted v w new found set s)
       ∙ ap (λ b. b || is_listed (texts ls) s) (key_by bs k s)
 
-  pub dropped-there : ((s : Subscription) → is_in_list w s ≡ (not (has_filter_key s k) && is_in_list v s))
+  pub dropped-there : ((s : Subscription) → is_in_list w s
+      ≡ (not (has_filter_key s k) && is_in_list v s))
       → Drops bs k (texts ls) (texts new)
   dropped-there drops s =
       list-set bs ls sorted v w new found set s
       ∙ ap (λ b. if is_text s.client bs then b else is_listed (texts ls) s) (drops s)
-      ∙ drop_case (is_text s.client bs) (has_filter_key s k) (is_in_list v s) (is_listed (texts ls) s)
+      ∙ drop_case (is_text s.client bs) (has_filter_key s k) (is_in_list v s)
+      (is_listed (texts ls) s)
       (list-had bs ls sorted v w new found set s)
       ∙ ap (λ b. not b && is_listed (texts ls) s) (key_by bs k s)
 
@@ -225,7 +228,8 @@ module _ (bs : Text) (k : FilterKey) (ls : List (Key × List FilterKey))
       list-out bs ls sorted v w new found set out gone s
       ∙ ap (λ b. if is_text s.client bs then b else is_listed (texts ls) s)
       (nothing_in w bare ∙ drops s)
-      ∙ drop_case (is_text s.client bs) (has_filter_key s k) (is_in_list v s) (is_listed (texts ls) s)
+      ∙ drop_case (is_text s.client bs) (has_filter_key s k) (is_in_list v s)
+      (is_listed (texts ls) s)
       (list-had bs ls sorted v w new found set s)
       ∙ ap (λ b. not b && is_listed (texts ls) s) (key_by bs k s)
     where
@@ -235,7 +239,8 @@ module _ (bs : Text) (k : FilterKey) (ls : List (Key × List FilterKey))
 
 pub added-first : (bs : Text) (k : FilterKey) (ls : List (Key × List FilterKey)) (name : Key)
     → rc_str_bytes name ≡ bs → lookup (is_text bs) (texts ls) ≡ None
-    → (w : List FilterKey) (new : List (Key × List FilterKey)) → new ≡ insert_entry key_cmp ls name w
+    → (w : List FilterKey) (new : List (Key × List FilterKey)) → new
+    ≡ insert_entry key_cmp ls name w
     → ((s : Subscription) → is_in_list w s ≡ (has_filter_key s k || false))
     → Adds bs k (texts ls) (texts new)
 added-first bs k ls name named none w new put adds s =
@@ -261,7 +266,8 @@ dropped-absent bs k ls none s =
 
 -- a list with a key is not empty
 pub added-live : (k : FilterKey) (v w : List FilterKey)
-    → ((s : Subscription) → is_in_list w s ≡ (has_filter_key s k || is_in_list v s)) → is_empty w ≡ false
+    → ((s : Subscription) → is_in_list w s ≡ (has_filter_key s k || is_in_list v s)) → is_empty w
+    ≡ false
 added-live k v [] adds =
     let s : Subscription = record { client = []; share = k.0; filter = k.1; options = nothing } in
     absurd (true≢false

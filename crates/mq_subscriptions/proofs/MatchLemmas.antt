@@ -65,7 +65,8 @@ by_any m f (x ∷ ms) =
     ]
 
 pub matches-at : (m : Message) (f : Text) (ds : List Member) (gs : List (Text × List Member))
-    → unshared_matches m (direct_rows [] ds) ≡ unshared_matches m (direct_rows f ds ++ group_rows f gs)
+    → unshared_matches m (direct_rows [] ds)
+    ≡ unshared_matches m (direct_rows f ds ++ group_rows f gs)
 matches-at m f ds gs =
     by_any m f ds
     ∙ sym (ap (map (λ (s : Subscription). (s.client, s.options)))

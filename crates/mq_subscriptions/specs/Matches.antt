@@ -16,7 +16,8 @@ rows_found found = flat_map (λ (a : At). a.rows) found
 
 -- those in a client's own name that take part, whoever's they are
 abbrev pub is_unshared_match : Message → Subscription → Bool
-is_unshared_match m s = is_none s.share && not (s.options.no_local && same_text s.client m.publisher)
+is_unshared_match m s = is_none s.share
+    && not (s.options.no_local && same_text s.client m.publisher)
 
 abbrev pub unshared_matches : Message → List Subscription → List (Text × world.SubscriptionOptions)
 unshared_matches m rows = map (λ s. (s.client, s.options)) (filter (is_unshared_match m) rows)

@@ -50,7 +50,8 @@ impl ClientFilters {
     pub(crate) fn add(&mut self, alloc: Global, text: &str) -> Result<(), AllocError>
         requires { IsTrue (is_subscription text.now) }
         ensures ok { OnOk result ((s : Subscription)
-            → is_in_list self.new s ≡ (has_filter_key s (text_key text.now) || is_in_list self.old s)) }
+            → is_in_list self.new s ≡ (has_filter_key s (text_key text.now)
+            || is_in_list self.old s)) }
         ensures err { OnErr result (self.new ≡ self.old) }
     {
         let text = RcStr::from_str(alloc, text)?;

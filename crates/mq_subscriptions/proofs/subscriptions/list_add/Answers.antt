@@ -53,5 +53,6 @@ returns-in_err-add-in-Some-clause-live c =
     let same = (c.get_mut.follows.holds c.add.new.self).0
     ∙ ap (set_value test ls) c.in_err-add-in-Some.ensures.err
     ∙ set_same test ls c.in-Some.own.now found in
-    subst (λ (es : List (Key × List FilterKey)). AllByRecursion (λ l. is_empty l.1 ≡ false) (texts es))
+    subst (λ (es : List (Key × List FilterKey)). AllByRecursion (λ l. is_empty l.1 ≡ false)
+    (texts es))
     (sym same) c.requires.live

@@ -9,7 +9,8 @@ returns-clause-ok c =
     added-first (rc_str_bytes c.args.client.now) (text_key c.args.text.now) c.args.lists.now.entries
     c.in_ok-client.client c.in_ok-client.ensures.cases c.requires.absent
     c.add.new.self c.insert.new.self.entries c.in_ok-insert.ensures.entries
-    (λ s. c.in_ok-add.ensures.ok s ∙ ap (λ l. has_filter_key s (text_key c.args.text.now) || is_in_list l s)
+    (λ s. c.in_ok-add.ensures.ok s ∙ ap
+    (λ l. has_filter_key s (text_key c.args.text.now) || is_in_list l s)
     c.new-own.ensures)
 
 pub returns-clause-live : goal.returns-clause-live

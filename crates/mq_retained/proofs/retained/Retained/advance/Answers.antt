@@ -14,7 +14,8 @@ loop-topic-smaller c =
     let one : OneDue c.args.moment c.loop-topic.self-inside.tree c.take.new.self =
     subst (λ (rest : Entries Stored). OneDue c.args.moment c.loop-topic.self-inside.tree rest)
     (sym c.take.ensures.rest)
-    (one-due c.args.moment c.in-Some.topic c.loop-topic.self-inside.tree c.loop-topic.self-inside.deadlines
+    (one-due c.args.moment c.in-Some.topic c.loop-topic.self-inside.tree
+    c.loop-topic.self-inside.deadlines
     c.take_due.new.self c.loop-topic.invariant.sound c.in-Some.ensures.some) in
     let fewer : suc (length c.take.new.self) ≡ length c.loop-topic.self-inside.tree = one.fewer in
     omega arith
@@ -24,10 +25,12 @@ loop-topic-preserved c =
     let one : OneDue c.args.moment c.loop-topic.self-inside.tree c.take.new.self =
     subst (λ (rest : Entries Stored). OneDue c.args.moment c.loop-topic.self-inside.tree rest)
     (sym c.take.ensures.rest)
-    (one-due c.args.moment c.in-Some.topic c.loop-topic.self-inside.tree c.loop-topic.self-inside.deadlines
+    (one-due c.args.moment c.in-Some.topic c.loop-topic.self-inside.tree
+    c.loop-topic.self-inside.deadlines
     c.take_due.new.self c.loop-topic.invariant.sound c.in-Some.ensures.some) in
     let counted : suc (length (filter (is_due c.args.moment) (retained_in c.take.new.self)))
-    ≡ length (filter (is_due c.args.moment) (retained_in c.loop-topic.self-inside.tree)) = one.count in
+    ≡ length (filter (is_due c.args.moment) (retained_in c.loop-topic.self-inside.tree)) =
+    one.count in
     let ticked : c.take_due.new.steps ≡ c.loop-topic.steps + 1 = c.in-Some.ensures.count in
     let before : c.loop-topic.steps + length
     (filter (is_due c.args.moment) (retained_in c.loop-topic.self-inside.tree)) ≡ c.args.steps.now
@@ -36,7 +39,8 @@ loop-topic-preserved c =
     record {
       sound = subst (λ (rest : Entries Stored). IsSound rest c.take_due.new.self)
           (sym c.take.ensures.rest)
-          (due-sound c.args.moment c.in-Some.topic c.loop-topic.self-inside.tree c.loop-topic.self-inside.deadlines
+          (due-sound c.args.moment c.in-Some.topic c.loop-topic.self-inside.tree
+          c.loop-topic.self-inside.deadlines
           c.take_due.new.self c.loop-topic.invariant.sound c.in-Some.ensures.some);
       rest = one.kept ∙ c.loop-topic.invariant.rest;
       count = omega arith;
@@ -59,7 +63,8 @@ returns-clause-count c =
     (retained_in c.loop-topic.self-inside.tree) =
     sound-none-due c.args.moment c.loop-topic.self-inside.tree c.loop-topic.self-inside.deadlines
     c.loop-topic.invariant.sound c.in_default.ensures.none in
-    let nobody : length (filter (is_due c.args.moment) (retained_in c.loop-topic.self-inside.tree)) ≡ 0 =
+    let nobody : length (filter (is_due c.args.moment)
+    (retained_in c.loop-topic.self-inside.tree)) ≡ 0 =
     none_due-count c.args.moment (retained_in c.loop-topic.self-inside.tree) none in
     let stays : c.take_due.new.steps ≡ c.loop-topic.steps + 0 = c.in_default.ensures.count in
     let seen : length (filter (is_due c.args.moment) (retained_in c.self.inside.tree))

@@ -9,7 +9,8 @@ invariant-loop-topic l = record {
   sound : IsSound l.self-inside.tree l.self-inside.deadlines;
   rest : filter (λ kept. not (is_due l.moment kept)) (retained_in l.self-inside.tree)
       ≡ filter (λ kept. not (is_due l.moment kept)) (retained_in l.initial.self-inside.tree);
-  count : l.steps + length (filter (is_due l.moment) (retained_in l.self-inside.tree)) ≡ l.initial.steps
+  count : l.steps + length (filter (is_due l.moment) (retained_in l.self-inside.tree))
+      ≡ l.initial.steps
       + length (filter (is_due l.moment) (retained_in l.initial.self-inside.tree));
 }
 

@@ -59,7 +59,8 @@ loop-own-preserved-in_default c =
       sorted = first.0;
       copies = step.0 ∙ held.copies;
       queued = ap (λ l. l ++ left) (sym (append-nil (map begin_of c.loop-own.queued.items)))
-          ∙ ap (λ o. (map begin_of c.loop-own.queued.items ++ option_to_list (option_map begin_of o))
+          ∙ ap (λ o. (map begin_of c.loop-own.queued.items
+          ++ option_to_list (option_map begin_of o))
           ++ left) (sym c.in_default.is)
           ∙ step.1 ∙ held.queued;
     }
@@ -119,7 +120,8 @@ loop-own-preserved-in_ok-push-in-Waits c =
       copies = step.0 ∙ held.copies;
       queued = ap (λ l. map begin_of l ++ left) c.in_ok-push-in-Waits.ensures.items
           ∙ ap (λ l. l ++ left) (map-append begin_of c.loop-own.queued.items (one ∷ []))
-          ∙ ap (λ o. (map begin_of c.loop-own.queued.items ++ option_to_list (option_map begin_of o))
+          ∙ ap (λ o. (map begin_of c.loop-own.queued.items
+          ++ option_to_list (option_map begin_of o))
           ++ left) (sym c.in-Some-2.is)
           ∙ step.1 ∙ held.queued;
     }

@@ -5,5 +5,6 @@ use Rattle.mq_sessions.specs.Views.{begin_of}
 use Rattle.mq_sessions.proofs.sessions.Sessions.join_all.Given as goal
 
 abbrev pub invariant-loop-queued_copy : goal.invariant-loop-queued_copy
-invariant-loop-queued_copy l = queued_all l.limit (map begin_of (into_iter_items l.queued_copy-iterator)) l.self
+invariant-loop-queued_copy l = queued_all l.limit
+    (map begin_of (into_iter_items l.queued_copy-iterator)) l.self
     ≡ queued_all l.limit (map begin_of l.fn.all.items) l.fn.self

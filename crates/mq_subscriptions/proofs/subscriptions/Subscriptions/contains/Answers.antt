@@ -21,12 +21,15 @@ returns-in-Some c =
     } in
     let v = c.in-Some.at.now in
     let found = sym c.get.ensures ∙ ap option_copied c.in-Some.is in
-    let is = found_filter f c.self.inside.tree c.self.invariant.kept.each c.self.invariant.kept.ordered v found in
+    let is = found_filter f c.self.inside.tree c.self.invariant.kept.each
+    c.self.invariant.kept.ordered v found in
     c.contains.ensures ∙ ap (λ sh. list_any (has_key c.args.client.now sh v.filter) v.rows)
     c.as_deref.ensures.value ∙ ap (λ g. list_any (has_key c.args.client.now share g) v.rows) is
-    ∙ tree-any f c.self.inside.tree c.self.invariant.kept.each c.self.invariant.kept.ordered v found s
+    ∙ tree-any f c.self.inside.tree c.self.invariant.kept.each c.self.invariant.kept.ordered v
+    found s
     refl
-    ∙ ap (λ (k : SubscriptionsView). list_any (has_wanted c.args.client.now c.args.wanted.now) k.rows)
+    ∙ ap (λ (k : SubscriptionsView). list_any (has_wanted c.args.client.now c.args.wanted.now)
+    k.rows)
     c.self.view_is
 
 pub returns-in-None : goal.returns-in-None
@@ -41,5 +44,6 @@ returns-in-None c =
     } in
     tree-absent_any f c.self.inside.tree c.self.invariant.kept.each
     (sym c.get.ensures ∙ ap option_copied c.in-None.is) s refl
-    ∙ ap (λ (k : SubscriptionsView). list_any (has_wanted c.args.client.now c.args.wanted.now) k.rows)
+    ∙ ap (λ (k : SubscriptionsView). list_any (has_wanted c.args.client.now c.args.wanted.now)
+    k.rows)
     c.self.view_is

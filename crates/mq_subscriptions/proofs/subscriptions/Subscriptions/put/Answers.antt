@@ -35,7 +35,8 @@ invariant_of-self-in-Ok c =
     let asked = c.requires in
     let has : Option Text → Text → Subscription → Bool =
     λ share filter s. has_key client share filter s || is_listed before s in
-    listed-joined x c.self.inside.tree c.join_in-2.new.tree before (texts c.list_add.new.lists.entries)
+    listed-joined x c.self.inside.tree c.join_in-2.new.tree before
+    (texts c.list_add.new.lists.entries)
     c.self.invariant c.join_in-2.ensures.kept c.in-Ok.ensures.ok
     (λ s. c.in_ok-list_add.ensures.ok s
     ∙ ap (λ share. has share (text_key c.args.text.now).1 s) (sym asked.0)
@@ -57,7 +58,8 @@ invariant_of-self-in-Err c =
     c.as_str-id.ensures.value in
     let named = has ∙ ap (λ share. by share c.args.wanted.now.filter) asked.0
     ∙ ap (by (share_of c.args.text.now)) asked.1 in
-    listed-undone client key c.self.inside.tree c.join_in-2.new.tree (texts c.self.inside.lists.entries)
+    listed-undone client key c.self.inside.tree c.join_in-2.new.tree
+    (texts c.self.inside.lists.entries)
     added (texts c.list_remove.new.lists.entries)
     c.self.invariant c.in-Err.ensures.err (sym named ∙ c.if-contains.false)
     c.in_ok-list_add.ensures.ok

@@ -20,7 +20,8 @@ pub returns-clause-rows : goal.returns-clause-rows
 returns-clause-rows c =
     c.leave_all.ensures.rows ∙ all-leave c.args.client.now c.self.inside.lists.entries c.in-Some.own
     c.self.inside.tree (sym c.remove.ensures.value ∙ c.in-Some.is) c.self.invariant
-    ∙ ap (λ (k : SubscriptionsView). filter (λ s. not (same_text s.client c.args.client.now)) k.rows)
+    ∙ ap (λ (k : SubscriptionsView). filter (λ s. not (same_text s.client c.args.client.now))
+    k.rows)
     c.self.view_is
 
 pub returns-clause-keys : goal.returns-clause-keys
@@ -30,7 +31,8 @@ pub returns-in_default-clause-rows : goal.returns-in_default-clause-rows
 returns-in_default-clause-rows c =
     none-had c.args.client.now c.self.inside.lists.entries c.self.inside.tree
     (sym c.remove.ensures.value ∙ c.in_default.is) c.self.invariant
-    ∙ ap (λ (k : SubscriptionsView). filter (λ s. not (same_text s.client c.args.client.now)) k.rows)
+    ∙ ap (λ (k : SubscriptionsView). filter (λ s. not (same_text s.client c.args.client.now))
+    k.rows)
     c.self.view_is
 
 pub returns-in_default-clause-keys : goal.returns-in_default-clause-keys

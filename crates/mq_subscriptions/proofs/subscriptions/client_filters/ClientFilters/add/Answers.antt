@@ -18,6 +18,8 @@ pub returns-clause-ok : goal.returns-clause-ok
 returns-clause-ok c = λ s.
     ap (λ l. is_in_list (map key_in l) s) c.in_ok-insert.ensures.keys
     ∙ own-insert c.in_ok-text.text c.self.inside.texts.keys s
-    ∙ ap (λ (t : Text). has_filter_key s (text_key t) || is_in_list (map key_in c.self.inside.texts.keys) s)
+    ∙ ap (λ (t : Text). has_filter_key s (text_key t)
+    || is_in_list (map key_in c.self.inside.texts.keys) s)
     c.in_ok-text.ensures.ok
-    ∙ ap (λ (l : List FilterKey). has_filter_key s (text_key c.args.text.now) || is_in_list l s) c.self.view_is
+    ∙ ap (λ (l : List FilterKey). has_filter_key s (text_key c.args.text.now) || is_in_list l s)
+    c.self.view_is

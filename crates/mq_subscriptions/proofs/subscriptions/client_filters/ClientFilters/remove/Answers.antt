@@ -17,5 +17,6 @@ returns c = λ s.
     ap (λ l. is_in_list (map key_in l) s) c.remove.ensures.keys
     ∙ own-remove c.args.text.now c.self.inside.texts.keys c.requires c.self.invariant
     c.len-count.ensures.ordered s
-    ∙ ap (λ (l : List FilterKey). not (has_filter_key s (text_key c.args.text.now)) && is_in_list l s)
+    ∙ ap (λ (l : List FilterKey). not (has_filter_key s (text_key c.args.text.now))
+    && is_in_list l s)
     c.self.view_is
