@@ -1,6 +1,8 @@
 //! Where two lists differ.
-ghost use Rattle.std.specs.Prelude.{◌≡◌, [], IfOk};
-ghost use Rattle.mq_acl_cli.specs.Answers.{AreChanges, HasDifference};
+ghost use Rattle.std.specs.Prelude.{◌≡◌, ◌⊎◌, [], IfOk, IfErr};
+ghost use Rattle.mq_questions.specs.Limits.{IsComparisonFault};
+ghost use Rattle.mq_acl_cli.specs.Answers.{AreChanges, AreRows, HasDifference};
+ghost use Rattle.mq_acl_cli.specs.Failures.{IsListFailure};
 
 use crate::failure::Failure;
 use crate::list::rows_in;
@@ -26,8 +28,15 @@ pub struct Changes {
 fn comparison_failure<'a>(
     old: ListText<'a, '_>,
     new: ListText<'a, '_>,
+    old_rows: &[Row],
+    new_rows: &[Row],
     fault: ComparisonFault,
-) -> Failure<'a> {
+) -> Failure<'a>
+    requires old { AreRows old.text.now old_rows.now }
+    requires new { AreRows new.text.now new_rows.now }
+    requires fault { IsComparisonFault old_rows.now new_rows.now fault }
+    ensures { IsListFailure old.entry result ⊎ IsListFailure new.entry result }
+{
     match fault {
         ComparisonFault::Memory => Failure::Memory,
         ComparisonFault::OldLine(line) => Failure::Long {
@@ -47,7 +56,9 @@ pub fn find_changes<'a>(
     old: ListText<'a, '_>,
     new: ListText<'a, '_>,
 ) -> Result<Changes, Failure<'a>>
-    ensures { IfOk result (AreChanges old.entry.text.now new.entry.text.now) }
+    ensures ok { IfOk result (AreChanges old.entry.text.now new.entry.text.now) }
+    ensures err { IfErr result (λ failure. IsListFailure old.entry failure
+        ⊎ IsListFailure new.entry failure) }
 {
     let old_rows = rows_in(alloc, old)?;
     let new_rows = rows_in(alloc, new)?;
@@ -57,7 +68,7 @@ pub fn find_changes<'a>(
             new: new_rows,
             differences,
         }),
-        Err(fault) => Err(comparison_failure(old, new, fault)),
+        Err(fault) => Err(comparison_failure(old, new, &old_rows, &new_rows, fault)),
     }
 }
 

@@ -1,7 +1,8 @@
 //! Which lines decide whether a client may read and write a topic.
-ghost use Rattle.std.specs.Prelude.{◌≡◌, IfOk};
+ghost use Rattle.std.specs.Prelude.{◌≡◌, ◌⊎◌, IfOk, IfErr};
 ghost use Rattle.std.specs.Option.{option_copied};
 ghost use Rattle.mq_acl_cli.specs.Answers.{Explains};
+ghost use Rattle.mq_acl_cli.specs.Failures.{IsListFailure, IsTopicFailure};
 
 use crate::failure::Failure;
 use crate::list::rows_in;
@@ -22,7 +23,9 @@ pub struct Explanation {
 }
 
 fn topic_name(alloc: Global, text: &str) -> Result<TopicName, Failure<'_>>
-    ensures { IfOk result (λ name. name ≡ text.entry.now) }
+    ensures ok { IfOk result (λ name. name ≡ text.entry.now) }
+    ensures err { IfErr result (λ failure. (failure ≡ Failure.Memory)
+        ⊎ IsTopicFailure text.entry.now failure) }
 {
     match TopicName::parse(alloc, text) {
         Ok(name) => Ok(name),
@@ -38,8 +41,10 @@ pub fn explain<'a>(
     client: Client<'a>,
     topic: &'a str,
 ) -> Result<Explanation, Failure<'a>>
-    ensures { IfOk result (Explains list.entry.text.now client.entry.id.now
+    ensures ok { IfOk result (Explains list.entry.text.now client.entry.id.now
         (option_copied client.entry.user) topic.entry.now) }
+    ensures err { IfErr result (λ failure. IsListFailure list.entry failure
+        ⊎ IsTopicFailure topic.entry.now failure) }
 {
     let name = topic_name(alloc, topic)?;
     let rows = rows_in(alloc, list)?;

@@ -1,6 +1,8 @@
 //! The rows of an access list.
-ghost use Rattle.std.specs.Prelude.{IfOk};
+ghost use Rattle.std.specs.Prelude.{◌≡◌, Err, IfOk, IfErr};
+ghost use Rattle.mq_acl.specs.Rows.{rows_of};
 ghost use Rattle.mq_acl_cli.specs.Answers.{AreRows};
+ghost use Rattle.mq_acl_cli.specs.Failures.{IsListFailure};
 
 use crate::failure::Failure;
 use mq_acl::{AclFault, AclKind, Row, read_rows};
@@ -11,7 +13,9 @@ fn line_failure<'a>(
     alloc: Global,
     list: ListText<'a, '_>,
     fault: AclFault,
-) -> Result<Failure<'a>, AllocError> {
+) -> Result<Failure<'a>, AllocError>
+    ensures { rows_of list.entry.text.now ≡ Err fault → IfOk result (IsListFailure list.entry) }
+{
     let words = fault_words(alloc, list.line(fault.line), fault.kind)?;
     Ok(Failure::Line {
         file: list.file,
@@ -22,7 +26,8 @@ fn line_failure<'a>(
 
 /// The rows of the list.
 pub(crate) fn rows_in<'a>(alloc: Global, list: ListText<'a, '_>) -> Result<Vec<Row>, Failure<'a>>
-    ensures { IfOk result (λ rows. AreRows list.entry.text.now rows.items) }
+    ensures ok { IfOk result (λ rows. AreRows list.entry.text.now rows.items) }
+    ensures err { IfErr result (IsListFailure list.entry) }
 {
     match read_rows(alloc, list.text) {
         Ok(rows) => Ok(rows),

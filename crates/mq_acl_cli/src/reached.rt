@@ -1,9 +1,10 @@
 //! What a subscription can be sent.
-ghost use Rattle.std.specs.Prelude.{◌≡◌, ℕ, List, IfOk, Some, None, IsTrue};
+ghost use Rattle.std.specs.Prelude.{◌≡◌, ◌⊎◌, ℕ, List, IfOk, IfErr, Some, None, IsTrue, false};
 ghost use Rattle.std.specs.Option.{option_copied};
-ghost use Rattle.mq_topic.specs.Texts.{filter_part, is_name};
+ghost use Rattle.mq_topic.specs.Texts.{filter_part, is_name, is_subscription};
 ghost use Rattle.mq_acl.specs.Views.{row_views};
-ghost use Rattle.mq_acl_cli.specs.Answers.{IsReach};
+ghost use Rattle.mq_acl_cli.specs.Answers.{AreRows, IsReach};
+ghost use Rattle.mq_acl_cli.specs.Failures.{IsListFailure, IsWordFailure};
 
 use crate::failure::Failure;
 use crate::list::rows_in;
@@ -16,7 +17,10 @@ use mq_topic::{LevelText, SubFilter, TopicFault, TopicFilter, TopicName};
 use std::alloc::Global;
 
 fn filter_in(alloc: Global, subscription: &str) -> Result<TopicFilter, Failure<'_>>
-    ensures { IfOk result (λ filter. filter ≡ filter_part subscription.entry.now) }
+    ensures ok { IfOk result (λ filter. filter ≡ filter_part subscription.entry.now) }
+    ensures err { IfErr result (λ failure. (failure ≡ Failure.Memory)
+        ⊎ ((failure ≡ Failure.Filter subscription.entry)
+        × (is_subscription subscription.entry.now ≡ false))) }
 {
     match SubFilter::parse(alloc, subscription) {
         Ok(parts) => Ok(parts.filter),
@@ -25,13 +29,22 @@ fn filter_in(alloc: Global, subscription: &str) -> Result<TopicFilter, Failure<'
     }
 }
 
-fn reach_of<'a, 'r>(alloc: Global, file: &'a str, rows: &'r [Row]) -> Result<Reach<'r>, Failure<'a>>
-    ensures { IfOk result (λ reach. reach ≡ row_views rows.entry.now) }
+fn reach_of<'a, 'r>(
+    alloc: Global,
+    list: ListText<'a, '_>,
+    rows: &'r [Row],
+) -> Result<Reach<'r>, Failure<'a>>
+    requires { AreRows list.text.now rows.now }
+    ensures ok { IfOk result (λ reach. reach ≡ row_views rows.entry.now) }
+    ensures err { IfErr result (IsListFailure list.entry) }
 {
     match Reach::new(alloc, rows) {
         Ok(reach) => Ok(reach),
         Err(ListFault::Memory) => Err(Failure::Memory),
-        Err(ListFault::Line(line)) => Err(Failure::Long { file, line }),
+        Err(ListFault::Line(line)) => Err(Failure::Long {
+            file: list.file,
+            line,
+        }),
     }
 }
 
@@ -43,12 +56,15 @@ pub fn find_topic<'a>(
     client: Client<'a>,
     subscription: &'a str,
 ) -> Result<Option<TopicName>, Failure<'a>>
-    ensures { IfOk result (IsReach list.entry.text.now client.entry.id.now
+    ensures ok { IfOk result (IsReach list.entry.text.now client.entry.id.now
         (option_copied client.entry.user) subscription.entry.now) }
+    ensures err { IfErr result (λ failure. IsListFailure list.entry failure
+        ⊎ IsWordFailure client.entry.id.now (option_copied client.entry.user)
+        subscription.entry.now failure) }
 {
     let filter = filter_in(alloc, subscription)?;
     let rows = rows_in(alloc, list)?;
-    let reach = reach_of(alloc, list.file, &rows)?;
+    let reach = reach_of(alloc, list, &rows)?;
     match reach.topic(alloc, client.id, client.user, &filter) {
         Ok(found) => Ok(found),
         Err(ReachFault::Memory) => Err(Failure::Memory),

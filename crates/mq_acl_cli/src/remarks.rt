@@ -1,5 +1,6 @@
 //! What is odd or needless in a list.
-ghost use Rattle.std.specs.Prelude.{◌≡◌, ◌≢◌, ◌⊎◌, [], IfOk, false};
+ghost use Rattle.std.specs.Prelude.{◌≡◌, ◌≢◌, ◌⊎◌, [], IfOk, IfErr, false};
+ghost use Rattle.mq_acl_cli.specs.Failures.{IsListFailure};
 ghost use Rattle.mq_acl_cli.specs.Lint.{AreRemarks, IsNeedlessIn};
 
 use crate::failure::Failure;
@@ -27,7 +28,8 @@ fn has_fault(odd: &[Remark]) -> bool
 }
 
 fn needless_in<'a>(alloc: Global, list: ListText<'a, '_>) -> Result<Vec<Remark>, Failure<'a>>
-    ensures { IfOk result (λ told. IsNeedlessIn list.entry.text.now told.items) }
+    ensures ok { IfOk result (λ told. IsNeedlessIn list.entry.text.now told.items) }
+    ensures err { IfErr result (IsListFailure list.entry) }
 {
     let rows = rows_in(alloc, list)?;
     match needless(alloc, &rows) {
@@ -48,6 +50,7 @@ fn needless_unless_faulty<'a>(
     ensures some { IfOk result (λ told. (told.items ≡ [])
         ⊎ IsNeedlessIn list.entry.text.now told.items) }
     ensures all { IfOk result (λ told. odd.now ≡ [] → IsNeedlessIn list.entry.text.now told.items) }
+    ensures err { IfErr result (IsListFailure list.entry) }
 {
     if has_fault(odd) {
         return Ok(Vec::new(alloc));
@@ -57,7 +60,8 @@ fn needless_unless_faulty<'a>(
 
 /// What is odd or needless in the list.
 pub fn find_remarks<'a>(alloc: Global, list: ListText<'a, '_>) -> Result<Remarks, Failure<'a>>
-    ensures { IfOk result (AreRemarks list.entry.text.now) }
+    ensures ok { IfOk result (AreRemarks list.entry.text.now) }
+    ensures err { IfErr result (IsListFailure list.entry) }
 {
     let odd = remarks(alloc, list.text)?;
     let needless = needless_unless_faulty(alloc, list, &odd)?;

@@ -18,6 +18,7 @@ use Rattle.mq_walk.specs.Remainders.{fits, mark_passes}
 use Rattle.mq_questions.specs.Literals.{is_literal_in}
 use Rattle.mq_questions.specs.Users.{is_name_of, is_user_of, row_names, rows_name, short_who}
 use Rattle.mq_questions.specs.Users.{is_short_level, usable}
+use Rattle.mq_questions.specs.Limits.{has_short_levels, is_short_row}
 use Rattle.mq_questions.specs.Roots.{rows_fit}
 use Rattle.mq_questions.specs.Fresh.{is_literal, is_user_level, is_no_client, is_no_user}
 use Rattle.mq_questions.specs.FreshTexts.{is_no_fresh}
@@ -104,6 +105,12 @@ filter_usable text h s =
     (and_parts (nat_lt 0 (length text) && nat_le (length text) 65535)
     (not (contains_byte 0 text)) bytes).1))
     (levels_without text) s
+
+pub row_usable : (row : AclRow) → is_filter row.filter ≡ true → is_short_row row ≡ true
+    → usable row ≡ true
+row_usable row h s =
+    let parts = and_parts (has_short_levels row.filter) (short_who row.who) s in
+    rw (filter_usable row.filter h parts.0, parts.1) refl
 
 -- ---- what rows that keep to the limit name
 longer : (n : ℕ) → nat_le n 300 ≡ true → nat_le n 321 ≡ true

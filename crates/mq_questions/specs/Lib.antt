@@ -8,4 +8,5 @@ pub mod Users
 pub mod Differ
 pub mod Reach
 pub mod Ready
+pub mod Limits
 pub mod Comparison

@@ -1,10 +1,11 @@
-ghost use Rattle.std.specs.Prelude.{◌≡◌, ◌≤◌, ◌||◌, ℕ, List, [], IfOk, IsTrue, true, false, length};
-ghost use Rattle.std.specs.Prelude.{string_bytes, Some, None};
+ghost use Rattle.std.specs.Prelude.{◌≡◌, ◌≤◌, ◌||◌, ℕ, List, [], IfOk, IfErr, IsTrue, true, false};
+ghost use Rattle.std.specs.Prelude.{length, string_bytes, Some, None};
 ghost use Rattle.std.specs.List.{All};
 ghost use Rattle.mq_topic.specs.Texts.{is_name};
 ghost use Rattle.mq_acl.specs.Views.{row_views};
 ghost use Rattle.mq_questions.specs.Comparison.{changed, is_made_up, lists_user, rows_with};
 ghost use Rattle.mq_questions.specs.Comparison.{rows_without};
+ghost use Rattle.mq_questions.specs.Limits.{IsComparisonFault, long_line};
 ghost use Rattle.mq_walk.specs.Names.{is_among};
 ghost use Rattle.mq_questions.specs.Roots.{all_rows};
 ghost use Rattle.mq_questions.specs.Users.{rows_name};
@@ -35,6 +36,11 @@ pub enum ComparisonFault {
 }
 
 impl From<AllocError> for ComparisonFault {
+    ghost use Rattle.std.specs.Prelude.{◌≡◌};
+    ghost use Rattle.mq_questions.specs.declared.comparison.ComparisonFault.TheVariants.{Memory};
+
+    ghost from_gives = { λ _ fault. fault ≡ Memory };
+
     fn from(_: AllocError) -> Self {
         ComparisonFault::Memory
     }
@@ -79,6 +85,9 @@ impl<'a> Comparison<'a> {
     ) -> Result<Comparison<'a>, ComparisonFault>
         ensures old { IfOk result (λ c. c.old ≡ row_views old.entry.now) }
         ensures new { IfOk result (λ c. c.new ≡ row_views new.entry.now) }
+        ensures short { IfOk result (λ _. (long_line old.entry.now ≡ None)
+            × (long_line new.entry.now ≡ None)) }
+        ensures fault { IfErr result (IsComparisonFault old.entry.now new.entry.now) }
     {
         if let Some(line) = long_line(old) {
             return Err(ComparisonFault::OldLine(line));

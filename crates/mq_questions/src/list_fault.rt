@@ -11,6 +11,11 @@ pub enum ListFault {
 }
 
 impl From<AllocError> for ListFault {
+    ghost use Rattle.std.specs.Prelude.{◌≡◌};
+    ghost use Rattle.mq_questions.specs.declared.list_fault.ListFault.TheVariants.{Memory};
+
+    ghost from_gives = { λ _ fault. fault ≡ Memory };
+
     fn from(_: AllocError) -> Self {
         ListFault::Memory
     }

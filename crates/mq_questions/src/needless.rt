@@ -1,9 +1,11 @@
-ghost use Rattle.std.specs.Prelude.{◌≡◌, ℕ, List, IfOk, IsTrue, true, false, Option, Some};
+ghost use Rattle.std.specs.Prelude.{◌≡◌, ℕ, List, IfOk, IfErr, IsTrue, true, false, Option, Some};
+ghost use Rattle.std.specs.Prelude.{None};
 ghost use Rattle.mq_topic.specs.Texts.{is_name};
 ghost use Rattle.mq_acl.specs.Access.{allowed};
 ghost use Rattle.mq_acl.specs.Views.{row_views};
 ghost use Rattle.mq_acl.specs.declared.access.Direction.{Direction};
 ghost use Rattle.mq_questions.specs.Differ.{Differ, without};
+ghost use Rattle.mq_questions.specs.Limits.{IsListFault, long_line};
 
 use crate::ask::differ::owner_differs;
 use crate::ask::lists::long_line;
@@ -41,7 +43,9 @@ impl<'a> Needless<'a> {
     /// Takes the rows of a list. One with a level or a user name of more than 300 bytes is told by its line: a topic
     /// name made of such levels could be too long.
     pub fn new(alloc: Global, rows: &'a [Row]) -> Result<Needless<'a>, ListFault>
-        ensures { IfOk result (λ needless. needless ≡ row_views rows.entry.now) }
+        ensures rows { IfOk result (λ needless. needless ≡ row_views rows.entry.now) }
+        ensures short { IfOk result (λ _. long_line rows.entry.now ≡ None) }
+        ensures fault { IfErr result (IsListFault rows.entry.now) }
     {
         if let Some(line) = long_line(rows) {
             return Err(ListFault::Line(line));

@@ -1,17 +1,17 @@
-ghost use Rattle.std.specs.Prelude.{◌≡◌, ℕ, List, IfOk, IfNone, IfSome, IsTrue, true, false};
-ghost use Rattle.std.specs.Prelude.{length, nat_le};
+ghost use Rattle.std.specs.Prelude.{◌≡◌, ℕ, List, IfOk, IfErr, IfNone, IfSome, IsTrue, true};
+ghost use Rattle.std.specs.Prelude.{false, None};
 ghost use Rattle.std.specs.List.{list_all};
 ghost use Rattle.std.specs.Option.{option_copied};
 ghost use Rattle.mq_topic.specs.Texts.{is_name};
 ghost use Rattle.mq_acl.specs.Rows.{AclRow};
 ghost use Rattle.mq_acl.specs.Views.{row_views};
 ghost use Rattle.mq_questions.specs.FreshTexts.{IsSeen};
+ghost use Rattle.mq_questions.specs.Limits.{IsListFault, IsReachFault, is_short_user, long_line};
 ghost use Rattle.mq_questions.specs.Reach.{AreApart, AreShort, Reads, ReadsNone};
 ghost use Rattle.mq_questions.specs.Users.{usable};
-ghost use Rattle.mq_walk.specs.Remainders.{mark_passes};
 ghost use Rattle.mq_questions.specs.declared.ask.fresh.Fresh.{Fresh};
 
-use crate::ask::lists::{is_short, long_line};
+use crate::ask::lists::{has_short_levels, long_line};
 use crate::ask::literals::Literals;
 use crate::ask::met::any_read;
 use crate::ask::texts::FreshTexts;
@@ -35,13 +35,18 @@ pub enum ReachFault {
 }
 
 impl From<AllocError> for ReachFault {
+    ghost use Rattle.std.specs.Prelude.{◌≡◌};
+    ghost use Rattle.mq_questions.specs.declared.reach.ReachFault.TheVariants.{Memory};
+
+    ghost from_gives = { λ _ fault. fault ≡ Memory };
+
     fn from(_: AllocError) -> Self {
         ReachFault::Memory
     }
 }
 
 fn is_short_user(user: Option<&str>) -> bool
-    ensures { result ≡ mark_passes (λ u. nat_le (length u) 300) (option_copied user.entry) }
+    ensures { result ≡ is_short_user (option_copied user.entry) }
 {
     match user {
         Some(name) => name.len() <= 300,
@@ -51,8 +56,9 @@ fn is_short_user(user: Option<&str>) -> bool
 
 // What is too long, if anything is.
 fn limit_fault(client: &str, user: Option<&str>, filter: &TopicFilter) -> Option<ReachFault>
-    ensures { IfNone result ((rows : List AclRow) → list_all usable rows ≡ true
+    ensures none { IfNone result ((rows : List AclRow) → list_all usable rows ≡ true
         → AreShort rows client.now (option_copied user.entry) filter.now) }
+    ensures some { IfSome result (IsReachFault client.now (option_copied user.entry) filter.now) }
 {
     if client.len() > 300 {
         return Some(ReachFault::Client);
@@ -60,7 +66,7 @@ fn limit_fault(client: &str, user: Option<&str>, filter: &TopicFilter) -> Option
     if !is_short_user(user) {
         return Some(ReachFault::User);
     }
-    if !is_short(filter.text()) {
+    if !has_short_levels(filter.text()) {
         return Some(ReachFault::Filter);
     }
     None
@@ -112,7 +118,9 @@ impl<'a> Model for Reach<'a> {
 impl<'a> Reach<'a> {
     /// Takes the rows of a list. One with a level or a user name of more than 300 bytes is told by its line.
     pub fn new(alloc: Global, rows: &'a [Row]) -> Result<Reach<'a>, ListFault>
-        ensures { IfOk result (λ reach. reach ≡ row_views rows.entry.now) }
+        ensures rows { IfOk result (λ reach. reach ≡ row_views rows.entry.now) }
+        ensures short { IfOk result (λ _. long_line rows.entry.now ≡ None) }
+        ensures fault { IfErr result (IsListFault rows.entry.now) }
     {
         if let Some(line) = long_line(rows) {
             return Err(ListFault::Line(line));
@@ -134,6 +142,8 @@ impl<'a> Reach<'a> {
             (option_copied user.entry) filter.now)) }
         ensures some { IfOk result (λ found. IfSome found (λ name. Reads self.now client.now
             (option_copied user.entry) filter.now name)) }
+        ensures fault { IfErr result (IsReachFault client.now
+            (option_copied user.entry) filter.now) }
     {
         if let Some(fault) = limit_fault(client, user, filter) {
             return Err(fault);
@@ -157,6 +167,8 @@ impl<'a> Reach<'a> {
         ensures reached { IfOk result (λ vain. vain ≡ false → (name : List ℕ)
             × IsTrue (is_name name)
             × Reads self.now client.now (option_copied user.entry) filter.now name) }
+        ensures fault { IfErr result (IsReachFault client.now
+            (option_copied user.entry) filter.now) }
     {
         if let Some(fault) = limit_fault(client, user, filter) {
             return Err(fault);

@@ -2,3 +2,4 @@ pub mod ClientLemmas
 pub mod PushLemmas
 pub mod SearchLemmas
 pub mod ScriptLemmas
+pub mod FaultLemmas

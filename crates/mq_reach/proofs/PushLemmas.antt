@@ -33,6 +33,10 @@ subscriptions_from-append before (x ∷ xs) ys =
     ∙ ap (λ ls. (here ++ subscriptions_from (before ++ x ∷ []) xs) ++ subscriptions_from ls ys)
     (append_assoc before (x ∷ []) xs)
 
+pub subscriptions-grown : (xs ys : List (List ℕ))
+    → subscriptions (xs ++ ys) ≡ subscriptions xs ++ subscriptions_from xs ys
+subscriptions-grown xs ys = subscriptions_from-append [] xs ys
+
 pub subscriptions-push : (xs : List (List ℕ)) (y : List ℕ)
     → subscriptions (xs ++ y ∷ []) ≡ subscriptions xs ++ option_to_list (subscription_in xs y)
 subscriptions-push xs y =

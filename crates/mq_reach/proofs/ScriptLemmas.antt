@@ -44,7 +44,7 @@ commands-kept lines p =
     ∙ ap (λ said. commands_of lines ++ cons_option (command_in said) []) (reading-kept p)
     ∙ sym (filter_map-append (λ line. command_in (reading line)) lines (p ∷ []))
 
-subscriptions-kept : (lines : List (List ℕ)) (p : List ℕ)
+pub subscriptions-kept : (lines : List (List ℕ)) (p : List ℕ)
     → subscriptions (lines ++ take kept p ∷ []) ≡ subscriptions (lines ++ p ∷ [])
 subscriptions-kept lines p =
     subscriptions-push lines (take kept p)
@@ -82,7 +82,7 @@ IsSearched-kept rows lines p s is = record {
 -- ## Bytes that are taken
 
 -- what is kept of a line, and of what goes on with it
-kept_line : (n : ℕ) (line more p xs : List ℕ) → kept ≡ n → line ≡ take kept p
+pub kept_line : (n : ℕ) (line more p xs : List ℕ) → kept ≡ n → line ≡ take kept p
     → more ≡ line ++ take (n - length line) xs
     → more ≡ take kept (p ++ xs)
 kept_line n line more p xs is e f =

@@ -74,7 +74,7 @@ counted_line (Err fault) make none n all faulty c are = record {
 }
 
 -- what the line subscribes to, by the search and by the lines before it
-made-is : (rows : List AclRow) (lines : List (List ℕ)) (s : Search) (command : Option Request)
+pub made-is : (rows : List AclRow) (lines : List (List ℕ)) (s : Search) (command : Option Request)
     → IsSearched rows lines s
     → made_by s command ≡ option_and_then
     (subscription_by (length lines + 1) (λ client. connection client (commands_of lines)))

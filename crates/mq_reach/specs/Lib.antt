@@ -4,3 +4,4 @@ pub mod Clients
 pub mod Counts
 pub mod Search
 pub mod Script
+pub mod Faults

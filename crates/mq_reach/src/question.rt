@@ -1,7 +1,9 @@
 //! Whether one subscription is in vain.
-ghost use Rattle.std.specs.Prelude.{◌≡◌, ◌&&◌, not, true, false, IfOk};
+ghost use Rattle.std.specs.Prelude.{◌≡◌, ◌&&◌, ◌∷◌, [], not, true, false, IfOk, IfErr};
 ghost use Rattle.mq_topic.specs.Texts.{filter_part, is_shared, is_subscription};
 ghost use Rattle.mq_acl.specs.Views.{row_views};
+ghost use Rattle.mq_questions.specs.Limits.{IsReachFault};
+ghost use Rattle.mq_reach.specs.Faults.{IsFaultAmong, IsSearchFault};
 ghost use Rattle.mq_reach.specs.Search.{subscription_view};
 ghost use Rattle.mq_reach.specs.Vain.{IsReached, IsVain};
 
@@ -24,6 +26,11 @@ pub enum SearchFault {
 }
 
 impl From<AllocError> for SearchFault {
+    ghost use Rattle.std.specs.Prelude.{◌≡◌};
+    ghost use Rattle.mq_reach.specs.declared.question.SearchFault.TheVariants.{Memory};
+
+    ghost from_gives = { λ _ fault. fault ≡ Memory };
+
     fn from(_: AllocError) -> Self {
         SearchFault::Memory
     }
@@ -37,7 +44,8 @@ pub(crate) fn is_taken(filter: &str, no_local: bool) -> bool
 }
 
 fn filter_in(alloc: Global, text: &str) -> Result<TopicFilter, SearchFault>
-    ensures { IfOk result (λ filter. filter ≡ filter_part text.now) }
+    ensures ok { IfOk result (λ filter. filter ≡ filter_part text.now) }
+    ensures err { IfErr result (λ fault. fault ≡ SearchFault.Memory) }
 {
     match SubFilter::parse(alloc, text) {
         Ok(parts) => Ok(parts.filter),
@@ -46,19 +54,22 @@ fn filter_in(alloc: Global, text: &str) -> Result<TopicFilter, SearchFault>
     }
 }
 
-// The line is the subscription's.
-fn fault_of(line: u64, fault: ReachFault) -> SearchFault {
+fn fault_of(subscription: &Subscription, fault: ReachFault) -> SearchFault
+    ensures { let s = subscription_view subscription.now in
+        IsReachFault s.client s.user (filter_part s.filter) fault → IsFaultAmong (s ∷ []) result }
+{
     match fault {
         ReachFault::Memory => SearchFault::Memory,
         ReachFault::Client | ReachFault::User | ReachFault::Filter => {
-            SearchFault::Subscription(line)
+            SearchFault::Subscription(subscription.line)
         }
     }
 }
 
 /// The list with these rows, which is asked about subscriptions.
 pub(crate) fn list_of(alloc: Global, rows: &[Row]) -> Result<Reach<'_>, SearchFault>
-    ensures { IfOk result (λ list. list ≡ row_views rows.entry.now) }
+    ensures ok { IfOk result (λ list. list ≡ row_views rows.entry.now) }
+    ensures err { IfErr result (IsSearchFault rows.entry.now []) }
 {
     match Reach::new(alloc, rows) {
         Ok(list) => Ok(list),
@@ -77,12 +88,13 @@ pub(crate) fn is_vain(
         → IsVain list.now (subscription_view subscription.now)) }
     ensures reached { IfOk result (λ vain. vain ≡ false
         → IsReached list.now (subscription_view subscription.now)) }
+    ensures err { IfErr result (IsFaultAmong (subscription_view subscription.now ∷ [])) }
 {
     let filter = filter_in(alloc, subscription.filter.as_str())?;
     let client = subscription.client.as_str();
     let user = subscription.user.as_deref();
     match list.is_vain(alloc, client, user, &filter) {
         Ok(vain) => Ok(vain),
-        Err(fault) => Err(fault_of(subscription.line, fault)),
+        Err(fault) => Err(fault_of(subscription, fault)),
     }
 }

@@ -1,12 +1,14 @@
 //! The lines of a script, read in little memory.
 ghost use Rattle.std.specs.Prelude.{◌≡◌, ◌+◌, ◌<◌, ◌≤◌, ◌^◌, ◌++◌, ◌∷◌, [], ℕ, List, IfOk, IfErr};
-ghost use Rattle.std.specs.Prelude.{OnOk, IfSome, length};
+ghost use Rattle.std.specs.Prelude.{OnOk, length};
 ghost use Rattle.std.specs.Io.KnownBytes.{Consumes, IsAtEnd};
 ghost use Rattle.mq_acl.specs.Rows.{AclRow};
 ghost use Rattle.mq_acl.specs.Views.{row_views};
 ghost use Rattle.mq_lines.specs.Lines.{all_lines, pieces};
 ghost use Rattle.mq_reach.specs.Search.{IsFound};
+ghost use Rattle.mq_reach.specs.Faults.{FailsIn, IsFaultAmong, IsScriptFault, StopsWith};
 ghost use Rattle.mq_reach.specs.Script.{HoldsScript, TakesBytes, script_limit};
+ghost use Rattle.mq_reach.specs.Subscriptions.{subscriptions};
 
 use crate::question::{SearchFault, list_of};
 use crate::search::{Findings, Search};
@@ -66,6 +68,7 @@ fn end_line(
     ensures lines { OnOk result (reading.new.search.counts.lines
         ≡ reading.old.search.counts.lines + 1) }
     ensures line { OnOk result (reading.new.line.items ≡ []) }
+    ensures err { IfErr result (FailsIn list.now reading.old (rest.now ++ 10 ∷ [])) }
 {
     keep_front(&mut reading.line, rest, KEPT)?;
     reading
@@ -83,6 +86,7 @@ fn take(reading: &mut Reading, alloc: Global, list: &Reach, bytes: &[u8]) -> Res
         bytes.now) }
     ensures lines { OnOk result (reading.new.search.counts.lines + length reading.new.line.items
         ≤ reading.old.search.counts.lines + length reading.old.line.items + length bytes.now) }
+    ensures err { IfErr result (FailsIn list.now reading.old bytes.now) }
 {
     let mut rest = bytes;
     'lines: while let Some((line, others)) = split_line(rest) {
@@ -96,8 +100,10 @@ fn take(reading: &mut Reading, alloc: Global, list: &Reach, bytes: &[u8]) -> Res
 // Searches a last piece that isn't empty.
 fn finish(mut reading: Reading, alloc: Global, list: &Reach) -> Result<Findings, SearchFault>
     requires { reading.search.counts.lines + length reading.line.items < 2 ^ 64 }
-    ensures { (script : List ℕ) → HoldsScript list.now script reading
+    ensures ok { (script : List ℕ) → HoldsScript list.now script reading
         → IfOk result (IsFound list.now (all_lines script)) }
+    ensures err { (script : List ℕ) → HoldsScript list.now script reading
+        → IfErr result (IsFaultAmong (subscriptions (all_lines script))) }
 {
     if reading.line.is_empty() {
         return Ok(reading.search.findings());
@@ -125,8 +131,8 @@ fn read_lines<R: Read>(
         × TakesBytes list.now reading.old reading.new script) }
     ensures lines { OnOk result (reading.new.search.counts.lines
         + length reading.new.line.items ≤ script_limit) }
-    ensures long { IfErr result (λ fault. fault ≡ ScriptFault.TooLong
-        → IfSome (R.remaining reader.old) (λ bytes. script_limit < length bytes)) }
+    ensures err { IfErr result (StopsWith list.now reading.old
+        (R.remaining reader.old) (R.remaining reader.new)) }
 {
     let mut total: u64 = 0;
     'reads: loop {
@@ -157,8 +163,8 @@ pub fn find_vain<R: Read>(
         × Consumes (R.remaining reader.old) (R.remaining reader.new) script
         × IsAtEnd (R.remaining reader.new)
         × IsFound (row_views rows.now) (all_lines script) findings) }
-    ensures long { IfErr result (λ fault. fault ≡ ScriptFault.TooLong
-        → IfSome (R.remaining reader.old) (λ bytes. script_limit < length bytes)) }
+    ensures err { IfErr result (IsScriptFault rows.now
+        (R.remaining reader.old) (R.remaining reader.new)) }
 {
     let list = list_of(alloc, rows)?;
     let Ok(mut piece) = vec![in alloc; 0u8; PIECE] else {

@@ -1,8 +1,9 @@
 //! The search of a script, line by line.
-ghost use Rattle.std.specs.Prelude.{◌≡◌, ◌+◌, ◌<◌, ◌^◌, ◌≤◌, IfOk, OnOk, Ok, Some, None};
+ghost use Rattle.std.specs.Prelude.{◌≡◌, ◌+◌, ◌<◌, ◌^◌, ◌≤◌, IfOk, IfErr, OnOk, Ok, Some, None};
 ghost use Rattle.std.specs.Prelude.{string_bytes, option_map, length};
 ghost use Rattle.mq_world.specs.World.{SubscriptionOptions, Subscribe};
 ghost use Rattle.mq_world.specs.Views.{request_of};
+ghost use Rattle.mq_lines.specs.Lines.{command_in};
 ghost use Rattle.mq_lines.specs.Reading.{reading};
 
 use crate::clients::Clients;
@@ -35,10 +36,13 @@ pub(crate) struct Search {
 
 impl Search {
     ghost use Rattle.std.specs.Prelude.{List, ℕ, ◌++◌, ◌∷◌, [], map};
+    ghost use Rattle.std.specs.Option.{option_to_list};
     ghost use Rattle.mq_acl.specs.Rows.{AclRow};
-    ghost use Rattle.mq_reach.specs.Subscriptions.{subscription_by};
+    ghost use Rattle.mq_reach.specs.Faults.{IsFaultAmong};
+    ghost use Rattle.mq_reach.specs.Subscriptions.{subscription_by, subscriptions};
     ghost use Rattle.mq_reach.specs.Clients.{user_at};
-    ghost use Rattle.mq_reach.specs.Search.{Applies, IsFound, IsSearched, subscription_view};
+    ghost use Rattle.mq_reach.specs.Search.{Applies, IsFound, IsSearched, made_by};
+    ghost use Rattle.mq_reach.specs.Search.{subscription_view};
 
     pub fn new(alloc: Global) -> Search
         ensures searched { (rows : List AclRow) → IsSearched rows [] result }
@@ -90,9 +94,12 @@ impl Search {
         no_local: bool,
     ) -> Result<LineKind, SearchFault>
         requires { self.old.counts.lines + 1 < 2 ^ 64 }
-        ensures { (options : SubscriptionOptions) → options.no_local ≡ no_local → IfOk result
+        ensures ok { (options : SubscriptionOptions) → options.no_local ≡ no_local → IfOk result
             (Applies list.now (Ok (Some (Subscribe (string_bytes client)
             (string_bytes filter) options))) self.old self.new) }
+        ensures err { (options : SubscriptionOptions) → options.no_local ≡ no_local
+            → IfErr result (IsFaultAmong (option_to_list (made_by self.old
+            (Some (Subscribe (string_bytes client) (string_bytes filter) options))))) }
     {
         let Some(subscription) = self.subscription(client, filter, no_local)? else {
             return Ok(LineKind::Other);
@@ -113,8 +120,10 @@ impl Search {
         command: Command,
     ) -> Result<LineKind, SearchFault>
         requires { self.old.counts.lines + 1 < 2 ^ 64 }
-        ensures { IfOk result (Applies list.now (Ok (Some (request_of command)))
+        ensures ok { IfOk result (Applies list.now (Ok (Some (request_of command)))
             self.old self.new) }
+        ensures err { IfErr result (IsFaultAmong
+            (option_to_list (made_by self.old (Some (request_of command))))) }
     {
         match command {
             Command::Connect { client, user, .. } => {
@@ -138,7 +147,9 @@ impl Search {
     // What the line is counted as.
     fn read(&mut self, alloc: Global, list: &Reach, line: &[u8]) -> Result<LineKind, SearchFault>
         requires { self.old.counts.lines + 1 < 2 ^ 64 }
-        ensures { IfOk result (Applies list.now (reading line.now) self.old self.new) }
+        ensures ok { IfOk result (Applies list.now (reading line.now) self.old self.new) }
+        ensures err { IfErr result (IsFaultAmong
+            (option_to_list (made_by self.old (command_in (reading line.now))))) }
     {
         match read_line(alloc, line) {
             Ok(None) => Ok(LineKind::Other),
@@ -155,6 +166,8 @@ impl Search {
             → IsSearched list.now before self.old
             → OnOk result (IsSearched list.now (before ++ line.now ∷ []) self.new) }
         ensures lines { OnOk result (self.new.counts.lines ≡ self.old.counts.lines + 1) }
+        ensures err { (before : List (List ℕ)) → IsSearched list.now before self.old
+            → IfErr result (IsFaultAmong (subscriptions (before ++ line.now ∷ []))) }
     {
         let kind = self.read(alloc, list, line)?;
         self.counts = self.counts.with_line(kind);

@@ -1,11 +1,12 @@
 //! Where two lists differ.
-ghost use Rattle.std.specs.Prelude.{◌≡◌, ℕ, Bool, List, [], All, IfOk, OnOk, IsTrue, true, false};
-ghost use Rattle.std.specs.Prelude.{Option, Some};
+ghost use Rattle.std.specs.Prelude.{◌≡◌, ℕ, Bool, List, [], All, IfOk, IfErr, OnOk, IsTrue};
+ghost use Rattle.std.specs.Prelude.{true, false, Option, Some};
 ghost use Rattle.std.specs.List.{list_any};
 ghost use Rattle.mq_topic.specs.Texts.{is_name};
 ghost use Rattle.mq_acl.specs.Access.{allowed};
 ghost use Rattle.mq_acl.specs.Views.{row_views};
 ghost use Rattle.mq_acl.specs.declared.access.Direction.{Direction};
+ghost use Rattle.mq_questions.specs.Limits.{IsComparisonFault};
 ghost use Rattle.mq_questions.specs.declared.way.Way.{Way};
 ghost use Rattle.mq_report.specs.Classes.{is_asked, AreListed};
 ghost use Rattle.mq_report.specs.Differences.{IsReal, Compares, Tells, Adds};
@@ -109,6 +110,7 @@ pub fn compare<'a>(
         → IsTrue (is_name topic)
         → allowed (Some (row_views old.entry.now)) client user topic direction
         ≡ allowed (Some (row_views new.entry.now)) client user topic direction) }
+    ensures fault { IfErr result (IsComparisonFault old.entry.now new.entry.now) }
 {
     let comparison = Comparison::new(alloc, old, new)?;
     let lists = Lists {

@@ -1,7 +1,8 @@
 //! Lines without which a list allows the same.
-ghost use Rattle.std.specs.Prelude.{◌≡◌, ◌≢◌, ◌<◌, ℕ, List, [], ◌∷◌, All, IfOk, OnOk, IfSome};
-ghost use Rattle.std.specs.Prelude.{IfNone, ◌++◌, true, false, length, Some};
+ghost use Rattle.std.specs.Prelude.{◌≡◌, ◌≢◌, ◌<◌, ℕ, List, [], ◌∷◌, All, IfOk, IfErr, OnOk};
+ghost use Rattle.std.specs.Prelude.{IfSome, IfNone, ◌++◌, true, false, length, Some, None};
 ghost use Rattle.mq_acl.specs.Views.{access_view, owner_view, row_view, row_views};
+ghost use Rattle.mq_questions.specs.Limits.{IsListFault, is_short_row, long_line};
 ghost use Rattle.mq_report.specs.Needless.{as_grant, granted_access, MakesNeedless, IsMaker};
 ghost use Rattle.mq_report.specs.Needless.{MakesNone, IsNeedlessLine, AreRest};
 
@@ -59,6 +60,9 @@ fn makes_needless(alloc: Global, row: &Row, other: &Row) -> Result<bool, ListFau
         → MakesNeedless (row_view other.now) (row_view row.now)) }
     ensures no { IfOk result (λ b. b ≡ false
         → MakesNeedless (row_view other.now) (row_view row.now) → ⊥) }
+    ensures err { is_short_row (row_view row.now) ≡ true
+        → is_short_row (row_view other.now) ≡ true
+        → IfErr result (λ fault. fault ≡ ListFault.Memory) }
 {
     if is_deny(row.access) && !is_deny(other.access) {
         return Ok(false);
@@ -75,6 +79,8 @@ fn maker(alloc: Global, rows: &[Row], index: usize, row: &Row) -> Result<Option<
         (λ line. IsMaker rows.now index (row_view row.now) line)) }
     ensures none { IfOk result
         (λ found. IfNone found (MakesNone rows.now index (row_view row.now))) }
+    ensures err { is_short_row (row_view row.now) ≡ true → long_line rows.now ≡ None
+        → IfErr result (λ fault. fault ≡ ListFault.Memory) }
 {
     for (place, other) in rows.iter().enumerate() {
         if place == index {
@@ -102,6 +108,7 @@ fn add(remarks: &mut Vec<Remark>, line: u64, by: Option<u64>) -> Result<(), Allo
 pub fn needless(alloc: Global, rows: &[Row]) -> Result<Vec<Remark>, ListFault>
     ensures each { IfOk result (λ told. All (IsNeedlessLine rows.now) told.items) }
     ensures rest { IfOk result (λ told. AreRest rows.now (length rows.now) told.items) }
+    ensures fault { IfErr result (IsListFault rows.now) }
 {
     let question = Needless::new(alloc, rows)?;
     let mut remarks = Vec::new(alloc);

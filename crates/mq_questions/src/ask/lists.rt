@@ -1,16 +1,16 @@
 //! The limit that a list has to keep to.
-ghost use Rattle.std.specs.Prelude.{◌≡◌, ◌&&◌, true, length, nat_le, IfNone};
+ghost use Rattle.std.specs.Prelude.{◌≡◌, true, IfNone};
 ghost use Rattle.std.specs.List.{list_all};
-ghost use Rattle.mq_topic.specs.Levels.{levels};
 ghost use Rattle.mq_acl.specs.Views.{owner_view, row_view, row_views};
+ghost use Rattle.mq_questions.specs.Limits.{has_short_levels, is_short_row, long_line};
 ghost use Rattle.mq_questions.specs.Users.{short_who, usable};
 
 use mq_acl::{Owner, Row};
 use mq_topic::LevelText;
 
 /// Whether no level is longer than 300 bytes.
-pub(crate) fn is_short(text: &str) -> bool
-    ensures { result ≡ list_all (λ level. nat_le (length level) 300) (levels text.now) }
+pub(crate) fn has_short_levels(text: &str) -> bool
+    ensures { result ≡ has_short_levels text.now }
 {
     text.split('/').all(|level| level.len() <= 300)
 }
@@ -24,22 +24,21 @@ fn is_short_owner(owner: &Owner) -> bool
     }
 }
 
-fn is_usable(row: &Row) -> bool
-    ensures { result ≡ true → usable (row_view row.now) ≡ true }
+fn is_short_row(row: &Row) -> bool
+    ensures short { result ≡ is_short_row (row_view row.now) }
+    ensures usable { result ≡ true → usable (row_view row.now) ≡ true }
 {
-    if !is_short(row.filter.text()) {
-        return false;
-    }
-    is_short_owner(&row.owner)
+    has_short_levels(row.filter.text()) && is_short_owner(&row.owner)
 }
 
 /// The line of the first row with a level, or a user name, of more than 300 bytes. Without one, no name that is made of
 /// levels of the rows is longer than 65,535 bytes.
 pub(crate) fn long_line(rows: &[Row]) -> Option<u64>
-    ensures { IfNone result (list_all usable (row_views rows.now) ≡ true) }
+    ensures line { result ≡ long_line rows.now }
+    ensures usable { IfNone result (list_all usable (row_views rows.now) ≡ true) }
 {
     for row in rows {
-        if !is_usable(row) {
+        if !is_short_row(row) {
             return Some(row.line);
         }
     }

@@ -6,6 +6,6 @@ use Rattle.mq_acl_cli.proofs.compare.tell_changes.Goals as goal
 pub returns-clause-ok : goal.returns-clause-ok
 returns-clause-ok g c =
     compared c.args.old.text.now c.args.new.text.now c.in_ok-changes.changes
-    c.outcome_of-outcome.result c.in_ok-changes.ensures
+    c.outcome_of-outcome.result c.in_ok-changes.ensures.ok
     (λ e. sym c.deref.ensures.value ∙ c.outcome_of-outcome.ensures.clear e)
     (λ e. subst HasDifference c.deref.ensures.value (c.outcome_of-outcome.ensures.remark e))

@@ -6,6 +6,6 @@ pub returns-clause-ok : goal.returns-clause-ok
 returns-clause-ok g c =
     reached c.args.list.text.now c.args.client.id.now (option_copied c.args.client.user)
     c.args.subscription.now
-    c.in_ok-found.found c.outcome_of-outcome.result c.in_ok-found.ensures
+    c.in_ok-found.found c.outcome_of-outcome.result c.in_ok-found.ensures.ok
     c.outcome_of-outcome.ensures.clear
     c.outcome_of-outcome.ensures.remark

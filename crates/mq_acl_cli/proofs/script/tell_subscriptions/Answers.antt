@@ -3,7 +3,7 @@ use Rattle.mq_acl_cli.proofs.script.tell_subscriptions.Goals as goal
 
 pub returns-clause-ok : goal.returns-clause-ok
 returns-clause-ok g c =
-    let found = c.in_ok-findings.ensures in (
+    let found = c.in_ok-findings.ensures.ok in (
       found.0,
       found.1,
       found.2,

@@ -1,5 +1,7 @@
-use Rattle.std.proofs.Common.{◌∙◌}
+use Rattle.std.proofs.Common.{◌∙◌, ◌++◌, ◌∷◌, []}
 use Rattle.mq_lines.proofs.LongLemmas.{kept_number}
+use Rattle.std.proofs.lemmas.Result.{err_from_is_err_and}
+use Rattle.mq_reach.proofs.FaultLemmas.{FailsIn-line, FailsIn-memory}
 use Rattle.mq_reach.proofs.ScriptLemmas.{TakesBytes-line}
 use Rattle.mq_reach.proofs.reading.end_line.Goals as goal
 
@@ -9,3 +11,17 @@ returns-clause-takes c =
     c.as_slice.result.now _ kept_number c.requires.rest
     (c.as_slice.ensures.value ∙ c.in_ok-keep_front.ensures) c.in_ok-take_line.ensures.searched
     c.clear.ensures.items
+
+pub returns-in_err-keep_front-clause-err : goal.returns-in_err-keep_front-clause-err
+returns-in_err-keep_front-clause-err c =
+    let fault = err_from_is_err_and c.from_residual.result c.from_residual.ensures.1 in
+    rw (fault.1, fault.2)
+    (FailsIn-memory c.args.list.now c.args.reading.now (c.args.rest.now ++ 10 ∷ []))
+
+pub returns-in_err-take_line-clause-err : goal.returns-in_err-take_line-clause-err
+returns-in_err-take_line-clause-err c =
+    let fault = err_from_is_err_and c.from_residual-in_err-take_line.result
+    c.from_residual-in_err-take_line.ensures.1 in
+    rw (fault.1, fault.2) (FailsIn-line c.args.list.now c.args.reading.now c.args.rest.now
+    c.as_slice.result.now _ _ kept_number c.requires.rest
+    (c.as_slice.ensures.value ∙ c.in_ok-keep_front.ensures) c.in_err-take_line.ensures.err)

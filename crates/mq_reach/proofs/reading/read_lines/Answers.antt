@@ -1,7 +1,9 @@
-use Rattle.std.proofs.Common.{◌≡◌, ◌++◌, ◌+◌, ◌≤◌, ◌<◌, [], ℕ, List, take, length, refl, ap, arith}
-use Rattle.std.proofs.Common.{length-append, length-take-le}
+use Rattle.std.proofs.Common.{◌≡◌, ◌++◌, ◌+◌, ◌≤◌, ◌<◌, [], ℕ, List, take, length, refl, ap}
+use Rattle.std.proofs.Common.{append-nil, arith, length-append, length-take-le, sym}
 use Rattle.std.proofs.KnownBytes.{Consumes-nil, Consumes-trans}
+use Rattle.std.proofs.lemmas.Result.{err_from_is_err_and}
 use Rattle.mq_reach.specs.Script.{script_limit}
+use Rattle.mq_reach.proofs.FaultLemmas.{FailsIn-more}
 use Rattle.mq_reach.proofs.ScriptLemmas.{TakesBytes-none, TakesBytes-then, too_long}
 use Rattle.mq_reach.proofs.reading.read_lines.Goals as goal
 
@@ -51,9 +53,9 @@ returns-then-n-eq0-clause-lines g c =
     let within = c.reads.invariant.within in
     omega arith
 
-pub returns-then-n-total-clause-long : goal.returns-then-n-total-clause-long
+pub returns-then-n-total-clause-err : goal.returns-then-n-total-clause-err
 unfolding script_limit
-returns-then-n-total-clause-long g c = λ e.
+returns-then-n-total-clause-err g c =
     let so_far = c.reads.invariant.takes in
     let given : List ℕ = so_far.0 in
     let len : length given ≡ c.reads.total = so_far.2 in
@@ -66,3 +68,18 @@ returns-then-n-total-clause-long g c = λ e.
     let over : 4294967296 < length (given ++ take n buf) = omega arith in
     too_long _ _ 4294967296 (given ++ take n buf)
     (Consumes-trans _ (g.R.Read.remaining c.reads.reader) _ given (take n buf) so_far.1 read.0) over
+
+pub returns-in_err-take-clause-err : goal.returns-in_err-take-clause-err
+returns-in_err-take-clause-err g c =
+    let fault = err_from_is_err_and c.from_residual.result c.from_residual.ensures.1 in
+    let so_far = c.reads.invariant.takes in
+    let given : List ℕ = so_far.0 in
+    let piece : List ℕ = take c.in-Ok.n c.read.new.buf in
+    rw (fault.1, fault.2) (
+      given ++ piece,
+      Consumes-trans _ (g.R.Read.remaining c.reads.reader) _ given piece so_far.1
+          c.in-Ok.ensures.bytes.0,
+      FailsIn-more c.args.list.now c.args.reading.now c.reads.reading given piece []
+          (given ++ piece) _ so_far.3 (ap (λ l. given ++ l) (sym (append-nil piece)))
+          c.in_err-take.ensures.err,
+    )

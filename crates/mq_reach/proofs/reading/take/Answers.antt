@@ -2,6 +2,8 @@ use Rattle.std.proofs.Common.{◌≡◌, ◌+◌, ◌++◌, ◌∷◌, [], ℕ, 
 use Rattle.std.proofs.Common.{length-append}
 use Rattle.mq_lines.proofs.LongLemmas.{kept_number}
 use Rattle.mq_lines.proofs.PieceLemmas.{parted}
+use Rattle.std.proofs.lemmas.Result.{err_from_is_err_and}
+use Rattle.mq_reach.proofs.FaultLemmas.{FailsIn-memory, FailsIn-more}
 use Rattle.mq_reach.proofs.ScriptLemmas.{TakesBytes-none, TakesBytes-then, TakesBytes-text}
 use Rattle.mq_reach.proofs.reading.take.Goals as goal
 
@@ -39,3 +41,17 @@ returns-clause-takes c =
     c.lines.rest.now at.2
     (TakesBytes-text c.args.list.now c.lines.reading _ c.lines.rest.now _ kept_number
     c.in_default.ensures refl c.in_ok-keep_front.ensures))
+
+pub returns-in_err-end_line-clause-err : goal.returns-in_err-end_line-clause-err
+returns-in_err-end_line-clause-err c =
+    let at = c.lines.invariant.takes in
+    let fault = err_from_is_err_and c.from_residual.result c.from_residual.ensures.1 in
+    rw (fault.1, fault.2) (FailsIn-more c.args.list.now c.args.reading.now c.lines.reading at.0
+    (c.in-Some.line.now ++ 10 ∷ []) c.in-Some.others.now c.args.bytes.now _ at.2
+    (at.1 ∙ ap (λ l. at.0 ++ l) c.in-Some.ensures.0) c.in_err-end_line.ensures.err)
+
+pub returns-in_err-keep_front-clause-err : goal.returns-in_err-keep_front-clause-err
+returns-in_err-keep_front-clause-err c =
+    let fault = err_from_is_err_and c.from_residual-in_err-keep_front.result
+    c.from_residual-in_err-keep_front.ensures.1 in
+    rw (fault.1, fault.2) (FailsIn-memory c.args.list.now c.args.reading.now c.args.bytes.now)

@@ -11,7 +11,7 @@ find-requires c = record {
       ∙ (λ i. c.in_ok-add_rows.ensures l i || rows_name l (row_views c.args.new.now))
       ∙ ap (λ b. (b || rows_name l (row_views c.args.old.now))
       || rows_name l (row_views c.args.new.now)) (c.new-literals.ensures l))
-      c.in_default.ensures c.in_default-long_line.ensures;
+      c.in_default.ensures.usable c.in_default-long_line.ensures.usable;
 }
 
 pub invariant_of-result : goal.invariant_of-result
@@ -26,4 +26,4 @@ invariant_of-result c =
     ∙ (λ i. c.in_ok-add_users.ensures l i || is_user_of l (row_views c.args.new.now))
     ∙ ap (λ b. (b || is_user_of l (row_views c.args.old.now))
     || is_user_of l (row_views c.args.new.now)) (c.new-named.ensures l))
-    c.in_default.ensures c.in_default-long_line.ensures c.in_ok-texts.ensures
+    c.in_default.ensures.usable c.in_default-long_line.ensures.usable c.in_ok-texts.ensures

@@ -10,7 +10,7 @@ find-requires c = record {
       (λ l. c.in_ok-add_rows.ensures l
       ∙ ap (λ b. b || rows_name l (row_views c.args.rows.now)) (c.new-literals.ensures l)
       ∙ twice (rows_name l (row_views c.args.rows.now)))
-      c.in_default.ensures c.in_default.ensures;
+      c.in_default.ensures.usable c.in_default.ensures.usable;
 }
 
 pub invariant_of-result : goal.invariant_of-result
@@ -22,4 +22,4 @@ invariant_of-result c =
     (λ l. c.in_ok-add_users.ensures l
     ∙ ap (λ b. b || is_user_of l (row_views c.args.rows.now)) (c.new-named.ensures l)
     ∙ twice (is_user_of l (row_views c.args.rows.now)))
-    c.in_default.ensures c.in_default.ensures c.in_ok-texts.ensures
+    c.in_default.ensures.usable c.in_default.ensures.usable c.in_ok-texts.ensures

@@ -8,5 +8,5 @@ pub any_read-requires : goal.any_read-requires
 any_read-requires c =
     longer_are_apart (row_views c.self.inside.rows.now) c.args.client.now
     (option_copied c.args.user) c.args.filter.now c.self.inside.longest c.fresh.result
-    (c.in_default.ensures (row_views c.self.inside.rows.now) c.self.invariant.rows_usable)
+    (c.in_default.ensures.none (row_views c.self.inside.rows.now) c.self.invariant.rows_usable)
     (are_longer c.self.inside.longest c.self.invariant.longer) c.fresh.ensures

@@ -2,7 +2,7 @@ use Rattle.std.proofs.Common.{lit<, rules, tests, length}
 use Rattle.std.specs.Prelude.{nat_le}
 use Rattle.std.proofs.lemmas.Iterator.Splits.{YieldsList-from_str_split}
 use Rattle.std.proofs.lemmas.Iterator.Search.{all_from_yields_List}
-use Rattle.mq_questions.proofs.ask.lists.is_short.Goals as goal
+use Rattle.mq_questions.proofs.ask.lists.has_short_levels.Goals as goal
 
 pub returns : goal.returns
 returns c = all_from_yields_List (λ level. nat_le (length level) 300) _ _ _ c.all.ensures.ran
