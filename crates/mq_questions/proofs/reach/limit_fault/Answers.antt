@@ -1,4 +1,4 @@
-use Rattle.std.proofs.Common.{ap, sym, ◌∙◌, arith}
+use Rattle.std.proofs.Common.{ap, sym, ◌∙◌, arith, rules}
 use Rattle.mq_questions.specs.Limits.{has_short_levels}
 use Rattle.mq_questions.proofs.ListLemmas.{filter_usable}
 use Rattle.mq_questions.proofs.reach.limit_fault.Goals as goal
@@ -12,3 +12,6 @@ returns-clause-none c = λ rows usable. record {
       (ap has_short_levels (sym c.text.ensures.text)
       ∙ sym c.has_short_levels.ensures ∙ c.if-not-has_short_levels.false);
 }
+
+pub returns-then-not-is_short_user-clause-some : goal.returns-then-not-is_short_user-clause-some
+returns-then-not-is_short_user-clause-some c = search rules

@@ -1,4 +1,4 @@
-use Rattle.std.proofs.Common.{refl}
+use Rattle.std.proofs.Common.{refl, rules}
 use Rattle.mq_world.specs.World.{SubscriptionOptions}
 use Rattle.mq_reach.proofs.search.Search.apply.Goals as goal
 
@@ -12,3 +12,6 @@ returns-in-Subscribe-clause-err c =
       identifier = c.in-Subscribe.id;
     } in
     rw c.in-Subscribe.is (c.subscribe.ensures.err options refl)
+
+pub returns-in-Disconnect-clause-ok : goal.returns-in-Disconnect-clause-ok
+returns-in-Disconnect-clause-ok c = search rules
