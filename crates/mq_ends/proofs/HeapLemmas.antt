@@ -1,84 +1,75 @@
--- A heap's items as moments.
-use Rattle.std.proofs.Common.{◌≡◌, ℕ, ◌<◌, ◌==◌, false, List, [], ◌∷◌, ◌++◌, map, length, get_or}
-use Rattle.std.proofs.Common.{nat_lt, refl, sym, ◌∙◌, ap, subst, arith}
-use Rattle.std.specs.List.{filter}
+-- A heap's items as ends with clients.
+use Rattle.std.proofs.Common.{◌≡◌, ℕ, ◌<◌, ◌≤◌, nat_le, Bool, true, false, ◌||◌, List, [], ◌∷◌, map}
+use Rattle.std.proofs.Common.{length, get_or, refl, sym, ◌∙◌, ap, subst, arith}
+use Rattle.std.specs.List.{list_any}
 use Rattle.std.specs.List.Sorted.{IsPermutation}
-use Rattle.std.specs.Ordering.{is_lt, nat_cmp}
+use Rattle.std.specs.Ordering.{is_lt, nat_cmp, ordering_then}
 use Rattle.std.specs.BinaryHeap.{IsUpperBound}
+use Rattle.std.specs.declared.alloc.Global.{Global}
+use Rattle.std.specs.declared.cmp.Ordering.{Ordering}
+use Rattle.std.specs.declared.cmp.Ordering.TheVariants.{Less, Equal, Greater}
 use Rattle.std.specs.declared.cmp.Reverse.{Reverse}
-use Rattle.std.proofs.lemmas.List.Sorted.{sum_by-IsPermutation, IsPermutation-map}
-use Rattle.std.proofs.lemmas.List.Sums.{length-filter}
+use Rattle.std.specs.declared.rc.RcStr.{RcStr}
+use Rattle.std.proofs.lemmas.List.Sorted.{list_any-IsPermutation, IsPermutation-map}
+use Rattle.std.proofs.lemmas.List.Sorted.{length_permutation}
 use Rattle.std.proofs.lemmas.Bool.Decides.{nat_tests}
-use Rattle.mq_ends.specs.Counts.{count_of, count_before, IsFirst, SameEnds}
-use Rattle.mq_ends.proofs.CountLemmas.{one_if, count-cons, count_of-here, IsFirst-unique}
+use Rattle.mq_ends.specs.Dues.{Due, due_of, entry_cmp, AreWith, AreRest}
 
-abbrev pub moments : List (Reverse ℕ) → List ℕ
-moments = map (λ r. r.0)
+abbrev Item : Type 0
+Item = Reverse ℕ × RcStr Global
 
-pub SameEnds-permuted : (xs ys : List (Reverse ℕ)) → IsPermutation xs ys
-    → SameEnds (moments xs) (moments ys)
-SameEnds-permuted xs ys h = λ p.
-    let moved = IsPermutation-map (λ (r : Reverse ℕ). r.0) xs ys h in
-    length-filter p (moments xs)
-    ∙ sym (sum_by-IsPermutation (λ x. one_if (p x)) (moments xs) (moments ys) moved)
-    ∙ sym (length-filter p (moments ys))
+abbrev dues : List Item → List Due
+dues = map due_of
 
-not_before : (x y : ℕ) → is_lt (nat_cmp y x) ≡ false → one_if (nat_lt y x) ≡ 0
-not_before x y h = grind (arith, nat_tests)
+pub pushed : (x : Item) (xs ys : List Item) → IsPermutation (x ∷ xs) ys
+    → AreWith (due_of x) (dues xs) (dues ys)
+pushed x xs ys h =
+    let moved = IsPermutation-map due_of (x ∷ xs) ys h in
+    record {
+      count = (let long = length_permutation (dues (x ∷ xs)) (dues ys) moved in omega arith);
+      tests = λ test. sym (list_any-IsPermutation test (dues (x ∷ xs)) (dues ys) moved);
+    }
 
--- none is before the top
-pub count_before-top : (x : Reverse ℕ) (ys : List (Reverse ℕ))
-    → IsUpperBound (λ a b. nat_cmp b.0 a.0) x ys → count_before x.0 (moments ys) ≡ 0
-count_before-top x [] h = refl
-count_before-top x (y ∷ ys) h =
-    omega (
-      arith,
-      not_before x.0 y.0 h.0,
-      count-cons (λ z. nat_lt z x.0) y.0 (moments ys),
-      count_before-top x ys h.1,
-    )
+pub popped : (x : Item) (xs ys : List Item) → x ≡ get_or xs 0 x → IsPermutation xs (x ∷ ys)
+    → AreRest (dues xs) (dues ys)
+popped x [] ys top h = absurd
+    (let long = length_permutation [] (x ∷ ys) h in omega arith)
+popped x (y ∷ zs) ys top h =
+    let moved = IsPermutation-map due_of (y ∷ zs) (x ∷ ys) h in
+    subst (λ due. AreWith due (dues ys) (dues (y ∷ zs))) (ap due_of top) (record {
+      count = (let long = length_permutation (dues (y ∷ zs)) (dues (x ∷ ys)) moved in
+          omega arith);
+      tests = λ test. list_any-IsPermutation test (dues (y ∷ zs)) (dues (x ∷ ys)) moved;
+    })
 
-pub SameEnds-pushed : (x : Reverse ℕ) (xs ys : List (Reverse ℕ)) → IsPermutation (x ∷ xs) ys
-    → SameEnds (moments ys) (x.0 ∷ moments xs)
-SameEnds-pushed x xs ys h = λ p. sym (SameEnds-permuted (x ∷ xs) ys h p)
+not_less : (r s : Ordering) → is_lt (ordering_then r s) ≡ false → is_lt r ≡ false
+not_less Less s h = h
+not_less Equal s h = refl
+not_less Greater s h = refl
 
-pub SameEnds-popped : (x : Reverse ℕ) (xs ys : List (Reverse ℕ)) → IsPermutation xs (x ∷ ys)
-    → SameEnds (moments xs) (x.0 ∷ moments ys)
-SameEnds-popped x xs ys h = SameEnds-permuted xs (x ∷ ys) h
+not_before : (m n : ℕ) → is_lt (nat_cmp n m) ≡ false → m ≤ n
+not_before m n h = grind (arith, nat_tests)
 
-moments-append : (xs ys : List (Reverse ℕ)) → moments (xs ++ ys) ≡ moments xs ++ moments ys
-moments-append [] ys = refl
-moments-append (x ∷ xs) ys = ap (λ l. x.0 ∷ l) (moments-append xs ys)
+none_until : (moment : ℕ) (x : Item) (xs : List Item) → nat_le x.0.0 moment ≡ false
+    → IsUpperBound entry_cmp x xs → list_any (λ due. nat_le due.0 moment) (dues xs) ≡ false
+none_until moment x [] h above = refl
+none_until moment x (y ∷ ys) h above =
+    let later : x.0.0 ≤ y.0.0 = not_before x.0.0 y.0.0 (not_less _ _ above.0) in
+    let here : nat_le y.0.0 moment ≡ false = grind (arith, nat_tests) in
+    ap (λ b. b || list_any (λ due. nat_le due.0 moment) (dues ys)) here
+    ∙ none_until moment x ys h above.1
 
-pub SameEnds-appended : (xs ys zs : List (Reverse ℕ)) → IsPermutation (xs ++ ys) zs
-    → SameEnds (moments zs) (moments xs ++ moments ys)
-SameEnds-appended xs ys zs h = λ p. sym (SameEnds-permuted (xs ++ ys) zs h p)
-    ∙ ap (λ l. length (filter p l)) (moments-append xs ys)
-
--- the top is the first
-pub IsFirst-top : (x : Reverse ℕ) (xs ys : List (Reverse ℕ)) → IsPermutation xs (x ∷ ys)
-    → IsUpperBound (λ a b. nat_cmp b.0 a.0) x xs → IsFirst x.0 (moments xs)
-IsFirst-top x xs ys moved above = record {
-  stands = (let here = count_of-here x.0 (moments ys) in
-      omega (arith, SameEnds-popped x xs ys moved (λ y. y == x.0)));
-  none_before = count_before-top x xs above;
-}
-
-pub IsFirst-peeked : (x : Reverse ℕ) (xs : List (Reverse ℕ)) → x ≡ get_or xs 0 x → 0 < length xs
-    → IsUpperBound (λ a b. nat_cmp b.0 a.0) x xs → IsFirst x.0 (moments xs)
-IsFirst-peeked x [] is some above = absurd (omega arith)
-IsFirst-peeked x (y ∷ ys) is some above = record {
-  stands = (let here : count_of x.0 (y.0 ∷ moments ys) ≡ count_of x.0 (x.0 ∷ moments ys) =
-      ap (λ (r : Reverse ℕ). count_of x.0 (r.0 ∷ moments ys)) (sym is) in
-      omega (arith, count_of-here x.0 (moments ys)));
-  none_before = count_before-top x (y ∷ ys) above;
-}
-
--- the first leaves
-pub SameEnds-first : (x : Reverse ℕ) (xs ys : List (Reverse ℕ)) → IsPermutation xs (x ∷ ys)
-    → IsUpperBound (λ a b. nat_cmp b.0 a.0) x xs → (first : ℕ) → IsFirst first (moments xs)
-    → SameEnds (moments xs) (first ∷ moments ys)
-SameEnds-first x xs ys moved above first is =
-    subst (λ n. SameEnds (moments xs) (n ∷ moments ys))
-    (IsFirst-unique x.0 first (moments xs) (IsFirst-top x xs ys moved above) is)
-    (SameEnds-popped x xs ys moved)
+-- the first tells of all
+pub until-first : (moment : ℕ) (x : Item) (xs : List Item) → x ≡ get_or xs 0 x → 0 < length xs
+    → IsUpperBound entry_cmp x xs
+    → nat_le x.0.0 moment ≡ list_any (λ due. nat_le due.0 moment) (dues xs)
+until-first moment x [] top some above = absurd (omega arith)
+until-first moment x (y ∷ ys) top some above =
+    let any : Bool = list_any (λ due. nat_le due.0 moment) (dues ys) in
+    let P : Bool → Type 0 = λ b. nat_le x.0.0 moment ≡ b
+    → b ≡ list_any (λ due. nat_le due.0 moment) (dues (y ∷ ys)) in
+    (elim (nat_le x.0.0 moment) as P [
+      | true ↦ λ e. ap (λ b. b || any)
+          (sym e ∙ ap (λ (i : Item). nat_le i.0.0 moment) top)
+      | false ↦ λ e. sym (none_until moment x (y ∷ ys) e above)
+    ]) refl

@@ -1,5 +1,1 @@
-mod CountLemmas
-pub mod SameLemmas
 mod HeapLemmas
-mod IndexLemmas
-mod PairLemmas

@@ -1,4 +1,1 @@
-pub mod Counts
-pub mod Moments
-pub mod Pairs
-pub mod Index
+pub mod Dues

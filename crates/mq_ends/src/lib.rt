@@ -1,125 +1,109 @@
-//! Moments at which something ends, of which the earliest is at hand.
+//! The ends of sessions, of which a first one is at hand, each with the id of its client.
 //!
-//! `reserve` makes all room, and no other call takes memory. Each takes logarithmic time, amortised, for each
-//! end that it adds or removes: one that is removed before it comes first is remembered as gone, and taken
-//! out when it comes first, or when as many are gone as there is room for. So at most thrice as many moments
-//! are kept as there is room for.
+//! `with_room` makes all room, and no other call takes memory. An end that is added or taken out costs a number of steps
+//! that is logarithmic in how many there are.
 #![tactic(auto)]
 
-ghost use Rattle.std.specs.Prelude.{◌≡◌, ◌<◌, ◌≤◌, max, not, nat_le, [], ◌∷◌, length, filter, All};
-ghost use Rattle.std.specs.Prelude.{Contains, IfNone, IfSome, OnOk, OnErr};
-ghost use Rattle.mq_ends.specs.Counts.{SameEnds};
+ghost use Rattle.std.specs.Prelude.{◌≡◌, ◌+◌, ◌<◌, ◌≤◌, nat_le, false, [], length, IfOk, IsTrue};
+ghost use Rattle.std.specs.Option.{option_map, option_map_or};
+ghost use Rattle.std.specs.List.{list_any};
+ghost use Rattle.std.specs.Rc.{rc_str_bytes};
+ghost use Rattle.mq_ends.specs.Dues.{first_of, AreWith, AreRest};
 
-mod pair;
-mod queue;
-
-use pair::{settle, sort_out};
-use queue::Queue;
 use std::alloc::{AllocError, Global};
+use std::cmp::Reverse;
+use std::collections::BinaryHeap;
 use std::marker::Model;
+use std::rc::RcStr;
 
-/// Ends, in seconds, each as often as it was added and not removed.
+/// Ends, in seconds, with clients, each as often as it was added and not taken out.
 #[derive(Debug, Drop)]
 pub struct Ends {
-    // Those that are gone are among them still, but never first.
-    ends: Queue,
-    gone: Queue,
-    // Has room to sort out what is gone, and is empty otherwise.
-    spare: Queue,
-    room: usize,
+    heap: BinaryHeap<(Reverse<u64>, RcStr)>,
 }
 
 impl Model for Ends {
-    ghost use Rattle.mq_ends.specs.Moments.{Moments};
-    ghost use Rattle.mq_ends.specs.Pairs.{without};
-    ghost use Rattle.mq_ends.specs.Index.{IsIndex};
+    ghost use Rattle.std.specs.Prelude.{◌≡◌, map, length};
+    ghost use Rattle.std.specs.BinaryHeap.{heap_items, heap_len, heap_capacity, IsHeap};
+    ghost use Rattle.mq_ends.specs.Dues.{Dues, due_of};
+    ghost use Rattle.mq_ends.specs.Dues.{entry_cmp};
 
-    ghost Value = { Moments };
+    ghost Value = { Dues };
 
-    ghost view = { λ e. record { ends = without e.gone.ends e.ends.ends; room = e.room } };
+    ghost view = { λ e. record {
+      entries = map due_of (heap_items e.heap);
+      room = heap_capacity e.heap;
+    } };
 
-    ghost invariant = { λ e. IsIndex e.ends e.gone e.spare e.room };
+    ghost invariant = { λ e. IsHeap entry_cmp (heap_items e.heap)
+        × (heap_len e.heap ≡ length (heap_items e.heap)) };
 }
 
 impl Ends {
     pub fn new(alloc: Global) -> Self
-        ensures ends { result.ends ≡ [] }
-        ensures room { result.room ≡ 0 }
+        ensures { result.entries ≡ [] }
     {
         Ends {
-            ends: Queue::new(alloc),
-            gone: Queue::new(alloc),
-            spare: Queue::new(alloc),
-            room: 0,
+            heap: BinaryHeap::new(alloc),
         }
     }
 
-    /// The earliest end, if there is one.
-    pub fn first(&self) -> Option<u64>
-        ensures none { IfNone result (self.now.ends ≡ []) }
-        ensures some { IfSome result (λ first. Contains self.now.ends first) }
-        ensures earliest { IfSome result (λ first. All (λ end. first ≤ end) self.now.ends) }
+    pub fn with_room(alloc: Global, room: usize) -> Result<Self, AllocError>
+        ensures entries { IfOk result (λ ends. ends.entries ≡ []) }
+        ensures room { IfOk result (λ ends. room ≤ ends.room) }
     {
-        self.ends.first()
+        let heap = BinaryHeap::with_capacity(alloc, room)?;
+        Ok(Ends { heap })
     }
 
-    /// Makes room for that many ends in all. Without memory for them all stays as it was.
-    pub fn reserve(&mut self, ends: usize) -> Result<(), AllocError>
-        ensures ends { self.new.ends ≡ self.old.ends }
-        ensures ok { OnOk result (self.new.room ≡ max self.old.room ends) }
-        ensures err { OnErr result (self.new.room ≡ self.old.room) }
-        ensures full { OnErr result (self.old.room < ends) }
+    /// Whether there is room for so many more.
+    pub fn has_room(&self, more: usize) -> bool
+        ensures { IsTrue result → length self.now.entries + more ≤ self.now.room }
     {
-        if ends <= self.room {
-            return Ok(());
+        match self.heap.len().checked_add(more) {
+            None => false,
+            Some(all) => all <= self.heap.capacity(),
         }
-        // As many again may be gone.
-        let both = ends.checked_mul(2).ok_or(AllocError)?;
-        self.ends.reserve(both)?;
-        self.gone.reserve(ends)?;
-        self.spare.reserve(ends)?;
-        self.room = ends;
-        Ok(())
     }
 
-    /// Adds one more end. It takes no memory.
-    pub fn add(&mut self, end: u64)
-        requires { length self.old.ends < self.old.room }
-        ensures ends { SameEnds self.new.ends (end ∷ self.old.ends) }
+    /// A first end and its client, if there is one.
+    pub fn first(&self) -> Option<(u64, &RcStr)>
+        ensures { option_map (λ first. (first.0, rc_str_bytes first.1.now)) result
+            ≡ first_of self.now.entries }
+    {
+        let first = self.heap.peek()?;
+        Some((first.0.0, &first.1))
+    }
+
+    /// Whether an end is not after the moment. It looks at the first alone.
+    pub fn any_until(&self, moment: u64) -> bool
+        ensures all { result ≡ list_any (λ due. nat_le due.0 moment) self.now.entries }
+        ensures first { result
+            ≡ option_map_or (λ due. nat_le due.0 moment) (first_of self.now.entries) false }
+    {
+        match self.heap.peek() {
+            None => false,
+            Some(first) => first.0.0 <= moment,
+        }
+    }
+
+    /// Adds an end. It takes no memory.
+    pub fn add(&mut self, end: u64, client: RcStr)
+        requires { length self.old.entries < self.old.room }
+        ensures entries { AreWith (end, rc_str_bytes client) self.old.entries self.new.entries }
+        ensures room { self.old.room ≤ self.new.room }
+    {
+        self.heap.push((Reverse(end), client)).unwrap();
+    }
+
+    /// Takes the first end out. Gives its client.
+    pub fn pop(&mut self) -> Option<RcStr>
+        ensures client { option_map rc_str_bytes result
+            ≡ option_map (λ due. due.1) (first_of self.old.entries) }
+        ensures entries { AreRest self.old.entries self.new.entries }
         ensures room { self.new.room ≡ self.old.room }
     {
-        self.ends.add(end);
-    }
-
-    /// Removes one of the ends at this moment. It takes no memory.
-    pub fn remove(&mut self, end: u64)
-        requires { Contains self.old.ends end }
-        ensures ends { SameEnds self.old.ends (end ∷ self.new.ends) }
-        ensures room { self.new.room ≡ self.old.room }
-    {
-        if self.ends.is_first(end) {
-            self.ends.pop();
-            settle(&mut self.ends, &mut self.gone);
-            return;
-        }
-        self.gone.add(end);
-        if self.gone.len() < self.room {
-            return;
-        }
-        sort_out(&mut self.ends, &mut self.gone, &mut self.spare);
-    }
-
-    /// Removes the ends that are not after the moment. It takes no memory.
-    pub fn remove_until(&mut self, moment: u64)
-        ensures ends { SameEnds self.new.ends
-            (filter (λ end. not (nat_le end moment)) self.old.ends) }
-        ensures room { self.new.room ≡ self.old.room }
-    {
-        while let Some(first) = self.first() {
-            if moment < first {
-                return;
-            }
-            self.remove(first);
-        }
+        let (_, client) = self.heap.pop()?;
+        Some(client)
     }
 }

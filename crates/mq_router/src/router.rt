@@ -26,7 +26,7 @@ mod ended;
 use crate::delivery::{Deliveries, make_copies};
 use crate::replies::{published, reason_to_leave, with_reason};
 use crate::texts::{copied, is_shared_no_local, parse_filter, parse_name, read_access};
-use ended::remove_ended;
+use ended::end_sessions;
 use mq_acl::Acl;
 use mq_retained::{Receiver, Retained};
 use mq_sessions::{Clock, Readers, Sessions, may_publish};
@@ -407,8 +407,7 @@ impl Router {
             return Err(Refusal::ClockTooFar);
         };
         self.clock = clock;
-        remove_ended(&self.sessions, &mut self.subscriptions, clock.moment);
-        self.sessions.end(clock.moment);
+        end_sessions(&mut self.sessions, &mut self.subscriptions, clock.moment);
         self.retained.advance(clock.moment, steps);
         Ok(with_reason(self.alloc, 0))
     }

@@ -1,311 +1,297 @@
--- The ends of sessions, as one of them is put, edited or taken out, and as they end.
-use Rattle.std.proofs.Common.{◌≡◌, ℕ, ◌+◌, ◌≤◌, nat_le, Bool, true, false, true≢false, cond, ◌||◌}
-use Rattle.std.proofs.Common.{not, List, [], ◌∷◌, ◌++◌, length, Option, Some, None, ◌<◌, zero}
-use Rattle.std.proofs.Common.{suc, get_or, if◌then◌else◌, inl, inr, refl, sym, ◌∙◌, ap, subst}
-use Rattle.std.proofs.Common.{arith}
-use Rattle.std.specs.Option.{option_to_list, option_and_then, IfSome}
-use Rattle.std.specs.Ordering.{is_eq, match_ordering}
-use Rattle.std.specs.List.{filter, cons_option, list_any, All, Contains}
+-- The index of the ends of sessions.
+use Rattle.std.proofs.Common.{◌≡◌, ℕ, ◌+◌, ◌≤◌, ◌==◌, nat_le, Bool, true, false, true≢false}
+use Rattle.std.proofs.Common.{cond, ◌||◌, ◌&&◌, not, List, [], ◌∷◌, length, Option, Some, None}
+use Rattle.std.proofs.Common.{refl, sym, ◌∙◌, ap, subst, arith}
+use Rattle.std.proofs.Common.{if◌then◌else◌}
+use Rattle.std.specs.Option.{option_eq, option_map_or, IfSome}
+use Rattle.std.specs.List.{filter, list_any, AllByRecursion}
 use Rattle.std.specs.List.Sorted.{IsStrictlySortedBy}
-use Rattle.std.specs.Map.{lookup, set_value, remove_entry, keys_of}
-use Rattle.std.specs.BTreeMap.{insert_entry}
-use Rattle.std.specs.Cmp.Lexicographic.{on_texts}
-use Rattle.std.specs.declared.cmp.Ordering.TheVariants.{Less, Equal, Greater}
-use Rattle.std.specs.Rc.{rc_str_bytes}
-use Rattle.mq_ends.specs.Counts.{SameEnds}
-use Rattle.mq_ends.proofs.SameLemmas.{SameEnds-sym, SameEnds-trans, SameEnds-length}
-use Rattle.mq_ends.proofs.SameLemmas.{SameEnds-Contains}
-use Rattle.mq_world.specs.Keys.{Key, key_cmp}
+use Rattle.std.specs.Map.{lookup, keys_of}
+use borrow.Author.Tests.{eqb-true}
+use Rattle.std.proofs.lemmas.Bool.Decides.{nat_tests}
+use Rattle.mq_ends.specs.Dues.{Due, Dues, first_of, same_due, is_in, AreWith, AreRest}
+use Rattle.mq_world.specs.Keys.{key_cmp}
 use Rattle.mq_world.specs.World.{Session, Connected, Away, has_id}
+use Rattle.mq_world.specs.Lists.{Text, same_text}
 use Rattle.mq_world.specs.Clock.{is_over}
-use Rattle.mq_world.specs.Sessions.{has_ended}
+use Rattle.mq_world.specs.Sessions.{connected, has_ended, is_present}
 use Rattle.mq_world.specs.Waiting.{has_place, with_waiting}
-use Rattle.mq_world.proofs.OrderLemmas.{length-filter-append, equal_from}
-use Rattle.mq_world.proofs.BoolLemmas.{or_true, pick}
-use Rattle.mq_world.proofs.ListLemmas.{filter_map-map, filter_map-same}
-use Rattle.mq_world.proofs.SameLemmas.{not_le, le_cases}
-use Rattle.mq_world.proofs.Splits.{Split, IsApart, split, set_same, put_gap, put_found}
+use Rattle.mq_world.proofs.BoolLemmas.{or_false, or_true, left_true, and_false_right, pick}
+use Rattle.mq_world.proofs.ListLemmas.{none-any, length-filter-most, none_again}
+use Rattle.mq_world.proofs.ListLemmas.{list_any-map, list_any-same}
+use Rattle.mq_world.proofs.SameLemmas.{filter-swap}
+use Rattle.mq_world.proofs.OrderLemmas.{all_weaker, all_filtered}
+use Rattle.mq_world.proofs.OrderLemmas.{same_text-itself}
 use Rattle.mq_sessions.specs.Queue.{Begin, queued, edited, queued_one}
-use Rattle.mq_sessions.specs.Ends.{end_of, ends_of, ends_at}
+use Rattle.mq_sessions.specs.Ends.{end_of, ends_so, IsListed, AreListed, IsFirstLive, AreIndexed}
+use Rattle.mq_sessions.specs.Ends.{Entry, shown_in}
 use Rattle.mq_sessions.specs.Views.{session_in, shown}
 use Rattle.mq_sessions.specs.declared.sessions.session.Session as kept
-use Rattle.std.proofs.lemmas.List.Folds.{list_any_none}
-use Rattle.std.proofs.lemmas.List.Elements.{All-weaker}
+use Rattle.mq_sessions.proofs.SessionLemmas.{apart, finds, finds-is}
+use Rattle.mq_sessions.proofs.ReachedLemmas.{all_mapped}
 
-abbrev Entry : Type 0
-Entry = Key × kept.Session
+-- ## Tests
 
--- ## The same ends
+pub or_parts : (a b : Bool) → (a || b) ≡ false → (a ≡ false) × (b ≡ false)
+or_parts true b h = absurd (true≢false h)
+or_parts false b h = (refl, h)
 
-swapped : (a b c x y u v : ℕ) → x ≡ a + u → u ≡ b + c → y ≡ b + v → v ≡ a + c → x ≡ y
-swapped a b c x y u v h k l m = omega arith
+pub or_right : (a b : Bool) → a ≡ false → (a || b) ≡ true → b ≡ true
+or_right a b fails h = sym (ap (λ c. c || b) fails) ∙ h
 
-same-swap : (us bs cs : List ℕ) → SameEnds (us ++ (bs ++ cs)) (bs ++ (us ++ cs))
-same-swap us bs cs = λ test.
-    swapped (length (filter test us)) (length (filter test bs)) (length (filter test cs)) _ _ _ _
-    (length-filter-append test us (bs ++ cs)) (length-filter-append test bs cs)
-    (length-filter-append test bs (us ++ cs)) (length-filter-append test us cs)
+all_both : {X : Type 0} (P Q : X → Type 0) (xs : List X) → AllByRecursion P xs
+    → AllByRecursion Q xs → AllByRecursion (λ x. P x × Q x) xs
+all_both P Q [] h k = tt
+all_both P Q (x ∷ xs) h k = ((h.0, k.0), all_both P Q xs h.1 k.1)
 
-pub same-behind : (us xs ys : List ℕ) → SameEnds xs ys → SameEnds (us ++ xs) (us ++ ys)
-same-behind us xs ys h = λ test.
-    length-filter-append test us xs ∙ ap (λ n. length (filter test us) + n) (h test)
-    ∙ sym (length-filter-append test us ys)
+-- ## Whose end it is
 
-cons-is : (o : Option ℕ) (xs : List ℕ) → cons_option o xs ≡ option_to_list o ++ xs
-cons-is None xs = refl
-cons-is (Some x) xs = refl
+pub ends-other : (due : Due) (s : Session) → has_id due.1 s ≡ false → ends_so due s ≡ false
+ends-other due s h =
+    elim (end_of s) as (λ o. option_map_or (λ end. same_due (end, s.id) due) o false ≡ false) [
+      | None ↦ refl
+      | Some end ↦ and_false_right (end == due.0) (has_id due.1 s) h
+    ]
 
--- ## One session among others
-
--- the ends of sessions with one more among them
-ends-cut : (front back : List Entry) (k : Key) (v : kept.Session) →
-    SameEnds (ends_at (front ++ (k, v) ∷ back))
-    (option_to_list (end_of (shown v)) ++ ends_at (front ++ back))
-ends-cut [] back k v =
-    subst (λ l. SameEnds l (option_to_list (end_of (shown v)) ++ ends_at back))
-    (sym (cons-is (end_of (shown v)) (ends_at back)))
-    (λ test. refl)
-ends-cut (e ∷ front) back k v =
-    let here : List ℕ = option_to_list (end_of (shown v)) in
-    let first : Option ℕ = end_of (session_in e) in
-    let rest : List ℕ = ends_at (front ++ back) in
-    subst (λ l. SameEnds l (here ++ cons_option first rest))
-    (sym (cons-is first (ends_at (front ++ (k, v) ∷ back))))
-    (subst (λ l. SameEnds (option_to_list first ++ ends_at (front ++ (k, v) ∷ back)) (here ++ l))
-    (sym (cons-is first rest))
-    (SameEnds-trans (option_to_list first ++ ends_at (front ++ (k, v) ∷ back))
-    (option_to_list first ++ (here ++ rest)) (here ++ (option_to_list first ++ rest))
-    (same-behind (option_to_list first) (ends_at (front ++ (k, v) ∷ back)) (here ++ rest)
-    (ends-cut front back k v))
-    (same-swap (option_to_list first) here rest)))
-
--- the session that a look-up finds is edited
-pub ends-set : (test : Key → Bool) → IsApart key_cmp test → (u v : kept.Session) (es : List Entry)
-    → lookup test es ≡ Some u →
-    IsStrictlySortedBy key_cmp (keys_of es) →
-    SameEnds (option_to_list (end_of (shown v)) ++ ends_at es)
-    (option_to_list (end_of (shown u)) ++ ends_at (set_value test es v))
-ends-set test far u v es found sorted =
-    let at : Split test es u = split key_cmp test far es u sorted found in
-    let from : List ℕ = option_to_list (end_of (shown u)) in
-    let to : List ℕ = option_to_list (end_of (shown v)) in
-    let rest : List ℕ = ends_at (at.front ++ at.back) in
-    subst (λ l. SameEnds (to ++ ends_at l) (from ++ ends_at (set_value test es v))) (sym at.is)
-    (subst (λ l. SameEnds (to ++ ends_at (at.front ++ (at.key, u) ∷ at.back)) (from ++ ends_at l))
-    (sym (at.set v))
-    (SameEnds-trans (to ++ ends_at (at.front ++ (at.key, u) ∷ at.back)) (to ++ (from ++ rest))
-    (from ++ ends_at (at.front ++ (at.key, v) ∷ at.back))
-    (same-behind to (ends_at (at.front ++ (at.key, u) ∷ at.back)) (from ++ rest)
-    (ends-cut at.front at.back at.key u))
-    (SameEnds-trans (to ++ (from ++ rest)) (from ++ (to ++ rest))
-    (from ++ ends_at (at.front ++ (at.key, v) ∷ at.back))
-    (same-swap to from rest)
-    (same-behind from (to ++ rest) (ends_at (at.front ++ (at.key, v) ∷ at.back))
-    (SameEnds-sym (ends_at (at.front ++ (at.key, v) ∷ at.back)) (to ++ rest)
-    (ends-cut at.front at.back at.key v))))))
-
--- it is taken out
-pub ends-out : (test : Key → Bool) → IsApart key_cmp test → (u : kept.Session) (es : List Entry)
-    → lookup test es ≡ Some u →
-    IsStrictlySortedBy key_cmp (keys_of es) →
-    SameEnds (ends_at es) (option_to_list (end_of (shown u)) ++ ends_at (remove_entry test es))
-ends-out test far u es found sorted =
-    let at : Split test es u = split key_cmp test far es u sorted found in
-    let out : remove_entry test es ≡ at.front ++ at.back =
-    ap (remove_entry test) (sym (set_same test es u found)) ∙ at.out u in
-    subst (λ l. SameEnds (ends_at es) (option_to_list (end_of (shown u)) ++ ends_at l)) (sym out)
-    (subst (λ l. SameEnds (ends_at l)
-    (option_to_list (end_of (shown u)) ++ ends_at (at.front ++ at.back))) (sym at.is)
-    (ends-cut at.front at.back at.key u))
-
--- the session of a client that connects takes the place of an older one, if there is one; it has no end
-pub ends-put : (k : Key) (v : kept.Session) (es : List Entry) → end_of (shown v) ≡ None →
-    IsStrictlySortedBy key_cmp (keys_of es) →
-    (o : Option kept.Session) → lookup (λ y. is_eq (key_cmp k y)) es ≡ o →
-    SameEnds (ends_at es) (option_to_list (option_and_then (λ u. end_of (shown u)) o)
-    ++ ends_at (insert_entry key_cmp es k v))
-ends-put k v es none sorted None found =
-    let at = put_gap key_cmp k es found in
-    subst (λ l. SameEnds (ends_at es) (ends_at l)) (sym (at.put v))
-    (subst (λ l. SameEnds (ends_at l) (ends_at (at.gap.front ++ (k, v) ∷ at.gap.back)))
-    (sym at.gap.is)
-    (SameEnds-sym (ends_at (at.gap.front ++ (k, v) ∷ at.gap.back))
-    (ends_at (at.gap.front ++ at.gap.back))
-    (subst (λ (o : Option ℕ). SameEnds (ends_at (at.gap.front ++ (k, v) ∷ at.gap.back))
-    (option_to_list o ++ ends_at (at.gap.front ++ at.gap.back))) none
-    (ends-cut at.gap.front at.gap.back k v))))
-ends-put k v es none sorted (Some u) found =
-    let test : Key → Bool = λ y. is_eq (key_cmp k y) in
-    let from : List ℕ = option_to_list (end_of (shown u)) in
-    subst (λ l. SameEnds (ends_at es) (from ++ ends_at l))
-    (sym (put_found key_cmp (on_texts rc_str_bytes) k es u v sorted found))
-    (subst (λ (o : Option ℕ). SameEnds (option_to_list o ++ ends_at es)
-    (from ++ ends_at (set_value test es v))) none
-    (ends-set test apart-key u v es found sorted))
+ends-own : (due : Due) (s : Session) → has_id due.1 s ≡ true
+    → ends_so due s ≡ option_map_or (λ end. end == due.0) (end_of s) false
+ends-own due s h =
+    elim (end_of s) as (λ o. option_map_or (λ end. same_due (end, s.id) due) o false
+    ≡ option_map_or (λ end. end == due.0) o false) [
+      | None ↦ refl
+      | Some end ↦ ap (λ b. (end == due.0) && b) h ∙ always (end == due.0)
+    ]
   where
-    apart-key : IsApart key_cmp (λ y. is_eq (key_cmp k y))
-    apart-key x y h less = ap is_eq ((on_texts rc_str_bytes).congr k x y (equal_from _ h) ∙ less)
+    always : (b : Bool) → (b && true) ≡ b
+    always true = refl
+    always false = refl
 
--- ## All of them
+pub ends-id : (due : Due) (s : Session) → ends_so due s ≡ true → has_id due.1 s ≡ true
+ends-id due s h = pick (has_id due.1 s) (λ t. t)
+    (λ f. absurd (true≢false (sym h ∙ ends-other due s f)))
 
-pub ends-fewer : (sessions : List Session) → length (ends_of sessions) ≤ length sessions
-ends-fewer [] = omega arith
-ends-fewer (s ∷ ss) =
-    let rest = ends-fewer ss in
-    elim (end_of s) as (λ o. length (cons_option o (ends_of ss)) ≤ length (s ∷ ss)) [
-      | None ↦ omega arith
-      | Some e ↦ omega arith
-    ]
-
-pub ended-any : (moment : ℕ) (sessions : List Session) →
-    list_any (has_ended moment) sessions ≡ list_any (λ end. nat_le end moment) (ends_of sessions)
-ended-any moment [] = refl
-ended-any moment (s ∷ ss) =
-    let rest = ended-any moment ss in
-    let any : List ℕ → Bool = list_any (λ end. nat_le end moment) in
-    elim s.presence as (λ p. (elim p [ Connected ↦ false | Away end ↦ is_over moment end ]
-    || list_any (has_ended moment) ss)
-    ≡ any (cons_option (elim p [ Connected ↦ None | Away end ↦ end ]) (ends_of ss))) [
-      | Connected ↦ rest
-      | Away end ↦ elim end as (λ o. (is_over moment o || list_any (has_ended moment) ss)
-          ≡ any (cons_option o (ends_of ss))) [
-            | None ↦ rest
-            | Some e ↦ ap (λ b. nat_le e moment || b) rest
+pub ends-moment : (moment : ℕ) (due : Due) (s : Session) → nat_le due.0 moment ≡ true
+    → ends_so due s ≡ true → has_ended moment s ≡ true
+ends-moment moment due s h =
+    elim s.presence as (λ p. option_map_or (λ end. same_due (end, s.id) due)
+    (elim p [ Connected ↦ None | Away end ↦ end ]) false ≡ true
+    → elim p [ Connected ↦ false | Away end ↦ is_over moment end ] ≡ true) [
+      | Connected ↦ λ k. absurd (true≢false (sym k))
+      | Away end ↦ elim end as (λ o. option_map_or (λ end. same_due (end, s.id) due) o false
+          ≡ true → is_over moment o ≡ true) [
+            | None ↦ λ k. absurd (true≢false (sym k))
+            | Some e ↦ λ k. ap (λ n. nat_le n moment)
+                (eqb-true e due.0 (left_true (e == due.0) _ k)) ∙ h
           ]
     ]
 
-pub ends-left : (moment : ℕ) (sessions : List Session) →
-    ends_of (filter (λ s. not (has_ended moment s)) sessions)
-    ≡ filter (λ end. not (nat_le end moment)) (ends_of sessions)
-ends-left moment [] = refl
-ends-left moment (s ∷ ss) =
-    let stay : List Session = filter (λ s. not (has_ended moment s)) ss in
-    let later : List ℕ → List ℕ = filter (λ end. not (nat_le end moment)) in
-    let rest : ends_of stay ≡ later (ends_of ss) = ends-left moment ss in
-    let P : Option ℕ → Type 0 = λ o. end_of s ≡ o →
-    ends_of (cond (not (is_over moment o)) (s ∷ stay) stay) ≡ later (cons_option o (ends_of ss)) in
-    let by_end : (o : Option ℕ) → P o = λ o. elim o as P [
-      | None ↦ λ h. ap (λ e. cons_option e (ends_of stay)) h ∙ rest
-      | Some e ↦ λ h. elim (nat_le e moment)
-          as (λ b. ends_of (cond (not b) (s ∷ stay) stay)
-          ≡ cond (not b) (e ∷ later (ends_of ss)) (later (ends_of ss))) [
-            | true ↦ rest
-            | false ↦ ap (λ o. cons_option o (ends_of stay)) h ∙ ap (λ l. e ∷ l) rest
-          ]
-    ] in
-    (elim s.presence as (λ p. elim p [ Connected ↦ None | Away end ↦ end ] ≡ end_of s →
-    ends_of (cond (not (elim p [ Connected ↦ false | Away end ↦ is_over moment end ])) (s ∷ stay)
-    stay)
-    ≡ later (cons_option (elim p [ Connected ↦ None | Away end ↦ end ]) (ends_of ss))) [
-      | Connected ↦ λ h. by_end None (sym h)
-      | Away end ↦ λ h. by_end end (sym h)
+pub same-end : (o : Option ℕ) (end : ℕ)
+    → option_eq (λ a b. a == b) o (Some end) ≡ option_map_or (λ e. e == end) o false
+same-end None end = refl
+same-end (Some e) end = refl
+
+none-found : (end : ℕ) (bs : Text) (es : List Entry)
+    → AllByRecursion (λ k. finds bs k ≡ false) (keys_of es)
+    → list_any (ends_so (end, bs)) (shown_in es) ≡ false
+none-found end bs [] h = refl
+none-found end bs (e ∷ es) h =
+    ap (λ b. b || list_any (ends_so (end, bs)) (shown_in es))
+    (ends-other (end, bs) (session_in e) (sym (finds-is bs e.0) ∙ h.0))
+    ∙ none-found end bs es h.1
+
+abbrev pub ends_then : ℕ → kept.Session → Bool
+ends_then end u = option_map_or (λ e. e == end) (end_of (shown u)) false
+
+-- a look-up tells whether a session ends so
+pub any-found : (end : ℕ) (bs : Text) (es : List Entry)
+    → IsStrictlySortedBy key_cmp (keys_of es)
+    → list_any (ends_so (end, bs)) (shown_in es)
+    ≡ option_map_or (ends_then end) (lookup (finds bs) es) false
+unfolding IsStrictlySortedBy
+any-found end bs [] s = refl
+any-found end bs (e ∷ es) s =
+    let any : Bool = list_any (ends_so (end, bs)) (shown_in es) in
+    let P : Bool → Type 0 = λ b. finds bs e.0 ≡ b → (ends_so (end, bs) (session_in e) || any)
+    ≡ option_map_or (ends_then end) (cond b (Some e.1) (lookup (finds bs) es)) false in
+    (elim (finds bs e.0) as P [
+      | true ↦ λ h. (
+          ap (λ b. b || any)
+          (ends-own (end, bs) (session_in e) (sym (finds-is bs e.0) ∙ h))
+          ∙ ap (λ b. ends_then end e.1 || b)
+          (none-found end bs es (none_again key_cmp (finds bs) (apart bs) e.0 h es s.0))
+          ∙ or_false (ends_then end e.1))
+      | false ↦ λ h. (
+          ap (λ b. b || any)
+          (ends-other (end, bs) (session_in e) (sym (finds-is bs e.0) ∙ h))
+          ∙ any-found end bs es s.1)
     ]) refl
 
-pub ends-queued : (limit : ℕ) (b : Begin) (sessions : List Session)
-    → ends_of (queued_one limit b sessions) ≡ ends_of sessions
-ends-queued limit b sessions =
-    filter_map-map end_of (edited (queued limit b.1) b.0) sessions
-    ∙ filter_map-same (λ s. end_of (edited (queued limit b.1) b.0 s)) end_of each sessions
-  where
-    each : (s : Session) → end_of (edited (queued limit b.1) b.0 s) ≡ end_of s
-    each s =
-        elim (has_id b.0 s) as (λ v. end_of (if v then queued limit b.1 s else s) ≡ end_of s) [
-          | true ↦ elim (has_place limit s)
-              as (λ v. end_of (if v then with_waiting s b.1 else s) ≡ end_of s)
-              [ true ↦ refl | false ↦ refl ]
-          | false ↦ refl
-        ]
+-- ## What is listed
 
--- ## Counts of them
-
-none_come : (moment first : ℕ) (ends : List ℕ) → nat_le first moment ≡ false
-    → All (λ end. first ≤ end) ends →
-    list_any (λ end. nat_le end moment) ends ≡ false
-none_come moment first ends h all =
-    let before : moment < first =
-    elim (le_cases first moment) as (λ _. moment < first)
-    [ inl k ↦ absurd (true≢false (sym k.0 ∙ h)) | inr k ↦ k.1 ] in
-    list_any_none (λ end. nat_le end moment) ends
-    (All-weaker (λ end. first ≤ end) (λ end. nat_le end moment ≡ false)
-    (λ end later. not_le end moment (omega arith)) ends all)
-
-one_comes : (moment first : ℕ) (ends : List ℕ) → nat_le first moment ≡ true → Contains ends first →
-    list_any (λ end. nat_le end moment) ends ≡ true
-one_comes moment first ends h among = at ends among.0 among.1 among.2
-  where
-    at : (es : List ℕ) (k : ℕ) → k < length es → get_or es k first ≡ first
-        → list_any (λ end. nat_le end moment) es ≡ true
-    at [] k lt e = absurd (omega arith)
-    at (x ∷ es) zero lt e =
-        ap (λ n. nat_le n moment || list_any (λ end. nat_le end moment) es) e
-        ∙ ap (λ b. b || list_any (λ end. nat_le end moment) es) h
-    at (x ∷ es) (suc k) lt e =
-        ap (λ b. nat_le x moment || b) (at es k (omega arith) e) ∙ or_true (nat_le x moment)
-
-pub come-is : (moment first : ℕ) (ends : List ℕ) → Contains ends first
-    → All (λ end. first ≤ end) ends →
-    nat_le first moment ≡ list_any (λ end. nat_le end moment) ends
-come-is moment first ends among all =
-    pick (nat_le first moment) (λ t. t ∙ sym (one_comes moment first ends t among))
-    (λ f. f ∙ sym (none_come moment first ends f all))
-
--- an end that may be taken out is among them
-pub first-among : (o : Option ℕ) (xs rest : List ℕ) → SameEnds xs (option_to_list o ++ rest)
-    → IfSome o (λ end. Contains xs end)
-first-among None xs rest same = tt
-first-among (Some e) xs rest same =
-    SameEnds-Contains (e ∷ rest) xs (SameEnds-sym xs (e ∷ rest) same) e (0, omega arith, refl)
-
-pub same-among : (o : Option ℕ) (xs ys : List ℕ) → SameEnds xs ys
-    → IfSome o (λ end. Contains ys end) → IfSome o (λ end. Contains xs end)
-same-among None xs ys same h = tt
-same-among (Some e) xs ys same h = SameEnds-Contains ys xs (SameEnds-sym xs ys same) e h
-
-cancelled : (o r n e : ℕ) → e ≡ o + r → e ≡ o + n → r ≡ n
-cancelled o r n e h k = omega arith
-
--- an end is taken out of the index, and its session is gone
-pub same-rest : (us ends rest new : List ℕ) → SameEnds ends (us ++ rest) → SameEnds ends (us ++ new)
-    → SameEnds rest new
-same-rest us ends rest new h k = λ test.
-    cancelled (length (filter test us)) _ _ _ (h test ∙ length-filter-append test us rest)
-    (k test ∙ length-filter-append test us new)
-
-counted : (t f o n e r : ℕ) → t + o ≡ f + n → e ≡ o → e ≡ f + r → t + r ≡ n
-counted t f o n e r h k l = omega arith
-
--- an end is taken out of the index and another comes in, as the end of a session moves
-pub same-moved : (from to ends rest old new : List ℕ) → SameEnds ends old
-    → SameEnds (to ++ old) (from ++ new) →
-    SameEnds ends (from ++ rest) → SameEnds (to ++ rest) new
-same-moved from to ends rest old new same moved out = λ test.
-    length-filter-append test to rest
-    ∙ counted (length (filter test to)) (length (filter test from)) (length (filter test old)) _ _ _
-    (sym (length-filter-append test to old) ∙ moved test ∙ length-filter-append test from new)
-    (same test) (out test ∙ length-filter-append test from rest)
-
--- then there is room for it
-pub room-left : (o : Option ℕ) (from rest : List ℕ) (ends old : List ℕ) (sessions : List Session)
-    (room : ℕ) → SameEnds ends old →
-    SameEnds (option_to_list o ++ old) (from ++ ends_of sessions) → SameEnds ends (from ++ rest)
-    → length sessions ≤ room →
-    IfSome o (λ _. length rest < room)
-room-left None from rest ends old sessions room same moved out fits = tt
-room-left (Some e) from rest ends old sessions room same moved out fits =
-    let one : length (e ∷ rest) ≡ length (ends_of sessions) =
-    SameEnds-length (e ∷ rest) (ends_of sessions)
-    (same-moved from (e ∷ []) ends rest old (ends_of sessions) same moved out) in
-    omega (arith, ends-fewer sessions)
-
-pub length-put : (k : Key) (v : kept.Session) (es : List Entry)
-    → length (insert_entry key_cmp es k v) ≤ length es + 1
-length-put k v [] = omega arith
-length-put k v (e ∷ es) =
-    let rest = length-put k v es in
-    elim (key_cmp k e.0)
-    as (λ r. length (match_ordering r ((k, v) ∷ e ∷ es) ((e.0, v) ∷ es)
-    (e ∷ insert_entry key_cmp es k v)) ≤ length (e ∷ es) + 1) [
-      | Less ↦ omega arith
-      | Equal ↦ omega arith
-      | Greater ↦ omega arith
+listed-step : (dues more : List Due) → ((d : Due) → is_in d dues ≡ true → is_in d more ≡ true)
+    → (s : Session) → IsListed dues s → IsListed more s
+listed-step dues more h s = elim (end_of s)
+    as (λ o. IfSome o (λ end. is_in (end, s.id) dues ≡ true)
+    → IfSome o (λ end. is_in (end, s.id) more ≡ true)) [
+      | None ↦ λ k. k
+      | Some end ↦ λ k. h (end, s.id) k
     ]
+
+pub listed-more : (dues more : List Due) → ((d : Due) → is_in d dues ≡ true → is_in d more ≡ true)
+    → (ss : List Session) → AreListed dues ss → AreListed more ss
+listed-more dues more h ss listed =
+    all_weaker (IsListed dues) (IsListed more) (listed-step dues more h) ss listed
+
+pub with-old : (due : Due) (dues more : List Due) → AreWith due dues more
+    → (d : Due) → is_in d dues ≡ true → is_in d more ≡ true
+with-old due dues more h d k =
+    h.tests (same_due d) ∙ ap (λ b. same_due d due || b) k ∙ or_true (same_due d due)
+
+pub with-new : (due : Due) (dues more : List Due) → AreWith due dues more
+    → is_in due more ≡ true
+with-new due dues more h =
+    h.tests (same_due due) ∙ ap (λ b. b || is_in due dues) itself
+  where
+    number : (due.0 == due.0) ≡ true
+    number = grind (arith, nat_tests)
+
+    itself : same_due due due ≡ true
+    itself = ap (λ b. b && same_text due.1 due.1) number ∙ same_text-itself due.1
+
+some_due : (x y : Due) → ◌≡◌ {A = Option Due} (Some x) (Some y) → x ≡ y
+some_due x y h = cc
+
+-- a first end that is no session's is taken out
+pub listed-rest : (f : Due) (dues rest : List Due) (ss : List Session) → Some f ≡ first_of dues
+    → AreRest dues rest → list_any (ends_so f) ss ≡ false → AreListed dues ss → AreListed rest ss
+listed-rest f [] rest ss first left none listed = cc
+listed-rest f (d ∷ ds) rest ss first left none listed =
+    let gone : list_any (ends_so d) ss ≡ false =
+    subst (λ x. list_any (ends_so x) ss ≡ false) (some_due f d first) none in
+    all_weaker (λ s. (ends_so d s ≡ false) × IsListed (d ∷ ds) s) (IsListed rest) step ss
+    (all_both (λ s. ends_so d s ≡ false) (IsListed (d ∷ ds)) ss (none-any (ends_so d) ss gone)
+    listed)
+  where
+    step : (s : Session) → (ends_so d s ≡ false) × IsListed (d ∷ ds) s → IsListed rest s
+    step s h = (elim (end_of s)
+        as (λ o. option_map_or (λ end. same_due (end, s.id) d) o false ≡ false
+        → IfSome o (λ end. is_in (end, s.id) (d ∷ ds) ≡ true)
+        → IfSome o (λ end. is_in (end, s.id) rest ≡ true)) [
+          | None ↦ λ fails k. k
+          | Some end ↦ λ fails k. or_right (same_due (end, s.id) d) (is_in (end, s.id) rest) fails
+              (sym (left.tests (same_due (end, s.id))) ∙ k)
+        ]) h.0 h.1
+
+pub shorter : (f : Due) (dues rest : List Due) → Some f ≡ first_of dues → AreRest dues rest
+    → length rest + 1 ≡ length dues
+shorter f [] rest first left = cc
+shorter f (d ∷ ds) rest first left = sym left.count
+
+-- its client's sessions go with it
+pub listed-taken : (f : Due) (dues rest : List Due) (ss : List Session) → Some f ≡ first_of dues
+    → AreRest dues rest → AreListed dues ss
+    → AreListed rest (filter (λ s. not (has_id f.1 s)) ss)
+listed-taken f dues rest ss first left listed =
+    listed-rest f dues rest (filter (λ s. not (has_id f.1 s)) ss) first left (none ss)
+    (all_filtered (IsListed dues) (λ s. not (has_id f.1 s)) ss listed)
+  where
+    none : (xs : List Session)
+        → list_any (ends_so f) (filter (λ s. not (has_id f.1 s)) xs) ≡ false
+    none [] = refl
+    none (x ∷ xs) =
+        let others : List Session = filter (λ s. not (has_id f.1 s)) xs in
+        let P : Bool → Type 0 = λ b. has_id f.1 x ≡ b
+        → list_any (ends_so f) (cond (not b) (x ∷ others) others) ≡ false in
+        (elim (has_id f.1 x) as P [
+          | true ↦ λ h. none xs
+          | false ↦ λ h. ap (λ b. b || list_any (ends_so f) others) (ends-other f x h) ∙ none xs
+        ]) refl
+
+pub no-end : (dues : List Due) (s : Session) → None ≡ end_of s → IsListed dues s
+no-end dues s h =
+    subst (λ (o : Option ℕ). IfSome o (λ end. is_in (end, s.id) dues ≡ true)) h tt
+
+pub one-end : (end : ℕ) (id : Text) (dues : List Due) (s : Session) → Some end ≡ end_of s
+    → id ≡ s.id → is_in (end, id) dues ≡ true → IsListed dues s
+one-end end id dues s h same there =
+    subst (λ (o : Option ℕ). IfSome o (λ end. is_in (end, s.id) dues ≡ true)) h
+    (subst (λ i. is_in (end, i) dues ≡ true) same there)
+
+-- once the ends of the rest are added, those of all are there
+abbrev pub Lists : List Due → List Entry → List Entry → Type 0
+Lists now rest all = (dues : List Due) → ((due : Due) → is_in due now ≡ true
+    → is_in due dues ≡ true) → AreListed dues (shown_in rest) → AreListed dues (shown_in all)
+
+pub lists-more : (x : Entry) (rest now all : List Entry) (old new : List Due) → now ≡ x ∷ rest
+    → ((d : Due) → is_in d old ≡ true → is_in d new ≡ true) → IsListed new (session_in x)
+    → Lists old now all → Lists new rest all
+lists-more x rest now all old new left more here so_far = λ dues within others.
+    so_far dues (λ d k. within d (more d k))
+    (subst (λ es. AreListed dues (shown_in es)) (sym left)
+    (listed-step new dues within (session_in x) here, others))
+
+pub lists-all : (now all : List Entry) (dues : List Due) → now ≡ [] → Lists dues now all
+    → AreListed dues (shown_in all)
+lists-all now all dues done so_far =
+    so_far dues (λ d k. k) (subst (λ es. AreListed dues (shown_in es)) (sym done) tt)
+
+-- ## Copies begin to wait
+
+queued-as : (limit : ℕ) (b : Begin) (P : Session → Type 0)
+    → ((s : Session) → P s → P (with_waiting s b.1)) → (s : Session) → P s
+    → P (edited (queued limit b.1) b.0 s)
+queued-as limit b P step s h =
+    elim (has_id b.0 s) as (λ v. P (if v then queued limit b.1 s else s)) [
+      | true ↦ elim (has_place limit s) as (λ v. P (if v then with_waiting s b.1 else s))
+          [ true ↦ step s h | false ↦ h ]
+      | false ↦ h
+    ]
+
+pub indexed-queued : (limit : ℕ) (b : Begin) (index : Dues) (ss : List Session)
+    → AreIndexed index ss → AreIndexed index (queued_one limit b ss)
+indexed-queued limit b index ss h = record {
+  listed = all_mapped (IsListed index.entries) f
+      (λ s k. queued-as limit b (IsListed index.entries) (λ t i. i) s k) ss h.listed;
+  first = first index.entries h.first;
+  room = (let same = count ss in omega (arith, h.room));
+}
+  where
+    f : Session → Session
+    f = edited (queued limit b.1) b.0
+
+    ends : (due : Due) (s : Session) → ends_so due (f s) ≡ ends_so due s
+    ends due s = queued-as limit b (λ t. ends_so due t ≡ ends_so due s) (λ t i. i) s refl
+
+    first : (dues : List Due) → IsFirstLive dues ss → IsFirstLive dues (queued_one limit b ss)
+    first [] live = tt
+    first (d ∷ ds) live =
+        list_any-map f (ends_so d) ss
+        ∙ list_any-same (λ s. ends_so d (f s)) (ends_so d) (ends d) ss ∙ live
+
+    count : (xs : List Session)
+        → length (connected (queued_one limit b xs)) ≡ length (connected xs)
+    count [] = refl
+    count (x ∷ xs) =
+        let rest : List Session = connected xs in
+        let queued_rest : List Session = connected (queued_one limit b xs) in
+        let same : length queued_rest ≡ length rest = count xs in
+        let here : is_present (f x) ≡ is_present x =
+        queued-as limit b (λ t. is_present t ≡ is_present x) (λ t i. i) x refl in
+        ap (λ v. length (cond v (f x ∷ queued_rest) queued_rest)) here
+        ∙ (elim (is_present x) as (λ v. length (cond v (f x ∷ queued_rest) queued_rest)
+        ≡ length (cond v (x ∷ rest) rest)) [
+          | true ↦ omega arith
+          | false ↦ same
+        ])
+
+-- ## How many are connected
+
+pub connected-fewer : (q : Session → Bool) (ss : List Session)
+    → length (connected (filter q ss)) ≤ length (connected ss)
+connected-fewer q ss =
+    let same : length (filter is_present (filter q ss)) ≡ length (filter q (filter is_present ss))
+    = ap length (filter-swap is_present q ss) in
+    omega (arith, length-filter-most q (filter is_present ss))
+
+pub connected-most : (ss : List Session) → length (connected ss) ≤ length ss
+connected-most ss = length-filter-most is_present ss

@@ -3,3 +3,5 @@ pub mod ReachedLemmas
 pub mod ResumeLemmas
 pub mod QueueLemmas
 pub mod EndLemmas
+pub mod TakenLemmas
+pub mod EntryLemmas

@@ -1,24 +1,50 @@
 -- When sessions end, and the index of their ends.
-use Rattle.std.specs.Prelude.{ℕ, ◌≤◌, List, length, map, Option, None}
-use Rattle.std.specs.List.{filter_map}
-use Rattle.mq_ends.specs.Counts.{SameEnds}
-use Rattle.mq_ends.specs.Moments.{Moments}
-use Rattle.mq_world.specs.World.{Session, Connected, Away}
+use Rattle.std.specs.Prelude.{◌≡◌, ℕ, ◌+◌, ◌≤◌, Bool, true, false, List, length, map, Option, None}
+use Rattle.std.specs.Option.{IfSome, option_map_or}
+use Rattle.std.specs.List.{list_any, AllByRecursion}
+use Rattle.std.specs.Rc.{rc_str_bytes}
+use Rattle.mq_ends.specs.Dues.{Due, Dues, first_of, is_in, same_due}
 use Rattle.mq_world.specs.Keys.{Key}
-use Rattle.mq_sessions.specs.Views.{session_in}
+use Rattle.mq_world.specs.World.{Session, Connected, Away}
+use Rattle.mq_world.specs.Sessions.{connected}
+use Rattle.mq_sessions.specs.Views.{kept_id, session_in}
 use Rattle.mq_sessions.specs.declared.sessions.session.Session as kept
 
 -- when the session ends, if its client is away and it ends
 abbrev pub end_of : Session → Option ℕ
 end_of session = elim session.presence [ Connected ↦ None | Away end ↦ end ]
 
-abbrev pub ends_of : List Session → List ℕ
-ends_of sessions = filter_map end_of sessions
+-- the session ends as the index has it
+abbrev pub ends_so : Due → Session → Bool
+ends_so due session = option_map_or (λ end. same_due (end, session.id) due) (end_of session) false
 
-abbrev pub ends_at : List (Key × kept.Session) → List ℕ
-ends_at entries = ends_of (map session_in entries)
+-- the end of each session is in the index
+abbrev pub IsListed : List Due → Session → Type 0
+IsListed dues session = IfSome (end_of session) (λ end. is_in (end, session.id) dues ≡ true)
 
--- the index has the ends of the sessions, and room for one of each
-pub record AreIndexed (index : Moments) (sessions : List Session) : Type 0 where
-  pub same : SameEnds index.ends (ends_of sessions)
-  pub room : length sessions ≤ index.room
+abbrev pub AreListed : List Due → List Session → Type 0
+AreListed dues sessions = AllByRecursion (IsListed dues) sessions
+
+-- a first end in the index is that of a session, which was not put anew since it came in
+abbrev pub IsFirstLive : List Due → List Session → Type 0
+IsFirstLive dues sessions =
+    IfSome (first_of dues) (λ due. list_any (ends_so due) sessions ≡ true)
+
+-- and there is room for the end of each session whose client is connected
+pub record AreIndexed (index : Dues) (sessions : List Session) : Type 0 where
+  pub listed : AreListed index.entries sessions
+  pub first : IsFirstLive index.entries sessions
+  pub room : length index.entries + length (connected sessions) ≤ index.room
+
+abbrev pub Entry : Type 0
+Entry = Key × kept.Session
+
+-- an id that a session keeps is that of its client
+abbrev pub KeepsId : Entry → Type 0
+KeepsId entry = IfSome (kept_id entry.1) (λ id. id ≡ rc_str_bytes entry.0)
+
+abbrev pub KeepIds : List Entry → Type 0
+KeepIds entries = AllByRecursion KeepsId entries
+
+abbrev pub shown_in : List Entry → List Session
+shown_in entries = map session_in entries

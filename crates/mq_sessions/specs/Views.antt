@@ -1,5 +1,5 @@
 -- What sessions and the copies that wait show.
-use Rattle.std.specs.Prelude.{List, [], map, string_bytes}
+use Rattle.std.specs.Prelude.{List, [], map, string_bytes, Option, Some, None}
 use Rattle.std.specs.Option.{option_map}
 use Rattle.std.specs.Rc.{rc_str_bytes}
 use Rattle.mq_world.specs.Lists.{Text}
@@ -18,8 +18,12 @@ abbrev pub waiting_of : Waiting → world.Waiting
 waiting_of w = record { copy = copy_of w.copy; deadline = w.deadline }
 
 abbrev pub presence_of : Presence → world.Presence
-presence_of Connected = world.Connected
+presence_of (Connected id) = world.Connected
 presence_of (Away end) = world.Away end
+
+-- the id that is kept while the client is connected
+abbrev pub kept_id : Session → Option Text
+kept_id s = elim s.presence [ Connected id ↦ Some (rc_str_bytes id) | Away end ↦ None ]
 
 abbrev pub session_at : Text → Session → world.Session
 session_at id s = record {

@@ -1,6 +1,6 @@
 //! The sessions of the clients, of those that are connected and of those that are away.
-ghost use Rattle.std.specs.Prelude.{◌≡◌, [], length, not, is_some, false, OnOk, OnErr, IfOk};
-ghost use Rattle.std.specs.Prelude.{IfSome, map, string_bytes};
+ghost use Rattle.std.specs.Prelude.{◌≡◌, [], length, not, is_some, false, true, OnOk, OnErr, IfOk};
+ghost use Rattle.std.specs.Prelude.{IfSome, IfNone, map, string_bytes};
 ghost use Rattle.std.specs.Option.{option_copied, option_map};
 ghost use Rattle.std.specs.List.{filter, list_any};
 ghost use Rattle.std.specs.Rc.{rc_str_bytes};
@@ -8,7 +8,7 @@ ghost use Rattle.std.specs.List.Sorted.{IsStrictlySortedBy};
 ghost use Rattle.mq_world.specs.Lists.{with_row};
 ghost use Rattle.mq_world.specs.World.{has_id, session_cmp};
 ghost use Rattle.mq_world.specs.Sessions.{new_session, session_of, is_connected, user_of, outlives};
-ghost use Rattle.mq_world.specs.Sessions.{left_by, has_ended};
+ghost use Rattle.mq_world.specs.Sessions.{left_by, has_ended, is_among};
 ghost use Rattle.mq_sessions.specs.Resumed.{resumed};
 ghost use Rattle.mq_sessions.specs.Queue.{queued_one, queued_all};
 ghost use Rattle.mq_sessions.specs.Near.{AllReached};
@@ -25,8 +25,8 @@ pub(crate) mod session;
 use crate::clock::Clock;
 use crate::sessions::queued::QueuedCopy;
 use crate::sessions::session::Session;
-use edits::{EndMove, end, leave, put, remove};
-use ends::{add_end, has_come, remove_end};
+use edits::{leave, put, remove};
+use ends::{add_end, make_room, settle};
 use mq_ends::Ends;
 use mq_world::Delivery;
 use std::alloc::{AllocError, Global};
@@ -34,7 +34,7 @@ use std::collections::BTreeMap;
 use std::marker::Model;
 use std::rc::RcStr;
 
-/// The sessions, by client id, and the ends of those whose clients are away, with room for one of each session.
+/// The sessions, by client id, and the ends of those whose clients are away.
 #[derive(Debug, Drop)]
 pub struct Sessions {
     by_id: BTreeMap<RcStr, Session>,
@@ -48,11 +48,11 @@ impl Model for Sessions {
     ghost Value = { List Session };
 
     ghost use Rattle.mq_sessions.specs.Views.{sessions_of};
-    ghost use Rattle.mq_sessions.specs.Ends.{AreIndexed};
+    ghost use Rattle.mq_sessions.specs.Ends.{AreIndexed, KeepIds};
 
     ghost view = { sessions_of };
 
-    ghost invariant = { λ a. AreIndexed a.ends (sessions_of a) };
+    ghost invariant = { λ a. AreIndexed a.ends (sessions_of a) × KeepIds a.by_id.entries };
 }
 
 impl Sessions {
@@ -159,37 +159,56 @@ impl Sessions {
             interval) self.old) }
         ensures err { OnErr result (self.new ≡ self.old) }
     {
-        self.ends.reserve(self.by_id.len() + 1)?;
-        let older = put(&mut self.by_id, id, Session::new(alloc, user, interval))?;
-        remove_end(&mut self.ends, older);
+        let kept = id.clone()?;
+        make_room(alloc, &mut self.ends, &self.by_id)?;
+        put(
+            &mut self.by_id,
+            id,
+            Session::new(alloc, kept, user, interval),
+        )?;
+        settle(&mut self.ends, &self.by_id);
         Ok(())
     }
 
-    /// The connection of a client ends, and its session stays. It takes no memory.
+    /// The connection of a client ends, if there is one, and its session stays. It takes no memory.
     pub fn leave(&mut self, id: &str, clock: Clock)
-        ensures { self.new ≡ map (left_by clock.moment id.now) self.old }
+        ensures left { is_connected self.old id.now ≡ true
+            → self.new ≡ map (left_by clock.moment id.now) self.old }
+        ensures away { is_connected self.old id.now ≡ false → self.new ≡ self.old }
     {
-        let EndMove { from, to } = leave(&mut self.by_id, id, clock);
-        remove_end(&mut self.ends, from);
-        add_end(&mut self.ends, to);
+        let Some(leaving) = leave(&mut self.by_id, id, clock) else {
+            return;
+        };
+        add_end(&mut self.ends, leaving.end, leaving.id);
+        settle(&mut self.ends, &self.by_id);
     }
 
     pub fn remove(&mut self, id: &str)
         ensures { self.new ≡ filter (λ session. not (has_id id.now session)) self.old }
     {
-        let end = remove(&mut self.by_id, id);
-        remove_end(&mut self.ends, end);
+        remove(&mut self.by_id, id);
+        settle(&mut self.ends, &self.by_id);
     }
 
-    /// Ends the sessions that are due; where none is, it looks at none. It takes no memory.
-    pub fn end(&mut self, moment: u64)
-        ensures { self.new ≡ filter (λ session. not (has_ended moment session)) self.old }
+    /// Takes out a session that has ended, if there is one, and gives the id of its client. It takes no memory.
+    pub fn take_ended(&mut self, moment: u64) -> Option<RcStr>
+        ensures none { IfNone result (list_any (has_ended moment) self.old ≡ false) }
+        ensures same { IfNone result (self.new ≡ self.old) }
+        ensures ended { IfSome result (λ id. is_among (filter (has_ended moment) self.old)
+            (rc_str_bytes id) ≡ true) }
+        ensures only { IfSome result (λ id. is_among (filter (λ session.
+            not (has_ended moment session)) self.old) (rc_str_bytes id) ≡ false) }
+        ensures taken { IfSome result (λ id. self.new
+            ≡ filter (λ session. not (has_id (rc_str_bytes id) session)) self.old) }
     {
-        if !has_come(&self.ends, moment) {
-            return;
+        if !self.ends.any_until(moment) {
+            return None;
         }
-        end(&mut self.by_id, moment);
-        self.ends.remove_until(moment);
+        learn_order(&self.by_id);
+        let client = self.ends.pop()?;
+        remove(&mut self.by_id, client.as_str());
+        settle(&mut self.ends, &self.by_id);
+        Some(client)
     }
 
     // One more copy waits for a client.
@@ -211,20 +230,6 @@ impl Sessions {
         for queued_copy in all {
             self.join(limit, queued_copy);
         }
-    }
-
-    /// Whether a session has ended at this moment. It looks at none.
-    pub fn any_ends(&self, moment: u64) -> bool
-        ensures { result ≡ list_any (has_ended moment) self.now }
-    {
-        has_come(&self.ends, moment)
-    }
-
-    /// The sessions, by client id.
-    pub fn by_id(&self) -> &BTreeMap<RcStr, Session>
-        ensures { map session_in result.now.entries ≡ self.now }
-    {
-        &self.by_id
     }
 }
 

@@ -1,15 +1,14 @@
-//! Edits of one session, or of those that end. They take no memory.
-ghost use Rattle.std.specs.Prelude.{◌≡◌, ◌+◌, ◌++◌, ◌≤◌, Contains, IfOk, length, IfSome, None};
-ghost use Rattle.std.specs.Prelude.{OnErr, OnOk, map, not};
+//! Edits of one session. They take no memory, but for `put`.
+ghost use Rattle.std.specs.Prelude.{◌≡◌, ◌+◌, ◌≤◌, length, IfSome, IfNone, OnErr, OnOk, map, not};
+ghost use Rattle.std.specs.Prelude.{false, true, List};
+ghost use Rattle.std.specs.List.{filter};
 ghost use Rattle.std.specs.Rc.{rc_str_bytes};
+ghost use Rattle.mq_ends.specs.Dues.{Due, is_in};
 ghost use Rattle.mq_world.specs.Lists.{with_row};
 ghost use Rattle.mq_world.specs.World.{has_id, session_cmp};
-ghost use Rattle.std.specs.Option.{option_to_list};
-ghost use Rattle.std.specs.List.{filter};
-ghost use Rattle.mq_world.specs.Sessions.{left_by, has_ended};
-ghost use Rattle.mq_ends.specs.Counts.{SameEnds};
-ghost use Rattle.mq_sessions.specs.Ends.{end_of, ends_at};
-ghost use Rattle.mq_sessions.specs.Views.{session_at, session_in, shown};
+ghost use Rattle.mq_world.specs.Sessions.{connected, is_connected, left_by};
+ghost use Rattle.mq_sessions.specs.Ends.{AreListed, KeepsId, KeepIds, shown_in};
+ghost use Rattle.mq_sessions.specs.Views.{session_at};
 
 use crate::clock::Clock;
 use crate::sessions::session::Session;
@@ -17,76 +16,70 @@ use std::alloc::AllocError;
 use std::collections::BTreeMap;
 use std::rc::RcStr;
 
-/// A client connects: its session, which has no end, takes the place of an older one. Gives the end of that, if it had one.
+/// A client connects: its session takes the place of an older one.
 pub(crate) fn put(
     sessions: &mut BTreeMap<RcStr, Session>,
     id: RcStr,
     session: Session,
-) -> Result<Option<u64>, AllocError>
-    requires { end_of (shown session) ≡ None }
-    ensures put { OnOk result (map session_in sessions.new.entries
+) -> Result<(), AllocError>
+    requires { KeepsId (id, session) }
+    ensures put { OnOk result (shown_in sessions.new.entries
         ≡ with_row session_cmp (session_at (rc_str_bytes id) session)
-        (map session_in sessions.old.entries)) }
-    ensures end { IfOk result (λ end. SameEnds (ends_at sessions.old.entries)
-        (option_to_list end ++ ends_at sessions.new.entries)) }
-    ensures more { OnOk result (length sessions.new.entries ≤ length sessions.old.entries + 1) }
+        (shown_in sessions.old.entries)) }
+    ensures ids { KeepIds sessions.old.entries → KeepIds sessions.new.entries }
+    ensures more { length sessions.new.entries ≤ length sessions.old.entries + 1 }
     ensures err { OnErr result (sessions.new.entries ≡ sessions.old.entries) }
 {
-    match sessions.insert(id, session)? {
-        None => Ok(None),
-        Some(older) => Ok(older.end()),
-    }
+    sessions.insert(id, session)?;
+    Ok(())
 }
 
-/// Takes a client's session out. Gives its end, if it had one.
-pub(crate) fn remove(sessions: &mut BTreeMap<RcStr, Session>, id: &str) -> Option<u64>
-    ensures removed { map session_in sessions.new.entries
-        ≡ filter (λ session. not (has_id id.now session)) (map session_in sessions.old.entries) }
-    ensures end { SameEnds (ends_at sessions.old.entries)
-        (option_to_list result ++ ends_at sessions.new.entries) }
+/// Takes a client's session out.
+pub(crate) fn remove(sessions: &mut BTreeMap<RcStr, Session>, id: &str)
+    ensures removed { shown_in sessions.new.entries
+        ≡ filter (λ session. not (has_id id.now session)) (shown_in sessions.old.entries) }
+    ensures ids { KeepIds sessions.old.entries → KeepIds sessions.new.entries }
 {
     // Learns that the keys are in order.
     let _count = sessions.len();
-    match sessions.remove(id) {
-        None => None,
-        Some(session) => session.end(),
-    }
+    let _ = sessions.remove(id);
 }
 
-/// When a session ended before its connection did, and when it ends since, if it ended and ends.
-#[derive(Clone, Copy, Debug)]
-pub(crate) struct EndMove {
-    pub(crate) from: Option<u64>,
-    pub(crate) to: Option<u64>,
+/// An end, and the id of the client whose session ends then.
+#[derive(Debug, Drop)]
+pub(crate) struct Leaving {
+    pub(crate) id: RcStr,
+    pub(crate) end: Option<u64>,
 }
 
-/// A connection ends. Says how that moves the end of its session.
-pub(crate) fn leave(sessions: &mut BTreeMap<RcStr, Session>, id: &str, clock: Clock) -> EndMove
-    ensures left { map session_in sessions.new.entries
-        ≡ map (left_by clock.moment id.now) (map session_in sessions.old.entries) }
-    ensures from { IfSome result.from (λ end. Contains (ends_at sessions.old.entries) end) }
-    ensures moved { SameEnds (option_to_list result.to ++ ends_at sessions.old.entries)
-        (option_to_list result.from ++ ends_at sessions.new.entries) }
+/// The connection of a client ends, if there is one. Gives the id that its session kept, and its end, if it ends.
+pub(crate) fn leave(
+    sessions: &mut BTreeMap<RcStr, Session>,
+    id: &str,
+    clock: Clock,
+) -> Option<Leaving>
+    requires { KeepIds sessions.old.entries }
+    ensures ids { KeepIds sessions.new.entries }
+    ensures away { IfNone result (sessions.new.entries ≡ sessions.old.entries) }
+    ensures none { IfNone result (is_connected (shown_in sessions.old.entries) id.now ≡ false) }
+    ensures some { IfSome result (λ _. is_connected (shown_in sessions.old.entries) id.now ≡ true) }
+    ensures left { IfSome result (λ _. shown_in sessions.new.entries
+        ≡ map (left_by clock.moment id.now) (shown_in sessions.old.entries)) }
+    ensures fewer { IfSome result (λ _. length (connected (shown_in sessions.new.entries)) + 1
+        ≡ length (connected (shown_in sessions.old.entries))) }
+    ensures listed { IfSome result (λ leaving. (dues : List Due)
+        → AreListed dues (shown_in sessions.old.entries)
+        → IfSome leaving.end (λ end. is_in (end, rc_str_bytes leaving.id) dues ≡ true)
+        → AreListed dues (shown_in sessions.new.entries)) }
 {
-    match sessions.get_mut(id) {
-        None => EndMove {
-            from: None,
-            to: None,
-        },
-        Some(session) => {
-            let from = session.end();
-            session.leave(clock);
-            EndMove {
-                from,
-                to: session.end(),
-            }
-        }
-    }
-}
-
-pub(crate) fn end(sessions: &mut BTreeMap<RcStr, Session>, moment: u64)
-    ensures { map session_in sessions.new.entries
-        ≡ filter (λ session. not (has_ended moment session)) (map session_in sessions.old.entries) }
-{
-    sessions.retain(|_, session| !session.has_ended(moment));
+    let Some(session) = sessions.get_mut(id) else {
+        return None;
+    };
+    let Some(id) = session.leave(clock) else {
+        return None;
+    };
+    Some(Leaving {
+        id,
+        end: session.end(),
+    })
 }

@@ -1,37 +1,99 @@
-//! The index of the ends of sessions, where there may be one or none. No call takes memory.
-ghost use Rattle.std.specs.Prelude.{◌≡◌, ◌++◌, ◌<◌, ◌≤◌, Contains, IfSome, length, nat_le};
+//! The index of the ends of sessions. It lists the end of each session, and ends of sessions that were put anew since: those
+//! go where they come first, or where a client that connects finds no room for one end more of each session.
+ghost use Rattle.std.specs.Prelude.{◌≡◌, ◌+◌, ◌<◌, ◌≤◌, true, length, IfOk, OnOk, IfSome};
 ghost use Rattle.std.specs.List.{list_any};
-ghost use Rattle.std.specs.Option.{option_to_list};
-ghost use Rattle.mq_ends.specs.Counts.{SameEnds};
+ghost use Rattle.std.specs.Rc.{rc_str_bytes};
+ghost use Rattle.mq_ends.specs.Dues.{Due, is_in};
+ghost use Rattle.mq_sessions.specs.Ends.{AreListed, AreIndexed, IsFirstLive, ends_so, shown_in};
 
+use crate::sessions::session::Session;
 use mq_ends::Ends;
+use std::alloc::{AllocError, Global};
+use std::collections::BTreeMap;
+use std::rc::RcStr;
 
-pub(crate) fn add_end(ends: &mut Ends, end: Option<u64>)
-    requires { IfSome end (λ _. length ends.old.ends < ends.old.room) }
-    ensures ends { SameEnds ends.new.ends (option_to_list end ++ ends.old.ends) }
-    ensures room { ends.new.room ≡ ends.old.room }
+// Whether the client has a session that ends at the moment.
+fn ends_so(sessions: &BTreeMap<RcStr, Session>, end: u64, client: &RcStr) -> bool
+    ensures { result ≡ list_any (ends_so (end, rc_str_bytes client.now))
+        (shown_in sessions.now.entries) }
 {
-    if let Some(end) = end {
-        ends.add(end);
-    }
-}
-
-pub(crate) fn remove_end(ends: &mut Ends, end: Option<u64>)
-    requires { IfSome end (λ end. Contains ends.old.ends end) }
-    ensures ends { SameEnds ends.old.ends (option_to_list end ++ ends.new.ends) }
-    ensures room { ends.new.room ≡ ends.old.room }
-{
-    if let Some(end) = end {
-        ends.remove(end);
-    }
-}
-
-/// Whether one of the ends has come. It looks at the earliest alone.
-pub(crate) fn has_come(ends: &Ends, moment: u64) -> bool
-    ensures { result ≡ list_any (λ end. nat_le end moment) ends.now.ends }
-{
-    match ends.first() {
+    // Learns that the keys are in order.
+    let _count = sessions.len();
+    match sessions.get(client.as_str()) {
         None => false,
-        Some(first) => first <= moment,
+        Some(session) => session.end() == Some(end),
     }
+}
+
+/// Takes out what is first, as long as no session ends so.
+pub(crate) fn settle(ends: &mut Ends, sessions: &BTreeMap<RcStr, Session>)
+    requires { AreListed ends.old.entries (shown_in sessions.now.entries) }
+    ensures listed { AreListed ends.new.entries (shown_in sessions.now.entries) }
+    ensures first { IsFirstLive ends.new.entries (shown_in sessions.now.entries) }
+    ensures count { length ends.new.entries ≤ length ends.old.entries }
+    ensures room { ends.new.room ≡ ends.old.room }
+{
+    while let Some((end, client)) = ends.first() {
+        if ends_so(sessions, end, client) {
+            return;
+        }
+        let _ = ends.pop();
+    }
+}
+
+/// Adds the end of a session, if it has one. It takes no memory.
+pub(crate) fn add_end(ends: &mut Ends, end: Option<u64>, client: RcStr)
+    requires { length ends.old.entries < ends.old.room }
+    ensures listed { IfSome end (λ at. is_in (at, rc_str_bytes client) ends.new.entries ≡ true) }
+    ensures others { (due : Due) → is_in due ends.old.entries ≡ true
+        → is_in due ends.new.entries ≡ true }
+    ensures count { length ends.new.entries ≤ length ends.old.entries + 1 }
+    ensures room { ends.old.room ≤ ends.new.room }
+{
+    if let Some(end) = end {
+        ends.add(end, client);
+    }
+}
+
+// The ends of the sessions.
+fn ends_of(
+    alloc: Global,
+    sessions: &BTreeMap<RcStr, Session>,
+    room: usize,
+) -> Result<Ends, AllocError>
+    requires { length sessions.now.entries ≤ room }
+    ensures listed { IfOk result (λ ends. AreListed ends.entries (shown_in sessions.now.entries)) }
+    ensures count { IfOk result (λ ends. length ends.entries ≤ length sessions.now.entries) }
+    ensures room { IfOk result (λ ends. room ≤ ends.room) }
+{
+    let mut ends = Ends::with_room(alloc, room)?;
+    for (id, session) in sessions {
+        if let Some(end) = session.end() {
+            ends.add(end, id.clone()?);
+        }
+    }
+    Ok(ends)
+}
+
+/// Makes room for the end of one session more. What is made anew has thrice the room that it needs at most, so to make it
+/// costs a few steps for each client that connected since the last time.
+pub(crate) fn make_room(
+    alloc: Global,
+    ends: &mut Ends,
+    sessions: &BTreeMap<RcStr, Session>,
+) -> Result<(), AllocError>
+    requires { AreIndexed ends.old (shown_in sessions.now.entries) }
+    ensures indexed { AreIndexed ends.new (shown_in sessions.now.entries) }
+    ensures ok { OnOk result (length ends.new.entries + length sessions.now.entries + 1
+        ≤ ends.new.room) }
+{
+    let all = sessions.len() + 1;
+    if ends.has_room(all) {
+        return Ok(());
+    }
+    let room = all.checked_mul(3).ok_or(AllocError)?;
+    let mut anew = ends_of(alloc, sessions, room)?;
+    settle(&mut anew, sessions);
+    *ends = anew;
+    Ok(())
 }

@@ -1,23 +1,27 @@
 //! A client's session, and the copies that wait for it.
-ghost use Rattle.std.specs.Prelude.{◌≡◌, ◌≤◌, [], length, map, string_bytes};
+ghost use Rattle.std.specs.Prelude.{◌≡◌, ◌≤◌, [], length, map, string_bytes, IfSome, IfNone, Some, None};
+ghost use Rattle.std.specs.Rc.{rc_str_bytes};
 ghost use Rattle.std.specs.Option.{option_map};
 ghost use Rattle.mq_world.specs.World.{Away};
-ghost use Rattle.mq_world.specs.Sessions.{is_present, outlives_connection, session_end, has_ended};
+ghost use Rattle.mq_world.specs.Sessions.{is_present, outlives_connection, session_end};
 ghost use Rattle.mq_world.specs.Sessions.{new_session};
 ghost use Rattle.mq_world.specs.Waiting.{has_place, has_room};
 ghost use Rattle.mq_sessions.specs.Queue.{queued};
 ghost use Rattle.mq_sessions.specs.Ends.{end_of};
-ghost use Rattle.mq_sessions.specs.Views.{shown, waiting_of};
+ghost use Rattle.mq_sessions.specs.Views.{kept_id, shown, waiting_of};
 
 use crate::clock::Clock;
 use mq_world::Delivery;
 use std::alloc::Global;
 use std::collections::LinkedList;
+use std::mem::replace;
+use std::rc::RcStr;
 
-/// Whether a client is connected, or away until its session ends, at a moment or never.
-#[derive(Clone, Copy, Debug)]
+/// Whether a client is connected, or away until its session ends, at a moment or never. While it is connected its id is kept
+/// once more, for the index of ends: where the connection ends, none can be made.
+#[derive(Debug, Drop)]
 pub enum Presence {
-    Connected,
+    Connected { id: RcStr },
     Away { end: Option<u64> },
 }
 
@@ -51,13 +55,14 @@ impl Session {
     ghost use Rattle.mq_sessions.specs.Ways.{is_sent, waits};
 
     /// The session of a client that connects.
-    pub fn new(alloc: Global, user: Option<String>, interval: u32) -> Session
-        ensures { shown result ≡ new_session [] (option_map string_bytes user) interval }
+    pub fn new(alloc: Global, id: RcStr, user: Option<String>, interval: u32) -> Session
+        ensures shown { shown result ≡ new_session [] (option_map string_bytes user) interval }
+        ensures id { kept_id result ≡ Some (rc_str_bytes id) }
     {
         Session {
             user,
             interval,
-            presence: Presence::Connected,
+            presence: Presence::Connected { id },
             waiting: LinkedList::new(alloc),
         }
     }
@@ -66,7 +71,7 @@ impl Session {
         ensures { result ≡ is_present (shown self.now) }
     {
         match self.presence {
-            Presence::Connected => true,
+            Presence::Connected { .. } => true,
             Presence::Away { .. } => false,
         }
     }
@@ -78,33 +83,32 @@ impl Session {
         !(self.is_present() && self.interval == 0)
     }
 
-    pub fn has_ended(&self, moment: u64) -> bool
-        ensures { result ≡ has_ended moment (shown self.now) }
-    {
-        match self.presence {
-            Presence::Connected => false,
-            Presence::Away { end } => end.is_some_and(|end| end <= moment),
-        }
-    }
-
     /// The moment at which the session ends, if the client is away and it ends.
     pub fn end(&self) -> Option<u64>
         ensures { result ≡ end_of (shown self.now) }
     {
         match self.presence {
-            Presence::Connected => None,
+            Presence::Connected { .. } => None,
             Presence::Away { end } => end,
         }
     }
 
-    /// The connection ends.
-    pub fn leave(&mut self, clock: Clock)
-        ensures { shown self.new ≡ record (shown self.old)
-            { presence = Away (session_end clock.moment self.old.interval) } }
+    /// The connection ends, if there is one. Gives the id that was kept.
+    pub fn leave(&mut self, clock: Clock) -> Option<RcStr>
+        ensures left { IfSome result (λ _. shown self.new ≡ record (shown self.old)
+            { presence = Away (session_end clock.moment self.old.interval) }) }
+        ensures away { IfNone result (self.new ≡ self.old) }
+        ensures gone { IfSome result (λ _. kept_id self.new ≡ None) }
+        ensures id { option_map rc_str_bytes result ≡ kept_id self.old }
     {
-        self.presence = Presence::Away {
-            end: clock.session_end(self.interval),
-        };
+        if !self.is_present() {
+            return None;
+        }
+        let end = clock.session_end(self.interval);
+        match replace(&mut self.presence, Presence::Away { end }) {
+            Presence::Connected { id } => Some(id),
+            Presence::Away { .. } => None,
+        }
     }
 
     // Whether fewer copies wait than may.
@@ -132,7 +136,8 @@ impl Session {
     /// a place: to ask again spares an invariant on how many wait.
     pub fn queue(&mut self, limit: u32, mut copies: LinkedList<Waiting>)
         requires { length copies ≤ 1 }
-        ensures { shown self.new ≡ queued limit (map waiting_of copies) (shown self.old) }
+        ensures shown { shown self.new ≡ queued limit (map waiting_of copies) (shown self.old) }
+        ensures id { kept_id self.new ≡ kept_id self.old }
     {
         if self.has_place(limit) {
             let _ = self.waiting.append(&mut copies);

@@ -25,7 +25,7 @@ invariant_of-self c =
       subst (λ retained. AreNear c.in-Some.clock.moment retained) (sym c.advance.ensures.rest)
           (near-later c.self.inside.clock.moment c.in-Some.clock.moment _
           c.self.inside.retained.messages later c.self.invariant.0),
-      subst (AllReached c.in-Some.clock.moment) (sym c.end.ensures)
+      subst (AllReached c.in-Some.clock.moment) (sym c.end_sessions.ensures.sessions)
           (reached-later c.self.inside.clock.moment c.in-Some.clock.moment
           (λ session. not (has_ended c.in-Some.clock.moment session)) c.self.inside.sessions
           later c.self.invariant.1),
@@ -35,10 +35,10 @@ pub returns-clause-applied : goal.returns-clause-applied
 returns-clause-applied c =
     let s : State = state_of c.self.inside in
     let kept = c.advance.new.self in
-    let subs = c.remove_ended.new.subscriptions in
+    let subs = c.end_sessions.new.subscriptions in
     let new : State = record s {
       moment = c.in-Some.clock.moment;
-      sessions = c.end.new.self;
+      sessions = c.end_sessions.new.sessions;
       subscriptions = subs.rows;
       filter_keys = subs.keys;
       retained = kept.messages;
@@ -48,7 +48,7 @@ returns-clause-applied c =
     } in
     subst (λ (v : State). Does v (Advance c.args.seconds) (reply_of c.with_reason.result) new)
     c.self.view_is
-    (advance-does s c.args.seconds c.in-Some.clock.moment c.end.new.self subs kept _
-    c.in-Some.clock.within c.in-Some.ensures.some c.end.ensures c.remove_ended.ensures.rows
-    c.remove_ended.ensures.keys
+    (advance-does s c.args.seconds c.in-Some.clock.moment c.end_sessions.new.sessions subs kept _
+    c.in-Some.clock.within c.in-Some.ensures.some c.end_sessions.ensures.sessions c.end_sessions.ensures.rows
+    c.end_sessions.ensures.keys
     c.advance.ensures.rest c.advance.ensures.filed c.with_reason.ensures)

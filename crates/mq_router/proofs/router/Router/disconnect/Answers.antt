@@ -10,6 +10,7 @@ use Rattle.mq_router.specs.router.Effects.{Does}
 use Rattle.mq_world.specs.Views.{reply_of}
 use Rattle.mq_router.proofs.RouterLemmas.{refused-applied, disconnect-client, disconnect-leaves}
 use Rattle.mq_router.proofs.RouterLemmas.{disconnect-does}
+use Rattle.mq_router.proofs.EndedLemmas.{connected-tested}
 use Rattle.mq_sessions.proofs.ReachedLemmas.{reached-left, reached-filter}
 use Rattle.mq_router.proofs.router.Router.disconnect.Goals as goal
 
@@ -21,9 +22,15 @@ returns-in_err-check_client-clause-applied c =
     (disconnect-client c.args.self.now c.args.client.now _ c.in_err-check_client.ensures.refused)
 
 pub invariant_of-self : goal.invariant_of-self
-invariant_of-self c = (
+invariant_of-self c =
+    let id = c.args.client.now in
+    let tested : None ≡ first_refusal (client_conditions c.self.inside.sessions id) =
+    c.in_ok-check_client.ensures.refused
+    ∙ ap (λ (v : State). first_refusal (client_conditions v.sessions id)) (sym c.self.view_is)
+    in (
   c.self.invariant.0,
-  subst (AllReached c.self.inside.clock.moment) (sym c.leave.ensures)
+  subst (AllReached c.self.inside.clock.moment)
+      (sym (c.leave.ensures.left (connected-tested c.self.inside.sessions id tested)))
       (reached-left c.self.inside.clock.moment c.self.inside.clock.moment c.args.client.now
       c.self.inside.sessions c.self.invariant.1),
 )
@@ -47,7 +54,7 @@ returns-then-outlives-clause-applied c =
     in
     subst (λ (v : State). Does v (Disconnect id) (reply_of c.with_reason.result) new) c.self.view_is
     (disconnect-leaves s id c.leave.new.self _ tested (sym c.outlives.ensures ∙ c.if-outlives.true)
-    c.with_reason.ensures c.leave.ensures)
+    c.with_reason.ensures (c.leave.ensures.left (connected-tested s.sessions id tested)))
 
 pub returns-clause-applied : goal.returns-clause-applied
 returns-clause-applied c =

@@ -1,13 +1,12 @@
-use Rattle.std.proofs.Common.{◌≡◌, ◌∙◌, List, map, length, sym, ap, arith}
-use Rattle.std.specs.List.{filter}
-use Rattle.std.proofs.lemmas.List.{length-map}
+use Rattle.std.proofs.Common.{◌≡◌, ◌∙◌, List, map, sym, ap, subst}
 use Rattle.mq_world.specs.World.{Session}
-use Rattle.mq_sessions.specs.Ends.{ends_of}
+use Rattle.mq_sessions.specs.Ends.{AreIndexed, KeepIds}
 use Rattle.mq_sessions.specs.Queue.{queued, edited, queued_one}
 use Rattle.mq_sessions.specs.Views.{session_in, sessions_of, begin_of, shown, waiting_of}
-use Rattle.mq_sessions.proofs.EndLemmas.{ends-queued}
+use Rattle.mq_sessions.proofs.EndLemmas.{indexed-queued}
+use Rattle.mq_sessions.proofs.EntryLemmas.{ids-edited}
 use Rattle.mq_sessions.proofs.QueueLemmas.{queued-id}
-use Rattle.mq_sessions.proofs.SessionLemmas.{edited-is, nobody-edited}
+use Rattle.mq_sessions.proofs.SessionLemmas.{edited-is, finds, nobody-edited}
 use Rattle.mq_sessions.proofs.sessions.Sessions.join.Goals as goal
 
 pub invariant_of-self-2 : goal.invariant_of-self-2
@@ -21,21 +20,16 @@ invariant_of-self-2 c =
     ≡ queued_one c.args.limit begin sessions =
     ap (map session_in) (c.get_mut.follows.holds c.queue.new.self).0
     ∙ edited-is id put c.in-Some.session.now c.queue.new.self es (sym c.in-Some.ensures.value)
-    (ap (λ (s : Session). record s { id = id }) c.queue.ensures
+    (ap (λ (s : Session). record s { id = id }) c.queue.ensures.shown
     ∙ queued-id c.args.limit id (map waiting_of c.args.queued_copy.copies)
     (shown c.in-Some.session.now)) c.in-Some.ensures.ordered
-    ∙ ap (λ i. map (edited put i) (map session_in es)) c.as_str.ensures.value in
-    record {
-      same = λ test.
-          c.self.invariant.same test
-          ∙ ap (λ es. length (filter test es)) (sym (ends-queued c.args.limit begin sessions))
-          ∙ ap (λ ss. length (filter test (ends_of ss))) (sym is);
-      room =
-          let count : length (map session_in (c.get_mut.follows.lender c.queue.new.self).entries)
-          ≡ length sessions =
-          ap length is ∙ length-map sessions (edited (queued c.args.limit begin.1) begin.0) in
-          omega (arith, c.self.invariant.room);
-    }
+    ∙ ap (λ i. map (edited put i) (map session_in es)) c.as_str.ensures.value in (
+      subst (AreIndexed c.self.inside.ends) (sym is)
+          (indexed-queued c.args.limit begin c.self.inside.ends sessions c.self.invariant.0),
+      subst KeepIds (sym (c.get_mut.follows.holds c.queue.new.self).0)
+          (ids-edited (finds id) c.in-Some.session.now c.queue.new.self es
+          (sym c.in-Some.ensures.value) c.queue.ensures.id c.self.invariant.1),
+    )
 
 pub returns : goal.returns
 returns c =
@@ -44,7 +38,7 @@ returns c =
     let put = queued c.args.limit (map waiting_of c.args.queued_copy.copies) in
     ap (map session_in) (c.get_mut.follows.holds c.queue.new.self).0
     ∙ edited-is id put c.in-Some.session.now c.queue.new.self es (sym c.in-Some.ensures.value)
-    (ap (λ (s : Session). record s { id = id }) c.queue.ensures
+    (ap (λ (s : Session). record s { id = id }) c.queue.ensures.shown
     ∙ queued-id c.args.limit id (map waiting_of c.args.queued_copy.copies)
     (shown c.in-Some.session.now)) c.in-Some.ensures.ordered
     ∙ ap (λ i. map (edited put i) (map session_in es)) c.as_str.ensures.value

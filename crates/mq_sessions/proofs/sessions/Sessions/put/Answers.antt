@@ -1,38 +1,38 @@
-use Rattle.std.proofs.Common.{◌≡◌, map, length, List, ℕ, sym, subst, ◌∙◌, arith}
-use Rattle.std.specs.Option.{option_to_list}
+use Rattle.std.proofs.Common.{◌≡◌, length, sym, ap, subst, arith}
+use Rattle.std.specs.Rc.{rc_str_bytes}
 use Rattle.std.proofs.lemmas.List.{length-map}
-use Rattle.mq_ends.specs.Counts.{SameEnds}
-use Rattle.mq_sessions.specs.Ends.{ends_at}
-use Rattle.mq_sessions.specs.Views.{session_in}
-use Rattle.mq_sessions.proofs.EndLemmas.{first-among, same-rest}
+use Rattle.mq_world.specs.World.{session_cmp}
+use Rattle.mq_world.proofs.OrderLemmas.{all-with_row, session_total}
+use Rattle.mq_sessions.specs.Ends.{AreListed, IsListed, end_of, shown_in}
+use Rattle.mq_sessions.specs.Views.{session_at, session_in, sessions_of}
+use Rattle.mq_sessions.proofs.EndLemmas.{connected-most, no-end}
 use Rattle.mq_sessions.proofs.sessions.Sessions.put.Goals as goal
 
-pub remove_end-requires : goal.remove_end-requires
-remove_end-requires c =
-    first-among c.in_ok-older.older c.reserve.new.self.ends (ends_at c.put.new.sessions.entries)
-    (λ test. subst (λ (es : List ℕ). SameEnds es (ends_at c.self.inside.by_id.entries))
-    (sym c.reserve.ensures.ends) c.self.invariant.same test ∙ c.in_ok-older.ensures.end test)
+pub settle-requires : goal.settle-requires
+settle-requires c =
+    let dues = c.make_room.new.ends.entries in
+    let session = session_at (rc_str_bytes c.args.id) c.new.result in
+    subst (AreListed dues) (sym c.in_ok-put.ensures.put)
+    (all-with_row session_cmp session_total (IsListed dues) session (sessions_of c.self.inside)
+    (no-end dues session (sym (ap end_of c.new.ensures.shown)))
+    c.make_room.ensures.indexed.listed)
 
 pub invariant_of-self-2 : goal.invariant_of-self-2
-invariant_of-self-2 c =
-    let before = c.self.inside.by_id.entries in
-    let after = c.put.new.sessions.entries in
-    record {
-      same = same-rest (option_to_list c.in_ok-older.older) c.reserve.new.self.ends
-          c.remove_end.new.ends.ends (ends_at after)
-          c.remove_end.ensures.ends
-          (λ test. subst (λ (es : List ℕ). SameEnds es (ends_at before))
-          (sym c.reserve.ensures.ends) c.self.invariant.same test
-          ∙ c.in_ok-older.ensures.end test);
-      room =
-          let count : length (map session_in after) ≡ length after = length-map after session_in in
-          let before_count : length (map session_in before) ≡ length before =
-          length-map before session_in in
-          omega (
-            arith,
-            c.in_ok-older.ensures.more,
-            c.in_ok-reserve.ensures.ok,
-            c.len.ensures.len,
-            c.remove_end.ensures.room,
-          );
-    }
+invariant_of-self-2 c = (
+  record {
+    listed = c.settle.ensures.listed;
+    first = c.settle.ensures.first;
+    room =
+        let after = c.put.new.sessions.entries in
+        let count : length (shown_in after) ≡ length after = length-map after session_in in
+        omega (
+          arith,
+          connected-most (shown_in after),
+          c.in_ok-put.ensures.more,
+          c.in_ok-make_room.ensures.ok,
+          c.settle.ensures.count,
+          c.settle.ensures.room,
+        );
+  },
+  c.put.ensures.ids c.self.invariant.1,
+)

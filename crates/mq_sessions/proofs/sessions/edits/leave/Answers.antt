@@ -1,54 +1,83 @@
-use Rattle.std.proofs.Common.{ℕ, ◌++◌, Option, ◌∙◌, sym, ap, subst, map}
-use Rattle.std.specs.List.{Contains}
-use Rattle.std.specs.Map.{remove_entry}
-use Rattle.std.specs.Option.{IfSome, option_to_list}
-use Rattle.mq_ends.specs.Counts.{SameEnds}
-use Rattle.mq_sessions.specs.Ends.{end_of, ends_at}
-use Rattle.mq_sessions.proofs.EndLemmas.{ends-out, ends-set, first-among}
+use Rattle.std.proofs.Common.{◌≡◌, ℕ, ◌+◌, ◌∙◌, false, sym, ap, subst, map, length}
+use Rattle.std.specs.Map.{set_value}
+use Rattle.std.specs.Option.{option_map, option_map_or}
+use Rattle.std.specs.Rc.{rc_str_bytes}
 use Rattle.mq_world.specs.World.{Session, Away}
-use Rattle.mq_world.specs.Sessions.{session_end}
-use Rattle.mq_sessions.specs.Views.{session_in, shown}
-use Rattle.mq_sessions.proofs.SessionLemmas.{apart, finds, edited-is, nobody-edited}
+use Rattle.mq_world.specs.Sessions.{connected, is_present, session_end}
+use Rattle.mq_world.proofs.Splits.{set_same}
+use Rattle.mq_sessions.specs.Ends.{AreListed, KeepIds, shown_in}
+use Rattle.mq_sessions.specs.Views.{kept_id, session_at, session_in}
+use Rattle.mq_sessions.proofs.SessionLemmas.{edited-is, finds, found-is}
+use Rattle.mq_sessions.proofs.EntryLemmas.{absent-kept, connected-found, connected-left, ids-edited}
+use Rattle.mq_sessions.proofs.EntryLemmas.{ids-left, listed-left, present-kept}
 use Rattle.mq_sessions.proofs.sessions.edits.leave.Goals as goal
 
 abbrev away : ℕ → Session → Session
 away moment s = record s { presence = Away (session_end moment s.interval) }
 
-pub returns-in-Some-clause-left : goal.returns-in-Some-clause-left
-returns-in-Some-clause-left c =
+pub returns-in_default-clause-none : goal.returns-in_default-clause-none
+returns-in_default-clause-none c =
+    sym (ap (λ s. option_map_or is_present s false)
+    (ap (option_map (session_at c.args.id.now)) c.in_default.ensures.value
+    ∙ found-is c.args.id.now c.args.sessions.now.entries))
+
+pub returns-in_default-leave-clause-ids : goal.returns-in_default-leave-clause-ids
+returns-in_default-leave-clause-ids c =
+    subst KeepIds (sym (c.get_mut.follows.holds c.leave.new.self).0)
+    (ids-edited (finds c.args.id.now) c.in-Some.session.now c.leave.new.self
+    c.args.sessions.now.entries (sym c.in-Some.ensures.value)
+    (ap kept_id c.in_default-leave.ensures.away) c.requires)
+
+pub returns-in_default-leave-clause-away : goal.returns-in_default-leave-clause-away
+returns-in_default-leave-clause-away c =
+    let es = c.args.sessions.now.entries in
+    (c.get_mut.follows.holds c.leave.new.self).0
+    ∙ ap (set_value (finds c.args.id.now) es) c.in_default-leave.ensures.away
+    ∙ set_same (finds c.args.id.now) es c.in-Some.session.now (sym c.in-Some.ensures.value)
+
+pub returns-in_default-leave-clause-none : goal.returns-in_default-leave-clause-none
+returns-in_default-leave-clause-none c =
+    connected-found c.args.id.now c.in-Some.session.now c.args.sessions.now.entries
+    (sym c.in-Some.ensures.value)
+    ∙ absent-kept c.in-Some.session.now c.in_default-leave.ensures.id
+
+pub returns-clause-ids : goal.returns-clause-ids
+returns-clause-ids c =
+    subst KeepIds (sym (c.get_mut.follows.holds c.leave.new.self).0)
+    (ids-left (finds c.args.id.now) c.in-Some.session.now c.leave.new.self
+    c.args.sessions.now.entries (sym c.in-Some.ensures.value) c.in-Some-leave.ensures.gone
+    c.requires)
+
+pub returns-clause-some : goal.returns-clause-some
+returns-clause-some c =
+    connected-found c.args.id.now c.in-Some.session.now c.args.sessions.now.entries
+    (sym c.in-Some.ensures.value)
+    ∙ present-kept (rc_str_bytes c.in-Some-leave.id) c.in-Some.session.now
+    c.in-Some-leave.ensures.id
+
+pub returns-clause-left : goal.returns-clause-left
+returns-clause-left c =
     let id = c.args.id.now in
     ap (map session_in) (c.get_mut.follows.holds c.leave.new.self).0
     ∙ edited-is id (away c.args.clock.moment) c.in-Some.session.now c.leave.new.self
     c.args.sessions.now.entries (sym c.in-Some.ensures.value)
-    (ap (λ (s : Session). record s { id = id }) c.leave.ensures) c.in-Some.ensures.ordered
+    (ap (λ (s : Session). record s { id = id }) c.in-Some-leave.ensures.left)
+    c.in-Some.ensures.ordered
 
-pub returns-in-None-clause-left : goal.returns-in-None-clause-left
-returns-in-None-clause-left c =
-    ap (λ m. map session_in m.entries) c.get_mut.follows.holds-at-none
-    ∙ nobody-edited c.args.id.now (away c.args.clock.moment) c.args.sessions.now.entries
-    (sym c.in-None.ensures.value)
-
-pub returns-in-Some-clause-from : goal.returns-in-Some-clause-from
-returns-in-Some-clause-from c =
+pub returns-clause-fewer : goal.returns-clause-fewer
+returns-clause-fewer c =
     let es = c.args.sessions.now.entries in
-    subst (λ (o : Option ℕ). IfSome o (λ end. Contains (ends_at es) end)) (sym c.end-from.ensures)
-    (first-among (end_of (shown c.in-Some.session.now)) (ends_at es)
-    (ends_at (remove_entry (finds c.args.id.now) es))
-    (ends-out (finds c.args.id.now) (apart c.args.id.now) c.in-Some.session.now es
-    (sym c.in-Some.ensures.value) c.in-Some.ensures.ordered))
-
-pub returns-in-Some-clause-moved : goal.returns-in-Some-clause-moved
-returns-in-Some-clause-moved c =
-    let es = c.args.sessions.now.entries in
-    subst (λ (o : Option ℕ). SameEnds (option_to_list o ++ ends_at es)
-    (option_to_list c.end-from.result ++ ends_at
-    (c.get_mut.follows.lender c.leave.new.self).entries)) (sym c.end.ensures)
-    (subst (λ (o : Option ℕ). SameEnds
-    (option_to_list (end_of (shown c.leave.new.self)) ++ ends_at es)
-    (option_to_list o ++ ends_at (c.get_mut.follows.lender c.leave.new.self).entries))
-    (sym c.end-from.ensures)
-    (subst (λ l. SameEnds (option_to_list (end_of (shown c.leave.new.self)) ++ ends_at es)
-    (option_to_list (end_of (shown c.in-Some.session.now)) ++ ends_at l))
+    subst (λ l. length (connected (shown_in l)) + 1 ≡ length (connected (shown_in es)))
     (sym (c.get_mut.follows.holds c.leave.new.self).0)
-    (ends-set (finds c.args.id.now) (apart c.args.id.now) c.in-Some.session.now c.leave.new.self es
-    (sym c.in-Some.ensures.value) c.in-Some.ensures.ordered)))
+    (connected-left (finds c.args.id.now) c.in-Some.session.now c.leave.new.self es
+    (sym c.in-Some.ensures.value)
+    (present-kept (rc_str_bytes c.in-Some-leave.id) c.in-Some.session.now
+    c.in-Some-leave.ensures.id)
+    (ap is_present c.in-Some-leave.ensures.left))
+
+pub returns-clause-listed : goal.returns-clause-listed
+returns-clause-listed c = λ dues listed there.
+    subst (λ l. AreListed dues (shown_in l)) (sym (c.get_mut.follows.holds c.leave.new.self).0)
+    (listed-left (finds c.args.id.now) c.in-Some.session.now c.leave.new.self
+    c.args.sessions.now.entries (rc_str_bytes c.in-Some-leave.id) c.end.result dues
+    (sym c.in-Some.ensures.value) c.in-Some-leave.ensures.id c.end.ensures c.requires listed there)

@@ -1,0 +1,7 @@
+use Rattle.mq_ends.proofs.HeapLemmas.{popped}
+use Rattle.mq_ends.proofs.Ends.pop.Goals as goal
+
+pub returns-clause-entries : goal.returns-clause-entries
+returns-clause-entries c =
+    rw (← c.self.view_is)
+    (popped _ _ _ c.in_ok-client.ensures.top c.in_ok-client.ensures.permutation)

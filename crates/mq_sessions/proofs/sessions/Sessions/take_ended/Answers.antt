@@ -1,0 +1,69 @@
+use Rattle.std.proofs.Common.{◌≡◌, true, false, not, List, length, sym, ap, subst, ◌∙◌, arith}
+use Rattle.std.specs.List.{filter, list_any}
+use Rattle.std.specs.Rc.{rc_str_bytes}
+use Rattle.mq_world.specs.World.{Session, has_id}
+use Rattle.mq_world.specs.Sessions.{connected, has_ended, is_among}
+use Rattle.mq_sessions.specs.Ends.{AreListed}
+use Rattle.mq_sessions.specs.Views.{sessions_of}
+use Rattle.mq_sessions.proofs.EndLemmas.{connected-fewer}
+use Rattle.mq_sessions.proofs.TakenLemmas.{any-is, taken-ended, taken-listed, taken-only, taken-shorter}
+use Rattle.mq_sessions.proofs.sessions.Sessions.take_ended.Goals as goal
+
+pub returns-then-not-any_until-clause-none : goal.returns-then-not-any_until-clause-none
+returns-then-not-any_until-clause-none c =
+    sym (sym c.if-not-any_until.true
+    ∙ any-is c.args.moment c.self.inside.ends.entries (sessions_of c.self.inside)
+    c.self.invariant.0.listed c.self.invariant.0.first c.any_until.result
+    c.any_until.ensures.all c.any_until.ensures.first
+    ∙ ap (list_any (has_ended c.args.moment)) c.self.view_is)
+
+pub settle-requires : goal.settle-requires
+settle-requires c =
+    let sessions : List Session = sessions_of c.self.inside in
+    let rest = c.pop.new.self.entries in
+    subst (AreListed rest)
+    (ap (λ id. filter (λ s. not (has_id id s)) sessions) (sym c.as_str.ensures.value)
+    ∙ sym c.remove.ensures.removed)
+    (taken-listed (rc_str_bytes c.in_ok-client.client) c.self.inside.ends.entries rest sessions
+    c.in_ok-client.ensures.client c.pop.ensures.entries c.self.invariant.0.listed)
+
+pub invariant_of-self-2 : goal.invariant_of-self-2
+invariant_of-self-2 c = (
+  record {
+    listed = c.settle.ensures.listed;
+    first = c.settle.ensures.first;
+    room =
+        let fewer = connected-fewer (λ session. not (has_id c.as_str.result.now session))
+        (sessions_of c.self.inside) in
+        let count = ap (λ ss. length (connected ss)) c.remove.ensures.removed in
+        let less = taken-shorter (rc_str_bytes c.in_ok-client.client) c.self.inside.ends.entries
+        c.pop.new.self.entries c.in_ok-client.ensures.client c.pop.ensures.entries in
+        omega (
+          arith,
+          c.self.invariant.0.room,
+          c.pop.ensures.room,
+          c.settle.ensures.count,
+          c.settle.ensures.room,
+        );
+  },
+  c.remove.ensures.ids c.self.invariant.1,
+)
+
+pub returns-clause-ended : goal.returns-clause-ended
+returns-clause-ended c =
+    let id = rc_str_bytes c.in_ok-client.client in
+    let moment = c.args.moment in
+    subst (λ ss. is_among (filter (has_ended moment) ss) id ≡ true) c.self.view_is
+    (taken-ended moment id c.self.inside.ends.entries (sessions_of c.self.inside)
+    c.in_ok-client.ensures.client c.self.invariant.0.first
+    (sym c.any_until.ensures.first ∙ c.if-not-any_until.false))
+
+pub returns-clause-only : goal.returns-clause-only
+returns-clause-only c =
+    let id = rc_str_bytes c.in_ok-client.client in
+    let moment = c.args.moment in
+    subst (λ (ss : List Session). is_among (filter (λ s. not (has_ended moment s)) ss) id ≡ false)
+    c.self.view_is
+    (taken-only moment id c.self.inside.ends.entries (sessions_of c.self.inside)
+    c.in_ok-client.ensures.client c.self.invariant.0.first
+    (sym c.any_until.ensures.first ∙ c.if-not-any_until.false) c.learn_order.ensures)

@@ -1,0 +1,10 @@
+use Rattle.std.proofs.Common.{◌+◌, ◌≤◌, length}
+use Rattle.mq_sessions.proofs.EndLemmas.{Lists}
+use Rattle.mq_sessions.proofs.sessions.ends.ends_of.Given as goal
+
+abbrev pub invariant-loop-id : goal.invariant-loop-id
+invariant-loop-id l = record {
+  listed : Lists l.ends.entries l.id-iterator l.sessions.entries;
+  count : length l.ends.entries + length l.id-iterator ≤ length l.sessions.entries;
+  room : l.room ≤ l.ends.room;
+}
