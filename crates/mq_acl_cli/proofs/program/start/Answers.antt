@@ -1,0 +1,11 @@
+use Rattle.mq_acl_cli.specs.CommandLine.{question_view}
+use Rattle.mq_acl_cli.proofs.program.start.Goals as goal
+
+pub returns-in-Ok-answer-clause-answered : goal.returns-in-Ok-answer-clause-answered
+returns-in-Ok-answer-clause-answered g c = λ none read written. (
+  question_view c.in-Ok.request.question,
+  c.in-Ok-answer.outcome,
+  c.in-Ok.ensures.ok.question,
+  c.in-Ok-answer.ensures.ok,
+  c.status.ensures,
+)
