@@ -25,12 +25,12 @@ IsListed dues session = IfSome (end_of session) (λ end. is_in (end, session.id)
 abbrev pub AreListed : List Due → List Session → Type 0
 AreListed dues sessions = AllByRecursion (IsListed dues) sessions
 
--- a first end in the index is that of a session, which was not put anew since it came in
+-- the first end in the index is that of a session: its client has not come back
 abbrev pub IsFirstLive : List Due → List Session → Type 0
 IsFirstLive dues sessions =
     IfSome (first_of dues) (λ due. list_any (ends_so due) sessions ≡ true)
 
--- and there is room for the end of each session whose client is connected
+-- and there is room for the end of each session whose client is connected, which comes in without memory
 pub record AreIndexed (index : Dues) (sessions : List Session) : Type 0 where
   pub listed : AreListed index.entries sessions
   pub first : IsFirstLive index.entries sessions

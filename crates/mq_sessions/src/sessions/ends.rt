@@ -1,5 +1,5 @@
-//! The index of the ends of sessions. It lists the end of each session, and ends of sessions that were put anew since: those
-//! go where they come first, or where a client that connects finds no room for one end more of each session.
+//! The index of the ends of sessions. It lists the end of each, and ends that are none any more: of clients that came back.
+//! Those go where they come first, or where a client that connects finds too little room.
 ghost use Rattle.std.specs.Prelude.{◌≡◌, ◌+◌, ◌<◌, ◌≤◌, true, length, IfOk, OnOk, IfSome};
 ghost use Rattle.std.specs.List.{list_any};
 ghost use Rattle.std.specs.Rc.{rc_str_bytes};
@@ -12,7 +12,7 @@ use std::alloc::{AllocError, Global};
 use std::collections::BTreeMap;
 use std::rc::RcStr;
 
-// Whether the client has a session that ends at the moment.
+// Whether the client has a session that ends then.
 fn ends_so(sessions: &BTreeMap<RcStr, Session>, end: u64, client: &RcStr) -> bool
     ensures { result ≡ list_any (ends_so (end, rc_str_bytes client.now))
         (shown_in sessions.now.entries) }
@@ -75,8 +75,8 @@ fn ends_of(
     Ok(ends)
 }
 
-/// Makes room for the end of one session more. What is made anew has thrice the room that it needs at most, so to make it
-/// costs a few steps for each client that connected since the last time.
+/// Makes room for the end of one session more. What is made anew has thrice the room that the sessions take with one more, so
+/// this is done once in at least half as many connects as there are sessions.
 pub(crate) fn make_room(
     alloc: Global,
     ends: &mut Ends,

@@ -28,12 +28,12 @@ invariant_of-self c =
     c.in_ok-check_client.ensures.refused
     ∙ ap (λ (v : State). first_refusal (client_conditions v.sessions id)) (sym c.self.view_is)
     in (
-  c.self.invariant.0,
-  subst (AllReached c.self.inside.clock.moment)
-      (sym (c.leave.ensures.left (connected-tested c.self.inside.sessions id tested)))
-      (reached-left c.self.inside.clock.moment c.self.inside.clock.moment c.args.client.now
-      c.self.inside.sessions c.self.invariant.1),
-)
+      c.self.invariant.0,
+      subst (AllReached c.self.inside.clock.moment)
+          (sym (c.leave.ensures.left (connected-tested c.self.inside.sessions id tested)))
+          (reached-left c.self.inside.clock.moment c.self.inside.clock.moment c.args.client.now
+          c.self.inside.sessions c.self.invariant.1),
+    )
 
 pub invariant_of-self-2 : goal.invariant_of-self-2
 invariant_of-self-2 c = (
