@@ -1,4 +1,5 @@
-"""Each tool's manual page has the options that its --help has, and no other; and what is installed is what is taken out."""
+"""Each tool's manual page has the options that its --help has, and no other; those of the programs explain each text that they tell on
+standard error; and what is installed is what is taken out."""
 import os
 import re
 import shutil
@@ -69,6 +70,44 @@ class Pages(unittest.TestCase):
                                   env=os.environ | {"MANWIDTH": "80", "LC_ALL": "C.UTF-8"})
             self.assertEqual((done.returncode, done.stderr), (0, ""))
             self.assertIn(installed_name(tool), done.stdout)
+
+
+# The programs, each with the source of the texts that it tells on standard error.
+TOLD = {"mqroute": "mq_cli/src/program.rt", "mqroute-acl": "mq_acl_cli/src/failure.rt"}
+
+
+def diagnostics(program: str) -> list[str]:
+    """The lines of DIAGNOSTICS as they are read: words without macros, the parts of one macro without blanks between them where it joins them."""
+    text = (TOP / f"docs/{program}.1").read_text("utf-8").split(".SH DIAGNOSTICS\n")[1].split("\n.SH")[0].replace("\\-", "-")
+    joined = re.compile(r"\.(?:BI|BR|IB|IR|RB|RI) ")
+    return [re.sub(r'"((?:[^"]|"")*)" ?|(\S+) ?', lambda part: (part[1] or "").replace('""', '"') + (part[2] or ""), line[4:]) if joined.match(line)
+            else re.sub(r"^\.[BI] ", "", line) for line in text.split("\n")]
+
+
+def pattern(told: str) -> str:
+    """A text of the source, with any word or quoted word where a value is put in."""
+    return r'"?\w+"?'.join(map(re.escape, re.split(r"\{[^}]*\}", told)))
+
+
+class Diagnostics(unittest.TestCase):
+    def test_each_text_is_explained(self):
+        for program, source in TOLD.items():
+            told = re.findall(r'#\[error\("(.*)"\)\]', (TOP / "crates" / source).read_text("utf-8"))
+            lines = diagnostics(program)
+            self.assertGreater(len(told), 8)
+            for text in told:
+                with self.subTest(program, text=text):
+                    self.assertTrue(any(re.match(pattern(text) + r"[.;]?$", line) for line in lines))
+            for head, line in zip(lines, lines[1:]):
+                if head == ".TP":
+                    with self.subTest(program, line=line):
+                        self.assertTrue(any(re.fullmatch(pattern(text), line) for text in told))
+
+    def test_each_kind_of_fault_is_explained(self):
+        kinds = re.findall(r"^    (\w+),$", (TOP / "crates/mq_acl/src/fault.rt").read_text("utf-8").split("enum AclKind {")[1].split("\n}")[0], re.M)
+        self.assertIn("Keyword", kinds)
+        words = {line.split()[0] for line in diagnostics("mqroute") if line}
+        self.assertEqual({kind for kind in kinds if kind not in words}, {"Memory"})
 
 
 @unittest.skipUnless(all(file.exists() for file in BUILT) and shutil.which("make") and shutil.which("bash"), "nothing is built, or there is no make or bash")
