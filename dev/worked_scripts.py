@@ -38,7 +38,7 @@ use Rattle.mq_world.specs.Lists.{Text, with_row}
 use Rattle.mq_world.specs.World.{World, Request, Connect, Disconnect, Subscribe, Unsubscribe, Publish, SetAcl, Advance, Stat, Group, Copy, Reply, fresh_world, empty_world, within}
 use Rattle.mq_world.specs.Refusals.{refusal}
 use Rattle.mq_world.specs.Copies.{direct_copies}
-use Rattle.mq_world.specs.Groups.{groups_of, served}
+use Rattle.mq_world.specs.Groups.{groups_of, served_rows}
 use Rattle.mq_world.specs.Retained.{retained_after, retained_copies}
 use Rattle.mq_world.specs.Waiting.{resumed_copies, begins_to_wait}
 use Rattle.mq_world.specs.Counts.{filters_of, counts, steps}
@@ -182,7 +182,7 @@ def row(path):
     name = path.stem.replace("-", "_")
     script = f"\nabbrev {name}-script : List Request\n{name}-script =\n    " + "\n    ∷ ".join(requests + ["[]"]) + "\n"
     equation = (f"\n{name} : answers {start_of(path)} {name}-script\n    ≡ (" + "\n    ∷ ".join(wanted + ["[])"])
-                + "\nunfolding fresh_world refusal answer after next with_row allowed direct_copies groups_of served\n"
+                + "\nunfolding fresh_world refusal answer after next with_row allowed direct_copies groups_of served_rows\n"
                 + "    retained_after retained_copies resumed_copies begins_to_wait filters_of counts" + f"\n{name} = refl\n")
     if path.stem not in STEPS:
         return script + equation
@@ -191,7 +191,7 @@ def row(path):
     return script + equation + (
         f"\n-- the steps of line{'s'[:len(counts) - 1]} {', '.join(str(line) for line in counts)}\n"
         f"{name}-steps : counted_at {places} {start_of(path)} {name}-script ≡ {listed([str(n) for n in counts.values()])}"
-        + "\nunfolding fresh_world refusal answer after next with_row allowed groups_of served retained_after\n"
+        + "\nunfolding fresh_world refusal answer after next with_row allowed groups_of served_rows retained_after\n"
         + f"    filters_of steps\n{name}-steps = refl\n")
 
 

@@ -12,7 +12,7 @@ use Rattle.mq_acl.specs.declared.access.Direction.{Direction}
 use Rattle.mq_acl.specs.declared.access.Direction.TheVariants.{Reading, Writing}
 use Rattle.mq_questions.specs.Differ.{AllowSame, AllowSameIn, Differ}
 use Rattle.mq_questions.specs.Literals.{is_named}
-use Rattle.mq_questions.specs.Roots.{gained}
+use Rattle.mq_questions.specs.Roots.{is_gained}
 use Rattle.mq_questions.specs.declared.ask.literals.Literals.{Literals}
 
 -- ---- the first of a list
@@ -43,9 +43,9 @@ one_of false false e = λ q. let k = e in cc
 
 pub none_differ : (one other : List AclRow) (user : Option (List ℕ)) (direction : Direction)
     → ((client name : List ℕ) → IsTrue (is_name name)
-    → gained one other client user name direction ≡ false)
+    → is_gained one other client user name direction ≡ false)
     → ((client name : List ℕ) → IsTrue (is_name name)
-    → gained other one client user name direction ≡ false)
+    → is_gained other one client user name direction ≡ false)
     → AllowSameIn one other user direction
 none_differ one other user direction f g client name valid =
     neither (allowed (Some one) client user name direction)
@@ -54,7 +54,7 @@ none_differ one other user direction f g client name valid =
 
 pub more_differ : (one other : List AclRow) (client : List ℕ) (user : Option (List ℕ))
     (name : List ℕ) (direction : Direction) → IsTrue (is_name name)
-    → gained one other client user name direction ≡ true → Differ one other
+    → is_gained one other client user name direction ≡ true → Differ one other
 more_differ one other client user name direction valid h =
     record {
       client = client;
@@ -68,7 +68,7 @@ more_differ one other client user name direction valid h =
 
 pub fewer_differ : (one other : List AclRow) (client : List ℕ) (user : Option (List ℕ))
     (name : List ℕ) (direction : Direction) → IsTrue (is_name name)
-    → gained other one client user name direction ≡ true → Differ one other
+    → is_gained other one client user name direction ≡ true → Differ one other
 fewer_differ one other client user name direction valid h = record {
   client = client;
   user = user;

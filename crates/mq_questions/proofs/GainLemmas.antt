@@ -18,7 +18,7 @@ use Rattle.mq_walk.specs.Remainders.{passes, same, hit, allow, gains, fits, mark
 use Rattle.mq_walk.specs.Remainders.{GainsNothing, IsGain}
 use Rattle.mq_walk.specs.Paths.{path_levels}
 use Rattle.mq_questions.specs.Fresh.{marks_of, is_user_level}
-use Rattle.mq_questions.specs.Roots.{alike, AreRoots, gained}
+use Rattle.mq_questions.specs.Roots.{alike, AreRoots, is_gained}
 use Rattle.mq_questions.specs.declared.ask.fresh.Fresh.{Fresh}
 use Rattle.mq_walk.specs.declared.remainder.Remainder.{Remainder}
 use Rattle.mq_walk.specs.declared.start.Start.{Start}
@@ -96,7 +96,7 @@ pub gained_is : (old new : List AclRow) (olds news : List Remainder) (user other
     → AreRoots new user direction dollar news
     → alike other user old ≡ true → alike other user new ≡ true
     → (client name : List ℕ) → begins_with_dollar name ≡ dollar
-    → gained old new client other name direction
+    → is_gained old new client other name direction
     ≡ gains (marks_of client other) (levels name) olds news
 gained_is old new olds news user other direction dollar a b l m client name d =
     (λ i. roots_allow new news user other direction dollar b m client name d i
@@ -108,7 +108,7 @@ pub nothing_gained : (old new : List AclRow) (olds news : List Remainder) (user 
     → start ≡ start_of dollar
     → ((c : List ℕ) → GainsNothing start 200 (marks_of c (level_of user)) olds news)
     → (client name : List ℕ) → IsTrue (is_name name) → begins_with_dollar name ≡ dollar
-    → gained old new client user name direction ≡ false
+    → is_gained old new client user name direction ≡ false
 nothing_gained old new olds news user direction dollar start a b st h client name valid d =
     let is = name_is name valid in
     gained_is old new olds news user user direction dollar a b (alike_self user old)
@@ -124,7 +124,7 @@ pub nothing_gained_by : (old new : List AclRow) (olds news : List Remainder)
     → alike other user old ≡ true → alike other user new ≡ true → start ≡ start_of dollar
     → ((c : List ℕ) → GainsNothing start 200 (marks_of c other) olds news)
     → (client name : List ℕ) → IsTrue (is_name name) → begins_with_dollar name ≡ dollar
-    → gained old new client other name direction ≡ false
+    → is_gained old new client other name direction ≡ false
 nothing_gained_by old new olds news user other direction dollar start a b l m st h client name valid
     d =
     let is = name_is name valid in
@@ -140,7 +140,7 @@ pub name_gained : (old new : List AclRow) (olds news : List Remainder) (user : O
     → AreRoots old user direction dollar olds → AreRoots new user direction dollar news
     → start ≡ start_of dollar → (client name : List ℕ) (ls : List (List ℕ)) → levels name ≡ ls
     → IsGain start 200 (marks_of client (level_of user)) olds news ls
-    → gained old new client user name direction ≡ true
+    → is_gained old new client user name direction ≡ true
 name_gained old new olds news user direction dollar start a b st client name ls e h =
     let fit : suits (start_of dollar) (levels name) ≡ true = (λ i. suits (sym st i) (e i))
     ∙ h.suitable in
@@ -156,7 +156,7 @@ pub name_gained_by : (old new : List AclRow) (olds news : List Remainder)
     → alike other user old ≡ true → alike other user new ≡ true → start ≡ start_of dollar
     → (client name : List ℕ) (ls : List (List ℕ)) → levels name ≡ ls
     → IsGain start 200 (marks_of client other) olds news ls
-    → gained old new client other name direction ≡ true
+    → is_gained old new client other name direction ≡ true
 name_gained_by old new olds news user other direction dollar start a b l m st client name ls e h =
     let fit : suits (start_of dollar) (levels name) ≡ true = (λ i. suits (sym st i) (e i))
     ∙ h.suitable in

@@ -17,8 +17,8 @@ use Rattle.mq_questions.proofs.MarkLemmas.{any_client_nothing}
 use Rattle.mq_topic.specs.Levels.{levels}
 use Rattle.mq_acl.specs.Rows.{AclRow}
 use Rattle.mq_acl.specs.declared.access.Direction.{Direction}
-use Rattle.mq_questions.specs.Roots.{AreRoots, gained}
-use Rattle.mq_questions.specs.Gains.{IsGainOf, IsNamed, told, shown}
+use Rattle.mq_questions.specs.Roots.{AreRoots, is_gained}
+use Rattle.mq_questions.specs.Gains.{IsGainOf, IsNamed, told, witness_view}
 use Rattle.mq_questions.specs.declared.ask.gain.Witness.{Witness}
 use Rattle.mq_questions.proofs.GainLemmas.{name_gained}
 use Rattle.mq_walk.specs.Paths.{levels_of, all_levels}
@@ -206,16 +206,17 @@ module _ (old new : List AclRow) (olds news : List Remainder) (user : Option (Li
     (direction : Direction) (dollar : Bool) (start : Start)
     (a : AreRoots old user direction dollar olds) (b : AreRoots new user direction dollar news)
     (e : start ≡ start_of dollar) where
-  pub each_gained : (ws : List Witness) (gs : List Gain) → map shown ws ≡ map told gs
+  pub each_gained : (ws : List Witness) (gs : List Gain) → map witness_view ws ≡ map told gs
       → All (IsGainOf start (level_of user) olds news) gs
-      → All (λ w. gained old new (string_bytes w.client) user w.name direction ≡ true) ws
+      → All (λ w. is_gained old new (string_bytes w.client) user w.name direction ≡ true) ws
   each_gained ws gs f h =
       All-weaker (λ (w : Witness). IsGain start 200
       (marks_of (string_bytes w.client) (level_of user)) olds news (levels w.name))
-      (λ w. gained old new (string_bytes w.client) user w.name direction ≡ true)
+      (λ w. is_gained old new (string_bytes w.client) user w.name direction ≡ true)
       (λ w g. name_gained old new olds news user direction dollar start a b e
       (string_bytes w.client) w.name (levels w.name) refl g) ws
-      (shown_each shown told (λ p. IsGain start 200 (marks_of p.0 (level_of user)) olds news p.1) ws
+      (shown_each witness_view told
+      (λ p. IsGain start 200 (marks_of p.0 (level_of user)) olds news p.1) ws
       gs f h)
 
 -- ---- the first of two lists

@@ -15,7 +15,7 @@ use Rattle.mq_acl.specs.Access.{begins_with_dollar}
 use Rattle.mq_topic.proofs.TextLemmas.{levels_lack}
 use Rattle.mq_topic.proofs.Walk.{levels-nonempty}
 use Rattle.mq_walk.specs.Names.{can_be_level, is_name_level, suits, start_of}
-use Rattle.mq_questions.specs.Texts.{joined}
+use Rattle.mq_questions.specs.Texts.{join_levels}
 use Rattle.mq_walk.specs.declared.start.Start.TheVariants.{Plain, Dollar, Slash, Inside}
 use Rattle.mq_walk.proofs.NameLemmas.{suits_inside}
 
@@ -65,7 +65,7 @@ slashed_lack b (l ∷ ls) n h =
     i) (slashed_lack b ls n (and_parts (not (contains_byte b l)) (all_lack b ls) h).1)
 
 joined_lack : (b : ℕ) (l : List ℕ) (ls : List (List ℕ)) → (47 == b) ≡ false
-    → all_lack b (l ∷ ls) ≡ true → contains_byte b (joined (l ∷ ls)) ≡ false
+    → all_lack b (l ∷ ls) ≡ true → contains_byte b (join_levels (l ∷ ls)) ≡ false
 joined_lack b l ls n h =
     lack_append b l (slashed ls)
     (not-true (contains_byte b l) (and_parts (not (contains_byte b l)) (all_lack b ls) h).0)
@@ -112,7 +112,7 @@ slashed_short (l ∷ ls) h =
     omega (arith, short, more, size)
 
 pub levels_of_joined : (ls : List (List ℕ)) (dollar : Bool) → list_all is_name_level ls ≡ true
-    → suits (start_of dollar) ls ≡ true → levels (joined ls) ≡ ls
+    → suits (start_of dollar) ls ≡ true → levels (join_levels ls) ≡ ls
 levels_of_joined [] true h s = absurd (let e : false ≡ true = s in cc)
 levels_of_joined [] false h s = absurd (let e : false ≡ true = s in cc)
 levels_of_joined (l ∷ ls) dollar h s =
@@ -123,7 +123,7 @@ levels_of_joined (l ∷ ls) dollar h s =
     (and_parts (not (contains_byte 47 l)) (all_lack 47 ls) lack).1
 
 some_bytes : (l : List ℕ) (ls : List (List ℕ)) (dollar : Bool)
-    → suits (start_of dollar) (l ∷ ls) ≡ true → 0 < length (joined (l ∷ ls))
+    → suits (start_of dollar) (l ∷ ls) ≡ true → 0 < length (join_levels (l ∷ ls))
 some_bytes [] [] true s = absurd (let e : false ≡ true = s in cc)
 some_bytes [] [] false s = absurd (let e : false ≡ true = s in cc)
 some_bytes [] (m ∷ ms) dollar s = omega arith
@@ -135,7 +135,7 @@ valid : (text few : Bool) (n m : ℕ) (nul plus hash : Bool) → 0 < n → n ≤
 valid text few n m nul plus hash a b d e f g = rw (e, f, g) (grind (arith, nat_tests))
 
 pub joined_is_name : (ls : List (List ℕ)) (dollar : Bool) → list_all is_name_level ls ≡ true
-    → length ls ≤ 200 → suits (start_of dollar) ls ≡ true → is_name (joined ls) ≡ true
+    → length ls ≤ 200 → suits (start_of dollar) ls ≡ true → is_name (join_levels ls) ≡ true
 joined_is_name [] true h n s = absurd (let e : false ≡ true = s in cc)
 joined_is_name [] false h n s = absurd (let e : false ≡ true = s in cc)
 joined_is_name (l ∷ ls) dollar h n s =
@@ -144,9 +144,9 @@ joined_is_name (l ∷ ls) dollar h n s =
     let size = length-append l (slashed ls) in
     let short = first.short in
     let parts = ap length (levels_of_joined (l ∷ ls) dollar h s) in
-    valid true true (length (joined (l ∷ ls))) (length (levels (joined (l ∷ ls))))
-    (contains_byte 0 (joined (l ∷ ls))) (contains_byte 43 (joined (l ∷ ls)))
-    (contains_byte 35 (joined (l ∷ ls)))
+    valid true true (length (join_levels (l ∷ ls))) (length (levels (join_levels (l ∷ ls))))
+    (contains_byte 0 (join_levels (l ∷ ls))) (contains_byte 43 (join_levels (l ∷ ls)))
+    (contains_byte 35 (join_levels (l ∷ ls)))
     (some_bytes l ls dollar s) (omega (arith, more, size, short)) (omega (arith, parts))
     (joined_lack 0 l ls refl (all_by is_name_level (λ t. not (contains_byte 0 t))
     (λ t e. (level_is t e).nul) (l ∷ ls) h))

@@ -13,7 +13,7 @@ use Rattle.mq_questions.specs.Literals.{is_named, has_mark}
 use Rattle.mq_walk.specs.Names.{is_among, is_choice, start_of}
 use Rattle.mq_walk.specs.Paths.{levels_of}
 use Rattle.mq_walk.specs.Remainders.{remainders_fit, GainsNothing, IsGain}
-use Rattle.mq_questions.specs.Roots.{AreRoots, HasUsers, alike, gained}
+use Rattle.mq_questions.specs.Roots.{AreRoots, HasUsers, alike, is_gained}
 use Rattle.mq_questions.specs.declared.ask.clients.Gain.{Gain}
 use Rattle.mq_questions.specs.declared.ask.fresh.Fresh.{Fresh}
 use Rattle.mq_questions.specs.declared.ask.literals.Literals.{Literals}
@@ -213,13 +213,13 @@ module _ (old new : List AclRow) (olds news : List Remainder) (first : List ℕ)
 
   pub all_gained : (ws : List OtherWitness) (os : List OtherGain)
       → map other_shown ws ≡ map other_told os → All (IsOtherGain start olds news named) os
-      → All (λ w. gained old new (string_bytes w.witness.client) (Some (string_bytes w.user))
+      → All (λ w. is_gained old new (string_bytes w.witness.client) (Some (string_bytes w.user))
       w.witness.name direction ≡ true) ws
   all_gained ws os f h =
       All-weaker (λ (w : OtherWitness). (is_named (string_bytes w.user) named ≡ false)
       × IsGain start 200 (marks_of (string_bytes w.witness.client)
       (Some (string_bytes w.user))) olds news (levels w.witness.name))
-      (λ w. gained old new (string_bytes w.witness.client) (Some (string_bytes w.user))
+      (λ w. is_gained old new (string_bytes w.witness.client) (Some (string_bytes w.user))
       w.witness.name direction ≡ true)
       (λ w g. let like = other_nothing (string_bytes w.user) g.0 in
       name_gained_by old new olds news (Some first) (Some (string_bytes w.user)) direction dollar

@@ -4,7 +4,7 @@ use Rattle.std.specs.List.{list_any}
 use Rattle.std.specs.Str.{bytes_eq}
 use Rattle.mq_acl.specs.Rows.{AclRow}
 use Rattle.mq_acl.specs.declared.access.Direction.{Direction}
-use Rattle.mq_questions.specs.Roots.{gained}
+use Rattle.mq_questions.specs.Roots.{is_gained}
 use Rattle.mq_questions.specs.Users.{is_user_of}
 use Rattle.mq_questions.specs.declared.way.Way.{Way}
 use Rattle.mq_questions.specs.declared.way.Way.TheVariants.{Gained, Lost}
@@ -29,9 +29,9 @@ rows_with Gained c = c.new
 rows_with Lost c = c.old
 
 -- the new list allows it and the old one doesn't, or the other way round
-abbrev pub changed : Way → Compared → List ℕ → Option (List ℕ) → List ℕ → Direction → Bool
-changed way c client user name direction =
-    gained (rows_without way c) (rows_with way c) client user name direction
+abbrev pub is_changed : Way → Compared → List ℕ → Option (List ℕ) → List ℕ → Direction → Bool
+is_changed way c client user name direction =
+    is_gained (rows_without way c) (rows_with way c) client user name direction
 
 -- it is one of the texts that stand for others
 abbrev pub is_made_up : List ℕ → Compared → Bool

@@ -37,12 +37,12 @@ pub record IsNamed (dollar : Bool) (gain : Gain) : Type 0 where
 abbrev pub told : Gain → List ℕ × List (List ℕ)
 told gain = (gain.client.now, levels_of gain.path)
 
-abbrev pub shown : Witness → List ℕ × List (List ℕ)
-shown witness = (string_bytes witness.client, levels witness.name)
+abbrev pub witness_view : Witness → List ℕ × List (List ℕ)
+witness_view witness = (string_bytes witness.client, levels witness.name)
 
 -- the same, and the user name
 abbrev pub other_told : OtherGain → List ℕ × (List ℕ × List (List ℕ))
 other_told other = (other.user.now, told other.gain)
 
 abbrev pub other_shown : OtherWitness → List ℕ × (List ℕ × List (List ℕ))
-other_shown other = (string_bytes other.user, shown other.witness)
+other_shown other = (string_bytes other.user, witness_view other.witness)

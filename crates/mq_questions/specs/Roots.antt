@@ -49,8 +49,9 @@ pub record AreRoots (rows : List AclRow) (user : Option (List ℕ)) (direction :
   pub fit : (p : List ℕ → Bool) → rows_fit p rows ≡ true → remainders_fit p roots ≡ true
 
 -- the new rows allow it, and the old ones don't
-abbrev pub gained : List AclRow → List AclRow → List ℕ → Option (List ℕ) → List ℕ → Direction → Bool
-gained old new client user name direction = allowed (Some new) client user name direction
+abbrev pub is_gained : List AclRow → List AclRow → List ℕ → Option (List ℕ) → List ℕ → Direction
+    → Bool
+is_gained old new client user name direction = allowed (Some new) client user name direction
     && not (allowed (Some old) client user name direction)
 
 -- among these names are all user names of both lists

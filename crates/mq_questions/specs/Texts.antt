@@ -9,6 +9,6 @@ level_of None = None
 level_of (Some text) = if can_be_level text then Some text else None
 
 -- the levels with slashes between them
-abbrev pub joined : List (List ℕ) → List ℕ
-joined [] = []
-joined (level ∷ levels) = level ++ flat_map (λ l. 47 ∷ l) levels
+abbrev pub join_levels : List (List ℕ) → List ℕ
+join_levels [] = []
+join_levels (level ∷ levels) = level ++ flat_map (λ l. 47 ∷ l) levels

@@ -3,7 +3,7 @@ ghost use Rattle.std.specs.Prelude.{length, string_bytes, Some, None};
 ghost use Rattle.std.specs.List.{All};
 ghost use Rattle.mq_topic.specs.Texts.{is_name};
 ghost use Rattle.mq_acl.specs.Views.{row_views};
-ghost use Rattle.mq_questions.specs.Comparison.{changed, is_made_up, lists_user, rows_with};
+ghost use Rattle.mq_questions.specs.Comparison.{is_changed, is_made_up, lists_user, rows_with};
 ghost use Rattle.mq_questions.specs.Comparison.{rows_without};
 ghost use Rattle.mq_questions.specs.Limits.{IsComparisonFault, long_line};
 ghost use Rattle.mq_walk.specs.Names.{is_among};
@@ -161,9 +161,9 @@ impl<'a> Comparison<'a> {
     ) -> Result<Vec<Witness>, AllocError>
         ensures none { IfOk result (λ found. found.items ≡ [] → (client name : List ℕ)
             → IsTrue (is_name name)
-            → changed way self.now client None name direction ≡ false) }
+            → is_changed way self.now client None name direction ≡ false) }
         ensures each { IfOk result (λ found. All (λ witness.
-            changed way self.now (string_bytes witness.client) None witness.name direction
+            is_changed way self.now (string_bytes witness.client) None witness.name direction
             ≡ true) found.items) }
         ensures few { IfOk result (λ found. length found.items ≤ MAX_WITNESSES) }
     {
@@ -185,9 +185,9 @@ impl<'a> Comparison<'a> {
         requires { lists_user self.now user.now ≡ true }
         ensures none { IfOk result (λ found. found.items ≡ [] → (client name : List ℕ)
             → IsTrue (is_name name)
-            → changed way self.now client (Some user.now) name direction ≡ false) }
+            → is_changed way self.now client (Some user.now) name direction ≡ false) }
         ensures each { IfOk result (λ found. All (λ witness.
-            changed way self.now (string_bytes witness.client)
+            is_changed way self.now (string_bytes witness.client)
             (Some user.now) witness.name direction
             ≡ true) found.items) }
         ensures few { IfOk result (λ found. length found.items ≤ MAX_WITNESSES) }
@@ -208,11 +208,11 @@ impl<'a> Comparison<'a> {
     ) -> Result<Vec<OtherWitness>, AllocError>
         ensures none { IfOk result (λ found. found.items ≡ [] → (user client name : List ℕ)
             → lists_user self.now user ≡ false → IsTrue (is_name name)
-            → changed way self.now client (Some user) name direction ≡ false) }
+            → is_changed way self.now client (Some user) name direction ≡ false) }
         ensures unlisted { IfOk result (λ found.
             All (λ other. lists_user self.now (string_bytes other.user) ≡ false) found.items) }
         ensures each { IfOk result (λ found. All (λ other.
-            changed way self.now (string_bytes other.witness.client)
+            is_changed way self.now (string_bytes other.witness.client)
             (Some (string_bytes other.user))
             other.witness.name direction ≡ true) found.items) }
         ensures few { IfOk result (λ found. length found.items ≤ MAX_WITNESSES) }

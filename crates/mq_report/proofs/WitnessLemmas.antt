@@ -11,8 +11,8 @@ use Rattle.mq_acl.specs.Views.{row_views}
 use Rattle.mq_acl.specs.declared.access.Direction.{Direction}
 use Rattle.mq_acl.specs.declared.access.Direction.TheVariants.{Reading, Writing}
 use Rattle.mq_acl.specs.declared.row.Row.{Row}
-use Rattle.mq_questions.specs.Comparison.{Compared, changed, lists_user}
-use Rattle.mq_questions.specs.Roots.{gained}
+use Rattle.mq_questions.specs.Comparison.{Compared, is_changed, lists_user}
+use Rattle.mq_questions.specs.Roots.{is_gained}
 use Rattle.mq_questions.specs.declared.way.Way.{Way}
 use Rattle.mq_questions.specs.declared.way.Way.TheVariants.{Gained, Lost}
 use Rattle.mq_report.specs.Classes.{is_in, is_listed, is_asked}
@@ -29,11 +29,11 @@ use Rattle.mq_walk.proofs.TextLemmas.{text_is}
 pub change_is : (old new : List Row) (c : Compared) (way : Way) (client : List ℕ) (user : Option
     (List ℕ)) (topic : List ℕ) (direction : Direction) → Compares old new c
     → is_change way (row_views old) (row_views new) client user topic direction
-    ≡ changed way c client user topic direction
+    ≡ is_changed way c client user topic direction
 change_is old new c Gained client user topic direction h =
-    λ i. gained (sym h.old_list i) (sym h.new_list i) client user topic direction
+    λ i. is_gained (sym h.old_list i) (sym h.new_list i) client user topic direction
 change_is old new c Lost client user topic direction h =
-    λ i. gained (sym h.new_list i) (sym h.old_list i) client user topic direction
+    λ i. is_gained (sym h.new_list i) (sym h.old_list i) client user topic direction
 
 -- ---- what is like one that is told of somebody is told of him too
 way_is : (a b c : Way) → same_way a b ≡ true → same_way b c ≡ true → same_way a c ≡ true

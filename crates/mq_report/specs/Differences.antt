@@ -11,7 +11,7 @@ use Rattle.mq_acl.specs.declared.row.Row.{Row}
 use Rattle.mq_acl.specs.declared.access.Direction.{Direction}
 use Rattle.mq_acl.specs.declared.access.Direction.TheVariants.{Reading, Writing}
 use Rattle.mq_questions.specs.Comparison.{Compared}
-use Rattle.mq_questions.specs.Roots.{gained}
+use Rattle.mq_questions.specs.Roots.{is_gained}
 use Rattle.mq_questions.specs.Users.{rows_name}
 use Rattle.mq_questions.specs.declared.way.Way.{Way}
 use Rattle.mq_questions.specs.declared.way.Way.TheVariants.{Gained, Lost}
@@ -26,8 +26,8 @@ use Rattle.mq_report.specs.declared.reason.Reason.TheVariants.{Deny, Grant, NoGr
 -- the new list allows it and the old one doesn't, or the other way round
 abbrev pub is_change : Way → List AclRow → List AclRow → List ℕ → Option (List ℕ) → List ℕ
     → Direction → Bool
-is_change Gained old new client user topic direction = gained old new client user topic direction
-is_change Lost old new client user topic direction = gained new old client user topic direction
+is_change Gained old new client user topic direction = is_gained old new client user topic direction
+is_change Lost old new client user topic direction = is_gained new old client user topic direction
 
 abbrev pub same_direction : Direction → Direction → Bool
 same_direction Reading Reading = true

@@ -14,7 +14,7 @@ use Rattle.mq_tree.specs.Entries.{Entries}
 use Rattle.mq_world.specs.Lists.{Text, same_text, text_cmp, in_order, with_row}
 use Rattle.mq_world.specs.World.{Retained, Message, retained_cmp}
 use Rattle.mq_retained.specs.Deadlines.{Pair, is_pair, has_pair, pair_cmp, SamePairs}
-use Rattle.mq_world.specs.Retained.{is_stored, stored, has_topic, retained_after}
+use Rattle.mq_world.specs.Retained.{is_stored, retained_of, has_topic, retained_after}
 use Rattle.mq_retained.specs.Stored.{AreFiled, IsSound, retained_view, retained_in}
 use Rattle.mq_world.proofs.ListLemmas.{list_any-same}
 use Rattle.mq_world.proofs.OrderLemmas.{text_flip, same_text-is}
@@ -80,17 +80,17 @@ pub after-unretained : (now : ℕ) (retained : List Retained) (m : Message) → 
 unfolding retained_after
 after-unretained now retained m h =
     let rest : List Retained = if is_stored m then
-    with_row retained_cmp (stored now m) retained
+    with_row retained_cmp (retained_of now m) retained
     else filter (λ kept. not (has_topic m.topic kept)) retained in
     ap (λ b. if not b then retained else rest) h
 
 pub after-by : (now : ℕ) (retained : List Retained) (m : Message) (b : Bool) → m.retain ≡ true
     → is_stored m ≡ b → retained_after now retained m
-    ≡ (if b then with_row retained_cmp (stored now m) retained
+    ≡ (if b then with_row retained_cmp (retained_of now m) retained
     else filter (λ kept. not (has_topic m.topic kept)) retained)
 unfolding retained_after
 after-by now retained m b h e =
     let by : Bool → List Retained = λ v. if v then
-    with_row retained_cmp (stored now m) retained
+    with_row retained_cmp (retained_of now m) retained
     else filter (λ kept. not (has_topic m.topic kept)) retained in
     ap (λ v. if not v then retained else by (is_stored m)) h ∙ ap by e

@@ -4,7 +4,7 @@ ghost use Rattle.std.specs.List.{filter};
 ghost use Rattle.mq_tree.specs.Entries.{capped};
 ghost use Rattle.mq_tree.specs.Prefixes.{prefixes};
 ghost use Rattle.mq_world.specs.Clock.{deadline_of};
-ghost use Rattle.mq_world.specs.Retained.{retained_after, unexpired, is_full};
+ghost use Rattle.mq_world.specs.Retained.{retained_after, without_expired, is_full};
 ghost use Rattle.mq_retained.specs.Deadlines.{is_due};
 ghost use Rattle.mq_retained.specs.Stored.{AreFiled, AreNear};
 
@@ -86,7 +86,7 @@ impl Retained {
 
     /// Removes each message whose deadline is at the moment or before it, each at one step. It takes no memory.
     pub fn advance(&mut self, moment: u64, steps: &mut Steps)
-        ensures rest { self.new.messages ≡ unexpired moment self.old.messages }
+        ensures rest { self.new.messages ≡ without_expired moment self.old.messages }
         ensures filed { AreFiled self.new }
         ensures count { steps.new ≡ steps.old + length (filter (is_due moment) self.old.messages) }
     {

@@ -37,7 +37,8 @@ use Rattle.mq_router.specs.delivery.Summaries.{Summary, summary_of, summary_for,
 use Rattle.mq_router.specs.delivery.Summaries.{copy_from}
 use Rattle.mq_router.specs.delivery.Copies.{gives, gives_options, copy_for, copies_by, begin_for}
 use Rattle.mq_router.specs.delivery.Copies.{begins_by, by_client}
-use Rattle.mq_subscriptions.specs.Matches.{is_unshared_match, unshared_matches, matched, clients_of}
+use Rattle.mq_subscriptions.specs.Matches.{is_unshared_match, unshared_matches, match_views}
+use Rattle.mq_subscriptions.specs.Matches.{clients_of}
 use Rattle.mq_subscriptions.specs.Matches.{options_among, AreAscending, AreByClient}
 use Rattle.mq_world.proofs.BoolLemmas.{pick, and_false, and_true}
 use Rattle.mq_world.proofs.OrderLemmas.{text_flip, same_text-is, same_text-itself}
@@ -234,14 +235,14 @@ pub next-client : {F : Type 0} (g : Mut F (Bor Match × (Bor Match × Unit {0}))
     (s t : ChunkBy Match F) (r : Option (Bor (List Match))) (own : Bor (List Match)) (d : Match)
     → r ≡ Some own → chunk_by_steps g s r t
     → ComputesOnPairs g (same (λ (x : Match). rc_str_bytes x.client.now)) (chunk_by_callee s)
-    → AreByClient (matched (chunk_by_rest s))
-    → AreByClient (matched (chunk_by_rest t))
-    × (by_client (matched (chunk_by_rest s))
+    → AreByClient (match_views (chunk_by_rest s))
+    → AreByClient (match_views (chunk_by_rest t))
+    × (by_client (match_views (chunk_by_rest s))
     ≡ (
       rc_str_bytes (get_or own.now 0 d).client.now,
       summary_of (map (λ x. options_of x.options) own.now),
     )
-    ∷ by_client (matched (chunk_by_rest t)))
+    ∷ by_client (match_views (chunk_by_rest t)))
 next-client g s t r own d is steps computes up =
     let step = subst (λ (o : Option (Bor (List Match))). chunk_by_steps g s o t) is steps in
     cut own.now (chunk_by_rest t) (chunk_by_rest s) step.0 step.1
@@ -250,7 +251,8 @@ next-client g s t r own d is steps computes up =
     pair : Match → Text × SubscriptionOptions
     pair x = (rc_str_bytes x.client.now, options_of x.options)
 
-    clients : (xs : List Match) → clients_of (matched xs) ≡ map (λ x. rc_str_bytes x.client.now) xs
+    clients : (xs : List Match)
+        → clients_of (match_views xs) ≡ map (λ x. rc_str_bytes x.client.now) xs
     clients xs = map-map (λ (x : Text × SubscriptionOptions). x.0) pair xs
 
     behind : (xs ys : List Text) → AreAscending (xs ++ ys) → AreAscending ys
@@ -259,13 +261,13 @@ next-client g s t r own d is steps computes up =
 
     cut : (own rest all : List Match) → all ≡ own ++ rest → 0 < length own
         → IsChunkByPrefix (same (λ (x : Match). rc_str_bytes x.client.now)) all (length own)
-        → AreByClient (matched all)
-        → AreByClient (matched rest)
-        × (by_client (matched all)
+        → AreByClient (match_views all)
+        → AreByClient (match_views rest)
+        × (by_client (match_views all)
         ≡ (
           rc_str_bytes (get_or own 0 d).client.now,
           summary_of (map (λ x. options_of x.options) own),
-        ) ∷ by_client (matched rest))
+        ) ∷ by_client (match_views rest))
     cut [] rest all e p prefix up = absurd (omega arith)
     cut (x ∷ own) rest all e p prefix up =
         let c : Text = rc_str_bytes x.client.now in
@@ -282,12 +284,12 @@ next-client g s t r own d is steps computes up =
               (map (λ (x : Match). rc_str_bytes x.client.now) rest)
               (subst AreAscending (map-append (λ (x : Match). rc_str_bytes x.client.now) (x ∷ own)
               rest) up_keys)),
-          ap (λ l. by_client (matched l)) e
+          ap (λ l. by_client (match_views l)) e
               ∙ ap by_client (map-append pair (x ∷ own) rest)
-              ∙ first-client c (pair x) (matched own) (matched rest)
+              ∙ first-client c (pair x) (match_views own) (match_views rest)
               (subst (AllByRecursion (λ u. u ≡ c)) (sym (clients (x ∷ own))) parts.0)
               (subst (AllByRecursion (λ u. text_cmp c u ≡ Less)) (sym (clients rest)) parts.1)
-              ∙ ap (λ os. summed_first c os (by_client (matched rest)))
+              ∙ ap (λ os. summed_first c os (by_client (match_views rest)))
               (map-map (λ (y : Text × SubscriptionOptions). y.1) pair (x ∷ own)),
         )
       where

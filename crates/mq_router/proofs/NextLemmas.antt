@@ -10,14 +10,15 @@ use Rattle.mq_acl.specs.Rows.{AclRow}
 use Rattle.mq_world.specs.Lists.{Text, same_text, with_row}
 use Rattle.mq_world.specs.World.{World, IsWorld, Session, Away, Subscription, Row, Retained}
 use Rattle.mq_world.specs.World.{Message, Request, Connect, Disconnect, Subscribe, Unsubscribe}
-use Rattle.mq_world.specs.World.{Publish, SetAcl, Advance, Stat, asked, session_cmp, row_cmp}
+use Rattle.mq_world.specs.World.{Publish, SetAcl, Advance, Stat, subscription_of, session_cmp}
+use Rattle.mq_world.specs.World.{row_cmp}
 use Rattle.mq_world.specs.World.{retained_cmp, has_id, has_key, same_key, is_in_group, rows_in}
 use Rattle.mq_world.specs.World.{subscriptions_of}
 use Rattle.mq_world.specs.Clock.{deadline_of, is_over}
 use Rattle.mq_world.specs.Sessions.{new_session, outlives, resumes, left_by, session_end, has_ended}
 use Rattle.mq_world.specs.Waiting.{waiting_copy, waiting_after, with_waiting}
 use Rattle.mq_world.specs.Groups.{served_by}
-use Rattle.mq_world.specs.Retained.{retained_after, is_stored, stored, has_topic}
+use Rattle.mq_world.specs.Retained.{retained_after, is_stored, retained_of, has_topic}
 use Rattle.mq_world.specs.After.{after, kept_stamp, without_client}
 use Rattle.mq_router.specs.router.Effects.{lasts}
 use Rattle.mq_world.proofs.OrderLemmas.{session_total, row_total, retained_total, sorted-with_row}
@@ -91,7 +92,7 @@ sorted-after : (now : ℕ) (retained : List Retained) (m : Message)
     → IsStrictlySortedBy retained_cmp (retained_after now retained m)
 unfolding retained_after
 sorted-after now retained m s =
-    let new : Retained = stored now m in
+    let new : Retained = retained_of now m in
     let rest : List Retained = filter (λ kept. not (has_topic m.topic kept)) retained in
     elim (not m.retain) as (λ r. IsStrictlySortedBy retained_cmp
     (if r then retained else if is_stored m then
@@ -144,7 +145,7 @@ after-is_world w h (Disconnect id) =
           h.sessions)
     ]
 after-is_world w h (Subscribe id text options) =
-    let s : Subscription = asked id text options in
+    let s : Subscription = subscription_of id text options in
     record {
       sessions = h.sessions;
       rows = sorted-with_row row_cmp row_total (record { subscription = s; stamp = kept_stamp w s })

@@ -17,7 +17,8 @@ use Rattle.mq_world.specs.Sessions.{is_present}
 use Rattle.mq_world.specs.Copies.{direct_copy}
 use Rattle.mq_world.specs.Waiting.{has_place, with_qos, with_waiting, waiting_copy, waiting_after}
 use Rattle.mq_world.specs.Waiting.{begins_to_wait}
-use Rattle.mq_sessions.specs.Queue.{Begin, begin_with, queued, edited, queued_one, queued_all}
+use Rattle.mq_sessions.specs.Queue.{Begin, begin_with, queue_copies, edit_session, queue_one}
+use Rattle.mq_sessions.specs.Queue.{queue_all}
 use Rattle.mq_router.specs.delivery.Copies.{begins}
 use Rattle.mq_world.proofs.SameLemmas.{some_pass}
 use Rattle.mq_world.proofs.OrderLemmas.{text_flip}
@@ -56,12 +57,12 @@ module _ (limit : ℕ) (access : Option (List AclRow)) (subs : List Subscription
 
   queued_apart : (bs : List Begin) (s : Session) (ss : List Session)
       → AllByRecursion (λ b. same_text s.id b.0 ≡ false) bs
-      → queued_all limit bs (s ∷ ss) ≡ s ∷ queued_all limit bs ss
+      → queue_all limit bs (s ∷ ss) ≡ s ∷ queue_all limit bs ss
   queued_apart [] s ss h = refl
-  queued_apart (b ∷ bs) s ss h = rw h.0 (queued_apart bs s (queued_one limit b ss) h.1)
+  queued_apart (b ∷ bs) s ss h = rw h.0 (queued_apart bs s (queue_one limit b ss) h.1)
 
   others_stay : (s : Session) (ws : List Waiting) (ss : List Session)
-      → AllByRecursion (λ x. session_cmp s x ≡ Less) ss → queued_one limit (s.id, ws) ss ≡ ss
+      → AllByRecursion (λ x. session_cmp s x ≡ Less) ss → queue_one limit (s.id, ws) ss ≡ ss
   others_stay s ws [] h = refl
   others_stay s ws (x ∷ xs) h =
       let other : same_text x.id s.id ≡ false = text_flip x.id s.id ∙ apart_below s x h.0 in
@@ -69,17 +70,17 @@ module _ (limit : ℕ) (access : Option (List AclRow)) (subs : List Subscription
 
   pub queued-is : (now : ℕ) (m : Message) (sessions : List Session)
       → IsStrictlySortedBy session_cmp sessions
-      → queued_all limit (filter_map (begins limit access subs m (deadline_of now m.expiry))
+      → queue_all limit (filter_map (begins limit access subs m (deadline_of now m.expiry))
       sessions) sessions ≡ map (waiting_after limit access subs now m) sessions
   unfolding IsStrictlySortedBy
   queued-is now m [] sorted = refl
   queued-is now m (s ∷ ss) sorted =
       let deadline : Option ℕ = deadline_of now m.expiry in
       let bs : List Begin = filter_map (begins limit access subs m deadline) ss in
-      let rest : queued_all limit bs ss ≡ map (waiting_after limit access subs now m) ss =
+      let rest : queue_all limit bs ss ≡ map (waiting_after limit access subs now m) ss =
       queued-is now m ss sorted.1 in
       let P : Option Copy → Type 0 = λ o. waiting_copy limit access subs m s ≡ o
-      → queued_all limit (cons_option (option_map (begin_with s.id deadline) o) bs) (s ∷ ss)
+      → queue_all limit (cons_option (option_map (begin_with s.id deadline) o) bs) (s ∷ ss)
       ≡ option_map_or (λ copy. with_waiting s
       (record { copy = copy; deadline = deadline } ∷ [])) o s
       ∷ map (waiting_after limit access subs now m) ss in
@@ -90,10 +91,11 @@ module _ (limit : ℕ) (access : Option (List AclRow)) (subs : List Subscription
             let ws : List Waiting = record { copy = copy; deadline = deadline } ∷ [] in
             let own : same_text s.id s.id ≡ true = (bytes_eq-Decides s.id s.id).1 refl in
             let place : has_place limit s ≡ true = placed m s copy e in
-            let here : edited (queued limit ws) s.id s ≡ with_waiting s ws = rw (own, place) refl in
-            ap (λ l. queued_all limit bs (edited (queued limit ws) s.id s ∷ l))
+            let here : edit_session (queue_copies limit ws) s.id s ≡ with_waiting s ws =
+            rw (own, place) refl in
+            ap (λ l. queue_all limit bs (edit_session (queue_copies limit ws) s.id s ∷ l))
             (others_stay s ws ss sorted.0)
-            ∙ ap (λ x. queued_all limit bs (x ∷ ss)) here
+            ∙ ap (λ x. queue_all limit bs (x ∷ ss)) here
             ∙ queued_apart bs (with_waiting s ws) ss (begins_apart m deadline s ss sorted.0)
             ∙ ap (λ l. with_waiting s ws ∷ l) rest)
       ]) refl

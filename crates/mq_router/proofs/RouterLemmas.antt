@@ -12,23 +12,24 @@ use Rattle.mq_acl.specs.declared.access.Direction.TheVariants.{Writing}
 use Rattle.mq_world.specs.Lists.{Text, with_row}
 use Rattle.mq_world.specs.World.{Session, Subscription, SubscriptionOptions, Message, Copy, Reply}
 use Rattle.mq_world.specs.World.{Request, Connect, Disconnect, Subscribe, Unsubscribe, Publish}
-use Rattle.mq_world.specs.World.{SetAcl, Advance, Stat, asked, session_cmp, has_id, has_key}
+use Rattle.mq_world.specs.World.{SetAcl, Advance, Stat, subscription_of, session_cmp, has_id}
+use Rattle.mq_world.specs.World.{has_key}
 use Rattle.mq_world.specs.Clock.{last_moment}
 use Rattle.mq_world.specs.Sessions.{new_session, user_of, outlives, resumes, left_by, has_ended}
 use Rattle.mq_world.specs.Waiting.{begins_to_wait, waiting_after, resumed_copies}
 use Rattle.mq_world.specs.Refusals.{Conditions, first_refusal, client_conditions, is_client_id}
 use Rattle.mq_world.specs.Refusals.{is_user_name, faulty_line, refusal}
 use Rattle.mq_world.specs.Retained.{asks_for_retained, retained_copies, retained_after, is_full}
-use Rattle.mq_world.specs.Retained.{unexpired}
+use Rattle.mq_world.specs.Retained.{without_expired}
 use Rattle.mq_world.specs.Counts.{filters_among, topics_of}
 use Rattle.mq_retained.specs.Deadlines.{Indexes}
 use Rattle.mq_world.specs.Turns.{SameInTurn}
-use Rattle.mq_world.specs.Answers.{reason, published}
+use Rattle.mq_world.specs.Answers.{reason, publish_reply}
 use Rattle.mq_world.specs.After.{access_of}
 use Rattle.mq_router.specs.StandsFor.{State, Refuses}
 use Rattle.mq_router.specs.router.Effects.{Applied, Does, world_of, copies_now, members_now}
 use Rattle.mq_router.specs.router.Effects.{copies_sent, counts_now, without, lasts}
-use Rattle.mq_subscriptions.specs.Turns.{joined, all_turned}
+use Rattle.mq_subscriptions.specs.Turns.{upsert, all_turned}
 use Rattle.mq_subscriptions.specs.Filters.{SubscriptionsView, AreKeys}
 use Rattle.mq_retained.specs.Stored.{RetainedView, AreFiled}
 use Rattle.mq_subscriptions.proofs.InTurn.{same-is, same-itself}
@@ -239,10 +240,10 @@ pub subscribe-does : (s : State) (id text : Text) (options : SubscriptionOptions
     → None ≡ first_refusal (client_conditions s.sessions id) → is_subscription text ≡ true
     → (is_some (share_of text) && options.no_local) ≡ false
     → reply ≡ record {
-      copies = copies_sent s (asked id text options);
+      copies = copies_sent s (subscription_of id text options);
       outcome =
           Reason options.qos;
-    } → SameInTurn subs.rows (joined (asked id text options) s.subscriptions)
+    } → SameInTurn subs.rows (upsert (subscription_of id text options) s.subscriptions)
     → AreKeys subs → Does s (Subscribe id text options) reply
     (record s { subscriptions = subs.rows; filter_keys = subs.keys })
 unfolding refusal
@@ -393,7 +394,7 @@ publish-accepted s m h n e room =
 
 pub publish-does : (s : State) (m : Message) (sessions : List Session) (subs : SubscriptionsView)
     (kept : RetainedView) (reply : Reply) → refusal (world_of s) (Publish m) ≡ None
-    → reply ≡ published (copies_now s m)
+    → reply ≡ publish_reply (copies_now s m)
     (begins_to_wait s.limits.queued s.access s.sessions s.subscriptions m)
     → sessions ≡ map (waiting_after s.limits.queued s.access s.subscriptions s.moment m) s.sessions
     → SameInTurn subs.rows (all_turned (members_now s m) s.subscriptions)
@@ -482,7 +483,7 @@ pub advance-does : (s : State) (seconds moment : ℕ) (sessions : List Session)
     ≡ filter (λ session. not (has_ended moment session)) s.sessions
     → subs.rows ≡ filter (lasts moment s.sessions) s.subscriptions
     → (s.filter_keys ≡ filters_among s.subscriptions → AreKeys subs)
-    → kept.messages ≡ unexpired moment s.retained → AreFiled kept → reply ≡ reason 0
+    → kept.messages ≡ without_expired moment s.retained → AreFiled kept → reply ≡ reason 0
     → Does s (Advance seconds) reply
     (record s {
       moment = moment;
@@ -507,7 +508,7 @@ advance-does s seconds moment sessions subs kept reply within m ss xs keys rs fi
         access = refl;
         sessions = ss ∙ ap (λ n. filter (λ session. not (has_ended n session)) s.sessions) m;
         subscriptions = same-is _ _ (xs ∙ ap (λ n. filter (lasts n s.sessions) s.subscriptions) m);
-        retained = rs ∙ ap (λ n. unexpired n s.retained) m;
+        retained = rs ∙ ap (λ n. without_expired n s.retained) m;
       };
       filed = λ old. record {
         filter_keys = keys old.filter_keys;

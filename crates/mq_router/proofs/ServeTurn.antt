@@ -15,7 +15,7 @@ use Rattle.mq_world.specs.World.{same_key}
 use Rattle.mq_world.specs.Sessions.{can_be_served}
 use Rattle.mq_world.specs.Copies.{filter_matches}
 use Rattle.mq_subscriptions.specs.Turns.{all_turned}
-use Rattle.mq_world.specs.Groups.{groups_of, turn_of, served, served_by, restamped}
+use Rattle.mq_world.specs.Groups.{groups_of, turn_of, served_rows, served_by, restamp}
 use Rattle.mq_world.specs.Turns.{by_turn, in_turn, SameInTurn}
 use Rattle.mq_world.proofs.ListLemmas.{map-filter, filter-same}
 use Rattle.mq_world.proofs.SameLemmas.{SameElements-map}
@@ -145,27 +145,27 @@ among_group g row t (o ∷ ss) =
     ]) refl
 
 restamped_in : (n : ℕ) (g : Group) (ss rows : List Row)
-    → map (restamped n ss) (rows_in g rows)
-    ≡ map (restamped n (filter (λ o. is_in_group g o.subscription) ss)) (rows_in g rows)
+    → map (restamp n ss) (rows_in g rows)
+    ≡ map (restamp n (filter (λ o. is_in_group g o.subscription) ss)) (rows_in g rows)
 restamped_in n g ss [] = refl
 restamped_in n g ss (r ∷ rows) =
     let few : List Row = filter (λ o. is_in_group g o.subscription) ss in
     let rest : List Row = rows_in g rows in
     let P : Bool → Type 0 = λ b. is_in_group g r.subscription ≡ b
-    → map (restamped n ss) (cond b (r ∷ rest) rest)
-    ≡ map (restamped n few) (cond b (r ∷ rest) rest) in
+    → map (restamp n ss) (cond b (r ∷ rest) rest)
+    ≡ map (restamp n few) (cond b (r ∷ rest) rest) in
     (elim (is_in_group g r.subscription) as P [
-      | true ↦ λ e. ap (λ b. (if b then stamped n r else r) ∷ map (restamped n ss) rest)
-          (among_group g r e ss) ∙ ap (λ l. restamped n few r ∷ l) (restamped_in n g ss rows)
+      | true ↦ λ e. ap (λ b. (if b then stamped n r else r) ∷ map (restamp n ss) rest)
+          (among_group g r e ss) ∙ ap (λ l. restamp n few r ∷ l) (restamped_in n g ss rows)
       | false ↦ λ e. restamped_in n g ss rows
     ]) refl
 
 -- ## The world after a publish
 
-pub restamped-told : (n : ℕ) (ss rows : List Row) → told (map (restamped n ss) rows) ≡ told rows
+pub restamped-told : (n : ℕ) (ss rows : List Row) → told (map (restamp n ss) rows) ≡ told rows
 restamped-told n ss [] = refl
 restamped-told n ss (r ∷ rows) =
-    ap (λ l. (restamped n ss r).subscription ∷ l) (restamped-told n ss rows)
+    ap (λ l. (restamp n ss r).subscription ∷ l) (restamped-told n ss rows)
     ∙ ap (λ s. s ∷ told rows) (same_subscription (is_among ss r))
   where
     same_subscription : (b : Bool) → (if b then stamped n r else r).subscription ≡ r.subscription
@@ -173,19 +173,19 @@ restamped-told n ss (r ∷ rows) =
     same_subscription false = refl
 
 restamped-group : (n : ℕ) (ss : List Row) (g : Group) (r : Row)
-    → is_in_group g (restamped n ss r).subscription ≡ is_in_group g r.subscription
+    → is_in_group g (restamp n ss r).subscription ≡ is_in_group g r.subscription
 restamped-group n ss g r = elim (is_among ss r)
     as (λ b. is_in_group g (if b then stamped n r else r).subscription
     ≡ is_in_group g r.subscription) [ true ↦ refl | false ↦ refl ]
 
 rows_restamped : (n : ℕ) (ss : List Row) (g : Group) (rows : List Row)
-    → rows_in g (map (restamped n ss) rows) ≡ map (restamped n ss) (rows_in g rows)
+    → rows_in g (map (restamp n ss) rows) ≡ map (restamp n ss) (rows_in g rows)
 rows_restamped n ss g rows =
-    sym (ap (map (restamped n ss))
+    sym (ap (map (restamp n ss))
     (filter-same (λ r. is_in_group g r.subscription)
-    (λ r. is_in_group g (restamped n ss r).subscription)
+    (λ r. is_in_group g (restamp n ss r).subscription)
     (λ r. sym (restamped-group n ss g r)) rows)
-    ∙ map-filter (restamped n ss) (λ r. is_in_group g r.subscription) rows)
+    ∙ map-filter (restamp n ss) (λ r. is_in_group g r.subscription) rows)
 
 told_group : (g : Group) (rows : List Row)
     → filter (is_in_group g) (told rows) ≡ told (rows_in g rows)
@@ -212,7 +212,7 @@ module _ (w : World) (h : IsWorld w) (m : Message) where
     few = filter (λ o. is_in_group g o.subscription) S
 
     few_is : few ≡ one_or_none E
-    unfolding served
+    unfolding served_rows
     few_is = served_among can w.rows g matching
         (IsStrictlySortedBy-filter group_cmp (λ group. filter_matches group.filter m.topic)
         (groups_of w.rows) (groups_of-sorted w.rows))
@@ -229,21 +229,21 @@ module _ (w : World) (h : IsWorld w) (m : Message) where
     G_below = all_filtered (λ (o : Row). o.stamp < w.accepted) (λ o. is_in_group g o.subscription)
         w.rows h.stamps
 
-    none_restamped : (rows : List Row) → map (restamped w.accepted []) rows ≡ rows
+    none_restamped : (rows : List Row) → map (restamp w.accepted []) rows ≡ rows
     none_restamped [] = refl
     none_restamped (r ∷ rows) = ap (λ l. r ∷ l) (none_restamped rows)
 
     one_restamped : (r : Row) (rows : List Row)
-        → map (restamped w.accepted (r ∷ [])) rows
+        → map (restamp w.accepted (r ∷ [])) rows
         ≡ map (λ o. if alike r o then stamped w.accepted o else o) rows
     one_restamped r [] = refl
     one_restamped r (o ∷ rows) =
-        ap (λ b. (if b then stamped w.accepted o else o) ∷ map (restamped w.accepted (r ∷ [])) rows)
+        ap (λ b. (if b then stamped w.accepted o else o) ∷ map (restamp w.accepted (r ∷ [])) rows)
         (or_false (alike r o)) ∙ ap (λ l. (if alike r o then stamped w.accepted o else o) ∷ l)
         (one_restamped r rows)
 
     group_by : (e : Option Row) → E ≡ e
-        → told (by_turn (map (restamped w.accepted (one_or_none e)) G))
+        → told (by_turn (map (restamp w.accepted (one_or_none e)) G))
         ≡ all_turned (told (one_or_none e)) (told (by_turn G))
     group_by None is = ap (λ l. told (by_turn l)) (none_restamped G)
     group_by (Some r) is =
@@ -251,7 +251,7 @@ module _ (w : World) (h : IsWorld w) (m : Message) where
         ∙ turned-one w.accepted G G_sorted G_below r
         (turn_among can w.rows g r (turn_if (has can w.rows g matching) r is))
 
-    apart_by : (e : Option Row) → E ≡ e → AreApart (map (restamped w.accepted (one_or_none e)) G)
+    apart_by : (e : Option Row) → E ≡ e → AreApart (map (restamp w.accepted (one_or_none e)) G)
     apart_by None is = subst (λ (l : List Row). AreApart l) (sym (none_restamped G))
         (apart-from G (h.apart g))
     apart_by (Some r) is =
@@ -260,15 +260,15 @@ module _ (w : World) (h : IsWorld w) (m : Message) where
         (turn_among can w.rows g r (turn_if (has can w.rows g matching) r is))
         (apart-from G (h.apart g)))
 
-    pub served-apart : IsDistinct nat_eq (stamps (rows_in g (map (restamped w.accepted S) w.rows)))
+    pub served-apart : IsDistinct nat_eq (stamps (rows_in g (map (restamp w.accepted S) w.rows)))
     served-apart =
-        apart-to (rows_in g (map (restamped w.accepted S) w.rows))
+        apart-to (rows_in g (map (restamp w.accepted S) w.rows))
         (subst (λ (l : List Row). AreApart l)
         (sym (rows_restamped w.accepted S g w.rows ∙ restamped_in w.accepted g S w.rows
-        ∙ ap (λ l. map (restamped w.accepted l) G) few_is)) (apart_by E refl))
+        ∙ ap (λ l. map (restamp w.accepted l) G) few_is)) (apart_by E refl))
 
     served_group : filter (is_in_group g) (all_turned (told S) (in_turn w))
-        ≡ filter (is_in_group g) (told (by_turn (map (restamped w.accepted S) w.rows)))
+        ≡ filter (is_in_group g) (told (by_turn (map (restamp w.accepted S) w.rows)))
     served_group =
         turned-group g (told S) (in_turn w)
         ∙ ap (λ l. all_turned l (filter (is_in_group g) (in_turn w)))
@@ -279,47 +279,47 @@ module _ (w : World) (h : IsWorld w) (m : Message) where
         ∙ sym (group_by E refl)
         ∙ ap (λ l. told (by_turn l))
         (sym (rows_restamped w.accepted S g w.rows ∙ restamped_in w.accepted g S w.rows
-        ∙ ap (λ l. map (restamped w.accepted l) G) few_is))
+        ∙ ap (λ l. map (restamp w.accepted l) G) few_is))
         ∙ ap told (by_turn-filter (λ o. is_in_group g o.subscription)
-        (map (restamped w.accepted S) w.rows))
-        ∙ sym (told_group g (by_turn (map (restamped w.accepted S) w.rows)))
+        (map (restamp w.accepted S) w.rows))
+        ∙ sym (told_group g (by_turn (map (restamp w.accepted S) w.rows)))
 
   told-elements : (rows : List Row) → SameElements (told (by_turn rows)) (told rows)
   told-elements rows = SameElements-map (λ (r : Row). r.subscription) (by_turn rows) rows
       (turn-elements rows)
 
   pub serves : SameInTurn (all_turned (told S) (in_turn w))
-      (told (by_turn (map (restamped w.accepted S) w.rows)))
+      (told (by_turn (map (restamp w.accepted S) w.rows)))
   serves = record {
     elements = λ p. turned-elements (told S) (in_turn w) p ∙ told-elements w.rows p
         ∙ ap (λ l. length (filter p l)) (sym (restamped-told w.accepted S w.rows))
-        ∙ sym (told-elements (map (restamped w.accepted S) w.rows) p);
+        ∙ sym (told-elements (map (restamp w.accepted S) w.rows) p);
     members = served_group;
   }
 
 restamped_above : (n : ℕ) (ss : List Row) (r : Row) (rows : List Row)
     → AllByRecursion (λ o. row_cmp r o ≡ Less) rows
-    → AllByRecursion (λ o. row_cmp (restamped n ss r) o ≡ Less) (map (restamped n ss) rows)
+    → AllByRecursion (λ o. row_cmp (restamp n ss r) o ≡ Less) (map (restamp n ss) rows)
 restamped_above n ss r [] h = tt
 restamped_above n ss r (o ∷ rows) h = (
-  ap (λ s. subscription_cmp s (restamped n ss o).subscription) (of r)
+  ap (λ s. subscription_cmp s (restamp n ss o).subscription) (of r)
       ∙ ap (subscription_cmp r.subscription) (of o) ∙ h.0,
   restamped_above n ss r rows h.1,
 )
   where
-    of : (x : Row) → (restamped n ss x).subscription ≡ x.subscription
+    of : (x : Row) → (restamp n ss x).subscription ≡ x.subscription
     of x = elim (is_among ss x) as (λ b. (if b then stamped n x else x).subscription
         ≡ x.subscription) [ true ↦ refl | false ↦ refl ]
 
 pub restamped-sorted : (n : ℕ) (ss rows : List Row) → IsStrictlySortedBy row_cmp rows
-    → IsStrictlySortedBy row_cmp (map (restamped n ss) rows)
+    → IsStrictlySortedBy row_cmp (map (restamp n ss) rows)
 unfolding IsStrictlySortedBy
 restamped-sorted n ss [] s = tt
 restamped-sorted n ss (r ∷ rows) s =
     (restamped_above n ss r rows s.0, restamped-sorted n ss rows s.1)
 
 pub restamped-below : (n : ℕ) (ss rows : List Row) → StampsBelow n rows
-    → StampsBelow (n + 1) (map (restamped n ss) rows)
+    → StampsBelow (n + 1) (map (restamp n ss) rows)
 restamped-below n ss [] h = tt
 restamped-below n ss (r ∷ rows) h = (
   (let here : r.stamp < n = h.0 in

@@ -15,7 +15,8 @@ use Rattle.mq_acl.specs.declared.access.Direction.TheVariants.{Writing}
 use Rattle.mq_world.specs.Lists.{SameElements, Text, same_text, with_row}
 use Rattle.mq_world.specs.World.{World, Limits, IsWorld, Group, Session, Subscription, Row}
 use Rattle.mq_world.specs.World.{Retained, Message, Copy, Reply, Request, Connect, Disconnect}
-use Rattle.mq_world.specs.World.{Subscribe, Unsubscribe, Publish, SetAcl, Advance, Stat, asked}
+use Rattle.mq_world.specs.World.{Subscribe, Unsubscribe, Publish, SetAcl, Advance, Stat}
+use Rattle.mq_world.specs.World.{subscription_of}
 use Rattle.mq_world.specs.World.{session_cmp, has_id, has_key, same_key, is_in_group, rows_in}
 use Rattle.mq_world.specs.World.{subscriptions_of}
 use Rattle.mq_world.specs.Clock.{last_moment}
@@ -24,18 +25,18 @@ use Rattle.mq_world.specs.Sessions.{outlives, resumes, left_by, has_ended}
 use Rattle.mq_world.specs.Waiting.{begins_to_wait, waiting_after, resumed_copies}
 use Rattle.mq_world.specs.Refusals.{first_refusal, client_conditions, refusal}
 use Rattle.mq_world.specs.Copies.{direct_copies, filter_matches}
-use Rattle.mq_world.specs.Groups.{groups_of, turn_of, served, served_by}
-use Rattle.mq_world.specs.Retained.{retained_copies, retained_after, is_full, unexpired}
+use Rattle.mq_world.specs.Groups.{groups_of, turn_of, served_rows, served_by}
+use Rattle.mq_world.specs.Retained.{retained_copies, retained_after, is_full, without_expired}
 use Rattle.mq_world.specs.Counts.{filters_of, topics_of, counts, steps}
 use Rattle.mq_retained.specs.Deadlines.{Indexes, is_due}
 use Rattle.mq_retained.specs.Receivers.{steps_among}
-use Rattle.mq_world.specs.Answers.{answer, reason, published, copies_of}
+use Rattle.mq_world.specs.Answers.{answer, reason, publish_reply, copies_of}
 use Rattle.mq_world.specs.After.{after, without_client}
 use Rattle.mq_world.specs.Turns.{by_turn, in_turn, SameInTurn}
 use Rattle.mq_router.specs.StandsFor.{State, Holds, StandsFor, Answers, AnswersFor, CountsFor}
 use Rattle.mq_router.specs.StandsFor.{Refuses}
 use Rattle.mq_router.specs.router.Effects.{Applied, CountsSteps, Does, IsFiled, world_of, reply_to}
-use Rattle.mq_router.specs.router.Effects.{counts_now, steps_to, moved, member_copy, without}
+use Rattle.mq_router.specs.router.Effects.{counts_now, steps_to, change_state, member_copy, without}
 use Rattle.mq_router.specs.router.Effects.{lasts}
 use Rattle.mq_subscriptions.specs.Turns.{next_in, next_members, all_turned}
 use Rattle.mq_world.specs.Views.{reply_of}
@@ -161,7 +162,7 @@ module _ (s : State) (w : World) (h : HasRows s w) where
 
   pub served-held : (m : Message) → next_members s.access s.sessions s.subscriptions m
       ≡ told (served_by w m)
-  unfolding next_members served
+  unfolding next_members served_rows
   served-held m =
       let q : Group → Bool = λ group. filter_matches group.filter m.topic in
       ap (filter_map (next_in s.access s.sessions s.subscriptions m.topic))
@@ -219,14 +220,14 @@ module _ (s : State) (w : World) (h : HasRows s w) where
   answer-held told (Disconnect id) = refl
   answer-held told (Subscribe id text options) =
       ap (λ copies. record { copies = copies; outcome = Reason options.qos })
-      (sent-held (asked id text options))
+      (sent-held (subscription_of id text options))
   answer-held told (Unsubscribe id text) =
       ap (λ b. reason (if b then 0 else 17))
       (list_any-SameElements (has_key id (share_of text) (filter_part text)) s.subscriptions
       (subscriptions_of w) all_told)
   answer-held told (Publish m) =
       let members : List Subscription = next_members s.access s.sessions s.subscriptions m in
-      ap (λ copies. published copies
+      ap (λ copies. publish_reply copies
       (begins_to_wait s.limits.queued s.access s.sessions s.subscriptions m))
       (ap (λ access. direct_copies access (connected s.sessions) s.subscriptions m
       ++ map (member_copy m) members) h.access
@@ -239,7 +240,7 @@ module _ (s : State) (w : World) (h : HasRows s w) where
       ++ map (member_copy m) l) (served-held m)
       ∙ ap (λ l. direct_copies w.access (connected w.sessions) (subscriptions_of w) m ++ l)
       (map-map (member_copy m) (λ (r : Row). r.subscription) (served_by w m)))
-      ∙ ap (published (copies_of w m)) (waits-held m)
+      ∙ ap (publish_reply (copies_of w m)) (waits-held m)
   answer-held told (SetAcl text) = refl
   answer-held told (Advance seconds) = refl
   answer-held told Stat = ap (λ outcome. record { copies = []; outcome = outcome }) told
@@ -275,7 +276,8 @@ module _ (s : State) (w : World) (h : HasRows s w) where
         subscriptions = without id s.subscriptions;
       }
 
-  pub moved-held : IsWorld w → (request : Request) → HasRows (moved s request) (after w request)
+  pub moved-held : IsWorld w → (request : Request)
+      → HasRows (change_state s request) (after w request)
   unfolding after
   moved-held is (Connect id user clean interval) = record {
     limits = h.limits;
@@ -309,7 +311,7 @@ module _ (s : State) (w : World) (h : HasRows s w) where
         }
       ])
   moved-held is (Subscribe id text options) =
-      let x : Subscription = asked id text options in
+      let x : Subscription = subscription_of id text options in
       record {
         limits = h.limits;
         moment = h.moment;
@@ -369,8 +371,8 @@ module _ (s : State) (w : World) (h : HasRows s w) where
         h.moment
         ∙ ap (λ ss. filter (lasts (w.moment + seconds) ss) s.subscriptions) h.sessions))
         (kept_rows (lasts (w.moment + seconds) w.sessions));
-    retained = ap (λ moment. unexpired (moment + seconds) s.retained) h.moment
-        ∙ ap (unexpired (w.moment + seconds)) h.retained;
+    retained = ap (λ moment. without_expired (moment + seconds) s.retained) h.moment
+        ∙ ap (without_expired (w.moment + seconds)) h.retained;
   }
   moved-held is Stat = record {
     limits = h.limits;
@@ -453,7 +455,7 @@ unfolding steps
 steps-held s w h (Connect id user clean interval) = refl
 steps-held s w h (Disconnect id) = refl
 steps-held s w h (Subscribe id text options) =
-    let new : Subscription = asked id text options in
+    let new : Subscription = subscription_of id text options in
     ap (λ exists. steps_by new exists s.retained)
     (list_any-SameElements (same_key new) s.subscriptions (subscriptions_of w)
     (all_told s w (holds-rows s w h)))
@@ -475,7 +477,8 @@ done-answers : (old : State) (request : Request) (reply : Reply) (new : State)
 unfolding StandsFor
 done-answers old request reply new d w h =
     let rows : HasRows old w = holds-rows old w h.0 in
-    let held : HasRows (moved old request) (after w request) = moved-held old w rows h.1 request in
+    let held : HasRows (change_state old request) (after w request) =
+    moved-held old w rows h.1 request in
     let has : HasRows new (after w request) = record {
       limits = d.rows.limits ∙ held.limits;
       moment = d.rows.moment ∙ held.moment;

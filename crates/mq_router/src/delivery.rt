@@ -80,7 +80,8 @@ pub(crate) fn make_copies(
 
 ghost use Rattle.std.specs.Prelude.{◌++◌, OnOk, []};
 ghost use Rattle.mq_subscriptions.specs.Filters.{AreAtFilters};
-ghost use Rattle.mq_subscriptions.specs.Matches.{seen, matched, options_among, AreByClient};
+ghost use Rattle.mq_subscriptions.specs.Matches.{lent_values, match_views, options_among};
+ghost use Rattle.mq_subscriptions.specs.Matches.{AreByClient};
 ghost use Rattle.mq_world.specs.Views.{copies_in};
 ghost use Rattle.mq_subscriptions.specs.Turns.{turns_in};
 ghost use Rattle.mq_router.specs.delivery.Copies.{by_client};
@@ -104,10 +105,10 @@ fn matches_by_client<'a>(
     found: &[&'a FilterEntry],
     message: &Message,
 ) -> Result<Vec<Match<'a>>, AllocError>
-    ensures sorted { IfOk result (λ ms. AreByClient (matched ms.items)) }
-    ensures options { IfOk result (λ ms. (id : Text) → options_among id (matched ms.items)
+    ensures sorted { IfOk result (λ ms. AreByClient (match_views ms.items)) }
+    ensures options { IfOk result (λ ms. (id : Text) → options_among id (match_views ms.items)
         ≡ options_among id (unshared_matches (message_of message.now)
-        (rows_found (seen found.now)))) }
+        (rows_found (lent_values found.now)))) }
 {
     let mut matches = Vec::with_capacity(alloc, own_count(found))?;
     for at in found {
@@ -124,9 +125,10 @@ fn members_served(
     found: &[&FilterEntry],
     message: &Message,
 ) -> Result<Vec<Turn>, AllocError>
-    requires { AreAtFilters message.now.topic.now (seen found.now) }
+    requires { AreAtFilters message.now.topic.now (lent_values found.now) }
     ensures { IfOk result (λ served. turns_in served
-        ≡ next_members readers.now.access.now readers.now.sessions.now (rows_found (seen found.now))
+        ≡ next_members readers.now.access.now readers.now.sessions.now
+        (rows_found (lent_values found.now))
         (message_of message.now)) }
 {
     let mut served = Vec::new(alloc);
@@ -146,15 +148,15 @@ fn made_for(
     message: &Message,
     limit: u32,
 ) -> Result<Deliveries, AllocError>
-    requires { AreByClient (matched matches.now) }
+    requires { AreByClient (match_views matches.now) }
     ensures copies { IfOk result (λ m. copies_in m.copies
         ≡ copies_by readers.now.access.now readers.now.sessions.now (message_of message.now)
-        (by_client (matched matches.now))
+        (by_client (match_views matches.now))
         ++ map (member_copy (message_of message.now)) (turns_in served)) }
     ensures queued { IfOk result (λ m. map begin_of m.queued.items
         ≡ begins_by limit readers.now.access.now readers.now.sessions.now (message_of message.now)
         message.now.deadline
-        (by_client (matched matches.now))) }
+        (by_client (match_views matches.now))) }
     ensures served { IfOk result (λ m. m.served ≡ served) }
 {
     if matches.is_empty() && served.is_empty() {

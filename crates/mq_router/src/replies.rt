@@ -1,6 +1,6 @@
 //! Answers of commands.
 ghost use Rattle.std.specs.Prelude.{◌≡◌, ◌&&◌, not, map, if◌then◌else◌};
-ghost use Rattle.mq_world.specs.Answers.{reason, published};
+ghost use Rattle.mq_world.specs.Answers.{reason, publish_reply};
 ghost use Rattle.mq_world.specs.Views.{reply_of, copy_of};
 
 use mq_world::{Answer, Delivery, Outcome};
@@ -33,7 +33,7 @@ fn reason_to_publish(sent: bool, waits: bool) -> u8
 }
 
 pub(crate) fn published(copies: Vec<Delivery>, waits: bool) -> Answer
-    ensures { reply_of result ≡ published (map copy_of copies.items) waits }
+    ensures { reply_of result ≡ publish_reply (map copy_of copies.items) waits }
 {
     let code = reason_to_publish(!copies.is_empty(), waits);
     Answer {

@@ -22,10 +22,10 @@ use Rattle.mq_world.proofs.ListLemmas.{list_any-map, list_any-same}
 use Rattle.mq_world.proofs.SameLemmas.{filter-swap}
 use Rattle.mq_world.proofs.OrderLemmas.{all_weaker, all_filtered}
 use Rattle.mq_world.proofs.OrderLemmas.{same_text-itself}
-use Rattle.mq_sessions.specs.Queue.{Begin, queued, edited, queued_one}
+use Rattle.mq_sessions.specs.Queue.{Begin, queue_copies, edit_session, queue_one}
 use Rattle.mq_sessions.specs.Ends.{end_of, ends_so, IsListed, AreListed, IsFirstLive, AreIndexed}
-use Rattle.mq_sessions.specs.Ends.{Entry, shown_in}
-use Rattle.mq_sessions.specs.Views.{session_in, shown}
+use Rattle.mq_sessions.specs.Ends.{Entry, views_of}
+use Rattle.mq_sessions.specs.Views.{session_in, view_of}
 use Rattle.mq_sessions.specs.declared.sessions.session.Session as kept
 use Rattle.mq_sessions.proofs.SessionLemmas.{apart, finds, finds-is}
 use Rattle.mq_sessions.proofs.ReachedLemmas.{all_mapped}
@@ -92,25 +92,25 @@ same-end (Some e) end = refl
 
 none-found : (end : ℕ) (bs : Text) (es : List Entry)
     → AllByRecursion (λ k. finds bs k ≡ false) (keys_of es)
-    → list_any (ends_so (end, bs)) (shown_in es) ≡ false
+    → list_any (ends_so (end, bs)) (views_of es) ≡ false
 none-found end bs [] h = refl
 none-found end bs (e ∷ es) h =
-    ap (λ b. b || list_any (ends_so (end, bs)) (shown_in es))
+    ap (λ b. b || list_any (ends_so (end, bs)) (views_of es))
     (ends-other (end, bs) (session_in e) (sym (finds-is bs e.0) ∙ h.0))
     ∙ none-found end bs es h.1
 
 abbrev pub ends_then : ℕ → kept.Session → Bool
-ends_then end u = option_map_or (λ e. e == end) (end_of (shown u)) false
+ends_then end u = option_map_or (λ e. e == end) (end_of (view_of u)) false
 
 -- a look-up tells whether a session ends so
 pub any-found : (end : ℕ) (bs : Text) (es : List Entry)
     → IsStrictlySortedBy key_cmp (keys_of es)
-    → list_any (ends_so (end, bs)) (shown_in es)
+    → list_any (ends_so (end, bs)) (views_of es)
     ≡ option_map_or (ends_then end) (lookup (finds bs) es) false
 unfolding IsStrictlySortedBy
 any-found end bs [] s = refl
 any-found end bs (e ∷ es) s =
-    let any : Bool = list_any (ends_so (end, bs)) (shown_in es) in
+    let any : Bool = list_any (ends_so (end, bs)) (views_of es) in
     let P : Bool → Type 0 = λ b. finds bs e.0 ≡ b → (ends_so (end, bs) (session_in e) || any)
     ≡ option_map_or (ends_then end) (cond b (Some e.1) (lookup (finds bs) es)) false in
     (elim (finds bs e.0) as P [
@@ -220,35 +220,35 @@ one-end end id dues s h same there =
 -- once the ends of the rest are added, those of all are there
 abbrev pub Lists : List Due → List Entry → List Entry → Type 0
 Lists now rest all = (dues : List Due) → ((due : Due) → is_in due now ≡ true
-    → is_in due dues ≡ true) → AreListed dues (shown_in rest) → AreListed dues (shown_in all)
+    → is_in due dues ≡ true) → AreListed dues (views_of rest) → AreListed dues (views_of all)
 
 pub lists-more : (x : Entry) (rest now all : List Entry) (old new : List Due) → now ≡ x ∷ rest
     → ((d : Due) → is_in d old ≡ true → is_in d new ≡ true) → IsListed new (session_in x)
     → Lists old now all → Lists new rest all
 lists-more x rest now all old new left more here so_far = λ dues within others.
     so_far dues (λ d k. within d (more d k))
-    (subst (λ es. AreListed dues (shown_in es)) (sym left)
+    (subst (λ es. AreListed dues (views_of es)) (sym left)
     (listed-step new dues within (session_in x) here, others))
 
 pub lists-all : (now all : List Entry) (dues : List Due) → now ≡ [] → Lists dues now all
-    → AreListed dues (shown_in all)
+    → AreListed dues (views_of all)
 lists-all now all dues done so_far =
-    so_far dues (λ d k. k) (subst (λ es. AreListed dues (shown_in es)) (sym done) tt)
+    so_far dues (λ d k. k) (subst (λ es. AreListed dues (views_of es)) (sym done) tt)
 
 -- ## Copies begin to wait
 
 queued-as : (limit : ℕ) (b : Begin) (P : Session → Type 0)
     → ((s : Session) → P s → P (with_waiting s b.1)) → (s : Session) → P s
-    → P (edited (queued limit b.1) b.0 s)
+    → P (edit_session (queue_copies limit b.1) b.0 s)
 queued-as limit b P step s h =
-    elim (has_id b.0 s) as (λ v. P (if v then queued limit b.1 s else s)) [
+    elim (has_id b.0 s) as (λ v. P (if v then queue_copies limit b.1 s else s)) [
       | true ↦ elim (has_place limit s) as (λ v. P (if v then with_waiting s b.1 else s))
           [ true ↦ step s h | false ↦ h ]
       | false ↦ h
     ]
 
 pub indexed-queued : (limit : ℕ) (b : Begin) (index : Dues) (ss : List Session)
-    → AreIndexed index ss → AreIndexed index (queued_one limit b ss)
+    → AreIndexed index ss → AreIndexed index (queue_one limit b ss)
 indexed-queued limit b index ss h = record {
   listed = all_mapped (IsListed index.entries) f
       (λ s k. queued-as limit b (IsListed index.entries) (λ t i. i) s k) ss h.listed;
@@ -257,23 +257,23 @@ indexed-queued limit b index ss h = record {
 }
   where
     f : Session → Session
-    f = edited (queued limit b.1) b.0
+    f = edit_session (queue_copies limit b.1) b.0
 
     ends : (due : Due) (s : Session) → ends_so due (f s) ≡ ends_so due s
     ends due s = queued-as limit b (λ t. ends_so due t ≡ ends_so due s) (λ t i. i) s refl
 
-    first : (dues : List Due) → IsFirstLive dues ss → IsFirstLive dues (queued_one limit b ss)
+    first : (dues : List Due) → IsFirstLive dues ss → IsFirstLive dues (queue_one limit b ss)
     first [] live = tt
     first (d ∷ ds) live =
         list_any-map f (ends_so d) ss
         ∙ list_any-same (λ s. ends_so d (f s)) (ends_so d) (ends d) ss ∙ live
 
     count : (xs : List Session)
-        → length (connected (queued_one limit b xs)) ≡ length (connected xs)
+        → length (connected (queue_one limit b xs)) ≡ length (connected xs)
     count [] = refl
     count (x ∷ xs) =
         let rest : List Session = connected xs in
-        let queued_rest : List Session = connected (queued_one limit b xs) in
+        let queued_rest : List Session = connected (queue_one limit b xs) in
         let same : length queued_rest ≡ length rest = count xs in
         let here : is_present (f x) ≡ is_present x =
         queued-as limit b (λ t. is_present t ≡ is_present x) (λ t i. i) x refl in

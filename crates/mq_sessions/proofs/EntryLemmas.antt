@@ -19,8 +19,8 @@ use Rattle.mq_world.specs.World.{Session}
 use Rattle.mq_world.specs.Sessions.{connected, is_connected, is_present}
 use Rattle.mq_world.proofs.OrderLemmas.{all_weaker}
 use Rattle.mq_world.proofs.Splits.{some_same}
-use Rattle.mq_sessions.specs.Ends.{Entry, end_of, IsListed, AreListed, KeepsId, KeepIds, shown_in}
-use Rattle.mq_sessions.specs.Views.{kept_id, presence_of, session_at, session_in, shown}
+use Rattle.mq_sessions.specs.Ends.{Entry, end_of, IsListed, AreListed, KeepsId, KeepIds, views_of}
+use Rattle.mq_sessions.specs.Views.{kept_id, presence_of, session_at, session_in, view_of}
 use Rattle.mq_sessions.specs.declared.sessions.session.Presence.{Presence}
 use Rattle.mq_sessions.specs.declared.sessions.session.Presence.TheVariants.{Connected, Away}
 use Rattle.mq_sessions.specs.declared.sessions.session.Session as kept
@@ -98,13 +98,13 @@ ids-left test u v es found gone h =
 
 -- ## A connection ends
 
-all_of_shown : (P : Session → Type 0) (es : List Entry) → AllByRecursion P (shown_in es)
+all_of_shown : (P : Session → Type 0) (es : List Entry) → AllByRecursion P (views_of es)
     → AllByRecursion (λ e. P (session_in e)) es
 all_of_shown P [] h = tt
 all_of_shown P (e ∷ es) h = (h.0, all_of_shown P es h.1)
 
 all_shown : (P : Session → Type 0) (es : List Entry) → AllByRecursion (λ e. P (session_in e)) es
-    → AllByRecursion P (shown_in es)
+    → AllByRecursion P (views_of es)
 all_shown P [] h = tt
 all_shown P (e ∷ es) h = (h.0, all_shown P es h.1)
 
@@ -128,9 +128,9 @@ kept-is id k u is keeps =
 
 pub listed-left : (test : Key → Bool) (u v : kept.Session) (es : List Entry) (id : Text)
     (end : Option ℕ) (dues : List Due) → lookup test es ≡ Some u → Some id ≡ kept_id u
-    → end ≡ end_of (shown v) → KeepIds es → AreListed dues (shown_in es)
+    → end ≡ end_of (view_of v) → KeepIds es → AreListed dues (views_of es)
     → IfSome end (λ at. is_in (at, id) dues ≡ true)
-    → AreListed dues (shown_in (set_value test es v))
+    → AreListed dues (views_of (set_value test es v))
 listed-left test u v es id end dues found is ends keep listed there =
     all_shown (IsListed dues) (set_value test es v)
     (all-edited (λ e. KeepsId e × IsListed dues (session_in e)) (λ e. IsListed dues (session_in e))
@@ -142,14 +142,14 @@ listed-left test u v es id end dues found is ends keep listed there =
     (all_of_shown (IsListed dues) es listed)))
 
 pub present-kept : (id : Text) (u : kept.Session) → Some id ≡ kept_id u
-    → is_present (shown u) ≡ true
+    → is_present (view_of u) ≡ true
 present-kept id u =
     elim u.presence as (λ p. Some id ≡ id_in p → is_present_in p ≡ true) [
       | Connected i ↦ λ h. refl
       | Away end ↦ λ h. cc
     ]
 
-pub absent-kept : (u : kept.Session) → None ≡ kept_id u → is_present (shown u) ≡ false
+pub absent-kept : (u : kept.Session) → None ≡ kept_id u → is_present (view_of u) ≡ false
 absent-kept u =
     elim u.presence as (λ p. None ≡ id_in p → is_present_in p ≡ false) [
       | Connected i ↦ λ h. cc
@@ -157,30 +157,30 @@ absent-kept u =
     ]
 
 pub connected-found : (id : Text) (u : kept.Session) (es : List Entry)
-    → lookup (finds id) es ≡ Some u → is_connected (shown_in es) id ≡ is_present (shown u)
+    → lookup (finds id) es ≡ Some u → is_connected (views_of es) id ≡ is_present (view_of u)
 connected-found id u es found =
     ap (λ s. option_map_or is_present s false)
     (sym (found-is id es) ∙ ap (option_map (session_at id)) found)
 
 -- one is connected no more
 pub connected-left : (test : Key → Bool) (u v : kept.Session) (es : List Entry)
-    → lookup test es ≡ Some u → is_present (shown u) ≡ true → is_present (shown v) ≡ false
-    → length (connected (shown_in (set_value test es v))) + 1 ≡ length (connected (shown_in es))
+    → lookup test es ≡ Some u → is_present (view_of u) ≡ true → is_present (view_of v) ≡ false
+    → length (connected (views_of (set_value test es v))) + 1 ≡ length (connected (views_of es))
 connected-left test u v [] found here gone = cc
 connected-left test u v (e ∷ es) found here gone =
-    let rest : List Session = connected (shown_in es) in
+    let rest : List Session = connected (views_of es) in
     let R : Bool → Type 0 = λ b. cond b (Some e.1) (lookup test es) ≡ Some u
-    → length (connected (shown_in (cond b ((e.0, v) ∷ es) (e ∷ set_value test es v)))) + 1
-    ≡ length (connected (shown_in (e ∷ es))) in
+    → length (connected (views_of (cond b ((e.0, v) ∷ es) (e ∷ set_value test es v)))) + 1
+    ≡ length (connected (views_of (e ∷ es))) in
     (elim (test e.0) as R [
       | true ↦ λ f. (
           let before : is_present (session_in e) ≡ true =
-          ap (λ w. is_present (shown w)) (some_same f) ∙ here in
+          ap (λ w. is_present (view_of w)) (some_same f) ∙ here in
           ap (λ b. length (cond b (session_in (e.0, v) ∷ rest) rest) + 1) gone
           ∙ longer (session_in e) rest
           ∙ sym (ap (λ b. length (cond b (session_in e ∷ rest) rest)) before))
       | false ↦ λ f. (
-          let after : List Session = connected (shown_in (set_value test es v)) in
+          let after : List Session = connected (views_of (set_value test es v)) in
           let less : length after + 1 ≡ length rest = connected-left test u v es f here gone in
           elim (is_present (session_in e))
           as (λ b. length (cond b (session_in e ∷ after) after) + 1

@@ -3,11 +3,11 @@ use Rattle.std.proofs.Common.{◌≡◌, ℕ, List, refl, true, false, if◌then
 use Rattle.mq_world.specs.Lists.{Text}
 use Rattle.mq_world.specs.World.{Session, Waiting}
 use Rattle.mq_world.specs.Waiting.{has_place, with_waiting}
-use Rattle.mq_sessions.specs.Queue.{queued}
+use Rattle.mq_sessions.specs.Queue.{queue_copies}
 
 pub queued-id : (limit : ℕ) (id : Text) (ws : List Waiting) (s : Session)
-    → ◌≡◌ {A = Session} (record (queued limit ws s) { id = id })
-    (queued limit ws (record s { id = id }))
+    → ◌≡◌ {A = Session} (record (queue_copies limit ws s) { id = id })
+    (queue_copies limit ws (record s { id = id }))
 queued-id limit id ws s =
     elim (has_place limit s) as (λ b. ◌≡◌ {A = Session}
     (record (if b then with_waiting s ws else s) { id = id })

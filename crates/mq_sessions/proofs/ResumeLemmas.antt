@@ -7,17 +7,17 @@ use Rattle.mq_world.specs.Lists.{Text}
 use Rattle.mq_world.specs.World.{Session, Copy}
 use Rattle.mq_world.specs.Sessions.{resumes}
 use Rattle.mq_world.specs.Waiting.{resumed_copy, waiting_for, resumed_copies}
-use Rattle.mq_sessions.specs.Resumed.{resumed}
+use Rattle.mq_sessions.specs.Resumed.{copies_if_resumed}
 
 pub resumed-none : (moment : ℕ) (sessions : List Session) (id : Text) (clean : Bool)
-    → resumes sessions id clean ≡ false → None ≡ resumed moment sessions id clean
+    → resumes sessions id clean ≡ false → None ≡ copies_if_resumed moment sessions id clean
 resumed-none moment sessions id clean e =
     ap (λ b. if b then Some (resumed_copies moment sessions id clean) else None) (sym e)
 
 pub resumed-some : (moment : ℕ) (sessions : List Session) (id : Text) (clean : Bool)
     → resumes sessions id clean ≡ true
     → Some (filter_map (resumed_copy moment) (waiting_for sessions id))
-    ≡ resumed moment sessions id clean
+    ≡ copies_if_resumed moment sessions id clean
 unfolding resumed_copies
 resumed-some moment sessions id clean e =
     let xs : List Copy = filter_map (resumed_copy moment) (waiting_for sessions id) in
@@ -40,12 +40,12 @@ was-none true y e = absurd (true≢false (sym (ap (λ (o : Option (List Copy)). 
 was-none false y e = refl
 
 pub resumes-some : (moment : ℕ) (sessions : List Session) (id : Text) (clean : Bool)
-    (copies : List Copy) → Some copies ≡ resumed moment sessions id clean
+    (copies : List Copy) → Some copies ≡ copies_if_resumed moment sessions id clean
     → (resumes sessions id clean ≡ true) × (copies ≡ resumed_copies moment sessions id clean)
 resumes-some moment sessions id clean copies e =
     was-some (resumes sessions id clean) copies (resumed_copies moment sessions id clean) e
 
 pub resumes-none : (moment : ℕ) (sessions : List Session) (id : Text) (clean : Bool)
-    → None ≡ resumed moment sessions id clean → resumes sessions id clean ≡ false
+    → None ≡ copies_if_resumed moment sessions id clean → resumes sessions id clean ≡ false
 resumes-none moment sessions id clean e =
     was-none (resumes sessions id clean) (resumed_copies moment sessions id clean) e

@@ -17,7 +17,7 @@ use Rattle.mq_world.specs.Lists.{same_text, with_row}
 use Rattle.mq_world.specs.World as world
 use Rattle.mq_world.specs.World.{has_id, session_cmp}
 use Rattle.mq_world.specs.Sessions.{session_of}
-use Rattle.mq_sessions.specs.Queue.{edited}
+use Rattle.mq_sessions.specs.Queue.{edit_session}
 use Rattle.mq_sessions.specs.Near.{AreReached, AllReached}
 use Rattle.mq_sessions.specs.Views.{session_at, session_in, waiting_of}
 use Rattle.mq_sessions.specs.declared.sessions.session.Session.{Session}
@@ -129,7 +129,7 @@ sorted-map f h (x ∷ xs) s = (above xs s.0, sorted-map f h xs s.1)
 -- no session of the rest is the client's
 rest_stays : (bs : List ℕ) (f : world.Session → world.Session) (es : List Entry)
     → AllByRecursion (λ k. finds bs k ≡ false) (keys_of es)
-    → map (edited f bs) (map session_in es) ≡ map session_in es
+    → map (edit_session f bs) (map session_in es) ≡ map session_in es
 rest_stays bs f [] h = refl
 rest_stays bs f (e ∷ es) h =
     let other : has_id bs (session_in e) ≡ false = sym (finds-is bs e.0) ∙ h.0 in
@@ -138,14 +138,14 @@ rest_stays bs f (e ∷ es) h =
 pub edited-is : (bs : List ℕ) (f : world.Session → world.Session) (u v : Session) (es : List Entry)
     → lookup (finds bs) es ≡ Some u → session_at bs v ≡ f (session_at bs u)
     → IsStrictlySortedBy key_cmp (keys_of es)
-    → map session_in (set_value (finds bs) es v) ≡ map (edited f bs) (map session_in es)
+    → map session_in (set_value (finds bs) es v) ≡ map (edit_session f bs) (map session_in es)
 unfolding IsStrictlySortedBy
 edited-is bs f u v [] l same s = refl
 edited-is bs f u v (e ∷ es) l same s =
     let P : Bool → Type 0 = λ b. finds bs e.0 ≡ b
     → cond b (Some e.1) (lookup (finds bs) es) ≡ Some u
     → map session_in (cond b ((e.0, v) ∷ es) (e ∷ set_value (finds bs) es v))
-    ≡ edited f bs (session_in e) ∷ map (edited f bs) (map session_in es) in
+    ≡ edit_session f bs (session_in e) ∷ map (edit_session f bs) (map session_in es) in
     (elim (finds bs e.0) as P [
       | true ↦ λ h k. (
           let text : rc_str_bytes e.0 ≡ bs = key-is bs e.0 h in
@@ -163,12 +163,12 @@ edited-is bs f u v (e ∷ es) l same s =
     ]) refl l
 
 pub nobody-edited : (bs : List ℕ) (f : world.Session → world.Session) (es : List Entry)
-    → lookup (finds bs) es ≡ None → map session_in es ≡ map (edited f bs) (map session_in es)
+    → lookup (finds bs) es ≡ None → map session_in es ≡ map (edit_session f bs) (map session_in es)
 nobody-edited bs f [] l = refl
 nobody-edited bs f (e ∷ es) l =
     let P : Bool → Type 0 = λ b. finds bs e.0 ≡ b → cond b (Some e.1) (lookup (finds bs) es) ≡ None
-    → map session_in (e ∷ es) ≡ edited f bs (session_in e)
-    ∷ map (edited f bs) (map session_in es) in
+    → map session_in (e ∷ es) ≡ edit_session f bs (session_in e)
+    ∷ map (edit_session f bs) (map session_in es) in
     (elim (finds bs e.0) as P [
       | true ↦ λ h k. cc
       | false ↦ λ h k. (

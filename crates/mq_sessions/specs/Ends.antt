@@ -46,5 +46,5 @@ KeepsId entry = IfSome (kept_id entry.1) (λ id. id ≡ rc_str_bytes entry.0)
 abbrev pub KeepIds : List Entry → Type 0
 KeepIds entries = AllByRecursion KeepsId entries
 
-abbrev pub shown_in : List Entry → List Session
-shown_in entries = map session_in entries
+abbrev pub views_of : List Entry → List Session
+views_of entries = map session_in entries

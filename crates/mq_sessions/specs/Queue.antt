@@ -18,17 +18,17 @@ abbrev pub begin_with : Text → Option ℕ → Copy → Begin
 begin_with id deadline copy = (id, record { copy = copy; deadline = deadline } ∷ [])
 
 -- the session with these copies behind those that wait, if there is a place
-abbrev pub queued : ℕ → List Waiting → Session → Session
-queued limit waiting session = if has_place limit session then
+abbrev pub queue_copies : ℕ → List Waiting → Session → Session
+queue_copies limit waiting session = if has_place limit session then
     with_waiting session waiting else session
 
 -- the session, if it is that of the client, as this changes it
-abbrev pub edited : (Session → Session) → Text → Session → Session
-edited f id session = if has_id id session then f session else session
+abbrev pub edit_session : (Session → Session) → Text → Session → Session
+edit_session f id session = if has_id id session then f session else session
 
-abbrev pub queued_one : ℕ → Begin → List Session → List Session
-queued_one limit b sessions = map (edited (queued limit b.1) b.0) sessions
+abbrev pub queue_one : ℕ → Begin → List Session → List Session
+queue_one limit b sessions = map (edit_session (queue_copies limit b.1) b.0) sessions
 
-abbrev pub queued_all : ℕ → List Begin → List Session → List Session
-queued_all limit [] sessions = sessions
-queued_all limit (b ∷ bs) sessions = queued_all limit bs (queued_one limit b sessions)
+abbrev pub queue_all : ℕ → List Begin → List Session → List Session
+queue_all limit [] sessions = sessions
+queue_all limit (b ∷ bs) sessions = queue_all limit bs (queue_one limit b sessions)

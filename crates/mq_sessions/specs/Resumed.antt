@@ -5,6 +5,6 @@ use Rattle.mq_world.specs.World.{Session, Copy}
 use Rattle.mq_world.specs.Sessions.{resumes}
 use Rattle.mq_world.specs.Waiting.{resumed_copies}
 
-abbrev pub resumed : ℕ → List Session → Text → Bool → Option (List Copy)
-resumed now sessions id clean =
+abbrev pub copies_if_resumed : ℕ → List Session → Text → Bool → Option (List Copy)
+copies_if_resumed now sessions id clean =
     if resumes sessions id clean then Some (resumed_copies now sessions id clean) else None

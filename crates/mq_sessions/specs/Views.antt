@@ -35,8 +35,8 @@ session_at id s = record {
 }
 
 -- whoever's it is
-abbrev pub shown : Session → world.Session
-shown s = session_at [] s
+abbrev pub view_of : Session → world.Session
+view_of s = session_at [] s
 
 abbrev pub session_in : Key × Session → world.Session
 session_in entry = session_at (rc_str_bytes entry.0) entry.1

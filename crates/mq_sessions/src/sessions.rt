@@ -9,8 +9,8 @@ ghost use Rattle.mq_world.specs.Lists.{with_row};
 ghost use Rattle.mq_world.specs.World.{has_id, session_cmp};
 ghost use Rattle.mq_world.specs.Sessions.{new_session, session_of, is_connected, user_of, outlives};
 ghost use Rattle.mq_world.specs.Sessions.{left_by, has_ended, is_among};
-ghost use Rattle.mq_sessions.specs.Resumed.{resumed};
-ghost use Rattle.mq_sessions.specs.Queue.{queued_one, queued_all};
+ghost use Rattle.mq_sessions.specs.Resumed.{copies_if_resumed};
+ghost use Rattle.mq_sessions.specs.Queue.{queue_one, queue_all};
 ghost use Rattle.mq_sessions.specs.Near.{AllReached};
 ghost use Rattle.mq_world.specs.Views.{copy_of};
 ghost use Rattle.mq_sessions.specs.Views.{session_in};
@@ -131,7 +131,7 @@ impl Sessions {
     ) -> Result<Option<Vec<Delivery>>, AllocError>
         requires { AllReached clock.moment self.now }
         ensures { IfOk result (λ copies. option_map (λ list. map copy_of list.items) copies
-            ≡ resumed clock.moment self.now id.now clean) }
+            ≡ copies_if_resumed clock.moment self.now id.now clean) }
     {
         if clean {
             return Ok(None);
@@ -213,7 +213,7 @@ impl Sessions {
 
     // One more copy waits for a client.
     fn join(&mut self, limit: u32, queued_copy: QueuedCopy)
-        ensures { self.new ≡ queued_one limit (begin_of queued_copy) self.old }
+        ensures { self.new ≡ queue_one limit (begin_of queued_copy) self.old }
     {
         let Some(session) = self.by_id.get_mut(queued_copy.client.as_str()) else {
             return;
@@ -223,7 +223,7 @@ impl Sessions {
 
     /// The copies begin to wait, each where fewer wait than may. It takes no memory.
     pub fn join_all(&mut self, limit: u32, all: Vec<QueuedCopy>)
-        ensures new { self.new ≡ queued_all limit (map begin_of all.items) self.old }
+        ensures new { self.new ≡ queue_all limit (map begin_of all.items) self.old }
         ensures ordered { IsStrictlySortedBy session_cmp self.old }
     {
         learn_order(&self.by_id);

@@ -8,7 +8,7 @@ use Rattle.mq_world.specs.Keys.{key_cmp}
 use Rattle.mq_world.specs.Lists.{Text, same_text}
 use Rattle.mq_world.specs.World.{Subscription, same_share, has_key, same_key}
 use Rattle.mq_world.specs.Turns.{SameInTurn}
-use Rattle.mq_subscriptions.specs.Turns.{put_last, joined}
+use Rattle.mq_subscriptions.specs.Turns.{put_last, upsert}
 use Rattle.mq_subscriptions.specs.Filters.{FilterKey, AtEntries, AreEntries, AreListed, is_text}
 use Rattle.mq_subscriptions.specs.Filters.{is_in_list, is_listed, is_empty, all_rows}
 use Rattle.mq_world.proofs.ListLemmas.{list_any-map, list_any-same, any-append}
@@ -89,11 +89,11 @@ module _ (x s : Subscription) where
   both false false true h = refl
   both false false false h = refl
 
-  pub any-joined : (new rows : List Subscription) → SameInTurn new (joined x rows)
+  pub any-joined : (new rows : List Subscription) → SameInTurn new (upsert x rows)
       → list_any (same_key s) new ≡ (same_key x s || list_any (same_key s) rows)
   any-joined new rows same =
       let old : List Subscription = map (λ y. if same_key x y then x else y) rows in
-      list_any-SameElements (same_key s) new (joined x rows) same.elements
+      list_any-SameElements (same_key s) new (upsert x rows) same.elements
       ∙ any-append (same_key s) old (if list_any (same_key x) rows then [] else x ∷ [])
       ∙ ap (λ b. b || list_any (same_key s) (if list_any (same_key x) rows then [] else x ∷ []))
       (placed rows)
@@ -131,7 +131,7 @@ abbrev AreLive : Lists → Type 0
 AreLive lists = AllByRecursion (λ l. is_empty l.1 ≡ false) lists
 
 pub listed-joined : (x : Subscription) (old new : AtEntries) (before after : Lists)
-    → AreListed old before → AreEntries new → SameInTurn (all_rows new) (joined x (all_rows old))
+    → AreListed old before → AreEntries new → SameInTurn (all_rows new) (upsert x (all_rows old))
     → ((s : Subscription) → is_listed after s
     ≡ (has_key x.client x.share x.filter s || is_listed before s)) → AreLive after
     → AreListed new after

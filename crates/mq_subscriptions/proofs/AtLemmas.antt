@@ -12,7 +12,7 @@ use Rattle.mq_world.specs.Keys.{Key, key_cmp}
 use Rattle.mq_world.specs.Lists.{Text, same_text, text_cmp}
 use Rattle.mq_world.specs.World.{Subscription, same_share, has_key, same_key}
 use Rattle.mq_world.specs.Turns.{SameInTurn}
-use Rattle.mq_subscriptions.specs.Turns.{with_one, put_last, joined}
+use Rattle.mq_subscriptions.specs.Turns.{with_one, put_last, upsert}
 use Rattle.mq_subscriptions.specs.Filters.{Member, has_client, row, is_empty, is_text, direct_rows}
 use Rattle.mq_subscriptions.specs.Filters.{group_rows, NoneEmpty}
 use Rattle.mq_subscriptions.specs.Views.{texts}
@@ -151,15 +151,15 @@ module _ (bs : Text) (es : List (Key × List Member)) (live : NoneEmpty (texts e
     module _ (f c : Text) where
       pub group-joined : (o : held.SubscriptionOptions) → w ≡ with_one (has_client c) (c, o) v
           → SameInTurn (group_rows f (texts new))
-          (joined (row (Some bs) f (c, o)) (group_rows f (texts es)))
+          (upsert (row (Some bs) f (c, o)) (group_rows f (texts es)))
       group-joined o h =
           let s : Subscription = row (Some bs) f (c, o) in
-          let here : map (row (Some cut.key) f) w ≡ joined s (map (row (Some cut.key) f) v) =
-          subst (λ (k : Text). map (row (Some k) f) w ≡ joined s (map (row (Some k) f) v)) (sym key)
+          let here : map (row (Some cut.key) f) w ≡ upsert s (map (row (Some cut.key) f) v) =
+          subst (λ (k : Text). map (row (Some k) f) w ≡ upsert s (map (row (Some k) f) v)) (sym key)
           (ap (map (row (Some bs) f)) h ∙ map-with_one (row (Some bs) f) (has_client c) (same_key s)
           (own_key (Some bs) f c) (c, o) v) in
           subst (λ (l : List (Text × List Member)). SameInTurn (group_rows f l)
-          (joined s (group_rows f (texts es)))) (sym set_is)
+          (upsert s (group_rows f (texts es)))) (sym set_is)
           (cut-joined (rows_of f) IsLive (is_text bs) s (group_unlike f bs s refl) (texts es) live v
           cut w (same-is _ _ here))
 
@@ -270,11 +270,11 @@ module _ (bs : Text) (es : List (Key × List Member)) (live : NoneEmpty (texts e
     pub group-added : (f c : Text) (o : held.SubscriptionOptions)
         → one ≡ with_one (has_client c) (c, o) []
         → SameInTurn (group_rows f (texts new))
-        (joined (row (Some bs) f (c, o)) (group_rows f (texts es)))
+        (upsert (row (Some bs) f (c, o)) (group_rows f (texts es)))
     group-added f c o h =
         let s : Subscription = row (Some bs) f (c, o) in
         subst (λ (l : List (Text × List Member)). SameInTurn (group_rows f l)
-        (joined s (group_rows f (texts es)))) (sym put_is)
+        (upsert s (group_rows f (texts es)))) (sym put_is)
         (put-joined (rows_of f) IsLive text_cmp bs s (group_unlike f bs s refl) (texts es) live gap
         one (same-is _ _ (ap (map (row (Some bs) f)) h)))
 
@@ -315,17 +315,17 @@ module _ (f bs : Text) (o : held.SubscriptionOptions) (es : List (Key × held.Su
 
   replaced : (v : held.SubscriptionOptions) → lookup (is_text bs) (texts es) ≡ Some v
       → SameInTurn (flat_map (one_row f) (insert_entry text_cmp (texts es) bs o))
-      (joined mine (flat_map (one_row f) (texts es)))
+      (upsert mine (flat_map (one_row f) (texts es)))
   replaced v found =
       let cut : Split (is_text bs) (texts es) v =
       split text_cmp (is_text bs) (text-apart bs) (texts es) v (ordered-texts es sorted) found
       in
       let key : cut.key ≡ bs = key_is bs cut.key cut.passes in
-      let here : one_row f (cut.key, o) ≡ joined mine (one_row f (cut.key, v)) =
-      subst (λ (k : Text). one_row f (k, o) ≡ joined mine (one_row f (k, v))) (sym key)
+      let here : one_row f (cut.key, o) ≡ upsert mine (one_row f (cut.key, v)) =
+      subst (λ (k : Text). one_row f (k, o) ≡ upsert mine (one_row f (k, v))) (sym key)
       (sym (taken v)) in
       subst (λ (l : List Member). SameInTurn (flat_map (one_row f) l)
-      (joined mine (flat_map (one_row f) (texts es)))) (sym (put_found' v found))
+      (upsert mine (flat_map (one_row f) (texts es)))) (sym (put_found' v found))
       (cut-joined (one_row f) Any (is_text bs) mine (own_unlike f bs mine refl refl) (texts es)
       (all_any (texts es)) v cut o (same-is _ _ here))
     where
@@ -334,33 +334,33 @@ module _ (f bs : Text) (o : held.SubscriptionOptions) (es : List (Key × held.Su
       put_found' u h = put_found text_cmp nat_list_cmp_total bs (texts es) u o
           (ordered-texts es sorted) h
 
-      taken : (u : held.SubscriptionOptions) → joined mine (one_row f (bs, u)) ≡ one_row f (bs, o)
+      taken : (u : held.SubscriptionOptions) → upsert mine (one_row f (bs, u)) ≡ one_row f (bs, o)
       taken u = ap (λ b. (if b then mine else row None f (bs, u))
           ∷ (if b || false then [] else mine ∷ []))
           (own_key None f bs (bs, u) ∙ same_text-itself bs)
 
   added : lookup (is_text bs) (texts es) ≡ None
       → SameInTurn (flat_map (one_row f) (insert_entry text_cmp (texts es) bs o))
-      (joined mine (flat_map (one_row f) (texts es)))
+      (upsert mine (flat_map (one_row f) (texts es)))
   added none = put-joined (one_row f) Any text_cmp bs mine (own_unlike f bs mine refl refl)
       (texts es) (all_any (texts es)) (put_gap text_cmp bs (texts es) none) o
       (same-itself (mine ∷ []))
 
   pub direct-joined : (name : Key) (new : List (Key × held.SubscriptionOptions))
       → rc_str_bytes name ≡ bs → new ≡ insert_entry key_cmp es name o
-      → SameInTurn (direct_rows f (texts new)) (joined mine (direct_rows f (texts es)))
+      → SameInTurn (direct_rows f (texts new)) (upsert mine (direct_rows f (texts es)))
   direct-joined name new named put =
       let put_is : texts new ≡ insert_entry text_cmp (texts es) bs o = ap texts put
       ∙ insert_entry-texts es name o ∙ ap (λ k. insert_entry text_cmp (texts es) k o) named in
       let P : Option held.SubscriptionOptions → Type 0 = λ r. lookup (is_text bs) (texts es) ≡ r
       → SameInTurn (flat_map (one_row f) (insert_entry text_cmp (texts es) bs o))
-      (joined mine (flat_map (one_row f) (texts es))) in
+      (upsert mine (flat_map (one_row f) (texts es))) in
       let flat = (elim (lookup (is_text bs) (texts es)) as P [ Some v ↦ replaced v | None ↦ added ])
       refl in
-      subst (λ (l : List Subscription). SameInTurn l (joined mine (direct_rows f (texts es))))
+      subst (λ (l : List Subscription). SameInTurn l (upsert mine (direct_rows f (texts es))))
       (sym (ap (direct_rows f) put_is ∙ rows-flat f (insert_entry text_cmp (texts es) bs o)))
       (subst (λ (l : List Subscription). SameInTurn
-      (flat_map (one_row f) (insert_entry text_cmp (texts es) bs o)) (joined mine l))
+      (flat_map (one_row f) (insert_entry text_cmp (texts es) bs o)) (upsert mine l))
       (sym (rows-flat f (texts es))) flat)
 
 pub direct-left : (f bs : Text) (es new : List (Key × held.SubscriptionOptions))
@@ -397,22 +397,22 @@ all_shared f s e (g ∷ gs) = all_append (Unlike s) (rows_of f g) (group_rows f 
 
 module _ (f c : Text) (o : held.SubscriptionOptions) where
   pub at-joined-own : (d new : List Member) (gs : List (Text × List Member))
-      → SameInTurn (direct_rows f new) (joined (row None f (c, o)) (direct_rows f d))
+      → SameInTurn (direct_rows f new) (upsert (row None f (c, o)) (direct_rows f d))
       → SameInTurn (direct_rows f new ++ group_rows f gs)
-      (joined (row None f (c, o)) (direct_rows f d ++ group_rows f gs))
+      (upsert (row None f (c, o)) (direct_rows f d ++ group_rows f gs))
   at-joined-own d new gs h = joined-among (row None f (c, o)) [] (direct_rows f d)
       (direct_rows f new) (group_rows f gs) tt (all_shared f (row None f (c, o)) refl gs) h
 
   pub at-joined-shared : (share : Text) (d : List Member) (gs new : List (Text × List Member))
-      → SameInTurn (group_rows f new) (joined (row (Some share) f (c, o)) (group_rows f gs))
+      → SameInTurn (group_rows f new) (upsert (row (Some share) f (c, o)) (group_rows f gs))
       → SameInTurn (direct_rows f d ++ group_rows f new)
-      (joined (row (Some share) f (c, o)) (direct_rows f d ++ group_rows f gs))
+      (upsert (row (Some share) f (c, o)) (direct_rows f d ++ group_rows f gs))
   at-joined-shared share d gs new h =
       let s : Subscription = row (Some share) f (c, o) in
       subst (λ (l : List Subscription). SameInTurn (direct_rows f d ++ l)
-      (joined s (direct_rows f d ++ group_rows f gs))) (append-nil (group_rows f new))
+      (upsert s (direct_rows f d ++ group_rows f gs))) (append-nil (group_rows f new))
       (subst (λ (l : List Subscription). SameInTurn (direct_rows f d ++ (group_rows f new ++ []))
-      (joined s (direct_rows f d ++ l))) (append-nil (group_rows f gs))
+      (upsert s (direct_rows f d ++ l))) (append-nil (group_rows f gs))
       (joined-among s (direct_rows f d) (group_rows f gs) (group_rows f new) []
       (all_own f s share refl d) tt h))
 

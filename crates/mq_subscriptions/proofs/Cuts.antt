@@ -8,7 +8,7 @@ use Rattle.std.specs.Map.{set_value, remove_entry}
 use Rattle.std.specs.BTreeMap.{insert_entry}
 use Rattle.mq_world.specs.World.{Subscription, same_key}
 use Rattle.mq_world.specs.Turns.{SameInTurn}
-use Rattle.mq_subscriptions.specs.Turns.{put_last, joined}
+use Rattle.mq_subscriptions.specs.Turns.{put_last, upsert}
 use Rattle.mq_world.proofs.Splits.{Split, Put, flat_map-cut, flat_map-joint}
 use Rattle.mq_world.proofs.OrderLemmas.{all_append}
 use Rattle.mq_world.proofs.ListLemmas.{any-none}
@@ -63,13 +63,13 @@ module _ {K X : Type 0} (rows : K × X → List Subscription) (Live : K × X →
         ++ (rows (cut.key, w) ++ flat_map rows cut.back)
     set_is w = ap (flat_map rows) (cut.set w) ∙ flat_map-cut rows cut.front (cut.key, w) cut.back
 
-    pub cut-joined : (w : X) → SameInTurn (rows (cut.key, w)) (joined s (rows (cut.key, v)))
-        → SameInTurn (flat_map rows (set_value test es w)) (joined s (flat_map rows es))
+    pub cut-joined : (w : X) → SameInTurn (rows (cut.key, w)) (upsert s (rows (cut.key, v)))
+        → SameInTurn (flat_map rows (set_value test es w)) (upsert s (flat_map rows es))
     cut-joined w h =
         same-then _ _ _ (same-is _ _ (set_is w))
         (same-then _ _ _ (joined-among s (flat_map rows cut.front) (rows (cut.key, v))
         (rows (cut.key, w)) (flat_map rows cut.back) front_unlike back_unlike h)
-        (same-is _ _ (ap (joined s) all_is)))
+        (same-is _ _ (ap (upsert s) all_is)))
 
     pub cut-turned : (w : X) → SameInTurn (rows (cut.key, w))
         (put_last (same_key s) (rows (cut.key, v)))
@@ -158,8 +158,8 @@ module _ {K X : Type 0} (rows : K × X → List Subscription) (Live : K × X →
       live_both : AllByRecursion Live (gap.gap.front ++ gap.gap.back)
       live_both = subst (λ (l : List (K × X)). AllByRecursion Live l) gap.gap.is live
 
-      pub put-joined : (v : X) → SameInTurn (rows (k, v)) (joined s [])
-          → SameInTurn (flat_map rows (insert_entry cmp es k v)) (joined s (flat_map rows es))
+      pub put-joined : (v : X) → SameInTurn (rows (k, v)) (upsert s [])
+          → SameInTurn (flat_map rows (insert_entry cmp es k v)) (upsert s (flat_map rows es))
       put-joined v h =
           same-then _ _ _ (same-is _ _ (ap (flat_map rows) (gap.put v)
           ∙ flat_map-cut rows gap.gap.front (k, v) gap.gap.back))
@@ -169,7 +169,7 @@ module _ {K X : Type 0} (rows : K × X → List Subscription) (Live : K × X →
           (all_front Live gap.gap.front gap.gap.back live_both) gap.gap.before)
           (others rows Live (λ y. is_eq (cmp k y)) s unlike gap.gap.back
           (all_back Live gap.gap.front gap.gap.back live_both) gap.gap.behind) h)
-          (same-is _ _ (ap (joined s)
+          (same-is _ _ (ap (upsert s)
           (sym (ap (flat_map rows) gap.gap.is
           ∙ flat_map-joint rows gap.gap.front gap.gap.back)))))
 

@@ -8,7 +8,7 @@ use Rattle.std.proofs.lemmas.List.Elements.{filter-append}
 use Rattle.mq_world.specs.Lists.{Text, same_text}
 use Rattle.mq_world.specs.World.{Group, Subscription, is_in_group, same_share, same_key}
 use Rattle.mq_world.specs.Turns.{SameInTurn}
-use Rattle.mq_subscriptions.specs.Turns.{with_one, put_last, joined, all_turned}
+use Rattle.mq_subscriptions.specs.Turns.{with_one, put_last, upsert, all_turned}
 use Rattle.mq_world.proofs.ListLemmas.{map-filter, filter-same, any-append, filter-none}
 use Rattle.mq_world.proofs.ListLemmas.{filter-kept, any-none}
 use Rattle.mq_world.proofs.SameLemmas.{SameElements-filter, SameElements-map, list_any-SameElements}
@@ -240,8 +240,8 @@ map-kept s (x ∷ xs) h =
 
 pub joined-among : (s : Subscription) (front mid new back : List Subscription)
     → AllByRecursion (Unlike s) front → AllByRecursion (Unlike s) back
-    → SameInTurn new (joined s mid) → SameInTurn (front ++ (new ++ back))
-    (joined s (front ++ (mid ++ back)))
+    → SameInTurn new (upsert s mid) → SameInTurn (front ++ (new ++ back))
+    (upsert s (front ++ (mid ++ back)))
 joined-among s front mid new back h k e =
     let f : Subscription → Subscription = λ x. if same_key s x then s else x in
     let all : List Subscription = front ++ (mid ++ back) in
@@ -271,7 +271,7 @@ joined-among s front mid new back h k e =
     let b : Bool = list_any (same_key s) mid in
     same-then _ _ _ (middle front (map f mid ++ last b) new back e)
     (same-then _ _ _ (moved_out front (map f mid) (last b) back (one b))
-    (same-is _ (joined s all)
+    (same-is _ (upsert s all)
     (sym (ap (λ l. l ++ last (list_any (same_key s) all)) maps
     ∙ ap (λ v. (front ++ (map f mid ++ back)) ++ last v) any))))
 
@@ -285,7 +285,7 @@ stays_in s g x =
     (elim (same_key s x) as P [ true ↦ λ e. sym (in_group_same s x g e) | false ↦ λ e. refl ]) refl
 
 pub joined-same : (s : Subscription) (xs ys : List Subscription) → SameInTurn xs ys
-    → SameInTurn (joined s xs) (joined s ys)
+    → SameInTurn (upsert s xs) (upsert s ys)
 joined-same s xs ys h =
     let f : Subscription → Subscription = λ x. if same_key s x then s else x in
     let last : Bool → List Subscription = λ b. if b then [] else s ∷ [] in

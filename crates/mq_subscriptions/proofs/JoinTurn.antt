@@ -15,7 +15,7 @@ use Rattle.mq_world.specs.World.{World, IsWorld, Group, Subscription, Row, row_c
 use Rattle.mq_world.specs.World.{subscription_cmp, is_in_group, rows_in, same_key}
 use Rattle.mq_world.specs.After.{kept_stamp}
 use Rattle.mq_world.specs.Turns.{put_in_turn, by_turn, in_turn}
-use Rattle.mq_subscriptions.specs.Turns.{joined}
+use Rattle.mq_subscriptions.specs.Turns.{upsert}
 use Rattle.mq_world.proofs.ListLemmas.{map-filter, filter-same, list_any-map}
 use Rattle.mq_world.proofs.SameLemmas.{length-filter-cons, list_any-SameElements}
 use Rattle.mq_world.proofs.OrderLemmas.{subscription_total, tied_is, before, behind, all_weaker}
@@ -328,7 +328,7 @@ module _ (s : Subscription) where
     put o = with_row row_cmp (record { subscription = s; stamp = stamp_of o }) w.rows
 
     joins_by : (o : Option Row) → find same w.rows ≡ o
-        → joined s (in_turn w) ≡ map (λ (r : Row). r.subscription) (by_turn (put o))
+        → upsert s (in_turn w) ≡ map (λ (r : Row). r.subscription) (by_turn (put o))
     unfolding with_row
     joins_by (Some old) e =
         let any : list_any (same_key s) (in_turn w) ≡ true =
@@ -358,7 +358,7 @@ module _ (s : Subscription) where
         ∙ ap (λ l. by_turn l ++ x ∷ []) (gap w.rows h.rows none))
         ∙ map-append (λ (r : Row). r.subscription) (by_turn w.rows) (x ∷ []))
 
-    pub joins : joined s (in_turn w) ≡ map (λ (r : Row). r.subscription)
+    pub joins : upsert s (in_turn w) ≡ map (λ (r : Row). r.subscription)
         (by_turn (with_row row_cmp (record { subscription = s; stamp = kept_stamp w s }) w.rows))
     joins = joins_by (find same w.rows) refl
 

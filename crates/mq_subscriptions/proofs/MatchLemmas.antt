@@ -11,14 +11,15 @@ use Rattle.mq_world.specs.Lists.{Text, same_text}
 use Rattle.mq_world.specs.World.{SubscriptionOptions, Subscription, Message}
 use Rattle.mq_subscriptions.specs.Filters.{Member, direct_rows, group_rows, row}
 use Rattle.mq_world.specs.Views.{options_of}
-use Rattle.mq_subscriptions.specs.Matches.{is_unshared_match, unshared_matches, matched, options_among}
+use Rattle.mq_subscriptions.specs.Matches.{is_unshared_match, unshared_matches, match_views}
+use Rattle.mq_subscriptions.specs.Matches.{options_among}
 use Rattle.mq_subscriptions.specs.Matches.{AreAscending, AreByClient}
 use Rattle.mq_world.proofs.ListLemmas.{map-filter}
 use Rattle.mq_subscriptions.specs.declared.subscriptions.matches.Match.{Match}
 use Rattle.mq_subscriptions.proofs.AscendingLemmas.{lt, ascending-sorted, stable-kept}
 
 pub sorted-matches : (ms : List Match)
-    → IsSortedBy (lt (λ (x : Match). rc_str_bytes x.client.now)) ms → AreByClient (matched ms)
+    → IsSortedBy (lt (λ (x : Match). rc_str_bytes x.client.now)) ms → AreByClient (match_views ms)
 sorted-matches ms s = subst AreAscending
     (sym (map-map (λ (x : Text × SubscriptionOptions). x.0)
     (λ (x : Match). (rc_str_bytes x.client.now, options_of x.options)) ms))
@@ -26,7 +27,7 @@ sorted-matches ms s = subst AreAscending
 
 pub stable-matches : (xs ys : List Match)
     → IsStableBy (lt (λ (x : Match). rc_str_bytes x.client.now)) xs ys → (id : Text)
-    → options_among id (matched ys) ≡ options_among id (matched xs)
+    → options_among id (match_views ys) ≡ options_among id (match_views xs)
 stable-matches xs ys stable id =
     let pair : Match → Text × SubscriptionOptions =
     λ x. (rc_str_bytes x.client.now, options_of x.options) in

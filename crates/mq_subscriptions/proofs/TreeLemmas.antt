@@ -18,7 +18,7 @@ use Rattle.mq_world.proofs.ListLemmas.{map-filter, map-insert_entry, remove_entr
 use Rattle.mq_world.specs.Lists.{Text, same_text}
 use Rattle.mq_world.specs.World.{Subscription, same_key}
 use Rattle.mq_world.specs.Turns.{SameInTurn}
-use Rattle.mq_subscriptions.specs.Turns.{put_last, joined}
+use Rattle.mq_subscriptions.specs.Turns.{put_last, upsert}
 use Rattle.mq_subscriptions.specs.Filters.{At, AtEntries, AreHere, IsEntry, AllEntries, AreEntries}
 use Rattle.mq_subscriptions.specs.Filters.{all_rows, is_empty}
 use Rattle.mq_world.proofs.OrderLemmas.{equal_from, same_levels, sorted-with_row, levels_total}
@@ -153,10 +153,10 @@ module _ (f : Text) (es : AtEntries) (kept : AllEntries es) where
           }
 
       module _ (new : AtEntries) (set : new ≡ set_value (is_key k) es w) where
-        pub tree-joined : (s : Subscription) → s.filter ≡ f → SameInTurn w.rows (joined s v.rows)
-            → SameInTurn (all_rows new) (joined s (all_rows es))
+        pub tree-joined : (s : Subscription) → s.filter ≡ f → SameInTurn w.rows (upsert s v.rows)
+            → SameInTurn (all_rows new) (upsert s (all_rows es))
         tree-joined s own h =
-            subst (λ (l : AtEntries). SameInTurn (all_rows l) (joined s (all_rows es))) (sym set)
+            subst (λ (l : AtEntries). SameInTurn (all_rows l) (upsert s (all_rows es))) (sym set)
             (cut-joined rows_of Kept (is_key k) s (tree_unlike f s own) es kept v cut w h)
 
         pub tree-turned : (s : Subscription) → s.filter ≡ f
@@ -213,10 +213,10 @@ module _ (f : Text) (es : AtEntries) (kept : AllEntries es) where
 
     module _ (one : At) (own_filter : one.filter ≡ f) (one_here : AreHere one) (new : AtEntries)
         (put : new ≡ insert_entry level_order es k one) where
-      pub tree-added : (s : Subscription) → s.filter ≡ f → SameInTurn one.rows (joined s [])
-          → SameInTurn (all_rows new) (joined s (all_rows es))
+      pub tree-added : (s : Subscription) → s.filter ≡ f → SameInTurn one.rows (upsert s [])
+          → SameInTurn (all_rows new) (upsert s (all_rows es))
       tree-added s own h =
-          subst (λ (l : AtEntries). SameInTurn (all_rows l) (joined s (all_rows es))) (sym put)
+          subst (λ (l : AtEntries). SameInTurn (all_rows l) (upsert s (all_rows es))) (sym put)
           (put-joined rows_of Kept level_order k s (tree_unlike f s own) es kept gap one h)
 
       pub tree-added_kept : AreInOrder es → is_empty one.rows ≡ false → AreEntries new
@@ -242,10 +242,10 @@ nothing_left [] l e = true≢false l
 nothing_left (z ∷ zs) l e = (let no : 0 ≡ suc (length (filter (λ _. true) zs)) = e in cc)
 
 -- one that has joined is not empty
-pub joined-live : (s : Subscription) (xs ys : List Subscription) → SameInTurn xs (joined s ys)
+pub joined-live : (s : Subscription) (xs ys : List Subscription) → SameInTurn xs (upsert s ys)
     → is_empty xs ≡ false
 joined-live s [] ys h =
-    absurd (nothing_left (joined s ys) (with_one-live (same_key s) s ys) (h.elements (λ _. true)))
+    absurd (nothing_left (upsert s ys) (with_one-live (same_key s) s ys) (h.elements (λ _. true)))
 joined-live s (x ∷ xs) ys h = refl
 
 pub turned-live : (q : Subscription → Bool) (xs ys : List Subscription)

@@ -129,7 +129,8 @@ all-filter : (q : Row → Bool) (n : ℕ) (l : List Row) → AllByRecursion (λ 
     → AllByRecursion (λ o. n ≤ o.stamp) (filter q l)
 all-filter q n [] h = tt
 all-filter q n (o ∷ os) h =
-    elim (q o) as (λ b. AllByRecursion (λ x. n ≤ x.stamp) (cond b (o ∷ filter q os) (filter q os))) [
+    elim (q o) as (λ b. AllByRecursion (λ x. n ≤ x.stamp)
+    (cond b (o ∷ filter q os) (filter q os))) [
       | true ↦ (h.0, all-filter q n os h.1)
       | false ↦ all-filter q n os h.1
     ]

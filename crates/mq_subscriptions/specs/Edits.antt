@@ -5,7 +5,7 @@ use Rattle.mq_world.specs.Keys.{Key}
 use Rattle.mq_world.specs.Lists.{Text}
 use Rattle.mq_world.specs.World.{Subscription, has_key}
 use Rattle.mq_world.specs.Turns.{SameInTurn}
-use Rattle.mq_subscriptions.specs.Turns.{joined, put_last}
+use Rattle.mq_subscriptions.specs.Turns.{upsert, put_last}
 use Rattle.mq_subscriptions.specs.Filters.{Member, At, row, direct_rows, group_rows}
 use Rattle.mq_subscriptions.specs.Views.{texts}
 use Rattle.mq_world.specs.declared.options.SubscriptionOptions.{SubscriptionOptions}
@@ -18,7 +18,7 @@ Groups = List (Key × List Member)
 
 -- the subscription takes the place of the one with its key, or goes last
 abbrev pub Joins : Subscription → List Subscription → List Subscription → Type 0
-Joins s old new = SameInTurn new (joined s old)
+Joins s old new = SameInTurn new (upsert s old)
 
 -- the member joins at the filter, in its own name or in a group
 abbrev pub JoinsAt : Option Text → Member → At → List Subscription → Type 0

@@ -23,8 +23,8 @@ abbrev pub unshared_matches : Message → List Subscription → List (Text × wo
 unshared_matches m rows = map (λ s. (s.client, s.options)) (filter (is_unshared_match m) rows)
 
 -- subscriptions, each by its client and what it asks for
-abbrev pub matched : List Match → List (Text × SubscriptionOptions)
-matched ms = map (λ m. (rc_str_bytes m.client.now, options_of m.options)) ms
+abbrev pub match_views : List Match → List (Text × SubscriptionOptions)
+match_views ms = map (λ m. (rc_str_bytes m.client.now, options_of m.options)) ms
 
 abbrev pub clients_of : List (Text × SubscriptionOptions) → List Text
 clients_of xs = map (λ x. x.0) xs
@@ -41,5 +41,5 @@ AreAscending (t ∷ ts) = AllByRecursion (λ u. is_lt (text_cmp u t) ≡ false) 
 abbrev pub AreByClient : List (Text × SubscriptionOptions) → Type 0
 AreByClient xs = AreAscending (clients_of xs)
 
-abbrev pub seen : {X : Type 0} → List (Bor X) → List X
-seen xs = map (λ x. x.now) xs
+abbrev pub lent_values : {X : Type 0} → List (Bor X) → List X
+lent_values xs = map (λ x. x.now) xs

@@ -24,8 +24,8 @@ abbrev pub put_last : {X : Type 0} → (X → Bool) → List X → List X
 put_last passes xs = filter (λ x. not (passes x)) xs ++ filter passes xs
 
 -- a subscription takes the place of the one with its key, and else goes last
-abbrev pub joined : Subscription → List Subscription → List Subscription
-joined s xs = with_one (same_key s) s xs
+abbrev pub upsert : Subscription → List Subscription → List Subscription
+upsert s xs = with_one (same_key s) s xs
 
 abbrev pub all_turned : List Subscription → List Subscription → List Subscription
 all_turned [] xs = xs

@@ -10,12 +10,12 @@ ghost use Rattle.mq_world.specs.Lists.{same_text};
 ghost use Rattle.mq_world.specs.World.{has_key};
 ghost use Rattle.mq_subscriptions.specs.Wanted.{wanted_row, has_wanted, has_asked, ListsMore};
 ghost use Rattle.mq_subscriptions.specs.Wanted.{ListsLess, NoneEmptied, IsAskedBy};
-ghost use Rattle.mq_subscriptions.specs.Matches.{seen};
+ghost use Rattle.mq_subscriptions.specs.Matches.{lent_values};
 ghost use Rattle.mq_subscriptions.specs.Matches.{rows_found};
 ghost use Rattle.mq_world.specs.Copies.{filter_matches};
 ghost use Rattle.mq_world.specs.Retained.{asks_for_retained};
 ghost use Rattle.mq_world.specs.Turns.{SameInTurn};
-ghost use Rattle.mq_subscriptions.specs.Turns.{joined, put_last, all_turned};
+ghost use Rattle.mq_subscriptions.specs.Turns.{upsert, put_last, all_turned};
 ghost use Rattle.mq_subscriptions.specs.Turns.{turn_of};
 ghost use Rattle.mq_subscriptions.specs.Filters.{row, At, AreKeys};
 
@@ -106,7 +106,7 @@ impl Subscriptions {
     ) -> Result<(), AllocError>
         requires { IsAskedBy text.now wanted.now }
         ensures ok { OnOk result (SameInTurn self.new.rows
-            (joined (wanted_row (rc_str_bytes client.now) wanted.now options) self.old.rows)) }
+            (upsert (wanted_row (rc_str_bytes client.now) wanted.now options) self.old.rows)) }
         ensures keys { OnOk result (AreKeys self.new) }
         ensures err { OnErr result (self.new ≡ self.old) }
     {
@@ -159,9 +159,9 @@ impl Subscriptions {
         name: &TopicName,
         steps: &mut Steps,
     ) -> Result<Vec<&FilterEntry>, AllocError>
-        ensures rows { IfOk result (λ found. rows_found (seen found.items)
+        ensures rows { IfOk result (λ found. rows_found (lent_values found.items)
             ≡ filter (λ s. filter_matches s.filter name.now) self.now.rows) }
-        ensures order { IfOk result (λ found. AreAtFilters name.now (seen found.items)) }
+        ensures order { IfOk result (λ found. AreAtFilters name.now (lent_values found.items)) }
         ensures count { OnOk result (steps.new ≡ steps.old + length
             (met_by_name (levels name.now) (prefixes self.now.keys))) }
     {
@@ -223,7 +223,7 @@ fn join_in(
 ) -> Result<(), AllocError>
     requires { AreEntries tree.old }
     ensures ok { OnOk result (SameInTurn (all_rows tree.new)
-        (joined (wanted_row (rc_str_bytes client.now) wanted.now options) (all_rows tree.old))) }
+        (upsert (wanted_row (rc_str_bytes client.now) wanted.now options) (all_rows tree.old))) }
     ensures err { OnErr result (tree.new ≡ tree.old) }
     ensures kept { AreEntries tree.new }
 {
@@ -248,7 +248,7 @@ fn add_in(
     requires kept { AreEntries tree.old }
     requires absent { lookup (is_key (levels wanted.now.filter)) tree.old ≡ None }
     ensures ok { OnOk result (SameInTurn (all_rows tree.new)
-        (joined (wanted_row (rc_str_bytes client) wanted.now options) (all_rows tree.old))) }
+        (upsert (wanted_row (rc_str_bytes client) wanted.now options) (all_rows tree.old))) }
     ensures err { OnErr result (tree.new ≡ tree.old) }
     ensures kept { AreEntries tree.new }
 {
@@ -282,7 +282,8 @@ fn leave_in(tree: &mut LevelTree<FilterEntry>, client: &str, text: &str) -> bool
 
 ghost use Rattle.std.specs.Prelude.{◌&&◌, ◌||◌};
 ghost use Rattle.std.specs.List.{AllByRecursion};
-ghost use Rattle.mq_subscriptions.specs.Filters.{AreListed, is_empty, is_in_list, is_text, FilterKey};
+ghost use Rattle.mq_subscriptions.specs.Filters.{AreListed, is_empty, is_in_list, is_text};
+ghost use Rattle.mq_subscriptions.specs.Filters.{FilterKey};
 
 // Takes a client's subscriptions out of the tree.
 fn leave_all(tree: &mut LevelTree<FilterEntry>, own: &ClientFilters, client: &str)

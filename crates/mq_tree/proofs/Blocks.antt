@@ -8,7 +8,7 @@ use Rattle.std.specs.Map.{keys_of}
 use Rattle.std.specs.List.{filter, flat_map, AllByRecursion}
 use Rattle.std.proofs.lemmas.List.{map-append, length-map}
 use Rattle.std.proofs.lemmas.Map.Keys.{sorted_head}
-use Rattle.mq_tree.specs.Below.{tallied}
+use Rattle.mq_tree.specs.Below.{tally}
 use Rattle.mq_tree.specs.Entries.{Entries}
 use Rattle.mq_tree.specs.Nodes.{Children, under, below, own, AreChildren}
 use Rattle.mq_tree.specs.Prefixes.{heads, is_prefix, prefixes, prefixes_after}
@@ -124,7 +124,7 @@ prefixes_own None children h = blocks_below children h
 prefixes_own (Some v) children h = blocks_below children h
 
 pub length-blocks : {V : Type 0} (children : Children V)
-    → length (flat_map block children) ≡ tallied (λ child. length (prefixes (keys_of child.1)))
+    → length (flat_map block children) ≡ tally (λ child. length (prefixes (keys_of child.1)))
     children
 length-blocks [] = refl
 length-blocks (child ∷ children) =

@@ -10,7 +10,7 @@ use Rattle.std.proofs.lemmas.List.Sums.{sum_by-cons, sum_by-append}
 use Rattle.mq_tree.specs.Entries.{Entries, capped}
 use Rattle.mq_tree.specs.Nodes.{NodeView, Branches, Children, under, below, own, entries_of}
 use Rattle.mq_tree.specs.Nodes.{entries_in, children_of, AreChildren}
-use Rattle.mq_tree.specs.Below.{tallied}
+use Rattle.mq_tree.specs.Below.{tally}
 use Rattle.mq_tree.specs.Prefixes.{prefixes}
 use Rattle.mq_tree.proofs.Blocks.{prefixes_own, length-blocks}
 
@@ -97,7 +97,7 @@ abbrev pub nodes_of : {V : Type 0} → Entries V → ℕ
 nodes_of es = length (prefixes (keys_of es)) + 1
 
 tallied_nodes : {Y V : Type 0} (nodes : Branches Y V)
-    → tallied (λ child. length (prefixes (keys_of child.1))) (children_of nodes)
+    → tally (λ child. length (prefixes (keys_of child.1))) (children_of nodes)
     ≡ sum_by (λ node. nodes_of (entries_in node)) (values_of nodes)
 tallied_nodes [] = refl
 tallied_nodes (node ∷ nodes) =

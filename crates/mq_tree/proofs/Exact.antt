@@ -4,7 +4,7 @@ use Rattle.std.proofs.Common.{◌++◌, length, Option, Some, None, refl, sym, a
 use Rattle.std.specs.Str.{bytes_eq}
 use Rattle.std.specs.Map.{lookup, keys_of}
 use Rattle.std.specs.List.{filter, flat_map}
-use Rattle.mq_tree.specs.Below.{values_at, tallied}
+use Rattle.mq_tree.specs.Below.{values_at, tally}
 use Rattle.mq_tree.specs.Entries.{Entries}
 use Rattle.mq_tree.specs.Nodes.{NodeView, is_level, entries_of, AreChildren}
 use Rattle.mq_tree.specs.Prefixes.{prefixes}
@@ -34,9 +34,9 @@ module _ (P : List (List ℕ) → Bool) (f : List ℕ) (Q : List (List ℕ) → 
 
   met_step : (o : Option (Entries V)) → Q [] ≡ true → o ≡ lookup (is_level f) node.1
       → length (filter P (prefixes (keys_of (entries_of node))))
-      ≡ tallied (λ child. length (filter Q (prefixes (keys_of child.1)))) (given one f o ++ [])
+      ≡ tally (λ child. length (filter Q (prefixes (keys_of child.1)))) (given one f o ++ [])
   met_step o h e = met_node P (bytes_eq f) (λ m. Q) step node.0 node.1 are (λ m p. h)
-      ∙ ap (tallied (λ child. length (filter Q (prefixes (keys_of child.1))))) (alone o e)
+      ∙ ap (tally (λ child. length (filter Q (prefixes (keys_of child.1))))) (alone o e)
 
   pub found_some : (es : Entries V) → P [] ≡ false → Some es ≡ lookup (is_level f) node.1
       → values_at P (entries_of node) ≡ values_at Q es

@@ -8,7 +8,7 @@ use Rattle.std.proofs.lemmas.List.{map-append}
 use Rattle.std.proofs.lemmas.List.Elements.{filter_agree}
 use Rattle.mq_topic.specs.Matching.{level_matches}
 use Rattle.mq_tree.specs.Below.{hash, plus, is_last_hash, matches_below, fronts, meets_filter}
-use Rattle.mq_tree.specs.Below.{values_at, tallied, HashLast}
+use Rattle.mq_tree.specs.Below.{values_at, tally, HashLast}
 use Rattle.mq_tree.specs.Entries.{Entries}
 use Rattle.mq_tree.specs.Falls.{weight-append, weight-under, some_length}
 use Rattle.mq_tree.specs.Nodes.{NodeView, Children, under, below, own, entries_of, weight, NoneDead}
@@ -38,7 +38,7 @@ all_values node = map-append (λ e. e.1) (own node.0) (below node.1)
 
 pub all_met : {V : Type 0} (node : NodeView V) → AreChildren node.1
     → length (prefixes (keys_of (entries_of node)))
-    ≡ tallied (λ child. length (prefixes (keys_of child.1))) node.1
+    ≡ tally (λ child. length (prefixes (keys_of child.1))) node.1
 all_met node are = ap length (prefixes_own node.0 node.1 are) ∙ length-blocks node.1
 
 -- the first of some children weighs less than what they stand below
@@ -146,11 +146,11 @@ module _ {V : Type 0} (node : NodeView V) (fs : List (List ℕ)) where
 
   pub plus_met : AreChildren node.1
       → length (filter (meets_filter (plus ∷ fs)) (prefixes (keys_of (entries_of node))))
-      ≡ tallied (λ child. length (filter (meets_filter fs) (prefixes (keys_of child.1)))) node.1
+      ≡ tally (λ child. length (filter (meets_filter fs) (prefixes (keys_of child.1)))) node.1
   plus_met are =
       met_node (meets_filter (plus ∷ fs)) (λ m. true) (λ m. meets_filter fs)
       (level_met_step plus fs refl) node.0 node.1 are (λ m h. refl)
-      ∙ ap (tallied (λ child. length (filter (meets_filter fs) (prefixes (keys_of child.1)))))
+      ∙ ap (tally (λ child. length (filter (meets_filter fs) (prefixes (keys_of child.1)))))
       (filter_each node.1)
 
 pub not_key : (f : List ℕ) (fs : List (List ℕ)) → f ≢ hash → matches_below (f ∷ fs) [] ≡ false

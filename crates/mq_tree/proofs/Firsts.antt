@@ -6,7 +6,7 @@ use Rattle.std.specs.Str.{bytes_eq}
 use Rattle.std.specs.Map.{lookup}
 use Rattle.std.specs.List.{flat_map}
 use Rattle.mq_tree.specs.Below.{hash, plus, is_before, in_order_of, matches_below, meets_name}
-use Rattle.mq_tree.specs.Below.{values_at, nodes_at, tallied}
+use Rattle.mq_tree.specs.Below.{values_at, nodes_at, tally}
 use Rattle.mq_tree.specs.Entries.{Entries}
 use Rattle.mq_tree.specs.Nodes.{NodeView, Children, is_level, entries_of, AreChildren}
 use Rattle.mq_tree.proofs.Children.{After-tail-less, lookup-level-after}
@@ -35,7 +35,7 @@ module _ {V : Type 0} (node : NodeView V) (are : AreChildren node.1)
     found_empty = found_all node are n rest plain ∙ ap (flat_map (found_at rest)) nothing
 
     pub met_empty : nodes_at (meets_name (n ∷ rest)) (entries_of node) ≡ 0
-    met_empty = met_all node are n rest plain ∙ ap (tallied (met_at rest)) nothing
+    met_empty = met_all node are n rest plain ∙ ap (tally (met_at rest)) nothing
 
 -- ---- a first child
 no_hash : {V : Type 0} (child : List ℕ × Entries V) (children : Children V)
@@ -95,11 +95,11 @@ found_given rest t (Some es) more n =
     ap (λ xs. xs ++ flat_map (found_at rest) more) (found_other rest t es n)
 
 met_given : {V : Type 0} (rest : List (List ℕ)) (t : List ℕ) (o : Option (Entries V))
-    (more : Children V) → t ≢ hash → tallied (met_at rest) (given one t o ++ more) ≡ met_in rest o
-    + tallied (met_at rest) more
+    (more : Children V) → t ≢ hash → tally (met_at rest) (given one t o ++ more) ≡ met_in rest o
+    + tally (met_at rest) more
 met_given rest t None more n = omega arith
 met_given rest t (Some es) more n =
-    ap (λ x. (1 + x) + tallied (met_at rest) more) (met_other rest t es n)
+    ap (λ x. (1 + x) + tally (met_at rest) more) (met_other rest t es n)
 
 -- a node with this first child, and a name with this level and rest, where neither level comes before `+`
 pub record IsLate {V : Type 0} (node : NodeView V) (first : List ℕ × Entries V)
@@ -143,7 +143,7 @@ module _ {V : Type 0} (node : NodeView V) (first : List ℕ × Entries V) (name 
         arith,
         ap (λ ls. nodes_at (meets_name ls) (entries_of node)) h.key,
         met_all node h.are level rest h.plain,
-        ap (tallied (met_at rest)) turns,
+        ap (tally (met_at rest)) turns,
         met_given rest plus (plus_of first) (given one level o ++ []) plus_not_hash,
         met_given rest level o [] h.plain.0,
       )

@@ -5,7 +5,7 @@ use Rattle.std.specs.Map.{keys_of, values_of}
 use Rattle.std.specs.List.{filter, flat_map}
 use Rattle.std.proofs.lemmas.List.{map-append}
 use Rattle.std.proofs.lemmas.List.Elements.{filter-append}
-use Rattle.mq_tree.specs.Below.{values_at, tallied}
+use Rattle.mq_tree.specs.Below.{values_at, tally}
 use Rattle.mq_tree.specs.Entries.{Entries}
 use Rattle.mq_tree.specs.Nodes.{Children, under, below, own, AreChildren}
 use Rattle.mq_tree.specs.Prefixes.{prefixes}
@@ -94,7 +94,7 @@ module _ (P : List (List ℕ) → Bool) (c : List ℕ → Bool) (Q : List ℕ �
 
   met_blocks : {V : Type 0} (children : Children V) → ((m : List ℕ) → c m ≡ true → Q m [] ≡ true)
       → length (filter P (flat_map block children))
-      ≡ tallied (λ child. length (filter (Q child.0) (prefixes (keys_of child.1))))
+      ≡ tally (λ child. length (filter (Q child.0) (prefixes (keys_of child.1))))
       (filter (λ child. c child.0) children)
   met_blocks [] here = refl
   met_blocks {V} (child ∷ children) here =
@@ -102,9 +102,9 @@ module _ (P : List (List ℕ) → Bool) (c : List ℕ → Bool) (Q : List ℕ �
       (filter (Q child.0) (prefixes (keys_of child.1))) in
       let rest = filter (λ child. c child.0) children in
       let go : (b : Bool) → c child.0 ≡ b → length (filter P (block child))
-      + length (filter P (flat_map block children)) ≡ tallied F (cond b (child ∷ rest) rest) =
+      + length (filter P (flat_map block children)) ≡ tally F (cond b (child ∷ rest) rest) =
       λ b. elim b as (λ b. c child.0 ≡ b → length (filter P (block child))
-      + length (filter P (flat_map block children)) ≡ tallied F (cond b (child ∷ rest) rest)) [
+      + length (filter P (flat_map block children)) ≡ tally F (cond b (child ∷ rest) rest)) [
         | true ↦ λ e. ap₂ (λ x y. x + y) (met_block child true e (λ t. here child.0 e))
             (met_blocks children here)
         | false ↦ λ e. omega (
@@ -121,7 +121,7 @@ module _ (P : List (List ℕ) → Bool) (c : List ℕ → Bool) (Q : List ℕ �
   pub met_node : {V : Type 0} (value : Option V) (children : Children V) → AreChildren children
       → ((m : List ℕ) → c m ≡ true → Q m [] ≡ true)
       → length (filter P (prefixes (keys_of (own value ++ below children))))
-      ≡ tallied (λ child. length (filter (Q child.0) (prefixes (keys_of child.1))))
+      ≡ tally (λ child. length (filter (Q child.0) (prefixes (keys_of child.1))))
       (filter (λ child. c child.0) children)
   met_node value children are here =
       ap (λ ps. length (filter P ps)) (prefixes_own value children are) ∙ met_blocks children here

@@ -6,7 +6,7 @@ use Rattle.std.specs.List.{filter, flat_map, list_any}
 use Rattle.std.proofs.lemmas.List.Elements.{filter_agree}
 use Rattle.mq_topic.specs.Matching.{matches, is_wildcard}
 use Rattle.mq_tree.specs.Below.{hash, plus, begins_with_dollar, matches_below, fronts, meets_filter}
-use Rattle.mq_tree.specs.Below.{values_at, tallied}
+use Rattle.mq_tree.specs.Below.{values_at, tally}
 use Rattle.mq_tree.specs.Entries.{Entries}
 use Rattle.mq_tree.specs.Nodes.{NodeView, entries_of, AreChildren}
 use Rattle.mq_tree.specs.Prefixes.{heads, prefixes, met_by_filter}
@@ -78,7 +78,7 @@ module _ (P : List (List ℕ) → Bool) (Q : List (List ℕ) → Bool)
 
   pub shown_met : AreChildren node.1 → Q [] ≡ true
       → length (filter P (prefixes (keys_of (entries_of node))))
-      ≡ tallied (λ child. length (filter Q (prefixes (keys_of child.1))))
+      ≡ tally (λ child. length (filter Q (prefixes (keys_of child.1))))
       (filter (λ child. not (begins_with_dollar child.0)) node.1)
   shown_met are h = met_node P (λ m. not (begins_with_dollar m)) (λ m. Q) step node.0 node.1 are
       (λ m p. h)
@@ -132,6 +132,6 @@ found_under {V} root fs =
 
 abbrev pub met_under : {V : Type 0} → NodeView V → List (List ℕ) → ℕ
 met_under {V} root fs =
-    tallied (λ (child : List ℕ × Entries V). length
+    tally (λ (child : List ℕ × Entries V). length
     (filter (meets_filter fs) (prefixes (keys_of child.1))))
     (filter (λ (child : List ℕ × Entries V). not (begins_with_dollar child.0)) root.1)

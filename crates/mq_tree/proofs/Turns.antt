@@ -10,7 +10,7 @@ use Rattle.std.proofs.lemmas.Bool.Decides.{Decides-eqb}
 use Rattle.std.specs.Str.{bytes_eq}
 use Rattle.std.specs.Map.{lookup, keys_of, values_of}
 use Rattle.std.specs.List.{filter, flat_map}
-use Rattle.mq_tree.specs.Below.{hash, plus, matches_below, meets_name, values_at, tallied, ArePlain}
+use Rattle.mq_tree.specs.Below.{hash, plus, matches_below, meets_name, values_at, tally, ArePlain}
 use Rattle.mq_tree.specs.Below.{in_order_of}
 use Rattle.mq_tree.specs.Entries.{Entries}
 use Rattle.mq_tree.specs.Nodes.{NodeView, Children, is_level, own, entries_of, AreChildren}
@@ -75,12 +75,12 @@ module _ {V : Type 0} (node : NodeView V) (are : AreChildren node.1) where
 
   pub met_all : (n : List ℕ) (rest : List (List ℕ)) → IsPlain n
       → length (filter (meets_name (n ∷ rest)) (prefixes (keys_of (entries_of node))))
-      ≡ tallied (met_at rest) (gather one node.1 (in_order_of n))
+      ≡ tally (met_at rest) (gather one node.1 (in_order_of n))
   met_all n rest plain =
       let all = in_order_all n plain in
       met_node (meets_name (n ∷ rest)) (may_stand n) (meets_on rest) (meets_step n rest plain)
       node.0 node.1 are (λ m h. meets_here rest m)
-      ∙ ap (tallied (met_at rest))
+      ∙ ap (tally (met_at rest))
       (picked (may_stand n) (in_order_of n) node.1 are all.sorted all.stand all.others)
 
   hash_alone : filter (λ child. bytes_eq child.0 hash) node.1 ≡ gather one node.1 (hash ∷ [])
@@ -98,12 +98,12 @@ module _ {V : Type 0} (node : NodeView V) (are : AreChildren node.1) where
 
   pub met_end : (o : Option (Entries V)) → o ≡ lookup (is_level hash) node.1
       → length (filter (meets_name []) (prefixes (keys_of (entries_of node))))
-      ≡ tallied (λ child. length (filter is_here (prefixes (keys_of child.1))))
+      ≡ tally (λ child. length (filter is_here (prefixes (keys_of child.1))))
       (given one hash o ++ [])
   met_end o e =
       met_node (meets_name []) (λ m. bytes_eq m hash) (λ m. is_here) end_meets_step node.0 node.1
       are (λ m h. refl)
-      ∙ ap (tallied (λ child. length (filter is_here (prefixes (keys_of child.1)))))
+      ∙ ap (tally (λ child. length (filter is_here (prefixes (keys_of child.1)))))
       (hash_alone ∙ ap (λ x. given one hash x ++ []) (sym e))
 
   pub end_found_some : (child : NodeView V)

@@ -60,9 +60,9 @@ abbrev pub nodes_at : {V : Type 0} → (List (List ℕ) → Bool) → Entries V 
 nodes_at passes es = length (filter passes (prefixes (keys_of es)))
 
 -- one for each, and what f counts there
-abbrev pub tallied : {A : Type 0} → (A → ℕ) → List A → ℕ
-tallied f [] = 0
-tallied f (x ∷ xs) = (1 + f x) + tallied f xs
+abbrev pub tally : {A : Type 0} → (A → ℕ) → List A → ℕ
+tally f [] = 0
+tally f (x ∷ xs) = (1 + f x) + tally f xs
 
 -- the values below each of the children at the keys that pass
 abbrev pub values_below : {V : Type 0} → (List (List ℕ) → Bool) → Children V → List V
@@ -70,11 +70,11 @@ values_below passes children = flat_map (λ child. values_at passes child.1) chi
 
 -- each of the children, and how many of the nodes below it pass
 abbrev pub nodes_below : {V : Type 0} → (List (List ℕ) → Bool) → Children V → ℕ
-nodes_below passes children = tallied (λ child. nodes_at passes child.1) children
+nodes_below passes children = tally (λ child. nodes_at passes child.1) children
 
 -- the children whose level does not begin with `$`
-abbrev pub shown : {V : Type 0} → Children V → Children V
-shown children = filter (λ child. not (begins_with_dollar child.0)) children
+abbrev pub plain_children : {V : Type 0} → Children V → Children V
+plain_children children = filter (λ child. not (begins_with_dollar child.0)) children
 
 -- these values are added at the end
 abbrev pub Adds : {V : Type 0} → List (Bor V) → List (Bor V) → List V → Type 0

@@ -4,7 +4,8 @@ ghost use Rattle.std.specs.Prelude.{◌≡◌, ◌+◌, [], length, map, OnOk};
 ghost use Rattle.std.specs.Map.{keys_of, values_of};
 ghost use Rattle.mq_topic.specs.Levels.{levels, levels_left};
 ghost use Rattle.mq_topic.specs.Matching.{matches};
-ghost use Rattle.mq_tree.specs.Below.{begins_with_dollar, is_before, plus, in_order_of, shown};
+ghost use Rattle.mq_tree.specs.Below.{begins_with_dollar, is_before, plus, in_order_of};
+ghost use Rattle.mq_tree.specs.Below.{plain_children};
 ghost use Rattle.mq_tree.specs.Below.{Adds, values_at, values_below, nodes_at, nodes_below};
 ghost use Rattle.mq_tree.specs.Below.{suits_name, meets_name, matches_below, meets_filter};
 ghost use Rattle.mq_tree.specs.Below.{ArePlain, HashLast};
@@ -172,10 +173,10 @@ fn shown_by_filter<'a, V>(
 ) -> Result<(), AllocError>
     requires { HashLast (levels_left wanted) }
     ensures found { OnOk result (Adds found.old.items found.new.items
-        (values_below (matches_below (levels_left wanted.entry)) (shown root.now.1))) }
+        (values_below (matches_below (levels_left wanted.entry)) (plain_children root.now.1))) }
     ensures count { OnOk result
         (steps.new ≡ steps.old + nodes_below (meets_filter (levels_left wanted.entry))
-        (shown root.now.1)) }
+        (plain_children root.now.1)) }
     ensures children { AreChildren root.now.1 }
 {
     for child in root.children() {

@@ -8,12 +8,13 @@ use Rattle.mq_acl.specs.Rows.{AclRow, rows_of}
 use Rattle.mq_acl.specs.declared.fault.AclFault.{AclFault}
 use Rattle.mq_world.specs.Lists.{Text, same_text, with_row}
 use Rattle.mq_world.specs.World.{World, Row, Subscription, Request, Connect, Disconnect, Subscribe}
-use Rattle.mq_world.specs.World.{Unsubscribe, Publish, SetAcl, Advance, Stat, asked, session_cmp}
+use Rattle.mq_world.specs.World.{Unsubscribe, Publish, SetAcl, Advance, Stat, subscription_of}
+use Rattle.mq_world.specs.World.{session_cmp}
 use Rattle.mq_world.specs.World.{row_cmp, has_id, has_key, same_key, subscriptions_of}
 use Rattle.mq_world.specs.Sessions.{new_session, outlives, resumes, left_by, has_ended, is_among}
 use Rattle.mq_world.specs.Waiting.{waiting_after}
-use Rattle.mq_world.specs.Groups.{served_by, restamped}
-use Rattle.mq_world.specs.Retained.{retained_after, unexpired}
+use Rattle.mq_world.specs.Groups.{served_by, restamp}
+use Rattle.mq_world.specs.Retained.{retained_after, without_expired}
 use Rattle.mq_world.specs.Refusals.{refusal}
 
 -- the rows without those of a client
@@ -36,37 +37,37 @@ access_of text = option_map (λ t. rows_or_none (rows_of t)) text
 -- what changes beside the count of accepted commands. A connect of a connected client acts first as its disconnect (own),
 -- and then begins a session or resumes the one that is left, with its subscriptions; a subscribe with the key of a
 -- subscription replaces its options and keeps its stamp; a publish gives the members that it serves a new stamp
-abbrev pub changed : World → Request → World
-changed w (Connect id user clean interval) = record w {
+abbrev pub change_world : World → Request → World
+change_world w (Connect id user clean interval) = record w {
   sessions = with_row session_cmp (new_session id user interval) w.sessions;
   rows = if resumes w.sessions id clean then w.rows else without_client id w.rows;
 }
-changed w (Disconnect id) =
+change_world w (Disconnect id) =
     if outlives w.sessions id
     then record w { sessions = map (left_by w.moment id) w.sessions }
     else record w {
       sessions = filter (λ session. not (has_id id session)) w.sessions;
       rows = without_client id w.rows;
     }
-changed w (Subscribe id text options) =
-    let s = asked id text options in
+change_world w (Subscribe id text options) =
+    let s = subscription_of id text options in
     record w {
       rows = with_row row_cmp (record { subscription = s; stamp = kept_stamp w s }) w.rows;
     }
-changed w (Unsubscribe id text) =
+change_world w (Unsubscribe id text) =
     record w {
       rows =
           filter (λ row. not (has_key id (share_of text) (filter_part text) row.subscription))
           w.rows;
     }
-changed w (Publish m) = record w {
+change_world w (Publish m) = record w {
   sessions = map (waiting_after w.limits.queued w.access (subscriptions_of w) w.moment m)
       w.sessions;
-  rows = map (restamped w.accepted (served_by w m)) w.rows;
+  rows = map (restamp w.accepted (served_by w m)) w.rows;
   retained = retained_after w.moment w.retained m;
 }
-changed w (SetAcl text) = record w { access = access_of text }
-changed w (Advance seconds) =
+change_world w (SetAcl text) = record w { access = access_of text }
+change_world w (Advance seconds) =
     let now = w.moment + seconds in
     record w {
       moment = now;
@@ -74,12 +75,12 @@ changed w (Advance seconds) =
       rows = filter
           (λ row. not (is_among (filter (has_ended now) w.sessions) row.subscription.client))
           w.rows;
-      retained = unexpired now w.retained;
+      retained = without_expired now w.retained;
     }
-changed w Stat = w
+change_world w Stat = w
 
 unfoldable pub after : World → Request → World
-after w request = record (changed w request) { accepted = w.accepted + 1 }
+after w request = record (change_world w request) { accepted = w.accepted + 1 }
 
 -- a refused command leaves the world
 unfoldable pub next : World → Request → World

@@ -3,7 +3,8 @@ use Rattle.std.specs.Prelude.{ℕ, Bool, List, [], ◌++◌, length, ◌==◌, �
 use Rattle.std.specs.List.{list_any}
 use Rattle.mq_topic.specs.Texts.{share_of, filter_part}
 use Rattle.mq_world.specs.World.{World, Message, Request, Connect, Disconnect, Subscribe}
-use Rattle.mq_world.specs.World.{Unsubscribe, Publish, SetAcl, Advance, Stat, Copy, Reply, asked}
+use Rattle.mq_world.specs.World.{Unsubscribe, Publish, SetAcl, Advance, Stat, Copy, Reply}
+use Rattle.mq_world.specs.World.{subscription_of}
 use Rattle.mq_world.specs.World.{has_key, subscriptions_of}
 use Rattle.mq_world.specs.Sessions.{connected}
 use Rattle.mq_world.specs.Copies.{direct_copies}
@@ -23,8 +24,8 @@ copies_of w m = direct_copies w.access (connected w.sessions) (subscriptions_of 
     ++ group_copies w m
 
 -- a publish has reason 16, no matching subscribers, where no copy is sent and none begins to wait
-abbrev pub published : List Copy → Bool → Reply
-published copies waits = record {
+abbrev pub publish_reply : List Copy → Bool → Reply
+publish_reply copies waits = record {
   copies = copies;
   outcome =
       Reason (if length copies == 0 && not waits then 16 else 0);
@@ -37,12 +38,12 @@ answer w (Connect id user clean interval) =
     record { copies = resumed_copies w.moment w.sessions id clean; outcome = Reason 0 }
 answer w (Disconnect id) = reason 0
 answer w (Subscribe id text options) =
-    record { copies = sent_to w (asked id text options); outcome = Reason options.qos }
+    record { copies = sent_to w (subscription_of id text options); outcome = Reason options.qos }
 answer w (Unsubscribe id text) =
     reason (if list_any (has_key id (share_of text) (filter_part text)) (subscriptions_of w) then
     0 else 17)
 answer w (Publish m) =
-    published (copies_of w m)
+    publish_reply (copies_of w m)
     (begins_to_wait w.limits.queued w.access w.sessions (subscriptions_of w) m)
 answer w (SetAcl text) = reason 0
 answer w (Advance seconds) = reason 0

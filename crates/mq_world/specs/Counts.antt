@@ -6,7 +6,8 @@ use Rattle.mq_tree.specs.Entries.{capped}
 use Rattle.mq_tree.specs.Prefixes.{prefixes, met_by_name, met_by_filter}
 use Rattle.mq_world.specs.Lists.{in_order}
 use Rattle.mq_world.specs.World.{World, Subscription, Retained, Request, Connect, Disconnect}
-use Rattle.mq_world.specs.World.{Subscribe, Unsubscribe, Publish, SetAcl, Advance, Stat, asked}
+use Rattle.mq_world.specs.World.{Subscribe, Unsubscribe, Publish, SetAcl, Advance, Stat}
+use Rattle.mq_world.specs.World.{subscription_of}
 use Rattle.mq_world.specs.World.{subscriptions_of}
 use Rattle.mq_world.specs.Clock.{is_over}
 use Rattle.mq_world.specs.Retained.{asks_for_retained}
@@ -39,7 +40,7 @@ unfoldable pub steps : World → Request → ℕ
 steps w (Connect id user clean interval) = 0
 steps w (Disconnect id) = 0
 steps w (Subscribe id text options) =
-    let s = asked id text options in
+    let s = subscription_of id text options in
     if asks_for_retained (subscriptions_of w) s
     then length (met_by_filter (levels s.filter) (prefixes (topics_of w.retained)))
     else 0

@@ -21,14 +21,14 @@ turn_of can rows group =
     least_stamped (filter (λ row. can row.subscription.client) (rows_in group rows))
 
 -- the members that are served: one of each group whose filter matches the topic, if any can be
-unfoldable pub served : (Text → Bool) → List Row → Text → List Row
-served can rows topic =
+unfoldable pub served_rows : (Text → Bool) → List Row → Text → List Row
+served_rows can rows topic =
     filter_map (turn_of can rows)
     (filter (λ group. filter_matches group.filter topic) (groups_of rows))
 
 -- the members that a publish serves
 abbrev pub served_by : World → Message → List Row
-served_by w m = served (can_be_served w m.topic) w.rows m.topic
+served_by w m = served_rows (can_be_served w m.topic) w.rows m.topic
 
 -- the copy for a member by its own subscription
 abbrev pub group_copy : Message → Row → Copy
@@ -39,7 +39,7 @@ abbrev pub group_copies : World → Message → List Copy
 group_copies w m = map (group_copy m) (served_by w m)
 
 -- a member that was served stands last in its group
-abbrev pub restamped : ℕ → List Row → Row → Row
-restamped stamp served row =
-    if list_any (λ other. same_key other.subscription row.subscription) served then
+abbrev pub restamp : ℕ → List Row → Row → Row
+restamp stamp served_rows row =
+    if list_any (λ other. same_key other.subscription row.subscription) served_rows then
     record row { stamp = stamp } else row

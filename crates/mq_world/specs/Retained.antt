@@ -20,8 +20,8 @@ abbrev pub is_stored : Message → Bool
 is_stored m = m.retain && not (length m.payload == 0)
     && not (option_map_or (λ seconds. seconds == 0) m.expiry false)
 
-abbrev pub stored : ℕ → Message → Retained
-stored now m = record {
+abbrev pub retained_of : ℕ → Message → Retained
+retained_of now m = record {
   topic = m.topic;
   payload = m.payload;
   qos = m.qos;
@@ -36,7 +36,7 @@ has_topic topic kept = same_text kept.topic topic
 unfoldable pub retained_after : ℕ → List Retained → Message → List Retained
 retained_after now retained m =
     if not m.retain then retained
-    else if is_stored m then with_row retained_cmp (stored now m) retained
+    else if is_stored m then with_row retained_cmp (retained_of now m) retained
     else filter (λ kept. not (has_topic m.topic kept)) retained
 
 -- there is no room for another topic's message (own)
@@ -46,8 +46,8 @@ is_full limit retained m =
     && option_map_or (λ most. nat_le most (length retained)) limit false
 
 -- those whose deadline has not come
-abbrev pub unexpired : ℕ → List Retained → List Retained
-unexpired now retained = filter (λ kept. not (is_over now kept.deadline)) retained
+abbrev pub without_expired : ℕ → List Retained → List Retained
+without_expired now retained = filter (λ kept. not (is_over now kept.deadline)) retained
 
 -- ## What a subscribe is sent
 

@@ -157,8 +157,8 @@ are_valid options =
     && option_map_or is_identifier options.identifier true
 
 -- the subscription that a subscribe asks for
-abbrev pub asked : Text → Text → SubscriptionOptions → Subscription
-asked client text options =
+abbrev pub subscription_of : Text → Text → SubscriptionOptions → Subscription
+subscription_of client text options =
     record { client = client; share = share_of text; filter = filter_part text; options = options }
 
 -- ## Keys and their order

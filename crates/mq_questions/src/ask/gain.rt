@@ -5,11 +5,11 @@ ghost use Rattle.std.specs.Option.{option_copied};
 ghost use Rattle.mq_topic.specs.Texts.{is_name, contains_byte};
 ghost use Rattle.mq_acl.specs.Access.{begins_with_dollar};
 ghost use Rattle.mq_questions.specs.Fresh.{AreFresh, is_literal, is_user_level};
-ghost use Rattle.mq_questions.specs.Gains.{IsNamed, told, shown};
+ghost use Rattle.mq_questions.specs.Gains.{IsNamed, told, witness_view};
 ghost use Rattle.mq_walk.specs.Names.{can_be_level};
 ghost use Rattle.mq_questions.specs.Texts.{level_of};
 ghost use Rattle.mq_walk.specs.Remainders.{mark_passes};
-ghost use Rattle.mq_questions.specs.Roots.{all_rows, rows_fit, gained};
+ghost use Rattle.mq_questions.specs.Roots.{all_rows, rows_fit, is_gained};
 
 use crate::ask::clients::{Gain, client_gains};
 use crate::ask::fresh::Fresh;
@@ -52,7 +52,7 @@ pub(crate) fn level_of(id: Option<&str>) -> Option<&str>
 // The client id, and the name with these levels.
 pub(crate) fn show(alloc: Global, dollar: bool, gain: &Gain) -> Result<Witness, AllocError>
     requires { IsNamed dollar gain.now }
-    ensures { IfOk result (λ witness. shown witness ≡ told gain.now) }
+    ensures { IfOk result (λ witness. witness_view witness ≡ told gain.now) }
 {
     let name = name_on(alloc, dollar, &gain.path)?;
     let client = String::from_str(alloc, gain.client)?;
@@ -61,7 +61,7 @@ pub(crate) fn show(alloc: Global, dollar: bool, gain: &Gain) -> Result<Witness, 
 
 fn show_all(alloc: Global, dollar: bool, gains: &[Gain]) -> Result<Vec<Witness>, AllocError>
     requires { All (IsNamed dollar) gains.now }
-    ensures { IfOk result (λ all. map shown all.items ≡ map told gains.now) }
+    ensures { IfOk result (λ all. map witness_view all.items ≡ map told gains.now) }
 {
     let mut all = Vec::new(alloc);
     for gain in gains {
@@ -87,11 +87,11 @@ fn gains_in<'a>(
     requires new { rows_fit (is_literal fresh) (all_rows new) ≡ true }
     ensures none { IfOk result (λ found. found.items ≡ [] → (client name : List ℕ)
         → IsTrue (is_name name) → begins_with_dollar name ≡ scope.entry.dollar
-        → gained (all_rows old.entry) (all_rows new.entry) client
+        → is_gained (all_rows old.entry) (all_rows new.entry) client
         (option_copied scope.entry.user) name
         scope.entry.direction ≡ false) }
     ensures each { IfOk result (λ found. All (λ witness.
-        gained (all_rows old.entry) (all_rows new.entry) (string_bytes witness.client)
+        is_gained (all_rows old.entry) (all_rows new.entry) (string_bytes witness.client)
         (option_copied scope.entry.user) witness.name scope.entry.direction ≡ true) found.items) }
 {
     let user = level_of(scope.user);
@@ -121,11 +121,11 @@ pub(crate) fn gains<'a>(
     requires new { rows_fit (is_literal fresh) (all_rows new) ≡ true }
     ensures none { IfOk result (λ found. found.items ≡ [] → (client name : List ℕ)
         → IsTrue (is_name name)
-        → gained (all_rows old.entry) (all_rows new.entry) client
+        → is_gained (all_rows old.entry) (all_rows new.entry) client
         (option_copied user.entry) name direction
         ≡ false) }
     ensures each { IfOk result (λ found. All (λ witness.
-        gained (all_rows old.entry) (all_rows new.entry) (string_bytes witness.client)
+        is_gained (all_rows old.entry) (all_rows new.entry) (string_bytes witness.client)
         (option_copied user.entry) witness.name direction ≡ true) found.items) }
     ensures few { IfOk result (λ found. length found.items ≤ most) }
 {

@@ -1,7 +1,7 @@
 ghost use Rattle.std.specs.Prelude.{◌≡◌, ◌≤◌, Bool, true, length, IfOk, string_bytes, map};
 ghost use Rattle.std.specs.List.{list_all};
 ghost use Rattle.mq_topic.specs.Levels.{levels};
-ghost use Rattle.mq_questions.specs.Texts.{joined};
+ghost use Rattle.mq_questions.specs.Texts.{join_levels};
 ghost use Rattle.mq_walk.specs.Names.{suits, start_of, is_name_level};
 ghost use Rattle.mq_walk.specs.Paths.{levels_of};
 ghost use Rattle.mq_questions.specs.Reach.{IsNamedBy};
@@ -13,7 +13,7 @@ use std::alloc::{AllocError, Global};
 // The levels with slashes between them.
 fn joined(alloc: Global, parts: &[&str]) -> Result<String, AllocError>
     ensures { IfOk result (λ text. string_bytes text
-        ≡ joined (map (λ level. level.now) parts.now)) }
+        ≡ join_levels (map (λ level. level.now) parts.now)) }
 {
     let Some((first, rest)) = parts.split_first() else {
         return Ok(String::new(alloc));

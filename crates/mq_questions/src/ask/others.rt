@@ -12,7 +12,7 @@ ghost use Rattle.mq_questions.specs.Gains.{IsGainOf, IsOtherGain, IsNamed, other
 ghost use Rattle.mq_questions.specs.Literals.{is_named, has_mark};
 ghost use Rattle.mq_walk.specs.Names.{is_among};
 ghost use Rattle.mq_walk.specs.Remainders.{remainders_fit, GainsNothing};
-ghost use Rattle.mq_questions.specs.Roots.{all_rows, rows_fit, gained, HasUsers};
+ghost use Rattle.mq_questions.specs.Roots.{all_rows, rows_fit, is_gained, HasUsers};
 
 use crate::ask::clients::{Gain, client_gains};
 use crate::ask::fresh::Fresh;
@@ -204,13 +204,13 @@ fn others_in<'a>(
     ensures none { IfOk result (λ found. found.items ≡ [] → (user client name : List ℕ)
         → is_named user named.now ≡ false → IsTrue (is_name name) → begins_with_dollar name
         ≡ scope.entry.dollar
-        → gained (all_rows old.entry) (all_rows new.entry) client
+        → is_gained (all_rows old.entry) (all_rows new.entry) client
         (Some user) name scope.entry.direction
         ≡ false) }
     ensures unlisted { IfOk result (λ found.
         All (λ other. is_named (string_bytes other.user) named.now ≡ false) found.items) }
     ensures each { IfOk result (λ found. All (λ other.
-        gained (all_rows old.entry) (all_rows new.entry) (string_bytes other.witness.client)
+        is_gained (all_rows old.entry) (all_rows new.entry) (string_bytes other.witness.client)
         (Some (string_bytes other.user)) other.witness.name scope.entry.direction
         ≡ true) found.items) }
 {
@@ -243,12 +243,12 @@ pub(crate) fn all_others<'a>(
     requires new { rows_fit (is_literal fresh) (all_rows new) ≡ true }
     ensures none { IfOk result (λ found. found.items ≡ [] → (user client name : List ℕ)
         → is_named user named.now ≡ false → IsTrue (is_name name)
-        → gained (all_rows old.entry) (all_rows new.entry) client (Some user) name direction
+        → is_gained (all_rows old.entry) (all_rows new.entry) client (Some user) name direction
         ≡ false) }
     ensures unlisted { IfOk result (λ found.
         All (λ other. is_named (string_bytes other.user) named.now ≡ false) found.items) }
     ensures each { IfOk result (λ found. All (λ other.
-        gained (all_rows old.entry) (all_rows new.entry) (string_bytes other.witness.client)
+        is_gained (all_rows old.entry) (all_rows new.entry) (string_bytes other.witness.client)
         (Some (string_bytes other.user)) other.witness.name direction ≡ true) found.items) }
     ensures few { IfOk result (λ found. length found.items ≤ most) }
 {

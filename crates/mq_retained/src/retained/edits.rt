@@ -5,7 +5,7 @@ ghost use Rattle.std.specs.Option.{option_map, option_eq};
 ghost use Rattle.std.specs.List.{filter, list_any};
 ghost use Rattle.mq_world.specs.Lists.{with_row};
 ghost use Rattle.mq_world.specs.World.{retained_cmp};
-ghost use Rattle.mq_world.specs.Retained.{is_stored, has_topic, unexpired};
+ghost use Rattle.mq_world.specs.Retained.{is_stored, has_topic, without_expired};
 ghost use Rattle.mq_retained.specs.Deadlines.{deadline_at, is_due, SamePairs};
 ghost use Rattle.mq_retained.specs.Due.{due_of};
 ghost use Rattle.mq_world.specs.Views.{message_of};

@@ -10,7 +10,7 @@ use Rattle.mq_acl.specs.Rows.{AclRow}
 use Rattle.mq_world.specs.Lists.{Text, same_text, with_row}
 use Rattle.mq_world.specs.World.{World, Row, Session, Subscription, Message, Copy, Request, Connect}
 use Rattle.mq_world.specs.World.{Disconnect, Subscribe, Unsubscribe, Publish, SetAcl, Advance, Stat}
-use Rattle.mq_world.specs.World.{Reply, asked, session_cmp, has_id, has_key}
+use Rattle.mq_world.specs.World.{Reply, subscription_of, session_cmp, has_id, has_key}
 use Rattle.mq_world.specs.Sessions.{new_session, connected, user_of, outlives, resumes, left_by}
 use Rattle.mq_world.specs.Sessions.{has_ended, is_among}
 use Rattle.mq_sessions.specs.Queue.{Begin}
@@ -19,8 +19,9 @@ use Rattle.mq_world.specs.Waiting.{begins_to_wait, waiting_after, resumed_copies
 use Rattle.mq_world.specs.Refusals.{refusal}
 use Rattle.mq_world.specs.Copies.{direct_copies}
 use Rattle.mq_world.specs.Groups.{group_copy}
-use Rattle.mq_world.specs.Retained.{asks_for_retained, retained_copies, retained_after, unexpired}
-use Rattle.mq_world.specs.Answers.{reason, published}
+use Rattle.mq_world.specs.Retained.{asks_for_retained, retained_copies, retained_after}
+use Rattle.mq_world.specs.Retained.{without_expired}
+use Rattle.mq_world.specs.Answers.{reason, publish_reply}
 use Rattle.mq_world.specs.After.{access_of}
 use Rattle.mq_world.specs.Counts.{filters_among, topics_of}
 use Rattle.mq_retained.specs.Deadlines.{Indexes, is_due}
@@ -33,10 +34,10 @@ use Rattle.mq_world.specs.declared.answer.Outcome.{Outcome}
 use Rattle.mq_world.specs.declared.answer.Outcome.TheVariants.{Reason, Counts}
 use Rattle.mq_world.specs.declared.refusal.Refusal.{Refusal}
 use Rattle.mq_world.specs.declared.refusal.Refusal.TheVariants.{Memory}
-use Rattle.mq_subscriptions.specs.Turns.{joined, all_turned, next_members}
+use Rattle.mq_subscriptions.specs.Turns.{upsert, all_turned, next_members}
 
-abbrev pub unstamped : Subscription → Row
-unstamped s = record { subscription = s; stamp = 0 }
+abbrev pub row_without_stamp : Subscription → Row
+row_without_stamp s = record { subscription = s; stamp = 0 }
 
 abbrev pub world_of : State → World
 world_of s = record {
@@ -44,7 +45,7 @@ world_of s = record {
   moment = s.moment;
   access = s.access;
   sessions = s.sessions;
-  rows = map unstamped s.subscriptions;
+  rows = map row_without_stamp s.subscriptions;
   retained = s.retained;
   accepted = 0;
 }
@@ -54,7 +55,7 @@ world_of s = record {
 -- ## Requests
 
 abbrev pub member_copy : Message → Subscription → Copy
-member_copy m s = group_copy m (unstamped s)
+member_copy m s = group_copy m (row_without_stamp s)
 
 abbrev pub message_copies : Option (List AclRow) → List Session → List Subscription → Message
     → List Copy
@@ -91,12 +92,15 @@ reply_to s (Connect id user clean interval) =
     record { copies = resumed_copies s.moment s.sessions id clean; outcome = Reason 0 }
 reply_to s (Disconnect id) = reason 0
 reply_to s (Subscribe id text options) =
-    record { copies = copies_sent s (asked id text options); outcome = Reason options.qos }
+    record {
+      copies = copies_sent s (subscription_of id text options);
+      outcome = Reason options.qos;
+    }
 reply_to s (Unsubscribe id text) =
     reason (if list_any (has_key id (share_of text) (filter_part text)) s.subscriptions then
     0 else 17)
 reply_to s (Publish m) =
-    published (message_copies s.access s.sessions s.subscriptions m)
+    publish_reply (message_copies s.access s.sessions s.subscriptions m)
     (begins_to_wait s.limits.queued s.access s.sessions s.subscriptions m)
 reply_to s (SetAcl text) = reason 0
 reply_to s (Advance seconds) = reason 0
@@ -111,39 +115,39 @@ abbrev pub lasts : ℕ → List Session → Subscription → Bool
 lasts moment sessions s = not (is_among (filter (has_ended moment) sessions) s.client)
 
 -- the rows that change; the trees and the index are told apart, by `IsFiled`
-abbrev pub moved : State → Request → State
-moved s (Connect id user clean interval) = record s {
+abbrev pub change_state : State → Request → State
+change_state s (Connect id user clean interval) = record s {
   sessions = with_row session_cmp (new_session id user interval) s.sessions;
   subscriptions = if resumes s.sessions id clean then
       s.subscriptions else without id s.subscriptions;
 }
-moved s (Disconnect id) =
+change_state s (Disconnect id) =
     if outlives s.sessions id
     then record s { sessions = map (left_by s.moment id) s.sessions }
     else record s {
       sessions = filter (λ session. not (has_id id session)) s.sessions;
       subscriptions = without id s.subscriptions;
     }
-moved s (Subscribe id text options) =
-    record s { subscriptions = joined (asked id text options) s.subscriptions }
-moved s (Unsubscribe id text) =
+change_state s (Subscribe id text options) =
+    record s { subscriptions = upsert (subscription_of id text options) s.subscriptions }
+change_state s (Unsubscribe id text) =
     record s {
       subscriptions = filter (λ x. not (has_key id (share_of text) (filter_part text) x))
           s.subscriptions;
     }
-moved s (Publish m) = record s {
+change_state s (Publish m) = record s {
   sessions = map (waiting_after s.limits.queued s.access s.subscriptions s.moment m) s.sessions;
   subscriptions = all_turned (next_members s.access s.sessions s.subscriptions m) s.subscriptions;
   retained = retained_after s.moment s.retained m;
 }
-moved s (SetAcl text) = record s { access = access_of text }
-moved s (Advance seconds) = record s {
+change_state s (SetAcl text) = record s { access = access_of text }
+change_state s (Advance seconds) = record s {
   moment = s.moment + seconds;
   sessions = filter (λ session. not (has_ended (s.moment + seconds) session)) s.sessions;
   subscriptions = filter (lasts (s.moment + seconds) s.sessions) s.subscriptions;
-  retained = unexpired (s.moment + seconds) s.retained;
+  retained = without_expired (s.moment + seconds) s.retained;
 }
-moved s Stat = s
+change_state s Stat = s
 
 -- the same limits, moment, access rows, sessions and retained messages, and the same subscriptions in turn
 pub record SameRows (s t : State) : Type 0 where
@@ -164,7 +168,7 @@ pub record IsFiled (s : State) : Type 0 where
 pub record Does (old : State) (request : Request) (reply : Reply) (new : State) : Type 0 where
   pub accepted : refusal (world_of old) request ≡ None
   pub reply_is : reply ≡ reply_to old request
-  pub rows : SameRows new (moved old request)
+  pub rows : SameRows new (change_state old request)
   pub filed : IsFiled old → IsFiled new
 
 abbrev pub Applied : State → Request → Result Answer Refusal → State → Type 0
@@ -181,7 +185,7 @@ steps_sent s new = if asks_for_retained s.subscriptions new then
 abbrev pub steps_to : State → Request → ℕ
 steps_to s (Connect id user clean interval) = 0
 steps_to s (Disconnect id) = 0
-steps_to s (Subscribe id text options) = steps_sent s (asked id text options)
+steps_to s (Subscribe id text options) = steps_sent s (subscription_of id text options)
 steps_to s (Unsubscribe id text) = 0
 steps_to s (Publish m) = length (met_by_name (levels m.topic) (prefixes s.filter_keys))
 steps_to s (SetAcl text) = 0

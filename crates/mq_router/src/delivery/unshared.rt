@@ -3,7 +3,7 @@ ghost use Rattle.std.specs.Prelude.{◌≡◌, IfOk, None, map};
 ghost use Rattle.std.specs.Rc.{rc_str_bytes};
 ghost use Rattle.mq_world.specs.Views.{options_of};
 ghost use Rattle.mq_world.specs.Views.{copies_in};
-ghost use Rattle.mq_subscriptions.specs.Matches.{matched, AreByClient};
+ghost use Rattle.mq_subscriptions.specs.Matches.{match_views, AreByClient};
 ghost use Rattle.mq_router.specs.delivery.Copies.{by_client};
 ghost use Rattle.mq_router.specs.delivery.Copies.{copies_by, begins_by};
 ghost use Rattle.mq_router.specs.delivery.Summaries.{summary_of, copy_from};
@@ -35,14 +35,14 @@ pub(crate) fn direct_copies(
     outgoing: &Outgoing,
     limit: u32,
 ) -> Result<Direct, AllocError>
-    requires { AreByClient (matched matches.now) }
+    requires { AreByClient (match_views matches.now) }
     ensures copies { IfOk result (λ d. copies_in d.copies
         ≡ copies_by readers.now.access.now readers.now.sessions.now
-        (message_of outgoing.now.message) (by_client (matched matches.now))) }
+        (message_of outgoing.now.message) (by_client (match_views matches.now))) }
     ensures queued { IfOk result (λ d. map begin_of d.queued.items
         ≡ begins_by limit readers.now.access.now readers.now.sessions.now
         (message_of outgoing.now.message) outgoing.now.message.deadline
-        (by_client (matched matches.now))) }
+        (by_client (match_views matches.now))) }
 {
     // A client gets a copy if it has a session.
     let most = matches.len().min(readers.sessions.len());

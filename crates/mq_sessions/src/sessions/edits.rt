@@ -7,7 +7,7 @@ ghost use Rattle.mq_ends.specs.Dues.{Due, is_in};
 ghost use Rattle.mq_world.specs.Lists.{with_row};
 ghost use Rattle.mq_world.specs.World.{has_id, session_cmp};
 ghost use Rattle.mq_world.specs.Sessions.{connected, is_connected, left_by};
-ghost use Rattle.mq_sessions.specs.Ends.{AreListed, KeepsId, KeepIds, shown_in};
+ghost use Rattle.mq_sessions.specs.Ends.{AreListed, KeepsId, KeepIds, views_of};
 ghost use Rattle.mq_sessions.specs.Views.{session_at};
 
 use crate::clock::Clock;
@@ -23,9 +23,9 @@ pub(crate) fn put(
     session: Session,
 ) -> Result<(), AllocError>
     requires { KeepsId (id, session) }
-    ensures put { OnOk result (shown_in sessions.new.entries
+    ensures put { OnOk result (views_of sessions.new.entries
         ≡ with_row session_cmp (session_at (rc_str_bytes id) session)
-        (shown_in sessions.old.entries)) }
+        (views_of sessions.old.entries)) }
     ensures ids { KeepIds sessions.old.entries → KeepIds sessions.new.entries }
     ensures more { length sessions.new.entries ≤ length sessions.old.entries + 1 }
     ensures err { OnErr result (sessions.new.entries ≡ sessions.old.entries) }
@@ -36,8 +36,8 @@ pub(crate) fn put(
 
 /// Takes a client's session out.
 pub(crate) fn remove(sessions: &mut BTreeMap<RcStr, Session>, id: &str)
-    ensures removed { shown_in sessions.new.entries
-        ≡ filter (λ session. not (has_id id.now session)) (shown_in sessions.old.entries) }
+    ensures removed { views_of sessions.new.entries
+        ≡ filter (λ session. not (has_id id.now session)) (views_of sessions.old.entries) }
     ensures ids { KeepIds sessions.old.entries → KeepIds sessions.new.entries }
 {
     // Learns that the keys are in order.
@@ -61,16 +61,16 @@ pub(crate) fn leave(
     requires { KeepIds sessions.old.entries }
     ensures ids { KeepIds sessions.new.entries }
     ensures away { IfNone result (sessions.new.entries ≡ sessions.old.entries) }
-    ensures none { IfNone result (is_connected (shown_in sessions.old.entries) id.now ≡ false) }
-    ensures some { IfSome result (λ _. is_connected (shown_in sessions.old.entries) id.now ≡ true) }
-    ensures left { IfSome result (λ _. shown_in sessions.new.entries
-        ≡ map (left_by clock.moment id.now) (shown_in sessions.old.entries)) }
-    ensures fewer { IfSome result (λ _. length (connected (shown_in sessions.new.entries)) + 1
-        ≡ length (connected (shown_in sessions.old.entries))) }
+    ensures none { IfNone result (is_connected (views_of sessions.old.entries) id.now ≡ false) }
+    ensures some { IfSome result (λ _. is_connected (views_of sessions.old.entries) id.now ≡ true) }
+    ensures left { IfSome result (λ _. views_of sessions.new.entries
+        ≡ map (left_by clock.moment id.now) (views_of sessions.old.entries)) }
+    ensures fewer { IfSome result (λ _. length (connected (views_of sessions.new.entries)) + 1
+        ≡ length (connected (views_of sessions.old.entries))) }
     ensures listed { IfSome result (λ leaving. (dues : List Due)
-        → AreListed dues (shown_in sessions.old.entries)
+        → AreListed dues (views_of sessions.old.entries)
         → IfSome leaving.end (λ end. is_in (end, rc_str_bytes leaving.id) dues ≡ true)
-        → AreListed dues (shown_in sessions.new.entries)) }
+        → AreListed dues (views_of sessions.new.entries)) }
 {
     let Some(session) = sessions.get_mut(id) else {
         return None;

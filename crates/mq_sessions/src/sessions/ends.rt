@@ -4,7 +4,7 @@ ghost use Rattle.std.specs.Prelude.{◌≡◌, ◌+◌, ◌<◌, ◌≤◌, true
 ghost use Rattle.std.specs.List.{list_any};
 ghost use Rattle.std.specs.Rc.{rc_str_bytes};
 ghost use Rattle.mq_ends.specs.Dues.{Due, is_in};
-ghost use Rattle.mq_sessions.specs.Ends.{AreListed, AreIndexed, IsFirstLive, ends_so, shown_in};
+ghost use Rattle.mq_sessions.specs.Ends.{AreListed, AreIndexed, IsFirstLive, ends_so, views_of};
 
 use crate::sessions::session::Session;
 use mq_ends::Ends;
@@ -15,7 +15,7 @@ use std::rc::RcStr;
 // Whether the client has a session that ends then.
 fn ends_so(sessions: &BTreeMap<RcStr, Session>, end: u64, client: &RcStr) -> bool
     ensures { result ≡ list_any (ends_so (end, rc_str_bytes client.now))
-        (shown_in sessions.now.entries) }
+        (views_of sessions.now.entries) }
 {
     // Learns that the keys are in order.
     let _count = sessions.len();
@@ -27,9 +27,9 @@ fn ends_so(sessions: &BTreeMap<RcStr, Session>, end: u64, client: &RcStr) -> boo
 
 /// Takes out what is first, as long as no session ends so.
 pub(crate) fn settle(ends: &mut Ends, sessions: &BTreeMap<RcStr, Session>)
-    requires { AreListed ends.old.entries (shown_in sessions.now.entries) }
-    ensures listed { AreListed ends.new.entries (shown_in sessions.now.entries) }
-    ensures first { IsFirstLive ends.new.entries (shown_in sessions.now.entries) }
+    requires { AreListed ends.old.entries (views_of sessions.now.entries) }
+    ensures listed { AreListed ends.new.entries (views_of sessions.now.entries) }
+    ensures first { IsFirstLive ends.new.entries (views_of sessions.now.entries) }
     ensures count { length ends.new.entries ≤ length ends.old.entries }
     ensures room { ends.new.room ≡ ends.old.room }
 {
@@ -62,7 +62,7 @@ fn ends_of(
     room: usize,
 ) -> Result<Ends, AllocError>
     requires { length sessions.now.entries ≤ room }
-    ensures listed { IfOk result (λ ends. AreListed ends.entries (shown_in sessions.now.entries)) }
+    ensures listed { IfOk result (λ ends. AreListed ends.entries (views_of sessions.now.entries)) }
     ensures count { IfOk result (λ ends. length ends.entries ≤ length sessions.now.entries) }
     ensures room { IfOk result (λ ends. room ≤ ends.room) }
 {
@@ -82,8 +82,8 @@ pub(crate) fn make_room(
     ends: &mut Ends,
     sessions: &BTreeMap<RcStr, Session>,
 ) -> Result<(), AllocError>
-    requires { AreIndexed ends.old (shown_in sessions.now.entries) }
-    ensures indexed { AreIndexed ends.new (shown_in sessions.now.entries) }
+    requires { AreIndexed ends.old (views_of sessions.now.entries) }
+    ensures indexed { AreIndexed ends.new (views_of sessions.now.entries) }
     ensures ok { OnOk result (length ends.new.entries + length sessions.now.entries + 1
         ≤ ends.new.room) }
 {

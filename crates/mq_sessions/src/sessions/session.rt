@@ -1,14 +1,15 @@
 //! A client's session, and the copies that wait for it.
-ghost use Rattle.std.specs.Prelude.{◌≡◌, ◌≤◌, [], length, map, string_bytes, IfSome, IfNone, Some, None};
+ghost use Rattle.std.specs.Prelude.{◌≡◌, ◌≤◌, [], length, map, string_bytes, IfSome, IfNone, Some};
+ghost use Rattle.std.specs.Prelude.{None};
 ghost use Rattle.std.specs.Rc.{rc_str_bytes};
 ghost use Rattle.std.specs.Option.{option_map};
 ghost use Rattle.mq_world.specs.World.{Away};
 ghost use Rattle.mq_world.specs.Sessions.{is_present, outlives_connection, session_end};
 ghost use Rattle.mq_world.specs.Sessions.{new_session};
 ghost use Rattle.mq_world.specs.Waiting.{has_place, has_room};
-ghost use Rattle.mq_sessions.specs.Queue.{queued};
+ghost use Rattle.mq_sessions.specs.Queue.{queue_copies};
 ghost use Rattle.mq_sessions.specs.Ends.{end_of};
-ghost use Rattle.mq_sessions.specs.Views.{kept_id, shown, waiting_of};
+ghost use Rattle.mq_sessions.specs.Views.{kept_id, view_of, waiting_of};
 
 use crate::clock::Clock;
 use mq_world::Delivery;
@@ -56,7 +57,7 @@ impl Session {
 
     /// The session of a client that connects.
     pub fn new(alloc: Global, id: RcStr, user: Option<String>, interval: u32) -> Session
-        ensures shown { shown result ≡ new_session [] (option_map string_bytes user) interval }
+        ensures shown { view_of result ≡ new_session [] (option_map string_bytes user) interval }
         ensures id { kept_id result ≡ Some (rc_str_bytes id) }
     {
         Session {
@@ -68,7 +69,7 @@ impl Session {
     }
 
     pub fn is_present(&self) -> bool
-        ensures { result ≡ is_present (shown self.now) }
+        ensures { result ≡ is_present (view_of self.now) }
     {
         match self.presence {
             Presence::Connected { .. } => true,
@@ -78,14 +79,14 @@ impl Session {
 
     /// Whether the session stays when the connection ends.
     pub fn outlives_connection(&self) -> bool
-        ensures { result ≡ outlives_connection (shown self.now) }
+        ensures { result ≡ outlives_connection (view_of self.now) }
     {
         !(self.is_present() && self.interval == 0)
     }
 
     /// The moment at which the session ends, if the client is away and it ends.
     pub fn end(&self) -> Option<u64>
-        ensures { result ≡ end_of (shown self.now) }
+        ensures { result ≡ end_of (view_of self.now) }
     {
         match self.presence {
             Presence::Connected { .. } => None,
@@ -95,7 +96,7 @@ impl Session {
 
     /// The connection ends, if there is one. Gives the id that was kept.
     pub fn leave(&mut self, clock: Clock) -> Option<RcStr>
-        ensures left { IfSome result (λ _. shown self.new ≡ record (shown self.old)
+        ensures left { IfSome result (λ _. view_of self.new ≡ record (view_of self.old)
             { presence = Away (session_end clock.moment self.old.interval) }) }
         ensures away { IfNone result (self.new ≡ self.old) }
         ensures gone { IfSome result (λ _. kept_id self.new ≡ None) }
@@ -113,15 +114,15 @@ impl Session {
 
     // Whether fewer copies wait than may.
     fn has_place(&self, limit: u32) -> bool
-        ensures { result ≡ has_place limit (shown self.now) }
+        ensures { result ≡ has_place limit (view_of self.now) }
     {
         self.waiting.len() < limit as usize
     }
 
     /// Where a copy for the client goes: a client that is away has to have room.
     pub fn way(&self, limit: u32) -> Way
-        ensures sent { is_sent result ≡ is_present (shown self.now) }
-        ensures waits { waits result ≡ has_room limit (shown self.now) }
+        ensures sent { is_sent result ≡ is_present (view_of self.now) }
+        ensures waits { waits result ≡ has_room limit (view_of self.now) }
     {
         if self.is_present() {
             Way::Sent
@@ -136,7 +137,8 @@ impl Session {
     /// a place: to ask again spares an invariant on how many wait.
     pub fn queue(&mut self, limit: u32, mut copies: LinkedList<Waiting>)
         requires { length copies ≤ 1 }
-        ensures shown { shown self.new ≡ queued limit (map waiting_of copies) (shown self.old) }
+        ensures shown { view_of self.new
+            ≡ queue_copies limit (map waiting_of copies) (view_of self.old) }
         ensures id { kept_id self.new ≡ kept_id self.old }
     {
         if self.has_place(limit) {

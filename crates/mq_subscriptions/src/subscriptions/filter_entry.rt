@@ -124,7 +124,7 @@ impl FilterEntry {
         message: &Message,
         matches: &mut Vec<Match<'a>>,
     ) -> Result<(), AllocError>
-        ensures { OnOk result (matched matches.new.items ≡ matched matches.old.items
+        ensures { OnOk result (match_views matches.new.items ≡ match_views matches.old.items
             ++ unshared_matches (message_of message.now) self.now.rows) }
     {
         for (client, options) in &self.direct {
@@ -190,7 +190,7 @@ fn member_count(groups: &BTreeMap<RcStr, Group>) -> u64
 
 ghost use Rattle.mq_world.specs.Views.{message_of};
 ghost use Rattle.mq_subscriptions.specs.Matches.{unshared_matches};
-ghost use Rattle.mq_subscriptions.specs.Matches.{matched};
+ghost use Rattle.mq_subscriptions.specs.Matches.{match_views};
 ghost use Rattle.mq_subscriptions.specs.Turns.{GathersTurns};
 ghost use Rattle.mq_subscriptions.specs.Edits.{JoinsAt, DirectJoins, GroupJoins, DirectLeaves};
 ghost use Rattle.mq_subscriptions.specs.Edits.{GroupLeaves, GroupTurns};

@@ -2,7 +2,7 @@ use Rattle.std.proofs.Common.{◌≡◌, length, sym, ◌∙◌, refl, true, Non
 use Rattle.std.proofs.lemmas.Iterator.Adapters.{YieldsList-from_vec}
 use Rattle.std.proofs.lemmas.Iterator.Consumers.{YieldsList-turn, YieldsList-end}
 use Rattle.mq_acl.specs.Views.{row_views}
-use Rattle.mq_questions.specs.Comparison.{changed}
+use Rattle.mq_questions.specs.Comparison.{is_changed}
 use Rattle.mq_questions.specs.declared.ask.gain.Witness.{Witness}
 use Rattle.mq_questions.proofs.GainListLemmas.{all_yielded}
 use Rattle.mq_report.specs.declared.witnesses.Clients.TheVariants as clients
@@ -21,7 +21,7 @@ add_witness-requires-clause-change c =
     change_is c.args.lists.old.now c.args.lists.new.now c.args.lists.comparison.now
     c.args.question.way (string_bytes c.in-Some.witness.client) None c.in-Some.witness.name
     c.args.question.direction c.requires
-    ∙ witness_at (λ (w : Witness). changed c.args.question.way c.args.lists.comparison.now
+    ∙ witness_at (λ (w : Witness). is_changed c.args.question.way c.args.lists.comparison.now
     (string_bytes w.client) None w.name c.args.question.direction ≡ true)
     c.in_ok-witness-items.witness-items.items (length c.loop-witness.yielded) c.in-Some.witness
     turn c.in_ok-witness-items.ensures.each

@@ -2,7 +2,7 @@ use Rattle.std.proofs.Common.{◌≡◌, length, ap, not, sym, ◌∙◌, true, 
 use Rattle.std.proofs.lemmas.Iterator.Adapters.{YieldsList-from_vec}
 use Rattle.std.proofs.lemmas.Iterator.Consumers.{YieldsList-turn, YieldsList-end}
 use Rattle.mq_acl.specs.Views.{row_views}
-use Rattle.mq_questions.specs.Comparison.{changed, lists_user}
+use Rattle.mq_questions.specs.Comparison.{is_changed, lists_user}
 use Rattle.mq_questions.specs.declared.ask.others.OtherWitness.{OtherWitness}
 use Rattle.mq_questions.proofs.GainListLemmas.{all_yielded}
 use Rattle.mq_report.specs.declared.witnesses.Clients.TheVariants as clients
@@ -36,7 +36,7 @@ add_witness-requires-clause-change c =
     c.args.question.way (string_bytes c.in-Some.other.witness.client)
     (Some (string_bytes c.in-Some.other.user)) c.in-Some.other.witness.name
     c.args.question.direction c.requires
-    ∙ witness_at (λ (o : OtherWitness). changed c.args.question.way c.args.lists.comparison.now
+    ∙ witness_at (λ (o : OtherWitness). is_changed c.args.question.way c.args.lists.comparison.now
     (string_bytes o.witness.client) (Some (string_bytes o.user)) o.witness.name
     c.args.question.direction ≡ true) c.in_ok-other-items.other-items.items
     (length c.loop-other.yielded) c.in-Some.other turn c.in_ok-other-items.ensures.each

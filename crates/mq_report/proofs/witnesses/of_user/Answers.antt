@@ -2,7 +2,7 @@ use Rattle.std.proofs.Common.{◌≡◌, length, ap, sym, ◌∙◌, true, Some,
 use Rattle.std.proofs.lemmas.Iterator.Adapters.{YieldsList-from_vec}
 use Rattle.std.proofs.lemmas.Iterator.Consumers.{YieldsList-turn, YieldsList-end}
 use Rattle.mq_acl.specs.Views.{row_views}
-use Rattle.mq_questions.specs.Comparison.{changed}
+use Rattle.mq_questions.specs.Comparison.{is_changed}
 use Rattle.mq_questions.specs.declared.ask.gain.Witness.{Witness}
 use Rattle.mq_questions.proofs.GainListLemmas.{all_yielded}
 use Rattle.mq_report.specs.declared.witnesses.Clients.TheVariants as clients
@@ -23,10 +23,10 @@ add_witness-requires-clause-change c =
     c.args.question.way (string_bytes c.in-Some.witness.client)
     (Some (string_bytes c.in_ok-from_str.field-0)) c.in-Some.witness.name
     c.args.question.direction c.requires.lists
-    ∙ ap (λ t. changed c.args.question.way c.args.lists.comparison.now
+    ∙ ap (λ t. is_changed c.args.question.way c.args.lists.comparison.now
     (string_bytes c.in-Some.witness.client) (Some t) c.in-Some.witness.name
     c.args.question.direction) c.in_ok-from_str.ensures.ok
-    ∙ witness_at (λ (w : Witness). changed c.args.question.way c.args.lists.comparison.now
+    ∙ witness_at (λ (w : Witness). is_changed c.args.question.way c.args.lists.comparison.now
     (string_bytes w.client) (Some c.args.user.now) w.name c.args.question.direction ≡ true)
     c.in_ok-witness-items.witness-items.items (length c.loop-witness.yielded) c.in-Some.witness
     turn c.in_ok-witness-items.ensures.each

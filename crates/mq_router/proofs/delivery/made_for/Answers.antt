@@ -3,7 +3,7 @@ use Rattle.std.proofs.lemmas.Simd.{map-map}
 use Rattle.mq_world.specs.World.{Message, Copy}
 use Rattle.mq_router.specs.router.Effects.{member_copy}
 use Rattle.mq_router.specs.delivery.Copies.{copies_by}
-use Rattle.mq_subscriptions.specs.Matches.{matched}
+use Rattle.mq_subscriptions.specs.Matches.{match_views}
 use Rattle.mq_router.specs.delivery.Copies.{by_client}
 use Rattle.mq_world.specs.Views.{message_of}
 use Rattle.mq_subscriptions.specs.Turns.{turn_of}
@@ -12,7 +12,7 @@ use Rattle.mq_router.proofs.delivery.made_for.Goals as goal
 pub returns-clause-copies : goal.returns-clause-copies
 returns-clause-copies c =
     let own : Message → List Copy = λ m. copies_by c.args.readers.now.access.now
-    c.args.readers.now.sessions.now m (by_client (matched c.args.matches.now)) in
+    c.args.readers.now.sessions.now m (by_client (match_views c.args.matches.now)) in
     let m = message_of c.args.message.now in
     let sent = message_of c.in_ok-outgoing.outgoing.message in
     c.in_ok-add_group_copies.ensures

@@ -12,7 +12,7 @@ use Rattle.mq_router.specs.delivery.Summaries.{summary_for}
 use Rattle.mq_world.specs.Views.{message_of}
 use Rattle.mq_sessions.specs.Views.{begin_of}
 use Rattle.mq_subscriptions.specs.Turns.{turns_in}
-use Rattle.mq_subscriptions.specs.Matches.{matched, options_among}
+use Rattle.mq_subscriptions.specs.Matches.{match_views, options_among}
 use Rattle.mq_router.specs.delivery.Copies.{by_client}
 use Rattle.mq_router.proofs.ClientLemmas.{sorted-by_client, lookup-by_client, options-own}
 use Rattle.mq_router.proofs.UnsharedCopies.{own-copies, own-queued, options-matching}
@@ -81,13 +81,13 @@ returns-clause-queued c =
     let A = c.args.readers.now.access.now in
     let S = c.args.readers.now.sessions.now in
     let subs = c.args.subscriptions.now.rows in
-    let ms = matched c.as_slice.result.now in
+    let ms = match_views c.as_slice.result.now in
     IfOk-weaker c.made_for.result _ _
     (λ made e. e
     ∙ own-queued c.args.limit A S subs m c.args.message.now.deadline (by_client ms)
     c.len-sessions.ensures.ordered (sorted-by_client ms)
     (λ id. lookup-by_client id ms
-    ∙ ap summary_for (ap (λ l. options_among id (matched l)) c.as_slice.ensures.value
+    ∙ ap summary_for (ap (λ l. options_among id (match_views l)) c.as_slice.ensures.value
     ∙ c.in_ok-matches.ensures.options id
     ∙ options-own m id (rows_found (map (λ a. a.now) c.as_slice-found.result.now))
     ∙ ap (λ l. gives_options m id (rows_found (map (λ a. a.now) l))) c.as_slice-found.ensures.value
@@ -101,11 +101,11 @@ returns-clause-copies c =
     let S = c.args.readers.now.sessions.now in
     let subs = c.args.subscriptions.now.rows in
     let members : List Subscription → List Subscription = λ xs. next_members A S xs m in
-    let ms = matched c.as_slice.result.now in
+    let ms = match_views c.as_slice.result.now in
     let own = own-copies A S subs m (by_client ms) c.len-sessions.ensures.ordered
     (sorted-by_client ms)
     (λ id. lookup-by_client id ms
-    ∙ ap summary_for (ap (λ l. options_among id (matched l)) c.as_slice.ensures.value
+    ∙ ap summary_for (ap (λ l. options_among id (match_views l)) c.as_slice.ensures.value
     ∙ c.in_ok-matches.ensures.options id
     ∙ options-own m id (rows_found (map (λ a. a.now) c.as_slice-found.result.now))
     ∙ ap (λ l. gives_options m id (rows_found (map (λ a. a.now) l))) c.as_slice-found.ensures.value

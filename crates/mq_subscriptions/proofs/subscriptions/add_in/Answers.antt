@@ -3,7 +3,7 @@ use Rattle.std.specs.Option.{option_copied, option_map}
 use Rattle.std.specs.Rc.{rc_str_bytes}
 use Rattle.mq_world.specs.Lists.{Text}
 use Rattle.mq_world.specs.World.{Subscription}
-use Rattle.mq_subscriptions.specs.Turns.{joined}
+use Rattle.mq_subscriptions.specs.Turns.{upsert}
 use Rattle.mq_subscriptions.specs.Filters.{At, row}
 use Rattle.mq_subscriptions.proofs.InTurn.{same-is, same-then}
 use Rattle.mq_subscriptions.proofs.TreeLemmas.{tree-added, tree-added_kept, joined-live}
@@ -19,7 +19,7 @@ returns-clause-ok c =
     let is : start.filter ≡ f = ap (λ (a : At). a.filter) c.new-at.ensures
     ∙ c.in_ok-filter.ensures.ok ∙ c.in_ok-clone.ensures in
     let by : Option Text → Text → List Subscription → List Subscription =
-    λ sh g xs. joined (row sh g (k, c.args.options)) xs in
+    λ sh g xs. upsert (row sh g (k, c.args.options)) xs in
     tree-added f c.args.tree.now c.requires.kept.each c.requires.absent one
     (c.join.ensures.filter ∙ is) c.join.ensures.here c.put.new.self c.in_ok-put.ensures.ok
     (row share f (k, c.args.options)) refl

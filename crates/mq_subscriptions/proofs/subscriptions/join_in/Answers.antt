@@ -8,7 +8,7 @@ use Rattle.mq_tree.specs.Entries.{is_key}
 use Rattle.mq_world.specs.Lists.{Text}
 use Rattle.mq_world.specs.World.{Subscription}
 use Rattle.mq_world.specs.Turns.{SameInTurn}
-use Rattle.mq_subscriptions.specs.Turns.{joined}
+use Rattle.mq_subscriptions.specs.Turns.{upsert}
 use Rattle.mq_subscriptions.specs.Filters.{At, AtEntries, AreEntries, row, all_rows}
 use Rattle.mq_subscriptions.proofs.InTurn.{same-is, same-then}
 use Rattle.mq_world.proofs.ListLemmas.{on_err}
@@ -47,7 +47,7 @@ returns-in_ok-join-in-Some-clause-ok c =
     let set = rw c.in-Some.is at (c.get_mut.follows.holds w) in
     let is = found_filter f c.args.tree.now c.requires.each c.requires.ordered v found in
     let by : Option Text → Text → Text → List Subscription =
-    λ sh g id. joined (row sh g (id, c.args.options)) v.rows in
+    λ sh g id. upsert (row sh g (id, c.args.options)) v.rows in
     tree-joined f c.args.tree.now c.requires.each c.requires.ordered v found w c.join.ensures.filter
     c.join.ensures.here (c.get_mut.follows.lender w) set (row share f (k, c.args.options)) refl
     (same-then _ _ _ c.in_ok-join-in-Some.ensures.ok
@@ -74,9 +74,9 @@ returns-in-None-clause-ok c =
     let f = c.args.wanted.now.filter in
     subst (λ (id : Text). OnOk c.add_in.result
     (SameInTurn (all_rows c.add_in.new.tree)
-    (joined (row share f (id, c.args.options)) (all_rows c.args.tree.now))))
+    (upsert (row share f (id, c.args.options)) (all_rows c.args.tree.now))))
     c.in_ok-client.ensures.cases
     (subst (λ (es : AtEntries). OnOk c.add_in.result
     (SameInTurn (all_rows c.add_in.new.tree)
-    (joined (row share f (rc_str_bytes c.in_ok-client.client, c.args.options))
+    (upsert (row share f (rc_str_bytes c.in_ok-client.client, c.args.options))
     (all_rows es)))) c.get_mut.follows.holds-at-none c.add_in.ensures.ok)

@@ -3,7 +3,7 @@ use Rattle.std.proofs.Common.{append_assoc}
 use Rattle.std.specs.Map.{keys_of, values_of}
 use Rattle.std.specs.List.{flat_map}
 use Rattle.std.proofs.lemmas.Map.Iter.{rest_more, rest_all}
-use Rattle.mq_tree.specs.Below.{tallied}
+use Rattle.mq_tree.specs.Below.{tally}
 use Rattle.mq_tree.specs.Nodes.{own, entries_of, weight}
 use Rattle.mq_tree.specs.Prefixes.{prefixes}
 use Rattle.mq_tree.proofs.Turns.{found_turn}
@@ -39,7 +39,7 @@ loop-child-preserved g t c =
         c.in_ok-all.ensures.count,
         ap (λ es. length (prefixes (keys_of es))) c.enter.ensures.entries,
         c.enter.ensures.count,
-        ap (tallied (λ child. length (prefixes (keys_of child.1)))) e,
+        ap (tally (λ child. length (prefixes (keys_of child.1)))) e,
         c.loop-child.invariant.count,
       );
       low = less.1;
@@ -69,8 +69,8 @@ returns-clause-count g t c =
     let end : c.loop-child.child-iterator ≡ [] =
     rest_all (λ x. x) _ _ _ c.in-None.is c.next.ensures.steps in
     let node = c.args.node.now in
-    let none = ap (tallied (λ child. length (prefixes (keys_of child.1)))) end in
-    let start = ap (tallied (λ child. length (prefixes (keys_of child.1))))
+    let none = ap (tally (λ child. length (prefixes (keys_of child.1)))) end in
+    let start = ap (tally (λ child. length (prefixes (keys_of child.1))))
     (c.into_iter-child-iterator.ensures.into_iter_gives ∙ c.children-child-items.ensures.all) in
     let all = all_met node c.children-child-items.ensures.children in
     let inv = c.loop-child.invariant.count in

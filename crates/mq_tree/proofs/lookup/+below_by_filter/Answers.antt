@@ -5,7 +5,7 @@ use Rattle.std.specs.Map.{keys_of}
 use Rattle.std.specs.List.{filter, flat_map}
 use Rattle.std.proofs.lemmas.Map.Iter.{rest_all}
 use Rattle.mq_topic.specs.Levels.{levels_left}
-use Rattle.mq_tree.specs.Below.{hash, plus, matches_below, meets_filter, values_at, tallied}
+use Rattle.mq_tree.specs.Below.{hash, plus, matches_below, meets_filter, values_at, tally}
 use Rattle.mq_tree.specs.Nodes.{entries_of}
 use Rattle.mq_tree.specs.Prefixes.{prefixes}
 use Rattle.mq_tree.proofs.Turns.{text_is, text_is_not, text_is_same, text_differs}
@@ -144,9 +144,9 @@ returns-clause-count g t c =
     (ap levels_left c.in-Some.is ∙ c.split_first.ensures ∙ ap (λ l. l ∷ rest) q)
     ∙ plus_met node rest c.children-child-items.ensures.children in
     let none = ap
-    (tallied (λ child. length (filter (meets_filter rest) (prefixes (keys_of child.1))))) end in
+    (tally (λ child. length (filter (meets_filter rest) (prefixes (keys_of child.1))))) end in
     let start = ap
-    (tallied (λ child. length (filter (meets_filter rest) (prefixes (keys_of child.1)))))
+    (tally (λ child. length (filter (meets_filter rest) (prefixes (keys_of child.1)))))
     (c.into_iter-child-iterator.ensures.into_iter_gives ∙ c.children-child-items.ensures.all) in
     let inv = c.loop-child.invariant.count in
     omega (arith, none, start, all, inv)

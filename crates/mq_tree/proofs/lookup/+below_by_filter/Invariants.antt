@@ -2,7 +2,7 @@ use Rattle.std.proofs.Common.{◌≡◌, ◌+◌, ◌++◌, map, length}
 use Rattle.std.specs.Map.{keys_of}
 use Rattle.std.specs.List.{filter, flat_map}
 use Rattle.mq_topic.specs.Levels.{levels_left}
-use Rattle.mq_tree.specs.Below.{HashLast, matches_below, meets_filter, values_at, tallied}
+use Rattle.mq_tree.specs.Below.{HashLast, matches_below, meets_filter, values_at, tally}
 use Rattle.mq_tree.specs.Prefixes.{prefixes}
 use Rattle.mq_tree.proofs.lookup.+below_by_filter.Given as goal
 
@@ -17,9 +17,9 @@ invariant-loop-child g l =
           (λ child. values_at (matches_below rest) child.1) l.child-iterator
           ≡ map (λ x. x.now) l.initial.found.items
           ++ flat_map (λ child. values_at (matches_below rest) child.1) l.initial.child-iterator;
-      count : l.steps + tallied
+      count : l.steps + tally
           (λ child. length (filter (meets_filter rest) (prefixes (keys_of child.1))))
-          l.child-iterator ≡ l.initial.steps + tallied
+          l.child-iterator ≡ l.initial.steps + tally
           (λ child. length (filter (meets_filter rest) (prefixes (keys_of child.1))))
           l.initial.child-iterator;
       hash_last : HashLast rest;

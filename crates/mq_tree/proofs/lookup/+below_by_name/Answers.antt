@@ -4,7 +4,7 @@ use Rattle.std.proofs.lemmas.Result.{on_ok_weaker}
 use Rattle.std.specs.List.{filter, flat_map}
 use Rattle.std.specs.Map.{keys_of}
 use Rattle.mq_topic.specs.Levels.{levels_left}
-use Rattle.mq_tree.specs.Below.{hash, matches_below, meets_name, values_at, tallied}
+use Rattle.mq_tree.specs.Below.{hash, matches_below, meets_name, values_at, tally}
 use Rattle.mq_tree.specs.Nodes.{entries_of}
 use Rattle.mq_tree.specs.Prefixes.{prefixes}
 use Rattle.mq_tree.proofs.Picks.{gather, one}
@@ -31,7 +31,7 @@ loop-candidate-preserved-in_default-child-2 g t c =
       count = omega (
         arith,
         c.in_default-child-2.ensures.count,
-        ap (tallied (met_at rest)) next,
+        ap (tally (met_at rest)) next,
         c.loop-candidate.invariant.count,
       );
       plain = c.loop-candidate.invariant.plain;
@@ -59,7 +59,7 @@ loop-candidate-preserved-then-eq-2 g t c =
       count = omega (
         arith,
         c.in-Some-child-2.ensures.count,
-        ap (tallied (met_at rest)) next,
+        ap (tally (met_at rest)) next,
         met_hash rest text (entries_of child) h,
         c.loop-candidate.invariant.count,
       );
@@ -89,7 +89,7 @@ loop-candidate-preserved g t c =
         arith,
         c.in-Some-child-2.ensures.count,
         c.in_ok-below_by_name-2.ensures.count,
-        ap (tallied (met_at rest)) next,
+        ap (tally (met_at rest)) next,
         met_other rest text (entries_of child) h,
         c.loop-candidate.invariant.count,
       );
@@ -276,9 +276,9 @@ returns-clause-count g t c =
     let n = three level items c.in_order-candidate-items.ensures in
     let all = ap (λ ls. length (filter (meets_name ls) (prefixes (keys_of (entries_of node))))) key
     ∙ met_all node c.in-Some-first.ensures.children level rest p.0
-    ∙ ap (λ ts. tallied (met_at rest) (gather one node.1 ts))
+    ∙ ap (λ ts. tally (met_at rest) (gather one node.1 ts))
     (sym c.in_order-candidate-items.ensures) in
-    let none = ap (tallied (met_at rest))
+    let none = ap (tally (met_at rest))
     (all_given node.1 items c.loop-candidate.candidate-index (omega arith)) in
     let inv = c.loop-candidate.invariant.count in
     omega (arith, none, all, inv)

@@ -1,7 +1,7 @@
 use Rattle.std.proofs.Common.{◌≡◌, ◌+◌, ◌++◌, map, length, drop}
 use Rattle.std.specs.List.{flat_map}
 use Rattle.mq_topic.specs.Levels.{levels_left}
-use Rattle.mq_tree.specs.Below.{ArePlain, tallied}
+use Rattle.mq_tree.specs.Below.{ArePlain, tally}
 use Rattle.mq_tree.proofs.Picks.{gather, one}
 use Rattle.mq_tree.proofs.Turns.{found_at, met_at}
 use Rattle.mq_tree.proofs.lookup.+below_by_name.Given as goal
@@ -17,6 +17,6 @@ invariant-loop-candidate g l =
     record {
       found : map (λ x. x.now) l.found.items ++ flat_map (found_at rest) left
           ≡ map (λ x. x.now) l.fn.found.items ++ flat_map (found_at rest) all;
-      count : l.steps + tallied (met_at rest) left ≡ l.fn.steps + tallied (met_at rest) all;
+      count : l.steps + tally (met_at rest) left ≡ l.fn.steps + tally (met_at rest) all;
       plain : ArePlain rest;
     }

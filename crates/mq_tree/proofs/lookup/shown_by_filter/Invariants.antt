@@ -3,7 +3,7 @@ use Rattle.std.specs.Prelude.{not}
 use Rattle.std.specs.Map.{keys_of}
 use Rattle.std.specs.List.{filter, flat_map}
 use Rattle.mq_topic.specs.Levels.{levels_left}
-use Rattle.mq_tree.specs.Below.{HashLast, matches_below, meets_filter, values_at, tallied}
+use Rattle.mq_tree.specs.Below.{HashLast, matches_below, meets_filter, values_at, tally}
 use Rattle.mq_tree.specs.Below.{begins_with_dollar}
 use Rattle.mq_tree.specs.Prefixes.{prefixes}
 use Rattle.mq_tree.proofs.lookup.shown_by_filter.Given as goal
@@ -18,9 +18,9 @@ invariant-loop-child g l =
           (λ child. values_at (matches_below rest) child.1) left
           ≡ map (λ x. x.now) l.initial.found.items
           ++ flat_map (λ child. values_at (matches_below rest) child.1) all;
-      count : l.steps + tallied
+      count : l.steps + tally
           (λ child. length (filter (meets_filter rest) (prefixes (keys_of child.1)))) left
-          ≡ l.initial.steps + tallied
+          ≡ l.initial.steps + tally
           (λ child. length (filter (meets_filter rest) (prefixes (keys_of child.1)))) all;
       hash_last : HashLast rest;
     }

@@ -1,5 +1,5 @@
 use Rattle.std.proofs.Common.{◌≡◌, true, string_bytes, Some}
-use Rattle.mq_questions.specs.Roots.{all_rows, gained}
+use Rattle.mq_questions.specs.Roots.{all_rows, is_gained}
 use Rattle.mq_questions.proofs.DifferLemmas.{first_passes, no_first, none_differ, more_differ}
 use Rattle.mq_questions.proofs.DifferLemmas.{fewer_differ}
 use Rattle.mq_questions.proofs.ask.differ.others_differ_in.Goals as goal
@@ -9,7 +9,7 @@ returns-in-Some-clause-differ c = λ e.
     let w = c.in-Some.other.now in
     more_differ (all_rows c.args.one) (all_rows c.args.other) (string_bytes w.witness.client)
     (Some (string_bytes w.user)) w.witness.name c.args.direction c.shows.ensures.valid
-    (first_passes (λ w. gained (all_rows c.args.one) (all_rows c.args.other)
+    (first_passes (λ w. is_gained (all_rows c.args.one) (all_rows c.args.other)
     (string_bytes w.witness.client) (Some (string_bytes w.user)) w.witness.name
     c.args.direction ≡ true) c.in_ok-more.more.items c.deref.result.now w
     c.deref.ensures.value c.in-Some.ensures.value c.in_ok-more.ensures.each)
@@ -20,7 +20,7 @@ returns-in-Some-first-clause-differ c = λ e.
     fewer_differ (all_rows c.args.one) (all_rows c.args.other) (string_bytes w.witness.client)
     (Some (string_bytes w.user)) w.witness.name c.args.direction
     c.shows-in-Some-first.ensures.valid
-    (first_passes (λ w. gained (all_rows c.args.other) (all_rows c.args.one)
+    (first_passes (λ w. is_gained (all_rows c.args.other) (all_rows c.args.one)
     (string_bytes w.witness.client) (Some (string_bytes w.user)) w.witness.name
     c.args.direction ≡ true) c.in_ok-fewer.fewer.items c.deref-2.result.now w
     c.deref-2.ensures.value c.in-Some-first.ensures.value c.in_ok-fewer.ensures.each)

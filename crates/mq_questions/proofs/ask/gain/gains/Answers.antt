@@ -1,7 +1,7 @@
 use Rattle.std.proofs.Common.{◌≡◌, true, string_bytes}
 use Rattle.std.specs.Option.{option_copied}
 use Rattle.mq_acl.specs.Access.{begins_with_dollar}
-use Rattle.mq_questions.specs.Roots.{all_rows, gained}
+use Rattle.mq_questions.specs.Roots.{all_rows, is_gained}
 use Rattle.mq_questions.proofs.GainListLemmas.{none_taken, none_joined, each_taken, either}
 use Rattle.mq_questions.proofs.ask.gain.gains.Goals as goal
 
@@ -16,7 +16,7 @@ returns-clause-none c = λ e client name v.
 
 pub returns-clause-each : goal.returns-clause-each
 returns-clause-each c =
-    each_taken (λ w. gained (all_rows c.args.old) (all_rows c.args.new) (string_bytes w.client)
+    each_taken (λ w. is_gained (all_rows c.args.old) (all_rows c.args.new) (string_bytes w.client)
     (option_copied c.args.user) w.name c.args.direction ≡ true) c.args.most
     c.in_ok-found.found.items c.in_ok-more.more.items c.append.new.self.items
     c.truncate-2.new.self.items

@@ -2,7 +2,7 @@ use Rattle.std.proofs.Common.{sym, ◌∙◌, subst}
 use Rattle.std.specs.List.{All}
 use Rattle.std.specs.Option.{option_copied}
 use Rattle.std.proofs.lemmas.List.Elements.{All-weaker, All-same}
-use Rattle.mq_questions.specs.Gains.{IsGainOf, IsNamed, told, shown}
+use Rattle.mq_questions.specs.Gains.{IsGainOf, IsNamed, told, witness_view}
 use Rattle.mq_questions.specs.Texts.{level_of}
 use Rattle.mq_walk.specs.Remainders.{GainsNothing}
 use Rattle.mq_questions.specs.Fresh.{marks_of}
@@ -34,7 +34,7 @@ returns-clause-none c = λ e.
     (λ t. subst (λ m. GainsNothing c.of-start.result 200 (marks_of t m) c.deref.result.now
     c.deref-2.result.now) c.level_of-user.ensures
     (c.in_ok-gains.ensures.none (sym c.deref-3.ensures.value
-    ∙ shown_none shown told c.in_ok-witnesses.witnesses.items c.deref-3.result.now
+    ∙ shown_none witness_view told c.in_ok-witnesses.witnesses.items c.deref-3.result.now
     c.in_ok-witnesses.ensures e) t))
 
 pub returns-clause-each : goal.returns-clause-each

@@ -2,7 +2,7 @@ use Rattle.std.proofs.Common.{◌≡◌, true, false, string_bytes, Some}
 use Rattle.std.proofs.lemmas.List.Elements.{All-same, All-take}
 use Rattle.mq_acl.specs.Access.{begins_with_dollar}
 use Rattle.mq_questions.specs.Literals.{is_named}
-use Rattle.mq_questions.specs.Roots.{all_rows, gained}
+use Rattle.mq_questions.specs.Roots.{all_rows, is_gained}
 use Rattle.mq_questions.proofs.GainListLemmas.{none_taken, none_joined, each_taken, either}
 use Rattle.mq_questions.proofs.ask.others.all_others.Goals as goal
 
@@ -33,7 +33,7 @@ returns-clause-unlisted c =
 
 pub returns-clause-each : goal.returns-clause-each
 returns-clause-each c =
-    each_taken (λ w. gained (all_rows c.args.old) (all_rows c.args.new)
+    each_taken (λ w. is_gained (all_rows c.args.old) (all_rows c.args.new)
     (string_bytes w.witness.client) (Some (string_bytes w.user)) w.witness.name
     c.args.direction ≡ true) c.args.most c.in_ok-found.found.items c.in_ok-more.more.items
     c.append.new.self.items c.truncate-2.new.self.items

@@ -8,7 +8,7 @@ use Rattle.mq_sessions.specs.Views.{begin_of}
 use Rattle.mq_sessions.specs.Queue.{begin_with}
 use Rattle.mq_world.specs.Waiting.{with_qos}
 use Rattle.mq_router.specs.delivery.Copies.{copies_by, begins_by}
-use Rattle.mq_subscriptions.specs.Matches.{matched}
+use Rattle.mq_subscriptions.specs.Matches.{match_views}
 use Rattle.mq_router.specs.delivery.Copies.{by_client}
 use Rattle.std.specs.Slice.Iter.{chunk_by_rest}
 use Rattle.mq_router.proofs.ClientLemmas.{next-client, sent-first, waits-first, nowhere-first}
@@ -28,8 +28,8 @@ loop-own-preserved c =
     nowhere-first c.args.limit A S m c.args.outgoing.now.message.deadline _ c.way.result
     c.way.ensures.sent c.way.ensures.waits
     (map copy_of c.loop-own.copies.items) (map begin_of c.loop-own.queued.items)
-    (by_client (matched (chunk_by_rest c.next.new.self)))
-    (by_client (matched (chunk_by_rest c.loop-own.own-iterator))) first.1
+    (by_client (match_views (chunk_by_rest c.next.new.self)))
+    (by_client (match_views (chunk_by_rest c.loop-own.own-iterator))) first.1
     c.in-Nowhere.is in
     record { sorted = first.0; copies = step.0 ∙ held.copies; queued = step.1 ∙ held.queued }
 
@@ -47,14 +47,14 @@ loop-own-preserved-in_default c =
     waits-first c.args.limit A S m c.args.outgoing.now.message.deadline _ c.way.result
     c.way.ensures.sent c.way.ensures.waits
     (map copy_of c.loop-own.copies.items) (map begin_of c.loop-own.queued.items)
-    (by_client (matched (chunk_by_rest c.next.new.self)))
-    (by_client (matched (chunk_by_rest c.loop-own.own-iterator))) first.1
+    (by_client (match_views (chunk_by_rest c.next.new.self)))
+    (by_client (match_views (chunk_by_rest c.loop-own.own-iterator))) first.1
     c.in-Waits.is (option_map begin_of c.in_ok-one-in-Waits.field-0)
     (c.in_ok-one-in-Waits.ensures
     ∙ ap (λ k. option_map (begin_with k.client c.args.outgoing.now.message.deadline)
     (with_qos k)) c.in_ok-copy-in-Waits.ensures) in
     let left = begins_by c.args.limit A S m c.args.outgoing.now.message.deadline
-    (by_client (matched (chunk_by_rest c.next.new.self))) in
+    (by_client (match_views (chunk_by_rest c.next.new.self))) in
     record {
       sorted = first.0;
       copies = step.0 ∙ held.copies;
@@ -80,10 +80,10 @@ loop-own-preserved-in_ok-push-in-Sent c =
     sent-first c.args.limit A S m c.args.outgoing.now.message.deadline _ c.way.result
     c.way.ensures.sent c.way.ensures.waits
     (map copy_of c.loop-own.copies.items) (map begin_of c.loop-own.queued.items)
-    (by_client (matched (chunk_by_rest c.next.new.self)))
-    (by_client (matched (chunk_by_rest c.loop-own.own-iterator))) first.1
+    (by_client (match_views (chunk_by_rest c.next.new.self)))
+    (by_client (match_views (chunk_by_rest c.loop-own.own-iterator))) first.1
     c.in-Sent.is (copy_of copy) c.in_ok-own_copy-in-Sent.ensures in
-    let left = copies_by A S m (by_client (matched (chunk_by_rest c.next.new.self))) in
+    let left = copies_by A S m (by_client (match_views (chunk_by_rest c.next.new.self))) in
     record {
       sorted = first.0;
       copies = ap (λ l. map copy_of l ++ left) c.in_ok-push-in-Sent.ensures.items
@@ -107,14 +107,14 @@ loop-own-preserved-in_ok-push-in-Waits c =
     waits-first c.args.limit A S m c.args.outgoing.now.message.deadline _ c.way.result
     c.way.ensures.sent c.way.ensures.waits
     (map copy_of c.loop-own.copies.items) (map begin_of c.loop-own.queued.items)
-    (by_client (matched (chunk_by_rest c.next.new.self)))
-    (by_client (matched (chunk_by_rest c.loop-own.own-iterator))) first.1
+    (by_client (match_views (chunk_by_rest c.next.new.self)))
+    (by_client (match_views (chunk_by_rest c.loop-own.own-iterator))) first.1
     c.in-Waits.is (option_map begin_of c.in_ok-one-in-Waits.field-0)
     (c.in_ok-one-in-Waits.ensures
     ∙ ap (λ k. option_map (begin_with k.client c.args.outgoing.now.message.deadline)
     (with_qos k)) c.in_ok-copy-in-Waits.ensures) in
     let left = begins_by c.args.limit A S m c.args.outgoing.now.message.deadline
-    (by_client (matched (chunk_by_rest c.next.new.self))) in
+    (by_client (match_views (chunk_by_rest c.next.new.self))) in
     record {
       sorted = first.0;
       copies = step.0 ∙ held.copies;

@@ -49,6 +49,7 @@ returns-clause-applied c =
     subst (λ (v : State). Does v (Advance c.args.seconds) (reply_of c.with_reason.result) new)
     c.self.view_is
     (advance-does s c.args.seconds c.in-Some.clock.moment c.end_sessions.new.sessions subs kept _
-    c.in-Some.clock.within c.in-Some.ensures.some c.end_sessions.ensures.sessions c.end_sessions.ensures.rows
+    c.in-Some.clock.within c.in-Some.ensures.some
+    c.end_sessions.ensures.sessions c.end_sessions.ensures.rows
     c.end_sessions.ensures.keys
     c.advance.ensures.rest c.advance.ensures.filed c.with_reason.ensures)

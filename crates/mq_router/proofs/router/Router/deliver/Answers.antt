@@ -7,11 +7,11 @@ use Rattle.mq_world.specs.World.{Publish, Message, Subscription}
 use Rattle.mq_world.specs.Refusals.{refusal}
 use Rattle.mq_world.specs.Clock.{deadline_of}
 use Rattle.mq_world.specs.Waiting.{waiting_after, begins_to_wait}
-use Rattle.mq_sessions.specs.Queue.{Begin, queued_all}
+use Rattle.mq_sessions.specs.Queue.{Begin, queue_all}
 use Rattle.mq_router.specs.delivery.Copies.{queued_by}
 use Rattle.mq_sessions.specs.Near.{AllReached}
 use Rattle.std.specs.Option.{IfSome}
-use Rattle.mq_world.specs.Answers.{published}
+use Rattle.mq_world.specs.Answers.{publish_reply}
 use Rattle.mq_router.specs.StandsFor.{State}
 use Rattle.mq_router.specs.router.Effects.{Does, world_of, copies_now, queued_now, members_now}
 use Rattle.mq_subscriptions.specs.Turns.{all_turned}
@@ -37,7 +37,7 @@ invariant_of-self-2 c =
     subst (λ deadline. IfSome deadline (λ d. d < s.moment + 2 ^ 32)) value within in
     let waiting : c.join_all.new.self
     ≡ map (waiting_after limit s.access s.subscriptions s.moment m) s.sessions =
-    c.join_all.ensures.new ∙ ap (λ bs. queued_all limit bs s.sessions)
+    c.join_all.ensures.new ∙ ap (λ bs. queue_all limit bs s.sessions)
     (c.in_ok-made.ensures.queued ∙ ap (λ (v : State). queued_now v m c.args.message.now.deadline)
     (sym c.self.view_is) ∙ ap (queued_now s m) value)
     ∙ queued-is limit s.access s.subscriptions s.moment m s.sessions c.join_all.ensures.ordered in (
@@ -80,14 +80,14 @@ returns-clause-done c = λ accepted.
     ∙ waits-is limit s.access s.subscriptions m deadline s.sessions in
     let waiting : c.join_all.new.self
     ≡ map (waiting_after limit s.access s.subscriptions s.moment m) s.sessions =
-    c.join_all.ensures.new ∙ ap (λ bs. queued_all limit bs s.sessions) queued
+    c.join_all.ensures.new ∙ ap (λ bs. queue_all limit bs s.sessions) queued
     ∙ queued-is limit s.access s.subscriptions s.moment m s.sessions c.join_all.ensures.ordered in
     subst (λ (v : State). Does v (Publish m) (reply_of c.published.result) new) c.self.view_is
     (publish-does s m c.join_all.new.self subs kept _
     (ap (λ (v : State). refusal (world_of v) (Publish m)) c.self.view_is ∙ accepted)
-    (c.published.ensures ∙ ap (λ l. published l (not c.is_empty-waits.result))
+    (c.published.ensures ∙ ap (λ l. publish_reply l (not c.is_empty-waits.result))
     (c.in_ok-made.ensures.copies ∙ ap (λ (v : State). copies_now v m) (sym c.self.view_is))
-    ∙ ap (published (copies_now s m)) waits)
+    ∙ ap (publish_reply (copies_now s m)) waits)
     waiting
     (same-then _ _ _ c.serve_all.ensures.rows
     (same-is _ _ (ap (λ l. turned (map turn_of l)) c.as_slice.ensures.value

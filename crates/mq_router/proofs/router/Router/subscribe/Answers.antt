@@ -1,12 +1,12 @@
 use Rattle.std.proofs.Common.{◌≡◌, ◌∙◌, sym, ap, subst, Err, None}
 use Rattle.std.proofs.lemmas.Result.{err_from_is_err_and}
 use Rattle.mq_subscriptions.specs.Wanted.{wanted_row}
-use Rattle.mq_world.specs.World.{Subscribe, Subscription, SubscriptionOptions, asked}
+use Rattle.mq_world.specs.World.{Subscribe, Subscription, SubscriptionOptions, subscription_of}
 use Rattle.mq_world.specs.Lists.{Text}
 use Rattle.mq_world.specs.Refusals.{first_refusal, client_conditions}
 use Rattle.mq_router.specs.StandsFor.{State}
 use Rattle.mq_router.specs.router.Effects.{Does, copies_sent}
-use Rattle.mq_subscriptions.specs.Turns.{joined}
+use Rattle.mq_subscriptions.specs.Turns.{upsert}
 use Rattle.mq_world.specs.Views.{copy_of}
 use Rattle.mq_world.specs.Views.{options_of}
 use Rattle.mq_router.specs.router.Views.{state_of}
@@ -66,11 +66,12 @@ returns-clause-applied c =
     let named : Option Text → Text → Subscription =
     λ sh f. record { client = id; share = sh; filter = f; options = options } in
     let is : named (option_map string_bytes c.in_ok-wanted.wanted.share)
-    c.in_ok-wanted.wanted.filter ≡ asked id text options =
+    c.in_ok-wanted.wanted.filter ≡ subscription_of id text options =
     ap (λ sh. named sh c.in_ok-wanted.wanted.filter) ok.0 ∙ ap (named (share_of text)) ok.1 in
     let by : Text → Subscription = λ k. wanted_row k c.in_ok-wanted.wanted c.args.options in
     let kept = c.in_ok-id.ensures.cases ∙ c.in_ok-check_client.ensures.same in
-    let copies : map copy_of c.in_ok-copies.copies.items ≡ copies_sent s (asked id text options) =
+    let copies : map copy_of c.in_ok-copies.copies.items
+    ≡ copies_sent s (subscription_of id text options) =
     c.in_ok-copies.ensures.copies
     ∙ ap (λ k. copies_sent c.args.self.now (by k)) kept
     ∙ ap (λ (v : State). copies_sent v
@@ -88,5 +89,5 @@ returns-clause-applied c =
     ∙ sym c.is_shared_no_local.ensures ∙ c.if-is_shared_no_local.false)
     (ap (λ l. record { copies = l; outcome = Reason c.args.options.qos }) copies)
     (same-then _ _ _ c.in_ok-put.ensures.ok
-    (same-is _ _ (ap (λ k. joined (by k) s.subscriptions) kept
-    ∙ ap (λ (x : Subscription). joined x s.subscriptions) is))) c.in_ok-put.ensures.keys)
+    (same-is _ _ (ap (λ k. upsert (by k) s.subscriptions) kept
+    ∙ ap (λ (x : Subscription). upsert x s.subscriptions) is))) c.in_ok-put.ensures.keys)

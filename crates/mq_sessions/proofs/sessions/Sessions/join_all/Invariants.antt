@@ -1,10 +1,10 @@
 use Rattle.std.proofs.Common.{◌≡◌, map}
 use Rattle.std.specs.Vec.Iter.{into_iter_items}
-use Rattle.mq_sessions.specs.Queue.{queued_all}
+use Rattle.mq_sessions.specs.Queue.{queue_all}
 use Rattle.mq_sessions.specs.Views.{begin_of}
 use Rattle.mq_sessions.proofs.sessions.Sessions.join_all.Given as goal
 
 abbrev pub invariant-loop-queued_copy : goal.invariant-loop-queued_copy
-invariant-loop-queued_copy l = queued_all l.limit
+invariant-loop-queued_copy l = queue_all l.limit
     (map begin_of (into_iter_items l.queued_copy-iterator)) l.self
-    ≡ queued_all l.limit (map begin_of l.fn.all.items) l.fn.self
+    ≡ queue_all l.limit (map begin_of l.fn.all.items) l.fn.self

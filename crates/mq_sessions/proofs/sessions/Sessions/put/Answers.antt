@@ -3,7 +3,7 @@ use Rattle.std.specs.Rc.{rc_str_bytes}
 use Rattle.std.proofs.lemmas.List.{length-map}
 use Rattle.mq_world.specs.World.{session_cmp}
 use Rattle.mq_world.proofs.OrderLemmas.{all-with_row, session_total}
-use Rattle.mq_sessions.specs.Ends.{AreListed, IsListed, end_of, shown_in}
+use Rattle.mq_sessions.specs.Ends.{AreListed, IsListed, end_of, views_of}
 use Rattle.mq_sessions.specs.Views.{session_at, session_in, sessions_of}
 use Rattle.mq_sessions.proofs.EndLemmas.{connected-most, no-end}
 use Rattle.mq_sessions.proofs.sessions.Sessions.put.Goals as goal
@@ -24,10 +24,10 @@ invariant_of-self-2 c = (
     first = c.settle.ensures.first;
     room =
         let after = c.put.new.sessions.entries in
-        let count : length (shown_in after) ≡ length after = length-map after session_in in
+        let count : length (views_of after) ≡ length after = length-map after session_in in
         omega (
           arith,
-          connected-most (shown_in after),
+          connected-most (views_of after),
           c.in_ok-put.ensures.more,
           c.in_ok-make_room.ensures.ok,
           c.settle.ensures.count,

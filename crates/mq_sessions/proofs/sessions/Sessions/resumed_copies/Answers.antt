@@ -5,7 +5,7 @@ use Rattle.mq_world.specs.World.{Session}
 use Rattle.mq_world.specs.Sessions.{outlives, outlives_connection}
 use Rattle.mq_world.specs.Waiting.{resumed_copy}
 use Rattle.mq_sessions.specs.Near.{AllReached}
-use Rattle.mq_sessions.specs.Resumed.{resumed}
+use Rattle.mq_sessions.specs.Resumed.{copies_if_resumed}
 use Rattle.mq_sessions.specs.Views.{session_at, session_in}
 use Rattle.mq_sessions.proofs.SessionLemmas.{found-is, found-reached}
 use Rattle.mq_sessions.proofs.ResumeLemmas.{resumed-none, resumed-some}
@@ -26,8 +26,8 @@ returns-in_default c =
     (ap (option_map (session_at id)) c.in_default.ensures.value
     ∙ found-is id c.self.inside.by_id.entries)) in
     resumed-none c.args.clock.moment all id false ends
-    ∙ ap (λ (l : List Session). resumed c.args.clock.moment l id false) c.self.view_is
-    ∙ ap (resumed c.args.clock.moment c.args.self.now id) (sym c.if-clean.false)
+    ∙ ap (λ (l : List Session). copies_if_resumed c.args.clock.moment l id false) c.self.view_is
+    ∙ ap (copies_if_resumed c.args.clock.moment c.args.self.now id) (sym c.if-clean.false)
 
 pub returns-then-not-outlives_connection : goal.returns-then-not-outlives_connection
 returns-then-not-outlives_connection c =
@@ -39,8 +39,8 @@ returns-then-not-outlives_connection c =
     (ap (option_map (session_at id)) c.in-Some.ensures.value
     ∙ found-is id c.self.inside.by_id.entries)) in
     resumed-none c.args.clock.moment all id false ends
-    ∙ ap (λ (l : List Session). resumed c.args.clock.moment l id false) c.self.view_is
-    ∙ ap (resumed c.args.clock.moment c.args.self.now id) (sym c.if-clean.false)
+    ∙ ap (λ (l : List Session). copies_if_resumed c.args.clock.moment l id false) c.self.view_is
+    ∙ ap (copies_if_resumed c.args.clock.moment c.args.self.now id) (sym c.if-clean.false)
 
 pub returns : goal.returns
 returns c =
@@ -56,5 +56,5 @@ returns c =
     ∙ ap (λ s. filter_map (resumed_copy moment)
     (option_map_or (λ (s : Session). s.waiting) s [])) found)
     ∙ resumed-some moment all id false stays
-    ∙ ap (λ (l : List Session). resumed moment l id false) c.self.view_is
-    ∙ ap (resumed moment c.args.self.now id) (sym c.if-clean.false)
+    ∙ ap (λ (l : List Session). copies_if_resumed moment l id false) c.self.view_is
+    ∙ ap (copies_if_resumed moment c.args.self.now id) (sym c.if-clean.false)

@@ -5,7 +5,7 @@ use Rattle.std.specs.Rc.{rc_str_bytes}
 use Rattle.mq_world.specs.World.{Session, Away}
 use Rattle.mq_world.specs.Sessions.{connected, is_present, session_end}
 use Rattle.mq_world.proofs.Splits.{set_same}
-use Rattle.mq_sessions.specs.Ends.{AreListed, KeepIds, shown_in}
+use Rattle.mq_sessions.specs.Ends.{AreListed, KeepIds, views_of}
 use Rattle.mq_sessions.specs.Views.{kept_id, session_at, session_in}
 use Rattle.mq_sessions.proofs.SessionLemmas.{edited-is, finds, found-is}
 use Rattle.mq_sessions.proofs.EntryLemmas.{absent-kept, connected-found, connected-left, ids-edited}
@@ -67,7 +67,7 @@ returns-clause-left c =
 pub returns-clause-fewer : goal.returns-clause-fewer
 returns-clause-fewer c =
     let es = c.args.sessions.now.entries in
-    subst (λ l. length (connected (shown_in l)) + 1 ≡ length (connected (shown_in es)))
+    subst (λ l. length (connected (views_of l)) + 1 ≡ length (connected (views_of es)))
     (sym (c.get_mut.follows.holds c.leave.new.self).0)
     (connected-left (finds c.args.id.now) c.in-Some.session.now c.leave.new.self es
     (sym c.in-Some.ensures.value)
@@ -77,7 +77,7 @@ returns-clause-fewer c =
 
 pub returns-clause-listed : goal.returns-clause-listed
 returns-clause-listed c = λ dues listed there.
-    subst (λ l. AreListed dues (shown_in l)) (sym (c.get_mut.follows.holds c.leave.new.self).0)
+    subst (λ l. AreListed dues (views_of l)) (sym (c.get_mut.follows.holds c.leave.new.self).0)
     (listed-left (finds c.args.id.now) c.in-Some.session.now c.leave.new.self
     c.args.sessions.now.entries (rc_str_bytes c.in-Some-leave.id) c.end.result dues
     (sym c.in-Some.ensures.value) c.in-Some-leave.ensures.id c.end.ensures c.requires listed there)

@@ -1,6 +1,6 @@
 use Rattle.std.proofs.Common.{◌≡◌, ◌+◌, ◌*◌, ◌≤◌, length, rules, arith}
 use Rattle.std.proofs.lemmas.List.{length-map}
-use Rattle.mq_sessions.specs.Ends.{shown_in}
+use Rattle.mq_sessions.specs.Ends.{views_of}
 use Rattle.mq_sessions.specs.Views.{session_in}
 use Rattle.mq_sessions.proofs.EndLemmas.{connected-most}
 use Rattle.mq_sessions.proofs.sessions.ends.make_room.Goals as goal
@@ -12,11 +12,11 @@ returns-clause-indexed c =
       listed = c.settle.ensures.listed;
       first = c.settle.ensures.first;
       room =
-          let long : length (shown_in es) ≡ length es = length-map es session_in in
+          let long : length (views_of es) ≡ length es = length-map es session_in in
           let fits : (length es + 1) * 3 ≤ c.in_ok-room.room = search rules in
           omega (
             arith,
-            connected-most (shown_in es),
+            connected-most (views_of es),
             c.settle.ensures.count,
             c.settle.ensures.room,
             c.in_ok-anew.ensures.count,

@@ -1,10 +1,10 @@
 use Rattle.std.proofs.Common.{◌≡◌, ◌≤◌, length}
-use Rattle.mq_sessions.specs.Ends.{AreListed, shown_in}
+use Rattle.mq_sessions.specs.Ends.{AreListed, views_of}
 use Rattle.mq_sessions.proofs.sessions.ends.settle.Given as goal
 
 abbrev pub invariant-loop-end : goal.invariant-loop-end
 invariant-loop-end l = record {
-  listed : AreListed l.ends.entries (shown_in l.sessions.entries);
+  listed : AreListed l.ends.entries (views_of l.sessions.entries);
   count : length l.ends.entries ≤ length l.initial.ends.entries;
   room : l.ends.room ≡ l.initial.ends.room;
 }

@@ -7,7 +7,7 @@ use Rattle.std.specs.Option.{option_copied_mut}
 use Rattle.mq_world.specs.Keys.{Key}
 use Rattle.mq_world.specs.Lists.{Text}
 use Rattle.mq_world.specs.Turns.{SameInTurn}
-use Rattle.mq_subscriptions.specs.Turns.{joined}
+use Rattle.mq_subscriptions.specs.Turns.{upsert}
 use Rattle.mq_sessions.proofs.SessionLemmas.{finds}
 use Rattle.mq_world.proofs.ListLemmas.{on_err}
 use Rattle.mq_subscriptions.specs.Filters.{Member, row, NoneEmpty, is_text, group_rows, has_client}
@@ -63,6 +63,6 @@ pub returns-in-None-clause-ok : goal.returns-in-None-clause-ok
 returns-in-None-clause-ok c =
     let f0 = λ (m : BTreeMap (Key) (List Member)). OnOk c.add_group.result
     ((f : Text) → SameInTurn (group_rows f (texts c.add_group.new.groups.entries))
-    (joined (row (Some c.args.share.now) f (rc_str_bytes c.args.client, c.args.options))
+    (upsert (row (Some c.args.share.now) f (rc_str_bytes c.args.client, c.args.options))
     (group_rows f (texts m.entries)))) in
     subst f0 c.get_mut.follows.holds-at-none c.add_group.ensures.ok

@@ -1,7 +1,7 @@
 use Rattle.std.proofs.Common.{◌≡◌, ◌∙◌, ◌++◌, [], ap, subst}
 use Rattle.mq_subscriptions.specs.Filters.{At, direct_rows}
 use Rattle.mq_subscriptions.specs.Views.{texts}
-use Rattle.mq_subscriptions.specs.Matches.{matched}
+use Rattle.mq_subscriptions.specs.Matches.{match_views}
 use Rattle.mq_world.specs.Views.{message_of}
 use Rattle.mq_subscriptions.specs.Matches.{unshared_matches}
 use Rattle.mq_subscriptions.proofs.MatchLemmas.{matches-at}
@@ -10,7 +10,7 @@ use Rattle.mq_subscriptions.proofs.subscriptions.filter_entry.FilterEntry.gather
 pub loop-client-init : goal.loop-client-init
 loop-client-init c =
     let m = message_of c.args.message.now in
-    let start = matched c.args.matches.now.items in
+    let start = match_views c.args.matches.now.items in
     ap (λ es. start ++ unshared_matches m (direct_rows [] (texts es)))
     c.into_iter-client-iterator.ensures.into_iter_gives.0
     ∙ ap (λ l. start ++ l)

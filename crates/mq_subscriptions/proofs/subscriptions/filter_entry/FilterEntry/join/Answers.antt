@@ -5,7 +5,7 @@ use Rattle.std.specs.Result.{OnOk}
 use Rattle.std.proofs.lemmas.Result.{on_ok_weaker}
 use Rattle.mq_world.specs.World.{Subscription}
 use Rattle.mq_world.specs.Turns.{SameInTurn}
-use Rattle.mq_subscriptions.specs.Turns.{joined}
+use Rattle.mq_subscriptions.specs.Turns.{upsert}
 use Rattle.mq_subscriptions.specs.Filters.{At, row, direct_rows, group_rows}
 use Rattle.mq_subscriptions.specs.Views.{texts}
 use Rattle.mq_subscriptions.proofs.AtLemmas.{at-joined-own, at-joined-shared, here-is}
@@ -18,7 +18,7 @@ returns-in-None-clause-ok c =
     ++ group_rows f (texts c.self.inside.groups.entries) in
     subst (λ (a : At). OnOk c.join_direct.result
     (SameInTurn new
-    (joined (row (option_copied c.args.share) a.filter
+    (upsert (row (option_copied c.args.share) a.filter
     (rc_str_bytes c.args.client, c.args.options)) a.rows))) c.self.view_is
     (rw c.in-None.is (on_ok_weaker c.join_direct.result
     (λ e. at-joined-own f (rc_str_bytes c.args.client) c.args.options
@@ -36,7 +36,7 @@ returns-in-Some-clause-ok c =
     ++ group_rows f (texts c.join_group.new.groups.entries) in
     subst (λ (a : At). OnOk c.join_group.result
     (SameInTurn new
-    (joined (row (option_copied c.args.share) a.filter
+    (upsert (row (option_copied c.args.share) a.filter
     (rc_str_bytes c.args.client, c.args.options)) a.rows))) c.self.view_is
     (rw c.in-Some.is (on_ok_weaker c.join_group.result
     (λ e. at-joined-shared f (rc_str_bytes c.args.client) c.args.options c.in-Some.share.now
