@@ -5,6 +5,8 @@ use Rattle.std.specs.List.{filter, list_any}
 use Rattle.std.specs.Str.{bytes_eq}
 use Rattle.std.proofs.lemmas.List.{map-append}
 use Rattle.std.proofs.lemmas.List.Elements.{filter-append}
+use Rattle.std.proofs.Math.Bool.{or_assoc}
+use Rattle.mq_topic.proofs.BoolLemmas.{or_swapped}
 use Rattle.mq_acl.specs.Rows.{Who, Anonymous, Named, Everyone, AclRow}
 use Rattle.mq_acl.specs.Views.{row_view, row_views}
 use Rattle.mq_acl.specs.Groups.{is_own, is_everyones}
@@ -40,16 +42,6 @@ others_same p rows row e =
     ∙ ap (λ (t : Bool). filter (λ r. p r.who) rows ++ (if t then row ∷ [] else [])) e
     ∙ append-nil (filter (λ r. p r.who) rows)
 
-or_assoc : (a b c : Bool) → ((a || b) || c) ≡ (a || (b || c))
-or_assoc true b c = refl
-or_assoc false b c = refl
-
-or_swap : (a b c : Bool) → (a || (b || c)) ≡ (b || (a || c))
-or_swap true true c = refl
-or_swap true false c = refl
-or_swap false true c = refl
-or_swap false false c = refl
-
 or_both : (a b c : Bool) → (a || (b || c)) ≡ ((a || b) || (a || c))
 or_both true b c = refl
 or_both false b c = refl
@@ -60,7 +52,7 @@ parted : (all own test a b : Bool) → (((all || own) && test) || (a || b))
     || (if own then ((all || own) && test) || b else b))
 parted true true test a b = or_both test a b
 parted true false test a b = sym (or_assoc test a b)
-parted false true test a b = or_swap test a b
+parted false true test a b = or_swapped test a b
 parted false false test a b = refl
 
 applies_is : (user : Option (List ℕ)) (who : Who)

@@ -1,12 +1,13 @@
 -- What `clap` reads of an option with a number.
-use Rattle.std.proofs.Common.{◌≡◌, ◌&&◌, ◌^◌, ℕ, Bool, true, false, List, [], ◌∷◌, length, Option}
-use Rattle.std.proofs.Common.{Some, None, Result, Ok, Err, refl, sym, true≢false, lt-ltb, ltb-true}
+use Rattle.std.proofs.Common.{◌≡◌, ◌^◌, ℕ, Bool, true, false, List, [], ◌∷◌, length, Option}
+use Rattle.std.proofs.Common.{Some, None, Result, Ok, Err, refl, lt-ltb, ltb-true}
 use Rattle.std.specs.Prelude.{nat_lt, option_and_then}
 use Rattle.std.specs.List.{list_all}
 use Rattle.std.specs.Char.{digit_value}
 use Rattle.std.specs.Str.Parse.{ParsesUnsigned, ExplainsUnsignedError, HasUnsignedDigitsIfOk}
 use Rattle.std.specs.Str.Parse.{AllDigits, digits_value, without_leading_plus}
 use Rattle.std.specs.declared.num.ParseIntError.{ParseIntError}
+use Rattle.std.proofs.lemmas.Bool.{and_parts}
 use Rattle.clap.specs.Words.{Text, ReadsOne}
 use Rattle.mq_cli.specs.CommandLine.{is_word, number_in}
 
@@ -14,14 +15,10 @@ digits_pass : (ds : List ℕ) → AllDigits 10 ds → list_all (λ d. nat_lt (di
 digits_pass [] h = refl
 digits_pass (d ∷ ds) h = rw (lt-ltb (digit_value d) 10 h.0) (digits_pass ds h.1)
 
-both : (a b : Bool) → (a && b) ≡ true → (a ≡ true) × (b ≡ true)
-both true b e = (refl, e)
-both false b e = absurd (true≢false (sym e))
-
 digits_from : (ds : List ℕ) → list_all (λ d. nat_lt (digit_value d) 10) ds ≡ true → AllDigits 10 ds
 digits_from [] e = tt
 digits_from (d ∷ ds) e =
-    let parts = both _ _ e in
+    let parts = and_parts _ _ e in
     (ltb-true _ _ parts.0, digits_from ds parts.1)
 
 -- a number that is read is the one in the text
@@ -46,8 +43,8 @@ read-none text e h = go (is_word (without_leading_plus text)) refl
     go : (b : Bool) → is_word (without_leading_plus text) ≡ b → None ≡ number_in text
     go false t = rw t refl
     go true t =
-        let outer = both _ _ t in
-        let inner = both _ _ outer.0 in
+        let outer = and_parts _ _ t in
+        let inner = and_parts _ _ outer.0 in
         absurd (h (
           (ltb-true _ _ inner.0, digits_from (without_leading_plus text) inner.1),
           ltb-true _ _ outer.1,

@@ -5,13 +5,14 @@ use Rattle.std.proofs.Common.{string_cmp, nat_cmp, is_eq, bytes_eq, true≢false
 use Rattle.std.proofs.Common.{subst}
 use Rattle.std.proofs.lemmas.Cmp.{nat_list_cmp_total}
 use Rattle.std.proofs.lemmas.Map.Text.{is_eq-slice_cmp}
-use Rattle.std.proofs.lemmas.Slice.Eq.{bytes_eq-Decides}
 use Rattle.std.specs.Prelude.{Result, Err, if◌then◌else◌}
 use Rattle.std.specs.Cmp.Lexicographic.{slice_cmp}
 use Rattle.std.specs.List.{AllByRecursion, list_all}
 use Rattle.std.specs.List.Sorted.{IsStrictlySortedBy}
 use Rattle.std.specs.Map.{keys_of}
 use Rattle.std.specs.Ordering.{match_ordering, ordering_reverse, is_lt}
+use Rattle.mq_world.proofs.OrderLemmas.{equal_from, less_from}
+use Rattle.mq_topic.proofs.ByteLemmas.{text_is}
 use Rattle.serde_json.specs.Data.{Data, object, Members, no_members, member}
 use Rattle.serde_json.specs.Find.{get, get_member}
 use Rattle.serde_json.specs.View.{members_view}
@@ -40,14 +41,6 @@ ascends_keys (e ∷ es) h = (above_keys e.0 es h.0, ascends_keys es h.1)
 apart : (n k : List ℕ) → text_cmp n k ≡ Less → bytes_eq n k ≡ false
 apart n k h = sym (is_eq-slice_cmp n k) ∙ ap is_eq h
 
-same : (n k : List ℕ) → bytes_eq n k ≡ true → n ≡ k
-same n k h = (bytes_eq-Decides n k).0 h
-
-tied : (o : Ordering) → is_eq o ≡ true → o ≡ Equal
-tied Less h = absurd (true≢false (sym h))
-tied Equal h = refl
-tied Greater h = absurd (true≢false (sym h))
-
 above_later : (n k : List ℕ) (names : List (List ℕ)) → text_cmp n k ≡ Less → Above k names
     → Above n names
 above_later n k [] h above = tt
@@ -70,7 +63,7 @@ among_above n k (m ∷ names) above h = by_test (bytes_eq m k) refl h (among_abo
   where
     by_test : (t : Bool) → bytes_eq m k ≡ t → t || is_among names k ≡ true
         → (is_among names k ≡ true → text_cmp n k ≡ Less) → text_cmp n k ≡ Less
-    by_test true is h later = ap (text_cmp n) (sym (same m k is)) ∙ above.0
+    by_test true is h later = ap (text_cmp n) (sym (text_is m k is)) ∙ above.0
     by_test false is h later = later h
 
 -- each name has in ms what it has in all
@@ -122,12 +115,12 @@ agree (n ∷ names) all (member k d ms) up sorted among keeps =
         → (get n (object (member k d no_members)) ≡ get_member n all)
         × Agree names all (cond t ms (member k d ms))
     by_test true is later =
-        let here : text_cmp n k ≡ Equal = tied _ (is_eq-slice_cmp n k ∙ is) in
+        let here : text_cmp n k ≡ Equal = equal_from _ (is_eq-slice_cmp n k ∙ is) in
         let found : get_member n (member k d ms) ≡ Some d = rw here in
         let alone : get n (object (member k d no_members)) ≡ Some d = rw here in
         let above : Above n (names_of ms) =
-        subst (λ m. Above m (names_of ms)) (sym (same n k is)) sorted.0 in
-        let beyond : Above k names = subst (λ m. Above m names) (same n k is) up.0 in (
+        subst (λ m. Above m (names_of ms)) (sym (text_is n k is)) sorted.0 in
+        let beyond : Above k names = subst (λ m. Above m names) (text_is n k is) up.0 in (
           alone ∙ sym found ∙ keeps.0,
           later ms sorted.1 (sym (unneeded n names ms above) ∙ second _ _ among)
               (keeps_later k d names all ms beyond keeps.1),
@@ -156,7 +149,7 @@ other_ahead n k d ms h = untied (text_cmp n k) (is_eq-slice_cmp n k ∙ h)
 
 pub found_ahead : (n k : List ℕ) (d : Data) (ms : Members) → bytes_eq n k ≡ true
     → get n (ahead (member k d ms)) ≡ Some d
-found_ahead n k d ms h = rw (tied (text_cmp n k) (is_eq-slice_cmp n k ∙ h))
+found_ahead n k d ms h = rw (equal_from (text_cmp n k) (is_eq-slice_cmp n k ∙ h))
 
 -- what is left past all the names in turn
 abbrev pub left : List (List ℕ) → Members → Members
@@ -200,15 +193,10 @@ abbrev ascending : List (List ℕ) → Bool
 ascending [] = true
 ascending (n ∷ names) = list_all (λ m. is_lt (text_cmp n m)) names && ascending names
 
-less : (o : Ordering) → is_lt o ≡ true → o ≡ Less
-less Less h = refl
-less Equal h = absurd (true≢false (sym h))
-less Greater h = absurd (true≢false (sym h))
-
 all_less : (n : List ℕ) (names : List (List ℕ)) → list_all (λ m. is_lt (text_cmp n m)) names ≡ true
     → Above n names
 all_less n [] h = tt
-all_less n (m ∷ names) h = (less (text_cmp n m) (first _ _ h), all_less n names (second _ _ h))
+all_less n (m ∷ names) h = (less_from (text_cmp n m) (first _ _ h), all_less n names (second _ _ h))
 
 ascends : (names : List (List ℕ)) → ascending names ≡ true → Ascends names
 ascends [] h = tt
@@ -224,7 +212,8 @@ among_wider (n ∷ names) others k wide h =
     by_test : (t : Bool) → bytes_eq n k ≡ t → t || is_among names k ≡ true
         → (is_among names k ≡ true → is_among others k ≡ true)
         → is_among others k ≡ true
-    by_test true is h later = subst (λ m. is_among others m ≡ true) (same n k is) (first _ _ wide)
+    by_test true is h later =
+        subst (λ m. is_among others m ≡ true) (text_is n k is) (first _ _ wide)
     by_test false is h later = later h
 
 all_wider : (names others : List (List ℕ)) (ms : Members) → list_all (is_among others) names ≡ true

@@ -1,6 +1,6 @@
 -- The pieces of a script that grows.
 use Rattle.std.proofs.Common.{◌≡◌, ◌≤◌, ◌<◌, ◌-◌, ℕ, suc, List, [], ◌∷◌, ◌++◌, Bool, true, false}
-use Rattle.std.proofs.Common.{cond, ◌||◌, ◌+◌, length, length-take, length-drop, drop-drop, take}
+use Rattle.std.proofs.Common.{cond, ◌+◌, length, length-take, length-drop, drop-drop, take}
 use Rattle.std.proofs.Common.{drop, drop-cons, take-append-drop, get_or, Option, Some, None, refl}
 use Rattle.std.proofs.Common.{sym, ap, ◌∙◌, arith, append_assoc, append-nil, nat_lt}
 use Rattle.std.specs.Prelude.{unwrap_or, position, option_map}
@@ -10,6 +10,7 @@ use Rattle.std.proofs.lemmas.List.{get_or-take, take_all}
 use Rattle.std.proofs.lemmas.List.Splits.{slice_split_none}
 use Rattle.std.proofs.lemmas.List.Sums.{prefix_len-le-length}
 use Rattle.std.proofs.lemmas.List.Quantifiers.{position-Some}
+use Rattle.std.proofs.lemmas.Bool.{or_parts}
 use Rattle.mq_topic.proofs.LevelLemmas.{slice_split_whole}
 use Rattle.mq_lines.specs.Lines.{is_feed, pieces, all_but_last, whole_lines, last_piece}
 
@@ -150,20 +151,12 @@ feed_found xs n e =
 
 -- ## The search goes on behind bytes without a line feed
 
-none_here : (t u : Bool) → (t || u) ≡ false → t ≡ false
-none_here false u e = refl
-none_here true u e = e
-
-none_later : (t u : Bool) → (t || u) ≡ false → u ≡ false
-none_later false u e = e
-none_later true u e = absurd (let bad : true ≡ false = e in cc)
-
 pub position_or_len-later : {X : Type 0} (p : X → Bool) (xs ys : List X) → list_any p xs ≡ false
     → position_or_len p (xs ++ ys) ≡ length xs + position_or_len p ys
 position_or_len-later p [] ys e = omega arith
 position_or_len-later p (x ∷ xs) ys e =
-    let here = none_here (p x) (list_any p xs) e in
-    let later = position_or_len-later p xs ys (none_later (p x) (list_any p xs) e) in
+    let here = (or_parts (p x) (list_any p xs) e).0 in
+    let later = position_or_len-later p xs ys (or_parts (p x) (list_any p xs) e).1 in
     rw (here, later) (omega arith)
 
 shifted : (s t : Bool) (i a b : ℕ) → nat_lt a b ≡ s → nat_lt (i + a) (i + b) ≡ t

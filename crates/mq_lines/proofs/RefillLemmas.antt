@@ -3,6 +3,7 @@ use Rattle.std.proofs.Common.{◌≡◌, ◌≤◌, List, [], ◌∷◌, length,
 use Rattle.std.proofs.Common.{String, Global, string_bytes, refl, sym, ap, arith}
 use Rattle.std.specs.List.{AllByRecursion}
 use Rattle.std.specs.Map.Calls.{RetainsPairs}
+use Rattle.std.proofs.lemmas.Bool.{or_from}
 use Rattle.serde_json.specs.Data.{Data}
 use Rattle.serde_json.specs.View.{view, members_view}
 use Rattle.serde_json.specs.Written.{has_float, members_have_float}
@@ -10,7 +11,7 @@ use Rattle.serde_json.specs.declared.value.Value.{Value}
 use Rattle.mq_lines.specs.Objects.{names_of, values_of, data_of, WritesNext}
 use Rattle.mq_lines.specs.declared.datum.Datum.{Datum}
 use Rattle.mq_lines.specs.declared.datum.Datum.TheVariants.{Text, Number, Flag, Numbers}
-use Rattle.mq_lines.proofs.FloatLemmas.{both_none, numbers_none}
+use Rattle.mq_lines.proofs.FloatLemmas.{numbers_none}
 
 abbrev Entry : Type 0
 Entry = String Global × Value
@@ -93,7 +94,7 @@ refilled_none T todo writes f (e ∷ es) kept r none =
         → members_have_float (members_view kept) ≡ false
     by_answer true ds later w rest is left none more =
         let parts : NoFloats (view w ∷ later) = rw is at none in
-        rw left (both_none (has_float (view w)) (members_have_float (members_view rest)) parts.0
+        rw left (or_from (has_float (view w)) (members_have_float (members_view rest)) parts.0
         (more parts.1))
     by_answer false ds later w rest empty left none more = rw left (more (rw empty tt))
 

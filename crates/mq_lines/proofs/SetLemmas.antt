@@ -10,11 +10,11 @@ use Rattle.std.specs.List.Sorted.{IsStrictlySortedBy}
 use Rattle.std.specs.Map.{keys_of, lookup, set_value}
 use Rattle.std.specs.Ordering.{is_eq, match_ordering}
 use Rattle.std.specs.String.{string_cmp}
+use Rattle.std.proofs.lemmas.Bool.{or_parts}
 use Rattle.serde_json.specs.Data.{member, put}
 use Rattle.serde_json.specs.View.{view, members_view}
 use Rattle.serde_json.specs.Written.{has_float, members_have_float}
 use Rattle.serde_json.specs.declared.value.Value.{Value}
-use Rattle.mq_lines.proofs.FloatLemmas.{left_none, right_none}
 use Rattle.mq_lines.proofs.TakenLemmas.{beside}
 
 abbrev Entries : Type 0
@@ -54,8 +54,8 @@ pub found_none : (name : List ℕ) (es : Entries) (v : Value)
     → has_float (view v) ≡ false
 found_none name [] v found none = absurd (none-some v found)
 found_none name (e ∷ es) v found none =
-    let here = left_none (has_float (view e.1)) (members_have_float (members_view es)) none in
-    let rest = right_none (has_float (view e.1)) (members_have_float (members_view es)) none in
+    let here = (or_parts (has_float (view e.1)) (members_have_float (members_view es)) none).0 in
+    let rest = (or_parts (has_float (view e.1)) (members_have_float (members_view es)) none).1 in
     let P : Bool → Type 0 = λ b. cond b (Some e.1) (lookup (is_at (beside name)) es) ≡ Some v
     → has_float (view v) ≡ false in
     (elim (is_at (beside name) e.0) as P [

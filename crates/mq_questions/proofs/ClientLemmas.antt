@@ -7,6 +7,7 @@ use Rattle.std.proofs.Math.ListN.{drop_of_length-le}
 use Rattle.std.proofs.lemmas.Bool.Decides.{nat_tests}
 use Rattle.std.proofs.lemmas.Bool.{and_parts, or_parts}
 use Rattle.std.proofs.lemmas.List.{drop_more}
+use Rattle.mq_topic.proofs.ByteLemmas.{text_is, text_itself, text_flip}
 use Rattle.mq_topic.specs.Matching.{is_wildcard}
 use Rattle.mq_topic.specs.Texts.{is_plain, contains_byte}
 use Rattle.mq_acl.specs.Access.{begins_with_dollar, is_user}
@@ -21,7 +22,6 @@ use Rattle.mq_walk.specs.declared.start.Start.{Start}
 use Rattle.mq_questions.proofs.Swaps.{swap, is_apart}
 use Rattle.mq_questions.proofs.SwapLemmas.{swap_first, swap_apart, swap_nothing}
 use Rattle.mq_questions.proofs.LiteralLemmas.{all_fit_both, literals_pass, apart_rows}
-use Rattle.mq_walk.proofs.TextLemmas.{text_is, same_text, eq_sym}
 use Rattle.mq_walk.proofs.NameLemmas.{no_dollar, choice_is_level}
 
 -- ---- what a level that a row may name is
@@ -159,7 +159,7 @@ stand_in f user old new start c b o n t d s other u h =
         → option_map (swap c b) m ≡ m
     same_user None p e = refl
     same_user (Some v) p e =
-        ap Some (swap_apart c b v (apart_by c b v (ap not (eq_sym v c ∙ e)) (other v p)))
+        ap Some (swap_apart c b v (apart_by c b v (ap not (text_flip v c ∙ e)) (other v p)))
 
 second : (p q r s t v : Bool) → q ≡ true → (p || q || r || s || t || v) ≡ true
 second true q r s t v e = refl
@@ -178,13 +178,13 @@ no_client_gains f user old new start a u o n h c =
     first_tried : is_tried_client f user old new f.client.now ≡ true
     first_tried = ap (λ b. b || bytes_eq f.client.now f.dollar_client.now
         || bytes_eq f.client.now [] || is_user f.client.now user || is_literal_of f.client.now old
-        || is_literal_of f.client.now new) (same_text f.client.now)
+        || is_literal_of f.client.now new) (text_itself f.client.now)
 
     second_tried : is_tried_client f user old new f.dollar_client.now ≡ true
     second_tried = second (bytes_eq f.dollar_client.now f.client.now)
         (bytes_eq f.dollar_client.now f.dollar_client.now) (bytes_eq f.dollar_client.now [])
         (is_user f.dollar_client.now user) (is_literal_of f.dollar_client.now old)
-        (is_literal_of f.dollar_client.now new) (same_text f.dollar_client.now)
+        (is_literal_of f.dollar_client.now new) (text_itself f.dollar_client.now)
 
     at : (t : Bool) → is_tried_client f user old new c ≡ t → (d : Bool) → begins_with_dollar c ≡ d
         → GainsNothing start 200 (marks_of c user) old new
@@ -204,7 +204,7 @@ no_client_gains f user old new start a u o n h c =
 pub among_at : (items : List (Bor (List ℕ))) (i : ℕ) (d : Bor (List ℕ)) → i < length items
     → is_among (get_or items i d).now items ≡ true
 among_at [] i d h = absurd (omega arith)
-among_at (x ∷ xs) zero d h = ap (λ b. b || is_among x.now xs) (same_text x.now)
+among_at (x ∷ xs) zero d h = ap (λ b. b || is_among x.now xs) (text_itself x.now)
 among_at (x ∷ xs) (suc i) d h = or_here (bytes_eq (get_or xs i d).now x.now)
     (among_at xs i d (omega arith))
   where

@@ -8,6 +8,7 @@ use Rattle.std.proofs.lemmas.List.{length-replicate}
 use Rattle.std.proofs.lemmas.List.Folds.{list_any-append}
 use Rattle.std.proofs.lemmas.Bool.{and_parts, not-true, leb-true, le-leb}
 use Rattle.std.proofs.Math.Dec.{eqb-suc-zero}
+use Rattle.mq_topic.proofs.ByteLemmas.{text_is}
 use Rattle.mq_topic.specs.Texts.{contains_byte, is_plain}
 use Rattle.mq_acl.specs.Access.{begins_with_dollar}
 use Rattle.mq_walk.specs.Names.{is_name_level, is_choice}
@@ -16,7 +17,6 @@ use Rattle.mq_questions.specs.FreshTexts.{AreLong, AreLonger, AreNew, IsNew, IsS
 use Rattle.mq_questions.specs.FreshTexts.{fresh_texts}
 use Rattle.mq_questions.specs.declared.ask.fresh.Fresh.{Fresh}
 use Rattle.mq_questions.specs.declared.ask.texts.FreshTexts.{FreshTexts}
-use Rattle.mq_walk.proofs.TextLemmas.{text_is}
 
 many_lack : (b n : ℕ) → (120 == b) ≡ false → contains_byte b (replicate n 120) ≡ false
 many_lack b zero h = refl

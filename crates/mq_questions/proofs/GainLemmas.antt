@@ -5,6 +5,7 @@ use Rattle.std.proofs.Common.{bytes_eq, codes, map, Bor, reverse, ◌++◌}
 use Rattle.std.proofs.lemmas.List.{map_push, reverse-append, map-id}
 use Rattle.std.specs.List.{list_all}
 use Rattle.std.proofs.lemmas.Bool.{and_parts}
+use Rattle.mq_topic.proofs.ByteLemmas.{text_is}
 use Rattle.mq_topic.specs.Levels.{levels, levels_left}
 use Rattle.mq_topic.specs.Matching.{level_matches, levels_match_by}
 use Rattle.mq_topic.specs.Texts.{is_name}
@@ -25,7 +26,6 @@ use Rattle.mq_walk.specs.declared.start.Start.{Start}
 use Rattle.mq_questions.proofs.SwapLemmas.{match_by}
 use Rattle.mq_questions.proofs.RootLemmas.{alike_self}
 use Rattle.mq_questions.proofs.NameLemmas.{name_is, name_suits, suits_dollar, some_name, all_by}
-use Rattle.mq_walk.proofs.TextLemmas.{text_is}
 use Rattle.mq_walk.proofs.RemainderLemmas.{gains_by}
 
 -- ---- an id that can't be a level

@@ -6,6 +6,7 @@ use Rattle.std.specs.List.{All}
 use Rattle.std.proofs.lemmas.List.{map_push, map-id}
 use Rattle.std.proofs.lemmas.List.Elements.{All-same, All-push, All-head, All-tail, All-append}
 use Rattle.std.proofs.lemmas.List.Elements.{All-take, All-weaker, All-cons, All-nil}
+use Rattle.mq_topic.proofs.ByteLemmas.{text_is, text_itself}
 use Rattle.mq_questions.specs.Fresh.{AreFresh, marks_of, is_tried_client, is_no_client, is_literal}
 use Rattle.mq_questions.specs.Literals.{has_mark}
 use Rattle.mq_walk.specs.Names.{is_among, is_choice, start_of, suits}
@@ -27,7 +28,6 @@ use Rattle.mq_questions.specs.declared.ask.clients.Gain.{Gain}
 use Rattle.mq_walk.specs.declared.path.Path.{Path}
 use Rattle.mq_walk.specs.declared.remainder.Remainder.{Remainder}
 use Rattle.mq_walk.specs.declared.start.Start.{Start}
-use Rattle.mq_walk.proofs.TextLemmas.{text_is, same_text}
 
 pub split_push : {X : Type 0} (P : X → Type 0) (xs : List X) (x : X) → All P (xs ++ x ∷ [])
     → All P xs × P x
@@ -151,7 +151,7 @@ no_client f user old new start items i gains a u o n end listed g e =
         any_client_nothing f.client.now c user start 200 old new p q
         (done f.client.now (listed f.client.now
         ∙ (λ j. if p j || q j then is_tried_client f user old new f.client.now
-        else bytes_eq f.client.now f.client.now) ∙ same_text f.client.now))
+        else bytes_eq f.client.now f.client.now) ∙ text_itself f.client.now))
 
     at : (p : Bool) → has_mark (codes "%c") old ≡ p → (q : Bool) → has_mark (codes "%c") new ≡ q
         → (c : List ℕ) → GainsNothing start 200 (marks_of c user) old new

@@ -6,6 +6,8 @@ use Rattle.std.specs.Prelude.{nat_le, nat_lt}
 use Rattle.std.specs.List.{list_all}
 use Rattle.std.proofs.lemmas.Bool.Decides.{nat_tests}
 use Rattle.std.proofs.lemmas.Bool.{and_parts, not-true, leb-true}
+use Rattle.std.proofs.Math.Bool.{or-true}
+use Rattle.mq_topic.proofs.ByteLemmas.{text_is, text_itself}
 use Rattle.mq_topic.specs.Levels.{levels}
 use Rattle.mq_topic.specs.Matching.{is_wildcard}
 use Rattle.mq_topic.specs.Texts.{contains_byte, is_level, parents, wildcards_fit, is_text}
@@ -26,7 +28,7 @@ use Rattle.mq_questions.specs.declared.ask.fresh.Fresh.{Fresh}
 use Rattle.mq_questions.proofs.NameLemmas.{levels_without}
 use Rattle.mq_questions.proofs.LiteralLemmas.{fits_both, literal_passes}
 use Rattle.mq_questions.proofs.ClientLemmas.{level_is_no_wildcard}
-use Rattle.mq_walk.proofs.TextLemmas.{text_is, same_text, or_cases}
+use Rattle.mq_walk.proofs.TextLemmas.{or_cases}
 
 -- ---- a filter's levels
 -- the last level
@@ -145,15 +147,11 @@ user_is_named [] l h = h
 user_is_named (row ∷ rows) l h =
     or_cases (is_name_of l row.who) (is_user_of l rows) h
     (λ e. rw e (or_true (is_literal_in l (levels row.filter)) (rows_name l rows)))
-    (λ e. rw (user_is_named rows l e) (last_true (row_names l row)))
+    (λ e. rw (user_is_named rows l e) (or-true (row_names l row)))
   where
     or_true : (a b : Bool) → ((a || true) || b) ≡ true
     or_true true b = refl
     or_true false b = refl
-
-    last_true : (a : Bool) → (a || true) ≡ true
-    last_true true = refl
-    last_true false = refl
 
 -- ---- they fit where none of their levels is fresh
 named_fits : (p q : List ℕ → Bool) → ((w : List ℕ) → p w ≡ true → is_wildcard w ≡ false)
@@ -163,15 +161,11 @@ named_fits p q plain [] e h = refl
 named_fits p q plain (w ∷ ws) e h =
     one (bytes_eq w (codes "+") || (bytes_eq w (codes "#") && (length ws == 0))) (p w) (q w)
     (fits p ws) (fits q ws)
-    (λ k. h w (ap (λ b. (b && not (is_wildcard w)) || is_literal_in w ws) (same_text w)
+    (λ k. h w (ap (λ b. (b && not (is_wildcard w)) || is_literal_in w ws) (text_itself w)
     ∙ ap (λ b. not b || is_literal_in w ws) (plain w k)))
     (λ k. named_fits p q plain ws k
-    (λ l m. h l (rw m (last_true (bytes_eq l w && not (is_wildcard w)))))) e
+    (λ l m. h l (rw m (or-true (bytes_eq l w && not (is_wildcard w)))))) e
   where
-    last_true : (a : Bool) → (a || true) ≡ true
-    last_true true = refl
-    last_true false = refl
-
     one : (wild a b c d : Bool) → (a ≡ true → b ≡ true) → (c ≡ true → d ≡ true)
         → ((wild || a) && c) ≡ true → ((wild || b) && d) ≡ true
     one true a b c d f g k = g k
@@ -208,12 +202,8 @@ rows_literal f (row ∷ rows) u h =
           (λ w k. level_is_no_wildcard w (short_is_name w k)) (levels row.filter) first
           (λ l e. h l (rw e refl))),
       rows_literal f rows (and_parts (usable row) (list_all usable rows) u).1
-          (λ l e. h l (rw e (last_true (row_names l row)))),
+          (λ l e. h l (rw e (or-true (row_names l row)))),
     ) refl
-  where
-    last_true : (a : Bool) → (a || true) ≡ true
-    last_true true = refl
-    last_true false = refl
 
 -- the level that a short text is, if it can be one, may be that of a user
 pub user_fits : (f : Fresh) (u : List ℕ) → length u ≤ 300 → is_no_fresh f u ≡ true

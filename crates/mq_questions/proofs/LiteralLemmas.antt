@@ -8,6 +8,7 @@ use Rattle.std.specs.Cmp.Lexicographic.{slice_cmp}
 use Rattle.std.proofs.lemmas.Map.Text.{is_eq-slice_cmp}
 use Rattle.std.proofs.lemmas.Bool.{and_parts, or_parts}
 use Rattle.std.proofs.Math.Bool.{or-true}
+use Rattle.mq_topic.proofs.ByteLemmas.{text_is, text_itself}
 use Rattle.mq_topic.specs.Levels.{levels_left}
 use Rattle.mq_topic.specs.Matching.{is_wildcard}
 use Rattle.mq_questions.specs.Literals.{is_named, is_literal_in, is_literal_of}
@@ -15,7 +16,7 @@ use Rattle.mq_walk.specs.Names.{is_among}
 use Rattle.mq_walk.specs.Remainders.{fits, remainder_fits, remainders_fit}
 use Rattle.mq_questions.specs.declared.ask.literals.Literals.{Literals}
 use Rattle.mq_walk.specs.declared.remainder.Remainder.{Remainder}
-use Rattle.mq_walk.proofs.TextLemmas.{text_is, same_text, or_cases}
+use Rattle.mq_walk.proofs.TextLemmas.{or_cases}
 
 -- a level is found just where it is one of the keys
 keys_found : (l : List ℕ) (ks : List (Bor (List ℕ)))
@@ -117,7 +118,7 @@ apart_levels p plain l (w ∷ ws) e h =
     one (bytes_eq w (codes "+") || (bytes_eq w (codes "#") && (length ws == 0))) (p w) (fits p ws)
     (bytes_eq l w) (is_wildcard w) (is_literal_in l ws) (bytes_eq w l)
     (fits (λ w. not (bytes_eq w l)) ws)
-    (plain w) (λ k. ap (λ t. bytes_eq t w) (sym (text_is w l k)) ∙ same_text w)
+    (plain w) (λ k. ap (λ t. bytes_eq t w) (sym (text_is w l k)) ∙ text_itself w)
     (apart_levels p plain l ws) e h
   where
     one : (wild q fit eq card rest same apart : Bool) → (q ≡ true → card ≡ false)

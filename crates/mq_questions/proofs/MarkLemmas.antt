@@ -4,6 +4,7 @@ use Rattle.std.proofs.Common.{length, codes, bytes_eq, refl, ap, sym, ◌∙◌,
 use Rattle.std.specs.List.{list_any}
 use Rattle.std.proofs.lemmas.Bool.{not-true, or_parts}
 use Rattle.std.proofs.lemmas.List.{map-id}
+use Rattle.mq_topic.proofs.ByteLemmas.{text_is}
 use Rattle.mq_topic.specs.Levels.{levels_left}
 use Rattle.mq_topic.specs.Matching.{levels_match_by}
 use Rattle.mq_walk.specs.Remainders.{MarkLevels, passes, same, hit, fits, GainsNothing}
@@ -11,7 +12,6 @@ use Rattle.mq_questions.specs.Literals.{has_mark}
 use Rattle.mq_walk.specs.declared.remainder.Remainder.{Remainder}
 use Rattle.mq_walk.specs.declared.start.Start.{Start}
 use Rattle.mq_questions.proofs.SwapLemmas.{match_by, all_pass}
-use Rattle.mq_walk.proofs.TextLemmas.{text_is}
 use Rattle.mq_walk.proofs.RemainderLemmas.{gains_by}
 
 abbrev is_free : Bool → List ℕ → List ℕ → Bool

@@ -4,6 +4,7 @@ use Rattle.std.proofs.Common.{length, get_or, drop, refl, ap, sym, ◌∙◌, su
 use Rattle.std.proofs.Common.{codes, bytes_eq, if◌then◌else◌, string_bytes}
 use Rattle.std.specs.List.{All}
 use Rattle.std.proofs.lemmas.List.Elements.{All-same, All-push, All-weaker, All-nil}
+use Rattle.mq_topic.proofs.ByteLemmas.{text_is, text_itself}
 use Rattle.mq_topic.specs.Levels.{levels}
 use Rattle.mq_acl.specs.Rows.{AclRow}
 use Rattle.mq_acl.specs.declared.access.Direction.{Direction}
@@ -27,7 +28,6 @@ use Rattle.mq_questions.proofs.GainListLemmas.{split_push, not_pushed, shown_eac
 use Rattle.mq_questions.proofs.MarkLemmas.{any_user_nothing}
 use Rattle.mq_questions.proofs.UserLemmas.{others_alike, no_user_gains, tried_user_is_choice}
 use Rattle.mq_questions.proofs.UserLemmas.{tried_user_is_no_client}
-use Rattle.mq_walk.proofs.TextLemmas.{text_is, same_text}
 
 -- what clients gain with this user name is among the others, but for what is like others
 pub record IsAdded (user : List ℕ) (before : List OtherGain) (done : List Gain)
@@ -157,7 +157,7 @@ no_other f old new named start items i others a p q o n end listed g e =
         any_user_nothing f.user.now u c start 200 old new r s
         (done f.user.now (listed f.user.now
         ∙ (λ j. if r j || s j then is_tried_user f old new f.user.now
-        else bytes_eq f.user.now f.user.now) ∙ same_text f.user.now) p c)
+        else bytes_eq f.user.now f.user.now) ∙ text_itself f.user.now) p c)
 
     at : (r : Bool) → has_mark (codes "%u") old ≡ r → (s : Bool) → has_mark (codes "%u") new ≡ s
         → (u : List ℕ) → NothingWith start old new named u

@@ -3,6 +3,7 @@ use Rattle.std.proofs.Common.{◌≡◌, ◌≤◌, ℕ, Bool, true, false, ◌|
 use Rattle.std.proofs.Common.{bytes_eq, refl, sym, ◌∙◌, subst, Option, Some, None}
 use Rattle.std.specs.Prelude.{nat_le}
 use Rattle.std.proofs.lemmas.Bool.{and_parts, leb-true, or_left, or_right}
+use Rattle.mq_topic.proofs.ByteLemmas.{text_is, text_itself}
 use Rattle.mq_topic.specs.Levels.{levels}
 use Rattle.mq_acl.specs.Access.{is_user}
 use Rattle.mq_acl.specs.Lines.{Read}
@@ -23,7 +24,7 @@ use Rattle.mq_questions.proofs.FreshLemmas.{named_no_fresh, seen_fresh}
 use Rattle.mq_questions.proofs.GainLemmas.{user_level}
 use Rattle.mq_questions.proofs.ListLemmas.{names_short, rows_literal, user_fits}
 use Rattle.mq_questions.proofs.LiteralLemmas.{fits_mono, literal_passes}
-use Rattle.mq_walk.proofs.TextLemmas.{text_is, same_text, or_cases}
+use Rattle.mq_walk.proofs.TextLemmas.{or_cases}
 
 user_size : (user : Option (List ℕ)) → mark_passes (λ u. nat_le (length u) 300) user ≡ true
     → (l : List ℕ) → is_user l user ≡ true → length l ≤ 300
@@ -108,7 +109,7 @@ module _ (rows : List AclRow) (client : List ℕ) (user : Option (List ℕ)) (fi
       → ((l : List ℕ) → is_user l m ≡ true → (length l ≤ 300) × (is_no_fresh f l ≡ true))
       → mark_passes (is_choice f.others) (level_of m) ≡ true
   user_choice None h = refl
-  user_choice (Some u) h = let facts = h u (same_text u) in
+  user_choice (Some u) h = let facts = h u (text_itself u) in
       level_choice (level_of (Some u)) (user_fits f u facts.0 facts.1)
 
   marks_made : marks_pass (is_choice f.others) (level_marks client user) ≡ true

@@ -7,6 +7,7 @@ use Rattle.std.specs.Option.{option_map}
 use Rattle.std.proofs.lemmas.Bool.{and_parts, not-true}
 use Rattle.std.specs.Cmp.{both_ways}
 use Rattle.std.proofs.lemmas.List.{length-map}
+use Rattle.mq_topic.proofs.ByteLemmas.{text_is, text_itself}
 use Rattle.mq_topic.specs.Levels.{levels_left}
 use Rattle.mq_topic.specs.Matching.{level_matches, levels_match_by}
 use Rattle.mq_topic.proofs.Walk.{levels_match_end}
@@ -18,12 +19,11 @@ use Rattle.mq_walk.specs.declared.remainder.Remainder.{Remainder}
 use Rattle.mq_walk.specs.declared.start.Start.{Start}
 use Rattle.mq_walk.specs.declared.start.Start.TheVariants.{Plain, Dollar, Slash, Inside}
 use Rattle.mq_questions.proofs.Swaps.{swap, swap_marks, is_apart}
-use Rattle.mq_walk.proofs.TextLemmas.{text_is, same_text}
 use Rattle.mq_walk.proofs.RemainderLemmas.{gains_by, covers_hash, covers_cons}
 
 -- ---- the swap
 pub swap_first : (a b : List ℕ) → swap a b a ≡ b
-swap_first a b = ap (λ t. cond t b (cond (bytes_eq a b) a a)) (same_text a)
+swap_first a b = ap (λ t. cond t b (cond (bytes_eq a b) a a)) (text_itself a)
 
 swap_other : (a b l : List ℕ) → bytes_eq l a ≡ false → bytes_eq l b ≡ false → swap a b l ≡ l
 swap_other a b l e f = rw (e, f) refl
@@ -33,7 +33,8 @@ swap_second a b = at (bytes_eq b a) refl
   where
     at : (t : Bool) → bytes_eq b a ≡ t → swap a b b ≡ a
     at true e = ap (λ t. cond t b (cond (bytes_eq b b) a b)) e ∙ text_is b a e
-    at false e = ap (λ t. cond t b (cond (bytes_eq b b) a b)) e ∙ ap (λ t. cond t a b) (same_text b)
+    at false e = ap (λ t. cond t b (cond (bytes_eq b b) a b)) e
+        ∙ ap (λ t. cond t a b) (text_itself b)
 
 swap_twice : (a b l : List ℕ) → swap a b (swap a b l) ≡ l
 swap_twice a b l = at (bytes_eq l a) refl (bytes_eq l b) refl
@@ -48,8 +49,8 @@ swap_twice a b l = at (bytes_eq l a) refl (bytes_eq l b) refl
 swap_eq : (a b l m : List ℕ) → bytes_eq (swap a b l) (swap a b m) ≡ bytes_eq l m
 swap_eq a b l m = both_ways (bytes_eq (swap a b l) (swap a b m)) (bytes_eq l m)
     (λ e. ap (λ k. bytes_eq k m) (sym (swap_twice a b l)
-    ∙ ap (swap a b) (text_is (swap a b l) (swap a b m) e) ∙ swap_twice a b m) ∙ same_text m)
-    (λ e. ap (λ k. bytes_eq (swap a b k) (swap a b m)) (text_is l m e) ∙ same_text (swap a b m))
+    ∙ ap (swap a b) (text_is (swap a b l) (swap a b m) e) ∙ swap_twice a b m) ∙ text_itself m)
+    (λ e. ap (λ k. bytes_eq (swap a b k) (swap a b m)) (text_is l m e) ∙ text_itself (swap a b m))
 
 pub swap_apart : (a b l : List ℕ) → is_apart a b l ≡ true → swap a b l ≡ l
 swap_apart a b l h =

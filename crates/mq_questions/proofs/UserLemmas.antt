@@ -2,6 +2,7 @@
 use Rattle.std.proofs.Common.{◌≡◌, ℕ, ◌==◌, Bool, true, false, not, ◌||◌, List, [], ◌∷◌, length}
 use Rattle.std.proofs.Common.{bytes_eq, refl, ap, sym, ◌∙◌, subst, Some}
 use Rattle.std.proofs.lemmas.Bool.{and_parts, or_parts}
+use Rattle.mq_topic.proofs.ByteLemmas.{text_is, text_itself}
 use Rattle.mq_acl.specs.Rows.{Who, Anonymous, Named, Everyone, AclRow}
 use Rattle.mq_acl.specs.Access.{begins_with_dollar, applies}
 use Rattle.mq_walk.specs.Names.{is_choice}
@@ -20,7 +21,6 @@ use Rattle.mq_questions.proofs.LiteralLemmas.{all_fit_both, literals_pass, apart
 use Rattle.mq_questions.proofs.ClientLemmas.{literal_is_choice, literal_is_no_client}
 use Rattle.mq_questions.proofs.ClientLemmas.{literal_is_no_user, literal_is_no_wildcard, not_empty}
 use Rattle.mq_questions.proofs.ClientLemmas.{apart_by}
-use Rattle.mq_walk.proofs.TextLemmas.{text_is, same_text}
 
 -- ---- rows that name neither of two users apply to both alike
 one_alike : (u v : List ℕ) (who : Who) → is_name_of u who ≡ false → is_name_of v who ≡ false
@@ -109,7 +109,7 @@ no_user_gains f P old new start a p q o n h u pu c =
   where
     first_tried : is_tried_user f old new f.user.now ≡ true
     first_tried = ap (λ b. b || bytes_eq f.user.now f.dollar_user.now || bytes_eq f.user.now []
-        || is_literal_of f.user.now old || is_literal_of f.user.now new) (same_text f.user.now)
+        || is_literal_of f.user.now old || is_literal_of f.user.now new) (text_itself f.user.now)
 
     second : (p q r s t : Bool) → q ≡ true → (p || q || r || s || t) ≡ true
     second true q r s t e = refl
@@ -148,7 +148,7 @@ no_user_gains f P old new start a p q o n h u pu c =
         (h f.dollar_user.now (second (bytes_eq f.dollar_user.now f.user.now)
         (bytes_eq f.dollar_user.now f.dollar_user.now) (bytes_eq f.dollar_user.now [])
         (is_literal_of f.dollar_user.now old) (is_literal_of f.dollar_user.now new)
-        (same_text f.dollar_user.now)) q)
+        (text_itself f.dollar_user.now)) q)
 
 -- ---- the user names that are tried, as they are listed
 pub tried_as_listed : (f : Fresh) (old new : List Remainder) (u : List ℕ)

@@ -48,6 +48,3 @@ pub disconnected : (client : Text) (m n : Users) → Sets client m n None
 disconnected client m n sets id =
     ap (option_map named) (btree_map_updates_text client m n None sets id)
     ∙ gone (bytes_eq client id) (get_by_text m id)
-
-pub both : (a b : Bool) → a ≡ true → b ≡ true → (a && b) ≡ true
-both a b p q = rw (p, q) refl

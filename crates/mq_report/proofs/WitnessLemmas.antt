@@ -5,6 +5,7 @@ use Rattle.std.proofs.Common.{string_bytes, refl, ap, sym, ◌∙◌, subst, Bor
 use Rattle.std.specs.List.{list_any}
 use Rattle.std.proofs.lemmas.List.Elements.{All-nil, All-get_or}
 use Rattle.std.proofs.lemmas.Bool.{and_parts}
+use Rattle.mq_topic.proofs.ByteLemmas.{text_is}
 use Rattle.mq_topic.specs.Texts.{is_name}
 use Rattle.mq_acl.specs.Rows.{AclRow}
 use Rattle.mq_acl.specs.Views.{row_views}
@@ -23,7 +24,6 @@ use Rattle.mq_report.specs.declared.class.Class.TheVariants as classes
 use Rattle.mq_report.specs.declared.difference.Difference.{Difference}
 use Rattle.mq_report.specs.declared.witnesses.Clients.{Clients}
 use Rattle.mq_report.specs.declared.witnesses.Clients.TheVariants as clients
-use Rattle.mq_walk.proofs.TextLemmas.{text_is}
 
 -- ---- a change of the comparison is one of the lists
 pub change_is : (old new : List Row) (c : Compared) (way : Way) (client : List ℕ) (user : Option

@@ -7,7 +7,7 @@ use Rattle.std.specs.Ordering.{is_eq, is_gt, on, then_cmp, nat_cmp, match_orderi
 use Rattle.std.specs.Cmp.{IsTotalOrder, tied_then}
 use Rattle.std.specs.Cmp.Lexicographic.{on_texts}
 use Rattle.std.proofs.lemmas.Cmp.{on_total, then_total, nat_cmp_total, ranked}
-use Rattle.std.proofs.lemmas.Bool.{eqb-true, eq-eqb}
+use Rattle.std.proofs.lemmas.Bool.{eqb-true, eq-eqb, and_parts}
 use Rattle.std.proofs.lemmas.Bool.Decides.{nat_tests}
 use Rattle.std.proofs.lemmas.Map.Text.{is_eq-slice_cmp}
 use Rattle.std.proofs.lemmas.Map.Views.{any-filter_same}
@@ -18,12 +18,13 @@ use Rattle.std.specs.Set.{remove_key}
 use Rattle.std.specs.BTreeMap.Range.{IsLeBy, IsLtBy}
 use Rattle.std.specs.List.{filter, slice_get, AllByRecursion}
 use Rattle.std.specs.List.Sorted.{IsStrictlySortedBy}
+use Rattle.mq_topic.proofs.BoolLemmas.{or_swapped}
 use Rattle.mq_world.specs.Lists.{Text, same_text, text_cmp}
 use Rattle.mq_retained.specs.Deadlines.{Pair, is_pair, has_pair, Drops, TakesDue, NoneDue}
 use Rattle.mq_retained.specs.Due.{due_of}
 use Rattle.mq_world.proofs.ListLemmas.{list_any-map, remove_key-filter}
 use Rattle.mq_world.proofs.OrderLemmas.{equal_from}
-use Rattle.mq_world.proofs.BoolLemmas.{parts_true, or_again, or_swapped}
+use Rattle.mq_world.proofs.BoolLemmas.{or_again}
 use Rattle.mq_retained.specs.declared.retained.deadlines.Due.{Due}
 
 -- ## The order of the pairs
@@ -46,7 +47,7 @@ tied_is a b =
 
 pub pair-is : (d : ℕ) (topic : Text) (p : Pair) → is_pair d topic p ≡ true → p ≡ (d, topic)
 pair-is d topic (n, t) h =
-    let parts : (eqb n d ≡ true) × (same_text t topic ≡ true) = parts_true _ _ h in
+    let parts : (eqb n d ≡ true) × (same_text t topic ≡ true) = and_parts _ _ h in
     let number : n ≡ d = eqb-true n d parts.0 in
     let text : t ≡ topic = (bytes_eq-Decides t topic).0 parts.1 in
     ap (λ m. (m, t)) number ∙ ap (λ s. (d, s)) text

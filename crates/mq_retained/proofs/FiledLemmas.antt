@@ -5,7 +5,7 @@ use Rattle.std.specs.Ordering.{is_eq, nat_cmp}
 use Rattle.std.specs.Cmp.{IsTotalOrder, tied_then}
 use Rattle.std.specs.Cmp.Lexicographic.{on_texts}
 use Rattle.std.proofs.lemmas.Cmp.{on_total, then_total, nat_cmp_total}
-use Rattle.std.proofs.lemmas.Bool.{eqb-true}
+use Rattle.std.proofs.lemmas.Bool.{eqb-true, and_parts}
 use Rattle.std.proofs.lemmas.Bool.Decides.{nat_tests}
 use Rattle.std.proofs.lemmas.Map.Text.{is_eq-slice_cmp}
 use Rattle.std.specs.Map.{keys_of}
@@ -20,7 +20,6 @@ use Rattle.mq_world.proofs.ListLemmas.{list_any-same}
 use Rattle.mq_world.proofs.OrderLemmas.{text_flip, same_text-is}
 use Rattle.mq_world.proofs.SortedLemmas.{ties, any-in_order, same_in_order}
 use Rattle.mq_retained.proofs.RetainedLemmas.{keys-retained}
-use Rattle.mq_world.proofs.BoolLemmas.{parts_true}
 use Rattle.mq_retained.specs.declared.retained.stored.Stored.{Stored}
 
 -- ## Filters
@@ -42,7 +41,7 @@ pair_tie z p =
 pair_tied : (z p : Pair) → is_eq (pair_cmp z p) ≡ true → z ≡ p
 pair_tied (n, t) (m, u) h =
     let parts : (eqb m n ≡ true) × (same_text u t ≡ true) =
-    parts_true _ _ (sym (pair_tie (n, t) (m, u)) ∙ h) in
+    and_parts _ _ (sym (pair_tie (n, t) (m, u)) ∙ h) in
     ap (λ k. (k, t)) (sym (eqb-true m n parts.0))
     ∙ ap (λ v. (m, v)) (sym (same_text-is u t parts.1))
 

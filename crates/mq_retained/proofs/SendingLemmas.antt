@@ -1,7 +1,7 @@
 -- The copies of retained messages, as a loop over the messages that a filter matches makes them.
 use Rattle.std.proofs.Common.{◌≡◌, ℕ, zero, suc, ◌+◌, ◌<◌, ◌^◌, Bool, true, false, cond, ◌&&◌, not}
 use Rattle.std.proofs.Common.{Option, List, [], ◌∷◌, ◌++◌, map, length, take, get_or, refl, ◌∙◌, ap}
-use Rattle.std.proofs.Common.{arith}
+use Rattle.std.proofs.Common.{arith, sym}
 use Rattle.std.specs.Option.{IfSome}
 use Rattle.std.specs.List.{filter}
 use Rattle.std.proofs.lemmas.List.{map_more, append-nil, map-append}
@@ -13,7 +13,7 @@ use Rattle.mq_retained.specs.Stored.{may_get, AreNear}
 use Rattle.mq_world.specs.Retained.{is_sent, retained_copy, retained_copies}
 use Rattle.mq_world.proofs.SameLemmas.{filter-filter}
 use Rattle.mq_world.proofs.ListLemmas.{filter-same}
-use Rattle.mq_world.proofs.BoolLemmas.{and_assoc}
+use Rattle.std.proofs.Math.Bool.{and_assoc}
 use Rattle.mq_acl.specs.Access.{allowed}
 use Rattle.mq_acl.specs.declared.access.Direction.TheVariants.{Reading}
 
@@ -70,5 +70,5 @@ sent-is moment access user s retained found h =
     retained)
     ∙ ap (map (retained_copy moment s))
     (filter-same _ (is_sent access user s)
-    (λ kept. and_assoc (filter_matches s.filter kept.topic) (able kept) (others kept))
+    (λ kept. sym (and_assoc (filter_matches s.filter kept.topic) (able kept) (others kept)))
     retained)

@@ -29,6 +29,7 @@ use Rattle.mq_router.proofs.SummaryLemmas.{summary_of-append}
 use Rattle.std.proofs.lemmas.List.{map-append, append-nil}
 use Rattle.std.proofs.lemmas.List.Elements.{filter-append}
 use Rattle.std.proofs.lemmas.Simd.{map-map}
+use Rattle.std.proofs.Math.Bool.{and-true, and-false}
 use Rattle.mq_world.specs.Lists.{Text, same_text, text_cmp, in_order}
 use Rattle.mq_world.specs.World.{SubscriptionOptions, Session, Subscription, Message, Copy}
 use Rattle.mq_subscriptions.specs.Filters.{is_text, is_empty}
@@ -40,7 +41,7 @@ use Rattle.mq_router.specs.delivery.Copies.{begins_by, by_client}
 use Rattle.mq_subscriptions.specs.Matches.{is_unshared_match, unshared_matches, match_views}
 use Rattle.mq_subscriptions.specs.Matches.{clients_of}
 use Rattle.mq_subscriptions.specs.Matches.{options_among, AreAscending, AreByClient}
-use Rattle.mq_world.proofs.BoolLemmas.{pick, and_false, and_true}
+use Rattle.mq_world.proofs.BoolLemmas.{pick}
 use Rattle.mq_world.proofs.OrderLemmas.{text_flip, same_text-is, same_text-itself}
 use Rattle.mq_world.proofs.SortedLemmas.{sorted-in_order, any-in_order}
 use Rattle.mq_subscriptions.proofs.TextMaps.{is_text-is, key_text}
@@ -206,7 +207,7 @@ options-own m id (s ∷ rows) =
     mine t one =
         ap (λ b. is_none s.share && b && not (s.options.no_local && same_text id m.publisher)) t
         ∙ ap (λ b. b && not (s.options.no_local && same_text id m.publisher))
-        (and_true (is_none s.share))
+        (and-true (is_none s.share))
         ∙ ap (λ (k : Text). is_none s.share && not (s.options.no_local && same_text k m.publisher))
         (sym one)
 
@@ -214,7 +215,7 @@ options-own m id (s ∷ rows) =
     other f =
         ap (λ b. is_none s.share && b && not (s.options.no_local && same_text id m.publisher)) f
         ∙ ap (λ b. b && not (s.options.no_local && same_text id m.publisher))
-        (and_false (is_none s.share))
+        (and-false (is_none s.share))
 
 -- ## One more
 

@@ -2,13 +2,14 @@
 use Rattle.std.proofs.Common.{◌≡◌, ℕ, ◌<◌, Bool, true, false, true≢false, ◌&&◌, ◌||◌, cond, not}
 use Rattle.std.proofs.Common.{List, [], ◌∷◌, None, length, refl, sym, ◌∙◌, ap, arith}
 use Rattle.std.specs.List.{filter, list_any}
+use Rattle.std.proofs.Math.Bool.{or-true}
 use Rattle.mq_world.specs.Lists.{Text, same_text}
 use Rattle.mq_world.specs.World.{Session, Subscription, has_id}
 use Rattle.mq_world.specs.Sessions.{has_ended, is_among, is_connected}
 use Rattle.mq_world.specs.Refusals.{client_conditions, first_refusal, is_client_id}
 use Rattle.mq_world.specs.declared.refusal.Refusal.TheVariants.{ClientId, NotConnected}
 use Rattle.mq_router.specs.router.Effects.{lasts, without}
-use Rattle.mq_world.proofs.BoolLemmas.{or_true, pick}
+use Rattle.mq_world.proofs.BoolLemmas.{pick}
 use Rattle.mq_world.proofs.ListLemmas.{filter-kept, filter-none, filter-same, length-filter-most}
 use Rattle.mq_world.proofs.ListLemmas.{none-any}
 use Rattle.mq_world.proofs.SameLemmas.{filter-filter, filter-swap}
@@ -92,7 +93,7 @@ among-all moment id (s ∷ ss) h =
     let ended : List Session = filter (has_ended moment) ss in
     pick (has_id id s) (λ t. ap (λ b. b || is_among ss id) t)
     (λ f. ap (λ b. has_id id s || b) (among-all moment id ss (rest (has_ended moment s) f h))
-    ∙ or_true (has_id id s))
+    ∙ or-true (has_id id s))
   where
     rest : (b : Bool) → has_id id s ≡ false
         → is_among (cond b (s ∷ filter (has_ended moment) ss) (filter (has_ended moment) ss)) id

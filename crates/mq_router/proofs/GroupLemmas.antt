@@ -8,6 +8,7 @@ use Rattle.std.specs.Option.{option_map, option_map_or}
 use Rattle.std.specs.List.{filter, filter_map, cons_option, find, list_any}
 use Rattle.std.specs.List.Sorted.{IsStrictlySortedBy}
 use Rattle.std.proofs.lemmas.Map.Text.{is_eq-slice_cmp}
+use Rattle.std.proofs.lemmas.Bool.{and_parts}
 use Rattle.mq_topic.specs.Levels.{levels, level_order}
 use Rattle.mq_acl.specs.Rows.{AclRow}
 use Rattle.mq_world.specs.Sessions.{is_reader}
@@ -21,7 +22,7 @@ use Rattle.mq_world.specs.Groups.{groups_of}
 use Rattle.mq_world.proofs.ListLemmas.{filter_map-map}
 use Rattle.mq_world.proofs.OrderLemmas.{group_total, level_equal, text_flip}
 use Rattle.mq_world.proofs.SortedLemmas.{sorted-in_order, any-in_order, ties, same_filtered}
-use Rattle.mq_world.proofs.BoolLemmas.{pick, left_true, right_true}
+use Rattle.mq_world.proofs.BoolLemmas.{pick}
 use Rattle.mq_world.proofs.OrderLemmas.{same_text-is}
 
 -- ## Groups in order
@@ -39,9 +40,9 @@ pub group_tied : (g k : Group) → is_eq (group_cmp g k) ≡ true → g ≡ k
 group_tied g k h =
     let both : (same_text g.share k.share && same_text g.filter k.filter) ≡ true =
     sym (group_tie g k) ∙ h in
-    let share : g.share ≡ k.share = same_text-is g.share k.share (left_true _ _ both) in
+    let share : g.share ≡ k.share = same_text-is g.share k.share (and_parts _ _ both).0 in
     let f : g.filter ≡ k.filter = same_text-is g.filter k.filter
-    (right_true (same_text g.share k.share) _ both) in
+    (and_parts (same_text g.share k.share) _ both).1 in
     λ i. record { share = share i; filter = f i }
 
 -- ## The groups that have members
@@ -121,7 +122,7 @@ in_matching topic g m (x ∷ xs) =
     (λ t. (let here : matching topic x ≡ true =
     ap (λ (f : Text). filter_matches f topic)
     (same_text-is x.filter g.filter
-    (right_true (same_share x.share (Some g.share)) (same_text x.filter g.filter) t))
+    (and_parts (same_share x.share (Some g.share)) (same_text x.filter g.filter) t).1)
     ∙ m in
     ap (λ b. filter (is_in_group g) (cond b (x ∷ rest) rest)) here
     ∙ ap (λ l. cond (is_in_group g x) (x ∷ l) l) (in_matching topic g m xs)))

@@ -8,6 +8,8 @@ use Rattle.std.specs.List.{filter, filter_map, cons_option, list_any, list_all, 
 use Rattle.std.specs.List.{IsDistinct}
 use Rattle.std.specs.List.Sorted.{IsStrictlySortedBy}
 use Rattle.std.proofs.lemmas.List.Kept.{IsStrictlySortedBy-filter}
+use Rattle.std.proofs.lemmas.Bool.{and_parts}
+use Rattle.std.proofs.Math.Bool.{or-false}
 use Rattle.mq_world.specs.Lists.{Text, SameElements, same_text}
 use Rattle.mq_world.specs.World.{World, IsWorld, Group, Subscription, Row, Message, row_cmp}
 use Rattle.mq_world.specs.World.{subscription_cmp, group_cmp, same_share, is_in_group, rows_in}
@@ -20,7 +22,7 @@ use Rattle.mq_world.specs.Turns.{by_turn, in_turn, SameInTurn}
 use Rattle.mq_world.proofs.ListLemmas.{map-filter, filter-same}
 use Rattle.mq_world.proofs.SameLemmas.{SameElements-map}
 use Rattle.mq_world.proofs.SortedLemmas.{ties}
-use Rattle.mq_world.proofs.BoolLemmas.{pick, left_true, right_true, or_false}
+use Rattle.mq_world.proofs.BoolLemmas.{pick}
 use Rattle.mq_world.proofs.OrderLemmas.{group_total, all_filtered, all_passed}
 use Rattle.mq_world.proofs.OrderLemmas.{same_share-is, same_text-is, same_text-itself}
 use Rattle.mq_subscriptions.proofs.InTurn.{in_group_same}
@@ -44,14 +46,14 @@ same_group : (g k : Group) (x : Subscription) → is_in_group g x ≡ true → i
 same_group g k x a b =
     let gs : x.share ≡ Some g.share =
     same_share-is x.share (Some g.share)
-    (left_true (same_share x.share (Some g.share)) (same_text x.filter g.filter) a) in
+    (and_parts (same_share x.share (Some g.share)) (same_text x.filter g.filter) a).0 in
     let ks : x.share ≡ Some k.share =
     same_share-is x.share (Some k.share)
-    (left_true (same_share x.share (Some k.share)) (same_text x.filter k.filter) b) in
+    (and_parts (same_share x.share (Some k.share)) (same_text x.filter k.filter) b).0 in
     let gf : x.filter ≡ g.filter = same_text-is x.filter g.filter
-    (right_true (same_share x.share (Some g.share)) (same_text x.filter g.filter) a) in
+    (and_parts (same_share x.share (Some g.share)) (same_text x.filter g.filter) a).1 in
     let kf : x.filter ≡ k.filter = same_text-is x.filter k.filter
-    (right_true (same_share x.share (Some k.share)) (same_text x.filter k.filter) b) in
+    (and_parts (same_share x.share (Some k.share)) (same_text x.filter k.filter) b).1 in
     let share : g.share ≡ k.share = some_same (sym gs ∙ ks) in
     let f : g.filter ≡ k.filter = sym gf ∙ kf in
     group_tie g k ∙ ap (λ (t : Text). same_text g.share t && same_text g.filter k.filter)
@@ -239,7 +241,7 @@ module _ (w : World) (h : IsWorld w) (m : Message) where
     one_restamped r [] = refl
     one_restamped r (o ∷ rows) =
         ap (λ b. (if b then stamped w.accepted o else o) ∷ map (restamp w.accepted (r ∷ [])) rows)
-        (or_false (alike r o)) ∙ ap (λ l. (if alike r o then stamped w.accepted o else o) ∷ l)
+        (or-false (alike r o)) ∙ ap (λ l. (if alike r o then stamped w.accepted o else o) ∷ l)
         (one_restamped r rows)
 
     group_by : (e : Option Row) → E ≡ e

@@ -12,6 +12,7 @@ use Rattle.std.specs.List.Sorted.{IsStrictlySortedBy}
 use Rattle.std.proofs.lemmas.List.{map-append, append-nil}
 use Rattle.std.proofs.lemmas.List.Kept.{IsStrictlySortedBy-filter}
 use Rattle.std.proofs.lemmas.List.Elements.{filter-append, filter_map-append}
+use Rattle.std.proofs.Math.Bool.{or-true}
 use Rattle.mq_topic.specs.Levels.{levels, level_order}
 use Rattle.mq_acl.specs.Rows.{AclRow}
 use Rattle.mq_world.specs.Sessions.{is_reader}
@@ -31,7 +32,7 @@ use Rattle.mq_world.proofs.ListLemmas.{list_any-map, list_any-same, any-append}
 use Rattle.mq_world.proofs.OrderLemmas.{group_total, level_equal, all_append, text_flip}
 use Rattle.mq_world.proofs.SortedLemmas.{sorted-in_order, any-in_order, ties, same_gathered}
 use Rattle.mq_world.proofs.SortedLemmas.{any-filter, sorted-append}
-use Rattle.mq_world.proofs.BoolLemmas.{pick, or_true}
+use Rattle.mq_world.proofs.BoolLemmas.{pick}
 use Rattle.mq_world.proofs.OrderLemmas.{same_text-is, same_text-itself}
 use Rattle.mq_subscriptions.proofs.TextMaps.{is_text-is, key_text}
 use Rattle.mq_subscriptions.proofs.AscendingLemmas.{by_each_key, none_there}
@@ -142,7 +143,7 @@ in_pairs g ats (share ∷ shares) h k =
     (here (sym (is_text-is g.share share) ∙ t)))
     (λ f. ap (λ b. list_any (ties group_cmp group_total g) (pairs ats share) || b)
     (in_pairs g ats shares h (ap (λ b. b || list_any (is_text g.share) shares) (sym f) ∙ k))
-    ∙ or_true (list_any (ties group_cmp group_total g) (pairs ats share)))
+    ∙ or-true (list_any (ties group_cmp group_total g) (pairs ats share)))
   where
     here : same_text g.share share ≡ true
         → list_any (ties group_cmp group_total g) (pairs ats share) ≡ true
@@ -186,7 +187,7 @@ member_found g (a ∷ ats) h t =
     ∙ ap (λ b. b || list_any (is_in_group g) (rows_found ats))
     (any-from_filter (is_in_group g) a.rows []
     (not_here g a.filter (text_flip a.filter g.filter ∙ f) a.rows h.0))) ∙ t))
-    ∙ or_true (same_text g.filter a.filter))
+    ∙ or-true (same_text g.filter a.filter))
 
 found_matches : (topic : Text) (g : Group) (ats : List At)
     → AllByRecursion (λ (a : At). filter_matches a.filter topic ≡ true) ats

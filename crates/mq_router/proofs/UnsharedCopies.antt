@@ -8,6 +8,8 @@ use Rattle.std.specs.Option.{option_map, option_map_or, option_and_then}
 use Rattle.std.specs.List.{filter, filter_map, cons_option, find, list_any, AllByRecursion}
 use Rattle.std.specs.List.Sorted.{IsStrictlySortedBy}
 use Rattle.std.specs.Map.{lookup, keys_of}
+use Rattle.std.proofs.lemmas.Bool.{and_parts}
+use Rattle.std.proofs.Math.Bool.{and-true, or-true}
 use Rattle.mq_acl.specs.Rows.{AclRow}
 use Rattle.mq_acl.specs.Access.{allowed}
 use Rattle.mq_acl.specs.declared.access.Direction.TheVariants.{Reading}
@@ -26,7 +28,7 @@ use Rattle.mq_world.proofs.ListLemmas.{filter-same, filter_map-same, filter_map-
 use Rattle.mq_world.proofs.ListLemmas.{list_any-map, list_any-same, is_some-find}
 use Rattle.mq_world.proofs.SameLemmas.{filter-filter}
 use Rattle.mq_world.proofs.SortedLemmas.{same_gathered}
-use Rattle.mq_world.proofs.BoolLemmas.{pick, left_true, right_true, and_true, or_true}
+use Rattle.mq_world.proofs.BoolLemmas.{pick}
 use Rattle.mq_world.proofs.OrderLemmas.{same_text-itself}
 use Rattle.mq_subscriptions.proofs.TextMaps.{is_text-is, text-apart, key_text}
 use Rattle.mq_router.proofs.SummaryLemmas.{summarized, unsummarized}
@@ -85,7 +87,7 @@ each_shown {V} {W} show (l ∷ L) T s h =
           ∙ h l.0 (ap (λ b. b || list_any (is_text l.0) (keys_of L)) own),
       each_shown show L T s.1 (λ key t.
           sym (ap (λ b. show (cond b (Some l.1) (lookup (is_text key) L))) (away key t))
-          ∙ h key (ap (λ b. is_text key l.0 || b) t ∙ or_true (is_text key l.0))),
+          ∙ h key (ap (λ b. is_text key l.0 || b) t ∙ or-true (is_text key l.0))),
     )
   where
     none_of : (ks : List Text) → AllByRecursion (λ y. text_cmp l.0 y ≡ Less) ks
@@ -163,7 +165,7 @@ module _ {X : Type 0} (test : Session → Bool) (make : Text → Summary → Opt
       ∙ ap (cons_option (H s.id)) (by_ids ss h.1)
 
   and_third : (a b c : Bool) → b ≡ true → (a && c) ≡ (a && b && c)
-  and_third a b c e = ap (λ v. v && c) (sym (and_true a)) ∙ ap (λ v. a && v && c) (sym e)
+  and_third a b c e = ap (λ v. v && c) (sym (and-true a)) ∙ ap (λ v. a && v && c) (sym e)
 
   by_keys : (L : List (Text × Summary))
       → AllByRecursion (λ (l : Text × Summary). Some l.1 ≡ summary_for (O l.0)) L
@@ -199,9 +201,9 @@ module _ {X : Type 0} (test : Session → Bool) (make : Text → Summary → Opt
       let b : (passes id && not (length (O id) == 0) && may id (user_of sessions id)) ≡ true =
       given _ (make id (summary_of (O id))) e in
       let both : (passes id && not (length (O id) == 0)) ≡ true =
-      left_true (passes id && not (length (O id) == 0)) (may id (user_of sessions id)) b in
+      (and_parts (passes id && not (length (O id) == 0)) (may id (user_of sessions id)) b).0 in
       let some : not (length (O id) == 0) ≡ true =
-      right_true (passes id) (not (length (O id) == 0)) both in
+      (and_parts (passes id) (not (length (O id) == 0)) both).1 in
       pick (list_any (is_text id) (keys_of L)) (λ k. k)
       (λ f. absurd (true≢false (sym some ∙ unsummarized (O id) (sym (found id) ∙ unfound id L f))))
       ∙ sym (list_any-map (λ (x : Session). x.id) (is_text id) sessions
@@ -209,7 +211,7 @@ module _ {X : Type 0} (test : Session → Bool) (make : Text → Summary → Opt
       (λ x. is_text-is id x.id ∙ flip id x.id) sessions
       ∙ sym (is_some-find (has_id id) sessions)
       ∙ passes-there (session_of sessions id)
-      (left_true (passes id) (not (length (O id) == 0)) both)))
+      (and_parts (passes id) (not (length (O id) == 0)) both).0))
       ∙ sym (by_ids sessions (found_itself sessions s))
     where
       flip : (a b : Text) → same_text a b ≡ same_text b a

@@ -9,6 +9,8 @@ use Rattle.std.specs.List.Sorted.{IsStrictlySortedBy}
 use Rattle.std.specs.Map.{lookup, keys_of}
 use borrow.Author.Tests.{eqb-true}
 use Rattle.std.proofs.lemmas.Bool.Decides.{nat_tests}
+use Rattle.std.proofs.lemmas.Bool.{and_parts, and_right}
+use Rattle.std.proofs.Math.Bool.{or-true, or-false, and-true}
 use Rattle.mq_ends.specs.Dues.{Due, Dues, first_of, same_due, is_in, AreWith, AreRest}
 use Rattle.mq_world.specs.Keys.{key_cmp}
 use Rattle.mq_world.specs.World.{Session, Connected, Away, has_id}
@@ -16,7 +18,7 @@ use Rattle.mq_world.specs.Lists.{Text, same_text}
 use Rattle.mq_world.specs.Clock.{is_over}
 use Rattle.mq_world.specs.Sessions.{connected, has_ended, is_present}
 use Rattle.mq_world.specs.Waiting.{has_place, with_waiting}
-use Rattle.mq_world.proofs.BoolLemmas.{or_false, or_true, left_true, and_false_right, pick}
+use Rattle.mq_world.proofs.BoolLemmas.{pick}
 use Rattle.mq_world.proofs.ListLemmas.{none-any, length-filter-most, none_again}
 use Rattle.mq_world.proofs.ListLemmas.{list_any-map, list_any-same}
 use Rattle.mq_world.proofs.SameLemmas.{filter-swap}
@@ -32,10 +34,6 @@ use Rattle.mq_sessions.proofs.ReachedLemmas.{all_mapped}
 
 -- ## Tests
 
-pub or_parts : (a b : Bool) → (a || b) ≡ false → (a ≡ false) × (b ≡ false)
-or_parts true b h = absurd (true≢false h)
-or_parts false b h = (refl, h)
-
 pub or_right : (a b : Bool) → a ≡ false → (a || b) ≡ true → b ≡ true
 or_right a b fails h = sym (ap (λ c. c || b) fails) ∙ h
 
@@ -50,7 +48,7 @@ pub ends-other : (due : Due) (s : Session) → has_id due.1 s ≡ false → ends
 ends-other due s h =
     elim (end_of s) as (λ o. option_map_or (λ end. same_due (end, s.id) due) o false ≡ false) [
       | None ↦ refl
-      | Some end ↦ and_false_right (end == due.0) (has_id due.1 s) h
+      | Some end ↦ and_right (end == due.0) (has_id due.1 s) h
     ]
 
 ends-own : (due : Due) (s : Session) → has_id due.1 s ≡ true
@@ -59,12 +57,8 @@ ends-own due s h =
     elim (end_of s) as (λ o. option_map_or (λ end. same_due (end, s.id) due) o false
     ≡ option_map_or (λ end. end == due.0) o false) [
       | None ↦ refl
-      | Some end ↦ ap (λ b. (end == due.0) && b) h ∙ always (end == due.0)
+      | Some end ↦ ap (λ b. (end == due.0) && b) h ∙ and-true (end == due.0)
     ]
-  where
-    always : (b : Bool) → (b && true) ≡ b
-    always true = refl
-    always false = refl
 
 pub ends-id : (due : Due) (s : Session) → ends_so due s ≡ true → has_id due.1 s ≡ true
 ends-id due s h = pick (has_id due.1 s) (λ t. t)
@@ -81,7 +75,7 @@ ends-moment moment due s h =
           ≡ true → is_over moment o ≡ true) [
             | None ↦ λ k. absurd (true≢false (sym k))
             | Some e ↦ λ k. ap (λ n. nat_le n moment)
-                (eqb-true e due.0 (left_true (e == due.0) _ k)) ∙ h
+                (eqb-true e due.0 (and_parts (e == due.0) _ k).0) ∙ h
           ]
     ]
 
@@ -119,7 +113,7 @@ any-found end bs (e ∷ es) s =
           (ends-own (end, bs) (session_in e) (sym (finds-is bs e.0) ∙ h))
           ∙ ap (λ b. ends_then end e.1 || b)
           (none-found end bs es (none_again key_cmp (finds bs) (apart bs) e.0 h es s.0))
-          ∙ or_false (ends_then end e.1))
+          ∙ or-false (ends_then end e.1))
       | false ↦ λ h. (
           ap (λ b. b || any)
           (ends-other (end, bs) (session_in e) (sym (finds-is bs e.0) ∙ h))
@@ -145,7 +139,7 @@ listed-more dues more h ss listed =
 pub with-old : (due : Due) (dues more : List Due) → AreWith due dues more
     → (d : Due) → is_in d dues ≡ true → is_in d more ≡ true
 with-old due dues more h d k =
-    h.tests (same_due d) ∙ ap (λ b. same_due d due || b) k ∙ or_true (same_due d due)
+    h.tests (same_due d) ∙ ap (λ b. same_due d due || b) k ∙ or-true (same_due d due)
 
 pub with-new : (due : Due) (dues more : List Due) → AreWith due dues more
     → is_in due more ≡ true

@@ -8,18 +8,19 @@ use Rattle.std.specs.List.Sorted.{IsStrictlySortedBy}
 use Rattle.std.specs.declared.cmp.Ordering.TheVariants.{Less}
 use Rattle.std.specs.Ordering.{is_eq}
 use Rattle.std.proofs.lemmas.Map.Text.{is_eq-slice_cmp}
+use Rattle.std.proofs.lemmas.Bool.{or_parts, and_parts}
+use Rattle.std.proofs.Math.Bool.{or-true}
 use borrow.Author.Tests.{eqb-true}
 use Rattle.mq_ends.specs.Dues.{Due, first_of, same_due, is_in, AreRest}
 use Rattle.mq_world.specs.World.{Session, Connected, Away, has_id, session_cmp}
 use Rattle.mq_world.specs.Lists.{Text, same_text}
 use Rattle.mq_world.specs.Clock.{is_over}
 use Rattle.mq_world.specs.Sessions.{has_ended, is_among}
-use Rattle.mq_world.proofs.BoolLemmas.{or_true, left_true, pick}
+use Rattle.mq_world.proofs.BoolLemmas.{pick}
 use Rattle.mq_world.proofs.ListLemmas.{any-none}
 use Rattle.mq_world.proofs.OrderLemmas.{all_weaker, all_filtered, text_flip, same_text-is}
 use Rattle.mq_sessions.specs.Ends.{ends_so, IsListed, AreListed, IsFirstLive}
-use Rattle.mq_sessions.proofs.EndLemmas.{ends-id, ends-moment, ends-other, listed-taken}
-use Rattle.mq_sessions.proofs.EndLemmas.{or_parts, or_right}
+use Rattle.mq_sessions.proofs.EndLemmas.{ends-id, ends-moment, ends-other, listed-taken, or_right}
 
 -- ## Whether a session has ended
 
@@ -29,7 +30,7 @@ any_weaker p q step [] h = h
 any_weaker p q step (s ∷ ss) h =
     pick (p s) (λ t. ap (λ b. b || list_any q ss) (step s t))
     (λ f. ap (λ b. q s || b) (any_weaker p q step ss (or_right (p s) (list_any p ss) f h))
-    ∙ or_true (q s))
+    ∙ or-true (q s))
 
 -- the first end in the index has come
 pub any-first : (moment : ℕ) (dues : List Due) (ss : List Session) → IsFirstLive dues ss
@@ -46,7 +47,7 @@ in-late moment d (x ∷ xs) h none =
     let apart : (nat_le x.0 moment ≡ false)
     × (list_any (λ due. nat_le due.0 moment) xs ≡ false) = or_parts (nat_le x.0 moment) _ none in
     pick (same_due d x)
-    (λ t. ap (λ n. nat_le n moment) (eqb-true d.0 x.0 (left_true (d.0 == x.0) _ t)) ∙ apart.0)
+    (λ t. ap (λ n. nat_le n moment) (eqb-true d.0 x.0 (and_parts (d.0 == x.0) _ t).0) ∙ apart.0)
     (λ f. in-late moment d xs (or_right (same_due d x) (is_in d xs) f h) apart.1)
 
 -- no end in the index has come
@@ -98,7 +99,7 @@ among-ended moment f (x ∷ xs) h any =
           (λ t. ap (λ b. b || list_any (has_id f.1) ended) (ends-id f x t))
           (λ fails. ap (λ b. has_id f.1 x || b)
           (among-ended moment f xs h (or_right (ends_so f x) (list_any (ends_so f) xs) fails any))
-          ∙ or_true (has_id f.1 x))
+          ∙ or-true (has_id f.1 x))
       | false ↦ λ e. pick (ends_so f x)
           (λ t. absurd (true≢false (sym (ends-moment moment f x h t) ∙ e)))
           (λ fails. among-ended moment f xs h

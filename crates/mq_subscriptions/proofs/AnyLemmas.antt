@@ -13,7 +13,7 @@ use Rattle.mq_subscriptions.specs.Filters.{FilterKey, AtEntries, AreEntries, Are
 use Rattle.mq_subscriptions.specs.Filters.{is_in_list, is_listed, is_empty, all_rows}
 use Rattle.mq_world.proofs.ListLemmas.{list_any-map, list_any-same, any-append}
 use Rattle.mq_world.proofs.SameLemmas.{list_any-SameElements}
-use Rattle.mq_world.proofs.BoolLemmas.{pick, left_true, right_true, and_true, or_false}
+use Rattle.mq_world.proofs.BoolLemmas.{pick}
 use Rattle.mq_world.proofs.OrderLemmas.{same_text-is, same_share-is}
 use Rattle.mq_world.proofs.OrderLemmas.{text_flip, all_weaker}
 use Rattle.mq_subscriptions.proofs.ClientFilterLemmas.{flip_share}
@@ -22,11 +22,13 @@ use Rattle.mq_subscriptions.specs.Views.{texts}
 use Rattle.mq_subscriptions.specs.Wanted.{ClientLists}
 use Rattle.mq_subscriptions.proofs.AtLemmas.{own_key_is}
 use Rattle.mq_sessions.proofs.SessionLemmas.{finds}
-use Rattle.mq_world.proofs.Splits.{set_same}
 use Rattle.mq_subscriptions.proofs.TextMaps.{is_text-is, lookup-texts}
 use Rattle.mq_subscriptions.proofs.ListedLemmas.{leaves, found_in, list-out, live-out}
 use Rattle.std.specs.List.Sorted.{IsStrictlySortedBy}
 use Rattle.std.specs.Map.{lookup, set_value, remove_entry, keys_of}
+use Rattle.std.proofs.lemmas.Bool.{and_parts}
+use Rattle.std.proofs.Math.Bool.{and-true, or-false}
+use Rattle.std.proofs.lemmas.Map.Steps.{set_value_same}
 
 -- ## One key
 
@@ -39,18 +41,18 @@ key_then : (test : Text → Option Text → Text → Bool) (s x : Subscription) 
     → test x.client x.share x.filter ≡ test s.client s.share s.filter
 key_then test s x h =
     let first : (same_text x.client s.client && same_share x.share s.share) ≡ true =
-    left_true (same_text x.client s.client && same_share x.share s.share)
-    (same_text x.filter s.filter) h in
+    (and_parts (same_text x.client s.client && same_share x.share s.share)
+    (same_text x.filter s.filter) h).0 in
     ap (λ (c : Text). test c x.share x.filter)
     (same_text-is x.client s.client
-    (left_true (same_text x.client s.client) (same_share x.share s.share) first))
+    (and_parts (same_text x.client s.client) (same_share x.share s.share) first).0)
     ∙ ap (λ (sh : Option Text). test s.client sh x.filter)
     (same_share-is x.share s.share
-    (right_true (same_text x.client s.client) (same_share x.share s.share) first))
+    (and_parts (same_text x.client s.client) (same_share x.share s.share) first).1)
     ∙ ap (test s.client s.share)
     (same_text-is x.filter s.filter
-    (right_true (same_text x.client s.client && same_share x.share s.share)
-    (same_text x.filter s.filter) h))
+    (and_parts (same_text x.client s.client && same_share x.share s.share)
+    (same_text x.filter s.filter) h).1)
 
 -- ## One that joins
 
@@ -103,7 +105,7 @@ module _ (x s : Subscription) where
       last : (b : Bool) → list_any (same_key s) (if b then [] else x ∷ [])
           ≡ (if b then false else same_key x s)
       last true = refl
-      last false = or_false (same_key s x) ∙ key_flip s x
+      last false = or-false (same_key s x) ∙ key_flip s x
 
 -- ## Some that leave
 
@@ -189,19 +191,19 @@ listed-undone client k old new before added after h same absent adds drops live 
     nobody : (s : Subscription) → has_key client k.0 k.1 s ≡ true → is_listed before s ≡ false
     nobody s t =
         let first : (same_text s.client client && same_share s.share k.0) ≡ true =
-        left_true (same_text s.client client && same_share s.share k.0) (same_text s.filter k.1)
-        t in
+        (and_parts (same_text s.client client && same_share s.share k.0) (same_text s.filter k.1)
+        t).0 in
         h.listed s
         ∙ ap (λ (c : Text). list_any (has_key c s.share s.filter) (all_rows old))
         (same_text-is s.client client
-        (left_true (same_text s.client client) (same_share s.share k.0) first))
+        (and_parts (same_text s.client client) (same_share s.share k.0) first).0)
         ∙ ap (λ (sh : Option Text). list_any (has_key client sh s.filter) (all_rows old))
         (same_share-is s.share k.0
-        (right_true (same_text s.client client) (same_share s.share k.0) first))
+        (and_parts (same_text s.client client) (same_share s.share k.0) first).1)
         ∙ ap (λ (f : Text). list_any (has_key client k.0 f) (all_rows old))
         (same_text-is s.filter k.1
-        (right_true (same_text s.client client && same_share s.share k.0)
-        (same_text s.filter k.1) t))
+        (and_parts (same_text s.client client && same_share s.share k.0)
+        (same_text s.filter k.1) t).1)
         ∙ absent
 
 pub listed-turned : (x : Subscription) (old new : AtEntries) (lists : Lists) → AreListed old lists
@@ -250,7 +252,7 @@ leaving c ls v (s ∷ rows) found h =
         let own : is_in_list v s ≡ true =
         sym (ap (λ (k : Text). found_in s (lookup (is_text k) (texts ls)))
         (same_text-is s.client c t) ∙ ap (found_in s) (lookup-texts c ls ∙ found)) ∙ h.0 in
-        ap (λ b. not (same_text s.client c && b)) own ∙ ap not (and_true (same_text s.client c))
+        ap (λ b. not (same_text s.client c && b)) own ∙ ap not (and-true (same_text s.client c))
 
     no : same_text s.client c ≡ false → leaves c v s ≡ not (same_text s.client c)
     no f = ap (λ b. not (b && is_in_list v s)) f ∙ ap not (sym f)
@@ -291,7 +293,7 @@ pub listed-gone : (c : Text) (ls : ClientLists) → IsStrictlySortedBy key_cmp (
     → AreEntries new → all_rows new ≡ filter (λ s. not (same_text s.client c)) (all_rows old)
     → AreListed new (texts out)
 listed-gone c ls sorted v out found gone old new h kept rows =
-    let same : ls ≡ set_value (finds c) ls v = sym (set_same (finds c) ls v found) in
+    let same : ls ≡ set_value (finds c) ls v = sym (set_value_same (finds c) ls v found) in
     record {
       kept = kept;
       listed = λ s.

@@ -10,10 +10,11 @@ use Rattle.std.specs.List.{filter, flat_map, list_any, AllByRecursion, AllAdjace
 use Rattle.std.specs.List.{IsChunkByPrefix}
 use Rattle.std.specs.List.Sorted.{IsSortedBy, IsStableBy, IsStrictlySortedBy}
 use Rattle.std.proofs.lemmas.List.Sorted.{sorted_far, ranks_by}
+use Rattle.std.proofs.Math.Bool.{or-true, or-false, or_self}
 use Rattle.mq_world.specs.Lists.{Text, same_text, text_cmp, in_order}
 use Rattle.mq_subscriptions.specs.Filters.{is_text}
 use Rattle.mq_subscriptions.specs.Matches.{AreAscending}
-use Rattle.mq_world.proofs.BoolLemmas.{pick, or_true}
+use Rattle.mq_world.proofs.BoolLemmas.{pick}
 use Rattle.mq_world.proofs.ListLemmas.{filter-same, any-append}
 use Rattle.mq_world.proofs.OrderLemmas.{all_weaker, all-with_row, text_flip}
 use Rattle.mq_world.proofs.SortedLemmas.{same_sorted, sorted-in_order, any-in_order}
@@ -57,17 +58,9 @@ all-in_order P (t ∷ ts) h = all-with_row text_cmp nat_list_cmp_total P t (in_o
 
 any-alike : (c z : Text) (t : Text) (ts : List Text) → AllByRecursion (λ u. u ≡ c) (t ∷ ts)
     → list_any (is_text z) (t ∷ ts) ≡ is_text z c
-any-alike c z t [] h = ap (λ u. is_text z u || false) h.0 ∙ or_no (is_text z c)
-  where
-    or_no : (b : Bool) → (b || false) ≡ b
-    or_no true = refl
-    or_no false = refl
+any-alike c z t [] h = ap (λ u. is_text z u || false) h.0 ∙ or-false (is_text z c)
 any-alike c z t (u ∷ ts) h = ap (λ v. is_text z v || list_any (is_text z) (u ∷ ts)) h.0
-    ∙ ap (λ b. is_text z c || b) (any-alike c z u ts h.1) ∙ or_both (is_text z c)
-  where
-    or_both : (b : Bool) → (b || b) ≡ b
-    or_both true = refl
-    or_both false = refl
+    ∙ ap (λ b. is_text z c || b) (any-alike c z u ts h.1) ∙ or_self (is_text z c)
 
 -- the least text comes first, once
 pub least-first : (c t : Text) (ts rest : List Text) → AllByRecursion (λ u. u ≡ c) (t ∷ ts)
@@ -273,7 +266,7 @@ module _ {X : Type 0} (key : X → Text) where
       all_there [] ts h = tt
       all_there (u ∷ us) ts h = (
         h u (ap (λ b. b || list_any (is_text u) us) (is_text-is u u ∙ same_text-itself u)),
-        all_there us ts (λ v k. h v (ap (λ b. is_text v u || b) k ∙ or_true (is_text v u))),
+        all_there us ts (λ v k. h v (ap (λ b. is_text v u || b) k ∙ or-true (is_text v u))),
       )
 
   pub none_there : (t : Text) (xs : List X) → list_any (is_text t) (map key xs) ≡ false

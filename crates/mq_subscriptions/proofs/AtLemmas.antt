@@ -35,6 +35,7 @@ use Rattle.mq_subscriptions.proofs.TextMaps.{remove_entry-texts, insert_entry-te
 use Rattle.mq_world.specs.World as world
 use Rattle.mq_world.specs.declared.options.SubscriptionOptions as held
 use Rattle.std.proofs.lemmas.List.{append-nil}
+use Rattle.std.proofs.Math.Bool.{or-false}
 
 pub same_share-itself : (a : Option Text) → same_share a a ≡ true
 same_share-itself None = refl
@@ -489,11 +490,7 @@ at-any-own f c d gs =
     sym (any-append (same_key s) (direct_rows f d) (group_rows f gs)
     ∙ ap (λ b. list_any (same_key s) (direct_rows f d) || b)
     (any-none (same_key s) (group_rows f gs) (none_same s _ (all_shared f s refl gs)))
-    ∙ or_none (list_any (same_key s) (direct_rows f d)))
-  where
-    or_none : (a : Bool) → (a || false) ≡ a
-    or_none true = refl
-    or_none false = refl
+    ∙ or-false (list_any (same_key s) (direct_rows f d)))
 
 pub at-any-shared : (f c share : Text) (d : List Member) (gs : List (Text × List Member))
     → list_any (has_key c (Some share) f) (group_rows f gs)

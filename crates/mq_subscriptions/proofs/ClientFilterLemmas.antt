@@ -9,6 +9,9 @@ use Rattle.std.specs.BTreeSet.{insert_key}
 use Rattle.std.specs.Set.{remove_key}
 use Rattle.std.specs.List.{filter, list_any, AllByRecursion}
 use Rattle.std.specs.List.Sorted.{IsStrictlySortedBy}
+use Rattle.std.proofs.lemmas.Bool.{and_parts}
+use Rattle.std.specs.Cmp.{both_ways}
+use Rattle.mq_topic.proofs.BoolLemmas.{or_swapped}
 use Rattle.mq_topic.specs.Texts.{is_subscription, share_of, filter_part}
 use Rattle.mq_topic.proofs.PartLemmas.{same_parts}
 use Rattle.mq_world.specs.Keys.{Key, key_cmp}
@@ -19,16 +22,11 @@ use Rattle.mq_subscriptions.specs.ClientViews.{key_in, IsAsked}
 use Rattle.mq_world.proofs.ListLemmas.{list_any-map, remove_key-filter}
 use Rattle.mq_subscriptions.proofs.TextMaps.{key_text, text-apart, is_text-is}
 use Rattle.mq_world.proofs.OrderLemmas.{same_share-is, same_text-is, same_text-itself}
-use Rattle.mq_world.proofs.BoolLemmas.{left_true, right_true, or_again, or_swapped}
+use Rattle.mq_world.proofs.BoolLemmas.{or_again}
 use Rattle.mq_subscriptions.proofs.AtLemmas.{same_share-itself}
 
-both_same : (a b : Bool) → (a ≡ true → b ≡ true) → (b ≡ true → a ≡ true) → a ≡ b
-both_same true b f g = sym (f refl)
-both_same false true f g = g refl
-both_same false false f g = refl
-
 pub flip_share : (a b : Option Text) → same_share a b ≡ same_share b a
-flip_share a b = both_same (same_share a b) (same_share b a)
+flip_share a b = both_ways (same_share a b) (same_share b a)
     (λ t. ap (λ v. same_share v a) (sym (same_share-is a b t)) ∙ same_share-itself a)
     (λ t. ap (λ v. same_share v b) (sym (same_share-is b a t)) ∙ same_share-itself b)
 
@@ -68,21 +66,21 @@ own-text : (s : Subscription) (a b : Text) → is_subscription a ≡ true → is
 own-text s a b valid_a valid_b own_a own_b =
     same_parts a b valid_a valid_b
     (sym (same_share-is s.share (share_of a)
-    (left_true (same_share s.share (share_of a)) (same_text s.filter (filter_part a))
-    own_a))
+    (and_parts (same_share s.share (share_of a)) (same_text s.filter (filter_part a))
+    own_a).0)
     ∙ same_share-is s.share (share_of b)
-    (left_true (same_share s.share (share_of b)) (same_text s.filter (filter_part b)) own_b))
+    (and_parts (same_share s.share (share_of b)) (same_text s.filter (filter_part b)) own_b).0)
     (sym (same_text-is s.filter (filter_part a)
-    (right_true (same_share s.share (share_of a)) (same_text s.filter (filter_part a))
-    own_a))
+    (and_parts (same_share s.share (share_of a)) (same_text s.filter (filter_part a))
+    own_a).1)
     ∙ same_text-is s.filter (filter_part b)
-    (right_true (same_share s.share (share_of b)) (same_text s.filter (filter_part b)) own_b))
+    (and_parts (same_share s.share (share_of b)) (same_text s.filter (filter_part b)) own_b).1)
 
 -- so of a text that has the subscription, the one that leaves is told by the subscription too
 named : (s : Subscription) (text : Text) (x : Key) → is_subscription text ≡ true → IsAsked x
     → has_filter_key s (key_in x) ≡ true → is_text text (rc_str_bytes x)
     ≡ has_filter_key s (text_key text)
-named s text x valid asked own = both_same (is_text text (rc_str_bytes x))
+named s text x valid asked own = both_ways (is_text text (rc_str_bytes x))
     (has_filter_key s (text_key text))
     (λ t. ap (λ (v : Text). has_filter_key s (text_key v)) (key_text text (rc_str_bytes x) t) ∙ own)
     (λ t. is_text-is text (rc_str_bytes x)

@@ -6,16 +6,17 @@ use Rattle.std.specs.Ordering.{is_eq}
 use Rattle.std.specs.List.{filter, flat_map, list_any, AllByRecursion}
 use Rattle.std.specs.Map.{set_value, remove_entry}
 use Rattle.std.specs.BTreeMap.{insert_entry}
+use Rattle.std.proofs.Math.Bool.{or-false}
+use Rattle.std.proofs.lemmas.Grind.{flat_map-append}
 use Rattle.mq_world.specs.World.{Subscription, same_key}
 use Rattle.mq_world.specs.Turns.{SameInTurn}
 use Rattle.mq_subscriptions.specs.Turns.{put_last, upsert}
-use Rattle.mq_world.proofs.Splits.{Split, Put, flat_map-cut, flat_map-joint}
+use Rattle.mq_world.proofs.Splits.{Split, Put, flat_map-cut}
 use Rattle.mq_world.proofs.OrderLemmas.{all_append}
 use Rattle.mq_world.proofs.ListLemmas.{any-none}
 use Rattle.mq_subscriptions.proofs.InTurn.{Unlike, same-is, same-then, none_same, removed-among}
 use Rattle.mq_subscriptions.proofs.InTurn.{turned-among, joined-among}
 use Rattle.mq_world.proofs.ListLemmas.{any-append}
-use Rattle.mq_world.proofs.BoolLemmas.{or_false}
 
 pub all_front : {X : Type 0} (P : X → Type 0) (xs ys : List X) → AllByRecursion P (xs ++ ys)
     → AllByRecursion P xs
@@ -99,7 +100,7 @@ module _ {K X : Type 0} (rows : K × X → List Subscription) (Live : K × X →
         → flat_map rows (remove_entry test (set_value test es w))
         ≡ filter (λ x. not (same_key s x)) (flat_map rows es)
     cut-out w none h =
-        ap (flat_map rows) (cut.out w) ∙ flat_map-joint rows cut.front cut.back
+        ap (flat_map rows) (cut.out w) ∙ flat_map-append rows cut.front cut.back
         ∙ ap (λ l. flat_map rows cut.front ++ (l ++ flat_map rows cut.back)) (sym none)
         ∙ removed (rows (cut.key, w)) h
 
@@ -115,7 +116,7 @@ module _ {K X : Type 0} (rows : K × X → List Subscription) (Live : K × X →
         ∙ any-append (same_key s) (rows (cut.key, v)) (flat_map rows cut.back)
         ∙ ap (λ b. list_any (same_key s) (rows (cut.key, v)) || b)
         (any-none (same_key s) (flat_map rows cut.back) (none_same s _ back_unlike))
-        ∙ or_false (list_any (same_key s) (rows (cut.key, v)))
+        ∙ or-false (list_any (same_key s) (rows (cut.key, v)))
 
     pub live-set : (w : X) → Live (cut.key, w) → AllByRecursion Live (set_value test es w)
     live-set w h =
@@ -171,7 +172,7 @@ module _ {K X : Type 0} (rows : K × X → List Subscription) (Live : K × X →
           (all_back Live gap.gap.front gap.gap.back live_both) gap.gap.behind) h)
           (same-is _ _ (ap (upsert s)
           (sym (ap (flat_map rows) gap.gap.is
-          ∙ flat_map-joint rows gap.gap.front gap.gap.back)))))
+          ∙ flat_map-append rows gap.gap.front gap.gap.back)))))
 
       pub live-put : (v : X) → Live (k, v) → AllByRecursion Live (insert_entry cmp es k v)
       live-put v h =

@@ -5,6 +5,8 @@ use Rattle.std.proofs.Common.{if◌then◌else◌, refl, sym, ◌∙◌, ap, sub
 use Rattle.std.specs.List.{filter, list_any, AllByRecursion}
 use Rattle.std.proofs.lemmas.List.{append-nil, map-append}
 use Rattle.std.proofs.lemmas.List.Elements.{filter-append}
+use Rattle.std.proofs.lemmas.Bool.{and_parts, and_right}
+use Rattle.std.proofs.Math.Bool.{or-false}
 use Rattle.mq_world.specs.Lists.{Text, same_text}
 use Rattle.mq_world.specs.World.{Group, Subscription, is_in_group, same_share, same_key}
 use Rattle.mq_world.specs.Turns.{SameInTurn}
@@ -14,7 +16,6 @@ use Rattle.mq_world.proofs.ListLemmas.{filter-kept, any-none}
 use Rattle.mq_world.proofs.SameLemmas.{SameElements-filter, SameElements-map, list_any-SameElements}
 use Rattle.mq_world.proofs.SameLemmas.{filter-swap}
 use Rattle.mq_world.proofs.OrderLemmas.{length-filter-append, same_text-is, same_share-is}
-use Rattle.mq_world.proofs.BoolLemmas.{and_false_right, left_true, right_true, or_false}
 
 -- ## The same in turn
 
@@ -93,20 +94,20 @@ Unlike s x = (same_key s x ≡ false)
 
 pub unlike-filter : (s x : Subscription) → same_text x.filter s.filter ≡ false → Unlike s x
 unlike-filter s x h = (
-  and_false_right (same_text x.client s.client && same_share x.share s.share)
+  and_right (same_text x.client s.client && same_share x.share s.share)
       (same_text x.filter s.filter) h,
   λ g e.
-      let here : s.filter ≡ g.filter = same_text-is s.filter g.filter (right_true _ _ e) in
-      and_false_right (same_share x.share (Some g.share)) _
+      let here : s.filter ≡ g.filter = same_text-is s.filter g.filter (and_parts _ _ e).1 in
+      and_right (same_share x.share (Some g.share)) _
       (subst (λ (t : Text). same_text x.filter t ≡ false) here h),
 )
 
 pub unlike-share : (s x : Subscription) → same_share x.share s.share ≡ false → Unlike s x
 unlike-share s x h = (
   ap (λ b. b && same_text x.filter s.filter)
-      (and_false_right (same_text x.client s.client) (same_share x.share s.share) h),
+      (and_right (same_text x.client s.client) (same_share x.share s.share) h),
   λ g e.
-      let here : s.share ≡ Some g.share = same_share-is s.share (Some g.share) (left_true _ _ e) in
+      let here : s.share ≡ Some g.share = same_share-is s.share (Some g.share) (and_parts _ _ e).0 in
       ap (λ b. b && same_text x.filter g.filter)
       (subst (λ (t : Option Text). same_share x.share t ≡ false) here h),
 )
@@ -116,7 +117,7 @@ pub unlike-own : (s x : Subscription) → s.share ≡ None → same_text x.clien
 unlike-own s x own h = (
   ap (λ b. b && same_share x.share s.share && same_text x.filter s.filter) h,
   λ g e.
-      let none : same_share s.share (Some g.share) ≡ true = left_true _ _ e in
+      let none : same_share s.share (Some g.share) ≡ true = (and_parts _ _ e).0 in
       let no : false ≡ true = ap (λ (t : Option Text). same_share t (Some g.share)) (sym own)
       ∙ none in
       absurd (true≢false (sym no)),
@@ -126,15 +127,15 @@ unlike-own s x own h = (
 pub in_group_same : (s x : Subscription) (g : Group) → same_key s x ≡ true
     → is_in_group g x ≡ is_in_group g s
 in_group_same s x g h =
-    let both = left_true (same_text x.client s.client && same_share x.share s.share)
-    (same_text x.filter s.filter) h in
+    let both = (and_parts (same_text x.client s.client && same_share x.share s.share)
+    (same_text x.filter s.filter) h).0 in
     ap (λ (t : Option Text). same_share t (Some g.share) && same_text x.filter g.filter)
     (same_share-is x.share s.share
-    (right_true (same_text x.client s.client) (same_share x.share s.share) both))
+    (and_parts (same_text x.client s.client) (same_share x.share s.share) both).1)
     ∙ ap (λ (t : Text). same_share s.share (Some g.share) && same_text t g.filter)
     (same_text-is x.filter s.filter
-    (right_true (same_text x.client s.client && same_share x.share s.share)
-    (same_text x.filter s.filter) h))
+    (and_parts (same_text x.client s.client && same_share x.share s.share)
+    (same_text x.filter s.filter) h).1)
 
 none_grouped : (s : Subscription) (g : Group) → is_in_group g s ≡ true → (xs : List Subscription)
     → AllByRecursion (Unlike s) xs → filter (is_in_group g) xs ≡ []
@@ -252,7 +253,7 @@ joined-among s front mid new back h k e =
     (any-none (same_key s) front (none_same s front h))
     ∙ any-append (same_key s) mid back
     ∙ ap (λ b. list_any (same_key s) mid || b) (any-none (same_key s) back (none_same s back k))
-    ∙ or_false _ in
+    ∙ or-false _ in
     let maps : map f all ≡ front ++ (map f mid ++ back) =
     map-append f front (mid ++ back) ∙ ap (λ l. l ++ map f (mid ++ back))
     (map-kept s front (none_same s front h))

@@ -5,6 +5,7 @@ use Rattle.std.specs.Ordering.{is_eq}
 use Rattle.std.specs.FinMap.{nat_cmp-IsAntisymmetric, slice_cmp-IsAntisymmetric}
 use Rattle.std.specs.Map.{keys_of}
 use Rattle.std.specs.List.{list_any, AllByRecursion}
+use Rattle.std.proofs.Math.Bool.{or-false}
 use Rattle.mq_topic.specs.Levels.{levels, level_order}
 use Rattle.mq_world.specs.Lists.{Text, in_order, SameElements}
 use Rattle.mq_world.specs.World.{Subscription}
@@ -36,10 +37,6 @@ filters-same xs ys same =
 abbrev to : List (List ℕ) → Subscription → Bool
 to z s = ties level_order levels_total z (levels s.filter)
 
-none_or : (b : Bool) → (b || false) ≡ b
-none_or true = refl
-none_or false = refl
-
 or_twice : (a : Bool) → (a || a) ≡ a
 or_twice true = refl
 or_twice false = refl
@@ -48,7 +45,7 @@ or_twice false = refl
 any_here : (z : List (List ℕ)) (f : Text) (s : Subscription) (rows : List Subscription)
     → s.filter ≡ f → AllByRecursion (λ x. x.filter ≡ f) rows
     → list_any (to z) (s ∷ rows) ≡ ties level_order levels_total z (levels f)
-any_here z f s [] e h = none_or (to z s)
+any_here z f s [] e h = or-false (to z s)
     ∙ ap (λ (t : Text). ties level_order levels_total z (levels t)) e
 any_here z f s (x ∷ rows) e h =
     ap (λ b. to z s || b) (any_here z f x rows h.0 h.1)

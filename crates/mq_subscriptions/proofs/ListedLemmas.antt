@@ -17,7 +17,7 @@ use Rattle.mq_world.proofs.ListLemmas.{filter-same}
 use Rattle.mq_world.proofs.SameLemmas.{filter-filter}
 use Rattle.mq_sessions.proofs.SessionLemmas.{finds}
 use Rattle.mq_world.proofs.OrderLemmas.{all_append}
-use Rattle.mq_world.proofs.BoolLemmas.{and_assoc, pick, left_true}
+use Rattle.mq_world.proofs.BoolLemmas.{pick}
 use Rattle.mq_subscriptions.proofs.TextMaps.{is_text-is, text-apart, lookup-texts, set_value-texts}
 use Rattle.mq_subscriptions.proofs.TextMaps.{remove_entry-texts, insert_entry-texts, ordered-texts}
 use Rattle.mq_subscriptions.proofs.TextMaps.{key_text}
@@ -26,6 +26,8 @@ use Rattle.mq_world.proofs.OrderLemmas.{same_text-is, same_text-itself}
 use Rattle.mq_subscriptions.proofs.AtLemmas.{same_share-itself, nothing}
 use Rattle.std.specs.declared.cmp.Ordering.TheVariants.{Less, Equal, Greater}
 use Rattle.std.specs.Ordering.{match_ordering}
+use Rattle.std.proofs.lemmas.Bool.{and_parts}
+use Rattle.std.proofs.Math.Bool.{and_assoc}
 
 abbrev Lists : Type 0
 Lists = List (Text × List FilterKey)
@@ -176,7 +178,7 @@ module _ (bs : Text) (ls : List (Key × List FilterKey)) where
 key_by : (bs : Text) (k : FilterKey) (s : Subscription)
     → (is_text s.client bs && has_filter_key s k) ≡ has_key bs k.0 k.1 s
 key_by bs k s = ap (λ b. b && has_filter_key s k) (is_text-is s.client bs)
-    ∙ and_assoc (same_text s.client bs) (same_share s.share k.0) (same_text s.filter k.1)
+    ∙ sym (and_assoc (same_text s.client bs) (same_share s.share k.0) (same_text s.filter k.1))
 
 add_case : (t own v old : Bool) → old ≡ (if t then v else old)
     → (if t then own || v else old) ≡ ((t && own) || old)
@@ -257,8 +259,8 @@ dropped-absent bs k ls none s =
     pick (has_key bs k.0 k.1 s)
     (λ t. (let client : s.client ≡ bs =
     same_text-is s.client bs
-    (left_true _ _ (left_true (same_text s.client bs && same_share s.share k.0)
-    (same_text s.filter k.1) t)) in
+    (and_parts _ _ (and_parts (same_text s.client bs && same_share s.share k.0)
+    (same_text s.filter k.1) t).0).0 in
     ap (λ (c : Text). found_in s (lookup (is_text c) (texts ls))) client
     ∙ ap (found_in s) (lookup-texts bs ls ∙ none)
     ∙ sym (ap (λ b. not b && is_listed (texts ls) s) t)))

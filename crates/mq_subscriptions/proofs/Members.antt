@@ -18,19 +18,12 @@ use Rattle.mq_world.specs.Lists.{Text, same_text}
 use Rattle.mq_subscriptions.specs.Turns.{with_one, put_last}
 use Rattle.mq_subscriptions.specs.Views.{texts}
 use Rattle.mq_world.proofs.ListLemmas.{map-filter, filter-same, is_some-lookup, list_any-map}
-use Rattle.mq_world.proofs.ListLemmas.{list_any-same}
+use Rattle.mq_world.proofs.ListLemmas.{list_any-same, all_stay}
 
 on_keys : {K X : Type 0} (test : K → Bool) (es : List (K × X)) → NonePasses test es
     → AllByRecursion (λ k. test k ≡ false) (keys_of es)
 on_keys test [] h = tt
 on_keys test (e ∷ es) h = (h.0, on_keys test es h.1)
-
--- where none passes, none is taken out
-none_out : {K X : Type 0} (test : K → Bool) (es : List (K × X))
-    → AllByRecursion (λ k. test k ≡ false) (keys_of es) → filter (λ e. not (test e.0)) es ≡ es
-none_out test [] h = refl
-none_out test (e ∷ es) h = λ i. cond (not (h.0 i)) (e ∷ none_out test es h.1 i)
-    (none_out test es h.1 i)
 
 module _ {K X : Type 0} (eq : K → K → Bool) (test : K → Bool)
     (one : (x y : K) → test x ≡ true → test y ≡ eq x y) where
@@ -49,7 +42,7 @@ module _ {K X : Type 0} (eq : K → K → Bool) (test : K → Bool)
       → cond b es (e ∷ remove_entry test es)
       ≡ cond (not b) (e ∷ filter (λ e. not (test e.0)) es) (filter (λ e. not (test e.0)) es) in
       (elim (test e.0) as P [
-        | true ↦ λ t. sym (none_out test es (away e.0 t es (IsDistinct-head eq e.0 (keys_of es) d)))
+        | true ↦ λ t. sym (all_stay test es (away e.0 t es (IsDistinct-head eq e.0 (keys_of es) d)))
         | false ↦ λ t. ap (λ l. e ∷ l)
             (remove_entry-filter es (IsDistinct-tail eq e.0 (keys_of es) d))
       ]) refl
@@ -78,7 +71,7 @@ module _ {K X : Type 0} (eq : K → K → Bool) (test : K → Bool)
               refl,
               sym
                   (ap (λ b. cond (not b) (e ∷ filter (λ e. not (test e.0)) es)
-                  (filter (λ e. not (test e.0)) es)) t ∙ none_out test es others),
+                  (filter (λ e. not (test e.0)) es)) t ∙ all_stay test es others),
               ap (λ b. cond b (e ∷ filter (λ e. test e.0) es) (filter (λ e. test e.0) es)) t
                   ∙ ap (λ l. e ∷ l) (none_in es others),
             ) in
@@ -155,7 +148,7 @@ module _ {X : Type 0} where
       sym ((λ j. flipped_not bs es j ++ flipped bs es j)
       ∙ (λ j. sym (map-filter told (λ m. not (same_text bs m.0)) es) j
       ++ sym (map-filter told (λ m. same_text bs m.0) es) j)
-      ∙ (λ j. texts (none_out test es none j) ++ texts
+      ∙ (λ j. texts (all_stay test es none j) ++ texts
       (none_in key_eq test (same-one bs) es none j))
       ∙ append-nil (texts es))
 

@@ -3,11 +3,11 @@ use Rattle.std.proofs.Common.{◌≡◌, ℕ, ◌≤◌, ◌<◌, Bool, true, fa
 use Rattle.std.proofs.Common.{map, Option, Some, None, nat_le, refl, sym, ◌∙◌, ap, subst, inl, inr}
 use Rattle.std.proofs.Common.{arith}
 use Rattle.std.specs.List.{filter, find, list_all, AllByRecursion}
+use Rattle.std.proofs.lemmas.Bool.{false_from_ne_true, and_parts}
 use Rattle.mq_world.specs.World.{Row}
 use Rattle.mq_world.specs.Groups.{least_stamped}
 use Rattle.mq_world.specs.Turns.{put_in_turn, by_turn}
 use Rattle.mq_world.proofs.SameLemmas.{le_cases, not_le}
-use Rattle.mq_world.proofs.BoolLemmas.{left_true, right_true}
 
 -- each stamp is at most those after it
 abbrev pub IsInTurn : List Row → Type 0
@@ -249,8 +249,8 @@ below-least : (rows : List Row) (r : Row) (n : ℕ) → least rows ≡ Some r
     → list_all (λ o. nat_le n o.stamp) rows ≡ true → n ≤ r.stamp
 below-least [] r n h k = absurd (some_not_none r (sym h))
 below-least (o ∷ os) r n h k =
-    let here : n ≤ o.stamp = le_from n o.stamp (left_true _ _ k) in
-    let rest : list_all (λ x. nat_le n x.stamp) os ≡ true = right_true _ _ k in
+    let here : n ≤ o.stamp = le_from n o.stamp (and_parts _ _ k).0 in
+    let rest : list_all (λ x. nat_le n x.stamp) os ≡ true = (and_parts _ _ k).1 in
     let P : Option Row → Type 0 = λ f. least os ≡ f
     → (elim f [ None ↦ Some o | Some b ↦ Some (cond (nat_le o.stamp b.stamp) o b) ]) ≡ Some r
     → n ≤ r.stamp in
@@ -267,10 +267,6 @@ find-same : {X : Type 0} (p q : X → Bool) → ((x : X) → p x ≡ q x) → (x
     → find p xs ≡ find q xs
 find-same p q h [] = refl
 find-same p q h (x ∷ xs) = rw (h x, find-same p q h xs) refl
-
-fails : (b : Bool) → (b ≡ true → ⊥) → b ≡ false
-fails true h = absurd (h refl)
-fails false h = refl
 
 implied : (a b : Bool) → (b ≡ true → a ≡ true) → (a && b) ≡ b
 implied true b h = refl
@@ -289,7 +285,7 @@ least_stamped-cons o os (Some b) e h =
           refl
       | inr gt ↦ (let test : Row → Bool = λ row. list_all (λ x. nat_le row.stamp x.stamp) os in
           let not_here : test o ≡ false =
-          fails (test o) (λ t. let le : o.stamp ≤ b.stamp = below-least os b o.stamp e t in
+          false_from_ne_true (test o) (λ t. let le : o.stamp ≤ b.stamp = below-least os b o.stamp e t in
           absurd (omega arith)) in
           let same : (row : Row) → (nat_le row.stamp o.stamp && test row) ≡ test row =
           λ row. implied (nat_le row.stamp o.stamp) (test row)

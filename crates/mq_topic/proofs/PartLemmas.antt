@@ -6,12 +6,11 @@ use Rattle.std.specs.Prelude.{codes, nat_lt}
 use Rattle.std.specs.List.{before_first, after_first, position_or_len}
 use Rattle.std.proofs.lemmas.List.Sums.{split_at_first, passes_at_first}
 use Rattle.std.proofs.lemmas.Slice.Eq.{bytes_eq-Decides}
-use Rattle.std.proofs.lemmas.Bool.{eqb-true}
+use Rattle.std.proofs.lemmas.Bool.{eqb-true, and_parts}
 use Rattle.std.proofs.lemmas.Bool.Decides.{nat_tests}
 use Rattle.mq_topic.specs.Levels.{is_slash}
 use Rattle.mq_topic.specs.Texts.{is_text, is_plain, is_filter, is_shared, share_name, filter_part}
 use Rattle.mq_topic.specs.Texts.{share_of, share_fits, is_subscription}
-use Rattle.mq_topic.proofs.TextLemmas.{both_true}
 
 -- the text with these parts
 abbrev rebuilt : Option (List ℕ) → List ℕ → List ℕ
@@ -38,9 +37,9 @@ whole : (text : List ℕ) → is_subscription text ≡ true
     → text ≡ rebuilt (share_of text) (filter_part text)
 whole text valid =
     let fits : (not (is_shared text) || share_fits (share_name text) (filter_part text)) ≡ true =
-    (both_true (is_text text) (not (is_shared text)
+    (and_parts (is_text text) (not (is_shared text)
     || share_fits (share_name text) (filter_part text))
-    (both_true (is_text text
+    (and_parts (is_text text
     && (not (is_shared text) || share_fits (share_name text) (filter_part text)))
     (is_filter (filter_part text)) valid).0).1 in
     (elim (is_shared text) as (λ s. is_shared text ≡ s
@@ -50,7 +49,7 @@ whole text valid =
     (cond s (after_first is_slash (drop 7 text)) text)) [
       | true ↦ λ h f. front_is text h ∙ ap (λ rest. codes "$share/" ++ rest)
           (cut_at_slash (drop 7 text)
-          (both_true (nat_lt 0 (length (share_name text)) && is_plain (share_name text))
+          (and_parts (nat_lt 0 (length (share_name text)) && is_plain (share_name text))
           (nat_lt 0 (length (after_first is_slash (drop 7 text)))) f).1)
       | false ↦ λ h f. refl
     ]) refl fits

@@ -8,12 +8,13 @@ use Rattle.std.specs.Map.{keys_of}
 use Rattle.std.specs.List.{filter, flat_map, AllByRecursion}
 use Rattle.std.proofs.lemmas.List.{map-append, length-map}
 use Rattle.std.proofs.lemmas.Map.Keys.{sorted_head}
+use Rattle.mq_topic.proofs.ByteLemmas.{text_itself}
 use Rattle.mq_tree.specs.Below.{tally}
 use Rattle.mq_tree.specs.Entries.{Entries}
 use Rattle.mq_tree.specs.Nodes.{Children, under, below, own, AreChildren}
 use Rattle.mq_tree.specs.Prefixes.{heads, is_prefix, prefixes, prefixes_after}
 use Rattle.mq_tree.proofs.Children.{After, AreChildren-tail}
-use Rattle.mq_tree.proofs.Levels.{is_same, apart_from_less}
+use Rattle.mq_tree.proofs.Levels.{apart_from_less}
 
 -- l is not the first level of the key before
 abbrev Apart : List ℕ → List (List ℕ) → Type 0
@@ -33,7 +34,7 @@ filter_same : (l : List ℕ) (last : List (List ℕ)) (ps : List (List (List ℕ
 filter_same l last [] = refl
 filter_same l last (p ∷ ps) =
     let rest = filter_same l last ps in
-    rw (is_same l) (elim (is_prefix p last)
+    rw (text_itself l) (elim (is_prefix p last)
     as (λ b. cond (not b) ((l ∷ p) ∷ filter (λ p. not (is_prefix p (l ∷ last)))
     (map (λ p. l ∷ p) ps))
     (filter (λ p. not (is_prefix p (l ∷ last))) (map (λ p. l ∷ p) ps))
@@ -50,7 +51,7 @@ heads_none (l ∷ k) = ap (λ qs. (l ∷ []) ∷ qs) (filter_all l [] (heads k) 
 new_same : (l : List ℕ) (last k : List (List ℕ))
     → filter (λ p. not (is_prefix p (l ∷ last))) (heads (l ∷ k))
     ≡ map (λ p. l ∷ p) (filter (λ p. not (is_prefix p last)) (heads k))
-new_same l last k = rw (is_same l) (filter_same l last (heads k))
+new_same l last k = rw (text_itself l) (filter_same l last (heads k))
 
 new_apart : (l : List ℕ) (last k : List (List ℕ)) → Apart l last
     → filter (λ p. not (is_prefix p last)) (heads (l ∷ k)) ≡ (l ∷ []) ∷ map (λ p. l ∷ p) (heads k)

@@ -4,11 +4,11 @@ use Rattle.std.proofs.Common.{◌++◌, length, Option, Some, None, refl, sym, a
 use Rattle.std.specs.Str.{bytes_eq}
 use Rattle.std.specs.Map.{lookup, keys_of}
 use Rattle.std.specs.List.{filter, flat_map}
+use Rattle.mq_topic.proofs.ByteLemmas.{text_itself}
 use Rattle.mq_tree.specs.Below.{values_at, tally}
 use Rattle.mq_tree.specs.Entries.{Entries}
 use Rattle.mq_tree.specs.Nodes.{NodeView, is_level, entries_of, AreChildren}
 use Rattle.mq_tree.specs.Prefixes.{prefixes}
-use Rattle.mq_tree.proofs.Levels.{is_same}
 use Rattle.mq_tree.proofs.Levelwise.{values_node, met_node}
 use Rattle.mq_tree.proofs.Picks.{given, one, picked}
 use Rattle.mq_tree.proofs.Names.{one_sorted}
@@ -23,7 +23,7 @@ module _ (P : List (List ℕ) → Bool) (f : List ℕ) (Q : List (List ℕ) → 
     (node : NodeView V) (are : AreChildren node.1) where
   alone : (o : Option (Entries V)) → o ≡ lookup (is_level f) node.1
       → filter (λ child. bytes_eq f child.0) node.1 ≡ given one f o ++ []
-  alone o e = picked (bytes_eq f) (f ∷ []) node.1 are (one_sorted f) (is_same f, tt)
+  alone o e = picked (bytes_eq f) (f ∷ []) node.1 are (one_sorted f) (text_itself f, tt)
       (λ m none. or_none (bytes_eq f m) none) ∙ ap (λ x. given one f x ++ []) (sym e)
 
   found_step : (o : Option (Entries V)) → P [] ≡ false → o ≡ lookup (is_level f) node.1

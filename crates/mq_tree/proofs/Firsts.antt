@@ -5,12 +5,13 @@ use Rattle.std.specs.Prelude.{slice_get}
 use Rattle.std.specs.Str.{bytes_eq}
 use Rattle.std.specs.Map.{lookup}
 use Rattle.std.specs.List.{flat_map}
+use Rattle.mq_topic.proofs.ByteLemmas.{text_is, text_itself}
 use Rattle.mq_tree.specs.Below.{hash, plus, is_before, in_order_of, matches_below, meets_name}
 use Rattle.mq_tree.specs.Below.{values_at, nodes_at, tally}
 use Rattle.mq_tree.specs.Entries.{Entries}
 use Rattle.mq_tree.specs.Nodes.{NodeView, Children, is_level, entries_of, AreChildren}
 use Rattle.mq_tree.proofs.Children.{After-tail-less, lookup-level-after}
-use Rattle.mq_tree.proofs.Levels.{hash_first, plus_first, last_in_order, is_same, same_from_true}
+use Rattle.mq_tree.proofs.Levels.{hash_first, plus_first, last_in_order}
 use Rattle.mq_tree.proofs.Names.{IsPlain}
 use Rattle.mq_tree.proofs.Picks.{gather, given, one}
 use Rattle.mq_tree.proofs.Turns.{found_at, met_at, found_all, met_all, found_other, met_other}
@@ -58,11 +59,11 @@ plus_at c cs are h =
     → lookup (is_level plus) (c ∷ cs) ≡ cond b (Some c.1) None =
     λ b. elim b as (λ b. bytes_eq c.0 plus ≡ b
     → lookup (is_level plus) (c ∷ cs) ≡ cond b (Some c.1) None) [
-      | true ↦ λ e. ap (λ l. lookup (is_level plus) ((l, c.1) ∷ cs)) (same_from_true c.0 plus e)
+      | true ↦ λ e. ap (λ l. lookup (is_level plus) ((l, c.1) ∷ cs)) (text_is c.0 plus e)
       | false ↦ λ e.
           let before = plus_first c.0 h
           (λ same. absurd
-          (true≢false (sym (is_same plus) ∙ ap (λ l. bytes_eq l plus) (sym same) ∙ e))) in
+          (true≢false (sym (text_itself plus) ∙ ap (λ l. bytes_eq l plus) (sym same) ∙ e))) in
           lookup-level-after plus (c ∷ cs) (before, After-tail-less plus c cs before are)
     ] in
     go (bytes_eq c.0 plus) refl

@@ -9,11 +9,14 @@ use Rattle.std.specs.List.{list_any, AllByRecursion}
 use Rattle.std.specs.List.Sorted.{IsStrictlySortedBy}
 use Rattle.std.proofs.lemmas.Cmp.{nat_list_cmp_total}
 use Rattle.std.proofs.lemmas.Map.Lookups.{exact_bytes}
+use Rattle.std.proofs.lemmas.Bool.{or_parts}
+use Rattle.std.proofs.Math.Bool.{or-false, or-true}
+use Rattle.mq_topic.proofs.ByteLemmas.{text_is, text_itself}
 use Rattle.mq_topic.specs.Matching.{level_matches}
 use Rattle.mq_tree.specs.Below.{hash, plus, is_last_hash, matches_below, fronts, meets_name}
 use Rattle.mq_tree.specs.Below.{in_order_of}
 use Rattle.mq_tree.proofs.Blocks.{is_here}
-use Rattle.mq_tree.proofs.Levels.{is_same, same_from_true, not_same, flipped}
+use Rattle.mq_tree.proofs.Levels.{not_same, flipped}
 
 abbrev pub IsPlain : List ℕ → Type 0
 IsPlain n = (n ≢ hash) × (n ≢ plus)
@@ -45,7 +48,7 @@ by_hash m n k x plain =
     λ b. elim b as (λ b. bytes_eq m hash ≡ b → (is_last_hash m k || (level_matches m n && x))
     ≡ ((b || level_matches m n) && cond b (is_here k) x)) [
       | true ↦ λ e. subst (λ u. (is_last_hash u k || (level_matches u n && x)) ≡ is_here k)
-          (sym (same_from_true m hash e)) (last k other)
+          (sym (text_is m hash e)) (last k other)
       | false ↦ λ e. rw (not_last m k e) refl
     ] in
     go (bytes_eq m hash) refl
@@ -96,11 +99,7 @@ end_step m (l ∷ k) = elim (bytes_eq m hash) as (λ b. false ≡ (b && false))
 
 pub end_meets_step : (m : List ℕ) (p : List (List ℕ))
     → meets_name [] (m ∷ p) ≡ (bytes_eq m hash && is_here p)
-end_meets_step m p = or_none (is_last_hash m p) ∙ end_step m p
-  where
-    or_none : (b : Bool) → (b || false) ≡ b
-    or_none true = refl
-    or_none false = refl
+end_meets_step m p = or-false (is_last_hash m p) ∙ end_step m p
 
 pub only_hash : (m : List ℕ) → list_any (λ t. bytes_eq t m) (hash ∷ []) ≡ false
     → bytes_eq m hash ≡ false
@@ -111,18 +110,12 @@ pub one_sorted : (t : List ℕ) → IsStrictlySortedBy (slice_cmp nat_cmp) (t �
 unfolding IsStrictlySortedBy
 one_sorted t = (tt, tt)
 
--- ---- the levels that may stand at n
-or_left : (a b : Bool) → (a || b) ≡ false → a ≡ false
-or_left true b h = h
-or_left false b h = refl
-
-or_right : (a b : Bool) → (a || b) ≡ false → b ≡ false
-or_right true b h = absurd (true≢false h)
-or_right false b h = h
-
-or_true : (a : Bool) → (a || true) ≡ true
-or_true true = refl
-or_true false = refl
+none_of_three : (a b c : Bool) → (a || (b || (c || false))) ≡ false
+    → (a ≡ false) × (b ≡ false) × (c ≡ false)
+none_of_three a b c h =
+    let first = or_parts a (b || (c || false)) h in
+    let second = or_parts b (c || false) first.1 in
+    (first.0, second.0, (or_parts c false second.1).0)
 
 three_sorted : (a b c : List ℕ) → slice_cmp nat_cmp a b ≡ Less → slice_cmp nat_cmp b c ≡ Less
     → IsStrictlySortedBy (slice_cmp nat_cmp) (a ∷ b ∷ c ∷ [])
@@ -142,8 +135,8 @@ less_from n t Equal e h = absurd (true≢false (sym h))
 less_from n t Greater e h = absurd (true≢false (sym h))
 
 of_n : (n : List ℕ) → may_stand n n ≡ true
-of_n n = ap (λ b. bytes_eq n hash || (bytes_eq n plus || b)) (is_same n)
-    ∙ ap (λ b. bytes_eq n hash || b) (or_true (bytes_eq n plus)) ∙ or_true (bytes_eq n hash)
+of_n n = ap (λ b. bytes_eq n hash || (bytes_eq n plus || b)) (text_itself n)
+    ∙ ap (λ b. bytes_eq n hash || b) (or-true (bytes_eq n plus)) ∙ or-true (bytes_eq n hash)
 
 quiet_by : (n m : List ℕ) → bytes_eq hash m ≡ false → bytes_eq plus m ≡ false → bytes_eq n m ≡ false
     → may_stand n m ≡ false
@@ -168,8 +161,7 @@ in_order_all n p =
       | true ↦ λ e f. record {
         sorted = three_sorted n hash plus (less_from n hash _ refl e) refl;
         stand = (of_n n, (refl, (refl, tt)));
-        others = λ m none. quiet_by n m (or_left _ _ (or_right _ _ none))
-            (or_left _ _ (or_right _ _ (or_right _ _ none))) (or_left _ _ none);
+        others = λ m any. let none = none_of_three _ _ _ any in quiet_by n m none.1 none.2 none.0;
       }
       | false ↦ λ e. elim c as (λ c. is_lt (slice_cmp nat_cmp n plus) ≡ c
           → AreAll n (cond c (hash ∷ n ∷ plus ∷ []) (hash ∷ plus ∷ n ∷ []))) [
@@ -177,14 +169,14 @@ in_order_all n p =
               sorted = three_sorted hash n plus (greater_from n hash _ refl p.0 e)
                   (less_from n plus _ refl f);
               stand = (refl, (of_n n, (refl, tt)));
-              others = λ m none. quiet_by n m (or_left _ _ none)
-                  (or_left _ _ (or_right _ _ (or_right _ _ none))) (or_left _ _ (or_right _ _ none));
+              others = λ m any. let none = none_of_three _ _ _ any in
+                  quiet_by n m none.0 none.2 none.1;
             }
             | false ↦ λ f. record {
               sorted = three_sorted hash plus n refl (greater_from n plus _ refl p.1 f);
               stand = (refl, (refl, (of_n n, tt)));
-              others = λ m none. quiet_by n m (or_left _ _ none) (or_left _ _ (or_right _ _ none))
-                  (or_left _ _ (or_right _ _ (or_right _ _ none)));
+              others = λ m any. let none = none_of_three _ _ _ any in
+                  quiet_by n m none.0 none.1 none.2;
             }
           ]
     ] in

@@ -4,6 +4,7 @@ use Rattle.std.proofs.Common.{List, [], ◌∷◌, length, refl, sym, ap, ap₂,
 use Rattle.std.specs.Map.{keys_of, values_of}
 use Rattle.std.specs.List.{filter, flat_map, list_any}
 use Rattle.std.proofs.lemmas.List.Elements.{filter_agree}
+use Rattle.std.proofs.Math.Bool.{or-false}
 use Rattle.mq_topic.specs.Matching.{matches, is_wildcard}
 use Rattle.mq_tree.specs.Below.{hash, plus, begins_with_dollar, matches_below, fronts, meets_filter}
 use Rattle.mq_tree.specs.Below.{values_at, tally}
@@ -30,14 +31,10 @@ pub hash_step : (m : List ℕ) (k : List (List ℕ))
     → matches (hash ∷ []) (m ∷ k) ≡ (not (begins_with_dollar m) && matches_below (hash ∷ []) k)
 hash_step m k = wild hash [] (matches_below (hash ∷ []) k) m k refl (sym (hash_matches k))
 
-or_none : (b : Bool) → (b || false) ≡ b
-or_none true = refl
-or_none false = refl
-
 pub hash_met_step : (m : List ℕ) (p : List (List ℕ))
     → list_any (λ g. matches g (m ∷ p)) (heads (hash ∷ []))
     ≡ (not (begins_with_dollar m) && meets_filter (hash ∷ []) p)
-hash_met_step m p = or_none (matches (hash ∷ []) (m ∷ p))
+hash_met_step m p = or-false (matches (hash ∷ []) (m ∷ p))
     ∙ wild hash [] (meets_filter (hash ∷ []) p) m p refl (sym (hash_meets p))
 
 plus_below : (fs : List (List ℕ)) (m : List ℕ) (k : List (List ℕ))

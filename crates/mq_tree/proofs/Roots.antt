@@ -8,6 +8,8 @@ use Rattle.std.specs.Map.{values_of}
 use Rattle.std.specs.List.{filter, list_any}
 use Rattle.std.proofs.lemmas.Bool.Decides.{nat_tests}
 use Rattle.std.proofs.lemmas.List.Elements.{filter_agree}
+use Rattle.std.proofs.lemmas.Bool.{or_parts}
+use Rattle.mq_topic.proofs.ByteLemmas.{text_is, text_flip}
 use Rattle.mq_topic.specs.Matching.{matches, levels_match_by, level_matches, is_wildcard, level_at}
 use Rattle.mq_topic.proofs.Walk.{levels_match_cons, levels_match_end}
 use Rattle.mq_tree.specs.Below.{hash, plus, begins_with_dollar, is_last_hash, matches_below, fronts}
@@ -15,7 +17,7 @@ use Rattle.mq_tree.specs.Below.{meets_name, values_at}
 use Rattle.mq_tree.specs.Entries.{Entries}
 use Rattle.mq_tree.specs.Prefixes.{heads, prefixes, met_by_name}
 use Rattle.mq_tree.proofs.Blocks.{Long, long_prefixes}
-use Rattle.mq_tree.proofs.Levels.{same_from_true, not_same, flipped, is_same}
+use Rattle.mq_tree.proofs.Levels.{not_same}
 use Rattle.mq_tree.proofs.Names.{any_map, not_last}
 
 -- ---- the level by level test, and the one of the library
@@ -114,8 +116,8 @@ wild_shown m h =
     → begins_with_dollar m ≡ false =
     λ a b. elim a as (λ a. bytes_eq m plus ≡ a → bytes_eq m hash ≡ b → (a || b) ≡ true
     → begins_with_dollar m ≡ false) [
-      | true ↦ λ e f t. ap begins_with_dollar (same_from_true m plus e)
-      | false ↦ λ e f t. ap begins_with_dollar (same_from_true m hash (f ∙ t))
+      | true ↦ λ e f t. ap begins_with_dollar (text_is m plus e)
+      | false ↦ λ e f t. ap begins_with_dollar (text_is m hash (f ∙ t))
     ] in
     go (bytes_eq m plus) (bytes_eq m hash) refl refl h
 
@@ -125,30 +127,13 @@ wild_apart : (m n : List ℕ) → is_wildcard m ≡ true → begins_with_dollar 
 wild_apart m n h d =
     not_same n m (λ e. absurd (true≢false (sym d ∙ ap begins_with_dollar e ∙ wild_shown m h)))
 
-or_false_left : (a b : Bool) → (a || b) ≡ false → a ≡ false
-or_false_left true b h = h
-or_false_left false b h = refl
-
-or_false_right : (a b : Bool) → (a || b) ≡ false → b ≡ false
-or_false_right true b h = absurd (true≢false h)
-or_false_right false b h = h
-
 -- without a wildcard a level of a filter matches itself alone
 plain_last : (m : List ℕ) (k : List (List ℕ)) → is_wildcard m ≡ false → is_last_hash m k ≡ false
-plain_last m k h = not_last m k (or_false_right (bytes_eq m plus) (bytes_eq m hash) h)
+plain_last m k h = not_last m k (or_parts (bytes_eq m plus) (bytes_eq m hash) h).1
 
 plain_level : (m n : List ℕ) → is_wildcard m ≡ false → level_matches m n ≡ bytes_eq m n
 plain_level m n h = ap (λ b. b || bytes_eq m n)
-    (or_false_left (bytes_eq m plus) (bytes_eq m hash) h)
-
-turned : (m n : List ℕ) → bytes_eq m n ≡ bytes_eq n m
-turned m n =
-    let go : (b : Bool) → bytes_eq m n ≡ b → b ≡ bytes_eq n m =
-    λ b. elim b as (λ b. bytes_eq m n ≡ b → b ≡ bytes_eq n m) [
-      | true ↦ λ e. let s = same_from_true m n e in sym (is_same n) ∙ ap (bytes_eq n) (sym s)
-      | false ↦ λ e. sym (flipped m n e)
-    ] in
-    go (bytes_eq m n) refl
+    (or_parts (bytes_eq m plus) (bytes_eq m hash) h).0
 
 module _ (n : List ℕ) (hidden : begins_with_dollar n ≡ true) where
   pub hidden_step : (ns : List (List ℕ)) (m : List ℕ) (k : List (List ℕ))
@@ -163,7 +148,7 @@ module _ (n : List ℕ) (hidden : begins_with_dollar n ≡ true) where
       && (is_last_hash m k || (level_matches m n && matches_below k ns)))
       ≡ (bytes_eq n m && matches_below k ns)) [
         | true ↦ λ e. rw (hidden, wild_apart m n e hidden) refl
-        | false ↦ λ e. rw (hidden, plain_last m k e, plain_level m n e, turned m n) refl
+        | false ↦ λ e. rw (hidden, plain_last m k e, plain_level m n e, text_flip m n) refl
       ] in
       matches_cons (m ∷ k) n ns ∙ go (is_wildcard m) refl
 

@@ -8,12 +8,12 @@ use Rattle.std.proofs.lemmas.List.{take_all}
 use Rattle.std.proofs.lemmas.List.Folds.{list_all-append}
 use Rattle.std.proofs.lemmas.Bool.{and_parts, and_from}
 use Rattle.std.proofs.Math.Bool.{or-false}
+use Rattle.mq_topic.proofs.ByteLemmas.{text_is}
 use Rattle.mq_walk.specs.Remainders.{MarkLevels, covers, hit, same, remainder_fits, remainders_fit}
 use Rattle.mq_walk.specs.Remainders.{marks_pass}
 use Rattle.mq_walk.specs.Branches.{at, has, IsBranched, BranchesFit}
 use Rattle.mq_walk.specs.declared.remainder.Remainder.{Remainder}
 use Rattle.mq_walk.specs.declared.branches.Branches.{Branches}
-use Rattle.mq_walk.proofs.TextLemmas.{text_is}
 use Rattle.mq_walk.proofs.RemainderLemmas.{hit-append}
 
 -- one more is covered, among those of this level

@@ -12,7 +12,7 @@ use Rattle.mq_walk.specs.declared.remainder.Remainder.{Remainder}
 use Rattle.std.proofs.lemmas.Bool.Decides.{nat_tests}
 use Rattle.std.proofs.lemmas.Bool.{and_parts}
 use Rattle.std.proofs.Math.Bool.{and-not_self}
-use Rattle.mq_walk.proofs.TextLemmas.{text_is}
+use Rattle.mq_topic.proofs.ByteLemmas.{text_is}
 use Rattle.mq_walk.proofs.RemainderLemmas.{kind_is, covers_hash}
 
 -- what is left covers a name that ends, whatever the marks stand for

@@ -12,13 +12,14 @@ use Rattle.std.proofs.lemmas.Slice.Eq.{bytes_eq-Decides}
 use Rattle.std.proofs.Math.Bool.{or-false}
 use Rattle.std.proofs.lemmas.Bool.{and_from, or_left, or_right}
 use Rattle.std.specs.List.{list_all}
+use Rattle.mq_topic.proofs.ByteLemmas.{text_is}
 use denote.Ref.{Bor}
 use Rattle.mq_walk.specs.Names.{fits_start, is_among}
 use Rattle.mq_walk.specs.Choices.{all_choices}
 use Rattle.mq_walk.specs.Branches.{has}
 use Rattle.mq_walk.specs.declared.branches.Branches.{Branches}
 use Rattle.mq_walk.specs.declared.start.Start.{Start}
-use Rattle.mq_walk.proofs.TextLemmas.{text_is, or_cases}
+use Rattle.mq_walk.proofs.TextLemmas.{or_cases}
 
 -- a key is found just where it is one of the keys
 found : {X : Type 0} (l : List ℕ) (es : List (Bor (List ℕ) × X))

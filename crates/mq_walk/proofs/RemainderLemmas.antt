@@ -7,6 +7,7 @@ use Rattle.std.proofs.Math.Dec.{eqb-suc-zero}
 use denote.Ref.{Bor}
 use Rattle.std.proofs.lemmas.List.Folds.{list_any-append}
 use Rattle.std.proofs.Math.Bool.{and-true, and-false}
+use Rattle.mq_topic.proofs.ByteLemmas.{text_flip}
 use Rattle.mq_topic.specs.Levels.{levels_left}
 use Rattle.mq_topic.specs.Matching.{level_matches}
 use Rattle.mq_acl.specs.Access.{is_user}
@@ -15,7 +16,6 @@ use Rattle.mq_walk.specs.Nexts.{GoesOn, at_mark}
 use Rattle.mq_walk.specs.declared.remainder.Remainder.{Remainder}
 use Rattle.mq_topic.proofs.Walk.{levels_match_cons}
 use Rattle.mq_topic.specs.Matching.{levels_match_by}
-use Rattle.mq_walk.proofs.TextLemmas.{eq_sym}
 
 pub covers_none : (test : List ℕ → List ℕ → Bool) (l : List ℕ) (ls : List (List ℕ))
     → levels_match_by test [] (l ∷ ls) ≡ false
@@ -117,7 +117,7 @@ pub level_only : (marks : MarkLevels) (r next : Remainder) (w : List ℕ)
 level_only marks r next w e h p c u plus l ls =
     level_is marks r next w e h p c u l ls
     ∙ ap (λ b. (b || bytes_eq w l) && covers marks ls next) plus
-    ∙ ap (λ b. b && covers marks ls next) (eq_sym w l)
+    ∙ ap (λ b. b && covers marks ls next) (text_flip w l)
 
 -- ---- what remainders cover, deny and gain
 pub hit-append : (deny : Bool) (marks : MarkLevels) (ls : List (List ℕ)) (xs ys : List Remainder)

@@ -12,6 +12,7 @@ use Rattle.std.proofs.lemmas.List.Elements.{All-nil}
 use Rattle.std.proofs.lemmas.Bool.{and_parts, and_from}
 use Rattle.std.proofs.lemmas.List.{drop_more, length-map}
 use Rattle.std.proofs.lemmas.List.Folds.{list_all-append}
+use Rattle.mq_topic.proofs.ByteLemmas.{text_is, text_itself}
 use Rattle.mq_acl.specs.Access.{begins_with_dollar}
 use Rattle.mq_walk.specs.Remainders.{MarkLevels, no_marks, hit, gains, remainders_fit}
 use Rattle.mq_walk.specs.Remainders.{remainder_fits, GainsNothing, IsGain}
@@ -28,7 +29,7 @@ use Rattle.mq_walk.specs.declared.start.Start.{Start}
 use Rattle.mq_walk.specs.declared.start.Start.TheVariants.{Plain, Dollar, Slash, Inside}
 use Rattle.mq_walk.proofs.BranchLemmas.{all_at}
 use Rattle.mq_walk.proofs.EndLemmas.{gains_end}
-use Rattle.mq_walk.proofs.TextLemmas.{text_is, same_text, false_is}
+use Rattle.mq_walk.proofs.TextLemmas.{false_is}
 use Rattle.mq_walk.proofs.NameLemmas.{suits_inside, no_dollar}
 use Rattle.mq_walk.proofs.RemainderLemmas.{hit-append, gains_by}
 
@@ -159,13 +160,13 @@ plain_unnamed : (others : Others) → is_choice others others.plain.now ≡ fals
 plain_unnamed others =
     let plain = others.plain.now in
     ap (λ b. is_name_level plain && not b && not (bytes_eq plain others.dollar.now))
-    (same_text plain) ∙ no_choice (is_name_level plain) (not (bytes_eq plain others.dollar.now))
+    (text_itself plain) ∙ no_choice (is_name_level plain) (not (bytes_eq plain others.dollar.now))
 
 dollar_unnamed : (others : Others) → is_choice others others.dollar.now ≡ false
 dollar_unnamed others =
     let dollar = others.dollar.now in
     ap (λ b. is_name_level dollar && not (bytes_eq dollar others.plain.now) && not b)
-    (same_text dollar) ∙ no_choice_last (is_name_level dollar
+    (text_itself dollar) ∙ no_choice_last (is_name_level dollar
     && not (bytes_eq dollar others.plain.now))
 
 pub other_is : (start : Start) (others : Others) → are_others others ≡ true

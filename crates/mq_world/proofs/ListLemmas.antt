@@ -13,8 +13,8 @@ use Rattle.std.specs.List.Sorted.{IsStrictlySortedBy}
 use Rattle.std.specs.Map.{lookup, remove_entry, keys_of}
 use Rattle.std.specs.Set.{remove_key}
 use Rattle.std.specs.BTreeMap.{insert_entry}
+use Rattle.std.proofs.Math.Bool.{or_assoc}
 use Rattle.mq_world.specs.Lists.{with_row}
-use Rattle.mq_world.proofs.BoolLemmas.{or_assoc}
 
 pub map-filter : {X Y : Type 0} (f : X → Y) (p : Y → Bool) (xs : List X)
     → map f (filter (λ x. p (f x)) xs) ≡ filter p (map f xs)
@@ -160,7 +160,7 @@ map-insert_entry cmp o view view_cmp agrees same k v es s =
 
 -- ## Entries that are removed
 
-all_stay : {K X : Type 0} (test : K → Bool) (es : List (K × X))
+pub all_stay : {K X : Type 0} (test : K → Bool) (es : List (K × X))
     → AllByRecursion (λ y. test y ≡ false) (keys_of es) → filter (λ e. not (test e.0)) es ≡ es
 all_stay test [] h = refl
 all_stay test (e ∷ es) h = rw (h.0, all_stay test es h.1) refl
@@ -186,17 +186,19 @@ remove_entry-filter cmp test apart (e ∷ es) s =
       | false ↦ λ h. ap (λ l. e ∷ l) (remove_entry-filter cmp test apart es s.1)
     ]) refl
 
-keys_stay : {K : Type 0} (test : K → Bool) (ks : List K) → AllByRecursion (λ k. test k ≡ false) ks
-    → filter (λ k. not (test k)) ks ≡ ks
-keys_stay test [] h = refl
-keys_stay test (k ∷ ks) h = rw (h.0, keys_stay test ks h.1) refl
-
 keys_again : {K : Type 0} (cmp : K → K → Ordering) (test : K → Bool)
     (apart : (x y : K) → test x ≡ true → cmp x y ≡ Less → test y ≡ false) (k : K) → test k ≡ true
     → (ks : List K) → AllByRecursion (λ y. cmp k y ≡ Less) ks
     → AllByRecursion (λ y. test y ≡ false) ks
 keys_again cmp test apart k t [] h = tt
 keys_again cmp test apart k t (x ∷ xs) h = (apart k x t h.0, keys_again cmp test apart k t xs h.1)
+
+pub filter-kept : {X : Type 0} (p : X → Bool) (xs : List X) → AllByRecursion (λ x. p x ≡ false) xs
+    → filter (λ x. not (p x)) xs ≡ xs
+filter-kept p [] h = refl
+filter-kept p (x ∷ xs) h =
+    ap (λ b. cond (not b) (x ∷ filter (λ y. not (p y)) xs) (filter (λ y. not (p y)) xs)) h.0
+    ∙ ap (λ l. x ∷ l) (filter-kept p xs h.1)
 
 -- the same of a set
 pub remove_key-filter : {K : Type 0} (cmp : K → K → Ordering) (test : K → Bool)
@@ -208,7 +210,7 @@ remove_key-filter cmp test apart (k ∷ ks) s =
     let P : Bool → Type 0 = λ b. test k ≡ b → cond b ks (k ∷ remove_key test ks)
     ≡ cond (not b) (k ∷ filter (λ x. not (test x)) ks) (filter (λ x. not (test x)) ks) in
     (elim (test k) as P [
-      | true ↦ λ h. sym (keys_stay test ks (keys_again cmp test apart k h ks s.0))
+      | true ↦ λ h. sym (filter-kept test ks (keys_again cmp test apart k h ks s.0))
       | false ↦ λ h. ap (λ l. k ∷ l) (remove_key-filter cmp test apart ks s.1)
     ]) refl
 
@@ -257,13 +259,6 @@ pub filter-none : {X : Type 0} (p : X → Bool) (xs : List X) → AllByRecursion
 filter-none p [] h = refl
 filter-none p (x ∷ xs) h = ap (λ b. cond b (x ∷ filter p xs) (filter p xs)) h.0
     ∙ filter-none p xs h.1
-
-pub filter-kept : {X : Type 0} (p : X → Bool) (xs : List X) → AllByRecursion (λ x. p x ≡ false) xs
-    → filter (λ x. not (p x)) xs ≡ xs
-filter-kept p [] h = refl
-filter-kept p (x ∷ xs) h =
-    ap (λ b. cond (not b) (x ∷ filter (λ y. not (p y)) xs) (filter (λ y. not (p y)) xs)) h.0
-    ∙ ap (λ l. x ∷ l) (filter-kept p xs h.1)
 
 pub any-none : {X : Type 0} (p : X → Bool) (xs : List X) → AllByRecursion (λ x. p x ≡ false) xs
     → list_any p xs ≡ false

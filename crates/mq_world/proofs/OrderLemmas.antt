@@ -16,11 +16,11 @@ use Rattle.std.proofs.lemmas.List.Kept.{IsStrictlySortedBy-filter}
 use Rattle.std.proofs.lemmas.Map.Text.{is_eq-slice_cmp}
 use Rattle.std.proofs.lemmas.List.Splits.{join_with_byte-slice_split}
 use Rattle.std.proofs.lemmas.Slice.Eq.{bytes_eq-Decides}
+use Rattle.std.proofs.Math.Bool.{and_assoc}
 use Rattle.mq_topic.specs.Levels.{levels, level_order}
 use Rattle.mq_world.specs.Lists.{Text, same_text, text_cmp, with_row}
 use Rattle.mq_world.specs.World.{Subscription, session_cmp, subscription_cmp, row_cmp, retained_cmp}
 use Rattle.mq_world.specs.World.{group_cmp, same_share, has_key}
-use Rattle.mq_world.proofs.BoolLemmas.{and_assoc}
 
 -- ## The orders
 
@@ -50,7 +50,7 @@ equal_from Less h = cc
 equal_from Equal h = refl
 equal_from Greater h = cc
 
-less_from : (r : Ordering) → is_lt r ≡ true → r ≡ Less
+pub less_from : (r : Ordering) → is_lt r ≡ true → r ≡ Less
 less_from Less h = refl
 less_from Equal h = cc
 less_from Greater h = cc
@@ -95,8 +95,8 @@ tied_is x s =
     ∙ ap (λ b. same_text x.client s.client && (b && levels_tie)) (share_equal x.share s.share)
     ∙ ap (λ b. same_text x.client s.client && (same_share x.share s.share && b))
     (level_equal x.filter s.filter)
-    ∙ and_assoc (same_text x.client s.client) (same_share x.share s.share)
-    (same_text x.filter s.filter)
+    ∙ sym (and_assoc (same_text x.client s.client) (same_share x.share s.share)
+    (same_text x.filter s.filter))
 
 -- ## A row put among rows in order leaves them in order
 

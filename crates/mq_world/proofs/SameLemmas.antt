@@ -5,10 +5,10 @@ use Rattle.std.proofs.Common.{nat_lt, refl, sym, ◌∙◌, ap, subst, arith, �
 use Rattle.std.specs.List.{filter, filter_map, cons_option, list_any}
 use Rattle.std.specs.Option.{option_map_or}
 use Rattle.std.specs.Cmp.{nat_eq_equiv}
+use Rattle.std.proofs.Math.Bool.{and_comm}
 use borrow.Author.Tests.{ltb-true, ltb-false, eqb-true, leb-true, leb-false}
 use Rattle.mq_world.specs.Lists.{greatest, ascending, insert_number, SameElements}
 use Rattle.mq_world.proofs.ListLemmas.{filter-same}
-use Rattle.mq_world.proofs.BoolLemmas.{and_comm}
 
 -- ## What filters, maps and tests say of such lists
 
@@ -190,11 +190,13 @@ insert-swap u v (m ∷ ms) =
                         | inr vu ↦ absurd (omega arith)
                       ]
                 ]
-            | inr um ↦ (let uv : nat_le u v ≡ false = not_le u v (omega arith) in simp (vm.0, um.0, uv))
+            | inr um ↦ (let uv : nat_le u v ≡ false = not_le u v (omega arith) in
+                simp (vm.0, um.0, uv))
           ]
       | inr vm ↦ elim (le_cases u m) as (λ _. insert_number u (insert_number v (m ∷ ms))
           ≡ insert_number v (insert_number u (m ∷ ms))) [
-            | inl um ↦ (let vu : nat_le v u ≡ false = not_le v u (omega arith) in simp (vm.0, um.0, vu))
+            | inl um ↦ (let vu : nat_le v u ≡ false = not_le v u (omega arith) in
+                simp (vm.0, um.0, vu))
             | inr um ↦ simp (vm.0, um.0) (ap (λ l. m ∷ l) (insert-swap u v ms))
           ]
     ]

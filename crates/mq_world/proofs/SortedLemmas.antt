@@ -10,9 +10,10 @@ use Rattle.std.specs.List.Sorted.{IsStrictlySortedBy}
 use Rattle.std.proofs.lemmas.List.Kept.{IsStrictlySortedBy-filter}
 use Rattle.mq_world.specs.Lists.{with_row, in_order}
 use Rattle.mq_world.proofs.OrderLemmas.{all_append, all_weaker, sorted-with_row}
-use Rattle.mq_world.proofs.BoolLemmas.{and_false, or_flip, pick}
+use Rattle.mq_world.proofs.BoolLemmas.{pick}
 use Rattle.mq_world.proofs.ListLemmas.{any-append}
 use Rattle.std.specs.Ordering.{is_lt}
+use Rattle.std.proofs.Math.Bool.{and-false, or_comm}
 
 -- only what gives something is kept
 pub filter_map-some : {X Y : Type 0} (h : X → Option Y) (xs : List X)
@@ -105,7 +106,7 @@ module _ {X : Type 0} (cmp : X → X → Ordering) (o : IsTotalOrder cmp) where
         ∙ sym (ap (λ b. (b || list_any (ties z) xs) && q z) e ∙ ap q zx ∙ t))
         (λ f. ap (λ b. list_any (ties z) (cond b (x ∷ filter q xs) (filter q xs))) f
         ∙ any-filter q z xs
-        ∙ ap (λ b. list_any (ties z) xs && b) (ap q zx ∙ f) ∙ and_false (list_any (ties z) xs)
+        ∙ ap (λ b. list_any (ties z) xs && b) (ap q zx ∙ f) ∙ and-false (list_any (ties z) xs)
         ∙ sym (ap (λ b. (b || list_any (ties z) xs) && q z) e ∙ ap q zx ∙ f))))
         (λ e. (elim (q x) as (λ b. list_any (ties z) (cond b (x ∷ filter q xs) (filter q xs))
         ≡ list_any (ties z) (filter q xs))
@@ -123,8 +124,8 @@ module _ {X : Type 0} (cmp : X → X → Ordering) (o : IsTotalOrder cmp) where
         (λ z. any-filter q z xs
         ∙ pick (q z)
         (λ e. ap (λ b. b && q z) (h z e))
-        (λ e. ap (λ b. list_any (ties z) xs && b) e ∙ and_false (list_any (ties z) xs)
-        ∙ sym (ap (λ b. list_any (ties z) ys && b) e ∙ and_false (list_any (ties z) ys)))
+        (λ e. ap (λ b. list_any (ties z) xs && b) e ∙ and-false (list_any (ties z) xs)
+        ∙ sym (ap (λ b. list_any (ties z) ys && b) e ∙ and-false (list_any (ties z) ys)))
         ∙ sym (any-filter q z ys))
 
     pub same_gathered : {Y : Type 0} (h : X → Option Y) (xs ys : List X) → IsStrictlySortedBy cmp xs
@@ -164,7 +165,7 @@ module _ {X : Type 0} (cmp : X → X → Ordering) (o : IsTotalOrder cmp) where
         → list_any (ties z) (in_order cmp xs) ≡ list_any (ties z) xs
     any-in_order z [] = refl
     any-in_order z (x ∷ xs) = any-with_row z x (in_order cmp xs)
-        ∙ ap (λ b. b || ties z x) (any-in_order z xs) ∙ or_flip (list_any (ties z) xs) (ties z x)
+        ∙ ap (λ b. b || ties z x) (any-in_order z xs) ∙ or_comm (list_any (ties z) xs) (ties z x)
 
     pub same_in_order : (xs ys : List X) → ((z : X) → list_any (ties z) xs ≡ list_any (ties z) ys)
         → in_order cmp xs ≡ in_order cmp ys

@@ -89,19 +89,6 @@ module _ {K X : Type 0} (cmp : K → K → Ordering) (test : K → Bool) where
             })
       ]) refl h
 
--- the same value in its place
-pub set_same : {K X : Type 0} (test : K → Bool) (es : List (K × X)) (v : X)
-    → lookup test es ≡ Some v → set_value test es v ≡ es
-set_same test [] v h = refl
-set_same test (e ∷ es) v h =
-    let P : Bool → Type 0 = λ b. cond b (Some e.1) (lookup test es) ≡ Some v
-    → cond b ((e.0, v) ∷ es) (e ∷ set_value test es v) ≡ e ∷ es in
-    (elim (test e.0) as P [
-      | true ↦ λ g. ap (λ x. (e.0, x) ∷ es) (sym (some_same g))
-      | false ↦ λ g.
-          ap (λ l. e ∷ l) (set_same test es v g)
-    ]) h
-
 pub none_passes : {K X : Type 0} (test : K → Bool) (es : List (K × X)) → lookup test es ≡ None
     → AllByRecursion (λ (e : K × X). test e.0 ≡ false) es
 none_passes test [] h = tt
@@ -216,16 +203,6 @@ pub flat_map-cut : {A B : Type 0} (f : A → List B) (xs : List A) (y : A) (zs :
 flat_map-cut {A} {B} f [] y zs = refl
 flat_map-cut {A} {B} f (x ∷ xs) y zs = ap (λ l. f x ++ l) (flat_map-cut f xs y zs)
     ∙ sym (append_again (f x) (flat_map f xs) (f y ++ flat_map f zs))
-  where
-    append_again : (us bs cs : List B) → (us ++ bs) ++ cs ≡ us ++ (bs ++ cs)
-    append_again [] bs cs = refl
-    append_again (a ∷ us) bs cs = ap (λ l. a ∷ l) (append_again us bs cs)
-
-pub flat_map-joint : {A B : Type 0} (f : A → List B) (xs zs : List A)
-    → flat_map f (xs ++ zs) ≡ flat_map f xs ++ flat_map f zs
-flat_map-joint {A} {B} f [] zs = refl
-flat_map-joint {A} {B} f (x ∷ xs) zs = ap (λ l. f x ++ l) (flat_map-joint f xs zs)
-    ∙ sym (append_again (f x) (flat_map f xs) (flat_map f zs))
   where
     append_again : (us bs cs : List B) → (us ++ bs) ++ cs ≡ us ++ (bs ++ cs)
     append_again [] bs cs = refl

@@ -1,10 +1,10 @@
 use Rattle.std.proofs.Common.{ℕ, List, [], Bor, get_or, ap, not, sym, ◌∙◌, subst, Option, Some}
 use Rattle.std.proofs.Common.{refl}
+use Rattle.mq_topic.proofs.ByteLemmas.{text_itself}
 use Rattle.mq_report.specs.Differences.{Adds}
 use Rattle.mq_report.proofs.ChangeLemmas.{ToldFor, told_start, told_one, told_all, same_allowed}
 use Rattle.mq_report.proofs.ChangeLemmas.{listed_by}
 use Rattle.mq_questions.proofs.ClientLemmas.{among_at}
-use Rattle.mq_walk.proofs.TextLemmas.{same_text}
 use Rattle.mq_report.proofs.changes.compare.Goals as goal
 
 abbrev none : Bor (List ℕ)
@@ -35,7 +35,8 @@ loop-user-preserved c =
     told_one c.args.old.now c.args.new.now c.deref-user-items.result.now c.loop-user.user-index none
     c.loop-user.all.items c.add_clients-in-loop-user.new.all.items c.loop-user-test.true
     c.in_ok-add_clients-2.ensures.adds
-    (λ way direction. c.in_ok-add_clients-2.ensures.told way direction (Some name) (same_text name))
+    (λ way direction. c.in_ok-add_clients-2.ensures.told way direction (Some name)
+    (text_itself name))
     c.loop-user.invariant
 
 -- whatever changes for anybody is told

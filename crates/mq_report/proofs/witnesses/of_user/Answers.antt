@@ -1,6 +1,7 @@
 use Rattle.std.proofs.Common.{◌≡◌, length, ap, sym, ◌∙◌, true, Some, string_bytes}
 use Rattle.std.proofs.lemmas.Iterator.Adapters.{YieldsList-from_vec}
 use Rattle.std.proofs.lemmas.Iterator.Consumers.{YieldsList-turn, YieldsList-end}
+use Rattle.mq_topic.proofs.ByteLemmas.{text_itself}
 use Rattle.mq_acl.specs.Views.{row_views}
 use Rattle.mq_questions.specs.Comparison.{is_changed}
 use Rattle.mq_questions.specs.declared.ask.gain.Witness.{Witness}
@@ -8,7 +9,6 @@ use Rattle.mq_questions.proofs.GainListLemmas.{all_yielded}
 use Rattle.mq_report.specs.declared.witnesses.Clients.TheVariants as clients
 use Rattle.mq_report.proofs.WitnessLemmas.{change_is, witness_at, found_start, found_one}
 use Rattle.mq_report.proofs.WitnessLemmas.{found_tells, asked_user}
-use Rattle.mq_walk.proofs.TextLemmas.{same_text}
 use Rattle.mq_report.proofs.witnesses.of_user.Goals as goal
 
 pub add_witness-requires-clause-change : goal.add_witness-requires-clause-change
@@ -62,7 +62,7 @@ returns-clause-told c =
     found_tells c.args.lists.old.now c.args.lists.new.now c.args.question.way
     c.args.question.direction
     (clients.User (record { ref_ptr = (0, 0); now = c.args.user.now })) c.loop-witness.yielded
-    c.loop-witness.told.items (Some c.args.user.now) (same_text c.args.user.now)
+    c.loop-witness.told.items (Some c.args.user.now) (text_itself c.args.user.now)
     (λ none client topic valid. change_is c.args.lists.old.now c.args.lists.new.now
     c.args.lists.comparison.now c.args.question.way client (Some c.args.user.now) topic
     c.args.question.direction c.requires.lists

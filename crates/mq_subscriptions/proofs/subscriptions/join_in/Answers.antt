@@ -3,6 +3,7 @@ use Rattle.std.specs.Option.{option_copied_mut, option_copied, option_map}
 use Rattle.std.specs.Rc.{rc_str_bytes}
 use Rattle.std.specs.Result.{OnOk}
 use Rattle.std.specs.Map.{set_value}
+use Rattle.std.proofs.lemmas.Map.Steps.{set_value_same}
 use Rattle.mq_topic.specs.Levels.{levels}
 use Rattle.mq_tree.specs.Entries.{is_key}
 use Rattle.mq_world.specs.Lists.{Text}
@@ -12,7 +13,6 @@ use Rattle.mq_subscriptions.specs.Turns.{upsert}
 use Rattle.mq_subscriptions.specs.Filters.{At, AtEntries, AreEntries, row, all_rows}
 use Rattle.mq_subscriptions.proofs.InTurn.{same-is, same-then}
 use Rattle.mq_world.proofs.ListLemmas.{on_err}
-use Rattle.mq_world.proofs.Splits.{set_same}
 use Rattle.mq_subscriptions.proofs.TreeLemmas.{tree-joined, set-kept, found_filter, joined-live}
 use Rattle.mq_subscriptions.proofs.subscriptions.join_in.Goals as goal
 
@@ -23,7 +23,7 @@ returns-in_err-join-in-Some-clause-err c =
     on_err c.from_residual-in_err-join-in-Some.result
     (set ∙ ap (set_value (is_key (levels c.args.wanted.now.filter)) c.args.tree.now)
     c.in_err-join-in-Some.ensures.err
-    ∙ set_same (is_key (levels c.args.wanted.now.filter)) c.args.tree.now c.in-Some.at.now
+    ∙ set_value_same (is_key (levels c.args.wanted.now.filter)) c.args.tree.now c.in-Some.at.now
     found)
 
 pub returns-in_err-join-in-Some-clause-kept : goal.returns-in_err-join-in-Some-clause-kept
@@ -33,7 +33,7 @@ returns-in_err-join-in-Some-clause-kept c =
     subst (λ (l : AtEntries). AreEntries l)
     (sym (set ∙ ap (set_value (is_key (levels c.args.wanted.now.filter)) c.args.tree.now)
     c.in_err-join-in-Some.ensures.err
-    ∙ set_same (is_key (levels c.args.wanted.now.filter)) c.args.tree.now c.in-Some.at.now
+    ∙ set_value_same (is_key (levels c.args.wanted.now.filter)) c.args.tree.now c.in-Some.at.now
     found)) c.requires
 
 pub returns-in_ok-join-in-Some-clause-ok : goal.returns-in_ok-join-in-Some-clause-ok

@@ -3,12 +3,12 @@ use Rattle.std.specs.Option.{option_copied_mut}
 use Rattle.std.specs.Rc.{rc_str_bytes}
 use Rattle.std.specs.List.{AllByRecursion}
 use Rattle.std.specs.Map.{lookup, set_value}
+use Rattle.std.proofs.lemmas.Map.Steps.{set_value_same}
 use Rattle.mq_world.specs.Keys.{Key}
 use Rattle.mq_subscriptions.specs.Filters.{is_text, text_key, is_empty, FilterKey}
 use Rattle.mq_subscriptions.specs.Views.{texts}
 use Rattle.mq_world.proofs.ListLemmas.{on_err}
 use Rattle.mq_sessions.proofs.SessionLemmas.{finds}
-use Rattle.mq_world.proofs.Splits.{set_same}
 use Rattle.mq_subscriptions.proofs.TextMaps.{lookup-texts}
 use Rattle.mq_subscriptions.proofs.ListedLemmas.{added-there, added-live, live-set}
 use Rattle.mq_subscriptions.proofs.subscriptions.list_add.Goals as goal
@@ -43,7 +43,7 @@ returns-in_err-add-in-Some-clause-err c =
     let found = sym c.get_mut.ensures.value ∙ ap option_copied_mut c.in-Some.is in
     on_err c.from_residual.result ((c.get_mut.follows.holds c.add.new.self).0
     ∙ ap (set_value test ls) c.in_err-add-in-Some.ensures.err
-    ∙ set_same test ls c.in-Some.own.now found)
+    ∙ set_value_same test ls c.in-Some.own.now found)
 
 pub returns-in_err-add-in-Some-clause-live : goal.returns-in_err-add-in-Some-clause-live
 returns-in_err-add-in-Some-clause-live c =
@@ -52,7 +52,7 @@ returns-in_err-add-in-Some-clause-live c =
     let found = sym c.get_mut.ensures.value ∙ ap option_copied_mut c.in-Some.is in
     let same = (c.get_mut.follows.holds c.add.new.self).0
     ∙ ap (set_value test ls) c.in_err-add-in-Some.ensures.err
-    ∙ set_same test ls c.in-Some.own.now found in
+    ∙ set_value_same test ls c.in-Some.own.now found in
     subst (λ (es : List (Key × List FilterKey)). AllByRecursion (λ l. is_empty l.1 ≡ false)
     (texts es))
     (sym same) c.requires.live

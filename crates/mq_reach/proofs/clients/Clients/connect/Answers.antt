@@ -1,7 +1,8 @@
 use Rattle.std.proofs.Common.{◌≡◌, ◌&&◌, ◌∙◌, ap, sym, true, string_bytes}
 use Rattle.std.specs.Option.{option_map}
+use Rattle.std.proofs.lemmas.Bool.{and_from}
 use Rattle.mq_world.specs.Refusals.{is_client_id, is_user_name}
-use Rattle.mq_reach.proofs.ClientLemmas.{both, connected}
+use Rattle.mq_reach.proofs.ClientLemmas.{connected}
 use Rattle.mq_reach.proofs.clients.Clients.connect.Goals as goal
 
 pub returns : goal.returns
@@ -16,5 +17,5 @@ returns c = λ id.
     ∙ c.if-not-is_user_name.false in
     connected client c.args.user c.args.self.now.users c.insert.new.self
     (is_client_id client && is_user_name user)
-    (both (is_client_id client) (is_user_name user) good_id good_user)
+    (and_from (is_client_id client) (is_user_name user) good_id good_user)
     c.in_ok-insert.ensures.updates id

@@ -2,9 +2,9 @@ use Rattle.std.proofs.Common.{◌≡◌, ℕ, ◌+◌, ◌∙◌, false, sym, ap
 use Rattle.std.specs.Map.{set_value}
 use Rattle.std.specs.Option.{option_map, option_map_or}
 use Rattle.std.specs.Rc.{rc_str_bytes}
+use Rattle.std.proofs.lemmas.Map.Steps.{set_value_same}
 use Rattle.mq_world.specs.World.{Session, Away}
 use Rattle.mq_world.specs.Sessions.{connected, is_present, session_end}
-use Rattle.mq_world.proofs.Splits.{set_same}
 use Rattle.mq_sessions.specs.Ends.{AreListed, KeepIds, views_of}
 use Rattle.mq_sessions.specs.Views.{kept_id, session_at, session_in}
 use Rattle.mq_sessions.proofs.SessionLemmas.{edited-is, finds, found-is}
@@ -33,7 +33,7 @@ returns-in_default-leave-clause-away c =
     let es = c.args.sessions.now.entries in
     (c.get_mut.follows.holds c.leave.new.self).0
     ∙ ap (set_value (finds c.args.id.now) es) c.in_default-leave.ensures.away
-    ∙ set_same (finds c.args.id.now) es c.in-Some.session.now (sym c.in-Some.ensures.value)
+    ∙ set_value_same (finds c.args.id.now) es c.in-Some.session.now (sym c.in-Some.ensures.value)
 
 pub returns-in_default-leave-clause-none : goal.returns-in_default-leave-clause-none
 returns-in_default-leave-clause-none c =

@@ -4,6 +4,7 @@ use Rattle.std.specs.Rc.{rc_str_bytes}
 use Rattle.std.specs.Result.{OnOk}
 use Rattle.std.specs.Map.{set_value, lookup}
 use Rattle.std.specs.Option.{option_copied_mut}
+use Rattle.std.proofs.lemmas.Map.Steps.{set_value_same}
 use Rattle.mq_world.specs.Keys.{Key}
 use Rattle.mq_world.specs.Lists.{Text}
 use Rattle.mq_world.specs.Turns.{SameInTurn}
@@ -14,7 +15,6 @@ use Rattle.mq_subscriptions.specs.Filters.{Member, row, NoneEmpty, is_text, grou
 use Rattle.mq_subscriptions.specs.Filters.{is_empty}
 use Rattle.mq_subscriptions.specs.Views.{texts}
 use Rattle.mq_subscriptions.proofs.AtLemmas.{group-joined, group-live, with_one-live}
-use Rattle.mq_world.proofs.Splits.{set_same}
 use Rattle.mq_subscriptions.proofs.TextMaps.{lookup-texts}
 use Rattle.mq_subscriptions.proofs.subscriptions.filter_entry.join_group.Goals as goal
 
@@ -24,7 +24,7 @@ returns-in_err-join-in-Some-clause-err c =
     let es = c.args.groups.now.entries in
     on_err c.from_residual.result ((c.get_mut.follows.holds c.join.new.self).0
     ∙ ap (set_value (finds c.args.share.now) es) c.in_err-join-in-Some.ensures.err
-    ∙ set_same (finds c.args.share.now) es c.in-Some.group.now found)
+    ∙ set_value_same (finds c.args.share.now) es c.in-Some.group.now found)
 
 pub returns-in_err-join-in-Some-clause-live : goal.returns-in_err-join-in-Some-clause-live
 returns-in_err-join-in-Some-clause-live c =
@@ -33,7 +33,7 @@ returns-in_err-join-in-Some-clause-live c =
     subst (λ (l : List (Key × List Member)). NoneEmpty (texts l))
     (sym ((c.get_mut.follows.holds c.join.new.self).0
     ∙ ap (set_value (finds c.args.share.now) es) c.in_err-join-in-Some.ensures.err
-    ∙ set_same (finds c.args.share.now) es c.in-Some.group.now found)) c.requires
+    ∙ set_value_same (finds c.args.share.now) es c.in-Some.group.now found)) c.requires
 
 pub add_group-requires-clause-absent : goal.add_group-requires-clause-absent
 add_group-requires-clause-absent c =

@@ -1,8 +1,8 @@
 use Rattle.std.proofs.Common.{◌≡◌, refl, ap, ◌∙◌, List, ℕ, Bor, Bool, true, false, cond, ◌||◌}
 use Rattle.std.proofs.Common.{bytes_eq}
 use Rattle.std.proofs.lemmas.Map.Text.{is_eq-slice_cmp}
+use Rattle.mq_topic.proofs.ByteLemmas.{text_flip}
 use Rattle.mq_questions.specs.Literals.{is_named}
-use Rattle.mq_walk.proofs.TextLemmas.{eq_sym}
 use Rattle.mq_questions.proofs.ask.literals.Literals.add.Goals as goal
 
 one_more : (b a : Bool) → cond b true a ≡ (a || b)
@@ -16,5 +16,5 @@ returns c = λ l.
     let q : Bor (List ℕ) = record { ref_ptr = (0, 0); now = l } in
     c.in_ok-insert.ensures.updates.0 q
     ∙ ap (λ b. cond b true (is_named l c.args.self.now))
-    (is_eq-slice_cmp c.args.level.now l ∙ eq_sym c.args.level.now l)
+    (is_eq-slice_cmp c.args.level.now l ∙ text_flip c.args.level.now l)
     ∙ one_more (bytes_eq l c.args.level.now) (is_named l c.args.self.now)
