@@ -1,12 +1,15 @@
 //! The retained messages: a tree by topic, and an index of their deadlines.
-ghost use Rattle.std.specs.Prelude.{◌≡◌, ◌+◌, ◌<◌, ◌^◌, ℕ, [], length, OnOk, OnErr, IfOk, IfSome};
-ghost use Rattle.std.specs.List.{filter};
+ghost use Rattle.std.specs.Prelude.{◌≡◌, ◌+◌, ◌<◌, ◌^◌, ℕ, [], length, not, OnOk, OnErr, IfOk};
+ghost use Rattle.std.specs.Prelude.{IfSome};
+ghost use Rattle.std.specs.List.{filter, list_any};
 ghost use Rattle.mq_tree.specs.Entries.{capped};
 ghost use Rattle.mq_tree.specs.Prefixes.{prefixes};
 ghost use Rattle.mq_world.specs.Clock.{deadline_of};
-ghost use Rattle.mq_world.specs.Retained.{retained_after, without_expired, is_full};
-ghost use Rattle.mq_retained.specs.Deadlines.{is_due};
-ghost use Rattle.mq_retained.specs.Stored.{AreFiled, AreNear};
+ghost use Rattle.mq_world.specs.Lists.{with_row};
+ghost use Rattle.mq_world.specs.World.{retained_cmp};
+ghost use Rattle.mq_world.specs.Retained.{retained_after, without_expired, is_full, has_topic};
+ghost use Rattle.mq_retained.specs.Deadlines.{deadline_at, is_due};
+ghost use Rattle.mq_retained.specs.Stored.{stored_until, AreFiled, AreNear};
 
 mod copies;
 mod deadlines;
@@ -16,13 +19,15 @@ mod stored;
 
 pub use copies::Receiver;
 use copies::copies_of;
-use deadlines::Deadlines;
-use edits::{forget, has_message, is_stored, store};
+use deadlines::{Deadlines, Due};
+use edits::{is_stored, replaced};
 use messages::Messages;
+use mq_topic::TopicName;
 use mq_tree::Steps;
 use mq_world::{Delivery, Message};
 use std::alloc::{AllocError, Global};
 use std::marker::Model;
+use stored::Stored;
 
 /// One message for a topic, each with a deadline or none. It is seen as the list of the messages by topic in level order,
 /// with the keys of the tree and the pairs of the index.
@@ -77,11 +82,9 @@ impl Retained {
             return Ok(());
         }
         if !is_stored(message) {
-            forget(&mut self.tree, &mut self.deadlines, message.topic)?;
-            return Ok(());
+            return self.forget(message.topic);
         }
-        store(self.alloc, &mut self.tree, &mut self.deadlines, message)?;
-        Ok(())
+        self.store(message)
     }
 
     /// Removes each message whose deadline is at the moment or before it, each at one step. It takes no memory.
@@ -102,7 +105,7 @@ impl Retained {
         let Some(most) = limit else {
             return false;
         };
-        if !is_stored(message) || has_message(&self.tree, message.topic) {
+        if !is_stored(message) || self.has_message(message.topic) {
             return false;
         }
         self.len() >= most as u64
@@ -137,5 +140,60 @@ impl Retained {
         ensures { result ≡ capped (length (prefixes self.now.keys)) }
     {
         self.tree.nodes()
+    }
+
+    // Whether a message is stored for the topic.
+    fn has_message(&self, topic: &TopicName) -> bool
+        ensures { result ≡ list_any (has_topic topic.now) self.now.messages }
+    {
+        self.tree.get(topic).is_some()
+    }
+
+    fn deadline_at(&self, topic: &TopicName) -> Option<u64>
+        ensures { result ≡ deadline_at topic.now self.now.messages }
+    {
+        self.tree.get(topic)?.deadline
+    }
+
+    // Stores a message, in place of an older one of its topic. What takes memory comes first, but for the tree's entry: where
+    // that is refused the topic had none, and the new deadline is removed again.
+    fn store(&mut self, message: &Message) -> Result<(), AllocError>
+        ensures ok { OnOk result (self.new.messages
+            ≡ with_row retained_cmp (stored_until message.now.deadline (message_of message.now))
+            self.old.messages) }
+        ensures filed { OnOk result (AreFiled self.new) }
+        ensures err { OnErr result (self.new ≡ self.old) }
+    {
+        let stored = Stored::from_message(self.alloc, message)?;
+        let new = Due::of(message.deadline, message.topic)?;
+        let older = replaced(
+            self.deadline_at(message.topic),
+            message.deadline,
+            message.topic,
+        )?;
+        self.deadlines.put(message.deadline, message.topic)?;
+        match self.tree.put(message.topic, stored) {
+            Err(fault) => {
+                self.deadlines.remove(&new);
+                Err(fault)
+            }
+            Ok(_) => {
+                self.deadlines.remove(&older);
+                Ok(())
+            }
+        }
+    }
+
+    // Removes the message of a topic, if there is one.
+    fn forget(&mut self, topic: &TopicName) -> Result<(), AllocError>
+        ensures ok { OnOk result (self.new.messages
+            ≡ filter (λ kept. not (has_topic topic.now kept)) self.old.messages) }
+        ensures filed { OnOk result (AreFiled self.new) }
+        ensures err { OnErr result (self.new ≡ self.old) }
+    {
+        let older = Due::of(self.deadline_at(topic), topic)?;
+        let _ = self.tree.take(topic);
+        self.deadlines.remove(&older);
+        Ok(())
     }
 }

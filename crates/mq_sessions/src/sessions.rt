@@ -15,8 +15,8 @@ ghost use Rattle.mq_sessions.specs.Near.{AllReached};
 ghost use Rattle.mq_world.specs.Views.{copy_of};
 ghost use Rattle.mq_sessions.specs.Views.{session_in};
 
-mod edits;
 mod ends;
+mod leaving;
 pub(crate) mod queue;
 pub(crate) mod queued;
 mod resume;
@@ -25,8 +25,8 @@ pub(crate) mod session;
 use crate::clock::Clock;
 use crate::sessions::queued::QueuedCopy;
 use crate::sessions::session::Session;
-use edits::{leave, put, remove};
 use ends::{add_end, make_room, settle};
+use leaving::leave;
 use mq_ends::Ends;
 use mq_world::Delivery;
 use std::alloc::{AllocError, Global};
@@ -161,11 +161,8 @@ impl Sessions {
     {
         let kept = id.clone()?;
         make_room(alloc, &mut self.ends, &self.by_id)?;
-        put(
-            &mut self.by_id,
-            id,
-            Session::new(alloc, kept, user, interval),
-        )?;
+        let session = Session::new(alloc, kept, user, interval);
+        self.by_id.insert(id, session)?;
         settle(&mut self.ends, &self.by_id);
         Ok(())
     }
@@ -186,7 +183,9 @@ impl Sessions {
     pub fn remove(&mut self, id: &str)
         ensures { self.new ≡ filter (λ session. not (has_id id.now session)) self.old }
     {
-        remove(&mut self.by_id, id);
+        // Learns that the ids are in order.
+        let _count = self.by_id.len();
+        let _ = self.by_id.remove(id);
         settle(&mut self.ends, &self.by_id);
     }
 
@@ -204,9 +203,10 @@ impl Sessions {
         if !self.ends.any_until(moment) {
             return None;
         }
-        learn_order(&self.by_id);
+        // Learns that the ids are in order.
+        let _count = self.by_id.len();
         let client = self.ends.pop()?;
-        remove(&mut self.by_id, client.as_str());
+        let _ = self.by_id.remove(client.as_str());
         settle(&mut self.ends, &self.by_id);
         Some(client)
     }

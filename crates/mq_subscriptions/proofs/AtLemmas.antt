@@ -14,7 +14,8 @@ use Rattle.mq_world.specs.World.{Subscription, same_share, has_key, same_key}
 use Rattle.mq_world.specs.Turns.{SameInTurn}
 use Rattle.mq_subscriptions.specs.Turns.{with_one, put_last, upsert}
 use Rattle.mq_subscriptions.specs.Filters.{Member, has_client, row, is_empty, is_text, direct_rows}
-use Rattle.mq_subscriptions.specs.Filters.{group_rows, NoneEmpty}
+use Rattle.mq_subscriptions.specs.Filters.{At, AreHere, GroupList, group_rows, NoneEmpty}
+use Rattle.std.proofs.lemmas.Bool.{false_from_ne_true}
 use Rattle.mq_subscriptions.specs.Views.{texts}
 use Rattle.mq_world.proofs.OrderLemmas.{all_append}
 use Rattle.mq_world.proofs.ListLemmas.{map-filter, filter-same, is_some-lookup, list_any-map}
@@ -471,6 +472,11 @@ here-is f d gs = all_append (λ s. s.filter ≡ f) (direct_rows f d) (group_rows
     of_groups (g ∷ hs) = all_append (λ s. s.filter ≡ f) (rows_of f g) (group_rows f hs)
         (of (Some g.0) g.1) (of_groups hs)
 
+-- so is each in what an entry shows
+pub is_here : (f : Text) (d : List Member) (gs : GroupList) (a : At)
+    → record { filter = f; rows = direct_rows f d ++ group_rows f gs } ≡ a → AreHere a
+is_here f d gs a e = subst AreHere e (here-is f d gs)
+
 pub direct-any : (f bs : Text) (es : List (Key × held.SubscriptionOptions))
     → is_some (lookup (finds bs) es) ≡ list_any (has_key bs None f) (direct_rows f (texts es))
 direct-any f bs es =
@@ -502,19 +508,20 @@ at-any-shared f c share d gs =
     ∙ ap (λ b. b || list_any (same_key s) (group_rows f gs))
     (any-none (same_key s) (direct_rows f d) (none_same s _ (all_own f s share refl d))))
 
--- nothing is here where both maps are empty
-pub bare-is : (f : Text) (d : List (Key × held.SubscriptionOptions)) (gs : List (Key × List Member))
-    → NoneEmpty (texts gs) → (b : Bool) → (IsTrue b ↔ (length gs ≡ 0)) → length d ≡ 0
-    → b ≡ is_empty (direct_rows f (texts d) ++ group_rows f (texts gs))
-bare-is f [] [] live b h e = h.1 refl
-bare-is f [] ((k, m ∷ ms) ∷ gs) live b h e =
-    false_from b (λ t. (let no : suc (length gs) ≡ 0 = h.0 t in cc))
-  where
-    false_from : (x : Bool) → (x ≡ true → ⊥) → x ≡ false
-    false_from true never = absurd (never refl)
-    false_from false never = refl
-bare-is f [] ((k, []) ∷ gs) live b h e = absurd (true≢false live.0)
-bare-is f (m ∷ d) gs live b h e = absurd (let no : suc (length d) ≡ 0 = e in cc)
+-- where there is no group there is no member
+pub none-is : (f : Text) (gs : List (Key × List Member)) → NoneEmpty (texts gs) → (b : Bool)
+    → (IsTrue b ↔ (length gs ≡ 0)) → b ≡ is_empty (group_rows f (texts gs))
+none-is f [] live b h = h.1 refl
+none-is f ((k, m ∷ ms) ∷ gs) live b h =
+    false_from_ne_true b (λ t. (let no : suc (length gs) ≡ 0 = h.0 t in cc))
+none-is f ((k, []) ∷ gs) live b h = absurd (true≢false live.0)
+
+-- nothing is here where no client subscribes in its own name and no group has a member
+pub bare-is : (f : Text) (d : List (Key × held.SubscriptionOptions)) (gs : GroupList) (b : Bool)
+    → b ≡ is_empty (group_rows f gs) → length d ≡ 0
+    → b ≡ is_empty (direct_rows f (texts d) ++ group_rows f gs)
+bare-is f [] gs b h e = h
+bare-is f (m ∷ d) gs b h e = absurd (let no : suc (length d) ≡ 0 = e in cc)
 
 pub not_bare : (f : Text) (d : List (Key × held.SubscriptionOptions))
     (gs : List (Text × List Member)) → (length d ≡ 0 → ⊥)

@@ -1,6 +1,6 @@
 -- How many subscriptions are kept at one filter, and at all of them.
 use Rattle.std.proofs.Common.{◌≡◌, ◌+◌, List, [], ◌∷◌, ◌++◌, length, map, None, Some, refl, sym}
-use Rattle.std.proofs.Common.{◌∙◌, ap₂, length-append}
+use Rattle.std.proofs.Common.{◌∙◌, ap, ap₂, length-append}
 use Rattle.std.specs.Rc.{rc_str_bytes}
 use Rattle.std.specs.List.{sum_by}
 use Rattle.std.specs.Map.{values_of}
@@ -10,11 +10,11 @@ use Rattle.std.proofs.lemmas.List.Sums.{sum_by-cons}
 use Rattle.mq_world.specs.Keys.{Key}
 use Rattle.mq_world.specs.Lists.{Text}
 use Rattle.mq_subscriptions.specs.Filters.{Member, At, AtEntries, row, direct_rows, group_rows}
-use Rattle.mq_subscriptions.specs.Filters.{all_rows}
+use Rattle.mq_subscriptions.specs.Filters.{GroupList, all_rows}
 use Rattle.mq_subscriptions.specs.Views.{texts}
 use Rattle.mq_world.specs.declared.options.SubscriptionOptions.{SubscriptionOptions}
 
-group-number : (f : Text) (groups : List (Key × List Member))
+pub group-number : (f : Text) (groups : List (Key × List Member))
     → length (group_rows f (texts groups)) ≡ sum_by length (values_of groups)
 group-number f [] = refl
 group-number f (g ∷ groups) =
@@ -22,14 +22,13 @@ group-number f (g ∷ groups) =
     ∙ ap₂ (λ a b. a + b) (length-map g.1 (row (Some (rc_str_bytes g.0)) f)) (group-number f groups)
     ∙ sym (sum_by-cons length g.1 (values_of groups))
 
-pub at-number : (f : Text) (direct : List (Key × SubscriptionOptions))
-    (groups : List (Key × List Member))
-    → length (direct_rows f (texts direct) ++ group_rows f (texts groups)) ≡ length direct
-    + sum_by length (values_of groups)
+pub at-number : (f : Text) (direct : List (Key × SubscriptionOptions)) (groups : GroupList)
+    → length (direct_rows f (texts direct) ++ group_rows f groups) ≡ length direct
+    + length (group_rows f groups)
 at-number f direct groups =
-    length-append (direct_rows f (texts direct)) (group_rows f (texts groups))
-    ∙ ap₂ (λ a b. a + b) (length-map (texts direct) (row None f)
-    ∙ length-map direct (λ e. (rc_str_bytes e.0, e.1))) (group-number f groups)
+    length-append (direct_rows f (texts direct)) (group_rows f groups)
+    ∙ ap (λ n. n + length (group_rows f groups)) (length-map (texts direct) (row None f)
+    ∙ length-map direct (λ e. (rc_str_bytes e.0, e.1)))
 
 pub all-number : (es : AtEntries) → length (all_rows es) ≡ sum_by (λ e. length e.1.rows) es
 all-number es = length-flat_map (λ (e : List Text × At). e.1.rows) es

@@ -107,7 +107,8 @@ unlike-share s x h = (
   ap (λ b. b && same_text x.filter s.filter)
       (and_right (same_text x.client s.client) (same_share x.share s.share) h),
   λ g e.
-      let here : s.share ≡ Some g.share = same_share-is s.share (Some g.share) (and_parts _ _ e).0 in
+      let here : s.share ≡ Some g.share =
+      same_share-is s.share (Some g.share) (and_parts _ _ e).0 in
       ap (λ b. b && same_text x.filter g.filter)
       (subst (λ (t : Option Text). same_share x.share t ≡ false) here h),
 )

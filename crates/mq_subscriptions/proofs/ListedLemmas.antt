@@ -11,7 +11,8 @@ use Rattle.std.specs.BTreeMap.{insert_entry}
 use Rattle.mq_world.specs.Keys.{Key, key_cmp}
 use Rattle.mq_world.specs.Lists.{Text, same_text, text_cmp}
 use Rattle.mq_world.specs.World.{Subscription, same_share, has_key}
-use Rattle.mq_subscriptions.specs.Filters.{FilterKey, is_text, has_filter_key, is_in_list, is_listed, is_empty}
+use Rattle.mq_subscriptions.specs.Filters.{FilterKey, is_text, has_filter_key, is_in_list}
+use Rattle.mq_subscriptions.specs.Filters.{is_listed, is_empty}
 use Rattle.mq_subscriptions.specs.Views.{texts}
 use Rattle.mq_world.proofs.ListLemmas.{filter-same}
 use Rattle.mq_world.proofs.SameLemmas.{filter-filter}

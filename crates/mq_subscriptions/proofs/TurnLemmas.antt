@@ -285,7 +285,8 @@ least_stamped-cons o os (Some b) e h =
           refl
       | inr gt ↦ (let test : Row → Bool = λ row. list_all (λ x. nat_le row.stamp x.stamp) os in
           let not_here : test o ≡ false =
-          false_from_ne_true (test o) (λ t. let le : o.stamp ≤ b.stamp = below-least os b o.stamp e t in
+          false_from_ne_true (test o) (λ t.
+          let le : o.stamp ≤ b.stamp = below-least os b o.stamp e t in
           absurd (omega arith)) in
           let same : (row : Row) → (nat_le row.stamp o.stamp && test row) ≡ test row =
           λ row. implied (nat_le row.stamp o.stamp) (test row)

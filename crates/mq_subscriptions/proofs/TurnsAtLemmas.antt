@@ -117,7 +117,7 @@ module _ (access : Option (List AclRow)) (sessions : List Session) (name f share
           ]) refl
 
   -- keys are apart: the turns of a share name are the one of its group
-  turns-group : (gs : List (Text × List Member)) → IsStrictlySortedBy text_cmp (keys_of gs)
+  pub turns-group : (gs : List (Text × List Member)) → IsStrictlySortedBy text_cmp (keys_of gs)
       → turns_left access sessions name f share gs
       ≡ turns_of (find may (filter (is_in_group here) (group_rows f gs)))
   unfolding IsStrictlySortedBy
@@ -145,13 +145,12 @@ module _ (access : Option (List AclRow)) (sessions : List Session) (name f share
             (alike g.0 false t g.1)))
       ]) refl
 
-  pub turns-at : (ds : List Member) (gs : List (Text × List Member))
-      → IsStrictlySortedBy text_cmp (keys_of gs)
-      → turns_left access sessions name f share gs
-      ≡ turns_of (next_in access sessions (direct_rows f ds ++ group_rows f gs) name here)
-  turns-at ds gs s =
-      turns-group gs s
-      ∙ ap (λ l. turns_of (find may l))
+  -- a subscription in its client's own name is in no group
+  pub next-at : (ds : List Member) (gs : List (Text × List Member))
+      → next_in access sessions (group_rows f gs) name here
+      ≡ next_in access sessions (direct_rows f ds ++ group_rows f gs) name here
+  next-at ds gs =
+      ap (find may)
       (sym (filter-append (is_in_group here) (direct_rows f ds) (group_rows f gs)
       ∙ ap (λ l. l ++ filter (is_in_group here) (group_rows f gs)) (no_direct ds)))
 

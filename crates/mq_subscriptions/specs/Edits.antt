@@ -1,20 +1,11 @@
 -- Words of the contracts: what changes at one filter, whatever its text is.
-use Rattle.std.specs.Prelude.{◌≡◌, not, List, Option, Some, None}
+use Rattle.std.specs.Prelude.{◌≡◌, not, List, Option, Some}
 use Rattle.std.specs.List.{filter}
-use Rattle.mq_world.specs.Keys.{Key}
 use Rattle.mq_world.specs.Lists.{Text}
 use Rattle.mq_world.specs.World.{Subscription, has_key}
 use Rattle.mq_world.specs.Turns.{SameInTurn}
 use Rattle.mq_subscriptions.specs.Turns.{upsert, put_last}
-use Rattle.mq_subscriptions.specs.Filters.{Member, At, row, direct_rows, group_rows}
-use Rattle.mq_subscriptions.specs.Views.{texts}
-use Rattle.mq_world.specs.declared.options.SubscriptionOptions.{SubscriptionOptions}
-
-abbrev pub Directs : Type 0
-Directs = List (Key × SubscriptionOptions)
-
-abbrev pub Groups : Type 0
-Groups = List (Key × List Member)
+use Rattle.mq_subscriptions.specs.Filters.{Member, At, GroupList, row, group_rows}
 
 -- the subscription takes the place of the one with its key, or goes last
 abbrev pub Joins : Subscription → List Subscription → List Subscription → Type 0
@@ -24,26 +15,15 @@ Joins s old new = SameInTurn new (upsert s old)
 abbrev pub JoinsAt : Option Text → Member → At → List Subscription → Type 0
 JoinsAt share m old new = Joins (row share old.filter m) old.rows new
 
-abbrev pub DirectJoins : Member → Directs → Directs → Type 0
-DirectJoins m old new = (f : Text)
-    → Joins (row None f m) (direct_rows f (texts old)) (direct_rows f (texts new))
+abbrev pub GroupJoins : Text → Member → GroupList → GroupList → Type 0
+GroupJoins share m old new =
+    (f : Text) → Joins (row (Some share) f m) (group_rows f old) (group_rows f new)
 
-abbrev pub GroupJoins : Text → Member → Groups → Groups → Type 0
-GroupJoins share m old new = (f : Text)
-    → Joins (row (Some share) f m) (group_rows f (texts old)) (group_rows f (texts new))
-
-abbrev pub DirectLeaves : Text → Directs → Directs → Type 0
-DirectLeaves client old new =
-    (f : Text) → direct_rows f (texts new) ≡ filter (λ s. not (has_key client None f s))
-    (direct_rows f (texts old))
-
-abbrev pub GroupLeaves : Text → Text → Groups → Groups → Type 0
-GroupLeaves share client old new =
-    (f : Text) → group_rows f (texts new) ≡ filter (λ s. not (has_key client (Some share) f s))
-    (group_rows f (texts old))
+abbrev pub GroupLeaves : Text → Text → GroupList → GroupList → Type 0
+GroupLeaves share client old new = (f : Text)
+    → group_rows f new ≡ filter (λ s. not (has_key client (Some share) f s)) (group_rows f old)
 
 -- the member goes last in its group
-abbrev pub GroupTurns : Text → Text → Groups → Groups → Type 0
-GroupTurns share client old new =
-    (f : Text) → SameInTurn (group_rows f (texts new))
-    (put_last (has_key client (Some share) f) (group_rows f (texts old)))
+abbrev pub GroupTurns : Text → Text → GroupList → GroupList → Type 0
+GroupTurns share client old new = (f : Text)
+    → SameInTurn (group_rows f new) (put_last (has_key client (Some share) f) (group_rows f old))

@@ -55,11 +55,15 @@ is_text text key = is_eq (slice_cmp nat_cmp text key)
 abbrev pub direct_rows : Text → List Member → List Subscription
 direct_rows f ms = map (row None f) ms
 
-abbrev pub group_rows : Text → List (Text × List Member) → List Subscription
+-- the members of each group, by share name
+abbrev pub GroupList : Type 0
+GroupList = List (Text × List Member)
+
+abbrev pub group_rows : Text → GroupList → List Subscription
 group_rows f groups = flat_map (λ g. map (row (Some g.0) f) g.1) groups
 
 -- no group is without a member
-abbrev pub NoneEmpty : List (Text × List Member) → Type 0
+abbrev pub NoneEmpty : GroupList → Type 0
 NoneEmpty groups = AllByRecursion (λ g. is_empty g.1 ≡ false) groups
 
 -- ## All filters

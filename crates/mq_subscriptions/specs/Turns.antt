@@ -7,7 +7,6 @@ use Rattle.mq_world.specs.Lists.{Text, same_text, in_order}
 use Rattle.mq_world.specs.World.{Session, Subscription, Message, Group, group_cmp, group_of}
 use Rattle.mq_world.specs.World.{same_key, is_in_group}
 use Rattle.mq_world.specs.Sessions.{is_reader}
-use Rattle.mq_subscriptions.specs.Filters.{At}
 use Rattle.std.specs.Rc.{rc_str_bytes}
 use Rattle.std.specs.declared.alloc.Global.{Global}
 use Rattle.mq_world.specs.Views.{options_of}
@@ -75,9 +74,9 @@ abbrev pub turns_listed : Text → List Turn → List Subscription
 turns_listed share turns = map turn_of (filter (λ t. same_text (rc_str_bytes t.share) share) turns)
 
 -- the member in turn of each group at a filter comes behind those of its share name
-abbrev pub GathersTurns : Option (List AclRow) → List Session → Text → At → List Turn → List Turn
-    → Type 0
-GathersTurns access sessions topic at old new =
+abbrev pub GathersTurns : Option (List AclRow) → List Session → Text → Text → List Subscription
+    → List Turn → List Turn → Type 0
+GathersTurns access sessions topic f rows old new =
     (share : Text) → turns_listed share new
     ≡ turns_listed share old ++ turns_of
-    (next_in access sessions at.rows topic (record { share = share; filter = at.filter }))
+    (next_in access sessions rows topic (record { share = share; filter = f }))

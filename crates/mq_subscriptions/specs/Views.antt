@@ -3,9 +3,11 @@ use Rattle.std.specs.Prelude.{List, map, ◌++◌}
 use Rattle.std.specs.Rc.{rc_str_bytes}
 use Rattle.mq_world.specs.Keys.{Key}
 use Rattle.mq_world.specs.Lists.{Text}
-use Rattle.mq_subscriptions.specs.Filters.{Member, At, direct_rows, group_rows, NoneEmpty}
+use Rattle.mq_subscriptions.specs.Filters.{Member, At, GroupList, direct_rows, group_rows}
+use Rattle.mq_subscriptions.specs.Filters.{NoneEmpty}
 use Rattle.mq_subscriptions.specs.Filters.{AreListed, SubscriptionsView, entries_view}
 use Rattle.mq_subscriptions.specs.declared.subscriptions.group.Group.TheInside as in_group
+use Rattle.mq_subscriptions.specs.declared.subscriptions.share_groups.ShareGroups.TheInside as in_groups
 use Rattle.mq_subscriptions.specs.declared.subscriptions.filter_entry.FilterEntry.TheInside as in_at
 use Rattle.mq_subscriptions.specs.declared.subscriptions.Subscriptions.TheInside as in_subscriptions
 
@@ -16,15 +18,18 @@ texts es = map (λ e. (rc_str_bytes e.0, e.1)) es
 abbrev pub members_of : in_group.Inside → List Member
 members_of inside = texts inside.members.entries
 
+abbrev pub groups_of : in_groups.Inside → GroupList
+groups_of inside = texts inside.by_share.entries
+
+abbrev pub NoneIsEmpty : in_groups.Inside → Type 0
+NoneIsEmpty inside = NoneEmpty (groups_of inside)
+
 abbrev pub at_of : in_at.Inside → At
 at_of inside = record {
   filter = inside.filter.value;
   rows = direct_rows inside.filter.value (texts inside.direct.entries)
-      ++ group_rows inside.filter.value (texts inside.groups.entries);
+      ++ group_rows inside.filter.value inside.groups;
 }
-
-abbrev pub GroupsLive : in_at.Inside → Type 0
-GroupsLive inside = NoneEmpty (texts inside.groups.entries)
 
 abbrev pub subscriptions_of : in_subscriptions.Inside → SubscriptionsView
 subscriptions_of inside = entries_view inside.tree

@@ -1,8 +1,7 @@
 //! The subscriptions of all clients.
 ghost use Rattle.std.specs.Prelude.{◌≡◌, ◌+◌, [], length, not, IsTrue, OnOk, OnErr, IfOk, map};
-ghost use Rattle.std.specs.Option.{option_map};
 ghost use Rattle.std.specs.Rc.{rc_str_bytes};
-ghost use Rattle.std.specs.List.{filter, list_any, flat_map};
+ghost use Rattle.std.specs.List.{filter, list_any};
 ghost use Rattle.mq_topic.specs.Texts.{is_subscription};
 ghost use Rattle.mq_tree.specs.Entries.{capped};
 ghost use Rattle.mq_tree.specs.Prefixes.{prefixes, met_by_name};
@@ -17,12 +16,13 @@ ghost use Rattle.mq_world.specs.Retained.{asks_for_retained};
 ghost use Rattle.mq_world.specs.Turns.{SameInTurn};
 ghost use Rattle.mq_subscriptions.specs.Turns.{upsert, put_last, all_turned};
 ghost use Rattle.mq_subscriptions.specs.Turns.{turn_of};
-ghost use Rattle.mq_subscriptions.specs.Filters.{row, At, AreKeys};
+ghost use Rattle.mq_subscriptions.specs.Filters.{AreKeys};
 
 pub(crate) mod client_filters;
 pub(crate) mod filter_entry;
 pub(crate) mod group;
 pub(crate) mod matches;
+pub(crate) mod share_groups;
 pub(crate) mod turn;
 
 use crate::subscriptions::client_filters::ClientFilters;
@@ -206,13 +206,12 @@ impl Subscriptions {
     }
 }
 
-ghost use Rattle.std.specs.Prelude.{Some, true, false, IsSome, None};
+ghost use Rattle.std.specs.Prelude.{Some, true, false, None};
 ghost use Rattle.std.specs.Map.{lookup};
 ghost use Rattle.mq_topic.specs.Levels.{levels};
 ghost use Rattle.mq_tree.specs.Entries.{is_key};
-ghost use Rattle.mq_subscriptions.specs.Filters.{all_rows, AreEntries, AreAtFilters, is_listed};
+ghost use Rattle.mq_subscriptions.specs.Filters.{all_rows, AreEntries, AreAtFilters};
 ghost use Rattle.mq_subscriptions.specs.Views.{texts};
-ghost use Rattle.mq_world.specs.World.{Subscription};
 
 fn join_in(
     tree: &mut LevelTree<FilterEntry>,
@@ -280,10 +279,8 @@ fn leave_in(tree: &mut LevelTree<FilterEntry>, client: &str, text: &str) -> bool
     existed
 }
 
-ghost use Rattle.std.specs.Prelude.{◌&&◌, ◌||◌};
-ghost use Rattle.std.specs.List.{AllByRecursion};
-ghost use Rattle.mq_subscriptions.specs.Filters.{AreListed, is_empty, is_in_list, is_text};
-ghost use Rattle.mq_subscriptions.specs.Filters.{FilterKey};
+ghost use Rattle.std.specs.Prelude.{◌&&◌};
+ghost use Rattle.mq_subscriptions.specs.Filters.{is_empty, is_in_list, is_text};
 
 // Takes a client's subscriptions out of the tree.
 fn leave_all(tree: &mut LevelTree<FilterEntry>, own: &ClientFilters, client: &str)

@@ -7,9 +7,16 @@ ghost use Rattle.mq_world.specs.World.{has_key};
 ghost use Rattle.mq_world.specs.Turns.{SameInTurn};
 ghost use Rattle.mq_subscriptions.specs.Turns.{put_last};
 ghost use Rattle.mq_subscriptions.specs.Filters.{is_empty, AreHere};
+ghost use Rattle.std.specs.Prelude.{length, ◌++◌};
+ghost use Rattle.mq_world.specs.Views.{message_of};
+ghost use Rattle.mq_subscriptions.specs.Matches.{unshared_matches};
+ghost use Rattle.mq_subscriptions.specs.Matches.{match_views};
+ghost use Rattle.mq_subscriptions.specs.Turns.{GathersTurns};
+ghost use Rattle.mq_subscriptions.specs.Edits.{JoinsAt};
+ghost use Rattle.mq_world.specs.Lists.{same_text};
 
-use crate::subscriptions::group::Group;
 use crate::subscriptions::matches::Match;
+use crate::subscriptions::share_groups::ShareGroups;
 use crate::subscriptions::turn::Turn;
 use mq_sessions::Readers;
 use mq_topic::{TopicFilter, TopicName};
@@ -25,7 +32,7 @@ use std::rc::{Rc, RcStr};
 pub struct FilterEntry {
     filter: Rc<TopicFilter>,
     direct: BTreeMap<RcStr, SubscriptionOptions>,
-    groups: BTreeMap<RcStr, Group>,
+    groups: ShareGroups,
 }
 
 impl Model for FilterEntry {
@@ -33,11 +40,9 @@ impl Model for FilterEntry {
 
     ghost Value = { At };
 
-    ghost use Rattle.mq_subscriptions.specs.Views.{at_of, GroupsLive};
+    ghost use Rattle.mq_subscriptions.specs.Views.{at_of};
 
     ghost view = { at_of };
-
-    ghost invariant = { GroupsLive };
 }
 
 impl FilterEntry {
@@ -47,7 +52,7 @@ impl FilterEntry {
         FilterEntry {
             filter,
             direct: BTreeMap::new(alloc),
-            groups: BTreeMap::new(alloc),
+            groups: ShareGroups::new(alloc),
         }
     }
 
@@ -63,12 +68,13 @@ impl FilterEntry {
             self.now.rows }
     {
         match share {
-            None => has_direct(&self.direct, client),
-            Some(share) => has_member(&self.groups, share, client),
+            None => self.direct.contains_key(client),
+            Some(share) => self.groups.contains(share, client),
         }
     }
 
     /// Adds a subscription, in the place of the one with its key.
+    #[tactic(auto, using(crate::proofs::AtLemmas::is_here))]
     pub fn join(
         &mut self,
         alloc: Global,
@@ -83,13 +89,19 @@ impl FilterEntry {
         ensures here { AreHere self.new }
         ensures err { OnErr result (self.new ≡ self.old) }
     {
+        // Learns that the clients are in order.
+        let _count = self.direct.len();
         match share {
-            None => join_direct(&mut self.direct, client, options),
-            Some(share) => join_group(&mut self.groups, alloc, share, client, options),
+            None => {
+                self.direct.insert(client, options)?;
+                Ok(())
+            }
+            Some(share) => self.groups.join(alloc, share, client, options),
         }
     }
 
     /// Takes a subscription out, and its group with its last member.
+    #[tactic(auto, using(crate::proofs::AtLemmas::is_here))]
     pub fn leave(&mut self, share: Option<&str>, client: &str)
         ensures rows { self.new.rows ≡ filter
             (λ s. not (has_key client.now (option_copied share.entry) self.old.filter s))
@@ -97,20 +109,25 @@ impl FilterEntry {
         ensures filter { self.new.filter ≡ self.old.filter }
         ensures here { AreHere self.new }
     {
+        // Learns that the clients are in order.
+        let _count = self.direct.len();
         match share {
-            None => leave_direct(&mut self.direct, client),
-            Some(share) => leave_group(&mut self.groups, share, client),
+            None => {
+                let _ = self.direct.remove(client);
+            }
+            Some(share) => self.groups.leave(share, client),
         }
     }
 
     /// A member of a group goes last. It takes no memory.
+    #[tactic(auto, using(crate::proofs::AtLemmas::is_here))]
     pub fn serve(&mut self, share: &str, client: &str)
         ensures turned { SameInTurn self.new.rows
             (put_last (has_key client.now (Some share.now) self.old.filter) self.old.rows) }
         ensures filter { self.new.filter ≡ self.old.filter }
         ensures here { AreHere self.new }
     {
-        serve_group(&mut self.groups, share, client);
+        self.groups.serve(share, client);
     }
 
     /// How many clients subscribe in their own name.
@@ -146,57 +163,21 @@ impl FilterEntry {
         turns: &mut Vec<Turn>,
     ) -> Result<(), AllocError>
         ensures { OnOk result (GathersTurns readers.now.access.now readers.now.sessions.now name.now
-            self.now
+            self.now.filter self.now.rows
             turns.old.items turns.new.items) }
     {
-        for (share, group) in &self.groups {
-            if let Some((client, options)) = group.next(readers, name) {
-                turns.push(Turn {
-                    share: share.clone()?,
-                    filter: self.filter.clone()?,
-                    client: client.clone()?,
-                    options,
-                })?;
-            }
-        }
-        Ok(())
+        self.groups.gather_turns(&self.filter, readers, name, turns)
     }
 }
-
-ghost use Rattle.std.specs.Prelude.{length, ◌++◌};
-ghost use Rattle.std.specs.List.{sum_by};
-ghost use Rattle.std.specs.Map.{values_of};
-ghost use Rattle.mq_tree.specs.Entries.{capped};
 
 /// It counts for its subscriptions.
 impl Counted for FilterEntry {
     ghost count_of = { λ at. length at.rows };
 
     fn count(&self) -> u64 {
-        (self.direct.len() as u64).saturating_add(member_count(&self.groups))
+        (self.direct.len() as u64).saturating_add(self.groups.member_count())
     }
 }
-
-// How many members all groups have, at most `u64::MAX`.
-fn member_count(groups: &BTreeMap<RcStr, Group>) -> u64
-    ensures { result ≡ capped (sum_by length (values_of groups.now.entries)) }
-{
-    let mut total = 0u64;
-    for group in groups.values() {
-        total = total.saturating_add(group.len() as u64);
-    }
-    total
-}
-
-ghost use Rattle.mq_world.specs.Views.{message_of};
-ghost use Rattle.mq_subscriptions.specs.Matches.{unshared_matches};
-ghost use Rattle.mq_subscriptions.specs.Matches.{match_views};
-ghost use Rattle.mq_subscriptions.specs.Turns.{GathersTurns};
-ghost use Rattle.mq_subscriptions.specs.Edits.{JoinsAt, DirectJoins, GroupJoins, DirectLeaves};
-ghost use Rattle.mq_subscriptions.specs.Edits.{GroupLeaves, GroupTurns};
-ghost use Rattle.mq_subscriptions.specs.Filters.{direct_rows, group_rows, NoneEmpty};
-ghost use Rattle.mq_subscriptions.specs.Views.{texts};
-ghost use Rattle.mq_world.specs.Lists.{Text, same_text};
 
 // Whether No Local keeps a client's own message from it.
 fn is_held_back(options: SubscriptionOptions, client: &str, message: &Message) -> bool
@@ -204,119 +185,4 @@ fn is_held_back(options: SubscriptionOptions, client: &str, message: &Message) -
         && same_text client.now (rc_str_bytes message.now.publisher.now)) }
 {
     options.no_local && client == message.publisher.as_str()
-}
-
-fn has_direct(direct: &BTreeMap<RcStr, SubscriptionOptions>, client: &str) -> bool
-    ensures { (f : Text) → result ≡ list_any (has_key client.now None f)
-        (direct_rows f (texts direct.now.entries)) }
-{
-    direct.contains_key(client)
-}
-
-fn has_member(groups: &BTreeMap<RcStr, Group>, share: &str, client: &str) -> bool
-    requires { NoneEmpty (texts groups.now.entries) }
-    ensures { (f : Text) → result ≡ list_any (has_key client.now (Some share.now) f)
-        (group_rows f (texts groups.now.entries)) }
-{
-    let _count = groups.len();
-    match groups.get(share) {
-        Some(group) => group.contains(client),
-        None => false,
-    }
-}
-
-fn join_direct(
-    direct: &mut BTreeMap<RcStr, SubscriptionOptions>,
-    client: RcStr,
-    options: SubscriptionOptions,
-) -> Result<(), AllocError>
-    ensures ok { OnOk result (DirectJoins (rc_str_bytes client, options) direct.old.entries
-        direct.new.entries) }
-    ensures err { OnErr result (direct.new.entries ≡ direct.old.entries) }
-{
-    let _count = direct.len();
-    direct.insert(client, options)?;
-    Ok(())
-}
-
-fn join_group(
-    groups: &mut BTreeMap<RcStr, Group>,
-    alloc: Global,
-    share: &str,
-    client: RcStr,
-    options: SubscriptionOptions,
-) -> Result<(), AllocError>
-    requires { NoneEmpty (texts groups.old.entries) }
-    ensures ok { OnOk result (GroupJoins share.now (rc_str_bytes client, options) groups.old.entries
-        groups.new.entries) }
-    ensures err { OnErr result (groups.new.entries ≡ groups.old.entries) }
-    ensures live { NoneEmpty (texts groups.new.entries) }
-{
-    match groups.get_mut(share) {
-        Some(group) => {
-            group.join(client, options)?;
-            Ok(())
-        }
-        None => add_group(groups, alloc, share, client, options),
-    }
-}
-
-// A group of one member, made aside.
-fn add_group(
-    groups: &mut BTreeMap<RcStr, Group>,
-    alloc: Global,
-    share: &str,
-    client: RcStr,
-    options: SubscriptionOptions,
-) -> Result<(), AllocError>
-    requires live { NoneEmpty (texts groups.old.entries) }
-    requires absent { lookup (is_text share.now) (texts groups.old.entries) ≡ None }
-    ensures ok { OnOk result (GroupJoins share.now (rc_str_bytes client, options) groups.old.entries
-        groups.new.entries) }
-    ensures err { OnErr result (groups.new.entries ≡ groups.old.entries) }
-    ensures live { NoneEmpty (texts groups.new.entries) }
-{
-    let _count = groups.len();
-    let name = RcStr::from_str(alloc, share)?;
-    let mut group = Group::new(alloc);
-    group.join(client, options)?;
-    groups.insert(name, group)?;
-    Ok(())
-}
-
-ghost use Rattle.std.specs.Map.{lookup};
-ghost use Rattle.mq_subscriptions.specs.Filters.{is_text};
-
-fn leave_direct(direct: &mut BTreeMap<RcStr, SubscriptionOptions>, client: &str)
-    ensures { DirectLeaves client.now direct.old.entries direct.new.entries }
-{
-    let _count = direct.len();
-    let _ = direct.remove(client);
-}
-
-fn leave_group(groups: &mut BTreeMap<RcStr, Group>, share: &str, client: &str)
-    requires { NoneEmpty (texts groups.old.entries) }
-    ensures rows { GroupLeaves share.now client.now groups.old.entries groups.new.entries }
-    ensures live { NoneEmpty (texts groups.new.entries) }
-{
-    let _count = groups.len();
-    let Some(group) = groups.get_mut(share) else {
-        return;
-    };
-    group.leave(client);
-    if group.is_empty() {
-        let _ = groups.remove(share);
-    }
-}
-
-fn serve_group(groups: &mut BTreeMap<RcStr, Group>, share: &str, client: &str)
-    requires { NoneEmpty (texts groups.old.entries) }
-    ensures turned { GroupTurns share.now client.now groups.old.entries groups.new.entries }
-    ensures live { NoneEmpty (texts groups.new.entries) }
-{
-    let _count = groups.len();
-    match groups.get_mut(share) {
-        Some(group) => group.serve(client),
-        None => {}
-    }
 }

@@ -1,10 +1,13 @@
-use Rattle.std.proofs.Common.{◌≡◌, true, false, not, List, length, sym, ap, subst, ◌∙◌, arith}
+use Rattle.std.proofs.Common.{◌≡◌, true, false, not, List, length, map, sym, ap, subst}
+use Rattle.std.proofs.Common.{◌∙◌, arith}
 use Rattle.std.specs.List.{filter, list_any}
 use Rattle.std.specs.Rc.{rc_str_bytes}
 use Rattle.mq_world.specs.World.{Session, has_id}
 use Rattle.mq_world.specs.Sessions.{connected, has_ended, is_among}
-use Rattle.mq_sessions.specs.Ends.{AreListed}
-use Rattle.mq_sessions.specs.Views.{sessions_of}
+use Rattle.mq_sessions.specs.Ends.{AreListed, KeepIds}
+use Rattle.mq_sessions.specs.Views.{session_in, sessions_of}
+use Rattle.mq_sessions.proofs.EntryLemmas.{ids-removed}
+use Rattle.mq_sessions.proofs.SessionLemmas.{finds, removed-is, sorted-is}
 use Rattle.mq_sessions.proofs.EndLemmas.{connected-fewer}
 use Rattle.mq_sessions.proofs.TakenLemmas.{any-is, taken-ended, taken-listed, taken-only, taken-shorter}
 use Rattle.mq_sessions.proofs.sessions.Sessions.take_ended.Goals as goal
@@ -23,7 +26,8 @@ settle-requires c =
     let rest = c.pop.new.self.entries in
     subst (AreListed rest)
     (ap (λ id. filter (λ s. not (has_id id s)) sessions) (sym c.as_str.ensures.value)
-    ∙ sym c.remove.ensures.removed)
+    ∙ sym (ap (map session_in) c.remove.ensures.entries
+    ∙ removed-is c.as_str.result.now c.self.inside.by_id.entries c.len-count.ensures.ordered))
     (taken-listed (rc_str_bytes c.in_ok-client.client) c.self.inside.ends.entries rest sessions
     c.in_ok-client.ensures.client c.pop.ensures.entries c.self.invariant.0.listed)
 
@@ -35,7 +39,8 @@ invariant_of-self-2 c = (
     room =
         let fewer = connected-fewer (λ session. not (has_id c.as_str.result.now session))
         (sessions_of c.self.inside) in
-        let count = ap (λ ss. length (connected ss)) c.remove.ensures.removed in
+        let count = ap (λ ss. length (connected ss)) (ap (map session_in) c.remove.ensures.entries
+        ∙ removed-is c.as_str.result.now c.self.inside.by_id.entries c.len-count.ensures.ordered) in
         let less = taken-shorter (rc_str_bytes c.in_ok-client.client) c.self.inside.ends.entries
         c.pop.new.self.entries c.in_ok-client.ensures.client c.pop.ensures.entries in
         omega (
@@ -46,8 +51,17 @@ invariant_of-self-2 c = (
           c.settle.ensures.room,
         );
   },
-  c.remove.ensures.ids c.self.invariant.1,
+  subst KeepIds (sym c.remove.ensures.entries)
+      (ids-removed (finds c.as_str.result.now) c.self.inside.by_id.entries c.self.invariant.1),
 )
+
+pub returns-clause-taken : goal.returns-clause-taken
+returns-clause-taken c =
+    ap (map session_in) c.remove.ensures.entries
+    ∙ removed-is c.as_str.result.now c.self.inside.by_id.entries c.len-count.ensures.ordered
+    ∙ ap (λ id. filter (λ s. not (has_id id s)) (sessions_of c.self.inside)) c.as_str.ensures.value
+    ∙ ap (λ (ss : List Session). filter (λ s. not (has_id (rc_str_bytes c.in_ok-client.client) s)) ss)
+    c.self.view_is
 
 pub returns-clause-ended : goal.returns-clause-ended
 returns-clause-ended c =
@@ -66,4 +80,5 @@ returns-clause-only c =
     c.self.view_is
     (taken-only moment id c.self.inside.ends.entries (sessions_of c.self.inside)
     c.in_ok-client.ensures.client c.self.invariant.0.first
-    (sym c.any_until.ensures.first ∙ c.if-not-any_until.false) c.learn_order.ensures)
+    (sym c.any_until.ensures.first ∙ c.if-not-any_until.false)
+    (sorted-is c.self.inside.by_id.entries c.len-count.ensures.ordered))

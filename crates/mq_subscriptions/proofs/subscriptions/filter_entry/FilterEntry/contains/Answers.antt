@@ -4,23 +4,23 @@ use Rattle.std.specs.List.{list_any}
 use Rattle.mq_world.specs.World.{has_key}
 use Rattle.mq_subscriptions.specs.Filters.{At}
 use Rattle.mq_subscriptions.specs.Views.{texts}
-use Rattle.mq_subscriptions.proofs.AtLemmas.{at-any-own, at-any-shared}
+use Rattle.mq_subscriptions.proofs.AtLemmas.{at-any-own, at-any-shared, direct-any}
 use Rattle.mq_subscriptions.proofs.subscriptions.filter_entry.FilterEntry.contains.Goals as goal
 
 pub returns-in-None : goal.returns-in-None
 returns-in-None c =
     let f = c.self.inside.filter.value in
-    subst (λ (a : At). c.has_direct.result ≡ list_any
+    subst (λ (a : At). c.contains_key.result ≡ list_any
     (has_key c.args.client.now (option_copied c.args.share) a.filter) a.rows) c.self.view_is
-    (rw c.in-None.is (c.has_direct.ensures f
-    ∙ at-any-own f c.args.client.now (texts c.self.inside.direct.entries)
-    (texts c.self.inside.groups.entries)))
+    (rw c.in-None.is (c.contains_key.ensures
+    ∙ direct-any f c.args.client.now c.self.inside.direct.entries
+    ∙ at-any-own f c.args.client.now (texts c.self.inside.direct.entries) c.self.inside.groups))
 
 pub returns-in-Some : goal.returns-in-Some
 returns-in-Some c =
     let f = c.self.inside.filter.value in
-    subst (λ (a : At). c.has_member.result ≡ list_any
+    subst (λ (a : At). c.contains.result ≡ list_any
     (has_key c.args.client.now (option_copied c.args.share) a.filter) a.rows) c.self.view_is
-    (rw c.in-Some.is (c.has_member.ensures f
+    (rw c.in-Some.is (c.contains.ensures f
     ∙ at-any-shared f c.args.client.now c.in-Some.share.now
-    (texts c.self.inside.direct.entries) (texts c.self.inside.groups.entries)))
+    (texts c.self.inside.direct.entries) c.self.inside.groups))

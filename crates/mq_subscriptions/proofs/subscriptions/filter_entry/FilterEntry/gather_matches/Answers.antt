@@ -17,4 +17,4 @@ loop-client-init c =
     (subst (λ (a : At). unshared_matches m (direct_rows [] (texts c.self.inside.direct.entries))
     ≡ unshared_matches m a.rows) c.self.view_is
     (matches-at m c.self.inside.filter.value (texts c.self.inside.direct.entries)
-    (texts c.self.inside.groups.entries)))
+    c.self.inside.groups))

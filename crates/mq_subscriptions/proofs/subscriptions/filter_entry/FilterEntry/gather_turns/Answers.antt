@@ -1,53 +1,22 @@
-use Rattle.std.proofs.Common.{◌≡◌, ◌∙◌, ◌++◌, sym, ap, subst, Some, List}
-use Rattle.std.specs.Map.Iter.{deref_pair}
-use Rattle.std.specs.Rc.{rc_str_bytes}
-use Rattle.std.specs.Option.{option_map}
-use Rattle.std.proofs.lemmas.Map.Iter.{rest_more}
-use Rattle.mq_world.specs.Lists.{Text}
-use Rattle.mq_world.specs.World.{Subscription}
-use Rattle.mq_subscriptions.specs.Turns.{next_in}
-use Rattle.mq_subscriptions.specs.Filters.{At, row}
+use Rattle.std.proofs.Common.{◌++◌, ap, ◌∙◌, subst}
+use Rattle.std.specs.Result.{OnOk}
+use Rattle.std.proofs.lemmas.Result.{on_ok_weaker}
+use Rattle.mq_subscriptions.specs.Filters.{At}
+use Rattle.mq_subscriptions.specs.Turns.{GathersTurns, turns_listed, turns_of}
 use Rattle.mq_subscriptions.specs.Views.{texts}
-use Rattle.mq_subscriptions.specs.Turns.{turns_listed}
-use Rattle.mq_subscriptions.specs.Turns.{turns_of}
-use Rattle.mq_subscriptions.proofs.TextMaps.{ordered-texts}
-use Rattle.mq_subscriptions.proofs.TurnsAtLemmas.{turns_left, turns-at, turns-more, same_turn}
+use Rattle.mq_subscriptions.proofs.TurnsAtLemmas.{next-at}
 use Rattle.mq_subscriptions.proofs.subscriptions.filter_entry.FilterEntry.gather_turns.Goals as goal
 
-pub loop-share-init : goal.loop-share-init
-loop-share-init c =
-    let start : Text → List Subscription = λ share. turns_listed share c.args.turns.now.items in
+pub returns : goal.returns
+returns c =
     let A = c.args.readers.now.access.now in
     let S = c.args.readers.now.sessions.now in
     let N = c.args.name.now in
-    let gs = c.self.inside.groups.entries in
-    λ share. ap (λ es. start share ++ turns_left A S N c.args.self.now.filter share (texts es))
-    c.into_iter-share-iterator.ensures.into_iter_gives.0
-    ∙ ap (λ l. start share ++ l)
-    (subst (λ (a : At). turns_left A S N a.filter share (texts gs)
-    ≡ turns_of (next_in A S a.rows N (record { share = share; filter = a.filter })))
+    let old = c.args.turns.now.items in
+    let new = c.gather_turns.new.turns.items in
+    subst (λ (a : At). OnOk c.gather_turns.result (GathersTurns A S N a.filter a.rows old new))
     c.self.view_is
-    (turns-at A S N c.self.inside.filter.value share (texts c.self.inside.direct.entries) (texts gs)
-    (ordered-texts gs c.into_iter-share-iterator.ensures.into_iter_gives.5)))
-
-pub loop-share-preserved-in_ok-push : goal.loop-share-preserved-in_ok-push
-loop-share-preserved-in_ok-push c =
-    let A = c.args.readers.now.access.now in
-    let S = c.args.readers.now.sessions.now in
-    let N = c.args.name.now in
-    let f = c.args.self.now.filter in
-    let k = rc_str_bytes c.in-Some.share.now in
-    let o = c.in-Some-next.options in
-    let left = rest_more deref_pair _ _ _ (c.in-Some.share, c.in-Some.group) c.in-Some.is
-    c.next.ensures.steps in
-    λ share. turns-more A S N f share _ _ _ (k, c.in-Some.group.now) (texts c.next.new.self)
-    c.in_ok-push.ensures.items c.in_ok-clone.ensures.cases
-    (ap (option_map (row (Some k) f)) (sym c.in-Some-next.ensures)
-    ∙ ap (λ s. Some s) (same_turn (rc_str_bytes c.in-Some-next.client.now)
-    (rc_str_bytes c.in_ok-clone-3.field-0) k (rc_str_bytes c.in_ok-clone.field-0) f
-    c.in_ok-clone-2.field-0.value o (sym c.in_ok-clone-3.ensures.cases)
-    (sym c.in_ok-clone.ensures.cases)
-    (sym (c.in_ok-clone-2.ensures.cases ∙ ap (λ (a : At). a.filter) c.self.view_is))))
-    ∙ ap (λ es. turns_listed share c.loop-share.turns.items ++ turns_left A S N f share (texts es))
-    (sym left)
-    ∙ c.loop-share.invariant share
+    (on_ok_weaker c.gather_turns.result (λ h share. h share
+    ∙ ap (λ o. turns_listed share old ++ turns_of o)
+    (next-at A S N c.self.inside.filter.value share (texts c.self.inside.direct.entries)
+    c.self.inside.groups)) c.gather_turns.ensures)

@@ -1,0 +1,24 @@
+use Rattle.std.proofs.Common.{◌∙◌, ap}
+use Rattle.std.specs.Option.{option_map, option_and_then}
+use Rattle.mq_world.specs.World.{Retained}
+use Rattle.mq_retained.specs.Deadlines.{deadline_at}
+use Rattle.mq_retained.specs.Stored.{message_in, RetainedView}
+use Rattle.mq_retained.proofs.RetainedLemmas.{found-retained}
+use Rattle.mq_retained.proofs.retained.Retained.deadline_at.Goals as goal
+
+pub returns-in_err-get : goal.returns-in_err-get
+returns-in_err-get c =
+    c.from_residual.ensures
+    ∙ ap (λ o. option_and_then (λ (kept : Retained). kept.deadline) (option_map message_in o))
+    c.in_err-get.ensures
+    ∙ ap (option_and_then (λ (kept : Retained). kept.deadline))
+    (found-retained c.args.topic.now c.self.inside.tree c.self.invariant.placed)
+    ∙ ap (λ (k : RetainedView). deadline_at c.args.topic.now k.messages) c.self.view_is
+
+pub returns : goal.returns
+returns c =
+    ap (λ o. option_and_then (λ (kept : Retained). kept.deadline) (option_map message_in o))
+    c.in_ok-get.ensures
+    ∙ ap (option_and_then (λ (kept : Retained). kept.deadline))
+    (found-retained c.args.topic.now c.self.inside.tree c.self.invariant.placed)
+    ∙ ap (λ (k : RetainedView). deadline_at c.args.topic.now k.messages) c.self.view_is

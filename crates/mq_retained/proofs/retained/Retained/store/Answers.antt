@@ -1,0 +1,76 @@
+use Rattle.std.proofs.Common.{◌∙◌, ap, sym, subst, Option}
+use Rattle.mq_tree.specs.Entries.{Entries}
+use Rattle.mq_world.specs.Lists.{with_row}
+use Rattle.mq_world.specs.World.{Retained, retained_cmp}
+use Rattle.mq_retained.specs.Stored.{stored_until, retained_in, IsSound, RetainedView}
+use Rattle.mq_retained.specs.Deadlines.{Pair, Drops, deadline_at}
+use Rattle.mq_world.specs.Views.{message_of}
+use Rattle.mq_retained.proofs.FiledLemmas.{same-kept, sound-filed}
+use Rattle.mq_retained.proofs.IndexLemmas.{replaced, stored-sound, stored-retained, undone-sound}
+use Rattle.mq_retained.proofs.IndexLemmas.{undone-pairs}
+use Rattle.mq_retained.specs.declared.retained.stored.Stored.{Stored}
+use Rattle.mq_retained.proofs.retained.Retained.store.Goals as goal
+
+pub invariant_of-self-in-Err : goal.invariant_of-self-in-Err
+invariant_of-self-in-Err c =
+    let pairs = c.self.inside.deadlines in
+    subst (λ (tree : Entries Stored). IsSound tree c.remove.new.self) (sym c.in-Err.ensures.err)
+    (undone-sound c.args.message.now.deadline c.args.message.now.topic.now c.self.inside.tree pairs
+    c.put.new.self c.remove.new.self
+    c.in-Err.ensures.absent c.self.invariant c.in_ok-put.ensures.ok
+    (subst (λ (pair : Option Pair). Drops pair c.put.new.self c.remove.new.self) c.in_ok-new.ensures
+    c.remove.ensures))
+
+pub invariant_of-self-in-Ok : goal.invariant_of-self-in-Ok
+invariant_of-self-in-Ok c =
+    let topic = c.args.message.now.topic.now in
+    let kept : Retained = stored_until c.args.message.now.deadline (message_of c.args.message.now)
+    in
+    subst (λ (tree : Entries Stored). IsSound tree c.remove-in-Ok.new.self) (sym c.in-Ok.ensures.ok)
+    (stored-sound c.in_ok-stored.stored kept c.self.inside.tree c.self.inside.deadlines
+    c.put.new.self c.remove-in-Ok.new.self
+    c.in_ok-stored.ensures c.self.invariant c.in_ok-put.ensures.ok
+    (subst (λ (pair : Option Pair). Drops pair c.put.new.self c.remove-in-Ok.new.self)
+    (c.in_ok-older.ensures
+    ∙ ap (λ older. replaced older c.args.message.now.deadline topic)
+    (c.deadline_at.ensures
+    ∙ ap (λ (k : RetainedView). deadline_at topic k.messages) (sym c.self.view_is)))
+    c.remove-in-Ok.ensures))
+
+pub returns-clause-ok : goal.returns-clause-ok
+returns-clause-ok c =
+    let kept : Retained = stored_until c.args.message.now.deadline (message_of c.args.message.now)
+    in
+    ap retained_in c.in-Ok.ensures.ok
+    ∙ stored-retained c.in_ok-stored.stored kept c.self.inside.tree c.in_ok-stored.ensures
+    c.self.invariant.placed c.self.invariant.ordered
+    ∙ ap (λ (k : RetainedView). with_row retained_cmp kept k.messages) c.self.view_is
+
+pub returns-in-Err-clause-err : goal.returns-in-Err-clause-err
+returns-in-Err-clause-err c =
+    same-kept c.self.inside.tree c.put-2.new.self c.self.inside.deadlines c.remove.new.self
+    c.in-Err.ensures.err
+    (undone-pairs c.args.message.now.deadline c.args.message.now.topic.now c.self.inside.tree
+    c.self.inside.deadlines c.put.new.self c.remove.new.self
+    c.in-Err.ensures.absent c.self.invariant c.in_ok-put.ensures.ok
+    (subst (λ (pair : Option Pair). Drops pair c.put.new.self c.remove.new.self)
+    c.in_ok-new.ensures c.remove.ensures))
+    ∙ c.self.view_is
+
+pub returns-clause-filed : goal.returns-clause-filed
+returns-clause-filed c =
+    let topic = c.args.message.now.topic.now in
+    let kept : Retained = stored_until c.args.message.now.deadline (message_of c.args.message.now)
+    in
+    sound-filed c.put-2.new.self c.remove-in-Ok.new.self
+    (subst (λ (tree : Entries Stored). IsSound tree c.remove-in-Ok.new.self)
+    (sym c.in-Ok.ensures.ok)
+    (stored-sound c.in_ok-stored.stored kept c.self.inside.tree c.self.inside.deadlines
+    c.put.new.self c.remove-in-Ok.new.self
+    c.in_ok-stored.ensures c.self.invariant c.in_ok-put.ensures.ok
+    (subst (λ (pair : Option Pair). Drops pair c.put.new.self c.remove-in-Ok.new.self)
+    (c.in_ok-older.ensures
+    ∙ ap (λ older. replaced older c.args.message.now.deadline topic)
+    (c.deadline_at.ensures
+    ∙ ap (λ (k : RetainedView). deadline_at topic k.messages) (sym c.self.view_is)))
+    c.remove-in-Ok.ensures)))
