@@ -9,8 +9,8 @@ use Rattle.serde_json.specs.View.{view, members_view}
 use Rattle.serde_json.specs.Written.{has_float, members_have_float}
 use Rattle.serde_json.specs.declared.value.Value.{Value}
 use Rattle.mq_lines.specs.Objects.{names_of, values_of, data_of, WritesNext}
-use Rattle.mq_lines.specs.declared.datum.Datum.{Datum}
-use Rattle.mq_lines.specs.declared.datum.Datum.TheVariants.{Text, Number, Flag, Numbers}
+use Rattle.mq_lines.specs.declared.object.Datum.{Datum}
+use Rattle.mq_lines.specs.declared.object.Datum.TheVariants.{Text, Number, Flag, Numbers}
 use Rattle.mq_lines.proofs.FloatLemmas.{numbers_none}
 
 abbrev Entry : Type 0
@@ -50,6 +50,7 @@ nothing : (ds : List Data) → length ds ≡ 0 → [] ≡ ds
 nothing [] e = refl
 nothing (d ∷ ds) e = absurd (omega (arith, e))
 
+-- a walk that keeps all entries, as many as its data, keeps their names and writes the data
 pub refilled : {F : Type 0} (T : Calls F) (todo : F → List Data) → WritesInTurn T todo
     → (f : F) (es kept : List Entry)
     → RetainsPairs T f es kept → length kept ≡ length es → length es ≡ length (todo f)
@@ -79,6 +80,7 @@ refilled T todo writes f (e ∷ es) kept r whole same =
 abbrev pub NoFloats : List Data → Type 0
 NoFloats ds = AllByRecursion (λ d. has_float d ≡ false) ds
 
+-- where the data of a walk have no floats, nor has what it keeps
 pub refilled_none : {F : Type 0} (T : Calls F) (todo : F → List Data) → WritesInTurn T todo
     → (f : F) (es kept : List Entry)
     → RetainsPairs T f es kept → NoFloats (todo f) → members_have_float (members_view kept) ≡ false
@@ -98,6 +100,7 @@ refilled_none T todo writes f (e ∷ es) kept r none =
         (more parts.1))
     by_answer false ds later w rest empty left none more = rw left (more (rw empty tt))
 
+-- the data that are printed have no floats
 pub data_none : (fs : List Datum) → NoFloats (map data_of fs)
 data_none [] = tt
 data_none (Text text ∷ fs) = (refl, data_none fs)
@@ -105,10 +108,12 @@ data_none (Number n ∷ fs) = (refl, data_none fs)
 data_none (Flag flag ∷ fs) = (refl, data_none fs)
 data_none (Numbers numbers ∷ fs) = (numbers_none numbers.now, data_none fs)
 
+-- an object has as many names as entries
 pub length_names : (es : List Entry) → length (names_of (members_view es)) ≡ length es
 length_names [] = refl
 length_names (e ∷ es) = ap suc (length_names es)
 
+-- an object without entries has no names
 pub no_names : (es : List Entry) → length es ≡ 0 → names_of (members_view es) ≡ []
 no_names [] none = refl
 no_names (e ∷ es) none = absurd (omega (arith, none))

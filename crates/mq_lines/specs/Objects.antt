@@ -3,8 +3,8 @@ use Rattle.std.specs.Prelude.{◌≡◌, ◌≢◌, ℕ, List, [], ◌∷◌, Bo
 use Rattle.serde_json.specs.Data.{Data, string, boolean, array, Members, no_members, member}
 use Rattle.mq_world.specs.World.{Copy}
 use Rattle.mq_lines.specs.Printed.{whole_data, numbers_data, numbers_if}
-use Rattle.mq_lines.specs.declared.datum.Datum.{Datum}
-use Rattle.mq_lines.specs.declared.datum.Datum.TheVariants.{Text, Number, Flag, Numbers}
+use Rattle.mq_lines.specs.declared.object.Datum.{Datum}
+use Rattle.mq_lines.specs.declared.object.Datum.TheVariants.{Text, Number, Flag, Numbers}
 
 abbrev pub names_of : Members → List (List ℕ)
 names_of no_members = []

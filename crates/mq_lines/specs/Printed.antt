@@ -13,7 +13,7 @@ use Rattle.mq_world.specs.declared.refusal.Refusal.{Refusal}
 use Rattle.mq_world.specs.declared.refusal.Refusal.TheVariants as refused
 use Rattle.mq_lines.specs.declared.fault.LineFault.{LineFault}
 use Rattle.mq_lines.specs.declared.fault.LineFault.TheVariants as fault
-use Rattle.mq_lines.specs.declared.report.Reported.{Reported}
+use Rattle.mq_lines.specs.declared.printer.LineReport.{LineReport}
 
 -- ## Values and lines
 
@@ -129,5 +129,5 @@ abbrev pub fault_text : ℕ → LineFault → List ℕ
 fault_text k fault = report_text k (fault_report fault)
 
 -- what the code carries of a report
-abbrev pub report_of : Reported → Report
+abbrev pub report_of : LineReport → Report
 report_of r = record { code = r.code; name = r.name.now; acl_line = r.acl_line }

@@ -8,8 +8,7 @@ ghost use Rattle.mq_lines.specs.Printed.{copy_members, copy_text};
 ghost use Rattle.mq_lines.specs.Objects.{IsFor, copy_names, parts, parts_of};
 ghost use Rattle.mq_lines.specs.Behind.{IsAlike, IsBehind, Follows, Keeps};
 
-use crate::datum::Datum;
-use crate::object::Object;
+use crate::object::{Datum, Object};
 use mq_topic::LevelText;
 use mq_world::Delivery;
 use std::alloc::{AllocError, Global};

@@ -6,18 +6,14 @@
 #![tactic(auto)]
 
 mod copies;
-mod datum;
 mod fault;
 mod fields;
-mod keep;
+mod line_buffer;
 mod object;
-mod print;
 mod printer;
 mod read;
-mod report;
 
 pub use fault::LineFault;
-pub use keep::{KEPT, keep_front, split_line};
-pub use print::{print_answer, print_line_fault, print_refusal};
-pub use printer::Printer;
+pub use line_buffer::{LINE_ROOM, keep_front, split_line};
+pub use printer::{Printer, print_answer, print_line_fault, print_refusal};
 pub use read::{LINE_LIMIT, read_line};

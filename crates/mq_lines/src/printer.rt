@@ -1,4 +1,4 @@
-//! The objects of the lines that answer commands, used again from line to line.
+//! The lines that answer a line. Their objects are used again from line to line.
 ghost use Rattle.std.specs.Prelude.{◌≡◌, ◌++◌, ℕ, List, Bool, false, is_some, OnOk, OnErr};
 ghost use Rattle.std.specs.Option.{option_map};
 ghost use Rattle.serde_json.specs.Data.{no_members};
@@ -7,16 +7,70 @@ ghost use Rattle.mq_world.specs.Views.{reply_of};
 ghost use Rattle.mq_world.specs.declared.answer.Outcome.TheVariants.{Reason, Counts};
 ghost use Rattle.mq_lines.specs.Printed.{answer_text, line_text, closing_members};
 ghost use Rattle.mq_lines.specs.Printed.{report_members, report_text, report_of, refusal_text};
-ghost use Rattle.mq_lines.specs.Printed.{fault_text};
+ghost use Rattle.mq_lines.specs.Printed.{fault_text, plain as plain_report};
 ghost use Rattle.mq_lines.specs.Objects.{IsFor, reason_names, report_names};
+ghost use Rattle.mq_lines.specs.Printed.{refusal_report as report_of_refusal};
+ghost use Rattle.mq_lines.specs.Printed.{fault_report as report_of_fault};
 
 use crate::copies::Copies;
-use crate::datum::Datum;
 use crate::fault::LineFault;
-use crate::object::Object;
-use crate::report::{Reported, line_fault_report, refusal_report};
+use crate::object::{Datum, Object};
 use mq_world::{Answer, Outcome, Refusal};
 use std::alloc::{AllocError, Global};
+
+/// A code and a name, and of an access list the number of its faulty line.
+#[derive(Clone, Copy)]
+pub struct LineReport {
+    pub code: u8,
+    pub name: &'static str,
+    pub acl_line: Option<u64>,
+}
+
+fn plain(code: u8, name: &'static str) -> Option<LineReport>
+    ensures { option_map report_of result ≡ plain_report code name.entry.now }
+{
+    Some(LineReport {
+        code,
+        name,
+        acl_line: None,
+    })
+}
+
+/// None for lack of memory.
+pub fn refusal_report(refusal: Refusal) -> Option<LineReport>
+    ensures { option_map report_of result ≡ report_of_refusal refusal }
+{
+    match refusal {
+        Refusal::ClientId => plain(5, "ClientId"),
+        Refusal::UserName => plain(6, "UserName"),
+        Refusal::NotConnected => plain(7, "NotConnected"),
+        Refusal::TopicName => plain(8, "TopicName"),
+        Refusal::TopicFilter => plain(9, "TopicFilter"),
+        Refusal::SharedNoLocal => plain(10, "SharedNoLocal"),
+        Refusal::NotAuthorized => plain(11, "NotAuthorized"),
+        Refusal::AclLine { line } => Some(LineReport {
+            code: 12,
+            name: "AclLine",
+            acl_line: Some(line),
+        }),
+        Refusal::ClockTooFar => plain(13, "ClockTooFar"),
+        Refusal::RetainedFull => plain(14, "RetainedFull"),
+        Refusal::Memory => None,
+    }
+}
+
+/// None for lack of memory.
+pub fn line_fault_report(fault: LineFault) -> Option<LineReport>
+    ensures { option_map report_of result ≡ report_of_fault fault }
+{
+    match fault {
+        LineFault::LineTooLong => plain(1, "LineTooLong"),
+        LineFault::BadJson => plain(2, "BadJson"),
+        LineFault::BadCommand => plain(3, "BadCommand"),
+        LineFault::BadField => plain(4, "BadField"),
+        LineFault::Memory => None,
+    }
+}
 
 #[tactic(auto, unfolding(crate::specs::Printed::closing_members, crate::specs::Objects::reason_names))]
 fn set_reason(alloc: Global, object: &mut Object, line: u64, reason: u8) -> Result<(), AllocError>
@@ -78,7 +132,7 @@ fn put_report(
     alloc: Global,
     object: &mut Object,
     line: u64,
-    report: Reported,
+    report: LineReport,
 ) -> Result<(), AllocError>
     requires { IsFor (report_names (is_some report.acl_line))
         (members_view object.old.members.entries) }
@@ -96,7 +150,7 @@ fn set_report(
     alloc: Global,
     object: &mut Object,
     line: u64,
-    report: Reported,
+    report: LineReport,
 ) -> Result<(), AllocError>
     requires { IsFor (report_names (is_some report.acl_line))
         (members_view object.old.members.entries) }
@@ -117,7 +171,7 @@ fn print_report(
     alloc: Global,
     kept: &mut Object,
     line: u64,
-    report: Reported,
+    report: LineReport,
     out: &mut Vec<u8>,
 ) -> Result<(), AllocError>
     requires { IsFor (report_names (is_some report.acl_line))
@@ -219,7 +273,7 @@ impl Printer {
         &mut self,
         alloc: Global,
         line: u64,
-        report: Option<Reported>,
+        report: Option<LineReport>,
         out: &mut Vec<u8>,
     ) -> Result<(), AllocError>
         ensures ok { OnOk result (out.new.items ≡ out.old.items
@@ -262,4 +316,46 @@ impl Printer {
     {
         self.report(alloc, line, line_fault_report(*fault), out)
     }
+}
+
+/// Adds the answer to line `line`: a text line for each copy, in their order, and a closing one. Each is a compact JSON
+/// object with its names in ascending order, and a line feed.
+pub fn print_answer(
+    alloc: Global,
+    line: u64,
+    answer: &Answer,
+    out: &mut Vec<u8>,
+) -> Result<(), AllocError>
+    ensures ok { OnOk result (out.new.items ≡ out.old.items
+        ++ answer_text line (reply_of answer.now)) }
+    ensures err { OnErr result (out.new.items ≡ out.old.items) }
+{
+    Printer::new(alloc).answer(alloc, line, answer, out)
+}
+
+/// Adds the text line of line `line` where its command is refused: its code, its name and, for an access list, the number
+/// of the faulty line. For lack of memory it adds nothing.
+pub fn print_refusal(
+    alloc: Global,
+    line: u64,
+    refusal: &Refusal,
+    out: &mut Vec<u8>,
+) -> Result<(), AllocError>
+    ensures ok { OnOk result (out.new.items ≡ out.old.items ++ refusal_text line refusal.now) }
+    ensures err { OnErr result (out.new.items ≡ out.old.items) }
+{
+    Printer::new(alloc).refusal(alloc, line, refusal, out)
+}
+
+/// Adds the text line of line `line` where it is no command: its code and its name. For lack of memory it adds nothing.
+pub fn print_line_fault(
+    alloc: Global,
+    line: u64,
+    fault: &LineFault,
+    out: &mut Vec<u8>,
+) -> Result<(), AllocError>
+    ensures ok { OnOk result (out.new.items ≡ out.old.items ++ fault_text line fault.now) }
+    ensures err { OnErr result (out.new.items ≡ out.old.items) }
+{
+    Printer::new(alloc).line_fault(alloc, line, fault, out)
 }

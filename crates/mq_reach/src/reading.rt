@@ -13,7 +13,7 @@ ghost use Rattle.mq_reach.specs.Subscriptions.{subscriptions};
 use crate::question::{SearchFault, list_of};
 use crate::search::{Findings, Search};
 use mq_acl::Row;
-use mq_lines::{KEPT, keep_front, split_line};
+use mq_lines::{LINE_ROOM, keep_front, split_line};
 use mq_questions::Reach;
 use std::alloc::Global;
 use std::io::Read;
@@ -70,7 +70,7 @@ fn end_line(
     ensures line { OnOk result (reading.new.line.items ≡ []) }
     ensures err { IfErr result (FailsIn list.now reading.old (rest.now ++ 10 ∷ [])) }
 {
-    keep_front(&mut reading.line, rest, KEPT)?;
+    keep_front(&mut reading.line, rest, LINE_ROOM)?;
     reading
         .search
         .take_line(alloc, list, reading.line.as_slice())?;
@@ -93,7 +93,7 @@ fn take(reading: &mut Reading, alloc: Global, list: &Reach, bytes: &[u8]) -> Res
         end_line(reading, alloc, list, line)?;
         rest = others;
     }
-    keep_front(&mut reading.line, rest, KEPT)?;
+    keep_front(&mut reading.line, rest, LINE_ROOM)?;
     Ok(())
 }
 

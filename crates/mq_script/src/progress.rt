@@ -9,7 +9,7 @@ use crate::answer::answer_line;
 use crate::devices::Sink;
 use crate::outcome::{RunFault, Summary};
 use crate::write::{flush, write_all};
-use mq_lines::{KEPT, Printer, keep_front, split_line};
+use mq_lines::{LINE_ROOM, Printer, keep_front, split_line};
 use mq_router::Router;
 use std::alloc::Global;
 
@@ -86,7 +86,7 @@ impl Progress {
         ensures lines { OnOk result (self.new.summary.lines ≡ self.old.summary.lines + 1) }
         ensures line { OnOk result (self.new.line.items ≡ []) }
     {
-        keep_front(&mut self.line, rest, KEPT)?;
+        keep_front(&mut self.line, rest, LINE_ROOM)?;
         self.answer(writer)
     }
 
@@ -104,7 +104,7 @@ impl Progress {
             self.end_line(line, writer)?;
             rest = others;
         }
-        keep_front(&mut self.line, rest, KEPT)?;
+        keep_front(&mut self.line, rest, LINE_ROOM)?;
         Ok(())
     }
 

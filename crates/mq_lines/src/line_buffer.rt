@@ -1,4 +1,4 @@
-//! Lines among bytes, and what is kept of a line.
+//! The bytes of a line that are at hand, and where it ends.
 ghost use Rattle.std.specs.Prelude.{◌≡◌, ◌+◌, ◌-◌, ◌≤◌, ◌++◌, ◌∷◌, [], OnOk, MatchOption, length};
 ghost use Rattle.std.specs.Prelude.{take, drop, position};
 ghost use Rattle.std.specs.List.{position_or_len};
@@ -8,7 +8,7 @@ use crate::read::LINE_LIMIT;
 use std::alloc::AllocError;
 
 /// How many bytes of a line are to be kept: one that is longer is no command, whatever follows.
-pub const KEPT: usize = LINE_LIMIT + 1;
+pub const LINE_ROOM: usize = LINE_LIMIT + 1;
 
 const LINE_FEED: u8 = b'\n';
 
@@ -34,7 +34,8 @@ fn feed_among(bytes: &[u8]) -> Option<usize>
     bytes.iter().position(|byte| *byte == LINE_FEED)
 }
 
-/// How many bytes at the front are whole chunks without line feed.
+/// How many bytes at the front are whole chunks without line feed. `contains` tests many bytes at a time, and `position`
+/// one.
 fn chunks_without_feed(bytes: &[u8]) -> usize
     ensures bound { result ≤ length bytes.now }
     ensures later { position_or_len is_feed bytes.now ≡ result
@@ -51,25 +52,13 @@ fn chunks_without_feed(bytes: &[u8]) -> usize
     passed
 }
 
-// `contains` tests many bytes at a time, and `position` one.
-fn first_feed(bytes: &[u8]) -> Option<usize>
-    ensures { result ≡ position is_feed bytes.now }
-{
-    let passed = chunks_without_feed(bytes);
-    match feed_among(&bytes[passed..]) {
-        Some(feed) => Some(passed + feed),
-        None => None,
-    }
-}
-
 /// What stands before the first line feed, and what follows it.
 pub fn split_line(bytes: &[u8]) -> Option<(&[u8], &[u8])>
     ensures { MatchOption result (pieces bytes.now ≡ bytes.now ∷ []) (λ parts.
         (bytes.now ≡ (parts.0.now ++ 10 ∷ []) ++ parts.1.now)
         × (pieces parts.0.now ≡ parts.0.now ∷ [])) }
 {
-    match first_feed(bytes) {
-        Some(feed) => Some((&bytes[..feed], &bytes[feed + 1..])),
-        None => None,
-    }
+    let passed = chunks_without_feed(bytes);
+    let feed = passed + feed_among(&bytes[passed..])?;
+    Some((&bytes[..feed], &bytes[feed + 1..]))
 }

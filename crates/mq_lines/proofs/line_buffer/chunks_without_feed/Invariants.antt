@@ -1,7 +1,7 @@
 use Rattle.std.proofs.Common.{◌≡◌, ◌≤◌, ◌+◌, ◌-◌, length, drop}
 use Rattle.std.specs.List.{position_or_len}
 use Rattle.mq_lines.specs.Lines.{is_feed}
-use Rattle.mq_lines.proofs.keep.chunks_without_feed.Given as goal
+use Rattle.mq_lines.proofs.line_buffer.chunks_without_feed.Given as goal
 
 -- there is no line feed among the bytes that are passed
 abbrev pub invariant-chunks : goal.invariant-chunks

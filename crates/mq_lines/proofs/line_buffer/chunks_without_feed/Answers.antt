@@ -2,7 +2,7 @@ use Rattle.std.proofs.Common.{◌≡◌, ◌≤◌, ◌+◌, ◌-◌, ◌∙◌,
 use Rattle.std.specs.List.{list_any}
 use Rattle.mq_lines.specs.Lines.{is_feed}
 use Rattle.mq_lines.proofs.PieceLemmas.{chunk_passed}
-use Rattle.mq_lines.proofs.keep.chunks_without_feed.Goals as goal
+use Rattle.mq_lines.proofs.line_buffer.chunks_without_feed.Goals as goal
 
 pub chunks-preserved : goal.chunks-preserved
 chunks-preserved c =
