@@ -5,6 +5,7 @@ ghost use Rattle.std.specs.Rc.{rc_str_bytes};
 ghost use Rattle.mq_world.specs.Refusals.{is_valid, takes_no_memory, client_conditions};
 ghost use Rattle.mq_world.specs.Refusals.{first_refusal, refusal};
 ghost use Rattle.mq_world.specs.Clock.{deadline_of};
+ghost use Rattle.mq_world.specs.Sessions.{user_of};
 ghost use Rattle.mq_world.specs.World as world;
 ghost use Rattle.mq_world.specs.World.{fresh_world, empty_world, within};
 ghost use Rattle.mq_router.specs.StandsFor.{StandsFor, AnswersFor, CountsFor};
@@ -29,7 +30,7 @@ use crate::texts::{copied, is_shared_no_local, parse_filter, parse_name, read_ac
 use ended::end_sessions;
 use mq_acl::Acl;
 use mq_retained::{Receiver, Retained};
-use mq_sessions::{Clock, Readers, Sessions, may_publish};
+use mq_sessions::{Client, Clock, Readers, Sessions, may_write};
 use mq_subscriptions::Subscriptions;
 use mq_topic::SubFilter;
 use mq_tree::Steps;
@@ -165,11 +166,13 @@ impl Router {
         }
     }
 
-    // Whether the client of a command other than connect has a valid id and is connected. Gives the id as its session keeps it.
-    fn check_client(&self, client: &str) -> Result<&RcStr, Refusal>
+    // The client of a command other than connect, whose id has to be valid, and which has to be connected.
+    fn check_client(&self, client: &str) -> Result<Client<'_>, Refusal>
         ensures refused { refused_by result ≡ first_refusal
             (client_conditions self.now.sessions client.now) }
-        ensures same { IfOk result (λ id. rc_str_bytes id.now ≡ client.now) }
+        ensures same { IfOk result (λ found. rc_str_bytes found.id.now ≡ client.now) }
+        ensures user { IfOk result (λ found.
+            option_copied found.user ≡ user_of self.now.sessions client.now) }
     {
         if !is_client_id(client) {
             return Err(Refusal::ClientId);
@@ -241,7 +244,7 @@ impl Router {
             (world.Subscribe client.now text.now (options_of options)) result steps.old steps.new }
         ensures err { OnErr result (self.new ≡ self.old) }
     {
-        let id = self.check_client(client)?.clone()?;
+        let id = self.check_client(client)?.id.clone()?;
         let wanted = parse_filter(self.alloc, text)?;
         if is_shared_no_local(&wanted, options.no_local) {
             return Err(Refusal::SharedNoLocal);
@@ -318,9 +321,10 @@ impl Router {
             steps.old steps.new }
         ensures err { OnErr result (self.new ≡ self.old) }
     {
-        let id = self.check_client(client)?.clone()?;
+        let publisher = self.check_client(client)?;
+        let id = publisher.id.clone()?;
         let name = parse_name(self.alloc, topic)?;
-        if !may_publish(&self.access, &self.sessions, client, &name) {
+        if !may_write(&self.access, client, publisher.user, &name) {
             return Err(Refusal::NotAuthorized);
         }
         let deadline = self.clock.deadline(expiry);

@@ -24,20 +24,13 @@ pub fn may_read(access: &Option<Acl>, client: &str, user: Option<&str>, name: &T
     }
 }
 
-/// Whether the client may publish under the name. Its user name is looked up only where there is an access list.
 #[tactic(auto, unfolding(mq_acl::specs::Access::allowed))]
-pub fn may_publish(
-    access: &Option<Acl>,
-    sessions: &Sessions,
-    client: &str,
-    name: &TopicName,
-) -> bool
-    ensures { result ≡ allowed access.now client.now (user_of sessions.now client.now) name.now
-        Writing }
+pub fn may_write(access: &Option<Acl>, client: &str, user: Option<&str>, name: &TopicName) -> bool
+    ensures { result ≡ allowed access.now client.now (option_copied user.entry) name.now Writing }
 {
     match access {
         None => true,
-        Some(acl) => acl.may_write(client, sessions.user(client), name),
+        Some(acl) => acl.may_write(client, user, name),
     }
 }
 

@@ -5,9 +5,9 @@ mod access;
 mod clock;
 mod sessions;
 
-pub use access::{Readers, may_publish, may_read};
+pub use access::{Readers, may_read, may_write};
 pub use clock::Clock;
-pub use sessions::Sessions;
 pub use sessions::queue::begin;
 pub use sessions::queued::QueuedCopy;
 pub use sessions::session::{Presence, Session, Waiting, Way};
+pub use sessions::{Client, Sessions};

@@ -55,6 +55,13 @@ impl Model for Sessions {
     ghost invariant = { λ a. AreIndexed a.ends (sessions_of a) × KeepIds a.by_id.entries };
 }
 
+/// A client that is connected: its id, as its session keeps it, and its user name, if it has one.
+#[derive(Clone, Copy)]
+pub struct Client<'a> {
+    pub id: &'a RcStr,
+    pub user: Option<&'a str>,
+}
+
 impl Sessions {
     ghost use Rattle.mq_sessions.specs.Views.{begin_of, session_at};
 
@@ -76,16 +83,21 @@ impl Sessions {
         self.by_id.len()
     }
 
-    /// The id of a client that is connected, as its session keeps it.
-    pub fn connected(&self, id: &str) -> Option<&RcStr>
+    /// The client, if it is connected. One look-up.
+    pub fn connected(&self, id: &str) -> Option<Client<'_>>
         ensures connected { is_some result ≡ is_connected self.now id.now }
-        ensures same { IfSome result (λ key. rc_str_bytes key.now ≡ id.now) }
+        ensures same { IfSome result (λ client. rc_str_bytes client.id.now ≡ id.now) }
+        ensures user { IfSome result (λ client.
+            option_copied client.user ≡ user_of self.now id.now) }
     {
         match self.by_id.get_key_value(id) {
             None => None,
             Some((key, session)) => {
                 if session.is_present() {
-                    Some(key)
+                    Some(Client {
+                        id: key,
+                        user: session.user.as_deref(),
+                    })
                 } else {
                     None
                 }

@@ -1,7 +1,7 @@
 use Rattle.std.proofs.Common.{◌∙◌, ap, sym, false, List}
 use Rattle.std.specs.Ordering.{is_eq}
-use Rattle.std.specs.Option.{option_map, option_map_or}
-use Rattle.mq_world.specs.Sessions.{is_present, is_connected}
+use Rattle.std.specs.Option.{option_map, option_map_or, option_and_then}
+use Rattle.mq_world.specs.Sessions.{is_present, is_connected, user_of}
 use Rattle.mq_world.specs.World.{Session}
 use Rattle.mq_sessions.specs.Views.{session_at}
 use Rattle.mq_sessions.proofs.SessionLemmas.{found-is, key-is}
@@ -33,3 +33,11 @@ returns-else-is_present-clause-connected c =
     (ap (option_map (session_at c.args.id.now)) c.in-Some.ensures.value
     ∙ found-is c.args.id.now c.self.inside.by_id.entries)
     ∙ ap (λ (l : List Session). is_connected l c.args.id.now) c.self.view_is
+
+pub returns-then-is_present-clause-user : goal.returns-then-is_present-clause-user
+returns-then-is_present-clause-user c =
+    c.as_deref.ensures.value
+    ∙ ap (option_and_then (λ (s : Session). s.user))
+    (ap (option_map (session_at c.args.id.now)) c.in-Some.ensures.value
+    ∙ found-is c.args.id.now c.self.inside.by_id.entries)
+    ∙ ap (λ (l : List Session). user_of l c.args.id.now) c.self.view_is
