@@ -1,12 +1,16 @@
 //! The copies of a message.
-ghost use Rattle.std.specs.Prelude.{◌≡◌, ◌+◌, IfOk, length, map};
+ghost use Rattle.std.specs.Prelude.{◌≡◌, ◌+◌, IfOk, length, map, ◌++◌, OnOk, []};
 ghost use Rattle.mq_topic.specs.Levels.{levels};
 ghost use Rattle.mq_tree.specs.Prefixes.{prefixes, met_by_name};
 ghost use Rattle.mq_world.specs.Lists.{Text};
-ghost use Rattle.mq_world.specs.Views.{message_of};
-ghost use Rattle.mq_subscriptions.specs.Turns.{turn_of};
+ghost use Rattle.mq_world.specs.Views.{message_of, copies_in};
+ghost use Rattle.mq_subscriptions.specs.Turns.{turn_of, turns_in, next_members};
 ghost use Rattle.mq_sessions.specs.Views.{begin_of};
-ghost use Rattle.mq_router.specs.delivery.Copies.{queued_by};
+ghost use Rattle.mq_router.specs.delivery.Copies.{queued_by, by_client, copies_by, begins_by};
+ghost use Rattle.mq_subscriptions.specs.Filters.{AreAtFilters};
+ghost use Rattle.mq_subscriptions.specs.Matches.{lent_values, match_views, options_among};
+ghost use Rattle.mq_subscriptions.specs.Matches.{AreByClient, rows_found, unshared_matches};
+ghost use Rattle.mq_router.specs.router.Effects.{message_copies, member_copy};
 
 pub(crate) mod outgoing;
 pub(crate) mod summary;
@@ -77,18 +81,6 @@ pub(crate) fn make_copies(
     let served = members_served(alloc, readers, found, message)?;
     made_for(alloc, readers, matches.as_slice(), served, message, limit)
 }
-
-ghost use Rattle.std.specs.Prelude.{◌++◌, OnOk, []};
-ghost use Rattle.mq_subscriptions.specs.Filters.{AreAtFilters};
-ghost use Rattle.mq_subscriptions.specs.Matches.{lent_values, match_views, options_among};
-ghost use Rattle.mq_subscriptions.specs.Matches.{AreByClient};
-ghost use Rattle.mq_world.specs.Views.{copies_in};
-ghost use Rattle.mq_subscriptions.specs.Turns.{turns_in};
-ghost use Rattle.mq_router.specs.delivery.Copies.{by_client};
-ghost use Rattle.mq_router.specs.router.Effects.{message_copies, member_copy};
-ghost use Rattle.mq_subscriptions.specs.Turns.{next_members};
-ghost use Rattle.mq_subscriptions.specs.Matches.{rows_found, unshared_matches};
-ghost use Rattle.mq_router.specs.delivery.Copies.{copies_by, begins_by};
 
 // How many subscriptions of clients in their own name there are at most. It is a measure of room alone.
 fn own_count(found: &[&FilterEntry]) -> usize {

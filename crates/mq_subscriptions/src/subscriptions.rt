@@ -1,22 +1,25 @@
 //! The subscriptions of all clients.
 ghost use Rattle.std.specs.Prelude.{◌≡◌, ◌+◌, [], length, not, IsTrue, OnOk, OnErr, IfOk, map};
+ghost use Rattle.std.specs.Prelude.{Some, true, false, None, ◌&&◌};
 ghost use Rattle.std.specs.Rc.{rc_str_bytes};
 ghost use Rattle.std.specs.List.{filter, list_any};
 ghost use Rattle.mq_topic.specs.Texts.{is_subscription};
-ghost use Rattle.mq_tree.specs.Entries.{capped};
+ghost use Rattle.mq_tree.specs.Entries.{capped, is_key};
 ghost use Rattle.mq_tree.specs.Prefixes.{prefixes, met_by_name};
 ghost use Rattle.mq_world.specs.Lists.{same_text};
 ghost use Rattle.mq_world.specs.World.{has_key};
 ghost use Rattle.mq_subscriptions.specs.Wanted.{wanted_row, has_wanted, has_asked, ListsMore};
 ghost use Rattle.mq_subscriptions.specs.Wanted.{ListsLess, NoneEmptied, IsAskedBy};
-ghost use Rattle.mq_subscriptions.specs.Matches.{lent_values};
-ghost use Rattle.mq_subscriptions.specs.Matches.{rows_found};
+ghost use Rattle.mq_subscriptions.specs.Matches.{lent_values, rows_found};
 ghost use Rattle.mq_world.specs.Copies.{filter_matches};
 ghost use Rattle.mq_world.specs.Retained.{asks_for_retained};
 ghost use Rattle.mq_world.specs.Turns.{SameInTurn};
-ghost use Rattle.mq_subscriptions.specs.Turns.{upsert, put_last, all_turned};
-ghost use Rattle.mq_subscriptions.specs.Turns.{turn_of};
-ghost use Rattle.mq_subscriptions.specs.Filters.{AreKeys};
+ghost use Rattle.mq_subscriptions.specs.Turns.{upsert, put_last, all_turned, turn_of};
+ghost use Rattle.mq_subscriptions.specs.Filters.{AreKeys, all_rows, AreEntries, AreAtFilters};
+ghost use Rattle.mq_subscriptions.specs.Filters.{is_empty, is_in_list, is_text, text_key};
+ghost use Rattle.std.specs.Map.{lookup};
+ghost use Rattle.mq_topic.specs.Levels.{levels};
+ghost use Rattle.mq_subscriptions.specs.Views.{texts};
 
 pub(crate) mod client_filters;
 pub(crate) mod filter_entry;
@@ -206,13 +209,6 @@ impl Subscriptions {
     }
 }
 
-ghost use Rattle.std.specs.Prelude.{Some, true, false, None};
-ghost use Rattle.std.specs.Map.{lookup};
-ghost use Rattle.mq_topic.specs.Levels.{levels};
-ghost use Rattle.mq_tree.specs.Entries.{is_key};
-ghost use Rattle.mq_subscriptions.specs.Filters.{all_rows, AreEntries, AreAtFilters};
-ghost use Rattle.mq_subscriptions.specs.Views.{texts};
-
 fn join_in(
     tree: &mut LevelTree<FilterEntry>,
     alloc: Global,
@@ -279,9 +275,6 @@ fn leave_in(tree: &mut LevelTree<FilterEntry>, client: &str, text: &str) -> bool
     existed
 }
 
-ghost use Rattle.std.specs.Prelude.{◌&&◌};
-ghost use Rattle.mq_subscriptions.specs.Filters.{is_empty, is_in_list, is_text};
-
 // Takes a client's subscriptions out of the tree.
 fn leave_all(tree: &mut LevelTree<FilterEntry>, own: &ClientFilters, client: &str)
     requires { AreEntries tree.old }
@@ -293,8 +286,6 @@ fn leave_all(tree: &mut LevelTree<FilterEntry>, own: &ClientFilters, client: &st
         let _ = leave_in(tree, client, text.as_str());
     }
 }
-
-ghost use Rattle.mq_subscriptions.specs.Filters.{text_key};
 
 fn list_add(
     lists: &mut BTreeMap<RcStr, ClientFilters>,

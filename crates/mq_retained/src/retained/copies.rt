@@ -2,9 +2,9 @@
 ghost use Rattle.std.specs.Prelude.{◌≡◌, ◌+◌, ◌<◌, ◌^◌, IfOk, IfSome, map};
 ghost use Rattle.std.specs.Option.{option_copied, option_to_list};
 ghost use Rattle.mq_world.specs.Retained.{retained_copy};
-ghost use Rattle.mq_world.specs.Views.{copy_of};
-ghost use Rattle.mq_world.specs.Views.{copies_in};
+ghost use Rattle.mq_world.specs.Views.{copy_of, copies_in};
 ghost use Rattle.mq_retained.specs.Stored.{message_in, may_get, AreNear};
+ghost use Rattle.mq_retained.specs.Receivers.{subscription_for, copies_among};
 
 use crate::retained::stored::Stored;
 use mq_acl::Acl;
@@ -24,8 +24,6 @@ pub struct Receiver<'a> {
     pub filter: &'a TopicFilter,
     pub options: SubscriptionOptions,
 }
-
-ghost use Rattle.mq_retained.specs.Receivers.{subscription_for, copies_among};
 
 fn may_get(receiver: &Receiver, stored: &Stored) -> bool
     ensures { result ≡ may_get receiver.now.access.now (option_copied receiver.now.user)
