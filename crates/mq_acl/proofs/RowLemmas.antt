@@ -125,6 +125,7 @@ pub record IsReadTo (all left : List (List ℕ)) (n : ℕ) (who : Who) (rows : L
   pub who_is : who ≡ who_after (entries_of done)
   pub numbers_are : numbers ≡ row_lines_of done
 
+-- before the first line nothing is read
 pub read_start : (all : List (List ℕ)) → IsReadTo all all 0 Anonymous [] []
 read_start all = record {
   done = [];
@@ -136,6 +137,7 @@ read_start all = record {
   numbers_are = refl;
 }
 
+-- one more line is read, with the rows that it adds
 pub read_step : (all left more : List (List ℕ)) (line : List ℕ) (n : ℕ) (who next : Who)
     (rows now : List AclRow) (numbers numbers_now : List ℕ)
     → IsReadTo all left n who rows numbers → left ≡ line ∷ more
@@ -161,6 +163,7 @@ read_step all left more line n who next rows now numbers numbers_now s cut a =
           ∙ sym (row_lines_push s.done line a.entry a.says);
     }
 
+-- a fault in the next line is what the whole list gives
 pub read_fault : (all left more : List (List ℕ)) (line : List ℕ) (n : ℕ) (who : Who)
     (rows : List AclRow) (numbers : List ℕ) (fault : AclFault)
     → IsReadTo all left n who rows numbers → left ≡ line ∷ more
@@ -177,6 +180,7 @@ read_fault all left more line n who rows numbers fault s cut f =
     ∙ ap (λ o. cons_option o later) f in
     ap (λ faults. unless_faulty faults (rows_in (entries_of all))) first
 
+-- once no line is left, the rows read are the rows of the list
 pub read_end : (all left : List (List ℕ)) (n : ℕ) (who : Who) (rows : List AclRow)
     (numbers : List ℕ) → IsReadTo all left n who rows numbers → left ≡ []
     → unless_faulty (faults_of all) (rows_in (entries_of all)) ≡ Ok rows
@@ -186,6 +190,7 @@ read_end all left n who rows numbers s cut =
     ∙ ap (λ faults. unless_faulty faults (rows_in (entries_of s.done))) s.faultless
     ∙ ap Ok (sym s.rows_are)
 
+-- once no line is left, the numbers are those of the lines with rows
 pub read_lines : (all left : List (List ℕ)) (n : ℕ) (who : Who) (rows : List AclRow)
     (numbers : List ℕ) → IsReadTo all left n who rows numbers → left ≡ []
     → numbers ≡ row_lines_of all
@@ -193,6 +198,7 @@ read_lines all left n who rows numbers s cut =
     s.numbers_are ∙ ap row_lines_of
     (sym (sym s.parts ∙ ap (λ l. s.done ++ l) cut ∙ append-nil s.done))
 
+-- the lines read and the lines left are all the lines
 pub read_count : (all left : List (List ℕ)) (n : ℕ) (who : Who) (rows : List AclRow)
     (numbers : List ℕ) → IsReadTo all left n who rows numbers → n + length left ≡ length all
 read_count all left n who rows numbers s =

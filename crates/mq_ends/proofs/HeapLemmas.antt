@@ -21,6 +21,7 @@ Item = Reverse ℕ × RcStr Global
 abbrev dues : List Item → List Due
 dues = map due_of
 
+-- a heap with one more item has one more time due
 pub pushed : (x : Item) (xs ys : List Item) → IsPermutation (x ∷ xs) ys
     → AreWith (due_of x) (dues xs) (dues ys)
 pushed x xs ys h =
@@ -30,6 +31,7 @@ pushed x xs ys h =
       tests = λ test. sym (list_any-IsPermutation test (dues (x ∷ xs)) (dues ys) moved);
     }
 
+-- a heap without its first item has the other times due
 pub popped : (x : Item) (xs ys : List Item) → x ≡ get_or xs 0 x → IsPermutation xs (x ∷ ys)
     → AreRest (dues xs) (dues ys)
 popped x [] ys top h = absurd

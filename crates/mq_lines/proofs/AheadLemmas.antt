@@ -32,6 +32,7 @@ above_keys : (k : String Global) (es : List (String Global × Value))
 above_keys k [] h = tt
 above_keys k (e ∷ es) h = (h.0, above_keys k es h.1)
 
+-- the keys of a map are sorted, so the names of its members ascend
 pub ascends_keys : (es : List (String Global × Value)) → IsStrictlySortedBy string_cmp (keys_of es)
     → Ascends (names_of (members_view es))
 unfolding IsStrictlySortedBy
@@ -70,6 +71,7 @@ among_above n k (m ∷ names) above h = by_test (bytes_eq m k) refl h (among_abo
 abbrev pub Keeps : List (List ℕ) → Members → Members → Type 0
 Keeps names all ms = AllByRecursion (λ n. get_member n ms ≡ get_member n all) names
 
+-- at first, each name has in the members what it has in all
 pub keeps_all : (names : List (List ℕ)) (ms : Members) → Keeps names ms ms
 keeps_all [] ms = tt
 keeps_all (n ∷ names) ms = (refl, keeps_all names ms)
@@ -97,6 +99,7 @@ first : (a b : Bool) → a && b ≡ true → a ≡ true
 first true b h = refl
 first false b h = h
 
+-- walked by names that ascend, members that ascend are found and none is left
 pub agree : (names : List (List ℕ)) (all ms : Members) → Ascends names → Ascends (names_of ms)
     → all_among names ms ≡ true
     → Keeps names all ms → Agree names all ms
@@ -147,6 +150,7 @@ other_ahead n k d ms h = untied (text_cmp n k) (is_eq-slice_cmp n k ∙ h)
     untied Equal h = absurd (true≢false h)
     untied Greater h = refl
 
+-- the next member alone has its value under its own name
 pub found_ahead : (n k : List ℕ) (d : Data) (ms : Members) → bytes_eq n k ≡ true
     → get n (ahead (member k d ms)) ≡ Some d
 found_ahead n k d ms h = rw (equal_from (text_cmp n k) (is_eq-slice_cmp n k ∙ h))
@@ -233,6 +237,7 @@ abbrev pub is_order_of : List (List ℕ) → List (List ℕ) → Bool
 is_order_of order names = ascending order
     && (list_all (is_among order) names && list_all (is_among names) order)
 
+-- fields give the same result by their names and in a walk in order, faults included
 pub walked : {A : Type 0} (names order : List (List ℕ)) (ms : Members)
     (chain steps : Result A LineFault)
     → is_order_of order names ≡ true → Ascends (names_of ms)

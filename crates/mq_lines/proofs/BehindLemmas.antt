@@ -32,6 +32,7 @@ some_weaker : {X : Type 0} {P Q : X → Type 0} (o : Option X) → ((x : X) → 
 some_weaker None f p = p
 some_weaker (Some x) f p = f x p
 
+-- an object that holds a copy's line is the next copy's but for its client, if they are alike
 pub behind : (k : ℕ) (before c : Copy) (plain ids expiry group : Object) → IsAlike before c
     → Keeps k before plain ids expiry group → Follows k c plain ids expiry group
 behind k before c plain ids expiry group alike keeps =

@@ -15,14 +15,17 @@ pub kept : (m n : BTreeMap (String Global) Value)
     → members_view n.entries ≡ members_view m.entries
 kept m n same = rw (view-Object m) at same
 
+-- an object whose members have no floats has none
 pub no_float_inside : (m : BTreeMap (String Global) Value)
     → members_have_float (members_view m.entries) ≡ false → has_float (view (Object m)) ≡ false
 no_float_inside m none = rw (view-Object m) none
 
+-- an object is printed as its members are
 pub text_inside : (m : BTreeMap (String Global) Value)
     → compact_text (view (Object m)) ≡ compact_text (object (members_view m.entries))
 text_inside m = ap compact_text (view-Object m)
 
+-- on success, bytes that are a line's were appended as that line
 pub appended : {A E : Type 0} (r : Result A E) (new old bytes line : List ℕ)
     → new ≡ (if is_ok r then old ++ bytes else old) → bytes ≡ line → OnOk r (new ≡ old ++ line)
 appended (Ok x) new old bytes line e same = e ∙ ap (λ b. old ++ b) same

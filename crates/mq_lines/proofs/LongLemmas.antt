@@ -8,10 +8,12 @@ use Rattle.std.proofs.lemmas.List.{take_all}
 use Rattle.mq_lines.specs.Reading.{reading, line_limit}
 use Rattle.mq_lines.specs.Lines.{kept, piece_line}
 
+-- one byte more than a line may have is kept
 pub kept_is : kept ≡ line_limit + 1
 unfolding kept
 kept_is = refl
 
+-- how many bytes of a line are kept
 pub kept_number : kept ≡ 1048577
 unfolding kept
 kept_number = refl
@@ -30,6 +32,7 @@ reading_at p (inl h) =
     rw (b, a)
 reading_at p (inr h) = let e = kept_is in ap reading (take_all kept p (omega arith))
 
+-- what is kept of a line is read as the line is
 pub reading-kept : (p : List ℕ) → reading (take kept p) ≡ reading p
 reading-kept p = reading_at p (cases_lt line_limit (length p))
 
@@ -48,12 +51,14 @@ take_more (suc k) (x ∷ p) xs =
     ap (λ (n : ℕ). x ∷ (take k p ++ take n xs)) (minus_suc k (length (take k p)))
     ∙ ap (λ l. x ∷ l) (take_more k p xs)
 
+-- what is kept of a line grows, with more bytes, to what is kept of the longer line
 pub kept_more : (line p xs : List ℕ) → line ≡ take kept p
     → line ++ take (kept - length line) xs ≡ take kept (p ++ xs)
 kept_more line p xs e = ap (λ l. l ++ take (kept - length l) xs) e ∙ take_more kept p xs
 
 -- ## A last piece
 
+-- a piece of which nothing is kept is empty
 pub no_piece : (p : List ℕ) → take kept p ≡ [] → p ≡ []
 no_piece [] h = refl
 no_piece (x ∷ xs) h =
@@ -61,14 +66,17 @@ no_piece (x ∷ xs) h =
     let e : min kept (length (x ∷ xs)) ≡ 0 = sym (length-take kept (x ∷ xs)) ∙ ap length h in
     absurd (omega arith)
 
+-- a last piece of which something is kept is a line
 pub some_piece : (p line : List ℕ) → line ≡ take kept p → (line ≡ [] → ⊥) → piece_line p ≡ p ∷ []
 some_piece [] line e h = absurd (h (e ∙ take_all kept [] (omega arith)))
 some_piece (x ∷ xs) line e h = refl
 
+-- a list whose count is 0 is empty
 pub nil_from_count : (n : ℕ) (l : List ℕ) → n ≡ length l → eqb n 0 ≡ true → l ≡ []
 nil_from_count n [] e h = refl
 nil_from_count n (x ∷ xs) e h = absurd (let zero : n ≡ 0 = (Decides-eqb n 0).0 h in omega arith)
 
+-- a list whose count isn't 0 isn't empty
 pub not_nil_from_count : (n : ℕ) (l : List ℕ) → n ≡ length l → eqb n 0 ≡ false → l ≡ [] → ⊥
 not_nil_from_count n [] e h f = let bad : true ≡ false = sym (ap (λ k. eqb k 0) e) ∙ h in cc
 not_nil_from_count n (x ∷ xs) e h f = cc

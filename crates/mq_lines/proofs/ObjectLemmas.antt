@@ -43,14 +43,21 @@ had_names : (names : List (List ℕ)) (old : Members) (b : Bool) → IsFor names
     → names_of old ≡ names
 had_names names old b fits empty some = fits (λ none. true≢false (sym (empty.1 none) ∙ some))
 
+-- members that fit these names, and are some, keep them and get these values
+pub record IsRefill {A E : Type 0} (r : Result A E) (names : List (List ℕ)) (ds : List Data)
+    (old new : Members) (b : Bool) : Type 0 where
+  pub fits : IsFor names old
+  pub empty : IsTrue b ↔ (names_of old ≡ [])
+  pub some : b ≡ false
+  pub same_names : OnOk r (names_of new ≡ names_of old)
+  pub values : OnOk r (values_of new ≡ ds)
+
 refilled_as : {A E : Type 0} (r : Result A E) (names : List (List ℕ)) (ds : List Data)
     (old new : Members) (b : Bool)
-    → IsFor names old → IsTrue b ↔ (names_of old ≡ []) → b ≡ false
-    → OnOk r (names_of new ≡ names_of old)
-    → OnOk r (values_of new ≡ ds) → OnOk r (new ≡ named names ds)
-refilled_as (Ok x) names ds old new b fits empty some same_names values =
-    written new names ds (same_names ∙ had_names names old b fits empty some) values
-refilled_as (Err e) names ds old new b fits empty some same_names values = tt
+    → IsRefill r names ds old new b → OnOk r (new ≡ named names ds)
+refilled_as (Ok x) names ds old new b is =
+    written new names ds (is.same_names ∙ had_names names old b is.fits is.empty is.some) is.values
+refilled_as (Err e) names ds old new b is = tt
 
 -- what forgets the values of such names sets all that there is
 settled : (set : Members → Members) (names : List (List ℕ)) (ms : Members)
@@ -118,6 +125,7 @@ names_copy k client topic payload qos retain (Some x) [] (Some g) = refl
 names_copy k client topic payload qos retain (Some x) (n ∷ ns) None = refl
 names_copy k client topic payload qos retain (Some x) (n ∷ ns) (Some g) = refl
 
+-- once all is set, an object that fits a copy's names is its line, whatever values it had
 pub copy_again : (k : ℕ) (c : Copy) (ms : Members) → IsFor (copy_names (parts_of c)) ms
     → set_copy k c ms ≡ copy_members k c
 unfolding copy_members
@@ -126,6 +134,7 @@ copy_again k c ms fits =
     (forgets_copy k c.client c.topic c.payload c.qos c.retain c.expiry c.identifiers c.group)
     fits
 
+-- a copy's line fits the copy's names
 pub copy_fits : (k : ℕ) (c : Copy) (ms : Members) → ms ≡ copy_members k c
     → IsFor (copy_names (parts_of c)) ms
 unfolding copy_members
@@ -160,28 +169,31 @@ named_copy k client topic payload qos retain (Some x) [] (Some g) = refl
 named_copy k client topic payload qos retain (Some x) (n ∷ ns) None = refl
 named_copy k client topic payload qos retain (Some x) (n ∷ ns) (Some g) = refl
 
+-- an empty list of numbers isn't printed
 pub no_numbers : (ns : List ℕ) → (length ns == 0) ≡ true → numbers_if ns ≡ None
 no_numbers [] none = refl
 no_numbers (n ∷ ns) none =
     absurd (let zero : length (n ∷ ns) ≡ 0 = (Decides-eqb (length (n ∷ ns)) 0).0 none in
     omega (arith, zero))
 
+-- a list of some numbers is printed as an array
 pub some_numbers : (ns : List ℕ) → (length ns == 0) ≡ false
     → numbers_if ns ≡ Some (array (numbers_data ns))
 some_numbers [] some = absurd (true≢false some)
 some_numbers (n ∷ ns) some = refl
 
+-- an object that is refilled with a copy's values is its line
 pub copy_refilled : {A E : Type 0} (r : Result A E) (k : ℕ) (c : Copy) (ds : List Data)
     (old new : Members) (b : Bool)
-    → IsFor (copy_names (parts_of c)) old → IsTrue b ↔ (names_of old ≡ []) → b ≡ false
-    → OnOk r (names_of new ≡ names_of old)
-    → OnOk r (values_of new ≡ ds) → ds ≡ copy_values k c → OnOk r (new ≡ copy_members k c)
-copy_refilled r k c ds old new b fits empty some names values same =
+    → IsRefill r (copy_names (parts_of c)) ds old new b → ds ≡ copy_values k c
+    → OnOk r (new ≡ copy_members k c)
+copy_refilled r k c ds old new b refill same =
     let named_so = named_copy k c.client c.topic c.payload c.qos c.retain c.expiry c.identifiers
     c.group in
     on_ok_weaker r (λ e. e ∙ ap (named (copy_names (parts_of c))) same ∙ named_so)
-    (refilled_as r (copy_names (parts_of c)) ds old new b fits empty some names values)
+    (refilled_as r (copy_names (parts_of c)) ds old new b refill)
 
+-- an object without members fits any names
 pub none_fits : (names : List (List ℕ)) (ms : Members) → ms ≡ no_members → IsFor names ms
 none_fits names ms none = λ some. absurd (some (ap names_of none))
 
@@ -196,22 +208,22 @@ forgets_reason : (k reason : ℕ) (ds : List Data)
 unfolding reason_names
 forgets_reason k reason ds = refl
 
+-- once all is set, an object that fits a reason's names is its closing line
 pub reason_again : (k reason : ℕ) (ms : Members) → IsFor reason_names ms
     → set_reason k reason ms ≡ closing_members k (Reason reason)
 unfolding closing_members
 reason_again k reason ms fits = settled (set_reason k reason) reason_names ms
     (forgets_reason k reason) fits
 
+-- an object that is refilled with a reason's values is its closing line
 pub reason_refilled : {A E : Type 0} (r : Result A E) (k reason : ℕ) (old new : Members) (b : Bool)
-    → IsFor reason_names old → IsTrue b ↔ (names_of old ≡ []) → b ≡ false
-    → OnOk r (names_of new ≡ names_of old)
-    → OnOk r (values_of new ≡ whole_data k ∷ whole_data reason ∷ [])
+    → IsRefill r reason_names (whole_data k ∷ whole_data reason ∷ []) old new b
     → OnOk r (new ≡ closing_members k (Reason reason))
 unfolding reason_names closing_members
-reason_refilled r k reason old new b fits empty some names values =
-    refilled_as r reason_names (whole_data k ∷ whole_data reason ∷ []) old new b fits empty some
-    names values
+reason_refilled r k reason old new b refill =
+    refilled_as r reason_names (whole_data k ∷ whole_data reason ∷ []) old new b refill
 
+-- a reason's closing line fits its names
 pub reason_fits : (k reason : ℕ) (ms : Members) → ms ≡ closing_members k (Reason reason)
     → IsFor reason_names ms
 unfolding closing_members reason_names
@@ -243,6 +255,7 @@ unfolding report_names
 names_report k code name None = refl
 names_report k code name (Some n) = refl
 
+-- once all is set, an object that fits a report's names is its line
 pub report_again : (k : ℕ) (r : Report) (ms : Members)
     → IsFor (report_names (is_some r.acl_line)) ms → set_report k r ms ≡ report_members k r
 unfolding report_members
@@ -258,28 +271,26 @@ unfolding report_names
 report_count acl_line old b fits empty some none =
     ap length (had_names _ old b fits empty some ∙ ap report_names none)
 
+-- an object refilled with the values of a report without an access list's line is its line
 pub report_refilled : {A E : Type 0} (r : Result A E) (k : ℕ) (report : Report) (old new : Members)
     (b : Bool)
-    → IsFor (report_names (is_some report.acl_line)) old → IsTrue b ↔ (names_of old ≡ [])
-    → b ≡ false → is_some report.acl_line ≡ false
-    → OnOk r (names_of new ≡ names_of old)
-    → OnOk r (values_of new ≡ whole_data report.code ∷ whole_data k ∷ string report.name ∷ [])
-    → OnOk r (new ≡ report_members k report)
+    → IsRefill r (report_names (is_some report.acl_line))
+    (whole_data report.code ∷ whole_data k ∷ string report.name ∷ []) old new b
+    → is_some report.acl_line ≡ false → OnOk r (new ≡ report_members k report)
 unfolding report_names report_members
-report_refilled r k report old new b fits empty some none names values =
-    by_line report.acl_line fits none
+report_refilled r k report old new b refill none = by_line report.acl_line refill none
   where
-    by_line : (acl_line : Option ℕ) → IsFor (report_names (is_some acl_line)) old
+    by_line : (acl_line : Option ℕ) → IsRefill r (report_names (is_some acl_line))
+        (whole_data report.code ∷ whole_data k ∷ string report.name ∷ []) old new b
         → is_some acl_line ≡ false
         → OnOk r (new ≡ set_report k
         (record { code = report.code; name = report.name; acl_line = acl_line }) no_members)
-    by_line None fits_none none =
+    by_line None refill_none none =
         refilled_as r (report_names false)
-        (whole_data report.code ∷ whole_data k ∷ string report.name ∷ []) old new b fits_none
-        empty some names
-        values
-    by_line (Some n) fits_some none = absurd (true≢false none)
+        (whole_data report.code ∷ whole_data k ∷ string report.name ∷ []) old new b refill_none
+    by_line (Some n) refill_some none = absurd (true≢false none)
 
+-- a report's line fits the report's names
 pub report_fits : (k : ℕ) (r : Report) (ms : Members) → ms ≡ report_members k r
     → IsFor (report_names (is_some r.acl_line)) ms
 unfolding report_members

@@ -16,12 +16,14 @@ use Rattle.mq_lines.specs.Lines.{is_feed, pieces, all_but_last, whole_lines, las
 
 -- ## All but the last, and the last
 
+-- before the last of two lists are all of the first, and those before the second's last
 pub all_but_last-append : {X : Type 0} (xs : List X) (y : X) (ys : List X)
     → all_but_last (xs ++ y ∷ ys) ≡ xs ++ all_but_last (y ∷ ys)
 all_but_last-append [] y ys = refl
 all_but_last-append (x ∷ []) y ys = refl
 all_but_last-append (x ∷ z ∷ xs) y ys = ap (λ l. x ∷ l) (all_but_last-append (z ∷ xs) y ys)
 
+-- the last of two lists is the last of the second
 pub last_or-append : {X : Type 0} (o : Option X) (xs : List X) (y : X) (ys : List X)
     → last_or o (xs ++ y ∷ ys) ≡ last_or (Some y) ys
 last_or-append o [] y ys = refl
@@ -87,6 +89,7 @@ pieces-append g s q qs e =
 
 -- ## A line feed, and a text without one
 
+-- a line feed makes the last piece a whole line
 pub whole_lines-feed : (g : List ℕ) → whole_lines (g ++ 10 ∷ []) ≡ whole_lines g ++ last_piece g
     ∷ []
 whole_lines-feed g =
@@ -94,15 +97,18 @@ whole_lines-feed g =
     ∙ all_but_last-append (whole_lines g) (last_piece g ++ []) ([] ∷ [])
     ∙ ap (λ l. whole_lines g ++ l ∷ []) (append-nil (last_piece g))
 
+-- nothing follows a line feed that was given last
 pub last_piece-feed : (g : List ℕ) → last_piece (g ++ 10 ∷ []) ≡ []
 last_piece-feed g = ap last_of (pieces-append g (10 ∷ []) [] ([] ∷ []) refl)
     ∙ ap (λ o. unwrap_or o []) (last_or-append None (whole_lines g) (last_piece g ++ []) ([] ∷ []))
 
+-- a text without a line feed adds no whole line
 pub whole_lines-text : (g xs : List ℕ) → pieces xs ≡ xs ∷ [] → whole_lines (g ++ xs) ≡ whole_lines g
 whole_lines-text g xs e =
     ap all_but_last (pieces-append g xs xs [] e)
     ∙ all_but_last-append (whole_lines g) (last_piece g ++ xs) [] ∙ append-nil (whole_lines g)
 
+-- a text without a line feed goes on with the last piece
 pub last_piece-text : (g xs : List ℕ) → pieces xs ≡ xs ∷ []
     → last_piece (g ++ xs) ≡ last_piece g ++ xs
 last_piece-text g xs e = ap last_of (pieces-append g xs xs [] e)
@@ -124,6 +130,7 @@ no_feed_at : (t : Bool) (n m : ℕ) → nat_lt n m ≡ t → cond t (Some n) Non
 no_feed_at true n m e h within = absurd (let bad : Some n ≡ None = h in cc)
 no_feed_at false n m e h within = grind (arith, nat_tests)
 
+-- bytes among which no line feed is found are one piece
 pub no_feed : (xs : List ℕ) → position is_feed xs ≡ None → pieces xs ≡ xs ∷ []
 no_feed xs e =
     slice_split_whole is_feed xs
@@ -151,6 +158,7 @@ feed_found xs n e =
 
 -- ## The search goes on behind bytes without a line feed
 
+-- behind elements none of which passes, the search goes on
 pub position_or_len-later : {X : Type 0} (p : X → Bool) (xs ys : List X) → list_any p xs ≡ false
     → position_or_len p (xs ++ ys) ≡ length xs + position_or_len p ys
 position_or_len-later p [] ys e = omega arith
@@ -166,6 +174,7 @@ shifted false false i a b p q = refl
 shifted true false i a b p q = absurd (grind (arith, nat_tests))
 shifted false true i a b p q = absurd (grind (arith, nat_tests))
 
+-- where none of the first i passes, the position is i more than that in the rest
 pub position-later : {X : Type 0} (p : X → Bool) (xs : List X) (i : ℕ) → i ≤ length xs
     → position_or_len p xs ≡ i + position_or_len p (drop i xs)
     → position p xs ≡ option_map (λ (n : ℕ). i + n) (position p (drop i xs))
@@ -191,6 +200,7 @@ chunk_passed p xs i k within none e =
 
 -- ## Parts of bytes
 
+-- as many bytes as are left are all the rest
 pub rest_whole : (i : ℕ) (t : List ℕ) → take (length t - i) (drop i t) ≡ drop i t
 rest_whole i t = take_all (length t - i) (drop i t) (simp length-drop (omega arith))
 

@@ -29,6 +29,7 @@ lower name first (e ∷ es) below above =
     rw (nat_list_cmp_total.trans name (string_bytes first) (string_bytes e.0) below above.0)
     (lower name first es below above.1)
 
+-- where a name is among sorted keys, to set its value is to put the member
 pub set_is_put : (name : List ℕ) (es : Entries) (v w : Value)
     → IsStrictlySortedBy string_cmp (keys_of es) → lookup (is_at (beside name)) es ≡ Some v
     → members_view (set_value (is_at (beside name)) es w) ≡ put name (view w) (members_view es)

@@ -18,11 +18,13 @@ Entry = String Global × Value
 abbrev pub beside : List ℕ → String Global → Ordering
 beside name key = slice_cmp nat_cmp name (string_bytes key)
 
+-- a value is seen the same behind a reference as without it
 pub seen : (o : Option (Bor Value)) → option_map (λ v. view v.now) o
     ≡ option_map view (option_copied o)
 seen None = refl
 seen (Some v) = refl
 
+-- what is looked up by its key is the member of that name
 pub found : (name : List ℕ) (es : List Entry) (o : Option Value)
     → o ≡ lookup (is_at (beside name)) es
     → get_member name (members_view es) ≡ option_map view o

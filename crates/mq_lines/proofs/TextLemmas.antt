@@ -6,6 +6,7 @@ use Rattle.serde_json.specs.Data.{Data}
 use Rattle.serde_json.specs.Read.{read}
 use Rattle.mq_lines.specs.Reading.{value_of}
 
+-- a line that is text has the value that is read
 pub value_of-text : (line : List ℕ) (d : Data) → IsUtf8 line → read line ≡ Some d
     → value_of line ≡ Some d
 unfolding value_of
@@ -16,6 +17,7 @@ refused_at : (line : List ℕ) → (IsUtf8 line → read line ≡ None) → (b :
 refused_at line h true e = h (IsUtf8-from_is_utf8 line e)
 refused_at line h false e = refl
 
+-- a line has no value where, if it is text, nothing is read
 pub value_of-refused : (line : List ℕ) → (IsUtf8 line → read line ≡ None) → value_of line ≡ None
 unfolding value_of
 value_of-refused line h = refused_at line h (is_utf8 line) refl

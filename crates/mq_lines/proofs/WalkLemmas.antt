@@ -89,6 +89,7 @@ connect_reordered (Ok x0) (Err e) session_expiry user f h0 h1 h2 h3 = refl
 connect_reordered (Ok x0) (Ok x1) (Err e) user f h0 h1 h2 h3 = search (rules, faulty)
 connect_reordered (Ok x0) (Ok x1) (Ok x2) user f h0 h1 h2 h3 = refl
 
+-- a walk in the order of their names reads a connect's fields the same
 pub connect_walked : (ms : Members) → Ascends (names_of ms)
     → connect_fields (object ms) ≡ connect_walk ms
 unfolding connect_fields
@@ -116,6 +117,7 @@ disconnect_walk ms = do
   ended ← end (left disconnect_order ms)
   Ok (Disconnect client)
 
+-- a walk in the order of their names reads a disconnect's fields the same
 pub disconnect_walked : (ms : Members) → Ascends (names_of ms)
     → disconnect_fields (object ms) ≡ disconnect_walk ms
 unfolding disconnect_fields
@@ -177,6 +179,7 @@ subscribe_reordered (Ok x0) (Ok x1) (Ok x2) (Ok x3) (Err e) qos rap f h0 h1 h2 h
     search (rules, faulty)
 subscribe_reordered (Ok x0) (Ok x1) (Ok x2) (Ok x3) (Ok x4) qos rap f h0 h1 h2 h3 h4 h5 h6 = refl
 
+-- a walk in the order of their names reads a subscribe's fields the same
 pub subscribe_walked : (ms : Members) → Ascends (names_of ms)
     → subscribe_fields (object ms) ≡ subscribe_walk ms
 unfolding subscribe_fields
@@ -210,6 +213,7 @@ unsubscribe_walk ms = do
   ended ← end (left unsubscribe_order ms)
   Ok (Unsubscribe client filter)
 
+-- a walk in the order of their names reads an unsubscribe's fields the same
 pub unsubscribe_walked : (ms : Members) → Ascends (names_of ms)
     → unsubscribe_fields (object ms) ≡ unsubscribe_walk ms
 unfolding unsubscribe_fields
@@ -267,6 +271,7 @@ publish_reordered (Ok x0) (Ok x1) (Ok x2) (Ok x3) (Err e) topic f h0 h1 h2 h3 h4
     search (rules, faulty)
 publish_reordered (Ok x0) (Ok x1) (Ok x2) (Ok x3) (Ok x4) topic f h0 h1 h2 h3 h4 h5 = refl
 
+-- a walk in the order of their names reads a publish's fields the same
 pub publish_walked : (ms : Members) → Ascends (names_of ms)
     → publish_fields (object ms) ≡ publish_walk ms
 unfolding publish_fields
@@ -297,6 +302,7 @@ acl_walk ms = do
   ended ← end (left acl_order ms)
   Ok (SetAcl acl)
 
+-- a walk in the order of their names reads an access list's fields the same
 pub acl_walked : (ms : Members) → Ascends (names_of ms) → acl_fields (object ms) ≡ acl_walk ms
 unfolding acl_fields
 acl_walked ms sorted = walked (codes "do" ∷ codes "text" ∷ []) acl_order ms _ (acl_walk ms) refl
@@ -313,6 +319,7 @@ advance_walk ms = do
   ended ← end (left advance_order ms)
   Ok (Advance seconds)
 
+-- a walk in the order of their names reads an advance's fields the same
 pub advance_walked : (ms : Members) → Ascends (names_of ms)
     → advance_fields (object ms) ≡ advance_walk ms
 unfolding advance_fields
@@ -329,6 +336,7 @@ stat_walk ms = do
   ended ← end (left stat_order ms)
   Ok (Stat)
 
+-- a walk in the order of their names reads a stat's fields the same
 pub stat_walked : (ms : Members) → Ascends (names_of ms) → stat_fields (object ms) ≡ stat_walk ms
 unfolding stat_fields
 stat_walked ms sorted = walked (codes "do" ∷ []) stat_order ms _ (stat_walk ms) refl sorted

@@ -52,6 +52,7 @@ plain_is_no_wildcard w h = at (bytes_eq w (codes "+")) refl (bytes_eq w (codes "
         ∙ h in cc)
     at false e false g = (λ i. e i || g i)
 
+-- a level of a name is no wildcard
 pub level_is_no_wildcard : (w : List ℕ) → is_name_level w ≡ true → is_wildcard w ≡ false
 level_is_no_wildcard w h = plain_is_no_wildcard w
     (first (is_plain w) (not (contains_byte 0 w)) (not (contains_byte 47 w)) _ h)
@@ -60,6 +61,7 @@ level_is_no_wildcard w h = plain_is_no_wildcard w
     first true b c d e = refl
     first false b c d e = e
 
+-- a literal level is no wildcard
 pub literal_is_no_wildcard : (f : Fresh) (w : List ℕ) → is_literal f w ≡ true
     → is_wildcard w ≡ false
 literal_is_no_wildcard f w h = level_is_no_wildcard w
@@ -121,10 +123,12 @@ untried f user old new c h =
           || bytes_eq c [] || is_user c user || is_literal_of c old) (is_literal_of c new) h).1;
     }
 
+-- a text that is not the empty one has a byte
 pub not_empty : (c : List ℕ) → bytes_eq c [] ≡ false → (length c == 0) ≡ false
 not_empty [] e = e
 not_empty (x ∷ xs) e = grind (arith, nat_tests)
 
+-- a level that is neither of two is apart from them
 pub apart_by : (a b w : List ℕ) → not (bytes_eq w a) ≡ true → not (bytes_eq w b) ≡ true
     → is_apart a b w ≡ true
 apart_by a b w e f = rw (e, f) refl
@@ -223,6 +227,7 @@ one_more_done P items i d p here before t all rest = at (bytes_eq t (get_or item
     at true q = subst P (sym (text_is t (get_or items i d).now q)) here
     at false q = before t all (ap (is_among t) (drop_more items i d p) ∙ (λ j. q j || rest j))
 
+-- what is true of each level that has been tried is true of all in the end
 pub all_done : (P : List ℕ → Type 0) (items : List (Bor (List ℕ))) (i : ℕ) → length items ≤ i
     → ((t : List ℕ) → is_among t items ≡ true → is_among t (drop i items) ≡ false → P t)
     → (t : List ℕ) → is_among t items ≡ true → P t

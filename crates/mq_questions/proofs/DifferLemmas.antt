@@ -41,6 +41,7 @@ one_of true false e = λ q. let k = e in cc
 one_of false true e = λ q. cc
 one_of false false e = λ q. let k = e in cc
 
+-- lists where neither gains on the other allow the same
 pub none_differ : (one other : List AclRow) (user : Option (List ℕ)) (direction : Direction)
     → ((client name : List ℕ) → IsTrue (is_name name)
     → is_gained one other client user name direction ≡ false)
@@ -52,6 +53,7 @@ none_differ one other user direction f g client name valid =
     (allowed (Some other) client user name direction) (f client name valid)
     (g client name valid)
 
+-- lists differ where the other one gains a name
 pub more_differ : (one other : List AclRow) (client : List ℕ) (user : Option (List ℕ))
     (name : List ℕ) (direction : Direction) → IsTrue (is_name name)
     → is_gained one other client user name direction ≡ true → Differ one other
@@ -66,6 +68,7 @@ more_differ one other client user name direction valid h =
           (allowed (Some other) client user name direction) h;
     }
 
+-- lists differ where the first one gains a name
 pub fewer_differ : (one other : List AclRow) (client : List ℕ) (user : Option (List ℕ))
     (name : List ℕ) (direction : Direction) → IsTrue (is_name name)
     → is_gained other one client user name direction ≡ true → Differ one other
@@ -86,6 +89,7 @@ pub both_ways : (one other : List AclRow) (user : Option (List ℕ))
 both_ways one other user r w Reading = r
 both_ways one other user r w Writing = w
 
+-- lists that allow the same for no user, named users and others do so for all
 pub every_user : (one other : List AclRow) (named : Literals) → AllowSame one other None
     → ((u : List ℕ) → is_named u named ≡ true → AllowSame one other (Some u))
     → ((u : List ℕ) → is_named u named ≡ false → AllowSame one other (Some u))

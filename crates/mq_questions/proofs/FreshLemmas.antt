@@ -199,6 +199,7 @@ made_unnamed t named m text h =
     one false false false false false true a b c d e f h = f refl
     one false false false false false false a b c d e f h = absurd (let k : false ≡ true = h in cc)
 
+-- long texts are longer than any level that is short
 pub are_longer : (t : FreshTexts) → AreLong t → AreLonger t
 are_longer t l = λ named short. record {
   plain = long_is_new (codes "x") (string_bytes t.plain) named l.plain short;

@@ -50,6 +50,7 @@ same_passes pattern client user w l h =
     ap (λ b. cond (pattern && bytes_eq w (codes "%c")) (bytes_eq l client)
     (cond (pattern && bytes_eq w (codes "%u")) b (level_matches w l))) (same_user user l h)
 
+-- any levels fit the test that all pass
 pub any_fits : (ws : List (List ℕ)) → fits (λ w. true) ws ≡ true
 any_fits [] = refl
 any_fits (w ∷ ws) = rw (any_fits ws)
@@ -102,6 +103,7 @@ gained_is old new olds news user other direction dollar a b l m client name d =
     (λ i. roots_allow new news user other direction dollar b m client name d i
     && not (roots_allow old olds user other direction dollar a l client name d i))
 
+-- where no walk gains a name, no valid name is gained
 pub nothing_gained : (old new : List AclRow) (olds news : List Remainder) (user : Option (List ℕ))
     (direction : Direction) (dollar : Bool) (start : Start)
     → AreRoots old user direction dollar olds → AreRoots new user direction dollar news
@@ -132,9 +134,11 @@ nothing_gained_by old new olds news user other direction dollar start a b l m st
     ∙ h client (levels name) (ap (λ s. suits s (levels name)) st ∙ name_suits name dollar is.some d)
     is.few
 
+-- a level of a name can be a level
 pub level_can : (l : List ℕ) → is_name_level l ≡ true → can_be_level l ≡ true
 level_can l h = (and_parts (can_be_level l) _ h).0
 
+-- a name that the walk gains is gained
 pub name_gained : (old new : List AclRow) (olds news : List Remainder) (user : Option (List ℕ))
     (direction : Direction) (dollar : Bool) (start : Start)
     → AreRoots old user direction dollar olds → AreRoots new user direction dollar news
@@ -150,6 +154,7 @@ name_gained old new olds news user direction dollar start a b st client name ls 
     ∙ level_gains client user ls olds news (all_by is_name_level can_be_level level_can ls h.valid)
     ∙ h.gained
 
+-- a name that the walk gains is gained by each user who is alike
 pub name_gained_by : (old new : List AclRow) (olds news : List Remainder)
     (user other : Option (List ℕ)) (direction : Direction) (dollar : Bool) (start : Start)
     → AreRoots old user direction dollar olds → AreRoots new user direction dollar news

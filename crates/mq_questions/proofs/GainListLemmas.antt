@@ -29,6 +29,7 @@ use Rattle.mq_walk.specs.declared.path.Path.{Path}
 use Rattle.mq_walk.specs.declared.remainder.Remainder.{Remainder}
 use Rattle.mq_walk.specs.declared.start.Start.{Start}
 
+-- what is true of all with one more is true of all and of that one
 pub split_push : {X : Type 0} (P : X → Type 0) (xs : List X) (x : X) → All P (xs ++ x ∷ [])
     → All P xs × P x
 split_push P [] x h = (All-nil P, All-head P x [] h)
@@ -39,6 +40,7 @@ split_push P (y ∷ ys) x h =
 pub all_yielded : {X : Type 0} (xs ys : List X) → map (λ x. x) xs ≡ ys → xs ≡ ys
 all_yielded xs ys e = sym (map-id xs) ∙ e
 
+-- a list with one more element is not empty
 pub not_pushed : {X : Type 0} (xs : List X) (x : X) (next : List X) → next ≡ xs ++ x ∷ []
     → next ≡ [] → ⊥
 not_pushed [] x next e h = let k = sym h ∙ e in cc
@@ -95,6 +97,7 @@ pub record AreGains (start : Start) (user : Option (List ℕ)) (old new : List R
       → is_among c (drop i items) ≡ false → GainsNothing start 200 (marks_of c user) old new
   pub each : All (IsGainOf start user old new) gains
 
+-- before the first client no gain is listed
 pub gains_none : (start : Start) (user : Option (List ℕ)) (old new : List Remainder)
     (items : List (Bor (List ℕ))) (gains : List Gain) → gains ≡ []
     → AreGains start user old new items 0 gains
@@ -103,6 +106,7 @@ gains_none start user old new items gains h = record {
   each = All-same (IsGainOf start user old new) gains [] h (All-nil (IsGainOf start user old new));
 }
 
+-- the gains of one more client are listed
 pub gains_more : (start : Start) (user : Option (List ℕ)) (old new : List Remainder)
     (items : List (Bor (List ℕ))) (i : ℕ) (d : Bor (List ℕ)) (before after : List Gain)
     (paths : List Path)
@@ -226,11 +230,13 @@ none_taken n [] next h e f = refl
 none_taken zero (x ∷ xs) next h e f = absurd (omega arith)
 none_taken (suc n) (x ∷ xs) next h e f = absurd (let k = sym f ∙ e in cc)
 
+-- lists that are joined to none are none
 pub none_joined : {X : Type 0} (xs ys next : List X) → next ≡ xs ++ ys → next ≡ [] → (xs ≡ [])
     × (ys ≡ [])
 none_joined [] ys next e f = (refl, sym e ∙ f)
 none_joined (x ∷ xs) ys next e f = absurd (let k = sym f ∙ e in cc)
 
+-- what is true of each in two lists is true of the first few of both
 pub each_taken : {X : Type 0} (P : X → Type 0) (n : ℕ) (xs ys next last : List X) → next ≡ xs ++ ys
     → last ≡ take n next → All P xs → All P ys → All P last
 each_taken P n xs ys next last e f a b =

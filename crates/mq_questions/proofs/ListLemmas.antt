@@ -125,6 +125,7 @@ name_short l (Named name) s h = subst (λ t. length t ≤ 300) (sym (text_is l n
     (leb-true (length name) 300 s)
 name_short l Everyone s h = absurd (let n : false ≡ true = h in cc)
 
+-- a level that usable rows name has at most 300 bytes
 pub names_short : (rows : List AclRow) → list_all usable rows ≡ true → (l : List ℕ)
     → rows_name l rows ≡ true → length l ≤ 300
 names_short [] u l h = absurd (let n : false ≡ true = h in cc)
@@ -141,6 +142,7 @@ names_short (row ∷ rows) u l h =
     (and_parts (fits is_short_level (levels row.filter)) (short_who row.who) first).1 e))
     (λ there. names_short rows (and_parts (usable row) (list_all usable rows) u).1 l there)
 
+-- a level that rows name for a user is one that they name
 pub user_is_named : (rows : List AclRow) (l : List ℕ) → is_user_of l rows ≡ true
     → rows_name l rows ≡ true
 user_is_named [] l h = h

@@ -42,6 +42,7 @@ fits_mono p q (w ∷ ws) h e =
     both false true b c d f g k = rw (f refl, g k) refl
     both false false b c d f g k = absurd (let n : false ≡ true = k in cc)
 
+-- levels that fit two tests fit what follows from both
 pub fits_both : (p q r : List ℕ → Bool) (ws : List (List ℕ))
     → ((w : List ℕ) → p w ≡ true → q w ≡ true → r w ≡ true) → fits p ws ≡ true → fits q ws ≡ true
     → fits r ws ≡ true
@@ -58,6 +59,7 @@ fits_both p q r (w ∷ ws) h e f =
     both false true false c x y z f g k m = absurd (let n : false ≡ true = m in cc)
     both false false b c x y z f g k m = absurd (let n : false ≡ true = k in cc)
 
+-- remainders that fit a test fit a weaker one
 pub all_fit_mono : (p q : List ℕ → Bool) (rs : List Remainder)
     → ((w : List ℕ) → p w ≡ true → q w ≡ true) → remainders_fit p rs ≡ true
     → remainders_fit q rs ≡ true
@@ -69,6 +71,7 @@ all_fit_mono p q (r ∷ rs) h e =
       all_fit_mono p q rs h (and_parts (remainder_fits p r) (remainders_fit p rs) e).1,
     ) refl
 
+-- remainders that fit two tests fit what follows from both
 pub all_fit_both : (p q r : List ℕ → Bool) (rs : List Remainder)
     → ((w : List ℕ) → p w ≡ true → q w ≡ true → r w ≡ true) → remainders_fit p rs ≡ true
     → remainders_fit q rs ≡ true → remainders_fit r rs ≡ true
@@ -82,6 +85,7 @@ all_fit_both p q r (x ∷ xs) h e f =
           (and_parts (remainder_fits q x) (remainders_fit q xs) f).1,
     ) refl
 
+-- a literal among levels that fit passes their test
 pub literal_passes : (p : List ℕ → Bool) (ws : List (List ℕ)) → fits p ws ≡ true → (l : List ℕ)
     → is_literal_in l ws ≡ true → p l ≡ true
 literal_passes p [] e l h = absurd (let n : false ≡ true = h in cc)
@@ -100,6 +104,7 @@ literal_passes p (w ∷ ws) e l h =
     one false true last q f g = absurd (let n : false ≡ true = f in cc)
     one false false last q f g = g
 
+-- a literal of remainders that fit passes their test
 pub literals_pass : (p : List ℕ → Bool) (rs : List Remainder) → remainders_fit p rs ≡ true
     → (l : List ℕ) → is_literal_of l rs ≡ true → p l ≡ true
 literals_pass p [] e l h = absurd (let n : false ≡ true = h in cc)

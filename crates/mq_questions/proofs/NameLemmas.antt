@@ -93,6 +93,7 @@ level_is l h =
       short = leb-true (length l) 321 (and_parts (can_be_level l) (nat_le (length l) 321) h).1;
     }
 
+-- levels that pass a test pass a weaker one
 pub all_by : (p q : List ℕ → Bool) → ((l : List ℕ) → p l ≡ true → q l ≡ true) → (ls : List (List ℕ))
     → list_all p ls ≡ true → list_all q ls ≡ true
 all_by p q f [] h = refl
@@ -111,6 +112,7 @@ slashed_short (l ∷ ls) h =
     let size = length-append l (slashed ls) in
     omega (arith, short, more, size)
 
+-- the levels of joined levels are those levels
 pub levels_of_joined : (ls : List (List ℕ)) (dollar : Bool) → list_all is_name_level ls ≡ true
     → suits (start_of dollar) ls ≡ true → levels (join_levels ls) ≡ ls
 levels_of_joined [] true h s = absurd (let e : false ≡ true = s in cc)
@@ -134,6 +136,7 @@ valid : (text few : Bool) (n m : ℕ) (nul plus hash : Bool) → 0 < n → n ≤
     → (nat_lt 0 n && nat_le n 65535 && not nul && (not plus && not hash) && nat_le m 200) ≡ true
 valid text few n m nul plus hash a b d e f g = rw (e, f, g) (grind (arith, nat_tests))
 
+-- levels of names, at most 200, join to a name
 pub joined_is_name : (ls : List (List ℕ)) (dollar : Bool) → list_all is_name_level ls ≡ true
     → length ls ≤ 200 → suits (start_of dollar) ls ≡ true → is_name (join_levels ls) ≡ true
 joined_is_name [] true h n s = absurd (let e : false ≡ true = s in cc)
@@ -203,6 +206,7 @@ slash_onto : (x : ℕ) (ls : List (List ℕ)) → (x == 47) ≡ false → all_la
 slash_onto x [] n h = rw n refl
 slash_onto x (l ∷ ls) n h = rw n h
 
+-- no level has a `/` in it
 pub levels_without : (text : List ℕ) → all_lack 47 (levels text) ≡ true
 levels_without [] = refl
 levels_without (x ∷ xs) = at (is_slash x) refl (levels_without xs)
@@ -264,11 +268,13 @@ some_name [] true s = absurd (let e : false ≡ true = s in cc)
 some_name [] false s = absurd (let e : false ≡ true = s in cc)
 some_name (x ∷ xs) dollar s = omega arith
 
+-- a name suits the start that its first byte gives
 pub name_suits : (name : List ℕ) (dollar : Bool) → 0 < length name
     → begins_with_dollar name ≡ dollar → suits (start_of dollar) (levels name) ≡ true
 name_suits name true h e = dollar_suits name ∙ e
 name_suits name false h e = plain_suits name h ∙ ap not e
 
+-- a name begins with `$` just as the start that it suits says
 pub suits_dollar : (name : List ℕ) (dollar : Bool) → 0 < length name
     → suits (start_of dollar) (levels name) ≡ true → begins_with_dollar name ≡ dollar
 suits_dollar name true h e = sym (dollar_suits name) ∙ e

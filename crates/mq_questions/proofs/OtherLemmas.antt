@@ -79,6 +79,7 @@ pub record AreOthers (start : Start) (old new : List Remainder) (named : Literal
       → GainsNothing start 200 (marks_of c (Some u)) old new
   pub each : All (IsOtherGain start old new named) others
 
+-- before the first user no gain is listed
 pub others_none : (start : Start) (old new : List Remainder) (named : Literals)
     (items : List (Bor (List ℕ))) (others : List OtherGain) → others ≡ []
     → AreOthers start old new named items 0 others
@@ -104,6 +105,7 @@ others_skip start old new named items i d others h listed a = record {
   each = a.each;
 }
 
+-- the gains of one more user are listed
 pub others_more : (start : Start) (old new : List Remainder) (named : Literals)
     (items : List (Bor (List ℕ))) (i : ℕ) (d : Bor (List ℕ)) (before after : List OtherGain)
     (gains : List Gain)

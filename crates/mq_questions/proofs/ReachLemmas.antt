@@ -76,6 +76,7 @@ first_dollar : (ls : List (List ℕ)) → suits (start_of true) ls ≡ true
 first_dollar [] s = absurd (let e : false ≡ true = s in cc)
 first_dollar (l ∷ ls) s = (and_parts (begins_with_dollar l) _ s).0
 
+-- a filter that begins with a wildcard matches no name that begins with `$`
 pub hidden_matches : (filter name : List ℕ) (dollar : Bool)
     → (dollar && is_wildcard (level_at (levels filter) 0)) ≡ true → IsTrue (is_name name)
     → begins_with_dollar name ≡ dollar → matches (levels filter) (levels name) ≡ false

@@ -57,6 +57,7 @@ ready old new texts named literals e n u v m = record {
         (λ k. or_left (rows_name l old) (rows_name l new) (user_is_named old l k))
         (λ k. or_right (rows_name l old) (rows_name l new) (user_is_named new l k))
 
+-- a test and the same test twice say the same
 pub twice : (b : Bool) → (false || b) ≡ (b || b)
 twice true = refl
 twice false = refl

@@ -69,6 +69,7 @@ same_self : (b : Bool) → same b b ≡ true
 same_self true = refl
 same_self false = refl
 
+-- a user is alike to itself
 pub alike_self : (user : Option (List ℕ)) (rows : List AclRow) → alike user user rows ≡ true
 alike_self user [] = refl
 alike_self user (row ∷ rows) = rw (same_self (applies user row.who)) (alike_self user rows)

@@ -52,6 +52,7 @@ swap_eq a b l m = both_ways (bytes_eq (swap a b l) (swap a b m)) (bytes_eq l m)
     ∙ ap (swap a b) (text_is (swap a b l) (swap a b m) e) ∙ swap_twice a b m) ∙ text_itself m)
     (λ e. ap (λ k. bytes_eq (swap a b k) (swap a b m)) (text_is l m e) ∙ text_itself (swap a b m))
 
+-- a swap leaves a level that is apart from both
 pub swap_apart : (a b l : List ℕ) → is_apart a b l ≡ true → swap a b l ≡ l
 swap_apart a b l h =
     swap_other a b l (not-true (bytes_eq l a)
@@ -126,6 +127,7 @@ swap_passes pattern marks a b w l h = plus (bytes_eq w (codes "+")) refl
     plus false e = named (pattern && bytes_eq w (codes "%c")) (pattern && bytes_eq w (codes "%u"))
         (ap (λ k. k || is_apart a b w) (sym e) ∙ h)
 
+-- all levels pass the test that says yes
 pub all_pass : (ls : List (List ℕ)) → list_all (λ l. true) ls ≡ true
 all_pass [] = refl
 all_pass (l ∷ ls) = all_pass ls

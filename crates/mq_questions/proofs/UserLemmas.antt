@@ -29,6 +29,7 @@ one_alike u v Anonymous e f = refl
 one_alike u v (Named name) e f = rw (e, f) refl
 one_alike u v Everyone e f = refl
 
+-- two users that no row names are alike
 pub others_alike : (u v : List ℕ) (rows : List AclRow) → is_user_of u rows ≡ false
     → is_user_of v rows ≡ false → alike (Some u) (Some v) rows ≡ true
 others_alike u v [] e f = refl
@@ -63,6 +64,7 @@ tried_by f old new p a b c d o n u h =
     one false false false true v w a b c e f h = e refl
     one false false false false v w a b c e f h = f h
 
+-- a user that is tried may be chosen
 pub tried_user_is_choice : (f : Fresh) (old new : List Remainder) → AreFresh f
     → remainders_fit (is_literal f) old ≡ true → remainders_fit (is_literal f) new ≡ true
     → (u : List ℕ) → is_tried_user f old new u ≡ true → is_choice f.others u ≡ true

@@ -30,6 +30,7 @@ none_is : (o : Option (Bor Row)) → not (is_some o) ≡ is_none o
 none_is None = refl
 none_is (Some r) = refl
 
+-- the first row that denies and the first that grants decide
 pub decided : (rows : List Row) (client : List ℕ) (user : Option (List ℕ)) (name : List ℕ)
     (direction : Direction) (deny grant : Option (Bor Row))
     → option_copied deny ≡ find (λ row. concerns client user name (row_view row)

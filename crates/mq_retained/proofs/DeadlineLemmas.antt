@@ -45,6 +45,7 @@ tied_is a b =
     ∙ ap (λ v. v && is_eq (text_cmp a.topic b.topic)) (same_numbers a.deadline b.deadline)
     ∙ ap (λ v. eqb a.deadline b.deadline && v) (is_eq-slice_cmp a.topic b.topic)
 
+-- a pair that passes the test is the one that it tests for
 pub pair-is : (d : ℕ) (topic : Text) (p : Pair) → is_pair d topic p ≡ true → p ≡ (d, topic)
 pair-is d topic (n, t) h =
     let parts : (eqb n d ≡ true) × (same_text t topic ≡ true) = and_parts _ _ h in
@@ -52,6 +53,7 @@ pair-is d topic (n, t) h =
     let text : t ≡ topic = (bytes_eq-Decides t topic).0 parts.1 in
     ap (λ m. (m, t)) number ∙ ap (λ s. (d, s)) text
 
+-- a pair passes its own test
 pub own-pair : (d : ℕ) (topic : Text) → is_pair d topic (d, topic) ≡ true
 own-pair d topic = rw (eq-eqb d d refl, (bytes_eq-Decides topic topic).1 refl) refl
 
@@ -60,6 +62,7 @@ tied-pairs a b h = pair-is b.deadline b.topic (due_of a) (sym (tied_is a b) ∙ 
 
 -- ## A pair that joins
 
+-- a pair is in the index after an insert if it is the new one or was there
 pub has-insert : (due : Due) (dues : List Due) (d : ℕ) (topic : Text)
     → has_pair d topic (map due_of (insert_key due_cmp dues due))
     ≡ (is_pair d topic (due_of due) || has_pair d topic (map due_of dues))
@@ -89,6 +92,7 @@ removed-is : (due : Due) (dues : List Due) → IsStrictlySortedBy due_cmp dues
     → remove_key (is_at (due_cmp due)) dues ≡ filter (λ x. not (is_at (due_cmp due) x)) dues
 removed-is due dues s = remove_key-filter due_cmp (is_at (due_cmp due)) (apart due) dues s
 
+-- the pair of a key that is removed leaves the index, and no other
 pub has-remove : (due : Due) (dues : List Due) → IsStrictlySortedBy due_cmp dues
     → Drops (Some (due_of due)) (map due_of dues)
     (map due_of (remove_key (is_at (due_cmp due)) dues))
@@ -104,6 +108,7 @@ has-remove due dues s = λ d topic.
     ∙ ap (λ b. not (is_pair d topic (due_of due)) && b)
     (sym (list_any-map due_of (is_pair d topic) dues))
 
+-- where no pair leaves, the pairs stay as they are
 pub drops-none : (pairs : List Pair) → Drops None pairs pairs
 drops-none pairs = λ d topic. refl
 
@@ -118,6 +123,7 @@ first-apart first (x ∷ xs) h =
     ∙ ap is_eq (due_total.antisymm x first) ∙ rw h.0 refl in
     rw (tied, first-apart first xs h.1) refl
 
+-- the first pair, if it is due, is taken out as one that is due
 pub first-taken : (moment : ℕ) (first : Due) (dues : List Due) → first.deadline ≤ moment
     → AllByRecursion (IsLtBy due_cmp first) dues
     → TakesDue moment first.topic (map due_of (first ∷ dues)) (map due_of dues)
@@ -137,6 +143,7 @@ first-taken moment first dues due above = record {
       (elim (is_pair d topic (due_of first)) as P [ true ↦ here | false ↦ λ h. refl ]) refl;
 }
 
+-- in an empty index nothing is due
 pub none-in-empty : (moment : ℕ) → NoneDue moment []
 none-in-empty moment = λ d topic h. cc
 
@@ -151,6 +158,7 @@ not_below a b h =
       | Greater ↦ λ e. (let above : is_gt (due_cmp a b) ≡ true = rw (← e) refl in cc)
     ]) refl
 
+-- nothing is due if the first deadline is after the moment
 pub none-due : (moment : ℕ) (first : Due) (dues : List Due) → moment < first.deadline
     → AllByRecursion (IsLeBy due_cmp first) dues → NoneDue moment (map due_of dues)
 none-due moment first [] h above = λ d topic k. cc
@@ -164,6 +172,7 @@ none-due moment first (x ∷ xs) h above = λ d topic k.
       | false ↦ λ _ later. none-due moment first xs h above.1 d topic later
     ]) refl k
 
+-- the item at index 0 is the first of the list
 pub head-is : (dues : List Due) (first : Due) (rest : List Due) (due : Due) → dues ≡ first ∷ rest
     → slice_get dues 0 ≡ Some due → due ≡ first
 head-is dues first rest due whole got =

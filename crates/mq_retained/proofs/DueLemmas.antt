@@ -35,6 +35,7 @@ taken_deadline : (moment : ℕ) (topic : Text) (tree : Entries Stored) (pairs ne
 taken_deadline moment topic tree pairs new sound taken =
     deadline-is taken.deadline _ (sym (sound.indexed taken.deadline topic) ∙ taken.was_there)
 
+-- tree and index fit each other still once a due pair and its message are gone
 pub due-sound : (moment : ℕ) (topic : Text) (tree : Entries Stored) (pairs new : List Pair)
     → IsSound tree pairs → TakesDue moment topic pairs new
     → IsSound (remove_entry (is_key (levels topic)) tree) new
@@ -79,6 +80,7 @@ without_due moment k s (e ∷ es) found due =
     }) in
     (elim (is_key k e.0) as P [ true ↦ here | false ↦ there ]) found
 
+-- a pair that is due is that of one message, and the others stay
 pub one-due : (moment : ℕ) (topic : Text) (tree : Entries Stored) (pairs new : List Pair)
     → IsSound tree pairs → TakesDue moment topic pairs new
     → OneDue moment tree (remove_entry (is_key (levels topic)) tree)
@@ -113,6 +115,7 @@ not_late moment None h = refl
 not_late moment (Some n) h = let later : moment < n = h n (eq-eqb n n refl) in
     grind (arith, nat_tests)
 
+-- no message is due if each deadline that a look-up can find is after the moment
 pub nobody-due : (moment : ℕ) (tree : Entries Stored) → AreInOrder tree → IsPlaced tree
     → ((d : ℕ) (topic : Text) → is_deadline d (deadline_at topic (retained_in tree)) ≡ true
     → moment < d) → AllByRecursion (λ kept. is_due moment kept ≡ false) (retained_in tree)
@@ -137,18 +140,21 @@ nobody-due moment (e ∷ es) ordered placed later =
     ]) refl) in
     (not_late moment e.1.deadline own, nobody-due moment es ordered.1 placed.1 rest)
 
+-- where none is due, all messages stay
 pub none_due-kept : (moment : ℕ) (retained : List Retained)
     → AllByRecursion (λ kept. is_due moment kept ≡ false) retained
     → filter (λ kept. not (is_due moment kept)) retained ≡ retained
 none_due-kept moment [] h = refl
 none_due-kept moment (kept ∷ retained) h = rw (h.0, none_due-kept moment retained h.1) refl
 
+-- where none is due, none is counted as due
 pub none_due-count : (moment : ℕ) (retained : List Retained)
     → AllByRecursion (λ kept. is_due moment kept ≡ false) retained
     → length (filter (is_due moment) retained) ≡ 0
 none_due-count moment [] h = refl
 none_due-count moment (kept ∷ retained) h = rw (h.0, none_due-count moment retained h.1) refl
 
+-- no message is due where no pair of the index is
 pub sound-none-due : (moment : ℕ) (tree : Entries Stored) (pairs : List Pair) → IsSound tree pairs
     → NoneDue moment pairs → AllByRecursion (λ kept. is_due moment kept ≡ false) (retained_in tree)
 sound-none-due moment tree pairs sound none =

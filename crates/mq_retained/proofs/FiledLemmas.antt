@@ -49,15 +49,18 @@ any_pair : (z : Pair) (pairs : List Pair) → list_any (ties pair_cmp pair_total
     ≡ has_pair z.0 z.1 pairs
 any_pair z pairs = list_any-same (ties pair_cmp pair_total z) (is_pair z.0 z.1) (pair_tie z) pairs
 
+-- the same pairs are one list once they are in order
 pub pairs-same : (xs ys : List Pair) → SamePairs xs ys → in_order pair_cmp xs ≡ in_order pair_cmp ys
 pairs-same xs ys same = same_in_order pair_cmp pair_total pair_tied xs ys
     (λ z. any_pair z xs ∙ same z.0 z.1 ∙ sym (any_pair z ys))
 
+-- to put pairs in order changes nothing in which pairs there are
 pub has-in_order : (d : ℕ) (topic : Text) (pairs : List Pair)
     → has_pair d topic (in_order pair_cmp pairs) ≡ has_pair d topic pairs
 has-in_order d topic pairs = sym (any_pair (d, topic) (in_order pair_cmp pairs))
     ∙ any-in_order pair_cmp pair_total pair_tied (d, topic) pairs ∙ any_pair (d, topic) pairs
 
+-- a sound tree and index show the keys and pairs of their messages
 pub sound-filed : (tree : Entries Stored) (pairs : List Pair) → IsSound tree pairs
     → AreFiled (retained_view tree pairs)
 sound-filed tree pairs sound = record {
@@ -74,6 +77,7 @@ same-kept old new pairs others tree same =
 
 -- ## What a publish leaves
 
+-- a message that is not to be retained leaves the retained messages as they were
 pub after-unretained : (now : ℕ) (retained : List Retained) (m : Message) → m.retain ≡ false
     → retained_after now retained m ≡ retained
 unfolding retained_after
@@ -83,6 +87,7 @@ after-unretained now retained m h =
     else filter (λ kept. not (has_topic m.topic kept)) retained in
     ap (λ b. if not b then retained else rest) h
 
+-- a message to be retained replaces the one of its topic, or takes it out if it is not stored
 pub after-by : (now : ℕ) (retained : List Retained) (m : Message) (b : Bool) → m.retain ≡ true
     → is_stored m ≡ b → retained_after now retained m
     ≡ (if b then with_row retained_cmp (retained_of now m) retained

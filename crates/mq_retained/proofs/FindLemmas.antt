@@ -54,9 +54,11 @@ find-within : {X : Type 0} (p : X → Bool) (xs : List X) (y : X) (ys : List X) 
 find-within p [] y ys e h = rw e h
 find-within p (x ∷ xs) y ys e h = ap (cond (p x) (Some x)) (find-within p xs y ys e h)
 
+-- a message that passes the test for a topic has that topic
 pub topic-is : (topic : Text) (kept : Retained) → has_topic topic kept ≡ true → kept.topic ≡ topic
 topic-is topic kept h = (bytes_eq-Decides kept.topic topic).0 h
 
+-- a message has its own topic
 pub own-topic : (kept : Retained) → has_topic kept.topic kept ≡ true
 own-topic kept = (bytes_eq-Decides kept.topic kept.topic).1 refl
 
@@ -104,6 +106,7 @@ find-with_row topic kept retained =
           (λ x h. after x h ∙ ap (λ r. is_lt (ordering_reverse r)) o) retained))
     ]) refl
 
+-- after a message is put, its topic has its deadline, and other topics have theirs
 pub deadline-with_row : (topic : Text) (kept : Retained) (retained : List Retained)
     → deadline_at topic (with_row retained_cmp kept retained)
     ≡ cond (has_topic topic kept) kept.deadline (deadline_at topic retained)

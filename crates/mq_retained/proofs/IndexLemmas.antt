@@ -31,6 +31,7 @@ names-is : (deadline : Option ℕ) (gone : Text) (d : ℕ) (topic : Text)
 names-is None gone d topic = refl
 names-is (Some n) gone d topic = refl
 
+-- a deadline that passes the test is there, and is the one that it tests for
 pub deadline-is : (d : ℕ) (deadline : Option ℕ) → is_deadline d deadline ≡ true → deadline ≡ Some d
 deadline-is d None h = cc
 deadline-is d (Some n) h = ap (λ m. Some m) (eqb-true n d h)
@@ -79,6 +80,7 @@ put-same-indexed kept retained pairs new indexed same adds = λ d topic.
     ]) refl
     ∙ ap (is_deadline d) (sym (deadline-with_row topic kept retained))
 
+-- a message replaces one with another deadline: its pair joins, and the older pair leaves
 pub put-other-indexed : (kept : Retained) (retained : List Retained) (pairs added new : List Pair)
     → Indexes pairs retained → deadline_at kept.topic retained ≢ kept.deadline
     → Adds (pair_at kept.deadline kept.topic) pairs added
@@ -146,6 +148,7 @@ elsewhere_still : (o h : Bool) → (not (o && false) && h) ≡ h
 elsewhere_still true h = refl
 elsewhere_still false h = refl
 
+-- the index fits once both the message of a topic and its pair are gone
 pub taken-indexed : (gone : Text) (retained : List Retained) (pairs new : List Pair)
     → Indexes pairs retained → Drops (pair_at (deadline_at gone retained) gone) pairs new
     → Indexes new (filter (λ kept. not (has_topic gone kept)) retained)
@@ -183,6 +186,7 @@ option_eq-is (Some n) (Some m) h = ap (λ k. Some k) (eqb-true n m h)
 abbrev pub replaced : Option ℕ → Option ℕ → Text → Option Pair
 replaced older new topic = cond (option_eq nat_eq older new) None (pair_at older topic)
 
+-- a message is put: its pair joins, and the older pair leaves unless it is the same
 pub put-indexed : (kept : Retained) (retained : List Retained) (pairs added new : List Pair)
     → Indexes pairs retained → Adds (pair_at kept.deadline kept.topic) pairs added
     → Drops (replaced (deadline_at kept.topic retained) kept.deadline kept.topic) added new
@@ -204,6 +208,7 @@ put-indexed kept retained pairs added new indexed adds drops =
 
 -- ## Tree and index after an edit
 
+-- to store a message in the tree is to put it among the messages
 pub stored-retained : (s : Stored) (kept : Retained) (tree : Entries Stored) → message_in s ≡ kept
     → IsPlaced tree → AreInOrder tree
     → retained_in (insert_entry level_order tree (levels kept.topic) s)
@@ -213,6 +218,7 @@ stored-retained s kept tree same placed ordered =
     placed ordered
     ∙ ap (λ k. with_row retained_cmp k (retained_in tree)) same
 
+-- tree and index fit each other after a message is stored and its pair has joined
 pub stored-sound : (s : Stored) (kept : Retained) (tree : Entries Stored)
     (pairs added new : List Pair) → message_in s ≡ kept → IsSound tree pairs
     → Adds (pair_at kept.deadline kept.topic) pairs added
@@ -229,6 +235,7 @@ stored-sound s kept tree pairs added new same sound adds drops =
           (put-indexed kept (retained_in tree) pairs added new sound.indexed adds drops);
     }
 
+-- a pair that joined and left again, as the message was not stored, leaves all sound
 pub undone-sound : (deadline : Option ℕ) (topic : Text) (tree : Entries Stored)
     (pairs added new : List Pair) → lookup (is_key (levels topic)) tree ≡ None → IsSound tree pairs
     → Adds (pair_at deadline topic) pairs added → Drops (pair_at deadline topic) added new
@@ -253,6 +260,7 @@ undone-pairs deadline topic tree pairs added new absent sound adds drops = λ d 
     (undone-sound deadline topic tree pairs added new absent sound adds drops).indexed d t
     ∙ sym (sound.indexed d t)
 
+-- tree and index fit each other once a message and its pair are taken out
 pub taken-sound : (topic : Text) (tree : Entries Stored) (pairs new : List Pair)
     → IsSound tree pairs → Drops (pair_at (deadline_at topic (retained_in tree)) topic) pairs new
     → IsSound (remove_entry (is_key (levels topic)) tree) new

@@ -50,6 +50,7 @@ weight-some (Some s) h = refl
 capped-more : (n : ℕ) → min (capped n + 1) 18446744073709551615 ≡ capped (n + 1)
 capped-more n = search (rules, arith)
 
+-- a message at a new topic counts one more, up to the greatest number
 pub put-new : (count : ℕ) (k : List (List ℕ)) (s : Stored) (tree : Entries Stored)
     → is_some (lookup (is_key k) tree) ≡ false → AreCounted count tree
     → AreCounted (min (count + 1) 18446744073709551615) (insert_entry level_order tree k s)
@@ -63,6 +64,7 @@ put-new count k s tree none counted =
           ∙ ap capped (sym longer);
     }
 
+-- a message in the place of another leaves the count as it was
 pub put-again : (count : ℕ) (k : List (List ℕ)) (s : Stored) (tree : Entries Stored)
     → is_some (lookup (is_key k) tree) ≡ true → AreCounted count tree
     → AreCounted count (insert_entry level_order tree k s)
@@ -76,6 +78,7 @@ put-again count k s tree some counted =
           ∙ ap capped (sym same);
     }
 
+-- a tree is greater by one than what is left when a message is taken out
 pub taken-fewer : (k : List (List ℕ)) (tree : Entries Stored)
     → is_some (lookup (is_key k) tree) ≡ true
     → length tree ≡ length (remove_entry (is_key k) tree) + 1
@@ -84,6 +87,7 @@ taken-fewer k tree some =
     let taken = weight-some (lookup (is_key k) tree) some in
     omega arith
 
+-- where there is no message to take out, the count stays
 pub none-taken : (count : ℕ) (k : List (List ℕ)) (tree : Entries Stored)
     → is_some (lookup (is_key k) tree) ≡ false → AreCounted count tree
     → AreCounted count (remove_entry (is_key k) tree)

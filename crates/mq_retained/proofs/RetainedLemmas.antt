@@ -44,6 +44,7 @@ agrees : (e d : Entry) → Stands e → Stands d → retained_cmp (view e) (view
 agrees e d p q = ap (λ k. level_order k (levels d.1.topic)) (sym p)
     ∙ ap (λ k. level_order e.0 k) (sym q)
 
+-- to insert at the key of a message's topic is to put the message among the others
 pub put-retained : (k : List (List ℕ)) (s : Stored) (tree : Entries Stored) → k ≡ levels s.topic
     → IsPlaced tree → AreInOrder tree → retained_in (insert_entry level_order tree k s)
     ≡ with_row retained_cmp (message_in s) (retained_in tree)
@@ -51,6 +52,7 @@ put-retained k s tree here placed ordered =
     map-insert_entry_among level_order levels_total view retained_cmp Stands agrees
     (λ _ _ _ _. refl) k s tree here placed ordered
 
+-- an insert keeps the keys in order
 pub put-ordered : (k : List (List ℕ)) (s : Stored) (tree : Entries Stored) → AreInOrder tree
     → AreInOrder (insert_entry level_order tree k s)
 put-ordered k s tree ordered =
@@ -59,6 +61,7 @@ put-ordered k s tree ordered =
     (λ j e _ h. sym (same_key j e h)) k s tree ordered))
     (sorted-with_row level_order levels_total k (keys_of tree) ordered)
 
+-- a message inserted at the key of its topic leaves each message at its topic
 pub put-placed : (k : List (List ℕ)) (s : Stored) (tree : Entries Stored) → k ≡ levels s.topic
     → IsPlaced tree → IsPlaced (insert_entry level_order tree k s)
 put-placed k s [] here placed = (here, tt)
@@ -95,6 +98,7 @@ filter_keys : (topic : Text) (tree : Entries Stored) → IsPlaced tree
 filter_keys topic [] placed = refl
 filter_keys topic (e ∷ es) placed = rw (key-is topic e placed.0, filter_keys topic es placed.1) refl
 
+-- to remove the key of a topic is to leave out the message of that topic
 pub take-retained : (topic : Text) (tree : Entries Stored) → IsPlaced tree → AreInOrder tree
     → retained_in (remove_entry (is_key (levels topic)) tree)
     ≡ filter (λ kept. not (has_topic topic kept)) (retained_in tree)
@@ -102,6 +106,7 @@ take-retained topic tree placed ordered =
     ap retained_in (taken-is (levels topic) tree ordered ∙ filter_keys topic tree placed)
     ∙ map-filter view (λ kept. not (has_topic topic kept)) tree
 
+-- a removal keeps the keys in order
 pub take-ordered : (k : List (List ℕ)) (tree : Entries Stored) → AreInOrder tree
     → AreInOrder (remove_entry (is_key k) tree)
 take-ordered k tree ordered =
@@ -110,6 +115,7 @@ take-ordered k tree ordered =
     (sym (map-filter (λ (e : Entry). e.0) (λ j. not (is_key k j)) tree))
     (IsStrictlySortedBy-filter level_order (λ j. not (is_key k j)) (keys_of tree) ordered))
 
+-- a removal leaves each message at its topic
 pub take-placed : (k : List (List ℕ)) (tree : Entries Stored) → AreInOrder tree → IsPlaced tree
     → IsPlaced (remove_entry (is_key k) tree)
 take-placed k tree ordered placed =
@@ -118,6 +124,7 @@ take-placed k tree ordered placed =
 
 -- ## A message that is found
 
+-- a look-up by the levels of a topic finds the message of that topic
 pub found-retained : (topic : Text) (tree : Entries Stored) → IsPlaced tree
     → option_map message_in (lookup (is_key (levels topic)) tree)
     ≡ find (has_topic topic) (retained_in tree)
@@ -138,6 +145,7 @@ found-retained topic (e ∷ es) placed =
 
 -- ## The messages that a filter matches
 
+-- the entries whose keys a filter matches hold the messages whose topics it matches
 pub matched-retained : (wanted : Text) (tree : Entries Stored) → IsPlaced tree
     → map message_in (values_of (filter (λ e. matches (levels wanted) e.0) tree))
     ≡ filter (λ kept. filter_matches wanted kept.topic) (retained_in tree)
@@ -152,6 +160,7 @@ matched-retained wanted tree placed =
     at_topics [] h = refl
     at_topics (e ∷ es) h = rw (h.0, at_topics es h.1) refl
 
+-- the keys of the tree are the levels of the messages' topics
 pub keys-retained : (tree : Entries Stored) → IsPlaced tree
     → keys_of tree ≡ map (λ kept. levels kept.topic) (retained_in tree)
 keys-retained [] placed = refl

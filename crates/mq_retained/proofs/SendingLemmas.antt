@@ -46,6 +46,7 @@ module _ {X Y Z : Type 0} (f : X → Y) (p : Y → Bool) (g : Y → Z) where
   held_more xs i d h fails = one_more xs i d h
       ∙ rw fails (append-nil (map g (filter p (map f (take i xs)))))
 
+-- a message among near ones has a near deadline
 pub near_at : {X : Type 0} (f : X → Retained) (moment : ℕ) (xs : List X) (i : ℕ) (d : X)
     → AreNear moment (map f xs) → i < length xs
     → IfSome (f (get_or xs i d)).deadline (λ deadline. deadline < moment + 2 ^ 32)

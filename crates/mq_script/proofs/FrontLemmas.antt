@@ -62,6 +62,7 @@ whole_at : (a b : Option (List ℕ)) (w : World) (given rest : List ℕ)
 whole_at a b w given rest p = AppendsSome-front a b (whole_output w given)
     (output w (given ++ rest)) p (whole_front w given rest)
 
+-- however a run ends, it wrote a front of what the whole script writes
 pub Ending-front : (limit : ℕ) (w : World) (result : Result Summary RunFault) (seen : Seen)
     (rest : List ℕ) → (IsAtEnd seen.left → rest ≡ [])
     → Ending limit w result seen → AppendsSome seen.before seen.after

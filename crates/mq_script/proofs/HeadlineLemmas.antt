@@ -27,6 +27,7 @@ front (Some x) (Some y) script given e c =
     let same : x ≡ script = let f : Some x ≡ Some script = e in cc in
     rw (← same, c, length-append) (omega arith)
 
+-- a writer that tells what it had taken has then taken the text after it
 pub written : (a b : Option (List ℕ)) (before text : List ℕ) → a ≡ Some before → Appends a b text
     → b ≡ Some (before ++ text)
 written None b before text e c = absurd (let bad : None ≡ Some before = e in cc)

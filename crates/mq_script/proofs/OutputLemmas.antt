@@ -13,6 +13,7 @@ use Rattle.mq_script.specs.Running.{next_or, world_then}
 
 -- ## More lines
 
+-- requests are replayed in two parts, the second on the world after the first
 pub replay-append : (w : World) (xs ys : List Request)
     → replay w (xs ++ ys) ≡ replay (replay w xs) ys
 replay-append w [] ys = refl
@@ -22,6 +23,7 @@ one_more : (w : World) (o : Option Request) → replay w (cons_option o []) ≡ 
 one_more w None = refl
 one_more w (Some request) = refl
 
+-- one more line changes the world that the lines before it made
 pub world_after-push : (w : World) (lines : List (List ℕ)) (line : List ℕ)
     → world_after w (lines ++ line ∷ []) ≡ world_then (world_after w lines) line
 unfolding world_then
@@ -31,6 +33,7 @@ world_after-push w lines line =
     (cons_option (command_in (reading line)) [])
     ∙ one_more (world_after w lines) (command_in (reading line))
 
+-- lines are answered in two parts, the second after the lines of the first
 pub text_from-append : (w : World) (before xs ys : List (List ℕ))
     → text_from w before (xs ++ ys) ≡ text_from w before xs ++ text_from w (before ++ xs) ys
 text_from-append w before [] ys = rw (append-nil before) refl
@@ -42,6 +45,7 @@ text_from-append w before (x ∷ xs) ys =
     ∙ ap (λ ls. (here ++ text_from w (before ++ x ∷ []) xs) ++ text_from w ls ys)
     (append_assoc before (x ∷ []) xs)
 
+-- one more line adds its answer
 pub text_from-push : (w : World) (xs : List (List ℕ)) (y : List ℕ)
     → text_from w [] (xs ++ y ∷ []) ≡ text_from w [] xs
     ++ text_of (length xs + 1) (world_after w xs) y
@@ -58,6 +62,7 @@ refused_from-append w before (x ∷ xs) ys =
     ap (λ ls. refused_from w ls ys) (append_assoc before (x ∷ []) xs) in
     omega arith
 
+-- one more line adds one to the refusals if it is refused
 pub refused_from-push : (w : World) (xs : List (List ℕ)) (y : List ℕ)
     → refused_from w [] (xs ++ y ∷ []) ≡ refused_from w [] xs
     + cond (is_refused (world_after w xs) y) 1 0
@@ -65,14 +70,17 @@ refused_from-push w xs y = let e = refused_from-append w [] xs (y ∷ []) in ome
 
 -- ## A long line is known by its front
 
+-- what is kept of a line is answered as the line is
 pub text_of-kept : (k : ℕ) (w : World) (p : List ℕ) → text_of k w (take kept p) ≡ text_of k w p
 unfolding text_of
 text_of-kept k w p = rw (reading-kept p)
 
+-- what is kept of a line is refused if the line is, and only then
 pub is_refused-kept : (w : World) (p : List ℕ) → is_refused w (take kept p) ≡ is_refused w p
 unfolding is_refused
 is_refused-kept w p = rw (reading-kept p)
 
+-- what is kept of a line changes the world as the line does
 pub world_then-kept : (w : World) (p : List ℕ) → world_then w (take kept p) ≡ world_then w p
 unfolding world_then
 world_then-kept w p = rw (reading-kept p)

@@ -37,6 +37,7 @@ AppendsSome-grown a b w g ys p =
     ap (text_from w []) more.1 ∙ text_from-append w [] (whole_lines g) more.0 in
     (p.0, p.1, subst (IsPrefix p.0) (sym e) (IsPrefix-grown p.0 (whole_output w g) _ p.2))
 
+-- answers to some first lines remain so when more is given
 pub WritesLines-grown : (a b : Option (List ℕ)) (w : World) (g ys : List ℕ) → WritesLines w g a b
     → WritesLines w (g ++ ys) a b
 WritesLines-grown a b w g ys p =
@@ -49,6 +50,7 @@ WritesLines-grown a b w g ys p =
       subst (λ (ls : List (List ℕ)). Appends a b (text_from w [] ls)) (sym same) p.2,
     )
 
+-- a run that stopped among what was given stopped among more, too
 pub Stopped-grown : (a b : Option (List ℕ)) (w : World) (g ys : List ℕ) (e : RunFault)
     → Stopped w g e a b → Stopped w (g ++ ys) e a b
 Stopped-grown a b w g ys fault.Read h = h
@@ -118,6 +120,7 @@ written_told w g p q a b c told done =
     (Appends-trans a b c (whole_output w g) (text_of (length (whole_lines g) + 1) v (last_piece g))
     told.written (subst (Appends b c) (line_told w v g p a b told) done.written))
 
+-- once its line is answered, a line feed adds a whole line and nothing is kept
 pub Told-feed : (w : World) (g : List ℕ) (p q : Progress) (a b c : Option (List ℕ)) → Told w g p a b
     → Answered (world_after w (whole_lines g)) p q b c
     → q.summary.lines ≡ p.summary.lines + 1 → q.line.items ≡ [] → Told w (g ++ 10 ∷ []) q a c
@@ -169,6 +172,7 @@ memory_told w g p a b c told h = (
       (Appends-end a b c (whole_output w g) told.written h),
 )
 
+-- where the line that a line feed ends isn't answered, the run stops among what was given
 pub Stopped-feed : (w : World) (g : List ℕ) (p : Progress) (a b c : Option (List ℕ)) (e : RunFault)
     → Told w g p a b
     → Unanswered (world_after w (whole_lines g)) p e b c → Stopped w (g ++ 10 ∷ []) e a c
@@ -190,11 +194,13 @@ Finished-empty_at w g p a b told none =
       written = rw same told.written;
     }
 
+-- where nothing is kept at the end of a script, all its lines are answered
 pub Finished-empty : (w : World) (g : List ℕ) (p : Progress) (a b : Option (List ℕ))
     → Told w g p a b → p.line.items ≡ [] → Finished w g p a b
 Finished-empty w g p a b told h = Finished-empty_at w g p a b told
     (no_piece (last_piece g) (sym told.line ∙ h))
 
+-- where a last piece is kept, its answer completes the script's
 pub Finished-piece : (w : World) (g : List ℕ) (p q : Progress) (a b c : Option (List ℕ))
     → Told w g p a b → (p.line.items ≡ [] → ⊥)
     → Answered (world_after w (whole_lines g)) p q b c → q.summary.lines ≡ p.summary.lines + 1
@@ -210,6 +216,7 @@ Finished-piece w g p q a b c told some done number =
       written = rw all (written_told w g p q a b c told done);
     }
 
+-- where a last piece is kept and isn't answered, the run stops at it
 pub StoppedLast-piece : (w : World) (g : List ℕ) (p : Progress) (a b c : Option (List ℕ))
     (e : RunFault) → Told w g p a b → (p.line.items ≡ [] → ⊥)
     → Unanswered (world_after w (whole_lines g)) p e b c → StoppedLast w g e a c
@@ -223,6 +230,7 @@ StoppedLast-piece w g p a b c fault.Memory told some h = memory_told w g p a b c
 
 -- ## The end of a run
 
+-- a run that stops among what was given ends as its fault says
 pub Ending-stopped : (limit : ℕ) (w : World) (e : RunFault) (seen : Seen)
     → Stopped w seen.given e seen.before seen.after
     → seen.reader.after ≡ seen.reader.before
@@ -233,6 +241,7 @@ Ending-stopped limit w fault.Write seen s p q = record { written = inl s; reader
 Ending-stopped limit w fault.Memory seen s p q =
     record { written = s; reader = p; writer = omega (arith, q) }
 
+-- a run that stops at the last piece ends as its fault says, its reader at its end
 pub Ending-last : (limit : ℕ) (w : World) (e : RunFault) (seen : Seen) → IsAtEnd seen.left
     → StoppedLast w seen.given e seen.before seen.after
     → seen.reader.after ≡ seen.reader.before
@@ -244,6 +253,7 @@ Ending-last limit w fault.Write seen end s p q =
 Ending-last limit w fault.Memory seen end s p q =
     record { written = s; reader = p; writer = omega (arith, q) }
 
+-- to append a whole text is to append a front of it
 pub AppendsSome-all : (a b : Option (List ℕ)) (text : List ℕ) → Appends a b text
     → AppendsSome a b text
 AppendsSome-all a b text p = (text, p, ([], sym (append-nil text)))
@@ -271,11 +281,13 @@ take_within : (buf : List ℕ) (room n : ℕ) → room ≤ n
 take_within buf room n h = sym (take-append-drop room (take n buf))
     ∙ ap (λ l. l ++ drop room (take n buf)) (take-take room n buf h)
 
+-- what is within the limit is what was given before and as much of the buffer as has room
 pub over_take : (g buf : List ℕ) (limit room n : ℕ) → length g + room ≡ limit → room ≤ n
     → take limit (g ++ take n buf) ≡ g ++ take room buf
 over_take g buf limit room n e h = ap (λ (k : ℕ). take k (g ++ take n buf)) (sym e)
     ∙ take-append-add g (take n buf) room ∙ ap (λ l. g ++ l) (take-take room n buf h)
 
+-- a run that stops among the first bytes of a buffer stops among more of them, too
 pub Stopped-front : (a b : Option (List ℕ)) (w : World) (g buf : List ℕ) (room n : ℕ) (e : RunFault)
     → room ≤ n → Stopped w (g ++ take room buf) e a b → Stopped w (g ++ take n buf) e a b
 Stopped-front a b w g buf room n e h s =
@@ -287,6 +299,7 @@ Stopped-front a b w g buf room n e h s =
 
 -- ## The start
 
+-- before anything is given no line is answered, and nothing is kept
 pub Told-start : (w : World) (p : Progress) (r : State) (a : Option (List ℕ)) → p.router ≡ r
     → StandsFor r w → p.summary.lines ≡ 0 → p.summary.refused ≡ 0 → p.line.items ≡ []
     → Told w [] p a a

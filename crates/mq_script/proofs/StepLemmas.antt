@@ -20,10 +20,12 @@ use Rattle.mq_script.proofs.RunLemmas.{Finished-piece, StoppedLast-piece, Append
 
 -- ## Bytes that are taken
 
+-- where nothing is given, nothing changes
 pub TakesBytes-none : (p : Progress) (a : Option (List ℕ)) → TakesBytes p p [] a a
 unfolding TakesBytes
 TakesBytes-none p a = λ w given start told. rw append-nil told
 
+-- bytes that are taken in two parts are taken
 pub TakesBytes-then : (p q r : Progress) (xs ys : List ℕ) (a b c : Option (List ℕ))
     → TakesBytes p q xs a b → TakesBytes q r ys b c → TakesBytes p r (xs ++ ys) a c
 unfolding TakesBytes
@@ -55,6 +57,7 @@ TakesBytes-kept p q xs a b c s keeps = λ w given start told.
 
 -- ## A run that stops among them
 
+-- a run that takes some bytes and stops among the next ones stops among both
 pub StopsAmong-then : (p q : Progress) (xs ys : List ℕ) (e : RunFault) (a b c : Option (List ℕ))
     → TakesBytes p q xs a b → StopsAmong q ys e b c → StopsAmong p (xs ++ ys) e a c
 unfolding TakesBytes StopsAmong
@@ -62,6 +65,7 @@ StopsAmong-then p q xs ys e a b c s t = λ w given start told.
     subst (λ (l : List ℕ). Stopped w l e start c) (append_assoc given xs ys)
     (t w (given ++ xs) start (s w given start told))
 
+-- a run that stops among some bytes stops among them and any that follow
 pub StopsAmong-grown : (p : Progress) (xs ys : List ℕ) (e : RunFault) (a b : Option (List ℕ))
     → StopsAmong p xs e a b → StopsAmong p (xs ++ ys) e a b
 unfolding StopsAmong
@@ -69,6 +73,7 @@ StopsAmong-grown p xs ys e a b s = λ w given start told.
     subst (λ (l : List ℕ). Stopped w l e start b) (append_assoc given xs ys)
     (Stopped-grown start b w (given ++ xs) ys e (s w given start told))
 
+-- a run that lacks memory stops with no more written than the answers so far
 pub StopsAmong-memory : (p : Progress) (xs : List ℕ) (a : Option (List ℕ))
     → StopsAmong p xs fault.Memory a a
 unfolding StopsAmong
@@ -104,6 +109,7 @@ Answers-written (Err fault.Memory) p q refused text a b told count ok err kind =
 
 -- ## Both
 
+-- after bytes that are taken, others are taken with them or stop the run among both
 pub Takes-then : {T : Type 0} (result : Result T RunFault) (p q r : Progress) (xs ys : List ℕ)
     (a b c : Option (List ℕ))
     → TakesBytes p q xs a b → Takes q r ys result b c → Takes p r (xs ++ ys) result a c
@@ -124,10 +130,12 @@ Takes-feed (Err e) p q a b done number empty = λ w given start told.
 
 -- ## The last piece
 
+-- where nothing is kept, the end of the script changes nothing
 pub EndsLines-empty : (p : Progress) (a : Option (List ℕ)) → p.line.items ≡ [] → EndsLines p p a a
 unfolding EndsLines
 EndsLines-empty p a none = λ w given start told. Finished-empty w given p start a told none
 
+-- where a last piece is kept, its answer ends the script, or the run stops at it
 pub Ends-piece : {T : Type 0} (result : Result T RunFault) (p q : Progress) (a b : Option (List ℕ))
     → (p.line.items ≡ [] → ⊥)
     → Answers p q result a b → OnOk result (q.summary.lines ≡ p.summary.lines + 1)

@@ -11,6 +11,7 @@ pub AppendsSome-take : (a b : Option (List ℕ)) (n : ℕ) (text : List ℕ) →
     → AppendsSome a b text
 AppendsSome-take a b n text p = (take n text, p, (drop n text, sym (take-append-drop n text)))
 
+-- after the first i bytes of a text, the next n are appended
 pub Appends-more : (a b c : Option (List ℕ)) (i n : ℕ) (t : List ℕ) → Appends a b (take i t)
     → Appends b c (take n (take (length t - i) (drop i t))) → Appends a c (take (i + n) t)
 Appends-more a b c i n t p q =

@@ -34,6 +34,7 @@ use Rattle.mq_sessions.proofs.ReachedLemmas.{all_mapped}
 
 -- ## Tests
 
+-- one of two tests passes, and the first does not
 pub or_right : (a b : Bool) → a ≡ false → (a || b) ≡ true → b ≡ true
 or_right a b fails h = sym (ap (λ c. c || b) fails) ∙ h
 
@@ -44,6 +45,7 @@ all_both P Q (x ∷ xs) h k = ((h.0, k.0), all_both P Q xs h.1 k.1)
 
 -- ## Whose end it is
 
+-- an end of one client is not that of another client's session
 pub ends-other : (due : Due) (s : Session) → has_id due.1 s ≡ false → ends_so due s ≡ false
 ends-other due s h =
     elim (end_of s) as (λ o. option_map_or (λ end. same_due (end, s.id) due) o false ≡ false) [
@@ -60,10 +62,12 @@ ends-own due s h =
       | Some end ↦ ap (λ b. (end == due.0) && b) h ∙ and-true (end == due.0)
     ]
 
+-- a session that ends as the index has it is of the client that the index names
 pub ends-id : (due : Due) (s : Session) → ends_so due s ≡ true → has_id due.1 s ≡ true
 ends-id due s h = pick (has_id due.1 s) (λ t. t)
     (λ f. absurd (true≢false (sym h ∙ ends-other due s f)))
 
+-- a session whose end in the index has come has ended
 pub ends-moment : (moment : ℕ) (due : Due) (s : Session) → nat_le due.0 moment ≡ true
     → ends_so due s ≡ true → has_ended moment s ≡ true
 ends-moment moment due s h =
@@ -79,6 +83,7 @@ ends-moment moment due s h =
           ]
     ]
 
+-- the two ways to test whether an end, if there is one, is this one agree
 pub same-end : (o : Option ℕ) (end : ℕ)
     → option_eq (λ a b. a == b) o (Some end) ≡ option_map_or (λ e. e == end) o false
 same-end None end = refl
@@ -131,16 +136,19 @@ listed-step dues more h s = elim (end_of s)
       | Some end ↦ λ k. h (end, s.id) k
     ]
 
+-- sessions whose ends are listed stay so in an index with more ends
 pub listed-more : (dues more : List Due) → ((d : Due) → is_in d dues ≡ true → is_in d more ≡ true)
     → (ss : List Session) → AreListed dues ss → AreListed more ss
 listed-more dues more h ss listed =
     all_weaker (IsListed dues) (IsListed more) (listed-step dues more h) ss listed
 
+-- an end that was in the index is in it still after another joins
 pub with-old : (due : Due) (dues more : List Due) → AreWith due dues more
     → (d : Due) → is_in d dues ≡ true → is_in d more ≡ true
 with-old due dues more h d k =
     h.tests (same_due d) ∙ ap (λ b. same_due d due || b) k ∙ or-true (same_due d due)
 
+-- an end that joins the index is in it
 pub with-new : (due : Due) (dues more : List Due) → AreWith due dues more
     → is_in due more ≡ true
 with-new due dues more h =
@@ -176,6 +184,7 @@ listed-rest f (d ∷ ds) rest ss first left none listed =
               (sym (left.tests (same_due (end, s.id))) ∙ k)
         ]) h.0 h.1
 
+-- an index without its first end is shorter by one
 pub shorter : (f : Due) (dues rest : List Due) → Some f ≡ first_of dues → AreRest dues rest
     → length rest + 1 ≡ length dues
 shorter f [] rest first left = cc
@@ -201,10 +210,12 @@ listed-taken f dues rest ss first left listed =
           | false ↦ λ h. ap (λ b. b || list_any (ends_so f) others) (ends-other f x h) ∙ none xs
         ]) refl
 
+-- a session without an end needs none in the index
 pub no-end : (dues : List Due) (s : Session) → None ≡ end_of s → IsListed dues s
 no-end dues s h =
     subst (λ (o : Option ℕ). IfSome o (λ end. is_in (end, s.id) dues ≡ true)) h tt
 
+-- a session is listed if its end, with its id, is in the index
 pub one-end : (end : ℕ) (id : Text) (dues : List Due) (s : Session) → Some end ≡ end_of s
     → id ≡ s.id → is_in (end, id) dues ≡ true → IsListed dues s
 one-end end id dues s h same there =
@@ -216,6 +227,7 @@ abbrev pub Lists : List Due → List Entry → List Entry → Type 0
 Lists now rest all = (dues : List Due) → ((due : Due) → is_in due now ≡ true
     → is_in due dues ≡ true) → AreListed dues (views_of rest) → AreListed dues (views_of all)
 
+-- a step of the loop: the end of one more entry is listed, and those of the rest are left to do
 pub lists-more : (x : Entry) (rest now all : List Entry) (old new : List Due) → now ≡ x ∷ rest
     → ((d : Due) → is_in d old ≡ true → is_in d new ≡ true) → IsListed new (session_in x)
     → Lists old now all → Lists new rest all
@@ -224,6 +236,7 @@ lists-more x rest now all old new left more here so_far = λ dues within others.
     (subst (λ es. AreListed dues (views_of es)) (sym left)
     (listed-step new dues within (session_in x) here, others))
 
+-- the loop is done: with no entry left, the ends of all are listed
 pub lists-all : (now all : List Entry) (dues : List Due) → now ≡ [] → Lists dues now all
     → AreListed dues (views_of all)
 lists-all now all dues done so_far =
@@ -241,6 +254,7 @@ queued-as limit b P step s h =
       | false ↦ h
     ]
 
+-- copies that begin to wait change nothing that the index of ends keeps
 pub indexed-queued : (limit : ℕ) (b : Begin) (index : Dues) (ss : List Session)
     → AreIndexed index ss → AreIndexed index (queue_one limit b ss)
 indexed-queued limit b index ss h = record {
@@ -280,6 +294,7 @@ indexed-queued limit b index ss h = record {
 
 -- ## How many are connected
 
+-- of fewer sessions, no more are connected
 pub connected-fewer : (q : Session → Bool) (ss : List Session)
     → length (connected (filter q ss)) ≤ length (connected ss)
 connected-fewer q ss =
@@ -287,5 +302,6 @@ connected-fewer q ss =
     = ap length (filter-swap is_present q ss) in
     omega (arith, length-filter-most q (filter is_present ss))
 
+-- no more sessions are connected than there are
 pub connected-most : (ss : List Session) → length (connected ss) ≤ length ss
 connected-most ss = length-filter-most is_present ss

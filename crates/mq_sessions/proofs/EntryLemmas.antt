@@ -71,16 +71,19 @@ all-inserted P k v here same (e ∷ es) h =
 
 -- ## The ids that are kept
 
+-- an entry that keeps its client's id joins those that do
 pub ids-put : (k : Key) (v : kept.Session) (es : List Entry) → KeepsId (k, v) → KeepIds es
     → KeepIds (insert_entry key_cmp es k v)
 ids-put k v es here h =
     all-inserted KeepsId k v here
     (λ y same. subst (λ t. IfSome (kept_id v) (λ id. id ≡ t)) (key-same k y same) here) es h
 
+-- the entries that stay when one is removed keep their clients' ids
 pub ids-removed : (test : Key → Bool) (es : List Entry) → KeepIds es
     → KeepIds (remove_entry test es)
 ids-removed test es h = all-removed KeepsId test es h
 
+-- an edit of a session that leaves its kept id as it was
 pub ids-edited : (test : Key → Bool) (u v : kept.Session) (es : List Entry)
     → lookup test es ≡ Some u → kept_id v ≡ kept_id u → KeepIds es
     → KeepIds (set_value test es v)
@@ -89,6 +92,7 @@ ids-edited test u v es found same h =
     (λ k t keeps. subst (λ o. IfSome o (λ id. id ≡ rc_str_bytes k)) (sym same) keeps)
     (λ e keeps. keeps) h
 
+-- an edit after which a session keeps no id, as when its client leaves
 pub ids-left : (test : Key → Bool) (u v : kept.Session) (es : List Entry)
     → lookup test es ≡ Some u → kept_id v ≡ None → KeepIds es → KeepIds (set_value test es v)
 ids-left test u v es found gone h =
@@ -126,21 +130,30 @@ kept-is id k u is keeps =
     let P : Option Text → Type 0 = λ o. IfSome o (λ i. i ≡ rc_str_bytes k) in
     subst P (sym is) keeps
 
+-- the session that a look-up finds, whose client has this id and leaves, and when it ends then
+pub record IsLeft (test : Key → Bool) (u v : kept.Session) (es : List Entry) (id : Text)
+    (end : Option ℕ) : Type 0 where
+  pub found : lookup test es ≡ Some u
+  pub id_is : Some id ≡ kept_id u
+  pub end_is : end ≡ end_of (view_of v)
+
+-- a connection ends: once the session's end, if it has one, is in the index, the ends of all are
 pub listed-left : (test : Key → Bool) (u v : kept.Session) (es : List Entry) (id : Text)
-    (end : Option ℕ) (dues : List Due) → lookup test es ≡ Some u → Some id ≡ kept_id u
-    → end ≡ end_of (view_of v) → KeepIds es → AreListed dues (views_of es)
-    → IfSome end (λ at. is_in (at, id) dues ≡ true)
+    (end : Option ℕ) (dues : List Due) → IsLeft test u v es id end → KeepIds es
+    → AreListed dues (views_of es) → IfSome end (λ at. is_in (at, id) dues ≡ true)
     → AreListed dues (views_of (set_value test es v))
-listed-left test u v es id end dues found is ends keep listed there =
+listed-left test u v es id end dues left keep listed there =
     all_shown (IsListed dues) (set_value test es v)
     (all-edited (λ e. KeepsId e × IsListed dues (session_in e)) (λ e. IsListed dues (session_in e))
-    test u v es found
-    (λ k t h. subst (λ o. IfSome o (λ at. is_in (at, rc_str_bytes k) dues ≡ true)) ends
-    (subst (λ i. IfSome end (λ at. is_in (at, i) dues ≡ true)) (kept-is id k u is h.0) there))
+    test u v es left.found
+    (λ k t h. subst (λ o. IfSome o (λ at. is_in (at, rc_str_bytes k) dues ≡ true)) left.end_is
+    (subst (λ i. IfSome end (λ at. is_in (at, i) dues ≡ true)) (kept-is id k u left.id_is h.0)
+    there))
     (λ e h. h.1)
     (both KeepsId (λ e. IsListed dues (session_in e)) es keep
     (all_of_shown (IsListed dues) es listed)))
 
+-- a session that keeps an id is of a client that is connected
 pub present-kept : (id : Text) (u : kept.Session) → Some id ≡ kept_id u
     → is_present (view_of u) ≡ true
 present-kept id u =
@@ -149,6 +162,7 @@ present-kept id u =
       | Away end ↦ λ h. cc
     ]
 
+-- a session that keeps no id is of a client that is away
 pub absent-kept : (u : kept.Session) → None ≡ kept_id u → is_present (view_of u) ≡ false
 absent-kept u =
     elim u.presence as (λ p. None ≡ id_in p → is_present_in p ≡ false) [
@@ -156,6 +170,7 @@ absent-kept u =
       | Away end ↦ λ h. refl
     ]
 
+-- a client is connected if the session that a look-up finds says so
 pub connected-found : (id : Text) (u : kept.Session) (es : List Entry)
     → lookup (finds id) es ≡ Some u → is_connected (views_of es) id ≡ is_present (view_of u)
 connected-found id u es found =
@@ -193,6 +208,7 @@ connected-left test u v (e ∷ es) found here gone =
     longer : (s : Session) (ss : List Session) → length ss + 1 ≡ length (s ∷ ss)
     longer s ss = omega arith
 
+-- an entry that is put makes at most one more
 pub length-put : (k : Key) (v : kept.Session) (es : List Entry)
     → length (insert_entry key_cmp es k v) ≤ length es + 1
 length-put k v [] = omega arith

@@ -5,6 +5,7 @@ use Rattle.mq_world.specs.World.{Session, Waiting}
 use Rattle.mq_world.specs.Waiting.{has_place, with_waiting}
 use Rattle.mq_sessions.specs.Queue.{queue_copies}
 
+-- whether the id is set before or after the copies join makes no difference
 pub queued-id : (limit : ℕ) (id : Text) (ws : List Waiting) (s : Session)
     → ◌≡◌ {A = Session} (record (queue_copies limit ws s) { id = id })
     (queue_copies limit ws (record s { id = id }))

@@ -16,6 +16,7 @@ use Rattle.mq_world.proofs.OrderLemmas.{all-with_row}
 abbrev Reaches : ℕ → Session → Type 0
 Reaches moment session = AreReached moment session.waiting
 
+-- the sessions that stay are in reach of a later moment too
 pub reached-later : (moment later : ℕ) (q : Session → Bool) (sessions : List Session)
     → moment ≤ later → AllReached moment sessions → AllReached later (filter q sessions)
 reached-later moment later q sessions h reached =
@@ -29,21 +30,25 @@ reached-later moment later q sessions h reached =
     nearer None n = tt
     nearer (Some d) n = omega arith
 
+-- the sessions that stay are in reach as before
 pub reached-filter : (moment : ℕ) (q : Session → Bool) (sessions : List Session)
     → AllReached moment sessions → AllReached moment (filter q sessions)
 reached-filter moment q sessions reached = all_filtered (Reaches moment) q sessions reached
 
+-- a session in reach joins others in reach
 pub reached-with_row : (moment : ℕ) (session : Session) (sessions : List Session)
     → AreReached moment session.waiting → AllReached moment sessions
     → AllReached moment (with_row session_cmp session sessions)
 reached-with_row moment session sessions here reached =
     all-with_row session_cmp session_total (Reaches moment) session sessions here reached
 
+-- what each change of a session keeps is true of all sessions after it
 pub all_mapped : (P : Session → Type 0) (f : Session → Session) → ((s : Session) → P s → P (f s))
     → (sessions : List Session) → AllByRecursion P sessions → AllByRecursion P (map f sessions)
 all_mapped P f step [] h = tt
 all_mapped P f step (s ∷ ss) h = (step s h.0, all_mapped P f step ss h.1)
 
+-- a client that leaves puts no waiting copy out of reach
 pub reached-left : (moment now : ℕ) (id : Text) (sessions : List Session)
     → AllReached moment sessions → AllReached moment (map (left_by now id) sessions)
 reached-left moment now id sessions reached =
@@ -54,6 +59,7 @@ reached-left moment now id sessions reached =
         as (λ b. Reaches moment (if b then record s { presence = Away (session_end now s.interval) }
         else s)) [ true ↦ r | false ↦ r ]
 
+-- copies of a message that begin to wait are in reach if the message's deadline is
 pub reached-after : (limit : ℕ) (access : Option (List AclRow)) (subs : List Subscription) (now : ℕ)
     (m : Message) (sessions : List Session)
     → IfSome (deadline_of now m.expiry) (λ d. d < now + 2 ^ 32) → AllReached now sessions

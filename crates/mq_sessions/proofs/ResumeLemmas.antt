@@ -9,11 +9,13 @@ use Rattle.mq_world.specs.Sessions.{resumes}
 use Rattle.mq_world.specs.Waiting.{resumed_copy, waiting_for, resumed_copies}
 use Rattle.mq_sessions.specs.Resumed.{copies_if_resumed}
 
+-- a client that does not resume a session has no copies of an earlier one
 pub resumed-none : (moment : ℕ) (sessions : List Session) (id : Text) (clean : Bool)
     → resumes sessions id clean ≡ false → None ≡ copies_if_resumed moment sessions id clean
 resumed-none moment sessions id clean e =
     ap (λ b. if b then Some (resumed_copies moment sessions id clean) else None) (sym e)
 
+-- a client that resumes its session gets the copies that waited, without those that expired
 pub resumed-some : (moment : ℕ) (sessions : List Session) (id : Text) (clean : Bool)
     → resumes sessions id clean ≡ true
     → Some (filter_map (resumed_copy moment) (waiting_for sessions id))
@@ -23,6 +25,7 @@ resumed-some moment sessions id clean e =
     let xs : List Copy = filter_map (resumed_copy moment) (waiting_for sessions id) in
     ap (λ b. if b then Some (if b then xs else []) else None) (sym e)
 
+-- a client that does not resume a session is sent nothing
 pub resumed-empty : (moment : ℕ) (sessions : List Session) (id : Text) (clean : Bool)
     → resumes sessions id clean ≡ false → [] ≡ resumed_copies moment sessions id clean
 unfolding resumed_copies
@@ -39,12 +42,14 @@ was-none : (b : Bool) (y : List Copy) → None ≡ (if b then Some y else None) 
 was-none true y e = absurd (true≢false (sym (ap (λ (o : Option (List Copy)). is_some o) e)))
 was-none false y e = refl
 
+-- if there are copies of an earlier session, it is resumed, and they are what the client is sent
 pub resumes-some : (moment : ℕ) (sessions : List Session) (id : Text) (clean : Bool)
     (copies : List Copy) → Some copies ≡ copies_if_resumed moment sessions id clean
     → (resumes sessions id clean ≡ true) × (copies ≡ resumed_copies moment sessions id clean)
 resumes-some moment sessions id clean copies e =
     was-some (resumes sessions id clean) copies (resumed_copies moment sessions id clean) e
 
+-- if there are no copies of an earlier session, not even an empty list, none is resumed
 pub resumes-none : (moment : ℕ) (sessions : List Session) (id : Text) (clean : Bool)
     → None ≡ copies_if_resumed moment sessions id clean → resumes sessions id clean ≡ false
 resumes-none moment sessions id clean e =

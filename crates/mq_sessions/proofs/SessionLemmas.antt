@@ -32,9 +32,11 @@ Entry = Key × Session
 abbrev pub finds : List ℕ → Key → Bool
 finds bs k = is_eq (slice_cmp nat_cmp bs (rc_str_bytes k))
 
+-- to find a key by bytes is to compare its text with them
 pub finds-is : (bs : List ℕ) (k : Key) → finds bs k ≡ same_text (rc_str_bytes k) bs
 finds-is bs k = is_eq-slice_cmp bs (rc_str_bytes k) ∙ nat_list_eq_equiv.symm bs (rc_str_bytes k)
 
+-- a key that bytes find has these bytes
 pub key-is : (bs : List ℕ) (k : Key) → finds bs k ≡ true → rc_str_bytes k ≡ bs
 key-is bs k h = (bytes_eq-Decides (rc_str_bytes k) bs).0 (sym (finds-is bs k) ∙ h)
 
@@ -70,10 +72,12 @@ found-reached moment bs u (e ∷ es) l h =
       | false ↦ λ k. found-reached moment bs u es k h.1
     ]) l
 
+-- bytes that find one key find none above it
 pub apart : (bs : List ℕ) (x y : Key) → finds bs x ≡ true → key_cmp x y ≡ Less → finds bs y ≡ false
 apart bs x y h less =
     ap is_eq (nat_list_cmp_total.congr bs (rc_str_bytes x) (rc_str_bytes y) (equal_from _ h) ∙ less)
 
+-- to remove the entry that bytes find is to leave out the session of that client
 pub removed-is : (bs : List ℕ) (es : List Entry) → IsStrictlySortedBy key_cmp (keys_of es)
     → map session_in (remove_entry (finds bs) es)
     ≡ filter (λ session. not (has_id bs session)) (map session_in es)
@@ -90,6 +94,7 @@ same_view k e v h =
     (sym (is_eq-slice_cmp (rc_str_bytes k) (rc_str_bytes e)) ∙ ap is_eq h) in
     ap (λ bs. session_at bs v) (sym same)
 
+-- to put an entry is to put the session among the others by id
 pub put-is : (k : Key) (v : Session) (es : List Entry) → IsStrictlySortedBy key_cmp (keys_of es)
     → map session_in (insert_entry key_cmp es k v)
     ≡ with_row session_cmp (session_in (k, v)) (map session_in es)
@@ -103,12 +108,14 @@ all_above : (e : Entry) (es : List Entry) → AllByRecursion (λ k. key_cmp e.0 
 all_above e [] h = tt
 all_above e (d ∷ es) h = (h.0, all_above e es h.1)
 
+-- entries in the order of their keys are sessions in the order of their ids
 pub sorted-is : (es : List Entry) → IsStrictlySortedBy key_cmp (keys_of es)
     → IsStrictlySortedBy session_cmp (map session_in es)
 unfolding IsStrictlySortedBy
 sorted-is [] s = tt
 sorted-is (e ∷ es) s = (all_above e es s.0, sorted-is es s.1)
 
+-- a change that keeps each session's id keeps their order
 pub sorted-map : (f : world.Session → world.Session) → ((s : world.Session) → (f s).id ≡ s.id)
     → (sessions : List world.Session) → IsStrictlySortedBy session_cmp sessions
     → IsStrictlySortedBy session_cmp (map f sessions)
@@ -135,6 +142,7 @@ rest_stays bs f (e ∷ es) h =
     let other : has_id bs (session_in e) ≡ false = sym (finds-is bs e.0) ∙ h.0 in
     rw (other, rest_stays bs f es h.1) refl
 
+-- to set the value that a look-up finds is to edit the session of that client
 pub edited-is : (bs : List ℕ) (f : world.Session → world.Session) (u v : Session) (es : List Entry)
     → lookup (finds bs) es ≡ Some u → session_at bs v ≡ f (session_at bs u)
     → IsStrictlySortedBy key_cmp (keys_of es)
@@ -162,6 +170,7 @@ edited-is bs f u v (e ∷ es) l same s =
           rw other (ap (λ l. session_in e ∷ l) (edited-is bs f u v es k same s.1)))
     ]) refl l
 
+-- where a look-up finds nothing, an edit of the client's session changes nothing
 pub nobody-edited : (bs : List ℕ) (f : world.Session → world.Session) (es : List Entry)
     → lookup (finds bs) es ≡ None → map session_in es ≡ map (edit_session f bs) (map session_in es)
 nobody-edited bs f [] l = refl

@@ -70,6 +70,7 @@ none-until moment dues ss listed none =
               ]
         ]
 
+-- a test that agrees with all ends and with the first one tells whether a session has ended
 pub any-is : (moment : ℕ) (dues : List Due) (ss : List Session) → AreListed dues ss
     → IsFirstLive dues ss → (b : Bool) → b ≡ list_any (λ due. nat_le due.0 moment) dues
     → b ≡ option_map_or (λ due. nat_le due.0 moment) (first_of dues) false
@@ -87,6 +88,7 @@ other_id id x y h less =
     ap (λ t. same_text y.id t) (sym (same_text-is x.id id h)) ∙ text_flip y.id x.id
     ∙ sym (is_eq-slice_cmp x.id y.id) ∙ ap is_eq less
 
+-- the client of an end in the index that has come is among those whose sessions have ended
 pub among-ended : (moment : ℕ) (f : Due) (ss : List Session) → nat_le f.0 moment ≡ true
     → list_any (ends_so f) ss ≡ true → is_among (filter (has_ended moment) ss) f.1 ≡ true
 among-ended moment f [] h any = any
@@ -122,6 +124,7 @@ none-ends f x ys h less =
     (all_weaker (λ y. session_cmp x y ≡ Less) (λ y. ends_so f y ≡ false)
     (λ y l. ends-other f y (other_id f.1 x y h l)) ys less)
 
+-- none of the sessions that stay is of the client of an end in the index that has come
 pub only-ended : (moment : ℕ) (f : Due) (ss : List Session) → nat_le f.0 moment ≡ true
     → IsStrictlySortedBy session_cmp ss → list_any (ends_so f) ss ≡ true
     → is_among (filter (λ s. not (has_ended moment s)) ss) f.1 ≡ false
@@ -153,6 +156,7 @@ IsFirstId id dues = Some id ≡ option_map (λ due. due.1) (first_of dues)
 text_same : (x y : Text) → ◌≡◌ {A = Option Text} (Some x) (Some y) → x ≡ y
 text_same x y h = cc
 
+-- the ends of the others are listed once the first end and its client's sessions are gone
 pub taken-listed : (id : Text) (dues rest : List Due) (ss : List Session) → IsFirstId id dues
     → AreRest dues rest → AreListed dues ss
     → AreListed rest (filter (λ s. not (has_id id s)) ss)
@@ -161,11 +165,13 @@ taken-listed id (d ∷ ds) rest ss is left listed =
     subst (λ t. AreListed rest (filter (λ s. not (has_id t s)) ss)) (sym (text_same id d.1 is))
     (listed-taken d (d ∷ ds) rest ss refl left listed)
 
+-- an index is shorter by one without the end whose id was taken
 pub taken-shorter : (id : Text) (dues rest : List Due) → IsFirstId id dues → AreRest dues rest
     → length rest + 1 ≡ length dues
 taken-shorter id [] rest is left = cc
 taken-shorter id (d ∷ ds) rest is left = sym left.count
 
+-- the client that the first end names, if that has come, is among those whose sessions ended
 pub taken-ended : (moment : ℕ) (id : Text) (dues : List Due) (ss : List Session)
     → IsFirstId id dues → IsFirstLive dues ss
     → option_map_or (λ due. nat_le due.0 moment) (first_of dues) false ≡ true
@@ -175,6 +181,7 @@ taken-ended moment id (d ∷ ds) ss is live come =
     subst (λ t. is_among (filter (has_ended moment) ss) t ≡ true) (sym (text_same id d.1 is))
     (among-ended moment d ss come live)
 
+-- none of the sessions that stay is of the client that the first end names, if that has come
 pub taken-only : (moment : ℕ) (id : Text) (dues : List Due) (ss : List Session)
     → IsFirstId id dues → IsFirstLive dues ss
     → option_map_or (λ due. nat_le due.0 moment) (first_of dues) false ≡ true

@@ -54,6 +54,7 @@ whole text valid =
       | false ↦ λ h f. refl
     ]) refl fits
 
+-- a subscription is given by its share and its filter
 pub same_parts : (a b : List ℕ) → is_subscription a ≡ true → is_subscription b ≡ true
     → share_of a ≡ share_of b → filter_part a ≡ filter_part b → a ≡ b
 same_parts a b left right share filter =

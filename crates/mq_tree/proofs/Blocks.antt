@@ -167,5 +167,6 @@ long_after last (k ∷ ks) =
     long_append _ _ (long_filter (λ p. not (is_prefix p last)) (heads k) (long_heads k))
     (long_after k ks)
 
+-- each prefix that names a node has a level
 pub long_prefixes : (ks : List (List (List ℕ))) → Long (prefixes ks)
 long_prefixes ks = long_after [] ks

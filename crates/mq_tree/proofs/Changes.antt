@@ -26,6 +26,7 @@ live_found test (child ∷ children) es h found =
       | false ↦ λ f. live_found test children es h.1 f
     ] found
 
+-- no child is left without entries where one gets new entries
 pub live_set : {V : Type 0} (test : List ℕ → Bool) (children : Children V) (new : Entries V)
     → NoneDead children → new ≢ [] → NoneDead (set_value test children new)
 live_set test [] new h n = tt
@@ -35,6 +36,7 @@ live_set test (child ∷ children) new h n =
     (child ∷ set_value test children new)))
     [ true ↦ (n, h.1) | false ↦ (h.0, live_set test children new h.1 n) ]
 
+-- no child is left without entries once the one that changed is taken out
 pub live_cut : {V : Type 0} (test : List ℕ → Bool) (children : Children V) (new : Entries V)
     → NoneDead children → NoneDead (remove_entry test (set_value test children new))
 live_cut test [] new h = tt
@@ -51,6 +53,7 @@ live_cut test (child ∷ children) new h =
     ] in
     go (test child.0) refl
 
+-- no child is left without entries where one comes in with some
 pub live_insert : {V : Type 0} (text : List ℕ) (children : Children V) (new : Entries V)
     → NoneDead children → new ≢ [] → NoneDead (insert_entry (slice_cmp nat_cmp) children text new)
 live_insert text [] new h n = (n, tt)
@@ -72,12 +75,14 @@ some_inserted (x ∷ es) k v =
     (x ∷ insert_entry level_order es k v) ≢ [])
     [ Less ↦ λ e. absurd (cc) | Equal ↦ λ e. absurd (cc) | Greater ↦ λ e. absurd (cc) ]
 
+-- a list whose length tests as 0 is empty
 pub nil_from_bare : {A : Type 0} (es : List A) (b : Bool) → b ≡ eqb (length es) 0 → b ≡ true
     → es ≡ []
 nil_from_bare [] b e t = refl
 nil_from_bare (x ∷ es) b e t =
     absurd (let z : length (x ∷ es) ≡ 0 = grind (arith, nat_tests) in omega arith)
 
+-- a list whose length does not test as 0 is not empty
 pub some_from_not_bare : {A : Type 0} (es : List A) (b : Bool) → b ≡ eqb (length es) 0 → b ≡ false
     → es ≢ []
 some_from_not_bare [] b e t = λ _. absurd (cc)

@@ -16,6 +16,7 @@ use Rattle.mq_tree.specs.Nodes.{Children, is_level, under, below, own, AreChildr
 abbrev pub After : List ℕ → List (List ℕ) → Type 0
 After l ks = AllByRecursion (λ s. slice_cmp nat_cmp l s ≡ Less) ks
 
+-- the children after the first are children too
 pub AreChildren-tail : {V : Type 0} (child : List ℕ × Entries V) (children : Children V)
     → AreChildren (child ∷ children) → AreChildren children
 AreChildren-tail child children h =
@@ -78,6 +79,7 @@ lookup-under-other l m k (x ∷ es) e =
     (lookup (is_key (l ∷ k)) (under m es)) ≡ None)
     [ Less ↦ λ _. rest | Equal ↦ λ b. cc | Greater ↦ λ _. rest ] e
 
+-- a key at a level before all children has no entry below them
 pub lookup-below-after : {V : Type 0} (l : List ℕ) (k : List (List ℕ)) (children : Children V)
     → After l (keys_of children) → lookup (is_key (l ∷ k)) (below children) ≡ None
 lookup-below-after l k [] h = refl
@@ -86,11 +88,13 @@ lookup-below-after l k (child ∷ children) h =
     (lookup-under-other l child.0 k child.1 (ap is_eq h.0))
     ∙ lookup-below-after l k children h.1
 
+-- a level before all children has no child
 pub lookup-level-after : {V : Type 0} (l : List ℕ) (children : Children V)
     → After l (keys_of children) → lookup (is_level l) children ≡ None
 lookup-level-after l [] h = refl
 lookup-level-after l (child ∷ children) h = rw h.0 (lookup-level-after l children h.1)
 
+-- to look up a key is to find its child, and the rest of the key there
 pub lookup-below : {V : Type 0} (l : List ℕ) (k : List (List ℕ)) (children : Children V)
     → AreChildren children
     → lookup (is_key (l ∷ k)) (below children)
@@ -135,6 +139,7 @@ lookup-below-nil (child ∷ children) =
     lookup-append-none (is_key []) (under child.0 child.1) (below children)
     (lookup-under-nil child.0 child.1) ∙ lookup-below-nil children
 
+-- the value at the empty key is the node's own
 pub lookup-here : {V : Type 0} (value : Option V) (children : Children V)
     → lookup (is_key []) (own value ++ below children) ≡ value
 lookup-here None children = lookup-below-nil children

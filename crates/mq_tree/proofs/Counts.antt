@@ -14,6 +14,7 @@ use Rattle.mq_tree.specs.Below.{tally}
 use Rattle.mq_tree.specs.Prefixes.{prefixes}
 use Rattle.mq_tree.proofs.Blocks.{prefixes_own, length-blocks}
 
+-- one level further down there are as many entries
 pub length-under : {V : Type 0} (l : List ℕ) (es : Entries V) → length (under l es) ≡ length es
 length-under l [] = refl
 length-under l (e ∷ es) = omega (arith, length-under l es)
@@ -22,6 +23,7 @@ some_length : {A : Type 0} (es : List A) → es ≢ [] → 1 ≤ length es
 some_length [] h = absurd (h refl)
 some_length (e ∷ es) h = omega arith
 
+-- there are as many entries below as the children have together
 pub length-below : {V : Type 0} (children : Children V)
     → length (below children) ≡ sum_by length (values_of children)
 length-below [] = refl
@@ -30,6 +32,7 @@ length-below (child ∷ children) =
     ∙ ap₂ (λ a b. a + b) (length-under child.0 child.1) (length-below children)
     ∙ sym (sum_by-cons length child.1 (values_of children))
 
+-- a node with a child has an entry below it
 pub some_below : {V : Type 0} (children : Children V) → AreChildren children → 1 ≤ length children
     → 1 ≤ length (below children)
 some_below [] h p = absurd (omega arith)
@@ -86,6 +89,7 @@ sum_by-children f (node ∷ nodes) = sum_by-cons f (entries_in node.1) (values_o
     ∙ ap (λ n. f (entries_in node.1) + n) (sum_by-children f nodes)
     ∙ sym (sum_by-cons (λ x. f (entries_in x)) node.1 (values_of nodes))
 
+-- the entries of a node are its own and those of its children
 pub length-node : {Y V : Type 0} (value : Option V) (nodes : Branches Y V) (now : NodeView V)
     (n : ℕ) → ◌≡◌ {A = NodeView V} (value, children_of nodes) now → n ≡ bool_byte (is_some value)
     → n + sum_by (λ node. length (entries_in node)) (values_of nodes) ≡ length (entries_of now)

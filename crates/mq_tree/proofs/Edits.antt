@@ -187,6 +187,7 @@ pub remove-own : {V : Type 0} (l : List ℕ) (k : List (List ℕ)) (value : Opti
 remove-own l k None es = refl
 remove-own l k (Some v) es = refl
 
+-- a node's own value stays where an entry is put below it
 pub insert-own : {V : Type 0} (l : List ℕ) (k : List (List ℕ)) (w : V) (value : Option V)
     (es : Entries V) → insert_entry level_order (own value ++ es) (l ∷ k) w ≡ own value
     ++ insert_entry level_order es (l ∷ k) w
@@ -205,11 +206,13 @@ insert_nil_below w [] = refl
 insert_nil_below w (child ∷ children) =
     insert_nil_under child.0 w child.1 (below children) (insert_nil_below w children)
 
+-- a value put at the empty key is the node's own
 pub insert-here : {V : Type 0} (w : V) (value : Option V) (children : Children V)
     → insert_entry level_order (own value ++ below children) [] w ≡ own (Some w) ++ below children
 insert-here w None children = insert_nil_below w children
 insert-here w (Some v) children = refl
 
+-- what is left without the empty key is what is below
 pub remove-here : {V : Type 0} (value : Option V) (children : Children V)
     → remove_entry (is_key []) (own value ++ below children) ≡ below children
 remove-here None children = remove_none (is_key []) (below children) (lookup-here None children)

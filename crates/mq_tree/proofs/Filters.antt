@@ -65,6 +65,7 @@ end_none [] h = refl
 end_none ([] ∷ ps) h = absurd (let e : true ≡ false = h.0 in cc)
 end_none ((m ∷ q) ∷ ps) h = end_none ps h.1
 
+-- a filter that has ended enters no node below
 pub end_met : {V : Type 0} (es : Entries V)
     → length (filter (meets_filter []) (prefixes (keys_of es))) ≡ 0
 end_met es = ap length (end_none (prefixes (keys_of es)) (long_prefixes (keys_of es)))
@@ -75,6 +76,7 @@ pub hash_ends : (ls : List (List ℕ)) (l : List ℕ) (rest : List (List ℕ)) �
 hash_ends ls l [] e h s = e ∙ ap (λ x. x ∷ []) s
 hash_ends ls l (m ∷ rest) e h s = absurd ((rw e at h).0 s)
 
+-- a last `#` matches all that is below
 pub hash_matches : (k : List (List ℕ)) → matches_below (hash ∷ []) k ≡ true
 hash_matches [] = refl
 hash_matches (l ∷ k) = refl
@@ -83,12 +85,14 @@ pub hash_meets : (p : List (List ℕ)) → meets_filter (hash ∷ []) p ≡ true
 hash_meets [] = refl
 hash_meets (l ∷ p) = refl
 
+-- a last `#` finds all values
 pub hash_found : {V : Type 0} (es : Entries V)
     → values_at (matches_below (hash ∷ [])) es ≡ values_of es
 hash_found es =
     ap values_of (filter_agree (λ e. matches_below (hash ∷ []) e.0) (λ e. true)
     (λ e. hash_matches e.0) es ∙ filter_each es)
 
+-- a last `#` enters all nodes
 pub hash_met : {V : Type 0} (es : Entries V)
     → length (filter (meets_filter (hash ∷ [])) (prefixes (keys_of es)))
     ≡ length (prefixes (keys_of es))
@@ -153,5 +157,6 @@ module _ {V : Type 0} (node : NodeView V) (fs : List (List ℕ)) where
       ∙ ap (tally (λ child. length (filter (meets_filter fs) (prefixes (keys_of child.1)))))
       (filter_each node.1)
 
+-- a filter with one more level, not `#`, does not match where the name ends
 pub not_key : (f : List ℕ) (fs : List (List ℕ)) → f ≢ hash → matches_below (f ∷ fs) [] ≡ false
 not_key f fs h = not_last f fs (not_same f hash h)

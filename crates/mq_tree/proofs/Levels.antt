@@ -10,6 +10,7 @@ use Rattle.std.proofs.lemmas.Map.Lookups.{exact_bytes}
 use Rattle.mq_topic.proofs.ByteLemmas.{text_is, text_itself}
 use Rattle.mq_tree.specs.Below.{hash, plus, is_before, in_order_of}
 
+-- levels that differ fail the test of bytes
 pub not_same : (l m : List ℕ) → l ≢ m → bytes_eq l m ≡ false
 not_same l m n =
     let go : (b : Bool) → bytes_eq l m ≡ b → b ≡ false =
@@ -29,6 +30,7 @@ apart_from_greater l m e =
     (true≢false (sym (ap is_lt e) ∙ ap (λ x. is_lt (slice_cmp nat_cmp l x)) (sym same)
     ∙ ap is_lt (tied_itself nat_list_cmp_total l))))
 
+-- levels that fail the test of bytes fail it in the other order
 pub flipped : (l m : List ℕ) → bytes_eq l m ≡ false → bytes_eq m l ≡ false
 flipped l m h =
     not_same m l (λ same. absurd

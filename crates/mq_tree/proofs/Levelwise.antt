@@ -126,10 +126,12 @@ module _ (P : List (List ℕ) → Bool) (c : List ℕ → Bool) (Q : List ℕ �
   met_node value children are here =
       ap (λ ps. length (filter P ps)) (prefixes_own value children are) ∙ met_blocks children here
 
+-- a filter that passes all keeps all
 pub filter_each : {A : Type 0} (xs : List A) → filter (λ x. true) xs ≡ xs
 filter_each [] = refl
 filter_each (x ∷ xs) = ap (λ ys. x ∷ ys) (filter_each xs)
 
+-- a filter that passes nothing keeps nothing
 pub filter_none : {A : Type 0} (xs : List A) → filter (λ x. false) xs ≡ []
 filter_none [] = refl
 filter_none (x ∷ xs) = filter_none xs

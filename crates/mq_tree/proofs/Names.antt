@@ -33,6 +33,7 @@ goes_on ns m k = cond (bytes_eq m hash) (is_here k) (matches_below k ns)
 abbrev pub meets_on : List (List ℕ) → List ℕ → List (List ℕ) → Bool
 meets_on ns m p = cond (bytes_eq m hash) (is_here p) (meets_name ns p)
 
+-- a level that is no `#` is no last `#`
 pub not_last : (m : List ℕ) (k : List (List ℕ)) → bytes_eq m hash ≡ false → is_last_hash m k ≡ false
 not_last m [] h = h
 not_last m (l ∷ k) h = refl
@@ -106,6 +107,7 @@ pub only_hash : (m : List ℕ) → list_any (λ t. bytes_eq t m) (hash ∷ []) �
 only_hash m h =
     not_same m hash (λ e. absurd (true≢false (sym (ap (λ u. bytes_eq hash u || false) e) ∙ h)))
 
+-- a list of one level is in order
 pub one_sorted : (t : List ℕ) → IsStrictlySortedBy (slice_cmp nat_cmp) (t ∷ [])
 unfolding IsStrictlySortedBy
 one_sorted t = (tt, tt)

@@ -36,6 +36,7 @@ before_all : {V : Type 0} (j k : List (List ℕ)) (es : Entries V) → level_ord
 before_all j k [] h a = tt
 before_all j k (e ∷ es) h a = (level_total.trans j k e.0 h a.0, before_all j k es h a.1)
 
+-- keys stay in order where an entry is put in
 pub insert_in_order : {V : Type 0} (k : List (List ℕ)) (v : V) (es : Entries V) → AreInOrder es
     → AreInOrder (insert_entry level_order es k v)
 unfolding IsStrictlySortedBy
@@ -64,6 +65,7 @@ before_removed j test (e ∷ es) a =
     elim (test e.0) as (λ b. Before j (cond b es (e ∷ remove_entry test es)))
     [ true ↦ a.1 | false ↦ (a.0, before_removed j test es a.1) ]
 
+-- keys stay in order where entries are taken out
 pub remove_in_order : {V : Type 0} (test : List (List ℕ) → Bool) (es : Entries V) → AreInOrder es
     → AreInOrder (remove_entry test es)
 unfolding IsStrictlySortedBy
@@ -78,6 +80,7 @@ pub from_result : {X T E : Type 0} (P : X → Type 0) (r : Result T E) (x a b : 
 from_result P (Ok v) x a b ok err p q = subst P (sym ok) p
 from_result P (Err e) x a b ok err p q = subst P (sym err) q
 
+-- keys stay in order where at most one entry is put in
 pub put_at_most : {V : Type 0} (k : List (List ℕ)) (v : V) (old new : Entries V)
     → PutsAtMost k v old new → AreInOrder old → AreInOrder new
 put_at_most k v old new (inl e) s = subst AreInOrder (sym e) (insert_in_order k v old s)

@@ -168,6 +168,7 @@ module _ (n : List ℕ) (hidden : begins_with_dollar n ≡ true) where
   hidden_met_step ns m p = any_map (λ h. matches (m ∷ p) h) (λ h. n ∷ h) (fronts ns)
       ∙ any_hidden m p (fronts ns)
 
+-- the empty filter matches no name
 pub no_key_matches : (n : List ℕ) (ns : List (List ℕ)) → matches [] (n ∷ ns) ≡ false
 no_key_matches n ns = matches_cons [] n ns
     ∙ and_false (not (begins_with_dollar n && is_wildcard (level_at [] 0)))

@@ -30,6 +30,7 @@ found_at rest child = values_at (goes_on rest child.0) child.1
 abbrev pub met_at : {V : Type 0} → List (List ℕ) → List ℕ × Entries V → ℕ
 met_at rest child = length (filter (meets_on rest child.0) (prefixes (keys_of child.1)))
 
+-- at the empty key a node has just its own value
 pub here_values : {V : Type 0} (node : NodeView V)
     → values_at is_here (entries_of node) ≡ values_of (own node.0)
 here_values node =
@@ -163,6 +164,7 @@ pub plain_cons : (ls : List (List ℕ)) (l : List ℕ) (rest : List (List ℕ)) 
     → ArePlain ls → IsPlain l × ArePlain rest
 plain_cons ls l rest e h = rw e at h
 
+-- three levels of a tree can match a level of a name
 pub three : (level : List ℕ) (items : List (Bor (List ℕ)))
     → map (λ x. x.now) items ≡ in_order_of level → length items ≡ 3
 three level items e =

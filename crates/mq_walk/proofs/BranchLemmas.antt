@@ -87,6 +87,7 @@ pub record IsBranchedTo (done all : List Remainder) (marks : MarkLevels) (b : Br
   pub fit : (p : List ℕ → Bool) → marks_pass p marks ≡ true → remainders_fit p all ≡ true
       → BranchesFit p b
 
+-- where all elements pass, the one at an index does
 pub all_at : {A : Type 0} (p : A → Bool) (xs : List A) (i : ℕ) (d : A) → i < length xs
     → list_all p xs ≡ true → p (get_or xs i d) ≡ true
 all_at p [] i d h f = absurd (omega arith)
@@ -94,6 +95,7 @@ all_at p (y ∷ ys) zero d h f = (and_parts (p y) (list_all p ys) f).0
 all_at p (y ∷ ys) (suc i) d h f = all_at p ys i d (omega arith)
     (and_parts (p y) (list_all p ys) f).1
 
+-- the branches of one more remainder
 pub branched_more : (rs : List Remainder) (i : ℕ) (d : Remainder) (marks : MarkLevels)
     (old new : Branches) → i < length rs
     → ((xs : List Remainder) → IsBranched xs marks old
@@ -107,6 +109,7 @@ branched_more rs i d marks old new h f g b = record {
   fit = λ p m all. g p m (all_at (remainder_fits p) rs i d h all) (b.fit p m all);
 }
 
+-- once all remainders are in, the branches are those of all
 pub branched_all : (rs : List Remainder) (i : ℕ) (marks : MarkLevels) (b : Branches) → length rs ≤ i
     → IsBranchedTo (take i rs) rs marks b → IsBranched rs marks b
 branched_all rs i marks b h t = subst (λ xs. IsBranched xs marks b) (take_all i rs h) t.branched

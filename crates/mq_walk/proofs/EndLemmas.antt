@@ -26,6 +26,7 @@ end_by test other (w ∷ ws) = at (bytes_eq w (codes "#") && (length ws == 0)) r
     at true h = covers_hash test w ws [] h ∙ sym (covers_hash other w ws [] h)
     at false h = levels_match_end test w ws h ∙ sym (levels_match_end other w ws h)
 
+-- whether a name that ends here is covered does not depend on the marks
 pub hit_end : (deny : Bool) (marks : MarkLevels) (rs : List Remainder)
     → hit deny marks [] rs ≡ hit deny no_marks [] rs
 hit_end deny marks [] = refl
@@ -33,6 +34,7 @@ hit_end deny marks (r ∷ rs) =
     (λ i. (end_by (passes r.pattern marks) (passes r.pattern no_marks) (levels_left r.rest) i
     && same deny r.deny) || hit_end deny marks rs i)
 
+-- whether a name that ends here is gained does not depend on the marks
 pub gains_end : (marks : MarkLevels) (old new : List Remainder)
     → gains marks [] old new ≡ gains no_marks [] old new
 gains_end marks old new = (λ i. (not (hit_end true marks new i) && hit_end false marks new i)
@@ -94,6 +96,7 @@ no_grant marks ls (r ∷ rs) h =
     nothing true = refl
     nothing false = refl
 
+-- rows that all deny gain nothing
 pub no_gain : (marks : MarkLevels) (ls : List (List ℕ)) (old new : List Remainder)
     → list_all (λ r. r.deny) new ≡ true → gains marks ls old new ≡ false
 no_gain marks ls old new h =
@@ -104,6 +107,7 @@ no_gain marks ls old new h =
     nothing true = refl
     nothing false = refl
 
+-- rows that cover and deny the same gain nothing
 pub same_gain : (marks : MarkLevels) (ls : List (List ℕ)) (old new : List Remainder)
     → ((deny : Bool) (marks : MarkLevels) (ls : List (List ℕ))
     → hit deny marks ls old ≡ hit deny marks ls new) → gains marks ls old new ≡ false
@@ -116,6 +120,7 @@ hash_covers : (test : List ℕ → List ℕ → Bool) (ws ls : List (List ℕ)) 
 hash_covers test [] ls h = absurd (let e : false ≡ true = h in cc)
 hash_covers test (w ∷ ws) ls h = covers_hash test w ws ls h
 
+-- rows that are all open cover each name, as they cover the one that ends here
 pub open_hit : (deny : Bool) (marks : MarkLevels) (ls : List (List ℕ)) (rs : List Remainder)
     → list_all is_open rs ≡ true → hit deny marks ls rs ≡ hit deny marks [] rs
 open_hit deny marks ls [] h = refl
@@ -126,6 +131,7 @@ open_hit deny marks ls (r ∷ rs) h =
     && same deny r.deny) || open_hit deny marks ls rs
     (and_parts (is_open r) (list_all is_open rs) h).1 i)
 
+-- rows that are all open gain each name or none
 pub open_gain : (marks : MarkLevels) (ls : List (List ℕ)) (old new : List Remainder)
     → list_all is_open old ≡ true → list_all is_open new ≡ true
     → gains marks ls old new ≡ gains marks [] old new

@@ -37,6 +37,7 @@ found l (e ∷ es) =
     at true h = refl
     at false h = h
 
+-- branches have a level just where it is one of their keys
 pub has_is : (l : List ℕ) (b : Branches) → has l b ≡ is_among l (keys b.named)
 has_is l b = found l b.named.entries
 
@@ -54,6 +55,7 @@ among_append : (l : List ℕ) (xs : List (Bor (List ℕ))) (x : Bor (List ℕ))
 among_append l xs x = list_any-append (λ other. bytes_eq l other.now) xs (x ∷ [])
     ∙ ap (λ b. is_among l xs || b) (or-false (bytes_eq l x.now))
 
+-- before the first key no level is added
 pub added_none : (start : Start) (b known : Branches) (old : List (Bor (List ℕ)))
     → IsAddedTo start [] b known old old
 added_none start b known old =
@@ -79,6 +81,7 @@ added_skip start done x b known old new skip a = record {
   each = a.each;
 }
 
+-- a level that a name goes on with here is added
 pub added_push : (start : Start) (done : List (Bor (List ℕ))) (x : Bor (List ℕ))
     (b known : Branches) (old new next : List (Bor (List ℕ)))
     → fits_start start x.now ≡ true → has x.now b ≡ true → next ≡ new ++ x ∷ []
@@ -112,6 +115,7 @@ key_is_named b xs rest x e =
     (or_left (bytes_eq x.now x.now) (is_among x.now rest)
     ((bytes_eq-Decides x.now x.now).1 refl))
 
+-- once all keys are added, each level that fits is among the levels or known
 pub added_all : (start : Start) (done : List (Bor (List ℕ))) (b known : Branches)
     (old new : List (Bor (List ℕ))) → done ≡ keys b.named → IsAddedTo start done b known old new
     → (l : List ℕ) → fits_start start l ≡ true → has l b ≡ true

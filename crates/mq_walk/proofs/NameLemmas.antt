@@ -8,14 +8,17 @@ use Rattle.mq_walk.specs.Names.{suits, is_name_level, is_choice}
 use Rattle.mq_walk.specs.declared.others.Others.{Others}
 use Rattle.mq_walk.specs.declared.start.Start.TheVariants.{Inside}
 
+-- inside a name any levels suit
 pub suits_inside : (ls : List (List ℕ)) → suits Inside ls ≡ true
 suits_inside [] = refl
 suits_inside (l ∷ ls) = suits_inside ls
 
+-- a level that begins with `$` has a byte
 pub no_dollar : (text : List ℕ) → begins_with_dollar text ≡ true → (length text == 0) ≡ false
 no_dollar [] e = absurd (let f : false ≡ true = e in cc)
 no_dollar (x ∷ xs) e = grind (arith, nat_tests)
 
+-- a level that may be chosen is a level of a name
 pub choice_is_level : (others : Others) (l : List ℕ) → is_choice others l ≡ true
     → is_name_level l ≡ true
 choice_is_level others l h =

@@ -17,10 +17,12 @@ use Rattle.mq_walk.specs.declared.remainder.Remainder.{Remainder}
 use Rattle.mq_topic.proofs.Walk.{levels_match_cons}
 use Rattle.mq_topic.specs.Matching.{levels_match_by}
 
+-- a filter that has ended covers no further level
 pub covers_none : (test : List ℕ → List ℕ → Bool) (l : List ℕ) (ls : List (List ℕ))
     → levels_match_by test [] (l ∷ ls) ≡ false
 covers_none test l ls = refl
 
+-- a last `#` covers all that is left
 pub covers_hash : (test : List ℕ → List ℕ → Bool) (w : List ℕ) (ws ls : List (List ℕ))
     → (bytes_eq w (codes "#") && (length ws == 0)) ≡ true → levels_match_by test (w ∷ ws) ls ≡ true
 covers_hash test w [] ls e = rw (sym (and-true (bytes_eq w (codes "#"))) ∙ e) refl
@@ -29,6 +31,7 @@ covers_hash test w (v ∷ ws) ls e =
     sym (ap (λ b. bytes_eq w (codes "#") && b) (eqb-suc-zero (length ws))
     ∙ and-false (bytes_eq w (codes "#"))) ∙ e in cc)
 
+-- a level that is no last `#` is tested, and then the levels behind it
 pub covers_cons : (test : List ℕ → List ℕ → Bool) (w l : List ℕ) (ws ls : List (List ℕ))
     → (bytes_eq w (codes "#") && (length ws == 0)) ≡ false
     → levels_match_by test (w ∷ ws) (l ∷ ls) ≡ (test w l && levels_match_by test ws ls)
@@ -124,6 +127,7 @@ pub hit-append : (deny : Bool) (marks : MarkLevels) (ls : List (List ℕ)) (xs y
     → hit deny marks ls (xs ++ ys) ≡ (hit deny marks ls xs || hit deny marks ls ys)
 hit-append deny marks ls xs ys = list_any-append (λ r. covers marks ls r && same deny r.deny) xs ys
 
+-- kinds that test as the same are the same
 pub kind_is : (a b : Bool) → same a b ≡ true → a ≡ b
 kind_is true b e = sym e
 kind_is false true e = absurd (let f : false ≡ true = e in cc)

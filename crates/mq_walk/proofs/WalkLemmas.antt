@@ -40,6 +40,7 @@ pub behind_hits : (marks : MarkLevels) (rs : List Remainder) (b : Branches) (lev
 behind_hits marks rs b level left h e deny ls = h.hits deny level ls
     ∙ sym (ap (hit deny marks ls) e ∙ hit-append deny marks ls (at level b) b.any.items)
 
+-- the remainders behind a level fit where all the branches fit
 pub behind_fits : (p : List ℕ → Bool) (b : Branches) (level : List ℕ) (left : List Remainder)
     → BranchesFit p b → left ≡ at level b ++ b.any.items → remainders_fit p left ≡ true
 behind_fits p b level left h e = ap (remainders_fit p) e
@@ -64,6 +65,7 @@ gain_longer marks start n k old new olds news level ls room fit valid f g h = re
   valid = rw (valid, h.valid) refl;
 }
 
+-- names that are gained behind a level, put behind that level, are gained
 pub gains_longer : (marks : MarkLevels) (start : Start) (n k : ℕ)
     (old new olds news : List Remainder) (level : List ℕ) (all more next : List (List (List ℕ)))
     → k + 1 ≤ n → fits_start start level ≡ true → is_name_level level ≡ true
@@ -98,11 +100,13 @@ Tried start n marks old new items i =
     (t : List ℕ) (ls : List (List ℕ)) → is_among t items ≡ true → is_among t (drop i items) ≡ false
     → suits start (t ∷ ls) ≡ true → length ls ≤ n → gains marks (t ∷ ls) old new ≡ false
 
+-- before the first level none has been tried
 pub tried_none : (marks : MarkLevels) (start : Start) (n : ℕ) (old new : List Remainder)
     (items : List (Bor (List ℕ))) → Tried start n marks old new items 0
 tried_none marks start n old new items t ls all rest fit h =
     absurd (let e : true ≡ false = sym all ∙ rest in cc)
 
+-- one more level has been tried, where nothing is gained behind it
 pub tried_more : (marks : MarkLevels) (start : Start) (n : ℕ) (old new olds news : List Remainder)
     (items : List (Bor (List ℕ))) (i : ℕ) (d : Bor (List ℕ)) → i < length items
     → ((deny : Bool) (ls : List (List ℕ)) → hit deny marks ((get_or items i d).now ∷ ls) old
@@ -169,6 +173,7 @@ dollar_unnamed others =
     (text_itself dollar) ∙ no_choice_last (is_name_level dollar
     && not (bytes_eq dollar others.plain.now))
 
+-- the level that stands for all others is one that no row names
 pub other_is : (start : Start) (others : Others) → are_others others ≡ true
     → IsOther start others (other_at start others)
 other_is start others h =
@@ -283,6 +288,7 @@ gain_here marks start n old new true h = All-cons (IsGain start n marks old new)
 }) (All-nil (IsGain start n marks old new))
 gain_here marks start n old new false h = All-nil (IsGain start n marks old new)
 
+-- a name that is found to end here is gained
 pub each_here : (marks : MarkLevels) (start : Start) (n : ℕ) (old new : List Remainder)
     (paths : List Path) → all_levels paths
     ≡ (if ends start && gains no_marks [] old new then [] ∷ [] else [])
@@ -291,17 +297,20 @@ each_here marks start n old new paths e =
     subst (All (IsGain start n marks old new)) (sym e)
     (gain_here marks start n old new (ends start && gains no_marks [] old new) refl)
 
+-- where no path is found here, no name that ends here is gained
 pub no_gain_here : {A : Type 0} (f : A → List (List ℕ)) (paths : List A) (b : Bool)
     → map f paths ≡ (if b then [] ∷ [] else []) → paths ≡ [] → b ≡ false
 no_gain_here f paths true e h = absurd (let k = sym (ap (map f) h) ∙ e in cc)
 no_gain_here f paths false e h = refl
 
+-- where no level may follow, nothing is gained if no name that ends here is
 pub nothing_here : (marks : MarkLevels) (start : Start) (n : ℕ) (old new : List Remainder) → n ≡ 0
     → (ends start && gains no_marks [] old new) ≡ false → GainsNothing start n marks old new
 nothing_here marks start n old new z end [] s h = gains_end marks old new
     ∙ sym (ap (λ b. b && gains no_marks [] old new) s) ∙ end
 nothing_here marks start n old new z end (l ∷ ls) s h = absurd (omega arith)
 
+-- where all names are alike, nothing is gained if no name that ends here is
 pub nothing_settled : (marks : MarkLevels) (start : Start) (n : ℕ) (old new : List Remainder)
     → ends start ≡ true → (ends start && gains no_marks [] old new) ≡ false
     → ((marks : MarkLevels) (ls : List (List ℕ)) → gains marks ls old new ≡ gains marks [] old new)
@@ -317,6 +326,7 @@ few_here f paths true most e h = let size = sym (length-map paths f) ∙ ap leng
 few_here f paths false most e h = let size = sym (length-map paths f) ∙ ap length e in
     omega (arith, size)
 
+-- longer names that are added leave at most as many names as allowed
 pub few_longer : {A B : Type 0} (f : A → B) (old more next : List A) (g : B → B) (most : ℕ)
     → map f next ≡ map f old ++ map g (map f more) → length old ≤ most
     → length more ≤ most - length old → length next ≤ most

@@ -26,6 +26,7 @@ map-filter f p (x ∷ xs) =
       | false ↦ map-filter f p xs
     ]
 
+-- a look-up finds something just where some key passes
 pub is_some-lookup : {K X : Type 0} (test : K → Bool) (es : List (K × X))
     → is_some (lookup test es) ≡ list_any (λ e. test e.0) es
 is_some-lookup test [] = refl
@@ -46,6 +47,7 @@ pub list_any-same : {X : Type 0} (p q : X → Bool) → ((x : X) → p x ≡ q x
 list_any-same p q h [] = refl
 list_any-same p q h (x ∷ xs) = rw (h x) (ap (λ b. q x || b) (list_any-same p q h xs))
 
+-- a search finds something just where some element passes
 pub is_some-find : {X : Type 0} (p : X → Bool) (xs : List X) → is_some (find p xs) ≡ list_any p xs
 is_some-find p [] = refl
 is_some-find p (x ∷ xs) =
@@ -160,6 +162,7 @@ map-insert_entry cmp o view view_cmp agrees same k v es s =
 
 -- ## Entries that are removed
 
+-- where no key passes the test, all entries stay
 pub all_stay : {K X : Type 0} (test : K → Bool) (es : List (K × X))
     → AllByRecursion (λ y. test y ≡ false) (keys_of es) → filter (λ e. not (test e.0)) es ≡ es
 all_stay test [] h = refl
@@ -172,6 +175,7 @@ pub none_again : {K X : Type 0} (cmp : K → K → Ordering) (test : K → Bool)
 none_again cmp test apart k t [] h = tt
 none_again cmp test apart k t (e ∷ es) h = (apart k e.0 t h.0, none_again cmp test apart k t es h.1)
 
+-- to remove an entry of sorted keys is to keep those that fail the test
 pub remove_entry-filter : {K X : Type 0} (cmp : K → K → Ordering) (test : K → Bool)
     (apart : (x y : K) → test x ≡ true → cmp x y ≡ Less → test y ≡ false) (es : List (K × X))
     → IsStrictlySortedBy cmp (keys_of es) → remove_entry test es ≡ filter (λ e. not (test e.0)) es
@@ -193,6 +197,7 @@ keys_again : {K : Type 0} (cmp : K → K → Ordering) (test : K → Bool)
 keys_again cmp test apart k t [] h = tt
 keys_again cmp test apart k t (x ∷ xs) h = (apart k x t h.0, keys_again cmp test apart k t xs h.1)
 
+-- where no element passes, all are kept
 pub filter-kept : {X : Type 0} (p : X → Bool) (xs : List X) → AllByRecursion (λ x. p x ≡ false) xs
     → filter (λ x. not (p x)) xs ≡ xs
 filter-kept p [] h = refl
@@ -241,6 +246,7 @@ filter_map-filter f p (x ∷ xs) =
 
 -- ## What a loop has collected, and what it will of the rest
 
+-- one more element is collected, and the total stays
 pub collected-more : {X Y : Type 0} (f : X → Option Y) (ys total : List Y) (o : Option Y) (x : X)
     (rest : List X) → o ≡ f x → ys ++ filter_map f (x ∷ rest) ≡ total
     → (ys ++ cons_option o []) ++ filter_map f rest ≡ total
@@ -254,21 +260,25 @@ collected-more f ys total o x rest says h =
     one None l = refl
     one (Some y) l = refl
 
+-- where each element fails, the filter keeps none
 pub filter-none : {X : Type 0} (p : X → Bool) (xs : List X) → AllByRecursion (λ x. p x ≡ false) xs
     → filter p xs ≡ []
 filter-none p [] h = refl
 filter-none p (x ∷ xs) h = ap (λ b. cond b (x ∷ filter p xs) (filter p xs)) h.0
     ∙ filter-none p xs h.1
 
+-- where each element fails, none passes
 pub any-none : {X : Type 0} (p : X → Bool) (xs : List X) → AllByRecursion (λ x. p x ≡ false) xs
     → list_any p xs ≡ false
 any-none p [] h = refl
 any-none p (x ∷ xs) h = ap (λ b. b || list_any p xs) h.0 ∙ any-none p xs h.1
 
+-- a filter keeps at most all elements
 pub length-filter-most : {X : Type 0} (p : X → Bool) (xs : List X)
     → length (filter p xs) ≤ length xs
 length-filter-most p xs = omega (arith, length-filter_both p (λ x. not (p x)) (λ x. refl) xs)
 
+-- where the test of all says no, each element fails
 pub none-any : {X : Type 0} (p : X → Bool) (xs : List X) → list_any p xs ≡ false
     → AllByRecursion (λ x. p x ≡ false) xs
 none-any p [] h = tt

@@ -24,24 +24,30 @@ use Rattle.mq_world.specs.World.{group_cmp, same_share, has_key}
 
 -- ## The orders
 
+-- the order of sessions is total
 pub session_total : IsTotalOrder session_cmp
 session_total = on_texts (λ s. s.id)
 
+-- the order of lists of levels is total
 pub levels_total : IsTotalOrder level_order
 levels_total = lists_total nat_list_cmp_total
 
+-- the order of subscriptions is total
 pub subscription_total : IsTotalOrder subscription_cmp
 subscription_total =
     then_total (on_texts (λ s. s.client))
     (then_total (on_total (λ s. s.share) (options_total nat_list_cmp_total))
     (on_total (λ s. levels s.filter) levels_total))
 
+-- the order of retained messages is total
 pub retained_total : IsTotalOrder retained_cmp
 retained_total = on_total (λ kept. levels kept.topic) levels_total
 
+-- the order of groups is total
 pub group_total : IsTotalOrder group_cmp
 group_total = then_total (on_texts (λ g. g.share)) (on_total (λ g. levels g.filter) levels_total)
 
+-- the order of rows is total
 pub row_total : IsTotalOrder row_cmp
 row_total = on_total (λ row. row.subscription) subscription_total
 
@@ -55,10 +61,12 @@ less_from Less h = refl
 less_from Equal h = cc
 less_from Greater h = cc
 
+-- a text is given by its levels
 pub same_levels : (a b : Text) → levels a ≡ levels b → a ≡ b
 same_levels a b h = sym (join_with_byte-slice_split 47 a) ∙ ap (join_with_byte 47) h
     ∙ join_with_byte-slice_split 47 b
 
+-- two texts are equal in level order just where they are the same
 pub level_equal : (a b : Text) → is_eq (level_order (levels a) (levels b)) ≡ same_text a b
 level_equal a b = both_ways _ _
     (λ h. (bytes_eq-Decides a b).1
@@ -100,6 +108,7 @@ tied_is x s =
 
 -- ## A row put among rows in order leaves them in order
 
+-- each element that a filter keeps passes its test
 pub all_passed : {X : Type 0} (p : X → Bool) (xs : List X)
     → AllByRecursion (λ x. p x ≡ true) (filter p xs)
 all_passed p [] = tt

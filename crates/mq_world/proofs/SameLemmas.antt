@@ -22,6 +22,7 @@ filter-filter p q (x ∷ xs) =
       | false ↦ filter-filter p q xs
     ]
 
+-- lists with the same elements keep the same ones
 pub SameElements-filter : {X : Type 0} (q : X → Bool) (xs ys : List X) → SameElements xs ys
     → SameElements (filter q xs) (filter q ys)
 SameElements-filter q xs ys same =
@@ -70,6 +71,7 @@ filter-all : {X : Type 0} (xs : List X) → filter (λ _. true) xs ≡ xs
 filter-all [] = refl
 filter-all (x ∷ xs) = ap (λ l. x ∷ l) (filter-all xs)
 
+-- lists with the same elements are equally long
 pub length-SameElements : {X : Type 0} (xs ys : List X) → SameElements xs ys → length xs ≡ length ys
 length-SameElements xs ys same = ap length (sym (filter-all xs)) ∙ same (λ _. true)
     ∙ ap length (filter-all ys)
@@ -129,6 +131,7 @@ bounded g (n ∷ ns) h =
           bounded g ns k in omega arith)
     ]) refl h
 
+-- lists with the same elements have the same greatest number
 pub greatest-SameElements : (ms ns : List ℕ) → SameElements ms ns → greatest ms ≡ greatest ns
 greatest-SameElements ms ns same =
     let below : greatest ms ≤ greatest ns =
@@ -270,6 +273,7 @@ length-filter-without p n (m ∷ ms) h =
       | false ↦ λ e k. arranged p n m ms (without n ms) (length-filter-without p n ms k)
     ]) refl h
 
+-- lists with the same elements are the same once sorted
 pub ascending-SameElements : (ms ns : List ℕ) → SameElements ms ns → ascending ms ≡ ascending ns
 ascending-SameElements [] [] same = refl
 ascending-SameElements [] (n ∷ ns) same =
@@ -284,6 +288,7 @@ ascending-SameElements (m ∷ ms) ns same =
     ap (insert_number m) (ascending-SameElements ms (without m ns) rest)
     ∙ sym (ascending-without m ns present)
 
+-- two filters may change places
 pub filter-swap : {X : Type 0} (p q : X → Bool) (xs : List X)
     → filter p (filter q xs) ≡ filter q (filter p xs)
 filter-swap p q xs =

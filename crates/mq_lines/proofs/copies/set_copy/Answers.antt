@@ -9,8 +9,14 @@ returns-in-true-None-None c =
     let arm = c.in-true-None-None in
     let done = c.refill in
     let ids = no_numbers copy.identifiers (rw (← c.as_slice-ids.ensures.value) (sym arm.ensures)) in
-    copy_refilled done.result c.args.line copy _ _ _ _ c.requires c.is_empty.ensures
-    c.if-is_empty.false done.ensures.names done.ensures.values
+    copy_refilled done.result c.args.line copy _ _ _ _
+    (record {
+      fits = c.requires;
+      empty = c.is_empty.ensures;
+      some = c.if-is_empty.false;
+      same_names = done.ensures.names;
+      values = done.ensures.values;
+    })
     (rw (
       c.as_str.ensures.value,
       c.as_str-2.ensures.value,
@@ -28,8 +34,14 @@ returns-in-false-None-None c =
     let done = c.refill-in-false-None-None in
     let ids = some_numbers copy.identifiers (rw (← c.as_slice-ids.ensures.value) (sym arm.ensures))
     in
-    copy_refilled done.result c.args.line copy _ _ _ _ c.requires c.is_empty.ensures
-    c.if-is_empty.false done.ensures.names done.ensures.values
+    copy_refilled done.result c.args.line copy _ _ _ _
+    (record {
+      fits = c.requires;
+      empty = c.is_empty.ensures;
+      some = c.if-is_empty.false;
+      same_names = done.ensures.names;
+      values = done.ensures.values;
+    })
     (rw (
       c.as_str.ensures.value,
       c.as_str-2.ensures.value,
@@ -47,8 +59,14 @@ returns-in-true-Some-None c =
     let arm = c.in-true-Some-None in
     let done = c.refill-in-true-Some-None in
     let ids = no_numbers copy.identifiers (rw (← c.as_slice-ids.ensures.value) (sym arm.ensures)) in
-    copy_refilled done.result c.args.line copy _ _ _ _ c.requires c.is_empty.ensures
-    c.if-is_empty.false done.ensures.names done.ensures.values
+    copy_refilled done.result c.args.line copy _ _ _ _
+    (record {
+      fits = c.requires;
+      empty = c.is_empty.ensures;
+      some = c.if-is_empty.false;
+      same_names = done.ensures.names;
+      values = done.ensures.values;
+    })
     (rw (
       c.as_str.ensures.value,
       c.as_str-2.ensures.value,
@@ -66,8 +84,14 @@ returns-in-true-None-Some c =
     let arm = c.in-true-None-Some in
     let done = c.refill-in-true-None-Some in
     let ids = no_numbers copy.identifiers (rw (← c.as_slice-ids.ensures.value) (sym arm.ensures)) in
-    copy_refilled done.result c.args.line copy _ _ _ _ c.requires c.is_empty.ensures
-    c.if-is_empty.false done.ensures.names done.ensures.values
+    copy_refilled done.result c.args.line copy _ _ _ _
+    (record {
+      fits = c.requires;
+      empty = c.is_empty.ensures;
+      some = c.if-is_empty.false;
+      same_names = done.ensures.names;
+      values = done.ensures.values;
+    })
     (rw (
       c.as_str.ensures.value,
       c.as_str-2.ensures.value,

@@ -13,6 +13,11 @@ returns-then-is_empty c =
 
 pub returns : goal.returns
 returns c =
-    reason_refilled c.refill.result c.args.line c.args.reason _ _ _ c.requires c.is_empty.ensures
-    c.if-is_empty.false c.refill.ensures.names
-    (rw c.from-code.ensures at c.refill.ensures.values)
+    reason_refilled c.refill.result c.args.line c.args.reason _ _ _
+    (record {
+      fits = c.requires;
+      empty = c.is_empty.ensures;
+      some = c.if-is_empty.false;
+      same_names = c.refill.ensures.names;
+      values = rw c.from-code.ensures at c.refill.ensures.values;
+    })

@@ -12,6 +12,12 @@ refill-requires c =
 pub returns : goal.returns
 returns c =
     let none = sym c.is_some.ensures ∙ c.if-is_some.false in
-    report_refilled c.refill.result c.args.line (report_of c.args.report) _ _ _ c.requires
-    c.is_empty.ensures c.if-is_empty.false none
-    c.refill.ensures.names (rw c.from.ensures at c.refill.ensures.values)
+    report_refilled c.refill.result c.args.line (report_of c.args.report) _ _ _
+    (record {
+      fits = c.requires;
+      empty = c.is_empty.ensures;
+      some = c.if-is_empty.false;
+      same_names = c.refill.ensures.names;
+      values = rw c.from.ensures at c.refill.ensures.values;
+    })
+    none

@@ -80,4 +80,8 @@ returns-clause-listed c = λ dues listed there.
     subst (λ l. AreListed dues (views_of l)) (sym (c.get_mut.follows.holds c.leave.new.self).0)
     (listed-left (finds c.args.id.now) c.in-Some.session.now c.leave.new.self
     c.args.sessions.now.entries (rc_str_bytes c.in-Some-leave.id) c.end.result dues
-    (sym c.in-Some.ensures.value) c.in-Some-leave.ensures.id c.end.ensures c.requires listed there)
+    (record {
+      found = sym c.in-Some.ensures.value;
+      id_is = c.in-Some-leave.ensures.id;
+      end_is = c.end.ensures;
+    }) c.requires listed there)
