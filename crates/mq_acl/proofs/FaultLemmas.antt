@@ -69,6 +69,7 @@ own_keyword word rest =
     (choice (bytes_eq word (codes "user")) _ _
     (choice (length rest == 0) (Err kinds.User) (Ok (User rest)) user_is tt) keyword_is))
 
+-- what is wrong with a line is never lack of memory
 pub own_entry : (line : List ℕ) → IsOwn (entry_of line)
 own_entry line =
     let text = trimmed line in

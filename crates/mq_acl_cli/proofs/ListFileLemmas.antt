@@ -23,6 +23,7 @@ whole xs front n m next e within =
     let few : length xs ≤ n = omega arith in
     (e ∙ take_all m xs (let more : length xs ≤ m = omega arith in more), few)
 
+-- a text that was read, within the limit, is all of the file, which is within it too
 pub text_whole : (known : Option (List ℕ)) (front text : List ℕ)
     → IfSome known (λ xs. front ≡ take 16777217 xs)
     → length front ≤ 16777216 → text ≡ front
@@ -33,6 +34,7 @@ text_whole (Some xs) front text is within e =
     let all = whole xs front 16777216 16777217 (omega arith) is within in
     (e ∙ all.0, all.1)
 
+-- where more than the limit was read, the file is too long
 pub too_long : (known : Option (List ℕ)) (front : List ℕ)
     → IfSome known (λ xs. front ≡ take 16777217 xs)
     → 16777216 < length front → IfSome known (IsFaultIn TooLong)
@@ -41,6 +43,7 @@ too_long None front is over = tt
 too_long (Some xs) front is over =
     let count = shorter xs front 16777217 is in omega arith
 
+-- where what was read is within the limit and isn't UTF-8, the file isn't either
 pub not_utf8 : (known : Option (List ℕ)) (front : List ℕ)
     → IfSome known (λ xs. front ≡ take 16777217 xs)
     → length front ≤ 16777216 → ¬ IsUtf8 front → IfSome known (IsFaultIn Utf8)

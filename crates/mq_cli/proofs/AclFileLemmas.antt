@@ -6,6 +6,7 @@ use Rattle.mq_cli.specs.declared.acl_file.AclFileFault.TheVariants as fault
 use Rattle.mq_script.specs.Ending.{Failures}
 use Rattle.mq_cli.specs.AclFile.{IsAnswerTo, IsWholeFile, AclFileEnding}
 
+-- the answer to a file that the reader gave whole is how its reading ends
 pub AclFileEnding-whole : (limit : ℕ) (result : Result (List AclRow) AclFileFault) (given : List ℕ)
     (left : Option (List ℕ)) (calls : Failures)
     → IsWholeFile limit given left calls → IsAnswerTo given result

@@ -27,6 +27,7 @@ memory_only kinds (Usage text) e h =
     absurd (let bad : IsAmong h.0 [] = subst (IsAmong h.0) e h.2 in bad)
 memory_only kinds Memory e h = refl
 
+-- an option that maps to none is none
 pub none_from_map : {A B : Type 0} (f : A → B) (o : Option A) (g : Option B) → option_map f o ≡ g
     → g ≡ None → o ≡ None
 none_from_map f None g e h = refl
@@ -50,11 +51,13 @@ pub told_two : (f : Failure) (status : ℕ) → (status ≡ failure_status f) �
 told_two f status (inl told) two three = failure_two f (λ e. two (told ∙ e)) (λ e. three (told ∙ e))
 told_two f status (inr memory) two three = three memory
 
+-- where a failure's status is 3, so is the program's
 pub told_three : (f : Failure) (status : ℕ) → (status ≡ failure_status f) ⊎ (status ≡ 3)
     → failure_status f ≡ 3 → status ≡ 3
 told_three f status (inl told) e = told ∙ e
 told_three f status (inr memory) e = memory
 
+-- where the program's status is 2, so is the failure's
 pub told_unreadable : (f : Failure) (status : ℕ) → (status ≡ failure_status f) ⊎ (status ≡ 3)
     → status ≡ 2 → failure_status f ≡ 2
 told_unreadable f status (inl told) e = sym told ∙ e
@@ -83,12 +86,14 @@ usage_done Memory status before after flushed tells two three = absurd (three te
 
 -- ## The world and the script of a run
 
+-- a run without an ACL file begins in the empty world, within its limits
 pub begins_empty : (file : Option (List ℕ)) (limits : Limits) (w : World) → file ≡ None
     → BeginsIn file limits w → w ≡ within limits empty_world
 begins_empty None limits w e begins = begins.2
     ∙ ap (λ access. within limits (fresh_world access)) begins.1
 begins_empty (Some x) limits w e begins = absurd (let bad : Some x ≡ None = e in cc)
 
+-- where no script file is named, the script is the input, if that is known
 pub script_told : (file to_come : Option (List ℕ)) (script bytes : List ℕ) → file ≡ None
     → to_come ≡ Some bytes → IsScript file to_come script → script ≡ bytes
 script_told None None script bytes e f is = absurd (let bad : None ≡ Some bytes = f in cc)
@@ -96,6 +101,7 @@ script_told None (Some xs) script bytes e f is = let same : xs ≡ bytes =
     let g : Some xs ≡ Some bytes = f in cc in is ∙ same
 script_told (Some x) to_come script bytes e f is = absurd (let bad : Some x ≡ None = e in cc)
 
+-- what is told of a world that the run begins in is told of some world that it begins in
 pub IfOk-begun : {T E : Type 0} (result : Result T E) (file : Option (List ℕ)) (limits : Limits)
     (w : World) (Q : List ℕ → Type 0) (P : World → List ℕ → T → Type 0)
     → BeginsIn file limits w → IfOk result (λ x. (script : List ℕ) × Q script × P w script x)
@@ -104,6 +110,7 @@ pub IfOk-begun : {T E : Type 0} (result : Result T E) (file : Option (List ℕ))
 IfOk-begun (Ok x) file limits w Q P begins h = (w, begins, h.0, h.1, h.2)
 IfOk-begun (Err e) file limits w Q P begins h = tt
 
+-- where a script file is named, any script may be its text: what is told of some script stays so
 pub IfOk-file : {T E : Type 0} (result : Result T E) (name : List ℕ)
     (file to_come : Option (List ℕ)) (P : List ℕ → T → Type 0)
     → Some name ≡ file → IfOk result (λ x. (script : List ℕ) × P script x)
@@ -112,12 +119,14 @@ IfOk-file (Ok x) name file to_come P e h =
     (h.0, subst (λ (f : Option (List ℕ)). IsScript f to_come h.0) e tt, h.1)
 IfOk-file (Err e) name file to_come P f h = tt
 
+-- what is told of some script is so without the first of two claims about it
 pub IfOk-some : {T E : Type 0} (result : Result T E) (Q : List ℕ → Type 0) (P : List ℕ → T → Type 0)
     → IfOk result (λ x. (script : List ℕ) × Q script × P script x)
     → IfOk result (λ x. (script : List ℕ) × P script x)
 IfOk-some (Ok x) Q P h = (h.0, h.2)
 IfOk-some (Err e) Q P h = tt
 
+-- what follows from a claim about an error follows from it for a result's error, if it has one
 pub IfErr-map : {T E : Type 0} (result : Result T E) (P Q : E → Type 0) → ((e : E) → P e → Q e)
     → IfErr result P → IfErr result Q
 IfErr-map (Ok x) P Q f h = tt
@@ -125,6 +134,7 @@ IfErr-map (Err e) P Q f h = f e h
 
 -- ## What was written
 
+-- where a script file is named, it is enough that a front of what some script writes was written
 pub WritesFront-file : (w : World) (name : List ℕ) (file to_come before after : Option (List ℕ))
     → Some name ≡ file
     → (script : List ℕ) × AppendsSome before after (output w script)

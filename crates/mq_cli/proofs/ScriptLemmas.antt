@@ -39,6 +39,7 @@ told_at None b given c = ([], λ _. refl, tt)
 told_at (Some x) None given c = absurd c
 told_at (Some x) (Some y) given c = (y, λ e. e, sym c)
 
+-- however a run over its input ends, it wrote a front of what all of the input writes
 pub EndsOver-front : (limit : ℕ) (w : World) (result : Result Summary RunFault)
     (reader writer : Watched) → EndsOver limit w result reader writer
     → WritesFront w None reader.before writer.before writer.after

@@ -31,12 +31,14 @@ literal_is_choice f w h =
     (and_parts (is_choice f.others w) (is_no_client f w)
     (and_parts (is_choice f.others w && is_no_client f w) (is_no_user f w) h).0).0
 
+-- a level that a row may name is none of the client ids that stand for others
 pub literal_is_no_client : (f : Fresh) (w : List ℕ) → is_literal f w ≡ true
     → is_no_client f w ≡ true
 literal_is_no_client f w h =
     (and_parts (is_choice f.others w) (is_no_client f w)
     (and_parts (is_choice f.others w && is_no_client f w) (is_no_user f w) h).0).1
 
+-- and none of the user names that do
 pub literal_is_no_user : (f : Fresh) (w : List ℕ) → is_literal f w ≡ true → is_no_user f w ≡ true
 literal_is_no_user f w h =
     (and_parts (is_choice f.others w && is_no_client f w) (is_no_user f w) h).1
@@ -217,6 +219,7 @@ among_at (x ∷ xs) (suc i) d h = or_here (bytes_eq (get_or xs i d).now x.now)
     or_here true e = refl
     or_here false e = e
 
+-- what is true of the items before a place and of the item there is true of those before the next
 pub one_more_done : (P : List ℕ → Type 0) (items : List (Bor (List ℕ))) (i : ℕ) (d : Bor (List ℕ))
     → i < length items → P (get_or items i d).now
     → ((t : List ℕ) → is_among t items ≡ true → is_among t (drop i items) ≡ false → P t)

@@ -22,6 +22,7 @@ first_passes P [] ys x f e h = absurd (let k = e ∙ ap (λ l. slice_get l 0) f 
 first_passes P (y ∷ more) ys x f e h =
     subst P (let k = e ∙ ap (λ l. slice_get l 0) f in cc) (All-head P y more h)
 
+-- a list without a first element is empty
 pub no_first : {X : Type 0} (xs ys : List X) (o : Option (Bor X)) → ys ≡ xs
     → option_copied o ≡ slice_get ys 0 → o ≡ None → xs ≡ []
 no_first [] ys o f e n = refl

@@ -137,6 +137,7 @@ are_fresh f p d c dc u du = record {
   empty_apart = (λ i. not (bytes_eq [] (c.is i)) && not (bytes_eq [] (dc.is i)));
 }
 
+-- new texts, seen as those that stand for others, are fresh
 pub seen_fresh : (t : FreshTexts) (f : Fresh) (named : List ℕ → Bool) → AreNew t named
     → IsSeen t f → AreFresh f
 seen_fresh t f named m s =
@@ -157,6 +158,7 @@ apart_from named l t u h e n = at (bytes_eq l u) refl
         ∙ ap named (text_is l u k ∙ e) ∙ n in cc)
     at false k = refl
 
+-- a level that is named is none of the new texts, seen so
 pub named_no_fresh : (t : FreshTexts) (f : Fresh) (named : List ℕ → Bool) → AreNew t named
     → IsSeen t f → (l : List ℕ) → named l ≡ true → is_no_fresh f l ≡ true
 named_no_fresh t f named m s l h =

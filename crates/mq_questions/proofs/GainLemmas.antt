@@ -73,6 +73,7 @@ level_hit deny client user ls (r ∷ rs) h =
     (levels_left r.rest)) (map-id ls)) i && same deny r.deny)
     || level_hit deny client user ls rs h i)
 
+-- whether a name is gained depends on a user name only as a level, if it can be one
 pub level_gains : (client : List ℕ) (user : Option (List ℕ)) (ls : List (List ℕ))
     (old new : List Remainder) → list_all can_be_level ls ≡ true
     → gains (marks_of client user) ls old new ≡ gains (marks_of client (level_of user)) ls old new
@@ -92,6 +93,7 @@ roots_allow rows roots user other direction dollar a like client name d =
     ∙ sym (λ i. not (a.hits client name other true like d i)
     && a.hits client name other false like d i)
 
+-- for a user who is alike, the rows gain a name just where the roots for such names do
 pub gained_is : (old new : List AclRow) (olds news : List Remainder) (user other : Option (List ℕ))
     (direction : Direction) (dollar : Bool) → AreRoots old user direction dollar olds
     → AreRoots new user direction dollar news
@@ -170,12 +172,14 @@ name_gained_by old new olds news user other direction dollar start a b l m st cl
     ∙ ap (λ k. gains (marks_of client other) k olds news) e
     ∙ h.gained
 
+-- what is true of each level that a user name may be is true of a mark that is one
 pub user_level : (f : Fresh) (p : List ℕ → Bool)
     → ((l : List ℕ) → is_user_level f l ≡ true → p l ≡ true) → (mark : Option (List ℕ))
     → mark_passes (is_user_level f) mark ≡ true → mark_passes p mark ≡ true
 user_level f p h None e = refl
 user_level f p h (Some l) e = h l e
 
+-- to map a reversed list is to reverse the mapped one
 pub map_reverse : (f : Bor (List ℕ) → List ℕ) (xs : List (Bor (List ℕ)))
     → map f (reverse xs) ≡ reverse (map f xs)
 map_reverse f [] = refl
@@ -183,6 +187,7 @@ map_reverse f (x ∷ xs) =
     ap (map f) (reverse-append (x ∷ []) xs) ∙ map_push f (reverse xs) x
     ∙ ap (λ l. l ++ f x ∷ []) (map_reverse f xs) ∙ sym (reverse-append (f x ∷ []) (map f xs))
 
+-- parts that are a path in reverse show the path's levels
 pub path_texts : (parts levels path : List (Bor (List ℕ))) → parts ≡ levels → levels ≡ reverse path
     → map (λ l. l.now) parts ≡ path_levels path
 path_texts parts levels path e f = ap (map (λ l. l.now)) (e ∙ f) ∙ map_reverse (λ l. l.now) path

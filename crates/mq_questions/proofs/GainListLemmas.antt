@@ -37,6 +37,7 @@ split_push P (y ∷ ys) x h =
     let rest = split_push P ys x (All-tail P y (ys ++ x ∷ []) h) in
     (All-cons P y ys (All-head P y (ys ++ x ∷ []) h) rest.0, rest.1)
 
+-- what was yielded of a list, each element as it is, is all of it
 pub all_yielded : {X : Type 0} (xs ys : List X) → map (λ x. x) xs ≡ ys → xs ≡ ys
 all_yielded xs ys e = sym (map-id xs) ∙ e
 
@@ -65,6 +66,7 @@ one_less start user old new client done path h =
     let P = IsGain start 200 (marks_of client user) old new in
     split_push P (all_levels done) (levels_of path) (subst (All P) (map_push levels_of done path) h)
 
+-- a path that adds no gain is done too, where there is a gain already
 pub added_like : (client : List ℕ) (before : List Gain) (done : List Path) (path : Path)
     (gains : List Gain) → (gains ≡ [] → ⊥) → IsAdded client before done gains
     → IsAdded client before (done ++ path ∷ []) gains
@@ -75,6 +77,7 @@ added_like client before done path gains some a = record {
       (one_less start user old new client done path p).0;
 }
 
+-- a path is done once a gain of the client with its levels is added
 pub added_new : (client : List ℕ) (before : List Gain) (done : List Path) (path : Path)
     (gain : Gain) (gains next : List Gain)
     → gain.client.now ≡ client → levels_of gain.path ≡ levels_of path → next ≡ gains ++ gain ∷ []
@@ -163,6 +166,7 @@ no_client f user old new start items i gains a u o n end listed g e =
     at false p true h = by_all ((λ j. p j || h j))
     at false p false h = by_one p h
 
+-- a client id that is listed may be chosen, where the user name and the levels of the rows may be
 pub listed_is_choice : (f : Fresh) (user : Option (List ℕ)) (old new : List Remainder) → AreFresh f
     → mark_passes (is_choice f.others) user ≡ true
     → remainders_fit (is_literal f) old ≡ true → remainders_fit (is_literal f) new ≡ true
@@ -184,6 +188,7 @@ shown_none f g xs [] e h = refl
 shown_none f g [] (y ∷ ys) e h = absurd (let k = e in cc)
 shown_none f g (x ∷ xs) (y ∷ ys) e h = absurd (let k = h in cc)
 
+-- where two lists show the same, what is true of each that one shows is true of each in the other
 pub shown_each : {A B C : Type 0} (f : A → C) (g : B → C) (P : C → Type 0) (xs : List A)
     (ys : List B) → map f xs ≡ map g ys → All (λ y. P (g y)) ys → All (λ x. P (f x)) xs
 shown_each f g P [] ys e a = All-nil (λ x. P (f x))
@@ -194,6 +199,7 @@ shown_each f g P (x ∷ xs) (y ∷ ys) e a =
     All-cons (λ x. P (f x)) x xs (subst P first (All-head (λ y. P (g y)) y ys a))
     (shown_each f g P xs ys rest (All-tail (λ y. P (g y)) y ys a))
 
+-- the name of a gain is valid, and begins with `$` or not as the walk's names do
 pub gain_named : (start : Start) (dollar : Bool) (user : Option (List ℕ)) (old new : List Remainder)
     → start ≡ start_of dollar → (gain : Gain) → IsGainOf start user old new gain
     → IsNamed dollar gain
@@ -243,6 +249,7 @@ each_taken P n xs ys next last e f a b =
     All-same P last (take n next) f
     (All-take P n next (All-same P next (xs ++ ys) e (All-append P xs ys a b)))
 
+-- what follows from each outcome of a test is so
 pub either : {A : Type 0} (b : Bool) → (b ≡ false → A) → (b ≡ true → A) → A
 either false f g = f refl
 either true f g = g refl

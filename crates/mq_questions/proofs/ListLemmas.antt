@@ -92,6 +92,7 @@ levels_fit (l ∷ m ∷ ms) a b c d e =
     (and_parts (not (contains_byte 47 l)) (all_lack 47 (m ∷ ms)) d).1
     (and_parts (nat_le (length l) 300) (all_short (m ∷ ms)) e).1)
 
+-- a valid filter that keeps to the limit has short levels that can be a name's, but for wildcards
 pub filter_usable : (text : List ℕ) → is_filter text ≡ true → all_short (levels text) ≡ true
     → fits is_short_level (levels text) ≡ true
 filter_usable text h s =
@@ -108,6 +109,7 @@ filter_usable text h s =
     (not (contains_byte 0 text)) bytes).1))
     (levels_without text) s
 
+-- a row with such a filter, and a user name that keeps to the limit too, is usable
 pub row_usable : (row : AclRow) → is_filter row.filter ≡ true → is_short_row row ≡ true
     → usable row ≡ true
 row_usable row h s =
@@ -191,6 +193,7 @@ literal f w s n = join (is_name_level w) (not (bytes_eq w f.others.plain.now))
         → (v && a && b && c && d) ≡ true
     join v a b c d e h = rw e h
 
+-- the levels of usable rows that name no fresh text are such as a row may name
 pub rows_literal : (f : Fresh) (rows : List AclRow) → list_all usable rows ≡ true
     → ((l : List ℕ) → rows_name l rows ≡ true → is_no_fresh f l ≡ true)
     → rows_fit (is_literal f) rows ≡ true

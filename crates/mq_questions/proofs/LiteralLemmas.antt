@@ -24,6 +24,7 @@ keys_found : (l : List ℕ) (ks : List (Bor (List ℕ)))
 keys_found l [] = refl
 keys_found l (k ∷ ks) = (λ i. is_eq-slice_cmp l k.now i || keys_found l ks i)
 
+-- so a level is named just where it is one of the literals
 pub named_is : (l : List ℕ) (literals : Literals)
     → is_named l literals ≡ is_among l literals.levels.keys
 named_is l literals = keys_found l literals.levels.keys
@@ -142,6 +143,7 @@ apart_levels p plain l (w ∷ ws) e h =
     one false true fit eq card false false apart f g k e h = k e refl
     one false false fit eq card false same apart f g k e h = absurd (let n : false ≡ true = e in cc)
 
+-- and so it is from the levels of all remainders, where no wildcard passes the test that they fit
 pub apart_rows : (p : List ℕ → Bool) → ((w : List ℕ) → p w ≡ true → is_wildcard w ≡ false)
     → (l : List ℕ) (rs : List Remainder) → remainders_fit p rs ≡ true → is_literal_of l rs ≡ false
     → remainders_fit (λ w. not (bytes_eq w l)) rs ≡ true

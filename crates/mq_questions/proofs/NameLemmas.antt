@@ -237,6 +237,7 @@ pub record IsValid (name : List ℕ) : Type 0 where
   pub few : length (levels name) ≤ 200
   pub can : list_all can_be_level (levels name) ≡ true
 
+-- a valid name is not empty, and has at most 200 levels, each of which can be one
 pub name_is : (name : List ℕ) → is_name name ≡ true → IsValid name
 name_is name h =
     let front = (and_parts (is_text name && is_plain name) (nat_le (length (levels name)) 200) h).0

@@ -51,6 +51,7 @@ pub record IsPlaced (rows front : List AclRow) (row : AclRow) (back : List AclRo
   pub is : rows ≡ front ++ row ∷ back
   pub size : length front ≡ place
 
+-- rows that are cut before one of them show it at its place, among the others
 pub placed : (rows front behind back : List Row) (row : Row) (place : ℕ) → rows ≡ front ++ behind
     → behind ≡ row ∷ back → length front ≡ place
     → IsPlaced (row_views rows) (row_views front) (row_view row) (row_views back) place

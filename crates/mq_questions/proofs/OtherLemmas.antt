@@ -38,6 +38,7 @@ pub record IsAdded (user : List ℕ) (before : List OtherGain) (done : List Gain
       → is_named user named ≡ false → All (IsOtherGain start old new named) before
       → All (IsGainOf start (Some user) old new) done → All (IsOtherGain start old new named) others
 
+-- a gain that adds none to the others is done too, where there is one already
 pub added_like : (user : List ℕ) (before : List OtherGain) (done : List Gain) (gain : Gain)
     (others : List OtherGain) → (others ≡ [] → ⊥) → IsAdded user before done others
     → IsAdded user before (done ++ gain ∷ []) others
@@ -48,6 +49,7 @@ added_like user before done gain others some a = record {
       (split_push (IsGainOf start (Some user) old new) done gain p).0;
 }
 
+-- a gain is done once one with its client, its name and this user name is added to the others
 pub added_new : (user : List ℕ) (before : List OtherGain) (done : List Gain) (gain : Gain)
     (other : OtherGain) (others next : List OtherGain)
     → other.user.now ≡ user → other.gain.client.now ≡ gain.client.now
@@ -167,6 +169,7 @@ no_other f old new named start items i others a p q o n end listed g e =
     at false r true h = by_all (λ j. r j || h j)
     at false r false h = by_one r h
 
+-- a user name that is listed may be chosen, and is none of the client ids that stand for others
 pub listed_user_is_choice : (f : Fresh) (old new : List Remainder) → AreFresh f
     → remainders_fit (is_literal f) old ≡ true → remainders_fit (is_literal f) new ≡ true
     → (u : List ℕ) → listed_users f old new u ≡ true → (is_choice f.others u ≡ true)

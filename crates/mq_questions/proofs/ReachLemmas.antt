@@ -151,6 +151,7 @@ pub none_then : {X : Type 0} {P Q : Type 0} (o : Option X) → (P → Q) → IfN
 none_then None f h = f h
 none_then (Some x) f h = h
 
+-- what follows from a claim follows from it for the value of an option, if it has one
 pub some_then : {X : Type 0} {P Q : X → Type 0} (o : Option X) → ((x : X) → P x → Q x) → IfSome o P
     → IfSome o Q
 some_then None f h = h

@@ -38,6 +38,7 @@ names rows client user filter l =
     (((false || rows_name l rows) || is_literal_in l (levels filter)) || bytes_eq l client)
     || is_user l user
 
+-- where all are short, what is named has at most 300 bytes
 pub names_size : (rows : List AclRow) (client : List ℕ) (user : Option (List ℕ)) (filter : List ℕ)
     → AreShort rows client user filter → (l : List ℕ) → names rows client user filter l ≡ true
     → length l ≤ 300

@@ -24,6 +24,8 @@ both_short old new literals e u v l h =
     or_cases (rows_name l old) (rows_name l new) (sym (e l) ∙ h) (names_short old u l)
     (names_short new v l)
 
+-- two usable lists are ready with the names in them, the user names in them, and texts that are new
+-- to those names
 pub ready : (old new : List AclRow) (texts : FreshTexts) (named literals : Literals)
     → ((l : List ℕ) → is_named l literals ≡ (rows_name l old || rows_name l new))
     → ((l : List ℕ) → is_named l named ≡ (is_user_of l old || is_user_of l new))

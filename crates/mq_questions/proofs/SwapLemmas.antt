@@ -69,6 +69,8 @@ or_split : (a b c : Bool) → b ≡ false → (a || b || c) ≡ true → (a || c
 or_split true b c e h = refl
 or_split false b c e h = (rw e at h)
 
+-- a filter matches a name by one test just where it matches the mapped name by another, if its
+-- levels and the name's are such that the tests agree
 pub match_by : (t s : List ℕ → List ℕ → Bool) (f : List ℕ → List ℕ) (p q : List ℕ → Bool)
     → ((w l : List ℕ) → (bytes_eq w (codes "+") || p w) ≡ true → q l ≡ true → t w l ≡ s w (f l))
     → (ws ls : List (List ℕ)) → fits p ws ≡ true → list_all q ls ≡ true

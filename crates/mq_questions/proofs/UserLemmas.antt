@@ -72,6 +72,7 @@ tried_user_is_choice f old new a o n u h =
     tried_by f old new (is_choice f.others) a.user a.dollar_user a.empty (literal_is_choice f) o n u
     h
 
+-- and is none of the client ids that stand for others
 pub tried_user_is_no_client : (f : Fresh) (old new : List Remainder) → AreFresh f
     → remainders_fit (is_literal f) old ≡ true → remainders_fit (is_literal f) new ≡ true
     → (u : List ℕ) → is_tried_user f old new u ≡ true → is_no_client f u ≡ true

@@ -31,6 +31,7 @@ by_test : (t valid : Bool) (user : Option (String Global)) (o : Option (Option (
 by_test true valid user o e = rw e refl
 by_test false valid user o e = refl
 
+-- a client put into the map is connected with that user name, or none; others are as before
 pub connected : (client : Text) (user : Option (String Global)) (m n : Users) (valid : Bool)
     → valid ≡ true → Sets client m n (Some user)
     → (id : Text) → at n id ≡ cond (bytes_eq client id && valid) (Some (named user)) (at m id)
@@ -43,6 +44,7 @@ gone : (t : Bool) (o : Option (Option (String Global)))
 gone true o = refl
 gone false o = refl
 
+-- a client taken out of the map isn't connected; others are as before
 pub disconnected : (client : Text) (m n : Users) → Sets client m n None
     → (id : Text) → at n id ≡ cond (bytes_eq client id) None (at m id)
 disconnected client m n sets id =

@@ -48,16 +48,19 @@ third_false true true c e = e
 third_false true false c e = refl
 third_false false b c e = refl
 
+-- a subscription of this line is too long if its client id is
 pub client_long : (s : Subscription) (line : ℕ) → s.line ≡ line → is_short s.client ≡ false
     → has_long_at line (s ∷ []) ≡ true
 client_long s line e long = one_long s line e (first_false (is_short s.client)
     (is_short_user s.user) (has_short_levels (filter_part s.filter)) long)
 
+-- a subscription of this line is too long if its user name is
 pub user_long : (s : Subscription) (line : ℕ) → s.line ≡ line
     → is_short_user s.user ≡ false → has_long_at line (s ∷ []) ≡ true
 user_long s line e long = one_long s line e (second_false (is_short s.client)
     (is_short_user s.user) (has_short_levels (filter_part s.filter)) long)
 
+-- a subscription of this line is too long if a level of its filter is
 pub filter_long : (s : Subscription) (line : ℕ) → s.line ≡ line
     → has_short_levels (filter_part s.filter) ≡ false → has_long_at line (s ∷ []) ≡ true
 filter_long s line e long = one_long s line e (third_false (is_short s.client)
@@ -102,6 +105,7 @@ grown_fault xs ys fault is =
 
 -- ## Of bytes
 
+-- lack of memory may be told of any bytes
 pub FailsIn-memory : (rows : List AclRow) (r : Reading) (bytes : List ℕ)
     → FailsIn rows r bytes search.Memory
 unfolding FailsIn
@@ -162,12 +166,14 @@ last_fault rows given r fault holds some fails =
 
 -- ## Of a script
 
+-- a fault among a script's subscriptions is one of its search
 pub script_fault : (rows : List Row) (given : List ℕ) (fault : SearchFault)
     → IsFaultAmong (subscriptions (all_lines given)) fault → IsSearchFault rows given fault
 script_fault rows given search.Memory is = tt
 script_fault rows given (search.Row line) is = absurd is
 script_fault rows given (search.Subscription line) is = is
 
+-- where reading begins with these bytes, a fault in them is one of the search
 pub read_fault : (rows : List Row) (list : List AclRow) (r : Reading) (given : List ℕ)
     (fault : SearchFault) → HoldsScript list [] r → FailsIn list r given fault
     → IsSearchFault rows given fault
@@ -176,6 +182,7 @@ read_fault rows list r given fault holds fails =
     script_fault rows given fault (grown_fault (whole_lines given) (piece_line (last_piece given))
     fault (fails [] holds))
 
+-- where reading began with nothing read, what it stops with may be told of the script
 pub stopped : (rows : List Row) (list : List AclRow) (r : Reading) (before after : Option (List ℕ))
     (fault : ScriptFault) → HoldsScript list [] r → StopsWith list r before after fault
     → IsScriptFault rows before after fault

@@ -33,10 +33,12 @@ subscriptions_from-append before (x ∷ xs) ys =
     ∙ ap (λ ls. (here ++ subscriptions_from (before ++ x ∷ []) xs) ++ subscriptions_from ls ys)
     (append_assoc before (x ∷ []) xs)
 
+-- the subscriptions of all lines are those of the first ones, then those of the rest
 pub subscriptions-grown : (xs ys : List (List ℕ))
     → subscriptions (xs ++ ys) ≡ subscriptions xs ++ subscriptions_from xs ys
 subscriptions-grown xs ys = subscriptions_from-append [] xs ys
 
+-- one more line adds what it subscribes to, if anything, behind the others
 pub subscriptions-push : (xs : List (List ℕ)) (y : List ℕ)
     → subscriptions (xs ++ y ∷ []) ≡ subscriptions xs ++ option_to_list (subscription_in xs y)
 subscriptions-push xs y =
@@ -54,6 +56,7 @@ faulty_from-append before (x ∷ xs) ys =
     ∙ ap (λ ls. (here ++ faulty_from (before ++ x ∷ []) xs) ++ faulty_from ls ys)
     (append_assoc before (x ∷ []) xs)
 
+-- one more line adds its number to those of faulty lines if it is faulty
 pub faulty_lines-push : (xs : List (List ℕ)) (y : List ℕ)
     → faulty_lines (xs ++ y ∷ []) ≡ faulty_lines xs
     ++ option_to_list (fault_at (length xs + 1) (reading y))
@@ -62,6 +65,7 @@ faulty_lines-push xs y =
     ∙ ap (λ l. faulty_lines xs ++ l)
     (append-nil (option_to_list (fault_at (length xs + 1) (reading y))))
 
+-- a number at the end is the first only where there was none before
 pub first-push : (xs : List ℕ) (n : ℕ)
     → option_or (slice_get xs 0) (Some n) ≡ slice_get (xs ++ n ∷ []) 0
 first-push [] n = refl
@@ -92,6 +96,7 @@ connection-more : (id : Text) (xs : List Request) (o : Option Request)
 connection-more id xs None = ap (connection id) (append-nil xs)
 connection-more id xs (Some y) = connection-push id xs y
 
+-- how a client is connected after one more line: as its command says, or as before
 pub connection-line : (id : Text) (xs : List (List ℕ)) (y : List ℕ)
     → connection id (commands_of (xs ++ y ∷ [])) ≡ connection_then id (command_in (reading y))
     (connection id (commands_of xs))
@@ -115,6 +120,7 @@ by_same n f g same (SetAcl text) = refl
 by_same n f g same (Advance seconds) = refl
 by_same n f g same Stat = refl
 
+-- with the same line number and the same connections a command subscribes to the same
 pub made-same : (n m : ℕ) → n ≡ m → (f g : Text → Option (Option Text))
     → ((id : Text) → f id ≡ g id) → (command : Option Request)
     → option_and_then (subscription_by (n + 1) f) command
@@ -140,6 +146,7 @@ more_vain rows s (x ∷ all) told vain (inl h) = inl (h.0, more_vain rows s all 
 more_vain rows s (x ∷ all) told vain (inr h) =
     inr (h.0, (h.1.0 ++ s ∷ [], ap (λ l. l ++ s ∷ []) h.1.1, more_vain rows s all h.1.0 vain h.1.2))
 
+-- those told are still the ones in vain if a new subscription is told just where it is in vain
 pub AreVain-push : (rows : List AclRow) (made : Option Subscription)
     (all told new : List Subscription)
     → AreVain rows all told → Tells rows made told new

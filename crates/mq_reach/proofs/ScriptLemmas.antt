@@ -24,10 +24,12 @@ use Rattle.mq_reach.specs.declared.reading.Reading.{Reading}
 use Rattle.mq_reach.specs.declared.search.Search.{Search}
 use Rattle.mq_reach.proofs.PushLemmas.{faulty_lines-push, subscriptions-push}
 
+-- a reading that takes no bytes stays as it is
 pub TakesBytes-none : (rows : List AclRow) (r : Reading) → TakesBytes rows r r []
 unfolding TakesBytes
 TakesBytes-none rows r = λ given holds. rw append-nil holds
 
+-- to take some bytes and then others is to take them all
 pub TakesBytes-then : (rows : List AclRow) (p q r : Reading) (xs ys : List ℕ)
     → TakesBytes rows p q xs → TakesBytes rows q r ys → TakesBytes rows p r (xs ++ ys)
 unfolding TakesBytes
@@ -44,6 +46,7 @@ commands-kept lines p =
     ∙ ap (λ said. commands_of lines ++ cons_option (command_in said) []) (reading-kept p)
     ∙ sym (filter_map-append (λ line. command_in (reading line)) lines (p ∷ []))
 
+-- a last line subscribes to the same if only what is kept of it is read
 pub subscriptions-kept : (lines : List (List ℕ)) (p : List ℕ)
     → subscriptions (lines ++ take kept p ∷ []) ≡ subscriptions (lines ++ p ∷ [])
 subscriptions-kept lines p =
@@ -89,6 +92,7 @@ kept_line n line more p xs is e f =
     f ∙ subst (λ (k : ℕ). line ++ take (k - length line) xs ≡ take kept (p ++ xs)) is
     (kept_more line p xs e)
 
+-- to take bytes without a line feed, it is enough to keep what there is room for
 pub TakesBytes-text : (rows : List AclRow) (p q : Reading) (xs : List ℕ) (n : ℕ) → kept ≡ n
     → pieces xs ≡ xs ∷ []
     → q.search ≡ p.search → q.line.items ≡ p.line.items ++ take (n - length p.line.items) xs
@@ -133,6 +137,7 @@ TakesBytes-line rows p q rest line n is one grown step none = λ given holds.
 
 -- ## The last piece
 
+-- where nothing is kept behind the last line feed, all lines are searched already
 pub whole-empty : (rows : List AclRow) (script : List ℕ) (r : Reading) → HoldsScript rows script r
     → r.line.items ≡ []
     → IsSearched rows (all_lines script) r.search
@@ -142,6 +147,7 @@ whole-empty rows script r holds none =
     (no_piece (last_piece script) (sym holds.line ∙ none)) ∙ append-nil (whole_lines script) in
     rw same holds.searched
 
+-- where the last piece isn't empty, all lines are searched once it is searched as a line
 pub whole-piece : (rows : List AclRow) (script : List ℕ) (r : Reading) (s : Search)
     → HoldsScript rows script r → (r.line.items ≡ [] → ⊥)
     → ((before : List (List ℕ)) → IsSearched rows before r.search

@@ -177,6 +177,7 @@ Applies-some rows client filter options old new s e clients counts tells = recor
   counts = counts;
 }
 
+-- the view of one more subscription stands behind those of the others
 pub views-push : (all : List declared.Subscription) (s : declared.Subscription)
     → subscription_views (all ++ s ∷ []) ≡ subscription_views all ++ subscription_view s ∷ []
 views-push [] s = refl

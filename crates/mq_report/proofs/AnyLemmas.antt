@@ -8,11 +8,13 @@ other : (a b : Bool) → b ≡ true → (a || (b || false)) ≡ true
 other true b e = refl
 other false b e = rw e refl
 
+-- if an element passes, one still does when more follow
 pub any_kept : {X : Type 0} (p : X → Bool) (before more after : List X) → after ≡ before ++ more
     → list_any p before ≡ true → list_any p after ≡ true
 any_kept p before more after e h = ap (list_any p) e ∙ list_any-append p before more
     ∙ or_left (list_any p before) (list_any p more) h
 
+-- if the last element passes, some element does
 pub any_last : {X : Type 0} (p : X → Bool) (before after : List X) (x : X)
     → after ≡ before ++ x ∷ [] → p x ≡ true → list_any p after ≡ true
 any_last p before after x e h = ap (list_any p) e ∙ list_any-append p before (x ∷ [])

@@ -18,6 +18,7 @@ use Rattle.mq_report.specs.Classes.{is_listed}
 use Rattle.mq_report.specs.Differences.{is_told_of, IsReal, Adds, Tells}
 use Rattle.mq_report.specs.declared.difference.Difference.{Difference}
 
+-- real differences may be put behind those that are told
 pub adds_many : (old new : List Row) (before after more : List Difference)
     → after ≡ before ++ more → All (IsReal old new) more → Adds old new before after
 adds_many old new before after more e r = record {
@@ -26,15 +27,18 @@ adds_many old new before after more e r = record {
   kept = λ p h. any_kept p before more after e h;
 }
 
+-- one real difference may be put behind those that are told
 pub adds_one : (old new : List Row) (before after : List Difference) (d : Difference)
     → after ≡ before ++ d ∷ [] → IsReal old new d → Adds old new before after
 adds_one old new before after d e r =
     adds_many old new before after (d ∷ []) e
     (All-cons (IsReal old new) d [] r (All-nil (IsReal old new)))
 
+-- a list that stays as it is keeps what was told, and adds nothing false
 pub adds_none : (old new : List Row) (before : List Difference) → Adds old new before before
 adds_none old new before = record { real = λ all. all; kept = λ p h. h }
 
+-- to add some and then others is to add them all
 pub adds_both : (old new : List Row) (a b c : List Difference) → Adds old new a b
     → Adds old new b c → Adds old new a c
 adds_both old new a b c f g =
@@ -54,6 +58,7 @@ pub record IsTold (old new : List Row) (names : List (Bor (List ℕ))) (n : ℕ)
   pub users : (t : List ℕ) → is_among t names ≡ true → is_among t (drop n names) ≡ false
       → ToldFor old new (Some t) all
 
+-- what is told for these clients stays told when more is added
 pub told_kept : (old new : List Row) (user : Option (List ℕ)) (before after : List Difference)
     → Adds old new before after → ToldFor old new user before → ToldFor old new user after
 told_kept old new user before after a h way direction client topic valid change =
@@ -64,6 +69,7 @@ not_among : (names : List (Bor (List ℕ))) (t : List ℕ) → is_among t names 
     → is_among t (drop 0 names) ≡ false → ⊥
 not_among names t e f = let q : true ≡ false = sym e ∙ f in cc
 
+-- to begin with, no name is done, and only what changes for clients without one must be told
 pub told_start : (old new : List Row) (names : List (Bor (List ℕ))) (all : List Difference)
     → Adds old new [] all → ToldFor old new None all → IsTold old new names 0 all
 told_start old new names all a h = record {
@@ -72,6 +78,7 @@ told_start old new names all a h = record {
   users = λ t e f. absurd (not_among names t e f);
 }
 
+-- one more name is done when all is told for the clients of this user name
 pub told_one : (old new : List Row) (names : List (Bor (List ℕ))) (n : ℕ) (d : Bor (List ℕ))
     (before after : List Difference) → n < length names
     → Adds old new before after → ToldFor old new (Some (get_or names n d).now) after
@@ -83,6 +90,7 @@ told_one old new names n d before after h a here s = record {
       (λ t e f. told_kept old new (Some t) before after a (s.users t e f));
 }
 
+-- with all listed names done, and all told for the names that no list has, all is told
 pub told_all : (old new : List Row) (names : List (Bor (List ℕ))) (n : ℕ)
     (before after : List Difference) → length names ≤ n
     → ((t : List ℕ) → is_among t names ≡ is_listed (row_views old) (row_views new) t)

@@ -48,6 +48,7 @@ pieces_alone p (x ∷ xs) = at (p x) refl (pieces_alone p xs)
     at true e h = All-cons (IsAlone p) [] (slice_split p xs) refl h
     at false e h = onto p x (slice_split p xs) e h
 
+-- a line of a text, taken by itself, is a text of one line
 pub line_alone : (text : List ℕ) (i : ℕ) (line : List ℕ) → i < length (lines text)
     → line ≡ get_or (lines text) i line → lines line ≡ line ∷ []
 line_alone text i line h e =
@@ -89,6 +90,7 @@ fails (Ok entry) rows fault h = absurd (cc)
 fails (Err kind) rows fault h =
     (let e : record { line = 1; kind = kind } ≡ fault = cc in ap (λ f. Some (Fault f.kind)) (sym e))
 
+-- where a single line is read without a fault, its rows show what is odd about what it says
 pub line_says : (line : List ℕ) (rows : List Row) → lines line ≡ line ∷ []
     → rows_of line ≡ Ok (row_views rows)
     → kind_if (list_any (λ row. is_unmarked (row_view row)) rows) NoMark
@@ -98,6 +100,7 @@ line_says line rows alone h =
     ∙ says (entry_of line) (row_views rows)
     (ap (λ ls. unless_faulty (faults_of ls) (rows_in (entries_of ls))) (sym alone) ∙ h)
 
+-- where a single line is faulty, and memory was not lacking, its fault is what is odd about it
 pub line_fails : (line : List ℕ) (fault : AclFault) → lines line ≡ line ∷ []
     → fault.kind ≢ kinds.Memory → (fault ≡ out_of_memory) ⊎ (rows_of line ≡ Err fault)
     → Some (Fault fault.kind) ≡ entry_kind (entry_of line)
@@ -154,6 +157,7 @@ listed : {X : Type 0} (o : Option X) (xs : List X) → option_to_list o ++ xs �
 listed None xs = refl
 listed (Some x) xs = refl
 
+-- the faults among the remarks on lines are those of the lines, with their numbers
 pub faults_from : (number : ℕ) (all : List (List ℕ))
     → faults_told (remarks_from number all)
     ≡ filter_map (λ numbered. fault_at numbered.0 (entry_of numbered.1)) (enumerate_from number all)

@@ -25,6 +25,7 @@ abbrev pub NoneTo : List Row → ℕ → AclRow → ℕ → Type 0
 NoneTo rows index row n = (place : ℕ) → place < n → (d : Row) → place ≢ index
     → MakesNeedless (row_view (get_or rows place d)) row → ⊥
 
+-- one more row: if it doesn't make the row needless, or is that row, still none does
 pub none_more : (rows : List Row) (index : ℕ) (row : AclRow) (n : ℕ) → ((d : Row) → n ≢ index
     → MakesNeedless (row_view (get_or rows n d)) row → ⊥)
     → NoneTo rows index row n → NoneTo rows index row (n + 1)
@@ -32,6 +33,7 @@ none_more rows index row n here below =
     more (λ k. (d : Row) → k ≢ index → MakesNeedless (row_view (get_or rows k d)) row → ⊥) n below
     here
 
+-- if none of all the rows makes it needless, no other row does
 pub none_all : (rows : List Row) (index : ℕ) (row : AclRow) (n : ℕ) → length rows ≤ n
     → NoneTo rows index row n → MakesNone rows index row
 none_all rows index row n h s place d lt = s place (omega arith) d
@@ -42,12 +44,14 @@ IsTold rows told place = (d : Row)
     → (list_any (λ remark. remark.line == (get_or rows place d).line) told ≡ true)
     ⊎ Differ (row_views rows) (without place (row_views rows))
 
+-- the next row need not be told if the list without it allows something else
 pub rest_needed : (rows : List Row) (n : ℕ) (told : List Remark)
     → Differ (row_views rows) (without n (row_views rows)) → AreRest rows n told
     → AreRest rows (n + 1) told
 rest_needed rows n told differ s place d h =
     more (IsTold rows told) n (λ k lt d'. s k d' lt) (λ d'. inr differ) place h d
 
+-- with a remark on its line the next row is told; those before it stay told or needed
 pub rest_told : (rows : List Row) (n : ℕ) (told next : List Remark) (remark : Remark)
     → next ≡ told ++ remark ∷ [] → ((d : Row) → (remark.line == (get_or rows n d).line) ≡ true)
     → AreRest rows n told → AreRest rows (n + 1) next
@@ -59,6 +63,7 @@ rest_told rows n told next remark e here s place d h =
     (λ d'. inl (any_last (λ r. r.line == (get_or rows n d').line) told next remark e (here d')))
     place h d
 
+-- the line of the row at a place is found by that place, whatever the default is
 pub line_same : (rows : List Row) (n : ℕ) (row d : Row) → n < length rows
     → row ≡ get_or rows n row → (row.line == (get_or rows n d).line) ≡ true
 line_same rows n row d h is = subst (λ r. (row.line == r.line) ≡ true)
@@ -71,6 +76,7 @@ pub by_of : (rows : List Row) (index : ℕ) (row : AclRow) (found : Option ℕ)
 by_of rows index row None some none = none
 by_of rows index row (Some line) some none = some
 
+-- a row that is needless in the list of these rows is needless in the rows themselves
 pub line_is_needless : (rows : List Row) (list : List AclRow) (place : ℕ) → list ≡ row_views rows
     → ((user : Option (List ℕ)) → AllowSame list (without place list) user)
     → (user : Option (List ℕ)) → AllowSame (row_views rows) (without place (row_views rows)) user

@@ -28,6 +28,7 @@ pub pair_short : (rows : List Row) (row other : AclRow)
 pair_short rows row other e first second =
     none_long rows (ap (list_all is_short_row) e ∙ rw (first, second) refl)
 
+-- where no line is told to be too long, the row at each place keeps to the limit
 pub short_at : (rows : List Row) (i : ℕ) (d : Row) → long_line rows ≡ None → i < length rows
     → is_short_row (row_view (get_or rows i d)) ≡ true
 short_at [] i d none low = absurd (omega arith)

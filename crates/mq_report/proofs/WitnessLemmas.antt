@@ -99,6 +99,7 @@ like_one old new way direction user d e h t =
     (is_in old new user d.class) t).1
     (and_parts (same_class d.class e.class) (same_direction d.direction e.direction) same2).0)
 
+-- if a difference is of this client, and one like it is told, then one of this client is told
 pub like_told : (old new : List AclRow) (way : Way) (direction : Direction) (user : Option
     (List ℕ)) (d : Difference) (told : List Difference) → list_any (is_like d) told ≡ true
     → is_told_of old new way direction user d ≡ true
@@ -125,6 +126,7 @@ pub record IsFound {W : Type 0} (old new : List Row) (way : Way) (direction : Di
       → list_any (is_told_of (row_views old) (row_views new) way direction user) told ≡ false
       → done ≡ []
 
+-- before the first witness nothing has to be told
 pub found_start : {W : Type 0} (old new : List Row) (way : Way) (direction : Direction)
     (who : Clients) (told : List Difference) → told ≡ []
     → IsFound {W = W} old new way direction who [] told
@@ -133,6 +135,7 @@ found_start old new way direction who told e = record {
   none = λ user asked h. refl;
 }
 
+-- one more witness is done when something is told of all clients that are asked about
 pub found_one : {W : Type 0} (old new : List Row) (way : Way) (direction : Direction)
     (who : Clients) (done : List W) (w : W) (before after : List Difference)
     → Adds old new before after
@@ -145,6 +148,7 @@ found_one old new way direction who done w before after a here s = record {
   none = λ user asked h. absurd (let k : true ≡ false = sym (here user asked) ∙ h in cc);
 }
 
+-- if no witnesses means no change, then what changes for a client asked about is told
 pub found_tells : {W : Type 0} (old new : List Row) (way : Way) (direction : Direction)
     (who : Clients) (done : List W) (told : List Difference) (user : Option (List ℕ))
     → is_asked (row_views old) (row_views new) user who ≡ true
@@ -167,6 +171,7 @@ pub asked_anonymous : (old new : List AclRow) (user : Option (List ℕ))
 asked_anonymous old new None e = refl
 asked_anonymous old new (Some user) e = absurd (let k : false ≡ true = e in cc)
 
+-- who is asked about by a listed user name is in the class of that name
 pub asked_user : (old new : List AclRow) (user : Option (List ℕ)) (name : Bor (List ℕ))
     (text : _) → string_bytes text ≡ name.now → is_listed old new name.now ≡ true
     → is_asked old new user (clients.User name) ≡ true
@@ -177,6 +182,7 @@ asked_user old new (Some user) name text same listed e =
     subst (λ t. (bytes_eq user t && is_listed old new user) ≡ true) (sym same)
     (rw (e, ap (is_listed old new) is ∙ listed) refl)
 
+-- who is asked about as one of all others is in their class, whatever name it shows
 pub asked_others : (old new : List AclRow) (user : Option (List ℕ)) (text : _)
     → is_asked old new user clients.Others ≡ true → is_in old new user (classes.Others text) ≡ true
 asked_others old new None text e = absurd (let k : false ≡ true = e in cc)
@@ -192,6 +198,7 @@ pub lists_is : (old new : List Row) (c : Compared) (user : List ℕ) → Compare
     → lists_user c user ≡ is_listed (row_views old) (row_views new) user
 lists_is old new c user h = λ i. is_listed (h.old_list i) (h.new_list i) user
 
+-- a user name that the comparison doesn't list is in neither of its lists
 pub unlisted_is : (old new : List Row) (c : Compared) (user : List ℕ) → Compares old new c
     → lists_user c user ≡ false → not (is_listed (row_views old) (row_views new) user) ≡ true
 unlisted_is old new c user h e = ap not (sym (lists_is old new c user h) ∙ e)
@@ -205,6 +212,7 @@ direction_same : (a : Direction) → same_direction a a ≡ true
 direction_same Reading = refl
 direction_same Writing = refl
 
+-- a difference of this class, way and direction is told of each client in the class
 pub told_by : (old new : List AclRow) (way : Way) (direction : Direction) (user : Option (List ℕ))
     (class : Class) (d : Difference)
     → d.class ≡ class → d.way ≡ way → d.direction ≡ direction → is_in old new user class ≡ true

@@ -52,6 +52,7 @@ use Rattle.mq_subscriptions.proofs.AscendingLemmas.{same, first-run, least-first
 
 -- ## By client
 
+-- the summaries stand under the clients of the subscriptions, each once and in order
 pub keys-by_client : (xs : List (Text × SubscriptionOptions))
     → keys_of (by_client xs) ≡ in_order text_cmp (clients_of xs)
 keys-by_client xs = keyed (in_order text_cmp (clients_of xs))
@@ -61,6 +62,7 @@ keys-by_client xs = keyed (in_order text_cmp (clients_of xs))
     keyed [] = refl
     keyed (id ∷ ids) = ap (λ l. id ∷ l) (keyed ids)
 
+-- the clients of the summaries are sorted, and none stands twice
 pub sorted-by_client : (xs : List (Text × SubscriptionOptions))
     → IsStrictlySortedBy text_cmp (keys_of (by_client xs))
 sorted-by_client xs = subst (IsStrictlySortedBy text_cmp) (sym (keys-by_client xs))
@@ -79,6 +81,7 @@ among-any id (x ∷ xs) =
       | false ↦ among-any id xs
     ])
 
+-- under a client stands the summary of its options, or nothing if it has none
 pub lookup-by_client : (id : Text) (xs : List (Text × SubscriptionOptions))
     → lookup (is_text id) (by_client xs) ≡ summary_for (options_among id xs)
 lookup-by_client id xs =
@@ -174,6 +177,7 @@ module _ (c : Text) where
 
 -- ## What takes part
 
+-- a client's options among all that take part are those of its own subscriptions that do
 pub options-own : (m : Message) (id : Text) (rows : List Subscription)
     → options_among id (unshared_matches m rows) ≡ gives_options m id rows
 options-own m id [] = refl
@@ -219,6 +223,7 @@ options-own m id (s ∷ rows) =
 
 -- ## One more
 
+-- the summary of the first ones, taken with the options of the next, is that of one more
 pub summary-more : (xs : List Match) (i : ℕ) (d : Match) (old new : Summary) → i < length xs
     → old ≡ summary_of (map (λ x. options_of x.options) (take i xs))
     → new ≡ together old (summary_of (options_of (get_or xs i d).options ∷ []))

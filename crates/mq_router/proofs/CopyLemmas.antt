@@ -32,6 +32,7 @@ tail_sorted y ys h = λ k d low high.
     ≡ false in
     subst Q one (h (suc k) d (omega arith) (omega arith))
 
+-- numbers that are sorted stay in their order
 pub ascending-sorted : (ys : List ℕ) → IsSorted nat_cmp ys → ascending ys ≡ ys
 ascending-sorted [] h = refl
 ascending-sorted (y ∷ []) h = refl
@@ -40,6 +41,7 @@ ascending-sorted (y ∷ z ∷ zs) h =
     let first : nat_le y z ≡ true = le_from_sorted y z (h 0 0 (omega arith) (omega arith)) in
     ap (insert_number y) rest ∙ rw first refl
 
+-- a sorted permutation of numbers is these numbers in ascending order
 pub sorted-is : (xs ys : List ℕ) → IsPermutation xs ys → IsSorted nat_cmp ys → ys ≡ ascending xs
 sorted-is xs ys moved sorted = sym (ascending-sorted ys sorted)
     ∙ sym (ascending-SameElements xs ys (permuted-same xs ys moved))

@@ -65,6 +65,7 @@ among-without moment id client sessions other =
     (λ s e. ap (λ t. same_text t client) (same_text-is s.id id e) ∙ text_flip id client ∙ other)
     (filter (has_ended moment) sessions)
 
+-- with a client taken out whose session has ended, the same subscriptions last
 pub last-more : (moment : ℕ) (id : Text) (sessions : List Session) (rows : List Subscription)
     → is_among (filter (has_ended moment) sessions) id ≡ true
     → filter (lasts moment (filter (λ s. not (has_id id s)) sessions)) (without id rows)
@@ -114,6 +115,7 @@ some-less p (s ∷ ss) h =
       | false ↦ λ k. (let less = some-less p ss k in omega arith)
     ]) h
 
+-- without a client whose session has ended there are fewer sessions
 pub fewer : (moment : ℕ) (id : Text) (sessions : List Session)
     → is_among (filter (has_ended moment) sessions) id ≡ true
     → length (filter (λ s. not (has_id id s)) sessions) < length sessions
@@ -122,6 +124,7 @@ fewer moment id sessions ended =
 
 -- ## None is left
 
+-- where no session has ended, all stay
 pub all-stay : (moment : ℕ) (sessions : List Session)
     → list_any (has_ended moment) sessions ≡ false
     → filter (λ s. not (has_ended moment s)) sessions ≡ sessions
@@ -132,6 +135,7 @@ last-none : (moment : ℕ) (rows : List Subscription) → filter (lasts moment [
 last-none moment [] = refl
 last-none moment (s ∷ rows) = ap (λ l. s ∷ l) (last-none moment rows)
 
+-- where no session has ended, all subscriptions last
 pub all-last : (moment : ℕ) (sessions : List Session) (rows : List Subscription)
     → list_any (has_ended moment) sessions ≡ false → filter (lasts moment sessions) rows ≡ rows
 all-last moment sessions rows none =

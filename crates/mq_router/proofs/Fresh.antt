@@ -21,6 +21,7 @@ fresh_state limits access = record {
   deadlines = [];
 }
 
+-- a fresh state stands for the fresh world with the same limits and access rows
 pub fresh-stands : (limits : Limits) (access : Option (List AclRow))
     → StandsFor (fresh_state limits access) (within limits (fresh_world access))
 unfolding StandsFor fresh_world filters_of IsDistinct IsStrictlySortedBy

@@ -27,6 +27,7 @@ use Rattle.mq_world.proofs.OrderLemmas.{same_text-is}
 
 -- ## Groups in order
 
+-- groups tie in their order where their share names and their filters are the same
 pub group_tie : (g k : Group) → is_eq (group_cmp g k)
     ≡ (same_text g.share k.share && same_text g.filter k.filter)
 group_tie g k =
@@ -36,6 +37,7 @@ group_tie g k =
     (is_eq-slice_cmp g.share k.share)
     ∙ ap (λ b. same_text g.share k.share && b) (level_equal g.filter k.filter)
 
+-- groups that tie are the same
 pub group_tied : (g k : Group) → is_eq (group_cmp g k) ≡ true → g ≡ k
 group_tied g k h =
     let both : (same_text g.share k.share && same_text g.filter k.filter) ≡ true =
@@ -47,10 +49,12 @@ group_tied g k h =
 
 -- ## The groups that have members
 
+-- the groups of subscriptions stand in order, none of them twice
 pub groups-sorted : (xs : List Subscription) → IsStrictlySortedBy group_cmp (groups_among xs)
 unfolding groups_among
 groups-sorted xs = sorted-in_order group_cmp group_total (filter_map group_of xs)
 
+-- the groups of rows stand in order, none of them twice
 pub groups_of-sorted : (rows : List Row) → IsStrictlySortedBy group_cmp (groups_of rows)
 unfolding groups_of
 groups_of-sorted rows = sorted-in_order group_cmp group_total
@@ -98,6 +102,7 @@ unfolding groups_among
 groups-any g xs = any-in_order group_cmp group_total group_tied g (filter_map group_of xs)
     ∙ any_groups g xs
 
+-- the same groups pass, if each one that passes has members in both lists or in neither
 pub groups-same : (q : Group → Bool) (xs ys : List Subscription)
     → ((g : Group) → q g ≡ true → list_any (is_in_group g) xs ≡ list_any (is_in_group g) ys)
     → filter q (groups_among xs) ≡ filter q (groups_among ys)
@@ -134,12 +139,14 @@ in_matching topic g m (x ∷ xs) =
     ∙ in_matching topic g m xs
     ∙ sym (ap (λ b. cond b (x ∷ filter (is_in_group g) xs) (filter (is_in_group g) xs)) f))
 
+-- some element passes where the list of those that pass isn't empty, and only there
 pub told : {X : Type 0} (p : X → Bool) (zs : List X) → list_any p zs ≡ not (is_empty (filter p zs))
 told p [] = refl
 told p (z ∷ zs) =
     elim (p z) as (λ b. (b || list_any p zs)
     ≡ not (is_empty (cond b (z ∷ filter p zs) (filter p zs)))) [ true ↦ refl | false ↦ told p zs ]
 
+-- if the same elements pass in both lists, some pass in both or in neither
 pub any-from_filter : {X : Type 0} (p : X → Bool) (xs ys : List X) → filter p xs ≡ filter p ys
     → list_any p xs ≡ list_any p ys
 any-from_filter p xs ys e = told p xs ∙ ap (λ l. not (is_empty l)) e ∙ sym (told p ys)

@@ -107,6 +107,7 @@ sorted-after now retained m s =
           ]
     ]
 
+-- what a request makes of a world is a world too
 pub after-is_world : (w : World) → IsWorld w → (request : Request) → IsWorld (after w request)
 unfolding after
 after-is_world w h (Connect id user clean interval) =

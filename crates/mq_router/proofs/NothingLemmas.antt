@@ -24,6 +24,7 @@ none-made : {X Y : Type 0} (f : X → Option Y) → ((x : X) → f x ≡ None) �
 none-made f h [] = refl
 none-made f h (x ∷ xs) = ap (λ o. cons_option o (filter_map f xs)) (h x) ∙ none-made f h xs
 
+-- a list of length zero is empty
 pub empty-is : {X : Type 0} (xs : List X) → (length xs == 0) ≡ true → xs ≡ []
 empty-is [] h = refl
 empty-is (x ∷ xs) h = absurd (true≢false (some_pass (length xs) ∙ ap not h))

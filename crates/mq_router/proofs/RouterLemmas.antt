@@ -43,6 +43,7 @@ use Rattle.mq_world.specs.declared.refusal.Refusal.TheVariants.{AclLine, ClockTo
 
 -- ## Refusals
 
+-- a refusal is right if it is that of the world, or lack of memory
 pub refused-applied : (s : State) (request : Request) (result : Result Answer Refusal) (r : Refusal)
     (new : State) → result ≡ Err r → Refuses (world_of s) request r → Applied s request result new
 refused-applied s request result r new is why = subst (λ v. Applied s request v new) (sym is) why
@@ -92,12 +93,14 @@ passed-behind xs ys wanted b h e = first-passed xs ((not b, wanted) ∷ ys) h �
 
 -- ## Connect and disconnect
 
+-- a connect is refused for its client id if that can't be one
 pub connect-client : (s : State) (id : Text) (user : Option Text) (clean : Bool) (interval : ℕ)
     → is_client_id id ≡ false → Refuses (world_of s) (Connect id user clean interval) ClientId
 unfolding refusal
 connect-client s id user clean interval e =
     inr (hit (is_client_id id) ClientId ((not (is_user_name user), UserName) ∷ []) e)
 
+-- a connect is refused for its user name if that can't be one, but the client id can
 pub connect-user : (s : State) (id : Text) (user : Option Text) (clean : Bool) (interval : ℕ)
     → is_client_id id ≡ true → is_user_name user ≡ false
     → Refuses (world_of s) (Connect id user clean interval) UserName
@@ -110,6 +113,8 @@ connect-user s id user clean interval e u =
 abbrev pub connect_rows : State → Text → Bool → List Subscription
 connect_rows s id resumed = if resumed then s.subscriptions else without id s.subscriptions
 
+-- a valid connect is done: its session is there, it is sent what waited, and the
+-- client's subscriptions stay only if the session resumes
 pub connect-does : (s : State) (id : Text) (user : Option Text) (clean : Bool) (interval : ℕ)
     (sessions : List Session) (subs : SubscriptionsView) (copies : List Copy)
     → is_client_id id ≡ true → is_user_name user ≡ true
@@ -140,12 +145,14 @@ connect-does s id user clean interval sessions subs copies e u r ss xs keys = re
   };
 }
 
+-- a disconnect is refused as the conditions on its client say
 pub disconnect-client : (s : State) (id : Text) (r : Refusal)
     → Some r ≡ first_refusal (client_conditions s.sessions id)
     → Refuses (world_of s) (Disconnect id) r
 unfolding refusal
 disconnect-client s id r h = inr (sym h)
 
+-- a disconnect is done where the session outlives it: the client is away from now on
 pub disconnect-leaves : (s : State) (id : Text) (sessions : List Session) (reply : Reply)
     → None ≡ first_refusal (client_conditions s.sessions id) → outlives s.sessions id ≡ true
     → reply ≡ reason 0 → sessions ≡ map (left_by s.moment id) s.sessions
@@ -170,6 +177,8 @@ disconnect-leaves s id sessions reply h stays r ss = record {
   };
 }
 
+-- a disconnect is done where the session ends with it: the session and the
+-- client's subscriptions go
 pub disconnect-does : (s : State) (id : Text) (sessions : List Session) (subs : SubscriptionsView)
     (reply : Reply) → None ≡ first_refusal (client_conditions s.sessions id)
     → outlives s.sessions id ≡ false → reply ≡ reason 0
@@ -207,6 +216,7 @@ shared-is text = elim (is_shared text)
 abbrev shared_condition : Text → SubscriptionOptions → Conditions
 shared_condition text options = (is_shared text && options.no_local, SharedNoLocal) ∷ []
 
+-- a subscribe is refused as the conditions on its client say
 pub subscribe-client : (s : State) (id text : Text) (options : SubscriptionOptions) (r : Refusal)
     → Some r ≡ first_refusal (client_conditions s.sessions id)
     → Refuses (world_of s) (Subscribe id text options) r
@@ -215,6 +225,7 @@ subscribe-client s id text options r h =
     inr (first-refused (client_conditions s.sessions id)
     ((not (is_subscription text), TopicFilter) ∷ shared_condition text options) r h)
 
+-- where its client passes, a subscribe is refused for a bad filter, or for lack of memory
 pub subscribe-filter : (s : State) (id text : Text) (options : SubscriptionOptions) (r : Refusal)
     → None ≡ first_refusal (client_conditions s.sessions id) → (r ≡ Memory)
     ⊎ ((r ≡ TopicFilter) × (is_subscription text ≡ false))
@@ -224,6 +235,7 @@ subscribe-filter s id text options r h why =
     refused-behind (client_conditions s.sessions id) (shared_condition text options) r TopicFilter
     (is_subscription text) h why
 
+-- a shared subscription with No Local is refused, where client and filter pass
 pub subscribe-shared : (s : State) (id text : Text) (options : SubscriptionOptions)
     → None ≡ first_refusal (client_conditions s.sessions id) → is_subscription text ≡ true
     → (is_some (share_of text) && options.no_local) ≡ true
@@ -235,6 +247,8 @@ subscribe-shared s id text options h f e =
     ∙ ap (λ v. first_refusal ((v, SharedNoLocal) ∷ []))
     (sym (ap (λ b. b && options.no_local) (shared-is text)) ∙ e))
 
+-- an accepted subscribe is done: it is sent its retained copies, granted its QoS, and
+-- stands among the subscriptions
 pub subscribe-does : (s : State) (id text : Text) (options : SubscriptionOptions)
     (subs : SubscriptionsView) (reply : Reply)
     → None ≡ first_refusal (client_conditions s.sessions id) → is_subscription text ≡ true
@@ -269,6 +283,7 @@ subscribe-does s id text options subs reply h f e r xs keys = record {
   };
 }
 
+-- a subscribe that doesn't ask for retained messages is sent none
 pub sent-none : (s : State) (new : Subscription) → asks_for_retained s.subscriptions new ≡ false
     → copies_sent s new ≡ []
 sent-none s new e =
@@ -286,6 +301,7 @@ sent-some s new alone is e =
     new else []) e
     ∙ ap (retained_copies s.moment s.access (user_of s.sessions new.client) s.retained) (sym is)
 
+-- an unsubscribe is refused as the conditions on its client say
 pub unsubscribe-client : (s : State) (id text : Text) (r : Refusal)
     → Some r ≡ first_refusal (client_conditions s.sessions id)
     → Refuses (world_of s) (Unsubscribe id text) r
@@ -294,6 +310,7 @@ unsubscribe-client s id text r h =
     inr (first-refused (client_conditions s.sessions id)
     ((not (is_subscription text), TopicFilter) ∷ []) r h)
 
+-- where its client passes, an unsubscribe is refused for a bad filter, or for lack of memory
 pub unsubscribe-filter : (s : State) (id text : Text) (r : Refusal)
     → None ≡ first_refusal (client_conditions s.sessions id) → (r ≡ Memory)
     ⊎ ((r ≡ TopicFilter) × (is_subscription text ≡ false))
@@ -302,6 +319,7 @@ unfolding refusal
 unsubscribe-filter s id text r h why =
     refused-behind (client_conditions s.sessions id) [] r TopicFilter (is_subscription text) h why
 
+-- an accepted unsubscribe is done: the subscription goes, and it is told if there was one
 pub unsubscribe-does : (s : State) (id text : Text) (subs : SubscriptionsView) (reply : Reply)
     → None ≡ first_refusal (client_conditions s.sessions id) → is_subscription text ≡ true
     → reply ≡ reason (if list_any (has_key id (share_of text) (filter_part text)) s.subscriptions
@@ -342,6 +360,7 @@ write_condition s m = (
   NotAuthorized,
 ) ∷ full_condition s m
 
+-- a publish is refused as the conditions on its publisher say
 pub publish-client : (s : State) (m : Message) (r : Refusal)
     → Some r ≡ first_refusal (client_conditions s.sessions m.publisher)
     → Refuses (world_of s) (Publish m) r
@@ -350,6 +369,7 @@ publish-client s m r h =
     inr (first-refused (client_conditions s.sessions m.publisher)
     ((not (is_name m.topic), TopicName) ∷ write_condition s m) r h)
 
+-- where its publisher passes, a publish is refused for a bad topic, or for lack of memory
 pub publish-name : (s : State) (m : Message) (r : Refusal)
     → None ≡ first_refusal (client_conditions s.sessions m.publisher) → (r ≡ Memory)
     ⊎ ((r ≡ TopicName) × (is_name m.topic ≡ false)) → Refuses (world_of s) (Publish m) r
@@ -357,6 +377,7 @@ unfolding refusal
 publish-name s m r h why = refused-behind (client_conditions s.sessions m.publisher)
     (write_condition s m) r TopicName (is_name m.topic) h why
 
+-- where publisher and topic pass, a publish is refused if the publisher may not write there
 pub publish-write : (s : State) (m : Message)
     → None ≡ first_refusal (client_conditions s.sessions m.publisher) → is_name m.topic ≡ true
     → allowed s.access m.publisher (user_of s.sessions m.publisher) m.topic Writing ≡ false
@@ -368,6 +389,7 @@ publish-write s m h n e =
     ∙ hit (allowed s.access m.publisher (user_of s.sessions m.publisher) m.topic Writing)
     NotAuthorized (full_condition s m) e)
 
+-- where it may be written, a publish is refused if there is no room to retain its message
 pub publish-full : (s : State) (m : Message)
     → None ≡ first_refusal (client_conditions s.sessions m.publisher) → is_name m.topic ≡ true
     → allowed s.access m.publisher (user_of s.sessions m.publisher) m.topic Writing ≡ true
@@ -380,6 +402,7 @@ publish-full s m h n e full =
     NotAuthorized (full_condition s m) e
     ∙ ap (λ b. first_refusal ((b, RetainedFull) ∷ [])) full)
 
+-- a publish is accepted if its publisher and its topic pass, it may write, and there is room
 pub publish-accepted : (s : State) (m : Message)
     → None ≡ first_refusal (client_conditions s.sessions m.publisher) → is_name m.topic ≡ true
     → allowed s.access m.publisher (user_of s.sessions m.publisher) m.topic Writing ≡ true
@@ -392,6 +415,8 @@ publish-accepted s m h n e room =
     NotAuthorized (full_condition s m) e
     ∙ ap (λ b. first_refusal ((b, RetainedFull) ∷ [])) room
 
+-- an accepted publish is done: copies are sent, others wait, members served go last in
+-- their groups, and retained messages change as it says
 pub publish-does : (s : State) (m : Message) (sessions : List Session) (subs : SubscriptionsView)
     (kept : RetainedView) (reply : Reply) → refusal (world_of s) (Publish m) ≡ None
     → reply ≡ publish_reply (copies_now s m)
@@ -433,12 +458,14 @@ publish-does s m sessions subs kept reply accepted r ss xs keys rs filed = recor
 
 -- ## Access lists
 
+-- an access list is refused for its faulty line, or for lack of memory
 pub set_acl-refused : (s : State) (text : Option Text) (r : Refusal) → (r ≡ Memory)
     ⊎ (option_map (λ line. AclLine line) (faulty_line text) ≡ Some r)
     → Refuses (world_of s) (SetAcl text) r
 unfolding refusal
 set_acl-refused s text r why = why
 
+-- an access list without a faulty line, or none, is set; nothing else changes
 pub set_acl-does : (s : State) (text : Option Text) (reply : Reply) → faulty_line text ≡ None
     → reply ≡ reason 0 → Does s (SetAcl text) reply (record s { access = access_of text })
 unfolding refusal
@@ -470,6 +497,7 @@ is_above a b h = grind (arith, nat_tests)
 not_above : (a b : ℕ) → b ≤ a → nat_lt a b ≡ false
 not_above a b h = grind (arith, nat_tests)
 
+-- the clock can't go beyond the last moment
 pub advance-refused : (s : State) (seconds : ℕ) → last_moment < s.moment + seconds
     → Refuses (world_of s) (Advance seconds) ClockTooFar
 unfolding refusal
@@ -477,6 +505,8 @@ advance-refused s seconds h =
     inr (ap (λ b. first_refusal ((b, ClockTooFar) ∷ []))
     (is_above last_moment (s.moment + seconds) h))
 
+-- the clock goes on to no later than the last moment: sessions that have ended go, with their
+-- subscriptions, and so do retained messages that have expired
 pub advance-does : (s : State) (seconds moment : ℕ) (sessions : List Session)
     (subs : SubscriptionsView) (kept : RetainedView) (reply : Reply) → moment ≤ last_moment
     → moment ≡ s.moment + seconds → sessions
@@ -519,6 +549,7 @@ advance-does s seconds moment sessions subs kept reply within m ss xs keys rs fi
 
 -- ## Counts
 
+-- a stat is done if it tells the counts; it changes nothing
 pub stat-does : (s : State) (reply : Reply)
     → reply ≡ record { copies = []; outcome = counts_now s } → Does s Stat reply s
 unfolding refusal

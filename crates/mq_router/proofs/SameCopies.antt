@@ -44,6 +44,7 @@ direct_copy-same access xs ys m id user same =
     (length-SameElements ox oy options)
     ∙ ap (λ k. if not (length oy == 0) && able then Some k else None) copy
 
+-- the copies for clients in their own name don't depend on the order of subscriptions
 pub direct_copies-same : (access : Option (List AclRow)) (sessions : List Session)
     (xs ys : List Subscription) (m : Message) → SameElements xs ys
     → direct_copies access sessions xs m ≡ direct_copies access sessions ys m
@@ -62,6 +63,7 @@ waiting_copy-same limit access xs ys m s same =
     ap (λ o. if has_room limit s then option_and_then with_qos o else None)
     (direct_copy-same access xs ys m s.id s.user same)
 
+-- whether a copy begins to wait doesn't depend on the order of subscriptions
 pub begins_to_wait-same : (limit : ℕ) (access : Option (List AclRow)) (sessions : List Session)
     (xs ys : List Subscription) (m : Message) → SameElements xs ys
     → begins_to_wait limit access sessions xs m ≡ begins_to_wait limit access sessions ys m
@@ -71,6 +73,7 @@ begins_to_wait-same limit access sessions xs ys m same =
     (λ s. is_some (waiting_copy limit access ys m s))
     (λ s. ap is_some (waiting_copy-same limit access xs ys m s same)) sessions
 
+-- the sessions after a publish don't depend on the order of subscriptions
 pub waiting_after-same : (limit : ℕ) (access : Option (List AclRow)) (sessions : List Session)
     (xs ys : List Subscription) (now : ℕ) (m : Message) → SameElements xs ys
     → map (waiting_after limit access xs now m) sessions

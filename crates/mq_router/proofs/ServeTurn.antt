@@ -164,6 +164,7 @@ restamped_in n g ss (r ∷ rows) =
 
 -- ## The world after a publish
 
+-- new stamps change no subscription
 pub restamped-told : (n : ℕ) (ss rows : List Row) → told (map (restamp n ss) rows) ≡ told rows
 restamped-told n ss [] = refl
 restamped-told n ss (r ∷ rows) =
@@ -313,6 +314,7 @@ restamped_above n ss r (o ∷ rows) h = (
     of x = elim (is_among ss x) as (λ b. (if b then stamped n x else x).subscription
         ≡ x.subscription) [ true ↦ refl | false ↦ refl ]
 
+-- new stamps leave rows in their order
 pub restamped-sorted : (n : ℕ) (ss rows : List Row) → IsStrictlySortedBy row_cmp rows
     → IsStrictlySortedBy row_cmp (map (restamp n ss) rows)
 unfolding IsStrictlySortedBy
@@ -320,6 +322,7 @@ restamped-sorted n ss [] s = tt
 restamped-sorted n ss (r ∷ rows) s =
     (restamped_above n ss r rows s.0, restamped-sorted n ss rows s.1)
 
+-- if all stamps are below a number, then all are below the next when some rows get it
 pub restamped-below : (n : ℕ) (ss rows : List Row) → StampsBelow n rows
     → StampsBelow (n + 1) (map (restamp n ss) rows)
 restamped-below n ss [] h = tt

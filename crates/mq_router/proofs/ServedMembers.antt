@@ -275,6 +275,8 @@ pairs_apart h ats T e (share ∷ shares) =
     ∙ ap (λ l. filter_map h (pairs ats share) ++ l) (pairs_apart h ats T e shares)
     ∙ sym (filter_map-append h (pairs ats share) (all_pairs ats shares))
 
+-- members gathered in the order of share names, for each the ones in turn at the filters
+-- found, are those that the message serves
 pub served-members : (access : Option (List AclRow)) (sessions : List Session) (m : Message)
     (found : List At) (served : List Turn) → AreAtFilters m.topic found
     → AreAscending (shares_of served)

@@ -38,6 +38,7 @@ identifiers-both (x ∷ xs) ys =
       | Some n ↦ ap (λ l. n ∷ l) rest
     ]
 
+-- the summary of two lists of options is made of those of each
 pub summary_of-append : (xs ys : List SubscriptionOptions)
     → summary_of (xs ++ ys) ≡ together (summary_of xs) (summary_of ys)
 summary_of-append xs ys = same_summary _ _ _ _ _ _ (greatest-both xs ys)
@@ -49,6 +50,7 @@ pub summarized : (os : List SubscriptionOptions) (s : Summary) → summary_for o
 summarized [] s h = absurd (none_some h)
 summarized (o ∷ os) s h = (sym (some_pass (length os)), sym (some_same h))
 
+-- who has no summary has no options
 pub unsummarized : (os : List SubscriptionOptions) → summary_for os ≡ None
     → not (length os == 0) ≡ false
 unsummarized [] h = refl

@@ -271,6 +271,7 @@ part true false false d = refl
 part false b true d = refl
 part false b false d = refl
 
+-- to find a client's options that take part, the subscriptions that match are enough
 pub options-matching : (m : Message) (id : Text) (xs : List Subscription)
     → gives_options m id (filter (λ s. filter_matches s.filter m.topic) xs) ≡ options_for xs m id
 options-matching m id xs =

@@ -505,6 +505,7 @@ refused-refuses old request r why w h =
       | inr refused ↦ inr (sym (refusal-held old w (holds-rows old w h.0) request) ∙ refused)
     ]
 
+-- a request that is applied to the state is answered for each world it stands for
 pub applied_answers : (old : State) (told request : Request) (result : Result Answer Refusal)
     (new : State) → told ≡ request → Applied old told result new → AnswersFor old request result new
 applied_answers old told request result new is done =
@@ -515,6 +516,7 @@ applied_answers old told request result new is done =
     each (Ok a) d = λ w h. done-answers old told (reply_of a) new d w h
     each (Err r) why = λ w h. refused-refuses old told r why w h
 
+-- steps that are counted by the state are those of each world it stands for
 pub applied_counts : (old : State) (told request : Request) (result : Result Answer Refusal)
     (before now : ℕ) → told ≡ request → CountsSteps old told result before now
     → CountsFor old request result before now
@@ -527,6 +529,7 @@ applied_counts old told request result before now is done =
     each (Ok a) adds = λ w h. adds ∙ ap (λ n. before + n) (steps-held old w h.0 told)
     each (Err r) adds = λ w h. adds
 
+-- a request that takes no steps leaves their number as it was
 pub none_counted : (old : State) (told request : Request) (result : Result Answer Refusal) (n : ℕ)
     → told ≡ request → steps_to old told ≡ 0 → CountsFor old request result n n
 none_counted old told request result n is none =

@@ -60,6 +60,7 @@ Stopped-grown a b w g ys fault.Memory h = WritesLines-grown a b w g ys h
 
 -- ## A text without a line feed
 
+-- a text without a line feed joins the line that is kept: no line ends, and nothing is written
 pub Told-text : (w : World) (g xs : List ℕ) (n : ℕ) (p q : Progress) (a b : Option (List ℕ))
     → kept ≡ n → pieces xs ≡ xs ∷ [] → Told w g p a b
     → q.router ≡ p.router → q.summary ≡ p.summary

@@ -33,6 +33,7 @@ TakesBytes-then p q r xs ys a b c s t = λ w given start told.
     subst (λ (l : List ℕ). Told w l r start c) (append_assoc given xs ys)
     (t w (given ++ xs) start (s w given start told))
 
+-- bytes without a line feed are taken where they just join the line, as far as it is kept
 pub TakesBytes-text : (p q : Progress) (xs : List ℕ) (n : ℕ) (a : Option (List ℕ)) → kept ≡ n
     → pieces xs ≡ xs ∷ []
     → q.router ≡ p.router → q.summary ≡ p.summary

@@ -109,6 +109,7 @@ module _ (x s : Subscription) where
 
 -- ## Some that leave
 
+-- once those that pass a test of keys are out, a key is there if it was and doesn't pass the test
 pub any-left : (test : Text → Option Text → Text → Bool) (s : Subscription)
     (rows : List Subscription) → list_any (same_key s)
     (filter (λ r. not (test r.client r.share r.filter)) rows)
@@ -118,6 +119,7 @@ any-left test s rows =
     (not (test s.client s.share s.filter))
     (λ r h. ap not (key_then test s r h)) rows
 
+-- a key is there just where it was, after the subscriptions with some key went last
 pub any-turned : (x s : Subscription) (new rows : List Subscription)
     → SameInTurn new (put_last (same_key x) rows)
     → list_any (same_key s) new ≡ list_any (same_key s) rows
@@ -132,6 +134,7 @@ Lists = List (Text × List FilterKey)
 abbrev AreLive : Lists → Type 0
 AreLive lists = AllByRecursion (λ l. is_empty l.1 ≡ false) lists
 
+-- a subscription joins both the tree and the lists, each well formed after it: they agree again
 pub listed-joined : (x : Subscription) (old new : AtEntries) (before after : Lists)
     → AreListed old before → AreEntries new → SameInTurn (all_rows new) (upsert x (all_rows old))
     → ((s : Subscription) → is_listed after s
@@ -154,6 +157,7 @@ listed-again x old lists h found s =
     ∙ sym (ap (λ b. b || is_listed lists s) t))
     (λ f. sym (ap (λ b. b || is_listed lists s) f))
 
+-- a key leaves both the tree and the lists, each well formed after it: they agree again
 pub listed-left : (client : Text) (k : FilterKey) (old new : AtEntries) (before after : Lists)
     → AreListed old before → AreEntries new → all_rows new
     ≡ filter (λ s. not (has_key client k.0 k.1 s)) (all_rows old)
@@ -206,6 +210,7 @@ listed-undone client k old new before added after h same absent adds drops live 
         (same_text s.filter k.1) t).1)
         ∙ absent
 
+-- where a subscription goes last in the tree, which stays well formed, the lists agree as they were
 pub listed-turned : (x : Subscription) (old new : AtEntries) (lists : Lists) → AreListed old lists
     → AreEntries new → SameInTurn (all_rows new) (put_last (same_key x) (all_rows old))
     → AreListed new lists
@@ -257,6 +262,7 @@ leaving c ls v (s ∷ rows) found h =
     no : same_text s.client c ≡ false → leaves c v s ≡ not (same_text s.client c)
     no f = ap (λ b. not (b && is_in_list v s)) f ∙ ap not (sym f)
 
+-- where tree and lists agree, what is in a client's list is all that the client has
 pub all-leave : (c : Text) (ls : ClientLists) (v : List FilterKey) (old : AtEntries)
     → lookup (finds c) ls ≡ Some v → AreListed old (texts ls)
     → filter (leaves c v) (all_rows old) ≡ filter (λ s. not (same_text s.client c)) (all_rows old)
@@ -287,6 +293,8 @@ others : (a b o : Bool) → a ≡ b → (if a then false else o) ≡ (not b && o
 others true b o e = ap (λ v. not v && o) e
 others false b o e = ap (λ v. not v && o) e
 
+-- a client's list goes, of lists in order, and all its subscriptions leave the tree, which stays
+-- well formed: the two agree again
 pub listed-gone : (c : Text) (ls : ClientLists) → IsStrictlySortedBy key_cmp (keys_of ls)
     → (v : List FilterKey) (out : ClientLists) → lookup (finds c) ls ≡ Some v
     → out ≡ remove_entry (finds c) ls → (old new : AtEntries) → AreListed old (texts ls)

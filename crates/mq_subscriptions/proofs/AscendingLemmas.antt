@@ -50,6 +50,7 @@ all_far : (s t : Text) → text_cmp s t ≡ Less → (us : List Text)
 all_far s t less us h = all_weaker (λ u. is_lt (text_cmp u t) ≡ false) (λ u. text_cmp s u ≡ Less)
     (λ u. greater_far s t u less) us h
 
+-- what is true of each text is true of each when they are put in order
 pub all-in_order : (P : Text → Type 0) (ts : List Text) → AllByRecursion P ts
     → AllByRecursion P (in_order text_cmp ts)
 all-in_order P [] h = tt

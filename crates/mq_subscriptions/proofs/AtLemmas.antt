@@ -38,6 +38,7 @@ use Rattle.mq_world.specs.declared.options.SubscriptionOptions as held
 use Rattle.std.proofs.lemmas.List.{append-nil}
 use Rattle.std.proofs.Math.Bool.{or-false}
 
+-- a share name, or none, is the same as itself
 pub same_share-itself : (a : Option Text) → same_share a a ≡ true
 same_share-itself None = refl
 same_share-itself (Some a) = same_text-itself a
@@ -46,11 +47,13 @@ and_both : (a b c : Bool) → b ≡ true → c ≡ true → (a && b && c) ≡ a
 and_both true b c h k = rw (h, k) refl
 and_both false b c h k = refl
 
+-- under its share name and filter, a row has the key of its member's client, and of no other
 pub own_key : (share : Option Text) (f c : Text) (m : Member)
     → has_key c share f (row share f m) ≡ has_client c m
 own_key share f c m = and_both (same_text m.0 c) (same_share share share) (same_text f f)
     (same_share-itself share) (same_text-itself f)
 
+-- a subscription has its own key
 pub own_key_is : (s : Subscription) → has_key s.client s.share s.filter s ≡ true
 own_key_is s = and_both (same_text s.client s.client) (same_share s.share s.share)
     (same_text s.filter s.filter) (same_share-itself s.share) (same_text-itself s.filter)
@@ -80,6 +83,7 @@ rows_of f g = map (row (Some g.0) f) g.1
 abbrev IsLive : Text × List Member → Type 0
 IsLive g = is_empty g.1 ≡ false
 
+-- a group with another share name has no row with a subscription's key, and none in its group
 pub group_unlike : (f bs : Text) (s : Subscription) → s.share ≡ Some bs → (e : Text × List Member)
     → IsLive e → is_text bs e.0 ≡ false → AllByRecursion (Unlike s) (rows_of f e)
 group_unlike f bs s own e live h = go e.1
@@ -91,6 +95,7 @@ group_unlike f bs s own e live h = go e.1
       go ms,
     )
 
+-- a list in which an element took its place has an element
 pub with_one-live : {X : Type 0} (p : X → Bool) (x : X) (xs : List X)
     → is_empty (with_one p x xs) ≡ false
 with_one-live p x [] = refl
@@ -100,6 +105,7 @@ append-live : {X : Type 0} (xs : List X) (y : X) (ys : List X) → is_empty (xs 
 append-live [] y ys = refl
 append-live (x ∷ xs) y ys = refl
 
+-- a list that is not empty still isn't after those that pass a test went last
 pub put_last-live : {X : Type 0} (p : X → Bool) (xs : List X) → is_empty xs ≡ false
     → is_empty (put_last p xs) ≡ false
 put_last-live p [] h = h
@@ -365,6 +371,7 @@ module _ (f bs : Text) (o : held.SubscriptionOptions) (es : List (Key × held.Su
       (flat_map (one_row f) (insert_entry text_cmp (texts es) bs o)) (upsert mine l))
       (sym (rows-flat f (texts es))) flat)
 
+-- where entries are in order, to remove a client's entry is to filter out its own row
 pub direct-left : (f bs : Text) (es new : List (Key × held.SubscriptionOptions))
     → IsStrictlySortedBy key_cmp (keys_of es) → new ≡ remove_entry (finds bs) es
     → direct_rows f (texts new) ≡ filter (λ x. not (has_key bs None f x)) (direct_rows f (texts es))
@@ -446,6 +453,7 @@ module _ (f c share : Text) where
       ∙ ap (λ l. filter (λ x. not (same_key s1 x)) (direct_rows f d ++ l))
       (append-nil (group_rows f gs))
 
+-- a client's own key leaves all rows at the filter as it leaves the own ones: no group has it
 pub at-left-own : (f c : Text) (d new : List Member) (gs : List (Text × List Member))
     → direct_rows f new ≡ filter (λ x. not (has_key c None f x)) (direct_rows f d)
     → direct_rows f new ++ group_rows f gs ≡ filter (λ x. not (has_key c None f x))
@@ -477,6 +485,7 @@ pub is_here : (f : Text) (d : List Member) (gs : GroupList) (a : At)
     → record { filter = f; rows = direct_rows f d ++ group_rows f gs } ≡ a → AreHere a
 is_here f d gs a e = subst AreHere e (here-is f d gs)
 
+-- a client is found among the entries just where it has an own row at the filter
 pub direct-any : (f bs : Text) (es : List (Key × held.SubscriptionOptions))
     → is_some (lookup (finds bs) es) ≡ list_any (has_key bs None f) (direct_rows f (texts es))
 direct-any f bs es =
@@ -488,6 +497,7 @@ direct-any f bs es =
     (λ m. has_key bs None f (row None f m)) es)
     ∙ sym (list_any-map (row None f) (has_key bs None f) (texts es))
 
+-- a client's own key is at the filter just where it is among the own rows
 pub at-any-own : (f c : Text) (d : List Member) (gs : List (Text × List Member))
     → list_any (has_key c None f) (direct_rows f d)
     ≡ list_any (has_key c None f) (direct_rows f d ++ group_rows f gs)
@@ -498,6 +508,7 @@ at-any-own f c d gs =
     (any-none (same_key s) (group_rows f gs) (none_same s _ (all_shared f s refl gs)))
     ∙ or-false (list_any (same_key s) (direct_rows f d)))
 
+-- a key with a share name is at the filter just where it is among the rows of groups
 pub at-any-shared : (f c share : Text) (d : List Member) (gs : List (Text × List Member))
     → list_any (has_key c (Some share) f) (group_rows f gs)
     ≡ list_any (has_key c (Some share) f) (direct_rows f d ++ group_rows f gs)
@@ -523,6 +534,7 @@ pub bare-is : (f : Text) (d : List (Key × held.SubscriptionOptions)) (gs : Grou
 bare-is f [] gs b h e = h
 bare-is f (m ∷ d) gs b h e = absurd (let no : suc (length d) ≡ 0 = e in cc)
 
+-- where some client subscribes in its own name, the filter has a row
 pub not_bare : (f : Text) (d : List (Key × held.SubscriptionOptions))
     (gs : List (Text × List Member)) → (length d ≡ 0 → ⊥)
     → false ≡ is_empty (direct_rows f (texts d) ++ group_rows f gs)

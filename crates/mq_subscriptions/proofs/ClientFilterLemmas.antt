@@ -25,6 +25,7 @@ use Rattle.mq_world.proofs.OrderLemmas.{same_share-is, same_text-is, same_text-i
 use Rattle.mq_world.proofs.BoolLemmas.{or_again}
 use Rattle.mq_subscriptions.proofs.AtLemmas.{same_share-itself}
 
+-- whether share names, or none, are the same doesn't depend on which one comes first
 pub flip_share : (a b : Option Text) → same_share a b ≡ same_share b a
 flip_share a b = both_ways (same_share a b) (same_share b a)
     (λ t. ap (λ v. same_share v a) (sym (same_share-is a b t)) ∙ same_share-itself a)
@@ -39,6 +40,7 @@ keys_in ks = map key_in ks
 tied-keys : (k x : Key) → key_cmp k x ≡ Equal → key_in k ≡ key_in x
 tied-keys k x h = ap text_key (key_text (rc_str_bytes k) (rc_str_bytes x) (ap is_eq h))
 
+-- once a text joined, a subscription is listed if it was, or if it has the text's share and filter
 pub own-insert : (k : Key) (ks : List Key) (s : Subscription)
     → is_in_list (keys_in (insert_key key_cmp ks k)) s
     ≡ (has_filter_key s (key_in k) || is_in_list (keys_in ks) s)
@@ -118,6 +120,8 @@ any_left s text valid (x ∷ xs) asked =
     (list_any p (filter (λ k. not (is_text text (rc_str_bytes k))) xs))
     (named s text x valid asked.0) (any_left s text valid xs asked.1)
 
+-- a subscription's text leaves texts in order, each a subscription's: what is listed still is what
+-- was, but for that share name and filter
 pub own-remove : (text : Text) (ks : List Key) → is_subscription text ≡ true
     → AllByRecursion IsAsked ks → IsStrictlySortedBy key_cmp ks → (s : Subscription)
     → is_in_list (keys_in (remove_key (λ k. is_text text (rc_str_bytes k)) ks)) s
@@ -133,6 +137,7 @@ own-remove text ks valid asked sorted s =
 
 -- ## The texts stay a subscription's each
 
+-- each text is still a subscription's after the text of one joined
 pub asked-insert : (k : Key) (ks : List Key) → IsAsked k → AllByRecursion IsAsked ks
     → AllByRecursion IsAsked (insert_key key_cmp ks k)
 asked-insert k [] h asked = (h, tt)
@@ -144,6 +149,7 @@ asked-insert k (x ∷ xs) h asked = elim (key_cmp k x)
       | Greater ↦ (asked.0, asked-insert k xs h asked.1)
     ]
 
+-- each text is still a subscription's after one was taken out
 pub asked-remove : (test : Key → Bool) (ks : List Key) → AllByRecursion IsAsked ks
     → AllByRecursion IsAsked (remove_key test ks)
 asked-remove test [] asked = asked

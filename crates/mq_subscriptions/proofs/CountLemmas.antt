@@ -14,6 +14,7 @@ use Rattle.mq_subscriptions.specs.Filters.{GroupList, all_rows}
 use Rattle.mq_subscriptions.specs.Views.{texts}
 use Rattle.mq_world.specs.declared.options.SubscriptionOptions.{SubscriptionOptions}
 
+-- the groups at a filter have as many rows as members, all together
 pub group-number : (f : Text) (groups : List (Key × List Member))
     → length (group_rows f (texts groups)) ≡ sum_by length (values_of groups)
 group-number f [] = refl
@@ -22,6 +23,7 @@ group-number f (g ∷ groups) =
     ∙ ap₂ (λ a b. a + b) (length-map g.1 (row (Some (rc_str_bytes g.0)) f)) (group-number f groups)
     ∙ sym (sum_by-cons length g.1 (values_of groups))
 
+-- the rows at a filter are as many as the own entries and the rows of groups together
 pub at-number : (f : Text) (direct : List (Key × SubscriptionOptions)) (groups : GroupList)
     → length (direct_rows f (texts direct) ++ group_rows f groups) ≡ length direct
     + length (group_rows f groups)
@@ -30,5 +32,6 @@ at-number f direct groups =
     ∙ ap (λ n. n + length (group_rows f groups)) (length-map (texts direct) (row None f)
     ∙ length-map direct (λ e. (rc_str_bytes e.0, e.1)))
 
+-- all rows are as many as those of each entry, summed
 pub all-number : (es : AtEntries) → length (all_rows es) ≡ sum_by (λ e. length e.1.rows) es
 all-number es = length-flat_map (λ (e : List Text × At). e.1.rows) es

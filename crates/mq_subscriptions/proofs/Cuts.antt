@@ -18,11 +18,13 @@ use Rattle.mq_subscriptions.proofs.InTurn.{Unlike, same-is, same-then, none_same
 use Rattle.mq_subscriptions.proofs.InTurn.{turned-among, joined-among}
 use Rattle.mq_world.proofs.ListLemmas.{any-append}
 
+-- what is true of each in two lists together is true of each in the first
 pub all_front : {X : Type 0} (P : X → Type 0) (xs ys : List X) → AllByRecursion P (xs ++ ys)
     → AllByRecursion P xs
 all_front P [] ys h = tt
 all_front P (x ∷ xs) ys h = (h.0, all_front P xs ys h.1)
 
+-- and of each in the second
 pub all_back : {X : Type 0} (P : X → Type 0) (xs ys : List X) → AllByRecursion P (xs ++ ys)
     → AllByRecursion P ys
 all_back P [] ys h = h

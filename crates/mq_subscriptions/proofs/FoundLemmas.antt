@@ -31,6 +31,7 @@ all_alike topic f false (x ∷ xs) h e =
     ap (λ v. cond v (x ∷ rest) rest) (ap (λ g. filter_matches g topic) h.0 ∙ e)
     ∙ all_alike topic f false xs h.1 e
 
+-- in a well-formed tree, what is found for a name has just the rows whose filters match it
 pub found-rows : (topic : Text) (es : AtEntries) → AllEntries es
     → flat_map (λ (a : At). a.rows) (found_for topic es)
     ≡ filter (λ s. filter_matches s.filter topic) (all_rows es)
@@ -112,6 +113,7 @@ all_match topic (e ∷ es) h =
       | false ↦ λ t. all_match topic es h.1
     ]) refl
 
+-- what a tree in order has for a name is in level order, each to its filter, and all of it matches
 pub found-order : (topic : Text) (es : AtEntries) → AllEntries es
     → IsStrictlySortedBy level_order (keys_of es) → AreAtFilters topic (found_for topic es)
 found-order topic es h s =

@@ -19,12 +19,15 @@ use Rattle.mq_world.proofs.OrderLemmas.{length-filter-append, same_text-is, same
 
 -- ## The same in turn
 
+-- a list is the same in turn as itself
 pub same-itself : (xs : List Subscription) → SameInTurn xs xs
 same-itself xs = record { elements = λ p. refl; members = λ g. refl }
 
+-- equal lists are the same in turn
 pub same-is : (xs ys : List Subscription) → xs ≡ ys → SameInTurn xs ys
 same-is xs ys e = subst (λ (zs : List Subscription). SameInTurn xs zs) e (same-itself xs)
 
+-- where two lists are each the same in turn as the next, so is the first as the last
 pub same-then : (xs ys zs : List Subscription) → SameInTurn xs ys → SameInTurn ys zs
     → SameInTurn xs zs
 same-then xs ys zs h k = record {
@@ -33,6 +36,7 @@ same-then xs ys zs h k = record {
       λ g. h.members g ∙ k.members g;
 }
 
+-- lists whose parts are the same in turn are so as a whole
 pub same-append : (xs us ys vs : List Subscription) → SameInTurn xs us → SameInTurn ys vs
     → SameInTurn (xs ++ ys) (us ++ vs)
 same-append xs us ys vs h k = record {
@@ -45,6 +49,7 @@ same-append xs us ys vs h k = record {
       ∙ sym (filter-append (is_in_group g) us vs);
 }
 
+-- lists that are the same in turn still are after one test filters both
 pub same-filter : (q : Subscription → Bool) (xs ys : List Subscription) → SameInTurn xs ys
     → SameInTurn (filter q xs) (filter q ys)
 same-filter q xs ys h = record {
@@ -92,6 +97,7 @@ abbrev pub Unlike : Subscription → Subscription → Type 0
 Unlike s x = (same_key s x ≡ false)
     × ((g : Group) → is_in_group g s ≡ true → is_in_group g x ≡ false)
 
+-- a subscription to another filter has another key and is in no group of the first
 pub unlike-filter : (s x : Subscription) → same_text x.filter s.filter ≡ false → Unlike s x
 unlike-filter s x h = (
   and_right (same_text x.client s.client && same_share x.share s.share)
@@ -102,6 +108,7 @@ unlike-filter s x h = (
       (subst (λ (t : Text). same_text x.filter t ≡ false) here h),
 )
 
+-- so it is where the share names differ, or only one has one
 pub unlike-share : (s x : Subscription) → same_share x.share s.share ≡ false → Unlike s x
 unlike-share s x h = (
   ap (λ b. b && same_text x.filter s.filter)
@@ -113,6 +120,7 @@ unlike-share s x h = (
       (subst (λ (t : Option Text). same_share x.share t ≡ false) here h),
 )
 
+-- and where the first is in a client's own name, and the other is another client's
 pub unlike-own : (s x : Subscription) → s.share ≡ None → same_text x.client s.client ≡ false
     → Unlike s x
 unlike-own s x own h = (
@@ -145,6 +153,7 @@ none_grouped s g e (x ∷ xs) h =
     ap (λ b. cond b (x ∷ filter (is_in_group g) xs) (filter (is_in_group g) xs)) (h.0.1 g e)
     ∙ none_grouped s g e xs h.1
 
+-- none that is unlike a subscription has its key
 pub none_same : (s : Subscription) (xs : List Subscription) → AllByRecursion (Unlike s) xs
     → AllByRecursion (λ x. same_key s x ≡ false) xs
 none_same s [] h = tt
@@ -152,6 +161,7 @@ none_same s (x ∷ xs) h = (h.0.0, none_same s xs h.1)
 
 -- ## A change in the middle
 
+-- where only the middle passes a test, to filter that out of the middle is to filter it out of all
 pub removed-among : (p : Subscription → Bool) (front mid new back : List Subscription)
     → AllByRecursion (λ x. p x ≡ false) front → AllByRecursion (λ x. p x ≡ false) back
     → new ≡ filter (λ x. not (p x)) mid → front ++ (new ++ back)
@@ -186,6 +196,7 @@ middle front mid new back h =
     same-append front front (new ++ back) (mid ++ back) (same-itself front)
     (same-append new mid back back h (same-itself back))
 
+-- with none like it around, a subscription that goes last in the middle goes last in all, in turn
 pub turned-among : (s : Subscription) (front mid new back : List Subscription)
     → AllByRecursion (Unlike s) front → AllByRecursion (Unlike s) back
     → SameInTurn new (put_last (same_key s) mid)
@@ -232,6 +243,7 @@ turned-among s front mid new back h k e =
           | false ↦ λ e. none_of g f xs
         ]) refl
 
+-- where none has its key, a subscription takes no one's place
 pub map-kept : (s : Subscription) (xs : List Subscription)
     → AllByRecursion (λ x. same_key s x ≡ false) xs
     → map (λ x. if same_key s x then s else x) xs ≡ xs
@@ -240,6 +252,7 @@ map-kept s (x ∷ xs) h =
     ap (λ b. (if b then s else x) ∷ map (λ y. if same_key s y then s else y) xs) h.0
     ∙ ap (λ l. x ∷ l) (map-kept s xs h.1)
 
+-- with none like it around, a subscription that joins the middle joins all, in turn
 pub joined-among : (s : Subscription) (front mid new back : List Subscription)
     → AllByRecursion (Unlike s) front → AllByRecursion (Unlike s) back
     → SameInTurn new (upsert s mid) → SameInTurn (front ++ (new ++ back))
@@ -286,6 +299,7 @@ stays_in s g x =
     → is_in_group g (if b then s else x) ≡ is_in_group g x in
     (elim (same_key s x) as P [ true ↦ λ e. sym (in_group_same s x g e) | false ↦ λ e. refl ]) refl
 
+-- lists that are the same in turn still are after a subscription joins both
 pub joined-same : (s : Subscription) (xs ys : List Subscription) → SameInTurn xs ys
     → SameInTurn (upsert s xs) (upsert s ys)
 joined-same s xs ys h =
@@ -296,6 +310,7 @@ joined-same s xs ys h =
     (same-map f (stays_in s) xs ys h)
     (same-is _ _ (ap last (list_any-SameElements (same_key s) xs ys h.elements)))
 
+-- and after those that pass a test go last in both
 pub put_last-same : (q : Subscription → Bool) (xs ys : List Subscription) → SameInTurn xs ys
     → SameInTurn (put_last q xs) (put_last q ys)
 put_last-same q xs ys h =
@@ -305,6 +320,7 @@ put_last-same q xs ys h =
 
 -- ## One among things that are seen as others
 
+-- where tests agree, what is seen of an element takes its place among what is seen of the others
 pub map-with_one : {X Y : Type 0} (f : X → Y) (p : X → Bool) (q : Y → Bool)
     → ((x : X) → q (f x) ≡ p x) → (x : X) (xs : List X)
     → map f (with_one p x xs) ≡ with_one q (f x) (map f xs)
@@ -336,6 +352,7 @@ map-with_one {X} {Y} f p q same x xs =
     anys [] = refl
     anys (y ∷ ys) = ap (λ b. b || list_any q (map f ys)) (same y) ∙ ap (λ b. p y || b) (anys ys)
 
+-- and what is seen of those that go last goes last
 pub map-put_last : {X Y : Type 0} (f : X → Y) (p : X → Bool) (q : Y → Bool)
     → ((x : X) → q (f x) ≡ p x) → (xs : List X) → map f (put_last p xs) ≡ put_last q (map f xs)
 map-put_last f p q same xs =
@@ -346,6 +363,7 @@ map-put_last f p q same xs =
     ∙ ap (λ l. filter (λ y. not (q y)) (map f xs) ++ l)
     (ap (map f) (filter-same p (λ x. q (f x)) (λ x. sym (same x)) xs) ∙ map-filter f q xs)
 
+-- lists that are the same in turn still are after the same subscriptions go last in both
 pub all_turned-same : (ss xs ys : List Subscription) → SameInTurn xs ys
     → SameInTurn (all_turned ss xs) (all_turned ss ys)
 all_turned-same [] xs ys h = h

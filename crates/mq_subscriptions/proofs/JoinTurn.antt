@@ -46,6 +46,7 @@ put-elements p r (o ∷ os) =
           (put-elements p r os ∙ length-filter-cons p r os))
     ]
 
+-- rows that are put in turn are the same elements
 pub turn-elements : (rows : List Row) → SameElements (by_turn rows) rows
 turn-elements [] = λ p. refl
 turn-elements (r ∷ rows) = λ p.
@@ -60,11 +61,13 @@ all-put P r (o ∷ os) h k =
     as (λ b. AllByRecursion P (cond b (r ∷ o ∷ os) (o ∷ put_in_turn r os)))
     [ true ↦ (h, k) | false ↦ (k.0, all-put P r os h k.1) ]
 
+-- what is true of each row is true of each of them in turn
 pub all-by_turn : (P : Row → Type 0) (rows : List Row) → AllByRecursion P rows
     → AllByRecursion P (by_turn rows)
 all-by_turn P [] h = tt
 all-by_turn P (r ∷ rows) h = all-put P r (by_turn rows) h.0 (all-by_turn P rows h.1)
 
+-- what is true of the subscription of each row is true of all subscriptions that rows tell
 pub told-all : (P : Subscription → Type 0) (rows : List Row)
     → AllByRecursion (λ r. P r.subscription) rows
     → AllByRecursion P (map (λ (r : Row). r.subscription) rows)
@@ -81,6 +84,7 @@ AreApart (row ∷ rows) = AllByRecursion (λ other. row.stamp ≢ other.stamp) r
 abbrev pub stamps : List Row → List ℕ
 stamps rows = map (λ (r : Row). r.stamp) rows
 
+-- rows whose stamps are distinct are apart
 pub apart-from : (rows : List Row) → IsDistinct nat_eq (stamps rows) → AreApart rows
 unfolding IsDistinct
 apart-from [] h = tt
@@ -91,6 +95,7 @@ apart-from (r ∷ rows) h = (go rows h.0, apart-from rows h.1)
     go [] k = tt
     go (o ∷ os) k = (λ e. true≢false (sym (eq-eqb r.stamp o.stamp e) ∙ k.0), go os k.1)
 
+-- and rows that are apart have distinct stamps
 pub apart-to : (rows : List Row) → AreApart rows → IsDistinct nat_eq (stamps rows)
 unfolding IsDistinct
 apart-to [] h = tt
@@ -115,6 +120,7 @@ all-insert : (P : Row → Type 0) (front : List Row) (x : Row) (back : List Row)
 all-insert P [] x back h k = (h, k)
 all-insert P (y ∷ front) x back h k = (k.0, all-insert P front x back h k.1)
 
+-- a row with a stamp above all others is put among rows that are apart: they all are
 pub apart-insert : (front : List Row) (x : Row) (back : List Row) → StampsBelow x.stamp front
     → StampsBelow x.stamp back → AreApart (front ++ back) → AreApart (front ++ x ∷ back)
 apart-insert [] x back h k a = (
@@ -127,6 +133,7 @@ apart-insert (y ∷ front) x back h k a = (
   apart-insert front x back h.1 k a.1,
 )
 
+-- rows that are apart are so after a filter
 pub apart-filter : (q : Row → Bool) (rows : List Row) → AreApart rows → AreApart (filter q rows)
 apart-filter q [] h = tt
 apart-filter q (r ∷ rows) h =

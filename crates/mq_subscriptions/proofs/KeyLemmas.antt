@@ -18,6 +18,7 @@ use Rattle.mq_world.proofs.OrderLemmas.{levels_total, equal_from}
 use Rattle.mq_world.proofs.SortedLemmas.{ties, same_sorted, sorted-in_order, any-in_order}
 use Rattle.mq_world.proofs.SortedLemmas.{same_in_order}
 
+-- levels that tie in level order are equal
 pub levels_tied : (x y : List (List ℕ)) → is_eq (level_order x y) ≡ true → x ≡ y
 levels_tied x y h = slice_cmp-IsAntisymmetric (slice_cmp-IsAntisymmetric nat_cmp-IsAntisymmetric) x
     y (equal_from _ h)
@@ -72,6 +73,7 @@ any_keys z (e ∷ es) h =
     ∙ ap (λ b. list_any (to z) e.1.rows || b) (any_keys z es h.1)
     ∙ sym (any-append (to z) e.1.rows (all_rows es))
 
+-- the keys of a well-formed tree are the filters of its subscriptions
 pub kept-keys : (es : AtEntries) → AreEntries es → AreKeys (entries_view es)
 kept-keys es kept =
     let filters : List (List (List ℕ)) =

@@ -47,6 +47,7 @@ nothing_leaves : (a : Bool) → not (a && false) ≡ true
 nothing_leaves true = refl
 nothing_leaves false = refl
 
+-- where the list of what leaves is empty, all rows stay
 pub none-leave : (c : Text) (rows : List Subscription) → filter (leaves c []) rows ≡ rows
 none-leave c rows = all_kept (leaves c []) (λ s. nothing_leaves (same_text s.client c)) rows
 
@@ -56,6 +57,7 @@ one_more true l true true = refl
 one_more true l true false = refl
 one_more true l false f = refl
 
+-- to take out one key and then what a list has is to take out what the list with that key has
 pub one-leaves : (c : Text) (k : FilterKey) (list : List FilterKey) (rows : List Subscription)
     → filter (leaves c list) (filter (λ s. not (has_key c k.0 k.1 s)) rows)
     ≡ filter (leaves c (k ∷ list)) rows
@@ -240,6 +242,7 @@ module _ (bs : Text) (k : FilterKey) (ls : List (Key × List FilterKey))
       nothing_in [] h = refl
       nothing_in (x ∷ l) h = absurd (true≢false (sym h))
 
+-- a client without a list gets one of a single key: listed then is that key, and what was
 pub added-first : (bs : Text) (k : FilterKey) (ls : List (Key × List FilterKey)) (name : Key)
     → rc_str_bytes name ≡ bs → lookup (is_text bs) (texts ls) ≡ None
     → (w : List FilterKey) (new : List (Key × List FilterKey)) → new
@@ -315,12 +318,14 @@ insert-live bs (e ∷ es) w h a =
       | Greater ↦ (a.0, insert-live bs es w h a.1)
     ]
 
+-- no list is empty after a client's list became one that isn't
 pub live-set : (bs : Text) (ls : List (Key × List FilterKey)) (w : List FilterKey)
     (new : List (Key × List FilterKey)) → new ≡ set_value (finds bs) ls w → is_empty w ≡ false
     → AreLive (texts ls) → AreLive (texts new)
 live-set bs ls w new set h a = subst (λ (l : Lists). AreLive l)
     (sym (ap texts set ∙ set_value-texts bs ls w)) (set-live (is_text bs) (texts ls) w h a)
 
+-- nor after a client's list became any other, and was removed
 pub live-out : (bs : Text) (ls : List (Key × List FilterKey)) (w : List FilterKey)
     (new out : List (Key × List FilterKey)) → new ≡ set_value (finds bs) ls w
     → out ≡ remove_entry (finds bs) new → AreLive (texts ls) → AreLive (texts out)
@@ -331,6 +336,7 @@ live-out bs ls w new out set gone a =
     ∙ ap (remove_entry (is_text bs)) (set_value-texts bs ls w)))
     (out-live (is_text bs) (texts ls) w a)
 
+-- nor after a list that isn't empty was inserted for a client
 pub live-begun : (ls : List (Key × List FilterKey)) (name : Key) (w : List FilterKey)
     (new : List (Key × List FilterKey)) → new ≡ insert_entry key_cmp ls name w → is_empty w ≡ false
     → AreLive (texts ls) → AreLive (texts new)

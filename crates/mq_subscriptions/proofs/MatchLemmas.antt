@@ -18,6 +18,7 @@ use Rattle.mq_world.proofs.ListLemmas.{map-filter}
 use Rattle.mq_subscriptions.specs.declared.subscriptions.matches.Match.{Match}
 use Rattle.mq_subscriptions.proofs.AscendingLemmas.{lt, ascending-sorted, stable-kept}
 
+-- matches that are sorted by client id show clients in ascending order
 pub sorted-matches : (ms : List Match)
     → IsSortedBy (lt (λ (x : Match). rc_str_bytes x.client.now)) ms → AreByClient (match_views ms)
 sorted-matches ms s = subst AreAscending
@@ -25,6 +26,7 @@ sorted-matches ms s = subst AreAscending
     (λ (x : Match). (rc_str_bytes x.client.now, options_of x.options)) ms))
     (ascending-sorted (λ (x : Match). rc_str_bytes x.client.now) ms s)
 
+-- a stable sort by client id keeps what each client's matches ask for, in their order
 pub stable-matches : (xs ys : List Match)
     → IsStableBy (lt (λ (x : Match). rc_str_bytes x.client.now)) xs ys → (id : Text)
     → options_among id (match_views ys) ≡ options_among id (match_views xs)
@@ -65,6 +67,7 @@ by_any m f (x ∷ ms) =
       | false ↦ by_any m f ms
     ]
 
+-- of those at a filter, only own members take part in their own name, whichever filter it is
 pub matches-at : (m : Message) (f : Text) (ds : List Member) (gs : List (Text × List Member))
     → unshared_matches m (direct_rows [] ds)
     ≡ unshared_matches m (direct_rows f ds ++ group_rows f gs)

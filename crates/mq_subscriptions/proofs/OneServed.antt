@@ -52,6 +52,7 @@ put_last-elements : (q : Subscription → Bool) (xs : List Subscription)
 put_last-elements q xs = λ p. length-filter-append p (filter (λ x. not (q x)) xs) (filter q xs)
     ∙ parted q p xs
 
+-- when some subscriptions go last, the elements stay the same
 pub turned-elements : (ss xs : List Subscription) → SameElements (all_turned ss xs) xs
 turned-elements [] xs = λ p. refl
 turned-elements (s ∷ ss) xs = λ p. turned-elements ss (put_last (same_key s) xs) p
@@ -111,6 +112,7 @@ pub record Among {X : Type 0} (x : X) (xs : List X) : Type 0 where
   pub back : List X
   pub is : xs ≡ front ++ x ∷ back
 
+-- what is found among the filtered elements of a list is among the list's
 pub found_among : {X : Type 0} (p q : X → Bool) (xs : List X) (x : X)
     → find p (filter q xs) ≡ Some x → Among x xs
 found_among p q [] x h = absurd (let no : ◌≡◌ {A = Option _} None (Some x) = h in cc)
@@ -131,6 +133,7 @@ found_among {X} p q (y ∷ xs) x h =
       | false ↦ λ k. later k
     ]) h
 
+-- what is true of each element is true of the one that is found
 pub found_passes : {X : Type 0} (P : X → Type 0) (p : X → Bool) (xs : List X) (x : X)
     → find p xs ≡ Some x → AllByRecursion P xs → P x
 found_passes P p [] x h a = absurd (let no : ◌≡◌ {A = Option _} None (Some x) = h in cc)

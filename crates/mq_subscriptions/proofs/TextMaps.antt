@@ -17,12 +17,15 @@ use Rattle.mq_subscriptions.specs.Views.{texts}
 use Rattle.mq_world.proofs.OrderLemmas.{equal_from}
 use Rattle.mq_sessions.proofs.SessionLemmas.{finds}
 
+-- the two ways to test whether texts are the same agree
 pub is_text-is : (bs k : Text) → is_text bs k ≡ same_text bs k
 is_text-is bs k = is_eq-slice_cmp bs k
 
+-- a key that is found to be a text equals it
 pub key_text : (bs k : Text) → is_text bs k ≡ true → bs ≡ k
 key_text bs k h = (bytes_eq-Decides bs k).0 (sym (is_text-is bs k) ∙ h)
 
+-- where one key is a text's, a greater one isn't
 pub text-apart : (bs x y : Text) → is_text bs x ≡ true → text_cmp x y ≡ Less → is_text bs y ≡ false
 text-apart bs x y h less = ap is_eq (nat_list_cmp_total.congr bs x y (equal_from _ h) ∙ less)
 

@@ -248,6 +248,7 @@ joined-live s [] ys h =
     absurd (nothing_left (upsert s ys) (with_one-live (same_key s) s ys) (h.elements (λ _. true)))
 joined-live s (x ∷ xs) ys h = refl
 
+-- nor is a list in which some went last, if it was not empty before
 pub turned-live : (q : Subscription → Bool) (xs ys : List Subscription)
     → SameInTurn xs (put_last q ys) → is_empty ys ≡ false → is_empty xs ≡ false
 turned-live q [] ys h live =

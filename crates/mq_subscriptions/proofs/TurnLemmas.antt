@@ -56,6 +56,7 @@ put-in_turn r (o ∷ os) s =
       )
     ]
 
+-- rows that are put in the order of their stamps are in turn
 pub by_turn-in_turn : (rs : List Row) → IsInTurn (by_turn rs)
 by_turn-in_turn [] = tt
 by_turn-in_turn (r ∷ rs) = put-in_turn r (by_turn rs) (by_turn-in_turn rs)
@@ -100,6 +101,7 @@ find-put able r (o ∷ os) s =
           ])
     ]
 
+-- the first row in turn that passes a test is the least of those that pass
 pub turn-is-least : (able : Row → Bool) (rows : List Row)
     → find able (by_turn rows) ≡ least (filter able rows)
 turn-is-least able [] = refl
@@ -114,6 +116,7 @@ turn-is-least able (r ∷ rows) =
 
 -- ## A new stamp goes last
 
+-- a row with a stamp above all of a list is put at its end
 pub put-last : (r : Row) (l : List Row) → StampsBelow r.stamp l → put_in_turn r l ≡ l ++ r ∷ []
 put-last r [] h = refl
 put-last r (o ∷ os) h = rw (not_le r.stamp o.stamp h.0) (ap (λ k. o ∷ k) (put-last r os h.1))
@@ -158,6 +161,7 @@ filter-put q r (o ∷ os) s =
           ]))
     ]
 
+-- to filter rows and put them in turn is to put them in turn and filter
 pub by_turn-filter : (q : Row → Bool) (rows : List Row)
     → by_turn (filter q rows) ≡ filter q (by_turn rows)
 by_turn-filter q [] = refl
@@ -182,6 +186,7 @@ map-put f r (o ∷ os) keeps =
       | false ↦ ap (λ l. f o ∷ l) (map-put f r os keeps)
     ])
 
+-- and so it is with a change of each row that leaves its stamp
 pub by_turn-map : (f : Row → Row) (rows : List Row) → ((x : Row) → (f x).stamp ≡ x.stamp)
     → by_turn (map f rows) ≡ map f (by_turn rows)
 by_turn-map f [] keeps = refl
@@ -296,12 +301,14 @@ least_stamped-cons o os (Some b) e h =
           (find-same (λ row. nat_le row.stamp o.stamp && test row) test same os ∙ h))
     ]
 
+-- the first row whose stamp is at most every other's is the least row
 pub least_stamped-is : (rows : List Row) → least_stamped rows ≡ least rows
 least_stamped-is [] = refl
 least_stamped-is (o ∷ os) = least_stamped-cons o os (least os) refl (least_stamped-is os)
 
 -- ## What the world's turns are, told by the order of the rows
 
+-- of the rows that pass a test, the one with the least stamp is the first in turn
 pub least-is : (able : Row → Bool) (rows : List Row)
     → least_stamped (filter able rows) ≡ find able (by_turn rows)
 least-is able rows = least_stamped-is (filter able rows) ∙ sym (turn-is-least able rows)

@@ -156,6 +156,7 @@ module _ (access : Option (List AclRow)) (sessions : List Session) (name f share
 
 -- ## One more
 
+-- with the turn of the next group added, the turns so far and those to come make the same list
 pub turns-more : (access : Option (List AclRow)) (sessions : List Session) (name f share : Text)
     (old new : List Turn) (t : Turn) (g : Text × List Member) (gs : List (Text × List Member))
     → new ≡ old ++ t ∷ [] → rc_str_bytes t.share ≡ g.0
@@ -175,6 +176,7 @@ turns-more access sessions name f share old new t g gs e named is =
     ≡ (if b then turns_of (Some (turn_of t)) else [])) [ true ↦ refl | false ↦ refl ])
     ∙ ap (λ o. if same_text g.0 share then turns_of o else []) (sym is))
 
+-- equal clients, share names and filters make the same row, with the same options
 pub same_turn : (client client' : Text) (share share' f f' : Text) (o : held.SubscriptionOptions)
     → client ≡ client' → share ≡ share' → f ≡ f'
     → row (Some share) f (client, o) ≡ row (Some share') f' (client', o)

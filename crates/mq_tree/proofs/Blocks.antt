@@ -119,11 +119,13 @@ blocks_below (child ∷ children) h =
     (sorted_head (slice_cmp nat_cmp) child.0 (keys_of children) h.ordered)
     (AreChildren-tail child children h))
 
+-- where a node's children are in order and each has entries, its prefixes are their blocks in turn
 pub prefixes_own : {V : Type 0} (value : Option V) (children : Children V) → AreChildren children
     → prefixes (keys_of (own value ++ below children)) ≡ flat_map block children
 prefixes_own None children h = blocks_below children h
 prefixes_own (Some v) children h = blocks_below children h
 
+-- the blocks hold one prefix for each child, and one for each prefix below it
 pub length-blocks : {V : Type 0} (children : Children V)
     → length (flat_map block children) ≡ tally (λ child. length (prefixes (keys_of child.1)))
     children

@@ -174,6 +174,7 @@ module _ {V : Type 0} (l : List ℕ) (rest : List (List ℕ)) (value : Option V)
       rw (e, n) (ap (λ xs. own value ++ xs) (insert_branch l rest v children are f)
       ∙ sym (insert-own l rest v value (below children)))
 
+-- what holds in any case holds where a result is an error
 pub on_err : {T E P : Type 0} (r : Result T E) → P → OnErr r P
 on_err (Ok x) p = tt
 on_err (Err e) p = p

@@ -36,12 +36,14 @@ After-less : (l m : List ℕ) (ks : List (List ℕ)) → slice_cmp nat_cmp l m �
 After-less l m [] e h = tt
 After-less l m (s ∷ ks) e h = (nat_list_cmp_total.trans l m s e h.0, After-less l m ks e h.1)
 
+-- where the first child stands at l, all others stand after l
 pub After-tail : {V : Type 0} (l : List ℕ) (child : List ℕ × Entries V) (children : Children V)
     → slice_cmp nat_cmp l child.0 ≡ Equal → AreChildren (child ∷ children)
     → After l (keys_of children)
 After-tail l child children e h = After-same l child.0 (keys_of children) e
     (sorted_head (slice_cmp nat_cmp) child.0 (keys_of children) h.ordered)
 
+-- where the first child stands after l, all others do too
 pub After-tail-less : {V : Type 0} (l : List ℕ) (child : List ℕ × Entries V) (children : Children V)
     → slice_cmp nat_cmp l child.0 ≡ Less → AreChildren (child ∷ children)
     → After l (keys_of children)

@@ -61,6 +61,8 @@ length-children : {Y V : Type 0} (nodes : Branches Y V) → length (children_of 
 length-children [] = refl
 length-children (node ∷ nodes) = ap suc (length-children nodes)
 
+-- where a node has no value of its own, the test that its map is empty is the test that it has no
+-- entries: each child leads to one
 pub bare_from_none : {Y V : Type 0} (b : Bool) (value : Option V) (nodes : Branches Y V)
     (now : NodeView V) → is_some value ≡ false → ◌≡◌ {A = NodeView V} (value, children_of nodes) now
     → AreChildren (children_of nodes) → ((b ≡ true) ↔ (length nodes ≡ 0))
@@ -112,6 +114,7 @@ tallied_nodes (node ∷ nodes) =
           (values_of nodes),
     )
 
+-- the nodes below a node are its children, and those below them
 pub prefixes_node : {Y V : Type 0} (value : Option V) (nodes : Branches Y V) (now : NodeView V)
     → ◌≡◌ {A = NodeView V} (value, children_of nodes) now → AreChildren (children_of nodes)
     → sum_by (λ node. nodes_of (entries_in node)) (values_of nodes)
@@ -141,6 +144,8 @@ held-below f (child ∷ children) =
     ∙ ap₂ (λ a b. a + b) (held-under f child.0 child.1) (held-below f children)
     ∙ sym (sum_by-cons (held f) child.1 (values_of children))
 
+-- a node's own value and its children's values hold together what all of its entries hold,
+-- as a u64 gives it
 pub held-node : {Y V : Type 0} (f : V → ℕ) (value : Option V) (nodes : Branches Y V)
     (now : NodeView V) (n : ℕ) → ◌≡◌ {A = NodeView V} (value, children_of nodes) now
     → n ≡ capped (held f (own value))

@@ -31,6 +31,7 @@ later_under l m [] rest e h = h
 later_under l m (x ∷ es) rest e h =
     (λ k. ap (λ o. ordering_then o (level_order k x.0)) e, later_under l m es rest e h)
 
+-- below children that all stand after l, each key comes after all keys that begin with l
 pub later_below : {V : Type 0} (l : List ℕ) (children : Children V) → After l (keys_of children)
     → LaterKeys l (below children)
 later_below l [] a = tt
@@ -75,6 +76,7 @@ remove_none test (x ∷ es) h =
     → cond b es (x ∷ remove_entry test es) ≡ x ∷ es)
     [ true ↦ λ e. cc | false ↦ λ e. ap (λ xs. x ∷ xs) (remove_none test es e) ] h
 
+-- a key that begins with l is not found among entries that come after all such keys
 pub later_lookup : {V : Type 0} (l : List ℕ) (k : List (List ℕ)) (es : Entries V) → LaterKeys l es
     → lookup (is_key (l ∷ k)) es ≡ None
 later_lookup l k [] h = refl
@@ -100,6 +102,7 @@ remove_past l m k [] rest e = refl
 remove_past l m k (x ∷ es) rest e =
     rw e (ap (λ xs. (m ∷ x.0, x.1) ∷ xs) (remove_past l m k es rest e))
 
+-- to remove the key l ∷ k is an edit of the child at l, which removes k there
 pub remove_edits : {V : Type 0} (l : List ℕ) (k : List (List ℕ))
     → IsEdit {V = V} l (remove_entry (is_key k)) (remove_entry (is_key (l ∷ k)))
 remove_edits l k = record {
@@ -140,6 +143,7 @@ insert_inside l m k v (x ∷ es) rest e h =
       | Greater ↦ ap (λ xs. (m ∷ x.0, x.1) ∷ xs) more
     ])
 
+-- to put a value at the key l ∷ k is an edit of the child at l, which puts it at k there
 pub insert_edits : {V : Type 0} (l : List ℕ) (k : List (List ℕ)) (v : V)
     → IsEdit l (λ es. insert_entry level_order es k v) (λ es. insert_entry level_order es (l ∷ k) v)
 insert_edits l k v = record {

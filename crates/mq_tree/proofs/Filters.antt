@@ -30,12 +30,14 @@ values_below [] = refl
 values_below (child ∷ children) = map-append (λ e. e.1) (under child.0 child.1) (below children)
     ∙ ap₂ (λ a b. a ++ b) (values_under child.0 child.1) (values_below children)
 
+-- all values of a node: its own, and then those of each child
 pub all_values : {V : Type 0} (node : NodeView V)
     → values_of (entries_of node) ≡ values_of (own node.0)
     ++ flat_map (λ child. values_of child.1) node.1
 all_values node = map-append (λ e. e.1) (own node.0) (below node.1)
     ∙ ap (λ vs. values_of (own node.0) ++ vs) (values_below node.1)
 
+-- all nodes below a node: one for each child, and those below it
 pub all_met : {V : Type 0} (node : NodeView V) → AreChildren node.1
     → length (prefixes (keys_of (entries_of node)))
     ≡ tally (λ child. length (prefixes (keys_of child.1))) node.1
@@ -81,6 +83,7 @@ pub hash_matches : (k : List (List ℕ)) → matches_below (hash ∷ []) k ≡ t
 hash_matches [] = refl
 hash_matches (l ∷ k) = refl
 
+-- a last `#` meets every prefix, even the empty one
 pub hash_meets : (p : List (List ℕ)) → meets_filter (hash ∷ []) p ≡ true
 hash_meets [] = refl
 hash_meets (l ∷ p) = refl
@@ -114,11 +117,15 @@ never_last : (f : List ℕ) (gs : List (List (List ℕ))) → bytes_eq f hash �
 never_last f [] h = tt
 never_last f (g ∷ gs) h = (not_last f g h, never_last f gs h)
 
+-- where the first level of a filter is no `#`, the filter matches just where that level matches
+-- and the rest matches the rest
 pub level_step : (f : List ℕ) (fs : List (List ℕ)) → bytes_eq f hash ≡ false
     → (m : List ℕ) (k : List (List ℕ)) → matches_below (f ∷ fs) (m ∷ k)
     ≡ (level_matches f m && matches_below fs k)
 level_step f fs h m k = ap (λ b. b || (level_matches f m && matches_below fs k)) (not_last f fs h)
 
+-- where the first level of a filter is no `#`, the filter meets a nonempty prefix just where that
+-- level matches and the rest meets the rest
 pub level_met_step : (f : List ℕ) (fs : List (List ℕ)) → bytes_eq f hash ≡ false
     → (m : List ℕ) (p : List (List ℕ)) → meets_filter (f ∷ fs) (m ∷ p)
     ≡ (level_matches f m && meets_filter fs p)
@@ -127,12 +134,16 @@ level_met_step f fs h m p =
     ∙ any_and (level_matches f m) (λ g. matches_below g p) (λ g. is_last_hash f g) (fronts fs)
     (never_last f (fronts fs) h)
 
+-- where the first level of a filter is no wildcard, the filter matches just where that level is
+-- the same and the rest matches the rest
 pub exact_step : (f : List ℕ) (fs : List (List ℕ)) → f ≢ hash → f ≢ plus
     → (m : List ℕ) (k : List (List ℕ)) → matches_below (f ∷ fs) (m ∷ k)
     ≡ (bytes_eq f m && matches_below fs k)
 exact_step f fs h q m k = level_step f fs (not_same f hash h) m k
     ∙ ap (λ b. (b || bytes_eq f m) && matches_below fs k) (not_same f plus q)
 
+-- where the first level of a filter is no wildcard, the filter meets a nonempty prefix just where
+-- that level is the same and the rest meets the rest
 pub exact_met_step : (f : List ℕ) (fs : List (List ℕ)) → f ≢ hash → f ≢ plus
     → (m : List ℕ) (p : List (List ℕ)) → meets_filter (f ∷ fs) (m ∷ p)
     ≡ (bytes_eq f m && meets_filter fs p)

@@ -64,6 +64,7 @@ pub set-here : {V : Type 0} (w : V) (r : Option (MutBor V)) (value : Option V)
 set-here w None value children e = tt
 set-here w (Some x) value children e = rw (sym e) refl
 
+-- a list with a first element is not empty
 pub some_cons : {A : Type 0} (x : A) (xs : List A) → x ∷ xs ≢ []
 some_cons x xs = λ e. absurd (cc)
 
@@ -87,6 +88,7 @@ some_set test (child ∷ children) es new h f n =
       | false ↦ some_under child.0 child.1 (below (set_value test children new)) h.0
     ]
 
+-- what is known where an option has a value may be replaced by what follows from it
 pub on_some_weaker : {T P Q : Type 0} (r : Option T) → (P → Q) → OnSome r P → OnSome r Q
 on_some_weaker None f p = tt
 on_some_weaker (Some x) f p = f p

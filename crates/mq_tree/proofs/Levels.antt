@@ -18,12 +18,14 @@ not_same l m n =
     [ true ↦ λ e. absurd (n (text_is l m e)) | false ↦ λ e. refl ] in
     go (bytes_eq l m) refl
 
+-- a level fails the test of bytes with one that comes before it
 pub apart_from_less : (l m : List ℕ) → slice_cmp nat_cmp m l ≡ Less → bytes_eq l m ≡ false
 apart_from_less l m e =
     not_same l m (λ same. absurd
     (true≢false (sym (ap is_lt e) ∙ ap (λ x. is_lt (slice_cmp nat_cmp m x)) same
     ∙ ap is_lt (tied_itself nat_list_cmp_total m))))
 
+-- a level fails the test of bytes with one that comes after it
 pub apart_from_greater : (l m : List ℕ) → slice_cmp nat_cmp l m ≡ Less → bytes_eq l m ≡ false
 apart_from_greater l m e =
     not_same l m (λ same. absurd
@@ -66,6 +68,7 @@ hash_first l h =
     ] in
     go (slice_cmp nat_cmp l plus) refl
 
+-- a level that does not come before `+`, and is not `+`, comes after it
 pub plus_first : (l : List ℕ) → is_before l plus ≡ false → l ≢ plus
     → slice_cmp nat_cmp plus l ≡ Less
 plus_first l h n =

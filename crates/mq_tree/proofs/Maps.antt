@@ -17,6 +17,7 @@ use Rattle.mq_tree.specs.Nodes.{NodeView, Branches, is_level, entries_in, childr
 abbrev pub is_text : {Y : Type 0} → List ℕ → String Y → Bool
 is_text l = is_at (λ s. slice_cmp nat_cmp l (string_bytes s))
 
+-- to look up a child at a level is to look up its node in the map, and take that node's entries
 pub lookup_children : {Y V : Type 0} (l : List ℕ) (nodes : Branches Y V)
     → lookup (is_level l) (children_of nodes) ≡ option_map entries_in (lookup (is_text l) nodes)
 lookup_children l [] = refl
@@ -28,6 +29,7 @@ lookup_children l (node ∷ nodes) =
       | false ↦ lookup_children l nodes
     ]
 
+-- to set the node at a level in the map is to set the entries of the child there
 pub set_children : {Y V : Type 0} (l : List ℕ) (nodes : Branches Y V) (new : Box (NodeView V))
     → children_of (set_value (is_text l) nodes new)
     ≡ set_value (is_level l) (children_of nodes) (entries_in new)
@@ -43,6 +45,7 @@ set_children l (node ∷ nodes) new =
       | false ↦ ap (λ cs. (string_bytes node.0, entries_in node.1) ∷ cs) (set_children l nodes new)
     ]
 
+-- to remove the node at a level from the map is to remove the child there
 pub remove_children : {Y V : Type 0} (l : List ℕ) (nodes : Branches Y V)
     → children_of (remove_entry (is_text l) nodes) ≡ remove_entry (is_level l) (children_of nodes)
 remove_children l [] = refl
@@ -55,6 +58,7 @@ remove_children l (node ∷ nodes) =
       | false ↦ ap (λ cs. (string_bytes node.0, entries_in node.1) ∷ cs) (remove_children l nodes)
     ]
 
+-- to put a node into the map is to put its entries among the children, at the level of its text
 pub insert_children : {Y V : Type 0} (text : String Y) (nodes : Branches Y V)
     (new : Box (NodeView V)) → children_of (insert_entry string_cmp nodes text new)
     ≡ insert_entry (slice_cmp nat_cmp) (children_of nodes) (string_bytes text) (entries_in new)
@@ -75,6 +79,7 @@ insert_children text (node ∷ nodes) new =
           (insert_children text nodes new)
     ]
 
+-- the entries of the children are those of the nodes in the map, in the same order
 pub values_children : {Y V : Type 0} (nodes : Branches Y V)
     → values_of (children_of nodes) ≡ map entries_in (values_of nodes)
 values_children [] = refl

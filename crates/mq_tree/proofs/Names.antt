@@ -38,6 +38,8 @@ pub not_last : (m : List ℕ) (k : List (List ℕ)) → bytes_eq m hash ≡ fals
 not_last m [] h = h
 not_last m (l ∷ k) h = refl
 
+-- where n is plain: m is a last `#`, or it matches n and x holds, just where m may stand at n
+-- and then m is last if it is a `#`, and x holds if it is not
 pub by_hash : (m n : List ℕ) (k : List (List ℕ)) (x : Bool) → IsPlain n
     → (is_last_hash m k || (level_matches m n && x))
     ≡ (may_stand n m && cond (bytes_eq m hash) (is_here k) x)
@@ -59,6 +61,8 @@ by_hash m n k x plain =
     last [] e = refl
     last (l ∷ k) e = rw e refl
 
+-- where the first level of a name is plain, a nonempty key matches the name just where its own
+-- first level may stand there and its rest goes on
 pub goes_step : (n : List ℕ) (ns : List (List ℕ)) → IsPlain n → (m : List ℕ) (k : List (List ℕ))
     → matches_below (m ∷ k) (n ∷ ns) ≡ (may_stand n m && goes_on ns m k)
 goes_step n ns plain m k = by_hash m n k (matches_below k ns) plain
@@ -83,10 +87,13 @@ meets_cons m p n ns =
     ap (λ b. is_last_hash m p || b) (any_map (matches_below (m ∷ p)) (λ q. n ∷ q) (fronts ns))
     ∙ any_or (is_last_hash m p) (level_matches m n) (matches_below p) (fronts ns)
 
+-- where the first level of a name is plain, a nonempty prefix meets the name just where its own
+-- first level may stand there and its rest goes on
 pub meets_step : (n : List ℕ) (ns : List (List ℕ)) → IsPlain n → (m : List ℕ) (p : List (List ℕ))
     → meets_name (n ∷ ns) (m ∷ p) ≡ (may_stand n m && meets_on ns m p)
 meets_step n ns plain m p = meets_cons m p n ns ∙ by_hash m n p (meets_name ns p) plain
 
+-- a prefix that ends at its first level has no rest that could fail to meet the name
 pub meets_here : (ns : List (List ℕ)) (m : List ℕ) → meets_on ns m [] ≡ true
 meets_here ns m = elim (bytes_eq m hash) as (λ b. cond b true true ≡ true)
     [ true ↦ refl | false ↦ refl ]
@@ -98,10 +105,12 @@ end_step m [] = elim (bytes_eq m hash) as (λ b. b ≡ (b && true)) [ true ↦ r
 end_step m (l ∷ k) = elim (bytes_eq m hash) as (λ b. false ≡ (b && false))
     [ true ↦ refl | false ↦ refl ]
 
+-- where the name has ended, a nonempty prefix meets it just where it is a `#` alone
 pub end_meets_step : (m : List ℕ) (p : List (List ℕ))
     → meets_name [] (m ∷ p) ≡ (bytes_eq m hash && is_here p)
 end_meets_step m p = or-false (is_last_hash m p) ∙ end_step m p
 
+-- a level that is not in the list of `#` alone is no `#`
 pub only_hash : (m : List ℕ) → list_any (λ t. bytes_eq t m) (hash ∷ []) ≡ false
     → bytes_eq m hash ≡ false
 only_hash m h =
@@ -150,6 +159,7 @@ pub record AreAll (n : List ℕ) (ts : List (List ℕ)) : Type 0 where
   pub stand : AllByRecursion (λ t. may_stand n t ≡ true) ts
   pub others : (m : List ℕ) → list_any (λ t. bytes_eq t m) ts ≡ false → may_stand n m ≡ false
 
+-- the levels that may stand at a plain level n are `#`, `+` and n, taken in their order
 pub in_order_all : (n : List ℕ) → IsPlain n → AreAll n (in_order_of n)
 in_order_all n p =
     let go : (b c : Bool) → is_lt (slice_cmp nat_cmp n hash) ≡ b

@@ -170,6 +170,8 @@ nothing_of : {V X : Type 0} → (F : List ℕ × Entries V → List X) (children
 nothing_of F [] q = refl
 nothing_of F (child ∷ children) q = rw (q.0 refl) (nothing_of F children q.1)
 
+-- where a child at one of these ordered levels gives w of it, and any other child gives nothing,
+-- what all children give is what those at the levels give in turn
 pub merged : {V X : Type 0} → (F : List ℕ × Entries V → List X) (w : List ℕ → Entries V → List X)
     (ts : List (List ℕ)) (children : Children V) → AreChildren children
     → IsStrictlySortedBy (slice_cmp nat_cmp) ts → AreHits F w ts → AreQuiet F ts children

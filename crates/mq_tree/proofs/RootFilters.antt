@@ -27,10 +27,13 @@ wild f fs x m k w e =
     ∙ elim (begins_with_dollar m) as (λ b. (not (b && true) && x) ≡ (not b && x))
     [ true ↦ refl | false ↦ refl ]
 
+-- `#` matches just where the first level does not begin with `$` and `#` matches the rest
 pub hash_step : (m : List ℕ) (k : List (List ℕ))
     → matches (hash ∷ []) (m ∷ k) ≡ (not (begins_with_dollar m) && matches_below (hash ∷ []) k)
 hash_step m k = wild hash [] (matches_below (hash ∷ []) k) m k refl (sym (hash_matches k))
 
+-- a look-up by `#` enters a node just where its first level does not begin with `$` and `#` meets
+-- the rest
 pub hash_met_step : (m : List ℕ) (p : List (List ℕ))
     → list_any (λ g. matches g (m ∷ p)) (heads (hash ∷ []))
     ≡ (not (begins_with_dollar m) && meets_filter (hash ∷ []) p)
@@ -41,6 +44,8 @@ plus_below : (fs : List (List ℕ)) (m : List ℕ) (k : List (List ℕ))
     → matches_below (plus ∷ fs) (m ∷ k) ≡ matches_below fs k
 plus_below fs m k = ap (λ b. b || matches_below fs k) (not_last plus fs refl)
 
+-- a filter that begins with `+` matches just where the first level does not begin with `$` and the
+-- rest of the filter matches the rest
 pub plus_step : (fs : List (List ℕ)) (m : List ℕ) (k : List (List ℕ))
     → matches (plus ∷ fs) (m ∷ k) ≡ (not (begins_with_dollar m) && matches_below fs k)
 plus_step fs m k = wild plus fs (matches_below fs k) m k refl (plus_below fs m k)
@@ -57,6 +62,8 @@ any_shown m p (g ∷ gs) =
     ≡ (not b && (matches_below g p || list_any (λ g. matches_below g p) gs)))
     [ true ↦ refl | false ↦ refl ]
 
+-- a look-up by a filter that begins with `+` enters a node just where its first level does not
+-- begin with `$` and the rest of the filter meets the rest
 pub plus_met_step : (fs : List (List ℕ)) (m : List ℕ) (p : List (List ℕ))
     → list_any (λ g. matches g (m ∷ p)) (heads (plus ∷ fs))
     ≡ (not (begins_with_dollar m) && meets_filter fs p)

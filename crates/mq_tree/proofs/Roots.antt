@@ -43,6 +43,7 @@ or_cond : (b m p : Bool) → cond b true (m && p) ≡ (b || (m && p))
 or_cond true m p = refl
 or_cond false m p = refl
 
+-- the library's test of all levels says the same as the test level by level
 pub matches_same : (f n : List (List ℕ)) → levels_match_by level_matches f n ≡ matches_below f n
 matches_same [] [] = refl
 matches_same [] (n ∷ ns) = refl
@@ -58,6 +59,8 @@ matches_same (f ∷ g ∷ fs) (n ∷ ns) =
 some_levels : (n : List ℕ) (ns : List (List ℕ)) → not (length (n ∷ ns) == 0) ≡ true
 some_levels n ns = let h : (length (n ∷ ns) == 0) ≡ false = grind (arith, nat_tests) in ap not h
 
+-- a filter matches a name that has a level just where the rule on `$` does not hide the name and
+-- the levels match
 pub matches_cons : (f : List (List ℕ)) (n : List ℕ) (ns : List (List ℕ))
     → matches f (n ∷ ns) ≡ (not (begins_with_dollar n && is_wildcard (level_at f 0))
     && matches_below f (n ∷ ns))

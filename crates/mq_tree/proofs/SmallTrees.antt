@@ -15,9 +15,11 @@ by_filter wanted keys = length (met_by_filter (levels wanted) (prefixes keys))
 abbrev filters : List (List (List ℕ))
 filters = levels (codes "#") ∷ levels (codes "+") ∷ levels (codes "a") ∷ levels (codes "a/#") ∷ []
 
+-- a node for each of the four filters, and no more: `a/#` stands below `a`
 pub filters_have : length (prefixes filters) ≡ 4
 filters_have = refl
 
+-- the name `a` enters all four nodes
 pub name_a : by_name (codes "a") filters ≡ 4
 name_a = refl
 
@@ -25,6 +27,7 @@ name_a = refl
 pub more_have : length (prefixes (levels (codes "/x") ∷ filters)) ≡ 6
 more_have = refl
 
+-- the name `/x` enters `#`, `+`, and the two nodes of its own key
 pub name_slash_x : by_name (codes "/x") (levels (codes "/x") ∷ filters) ≡ 4
 name_slash_x = refl
 
@@ -32,15 +35,19 @@ name_slash_x = refl
 abbrev names : List (List (List ℕ))
 names = levels (codes "$x") ∷ levels (codes "a") ∷ levels (codes "a/b") ∷ levels (codes "c") ∷ []
 
+-- `#` enters each node but `$x`
 pub filter_hash : by_filter (codes "#") names ≡ 3
 filter_hash = refl
 
+-- `a/#` enters `a` and `a/b`
 pub filter_a_hash : by_filter (codes "a/#") names ≡ 2
 filter_a_hash = refl
 
+-- `+` enters `a` and `c`, but not `$x`
 pub filter_plus : by_filter (codes "+") names ≡ 2
 filter_plus = refl
 
+-- `$x` enters its own node alone
 pub filter_dollar_x : by_filter (codes "$x") names ≡ 1
 filter_dollar_x = refl
 
@@ -49,8 +56,10 @@ abbrev wildcards : List (List (List ℕ))
 wildcards = levels (codes "#") ∷ levels (codes "$SYS/+") ∷ levels (codes "+/x")
     ∷ levels (codes "a/+") ∷ []
 
+-- `$SYS/x` enters `$SYS` and `$SYS/+`, but neither `#` nor `+`
 pub name_dollar_sys_x : by_name (codes "$SYS/x") wildcards ≡ 2
 name_dollar_sys_x = refl
 
+-- a `$` after the first level hides nothing: `a/$x` enters `#`, `+`, `a` and `a/+`
 pub name_a_dollar_x : by_name (codes "a/$x") wildcards ≡ 4
 name_a_dollar_x = refl

@@ -42,20 +42,24 @@ none_here : (ps : List (List (List ℕ))) → Long ps → filter is_here ps ≡ 
 none_here [] h = refl
 none_here (p ∷ ps) h = rw h.0 (none_here ps h.1)
 
+-- a child at `#` gives its own value alone
 pub found_hash : {V : Type 0} (rest : List (List ℕ)) (t : List ℕ) (node : NodeView V) → t ≡ hash
     → found_at rest (t, entries_of node) ≡ values_of (own node.0)
 found_hash rest t node e = ap (λ u. found_at rest (u, entries_of node)) e ∙ here_values node
 
+-- a child at another level gives the values whose keys match the rest of the name
 pub found_other : {V : Type 0} (rest : List (List ℕ)) (t : List ℕ) (es : Entries V) → t ≢ hash
     → found_at rest (t, es) ≡ values_at (λ k. matches_below k rest) es
 found_other rest t es n = ap (λ b. values_at (λ k. cond b (is_here k) (matches_below k rest)) es)
     (not_same t hash n)
 
+-- no node below a child at `#` is entered
 pub met_hash : {V : Type 0} (rest : List (List ℕ)) (t : List ℕ) (es : Entries V) → t ≡ hash
     → met_at rest (t, es) ≡ 0
 met_hash rest t es e = ap (λ u. met_at rest (u, es)) e
     ∙ ap length (none_here (prefixes (keys_of es)) (long_prefixes (keys_of es)))
 
+-- below a child at another level the nodes are entered that meet the rest of the name
 pub met_other : {V : Type 0} (rest : List (List ℕ)) (t : List ℕ) (es : Entries V) → t ≢ hash
     → met_at rest (t, es) ≡ length (filter (meets_name rest) (prefixes (keys_of es)))
 met_other rest t es n =
@@ -134,6 +138,8 @@ drop_turn : {A : Type 0} (items : List A) (i : ℕ) (d : A) → i < length items
     → drop i items ≡ get_or items i d ∷ drop (i + 1) items
 drop_turn items i d p = rw add-one (drop-cons items i d p)
 
+-- the children at the levels from place i on: the one at the level of place i, if there is one,
+-- and then those at the later levels
 pub turn : {V : Type 0} (children : Children V) (items : List (Bor (List ℕ))) (i : ℕ)
     (d : Bor (List ℕ)) (o : Option (Entries V)) → i < length items
     → o ≡ lookup (is_level (get_or items i d).now) children
@@ -144,22 +150,27 @@ turn children items i d o p e =
     ∙ ap (λ q. given one (get_or items i d).now q
     ++ gather one children (map (λ x. x.now) (drop (i + 1) items))) (sym e)
 
+-- past the last level there are no more children to give
 pub all_given : {V : Type 0} (children : Children V) (items : List (Bor (List ℕ))) (i : ℕ)
     → length items ≤ i → gather one children (map (λ x. x.now) (drop i items)) ≡ []
 all_given children items i h = ap (λ xs. gather one children (map (λ x. x.now) xs))
     (drop_of_length-le items h)
 
+-- once a turn has added v, what is found so far and what is still to come make the same total
 pub found_turn : {X : Type 0} (out new v h total : List X) → new ≡ out ++ v
     → out ++ (v ++ h) ≡ total → new ++ h ≡ total
 found_turn out new v h total a e = ap (λ x. x ++ h) a ∙ append_assoc out v h ∙ e
 
+-- where the test for a text of one byte holds, the text is that one
 pub text_is : (b : Bool) (t : List ℕ) (c : ℕ) → b ≡ bytes_eq t (c ∷ []) → b ≡ true → t ≡ c ∷ []
 text_is b t c e h = (slice_eq-Decides Decides-eqb t (c ∷ []) b e).0 h
 
+-- where the test for a text of one byte fails, the text is another
 pub text_is_not : (b : Bool) (t : List ℕ) (c : ℕ) → b ≡ bytes_eq t (c ∷ []) → b ≡ false → t ≢ c ∷ []
 text_is_not b t c e h =
     λ same. absurd (true≢false (sym ((slice_eq-Decides Decides-eqb t (c ∷ []) b e).1 same) ∙ h))
 
+-- where no level is a wildcard, the first is none, and neither is any of the rest
 pub plain_cons : (ls : List (List ℕ)) (l : List ℕ) (rest : List (List ℕ)) → ls ≡ l ∷ rest
     → ArePlain ls → IsPlain l × ArePlain rest
 plain_cons ls l rest e h = rw e at h
@@ -190,11 +201,13 @@ not_holds : (b : Bool) (e : Bool) → b ≡ not e → b ≡ false → e ≡ true
 not_holds b true h t = refl
 not_holds b false h t = absurd (true≢false (sym h ∙ t))
 
+-- where `!=` with a text of one byte holds, the text is another
 pub text_differs : (b : Bool) (t : List ℕ) (c : ℕ) → b ≡ not (bytes_eq t (c ∷ [])) → b ≡ true
     → t ≢ c ∷ []
 text_differs b t c e h = text_is_not (bytes_eq t (c ∷ [])) t c refl
     (not_flips b (bytes_eq t (c ∷ [])) e h)
 
+-- where `!=` with a text of one byte fails, the text is that one
 pub text_is_same : (b : Bool) (t : List ℕ) (c : ℕ) → b ≡ not (bytes_eq t (c ∷ [])) → b ≡ false
     → t ≡ c ∷ []
 text_is_same b t c e h = text_is (bytes_eq t (c ∷ [])) t c refl

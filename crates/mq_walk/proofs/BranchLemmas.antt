@@ -34,6 +34,7 @@ hit_if : (deny : Bool) (marks : MarkLevels) (ls : List (List ℕ)) (b : Bool) (r
 hit_if deny marks ls true r = or-false (covers marks ls r && same deny r.deny)
 hit_if deny marks ls false r = refl
 
+-- one more is branched: a remainder that goes on with one level only joins those of that level
 pub at_level : (marks : MarkLevels) (rs : List Remainder) (r next : Remainder) (level : List ℕ)
     (old new : Branches)
     → next.deny ≡ r.deny → ((l : List ℕ) (ls : List (List ℕ))
@@ -63,6 +64,7 @@ or_cases : (p : List ℕ → Bool) (l level : List ℕ) (a b : Bool) → (a || b
 or_cases p l level true b e f g = f refl
 or_cases p l level false b e f g = g e
 
+-- branches still fit a test after such a remainder joins, if its level and what is behind pass it
 pub fit_level : (p : List ℕ → Bool) (next : Remainder) (level : List ℕ) (old new : Branches)
     → p level ≡ true → remainder_fits p next ≡ true
     → ((l : List ℕ) → at l new ≡ at l old ++ (if bytes_eq l level then next ∷ [] else []))

@@ -74,6 +74,7 @@ pub mark_goes_on : (marks : MarkLevels) (r next : Remainder) (mark : Option (Bor
 mark_goes_on marks r next None d f = f
 mark_goes_on marks r next (Some level) d f = (d, f)
 
+-- at the mark `%c`, a `pattern` row's remainder goes on with the client's level, if there is one
 pub client_goes_on : (marks : MarkLevels) (r next : Remainder) (w : List ℕ)
     (mark : Option (Bor (List ℕ))) → option_copied mark ≡ marks.client
     → levels_left r.rest ≡ w ∷ levels_left next.rest
@@ -85,6 +86,7 @@ client_goes_on marks r next w mark m e h p d c =
     ∙ ap (λ b. b && covers marks ls next) (passes_client r.pattern marks w l c
     ∙ ap (is_user l) (sym m)))
 
+-- at the mark `%u` it goes on with the user's
 pub user_goes_on : (marks : MarkLevels) (r next : Remainder) (w : List ℕ)
     (mark : Option (Bor (List ℕ))) → option_copied mark ≡ marks.user
     → levels_left r.rest ≡ w ∷ levels_left next.rest
@@ -97,6 +99,7 @@ user_goes_on marks r next w mark m e h p d c u =
     ∙ ap (λ b. b && covers marks ls next) (passes_user r.pattern marks w l c u
     ∙ ap (is_user l) (sym m)))
 
+-- at any other level but a last `#`, a name is covered just where it matches and the rest is
 pub level_is : (marks : MarkLevels) (r next : Remainder) (w : List ℕ)
     → levels_left r.rest ≡ w ∷ levels_left next.rest
     → (bytes_eq w (codes "#") && (length (levels_left next.rest) == 0)) ≡ false

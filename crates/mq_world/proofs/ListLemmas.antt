@@ -16,6 +16,7 @@ use Rattle.std.specs.BTreeMap.{insert_entry}
 use Rattle.std.proofs.Math.Bool.{or_assoc}
 use Rattle.mq_world.specs.Lists.{with_row}
 
+-- to keep the elements whose images pass and then map is to map all and then filter
 pub map-filter : {X Y : Type 0} (f : X → Y) (p : Y → Bool) (xs : List X)
     → map f (filter (λ x. p (f x)) xs) ≡ filter p (map f xs)
 map-filter f p [] = refl
@@ -37,11 +38,13 @@ is_some-lookup test (e ∷ es) =
       | false ↦ is_some-lookup test es
     ]
 
+-- an element of a mapped list passes just where some element of the list has an image that passes
 pub list_any-map : {X Y : Type 0} (f : X → Y) (p : Y → Bool) (xs : List X)
     → list_any p (map f xs) ≡ list_any (λ x. p (f x)) xs
 list_any-map f p [] = refl
 list_any-map f p (x ∷ xs) = ap (λ b. p (f x) || b) (list_any-map f p xs)
 
+-- tests that always agree say the same of whether any element passes
 pub list_any-same : {X : Type 0} (p q : X → Bool) → ((x : X) → p x ≡ q x) → (xs : List X)
     → list_any p xs ≡ list_any q xs
 list_any-same p q h [] = refl
@@ -54,12 +57,14 @@ is_some-find p (x ∷ xs) =
     elim (p x) as (λ b. is_some (cond b (Some x) (find p xs)) ≡ (b || list_any p xs))
     [ true ↦ refl | false ↦ is_some-find p xs ]
 
+-- some element of a joined list passes just where one of the first list or of the second does
 pub any-append : {X : Type 0} (p : X → Bool) (xs ys : List X)
     → list_any p (xs ++ ys) ≡ (list_any p xs || list_any p ys)
 any-append p [] ys = refl
 any-append p (x ∷ xs) ys = ap (λ b. p x || b) (any-append p xs ys)
     ∙ sym (or_assoc (p x) (list_any p xs) (list_any p ys))
 
+-- tests that always agree keep the same elements
 pub filter-same : {X : Type 0} (p q : X → Bool) → ((x : X) → p x ≡ q x) → (xs : List X)
     → filter p xs ≡ filter q xs
 filter-same p q h [] = refl
@@ -67,10 +72,12 @@ filter-same p q h (x ∷ xs) = rw (h x, filter-same p q h xs) refl
 
 -- ## One row among rows in order
 
+-- what holds in any case holds where a result is ok
 pub on_ok : {X E : Type 0} {P : Type 0} (r : Result X E) → P → OnOk r P
 on_ok (Ok x) p = p
 on_ok (Err e) p = tt
 
+-- what holds in any case holds where a result is an error
 pub on_err : {X E : Type 0} {P : Type 0} (r : Result X E) → P → OnErr r P
 on_err (Ok x) p = tt
 on_err (Err e) p = p
@@ -150,6 +157,8 @@ any_stand : {X : Type 0} (xs : List X) → AllByRecursion (λ _. Unit {0}) xs
 any_stand [] = tt
 any_stand (x ∷ xs) = (tt, any_stand xs)
 
+-- to put an entry among sorted ones is to put its row among their rows, where the rows are ordered
+-- as the keys are, and keys that tie show the same row
 pub map-insert_entry : {K X C : Type 0} (cmp : K → K → Ordering) (o : IsTotalOrder cmp)
     (view : K × X → C) (view_cmp : C → C → Ordering)
     (agrees : (e d : K × X) → view_cmp (view e) (view d) ≡ cmp e.0 d.0)
@@ -168,6 +177,7 @@ pub all_stay : {K X : Type 0} (test : K → Bool) (es : List (K × X))
 all_stay test [] h = refl
 all_stay test (e ∷ es) h = rw (h.0, all_stay test es h.1) refl
 
+-- where no key passes after one that does, all keys after such a key k fail the test
 pub none_again : {K X : Type 0} (cmp : K → K → Ordering) (test : K → Bool)
     (apart : (x y : K) → test x ≡ true → cmp x y ≡ Less → test y ≡ false) (k : K) → test k ≡ true
     → (es : List (K × X)) → AllByRecursion (λ y. cmp k y ≡ Less) (keys_of es)
@@ -219,21 +229,25 @@ remove_key-filter cmp test apart (k ∷ ks) s =
       | false ↦ λ h. ap (λ l. k ∷ l) (remove_key-filter cmp test apart ks s.1)
     ]) refl
 
+-- `filter_map` of a mapped list is `filter_map` of the list with both functions in turn
 pub filter_map-map : {X Y Z : Type 0} (f : Y → Option Z) (g : X → Y) (xs : List X)
     → filter_map f (map g xs) ≡ filter_map (λ x. f (g x)) xs
 filter_map-map f g [] = refl
 filter_map-map f g (x ∷ xs) = ap (cons_option (f (g x))) (filter_map-map f g xs)
 
+-- functions that always agree map a list to the same list
 pub map-same : {X Y : Type 0} (f g : X → Y) → ((x : X) → f x ≡ g x) → (xs : List X)
     → map f xs ≡ map g xs
 map-same f g h [] = refl
 map-same f g h (x ∷ xs) = rw (h x, map-same f g h xs) refl
 
+-- functions that always agree give the same list by `filter_map`
 pub filter_map-same : {X Y : Type 0} (f g : X → Option Y) → ((x : X) → f x ≡ g x) → (xs : List X)
     → filter_map f xs ≡ filter_map g xs
 filter_map-same f g h [] = refl
 filter_map-same f g h (x ∷ xs) = rw (h x, filter_map-same f g h xs) refl
 
+-- to give nothing for an element that fails the test is to filter it out first
 pub filter_map-filter : {X Y : Type 0} (f : X → Option Y) (p : X → Bool) (xs : List X)
     → filter_map (λ x. cond (p x) (f x) None) xs ≡ filter_map f (filter p xs)
 filter_map-filter f p [] = refl

@@ -51,11 +51,13 @@ group_total = then_total (on_texts (λ g. g.share)) (on_total (λ g. levels g.fi
 pub row_total : IsTotalOrder row_cmp
 row_total = on_total (λ row. row.subscription) subscription_total
 
+-- an ordering that tests as equal is `Equal`
 pub equal_from : (r : Ordering) → is_eq r ≡ true → r ≡ Equal
 equal_from Less h = cc
 equal_from Equal h = refl
 equal_from Greater h = cc
 
+-- an ordering that tests as less is `Less`
 pub less_from : (r : Ordering) → is_lt r ≡ true → r ≡ Less
 less_from Less h = refl
 less_from Equal h = cc
@@ -77,11 +79,13 @@ level_equal a b = both_ways _ _
     subst (λ (t : Text). is_eq (level_order (levels a) (levels t)) ≡ true) e
     (ap is_eq (tied_itself levels_total (levels a)))))
 
+-- the test for the same text says the same both ways round
 pub text_flip : (a b : Text) → same_text a b ≡ same_text b a
 text_flip a b = both_ways _ _
     (λ h. (bytes_eq-Decides b a).1 (sym ((bytes_eq-Decides a b).0 h)))
     (λ h. (bytes_eq-Decides a b).1 (sym ((bytes_eq-Decides b a).0 h)))
 
+-- two shares, each a text or none, tie in their order just where they are the same
 pub share_equal : (a b : Option Text) → is_eq (option_cmp text_cmp a b) ≡ same_share a b
 share_equal None None = refl
 share_equal None (Some b) = refl
@@ -117,16 +121,19 @@ all_passed p (x ∷ xs) =
     → AllByRecursion (λ y. p y ≡ true) (cond b (x ∷ filter p xs) (filter p xs)) in
     (elim (p x) as P [ true ↦ λ h. (h, all_passed p xs) | false ↦ λ h. all_passed p xs ]) refl
 
+-- where P implies Q, a list whose elements all have P is one whose elements all have Q
 pub all_weaker : {X : Type 0} (P Q : X → Type 0) → ((x : X) → P x → Q x) → (xs : List X)
     → AllByRecursion P xs → AllByRecursion Q xs
 all_weaker P Q f [] h = tt
 all_weaker P Q f (x ∷ xs) h = (f x h.0, all_weaker P Q f xs h.1)
 
+-- what holds of all elements of two lists holds of all elements of the joined list
 pub all_append : {X : Type 0} (P : X → Type 0) (xs ys : List X) → AllByRecursion P xs
     → AllByRecursion P ys → AllByRecursion P (xs ++ ys)
 all_append P [] ys h k = k
 all_append P (x ∷ xs) ys h k = (h.0, all_append P xs ys h.1 k)
 
+-- what holds of all elements holds of all that a filter keeps
 pub all_filtered : {X : Type 0} (P : X → Type 0) (p : X → Bool) (xs : List X) → AllByRecursion P xs
     → AllByRecursion P (filter p xs)
 all_filtered P p [] h = tt
@@ -178,6 +185,7 @@ before s x = is_lt (subscription_cmp x s)
 abbrev pub behind : Subscription → Subscription → Bool
 behind s x = is_lt (subscription_cmp s x)
 
+-- a filter keeps as many of a joined list as of its two parts together
 pub length-filter-append : {X : Type 0} (p : X → Bool) (xs ys : List X)
     → length (filter p (xs ++ ys)) ≡ length (filter p xs) + length (filter p ys)
 length-filter-append p [] ys = omega arith
@@ -190,14 +198,17 @@ length-filter-append p (x ∷ xs) ys =
       | false ↦ h
     ]
 
+-- shares that test as the same are equal
 pub same_share-is : (a b : Option Text) → same_share a b ≡ true → a ≡ b
 same_share-is None None h = refl
 same_share-is None (Some b) h = cc
 same_share-is (Some a) None h = cc
 same_share-is (Some a) (Some b) h = ap (λ t. Some t) ((bytes_eq-Decides a b).0 h)
 
+-- texts that test as the same are equal
 pub same_text-is : (a b : Text) → same_text a b ≡ true → a ≡ b
 same_text-is a b h = (bytes_eq-Decides a b).0 h
 
+-- a text tests as the same as itself
 pub same_text-itself : (a : Text) → same_text a a ≡ true
 same_text-itself a = (bytes_eq-Decides a a).1 refl

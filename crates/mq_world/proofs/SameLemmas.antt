@@ -12,6 +12,7 @@ use Rattle.mq_world.proofs.ListLemmas.{filter-same}
 
 -- ## What filters, maps and tests say of such lists
 
+-- two filters, one after the other, keep just what passes both tests
 pub filter-filter : {X : Type 0} (p q : X → Bool) (xs : List X)
     → filter p (filter q xs) ≡ filter (λ x. q x && p x) xs
 filter-filter p q [] = refl
@@ -38,6 +39,7 @@ length-filter-map f p (x ∷ xs) =
       | false ↦ length-filter-map f p xs
     ]
 
+-- lists with the same elements, both mapped, have the same elements again
 pub SameElements-map : {X Y : Type 0} (f : X → Y) (xs ys : List X) → SameElements xs ys
     → SameElements (map f xs) (map f ys)
 SameElements-map f xs ys same = λ p. rw (length-filter-map f p xs, length-filter-map f p ys)
@@ -62,6 +64,7 @@ length-filter-filter_map h p (x ∷ xs) =
           ]
     ]
 
+-- the same of `filter_map`: lists with the same elements give lists with the same elements
 pub SameElements-filter_map : {X Y : Type 0} (h : X → Option Y) (xs ys : List X)
     → SameElements xs ys → SameElements (filter_map h xs) (filter_map h ys)
 SameElements-filter_map h xs ys same =
@@ -84,6 +87,7 @@ eqb-suc-zero n =
       | false ↦ λ h. refl
     ]) refl
 
+-- a number above 0 does not test as 0
 pub some_pass : (n : ℕ) → true ≡ not (suc n == 0)
 some_pass n = sym (ap not (eqb-suc-zero n))
 
@@ -96,6 +100,7 @@ any-is p (x ∷ xs) =
       | false ↦ any-is p xs
     ]
 
+-- of lists with the same elements, both have an element that passes or neither has
 pub list_any-SameElements : {X : Type 0} (p : X → Bool) (xs ys : List X) → SameElements xs ys
     → list_any p xs ≡ list_any p ys
 list_any-SameElements p xs ys same = any-is p xs ∙ ap (λ n. not (n == 0)) (same p)
@@ -144,6 +149,7 @@ greatest-SameElements ms ns same =
 
 -- ## Ascending numbers
 
+-- the test tells the order: it holds and m is at most n, or it fails and n is less than m
 pub le_cases : (m n : ℕ) → ((nat_le m n ≡ true) × (m ≤ n)) ⊎ ((nat_le m n ≡ false) × (n < m))
 le_cases m n =
     let P : Bool → Type 0 = λ b. nat_le m n ≡ b → ((b ≡ true) × (m ≤ n))
@@ -154,6 +160,7 @@ le_cases m n =
           (refl, leb-false _ _ h)
     ]) refl
 
+-- the test that m is at most n fails where n is less
 pub not_le : (m n : ℕ) → n < m → nat_le m n ≡ false
 not_le m n h = elim (le_cases m n) as (λ _. nat_le m n ≡ false)
     [ inl k ↦ absurd (omega arith) | inr k ↦ k.0 ]
@@ -223,6 +230,7 @@ ascending-without n (m ∷ ms) h =
           ∙ insert-swap m n (ascending (without n ms))
     ]) refl h
 
+-- a filter keeps as many as of the rest, and one more where the first element passes
 pub length-filter-cons : {X : Type 0} (p : X → Bool) (x : X) (xs : List X)
     → length (filter p (x ∷ xs)) ≡ cond (p x) 1 0 + length (filter p xs)
 length-filter-cons p x xs =

@@ -10,9 +10,11 @@ use Rattle.std.specs.List.Sorted.{IsStrictlySortedBy}
 use Rattle.std.specs.Map.{lookup, set_value, remove_entry, keys_of}
 use Rattle.std.specs.BTreeMap.{insert_entry}
 
+-- where two options with values are equal, so are the values
 pub some_same : {A : Type 0} {x y : A} → ◌≡◌ {A = Option A} (Some x) (Some y) → x ≡ y
 some_same h = cc
 
+-- an option without a value is not equal to one with a value
 pub none_some : {A : Type 0} {x : A} → ◌≡◌ {A = Option A} None (Some x) → ⊥
 none_some h = cc
 
@@ -89,6 +91,7 @@ module _ {K X : Type 0} (cmp : K → K → Ordering) (test : K → Bool) where
             })
       ]) refl h
 
+-- where a look-up finds nothing, all keys fail its test
 pub none_passes : {K X : Type 0} (test : K → Bool) (es : List (K × X)) → lookup test es ≡ None
     → AllByRecursion (λ (e : K × X). test e.0 ≡ false) es
 none_passes test [] h = tt
@@ -129,6 +132,7 @@ pub record Put {K X : Type 0} (cmp : K → K → Ordering) (k : K) (es : List (K
   pub gap : Gap (λ y. is_eq (cmp k y)) es
   pub put : (v : X) → insert_entry cmp es k v ≡ gap.front ++ (k, v) ∷ gap.back
 
+-- where a look-up finds no key that ties with k, there is a gap among the entries where k is put
 pub put_gap : {K X : Type 0} (cmp : K → K → Ordering) (k : K) (es : List (K × X))
     → lookup (λ y. is_eq (cmp k y)) es ≡ None → Put cmp k es
 put_gap cmp k [] h =
