@@ -1,19 +1,19 @@
 -- Each command's fields, read in the order of their names.
 use Rattle.std.proofs.Common.{◌≡◌, ℕ, List, [], ◌∷◌, true, false, Option, Some, None, option_map}
-use Rattle.std.proofs.Common.{refl, rules, sym, ap, ◌∙◌}
-use Rattle.std.specs.Prelude.{Result, Ok, Err, codes}
+use Rattle.std.proofs.Common.{Bool, ◌||◌, refl, rules, sym, ap, ◌∙◌}
+use Rattle.std.specs.Prelude.{Result, Ok, Err, codes, if◌then◌else◌}
 use Rattle.serde_json.specs.Data.{Data, object, Members}
 use Rattle.serde_json.specs.Find.{get}
 use Rattle.mq_lines.specs.Objects.{names_of}
 use Rattle.mq_world.specs.World.{Request, Connect, Disconnect, Subscribe, Unsubscribe, Publish}
 use Rattle.mq_world.specs.World.{SetAcl, Advance, Stat}
 use Rattle.mq_lines.specs.Fields.{◌>>=◌, text, flag, unsigned, whole, of_kind, optional, required}
-use Rattle.mq_lines.specs.Fields.{defaulted, or_fault}
+use Rattle.mq_lines.specs.Fields.{defaulted, or_fault, is_fault, value_or}
 use Rattle.mq_lines.specs.Reading.{connect_names, connect_fields, disconnect_fields}
 use Rattle.mq_lines.specs.Reading.{subscribe_names, subscribe_fields, unsubscribe_fields}
 use Rattle.mq_lines.specs.Reading.{publish_names, publish_fields, acl_fields, advance_fields}
 use Rattle.mq_lines.specs.Reading.{stat_fields}
-use Rattle.mq_lines.specs.Ahead.{Ascends, ahead, end}
+use Rattle.mq_lines.specs.Ahead.{Ascends, ahead, past, end, outcome}
 use Rattle.mq_lines.specs.declared.fault.LineFault.{LineFault}
 use Rattle.mq_lines.specs.declared.fault.LineFault.TheVariants.{BadField}
 use Rattle.mq_lines.proofs.AheadLemmas.{left, walked}
@@ -59,6 +59,22 @@ faulty (Err d) f e p q h = ap Err (p ∙ sym q)
 faulty_now : {A B : Type 0} (r : Result A LineFault) (f : A → Result B LineFault) → r ≡ Err BadField
     → (r >>= f) ≡ Err BadField
 faulty_now r f h = ap (λ s. s >>= f) h
+
+-- ---- faults may be gathered, and told at the end
+
+-- one more field: its fault joins those so far, and its value stands, or one in its place
+gather : {A Y : Type 0} (b : Bool) (r : Result A LineFault) (a : A) (rest : A → Result Y LineFault)
+    → Sound r → (if b then Err BadField else (r >>= rest))
+    ≡ (if b || is_fault r then Err BadField else rest (value_or a r))
+gather true r a rest h = refl
+gather false (Ok x) a rest h = refl
+gather false (Err e) a rest h = ap Err h
+
+-- what was gathered, and then whether no member is left
+finished : {Y : Type 0} (b : Bool) (ms : Members) (y : Y)
+    → (if b then Err BadField else (end ms >>= λ _. Ok y)) ≡ (outcome b ms >>= λ _. Ok y)
+finished true ms y = refl
+finished false ms y = refl
 
 -- ---- each command
 
@@ -342,3 +358,200 @@ unfolding stat_fields
 stat_walked ms sorted = walked (codes "do" ∷ []) stat_order ms _ (stat_walk ms) refl sorted
     (λ a. rw a.1)
     (λ e. faulty_now _ _ e)
+
+-- ---- each command, with its faults gathered
+
+-- what a connect says, with the faults of its fields told at the end
+pub connect_read : (ms : Members) → Ascends (names_of ms) →
+    let clean = defaulted true flag (codes "clean") (ahead ms) in
+    let m1 = past (codes "clean") ms in
+    let client = required text (codes "client") (ahead m1) in
+    let m2 = past (codes "client") m1 in
+    let m3 = past (codes "do") m2 in
+    let session_expiry = defaulted 0 (whole 0 4294967295) (codes "session_expiry") (ahead m3) in
+    let m4 = past (codes "session_expiry") m3 in
+    let user = optional text (codes "user") (ahead m4) in
+    let m5 = past (codes "user") m4 in
+    let f1 = false || is_fault clean in
+    let f2 = f1 || is_fault client in
+    let f3 = f2 || is_fault session_expiry in
+    let f4 = f3 || is_fault user in
+    connect_fields (object ms) ≡ (outcome f4 m5 >>= λ _.
+    Ok (Connect (value_or [] client) (value_or None user) (value_or true clean) (value_or 0 session_expiry)))
+connect_read ms sorted =
+    let m1 = past (codes "clean") ms in
+    let m2 = past (codes "client") m1 in
+    let m3 = past (codes "do") m2 in
+    let m4 = past (codes "session_expiry") m3 in
+    connect_walked ms sorted
+    ∙ gather false _ true _ (sound_defaulted true flag (codes "clean") (ahead ms))
+    ∙ gather _ _ [] _ (sound_required text (codes "client") (ahead m1))
+    ∙ gather _ _ 0 _ (sound_defaulted 0 (whole 0 4294967295) (codes "session_expiry") (ahead m3))
+    ∙ gather _ _ None _ (sound_optional text (codes "user") (ahead m4))
+    ∙ finished _ _ _
+
+-- what a disconnect says, with the faults of its fields told at the end
+pub disconnect_read : (ms : Members) → Ascends (names_of ms) →
+    let client = required text (codes "client") (ahead ms) in
+    let m1 = past (codes "client") ms in
+    let m2 = past (codes "do") m1 in
+    let f1 = false || is_fault client in
+    disconnect_fields (object ms) ≡ (outcome f1 m2 >>= λ _.
+    Ok (Disconnect (value_or [] client)))
+disconnect_read ms sorted =
+    let m1 = past (codes "client") ms in
+    disconnect_walked ms sorted
+    ∙ gather false _ [] _ (sound_required text (codes "client") (ahead ms))
+    ∙ finished _ _ _
+
+-- what a subscribe says, with the faults of its fields told at the end
+pub subscribe_read : (ms : Members) → Ascends (names_of ms) →
+    let client = required text (codes "client") (ahead ms) in
+    let m1 = past (codes "client") ms in
+    let m2 = past (codes "do") m1 in
+    let filter = required text (codes "filter") (ahead m2) in
+    let m3 = past (codes "filter") m2 in
+    let handling = defaulted 0 (whole 0 2) (codes "handling") (ahead m3) in
+    let m4 = past (codes "handling") m3 in
+    let id = optional (whole 1 268435455) (codes "id") (ahead m4) in
+    let m5 = past (codes "id") m4 in
+    let no_local = defaulted false flag (codes "no_local") (ahead m5) in
+    let m6 = past (codes "no_local") m5 in
+    let qos = defaulted 0 (whole 0 2) (codes "qos") (ahead m6) in
+    let m7 = past (codes "qos") m6 in
+    let rap = defaulted false flag (codes "rap") (ahead m7) in
+    let m8 = past (codes "rap") m7 in
+    let f1 = false || is_fault client in
+    let f2 = f1 || is_fault filter in
+    let f3 = f2 || is_fault handling in
+    let f4 = f3 || is_fault id in
+    let f5 = f4 || is_fault no_local in
+    let f6 = f5 || is_fault qos in
+    let f7 = f6 || is_fault rap in
+    subscribe_fields (object ms) ≡ (outcome f7 m8 >>= λ _.
+    Ok (Subscribe (value_or [] client) (value_or [] filter) (record {
+      qos = value_or 0 qos;
+      no_local = value_or false no_local;
+      retain_as_published = value_or false rap;
+      handling = value_or 0 handling;
+      identifier = value_or None id;
+    })))
+subscribe_read ms sorted =
+    let m1 = past (codes "client") ms in
+    let m2 = past (codes "do") m1 in
+    let m3 = past (codes "filter") m2 in
+    let m4 = past (codes "handling") m3 in
+    let m5 = past (codes "id") m4 in
+    let m6 = past (codes "no_local") m5 in
+    let m7 = past (codes "qos") m6 in
+    subscribe_walked ms sorted
+    ∙ gather false _ [] _ (sound_required text (codes "client") (ahead ms))
+    ∙ gather _ _ [] _ (sound_required text (codes "filter") (ahead m2))
+    ∙ gather _ _ 0 _ (sound_defaulted 0 (whole 0 2) (codes "handling") (ahead m3))
+    ∙ gather _ _ None _ (sound_optional (whole 1 268435455) (codes "id") (ahead m4))
+    ∙ gather _ _ false _ (sound_defaulted false flag (codes "no_local") (ahead m5))
+    ∙ gather _ _ 0 _ (sound_defaulted 0 (whole 0 2) (codes "qos") (ahead m6))
+    ∙ gather _ _ false _ (sound_defaulted false flag (codes "rap") (ahead m7))
+    ∙ finished _ _ _
+
+-- what a unsubscribe says, with the faults of its fields told at the end
+pub unsubscribe_read : (ms : Members) → Ascends (names_of ms) →
+    let client = required text (codes "client") (ahead ms) in
+    let m1 = past (codes "client") ms in
+    let m2 = past (codes "do") m1 in
+    let filter = required text (codes "filter") (ahead m2) in
+    let m3 = past (codes "filter") m2 in
+    let f1 = false || is_fault client in
+    let f2 = f1 || is_fault filter in
+    unsubscribe_fields (object ms) ≡ (outcome f2 m3 >>= λ _.
+    Ok (Unsubscribe (value_or [] client) (value_or [] filter)))
+unsubscribe_read ms sorted =
+    let m1 = past (codes "client") ms in
+    let m2 = past (codes "do") m1 in
+    unsubscribe_walked ms sorted
+    ∙ gather false _ [] _ (sound_required text (codes "client") (ahead ms))
+    ∙ gather _ _ [] _ (sound_required text (codes "filter") (ahead m2))
+    ∙ finished _ _ _
+
+-- what a publish says, with the faults of its fields told at the end
+pub publish_read : (ms : Members) → Ascends (names_of ms) →
+    let client = required text (codes "client") (ahead ms) in
+    let m1 = past (codes "client") ms in
+    let m2 = past (codes "do") m1 in
+    let expiry = optional (whole 0 4294967295) (codes "expiry") (ahead m2) in
+    let m3 = past (codes "expiry") m2 in
+    let payload = defaulted [] text (codes "payload") (ahead m3) in
+    let m4 = past (codes "payload") m3 in
+    let qos = defaulted 0 (whole 0 2) (codes "qos") (ahead m4) in
+    let m5 = past (codes "qos") m4 in
+    let retain = defaulted false flag (codes "retain") (ahead m5) in
+    let m6 = past (codes "retain") m5 in
+    let topic = required text (codes "topic") (ahead m6) in
+    let m7 = past (codes "topic") m6 in
+    let f1 = false || is_fault client in
+    let f2 = f1 || is_fault expiry in
+    let f3 = f2 || is_fault payload in
+    let f4 = f3 || is_fault qos in
+    let f5 = f4 || is_fault retain in
+    let f6 = f5 || is_fault topic in
+    publish_fields (object ms) ≡ (outcome f6 m7 >>= λ _.
+    Ok (Publish (record {
+      publisher = value_or [] client;
+      topic = value_or [] topic;
+      payload = value_or [] payload;
+      qos = value_or 0 qos;
+      retain = value_or false retain;
+      expiry = value_or None expiry;
+    })))
+publish_read ms sorted =
+    let m1 = past (codes "client") ms in
+    let m2 = past (codes "do") m1 in
+    let m3 = past (codes "expiry") m2 in
+    let m4 = past (codes "payload") m3 in
+    let m5 = past (codes "qos") m4 in
+    let m6 = past (codes "retain") m5 in
+    publish_walked ms sorted
+    ∙ gather false _ [] _ (sound_required text (codes "client") (ahead ms))
+    ∙ gather _ _ None _ (sound_optional (whole 0 4294967295) (codes "expiry") (ahead m2))
+    ∙ gather _ _ [] _ (sound_defaulted [] text (codes "payload") (ahead m3))
+    ∙ gather _ _ 0 _ (sound_defaulted 0 (whole 0 2) (codes "qos") (ahead m4))
+    ∙ gather _ _ false _ (sound_defaulted false flag (codes "retain") (ahead m5))
+    ∙ gather _ _ [] _ (sound_required text (codes "topic") (ahead m6))
+    ∙ finished _ _ _
+
+-- what a acl says, with the faults of its fields told at the end
+pub acl_read : (ms : Members) → Ascends (names_of ms) →
+    let m1 = past (codes "do") ms in
+    let text_read = optional text (codes "text") (ahead m1) in
+    let m2 = past (codes "text") m1 in
+    let f1 = false || is_fault text_read in
+    acl_fields (object ms) ≡ (outcome f1 m2 >>= λ _.
+    Ok (SetAcl (value_or None text_read)))
+acl_read ms sorted =
+    let m1 = past (codes "do") ms in
+    acl_walked ms sorted
+    ∙ gather false _ None _ (sound_optional text (codes "text") (ahead m1))
+    ∙ finished _ _ _
+
+-- what a advance says, with the faults of its fields told at the end
+pub advance_read : (ms : Members) → Ascends (names_of ms) →
+    let m1 = past (codes "do") ms in
+    let seconds = required unsigned (codes "seconds") (ahead m1) in
+    let m2 = past (codes "seconds") m1 in
+    let f1 = false || is_fault seconds in
+    advance_fields (object ms) ≡ (outcome f1 m2 >>= λ _.
+    Ok (Advance (value_or 0 seconds)))
+advance_read ms sorted =
+    let m1 = past (codes "do") ms in
+    advance_walked ms sorted
+    ∙ gather false _ 0 _ (sound_required unsigned (codes "seconds") (ahead m1))
+    ∙ finished _ _ _
+
+-- what a stat says, with the faults of its fields told at the end
+pub stat_read : (ms : Members) → Ascends (names_of ms) →
+    let m1 = past (codes "do") ms in
+    stat_fields (object ms) ≡ (outcome false m1 >>= λ _.
+    Ok (Stat))
+stat_read ms sorted =
+    stat_walked ms sorted
+    ∙ finished false _ _

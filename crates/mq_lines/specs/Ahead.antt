@@ -1,6 +1,7 @@
 -- An object that is read member by member, in the order of its names.
 use Rattle.std.specs.Borrow.{Bor, MutBor}
 use Rattle.std.specs.Prelude.{◌≡◌, ℕ, List, [], ◌∷◌, cond, Option, None, Some, Result, Ok, Err, ⊤}
+use Rattle.std.specs.Prelude.{Bool, true, false}
 use Rattle.std.specs.Cmp.Lexicographic.{slice_cmp}
 use Rattle.std.specs.List.{AllByRecursion}
 use Rattle.std.specs.Ordering.{nat_cmp}
@@ -44,3 +45,8 @@ past k (member l d ms) = cond (bytes_eq k l) ms (member l d ms)
 abbrev pub end : Members → Result ⊤ LineFault
 end no_members = Ok tt
 end (member l d ms) = Err BadField
+
+-- whether a field had a fault, or a member is left
+abbrev pub outcome : Bool → Members → Result ⊤ LineFault
+outcome true ms = Err BadField
+outcome false ms = end ms

@@ -39,6 +39,16 @@ unsigned d = option_and_then as_u64 (as_number d)
 abbrev pub whole : ℕ → ℕ → Data → Option ℕ
 whole low high d = option_and_then (within low high) (unsigned d)
 
+-- ---- what was read, or a value in its place where there is a fault
+
+abbrev pub is_fault : {A : Type 0} → Result A LineFault → Bool
+is_fault (Ok x) = false
+is_fault (Err e) = true
+
+abbrev pub value_or : {A : Type 0} → A → Result A LineFault → A
+value_or a (Ok x) = x
+value_or a (Err e) = a
+
 -- ---- a field by its kind and name
 
 abbrev pub of_kind : {A : Type 0} → (Data → Option A) → Option Data → Result (Option A) LineFault

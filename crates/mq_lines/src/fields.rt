@@ -1,11 +1,13 @@
 //! The fields of an object, each of one kind, read in the order of their names.
-ghost use Rattle.std.specs.Prelude.{◌≡◌, ◌≤◌, [], false, IfOk, IfSome, option_map, string_bytes};
+ghost use Rattle.std.specs.Prelude.{◌≡◌, ◌≤◌, ◌||◌, [], true, false, None, Ok, Err};
+ghost use Rattle.std.specs.Prelude.{IfSome, option_map, string_bytes};
 ghost use Rattle.serde_json.specs.View.{view, members_view};
 ghost use Rattle.serde_json.specs.Find.{get, get_member};
-ghost use Rattle.mq_lines.specs.Fields.{Gives, text as text_kind, flag as flag_kind, unsigned};
+ghost use Rattle.mq_lines.specs.Fields.{text as text_kind, flag as flag_kind, unsigned};
 ghost use Rattle.mq_lines.specs.Fields.{whole, optional, required, defaulted};
+ghost use Rattle.mq_lines.specs.Fields.{is_fault, value_or};
 ghost use Rattle.mq_lines.specs.Objects.{names_of};
-ghost use Rattle.mq_lines.specs.Ahead.{Ascends, ahead, past, end as ending, members_left};
+ghost use Rattle.mq_lines.specs.Ahead.{Ascends, ahead, past, outcome, members_left};
 
 use crate::fault::LineFault;
 use serde_json::{Map, Value};
@@ -22,21 +24,30 @@ pub fn field<'a>(members: &'a Map<String, Value>, name: &str) -> Option<&'a Valu
 }
 
 /// The members of an object that are left. Each name asked for is compared with the next member alone, so a name that
-/// isn't asked for in its place stays, and what comes after it seems absent.
+/// isn't asked for in its place stays, and what comes after it seems absent. A field with a fault is read as if it were
+/// absent, or as an empty one where it must be there, and `are_faulty` tells it.
 #[derive(Drop)]
 pub struct Fields<'a> {
+    alloc: Global,
     next: Option<(&'a String, &'a mut Value)>,
     rest: IterMut<'a, String, Value>,
+    is_faulty: bool,
 }
 
 impl<'a> Fields<'a> {
-    pub fn of(members: &'a mut Map<String, Value>) -> Fields<'a>
+    pub fn of(alloc: Global, members: &'a mut Map<String, Value>) -> Fields<'a>
         ensures all { members_left result ≡ members_view members.old.entries }
         ensures ordered { Ascends (names_of (members_view members.old.entries)) }
+        ensures sound { result.is_faulty ≡ false }
     {
         let mut rest = members.iter_mut();
         let next = rest.next();
-        Fields { next, rest }
+        Fields {
+            alloc,
+            next,
+            rest,
+            is_faulty: false,
+        }
     }
 
     // The value under the name, if the next member has it.
@@ -44,6 +55,7 @@ impl<'a> Fields<'a> {
         ensures value { option_map (λ v. view v.now) result
             ≡ get name.now (ahead (members_left self.old)) }
         ensures left { members_left self.new ≡ past name.now (members_left self.old) }
+        ensures faulty { self.new.is_faulty ≡ self.old.is_faulty }
     {
         let Some((key, _)) = &self.next else {
             return None;
@@ -60,133 +72,156 @@ impl<'a> Fields<'a> {
 
     /// Passes by a field whose value is known.
     pub fn skip(&mut self, name: &str)
-        ensures { members_left self.new ≡ past name.now (members_left self.old) }
+        ensures left { members_left self.new ≡ past name.now (members_left self.old) }
+        ensures faulty { self.new.is_faulty ≡ self.old.is_faulty }
     {
         self.take(name);
     }
 
     /// A text, if it is there.
-    pub fn optional_text(&mut self, name: &str) -> Result<Option<String>, LineFault>
-        ensures value { Gives (option_map string_bytes) result
-            (optional text_kind name.now (ahead (members_left self.old))) }
+    pub fn optional_text(&mut self, name: &str) -> Option<String>
+        ensures value { option_map string_bytes result
+            ≡ value_or None (optional text_kind name.now (ahead (members_left self.old))) }
         ensures left { members_left self.new ≡ past name.now (members_left self.old) }
+        ensures faulty { self.new.is_faulty ≡ (self.old.is_faulty
+            || is_fault (optional text_kind name.now (ahead (members_left self.old)))) }
     {
-        let Some(field) = self.take(name) else {
-            return Ok(None);
-        };
+        let field = self.take(name)?;
         match field.take() {
-            Value::String(text) => Ok(Some(text)),
-            _ => Err(LineFault::BadField),
+            Value::String(text) => Some(text),
+            _ => {
+                self.is_faulty = true;
+                None
+            }
         }
     }
 
     /// A text, which must be there.
-    pub fn required_text(&mut self, name: &str) -> Result<String, LineFault>
-        ensures value { Gives string_bytes result
-            (required text_kind name.now (ahead (members_left self.old))) }
+    pub fn required_text(&mut self, name: &str) -> String
+        ensures value { string_bytes result
+            ≡ value_or [] (required text_kind name.now (ahead (members_left self.old))) }
         ensures left { members_left self.new ≡ past name.now (members_left self.old) }
+        ensures faulty { self.new.is_faulty ≡ (self.old.is_faulty
+            || is_fault (required text_kind name.now (ahead (members_left self.old)))) }
     {
-        match self.optional_text(name)? {
-            Some(text) => Ok(text),
-            None => Err(LineFault::BadField),
+        match self.optional_text(name) {
+            Some(text) => text,
+            None => {
+                self.is_faulty = true;
+                String::new(self.alloc)
+            }
         }
     }
 
     /// A text, and the empty one where it is absent.
-    pub fn text_or_empty(&mut self, alloc: Global, name: &str) -> Result<String, LineFault>
-        ensures value { Gives string_bytes result
-            (defaulted [] text_kind name.now (ahead (members_left self.old))) }
+    pub fn text_or_empty(&mut self, name: &str) -> String
+        ensures value { string_bytes result
+            ≡ value_or [] (defaulted [] text_kind name.now (ahead (members_left self.old))) }
         ensures left { members_left self.new ≡ past name.now (members_left self.old) }
+        ensures faulty { self.new.is_faulty ≡ (self.old.is_faulty
+            || is_fault (defaulted [] text_kind name.now (ahead (members_left self.old)))) }
     {
-        match self.optional_text(name)? {
-            Some(text) => Ok(text),
-            None => Ok(String::new(alloc)),
+        match self.optional_text(name) {
+            Some(text) => text,
+            None => String::new(self.alloc),
         }
     }
 
     /// True or false, and `absent` where it is absent.
-    pub fn flag_or(&mut self, name: &str, absent: bool) -> Result<bool, LineFault>
-        ensures value { Gives (λ b. b) result
-            (defaulted absent flag_kind name.now (ahead (members_left self.old))) }
+    pub fn flag_or(&mut self, name: &str, absent: bool) -> bool
+        ensures value { result
+            ≡ value_or absent (defaulted absent flag_kind name.now (ahead (members_left self.old))) }
         ensures left { members_left self.new ≡ past name.now (members_left self.old) }
+        ensures faulty { self.new.is_faulty ≡ (self.old.is_faulty
+            || is_fault (defaulted absent flag_kind name.now (ahead (members_left self.old)))) }
     {
         let Some(field) = self.take(name) else {
-            return Ok(absent);
+            return absent;
         };
         match field.as_bool() {
-            Some(flag) => Ok(flag),
-            None => Err(LineFault::BadField),
+            Some(flag) => flag,
+            None => {
+                self.is_faulty = true;
+                absent
+            }
         }
     }
 
     /// True or false, and false where it is absent.
-    pub fn is_set(&mut self, name: &str) -> Result<bool, LineFault>
-        ensures value { Gives (λ b. b) result
-            (defaulted false flag_kind name.now (ahead (members_left self.old))) }
+    pub fn is_set(&mut self, name: &str) -> bool
+        ensures value { result
+            ≡ value_or false (defaulted false flag_kind name.now (ahead (members_left self.old))) }
         ensures left { members_left self.new ≡ past name.now (members_left self.old) }
+        ensures faulty { self.new.is_faulty ≡ (self.old.is_faulty
+            || is_fault (defaulted false flag_kind name.now (ahead (members_left self.old)))) }
     {
         self.flag_or(name, false)
     }
 
     /// A whole number up to `high`, and 0 where it is absent.
-    pub fn number_or_zero(&mut self, name: &str, high: u8) -> Result<u8, LineFault>
-        ensures value { Gives (λ n. n) result
-            (defaulted 0 (whole 0 high) name.now (ahead (members_left self.old))) }
-        ensures range { IfOk result (λ n. n ≤ high) }
+    pub fn number_or_zero(&mut self, name: &str, high: u8) -> u8
+        ensures value { result
+            ≡ value_or 0 (defaulted 0 (whole 0 high) name.now (ahead (members_left self.old))) }
+        ensures range { result ≤ high }
         ensures left { members_left self.new ≡ past name.now (members_left self.old) }
+        ensures faulty { self.new.is_faulty ≡ (self.old.is_faulty
+            || is_fault (defaulted 0 (whole 0 high) name.now (ahead (members_left self.old)))) }
     {
         let Some(field) = self.take(name) else {
-            return Ok(0);
+            return 0;
         };
         match field.as_u64() {
-            Some(n) if n <= u64::from(high) => Ok(n as u8),
-            _ => Err(LineFault::BadField),
+            Some(n) if n <= u64::from(high) => n as u8,
+            _ => {
+                self.is_faulty = true;
+                0
+            }
         }
     }
 
     /// A whole number from `low` to `high`, if it is there.
-    pub fn optional_number(
-        &mut self,
-        name: &str,
-        low: u32,
-        high: u32,
-    ) -> Result<Option<u32>, LineFault>
-        ensures value { Gives (λ o. o) result
-            (optional (whole low high) name.now (ahead (members_left self.old))) }
-        ensures range { IfOk result (λ o. IfSome o (λ n. (low ≤ n) × (n ≤ high))) }
+    pub fn optional_number(&mut self, name: &str, low: u32, high: u32) -> Option<u32>
+        ensures value { result
+            ≡ value_or None (optional (whole low high) name.now (ahead (members_left self.old))) }
+        ensures range { IfSome result (λ n. (low ≤ n) × (n ≤ high)) }
         ensures left { members_left self.new ≡ past name.now (members_left self.old) }
+        ensures faulty { self.new.is_faulty ≡ (self.old.is_faulty
+            || is_fault (optional (whole low high) name.now (ahead (members_left self.old)))) }
     {
-        let Some(field) = self.take(name) else {
-            return Ok(None);
-        };
+        let field = self.take(name)?;
         match field.as_u64() {
-            Some(n) if u64::from(low) <= n && n <= u64::from(high) => Ok(Some(n as u32)),
-            _ => Err(LineFault::BadField),
+            Some(n) if u64::from(low) <= n && n <= u64::from(high) => Some(n as u32),
+            _ => {
+                self.is_faulty = true;
+                None
+            }
         }
     }
 
     /// A whole number, which must be there.
-    pub fn required_number(&mut self, name: &str) -> Result<u64, LineFault>
-        ensures value { Gives (λ n. n) result
-            (required unsigned name.now (ahead (members_left self.old))) }
+    pub fn required_number(&mut self, name: &str) -> u64
+        ensures value { result
+            ≡ value_or 0 (required unsigned name.now (ahead (members_left self.old))) }
         ensures left { members_left self.new ≡ past name.now (members_left self.old) }
+        ensures faulty { self.new.is_faulty ≡ (self.old.is_faulty
+            || is_fault (required unsigned name.now (ahead (members_left self.old)))) }
     {
-        let Some(field) = self.take(name) else {
-            return Err(LineFault::BadField);
-        };
-        match field.as_u64() {
-            Some(n) => Ok(n),
-            None => Err(LineFault::BadField),
+        match self.take(name).and_then(|field| field.as_u64()) {
+            Some(n) => n,
+            None => {
+                self.is_faulty = true;
+                0
+            }
         }
     }
 
-    /// That no member is left.
-    pub fn end(&self) -> Result<(), LineFault>
-        ensures { Gives (λ u. u) result (ending (members_left self.now)) }
+    /// Whether some field wasn't as it has to be, or a member is left.
+    pub fn are_faulty(&self) -> bool
+        ensures faulty { result ≡ true
+            → outcome self.now.is_faulty (members_left self.now) ≡ Err LineFault.BadField }
+        ensures read { result ≡ false
+            → outcome self.now.is_faulty (members_left self.now) ≡ Ok tt }
     {
-        match &self.next {
-            None => Ok(()),
-            Some(_) => Err(LineFault::BadField),
-        }
+        self.is_faulty || self.next.is_some()
     }
 }

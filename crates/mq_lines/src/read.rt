@@ -26,18 +26,21 @@ const MOST_HANDLING: u8 = 2;
 
 const MOST_ID: u32 = 268_435_455;
 
-fn connect(members: &mut Map<String, Value>) -> Result<Command, LineFault>
+#[tactic(auto, using(crate::proofs::WalkLemmas::connect_read))]
+fn connect(alloc: Global, members: &mut Map<String, Value>) -> Result<Command, LineFault>
     ensures value { Gives request_of result
         (connect_fields (object (members_view members.old.entries))) }
     ensures valid { IfOk result (λ c. IsTrue (is_valid (request_of c))) }
 {
-    let mut fields = Fields::of(members);
-    let clean = fields.flag_or("clean", true)?;
-    let client = fields.required_text("client")?;
+    let mut fields = Fields::of(alloc, members);
+    let clean = fields.flag_or("clean", true);
+    let client = fields.required_text("client");
     fields.skip("do");
-    let session_expiry = fields.optional_number("session_expiry", 0, u32::MAX)?;
-    let user = fields.optional_text("user")?;
-    fields.end()?;
+    let session_expiry = fields.optional_number("session_expiry", 0, u32::MAX);
+    let user = fields.optional_text("user");
+    if fields.are_faulty() {
+        return Err(LineFault::BadField);
+    }
     Ok(Command::Connect {
         client,
         user,
@@ -46,33 +49,39 @@ fn connect(members: &mut Map<String, Value>) -> Result<Command, LineFault>
     })
 }
 
-fn disconnect(members: &mut Map<String, Value>) -> Result<Command, LineFault>
+#[tactic(auto, using(crate::proofs::WalkLemmas::disconnect_read))]
+fn disconnect(alloc: Global, members: &mut Map<String, Value>) -> Result<Command, LineFault>
     ensures value { Gives request_of result
         (disconnect_fields (object (members_view members.old.entries))) }
     ensures valid { IfOk result (λ c. IsTrue (is_valid (request_of c))) }
 {
-    let mut fields = Fields::of(members);
-    let client = fields.required_text("client")?;
+    let mut fields = Fields::of(alloc, members);
+    let client = fields.required_text("client");
     fields.skip("do");
-    fields.end()?;
+    if fields.are_faulty() {
+        return Err(LineFault::BadField);
+    }
     Ok(Command::Disconnect { client })
 }
 
-fn subscribe(members: &mut Map<String, Value>) -> Result<Command, LineFault>
+#[tactic(auto, using(crate::proofs::WalkLemmas::subscribe_read))]
+fn subscribe(alloc: Global, members: &mut Map<String, Value>) -> Result<Command, LineFault>
     ensures value { Gives request_of result
         (subscribe_fields (object (members_view members.old.entries))) }
     ensures valid { IfOk result (λ c. IsTrue (is_valid (request_of c))) }
 {
-    let mut fields = Fields::of(members);
-    let client = fields.required_text("client")?;
+    let mut fields = Fields::of(alloc, members);
+    let client = fields.required_text("client");
     fields.skip("do");
-    let filter = fields.required_text("filter")?;
-    let handling = fields.number_or_zero("handling", MOST_HANDLING)?;
-    let id = fields.optional_number("id", 1, MOST_ID)?;
-    let no_local = fields.is_set("no_local")?;
-    let qos = fields.number_or_zero("qos", MOST_QOS)?;
-    let rap = fields.is_set("rap")?;
-    fields.end()?;
+    let filter = fields.required_text("filter");
+    let handling = fields.number_or_zero("handling", MOST_HANDLING);
+    let id = fields.optional_number("id", 1, MOST_ID);
+    let no_local = fields.is_set("no_local");
+    let qos = fields.number_or_zero("qos", MOST_QOS);
+    let rap = fields.is_set("rap");
+    if fields.are_faulty() {
+        return Err(LineFault::BadField);
+    }
     Ok(Command::Subscribe {
         client,
         filter,
@@ -84,33 +93,39 @@ fn subscribe(members: &mut Map<String, Value>) -> Result<Command, LineFault>
     })
 }
 
-fn unsubscribe(members: &mut Map<String, Value>) -> Result<Command, LineFault>
+#[tactic(auto, using(crate::proofs::WalkLemmas::unsubscribe_read))]
+fn unsubscribe(alloc: Global, members: &mut Map<String, Value>) -> Result<Command, LineFault>
     ensures value { Gives request_of result
         (unsubscribe_fields (object (members_view members.old.entries))) }
     ensures valid { IfOk result (λ c. IsTrue (is_valid (request_of c))) }
 {
-    let mut fields = Fields::of(members);
-    let client = fields.required_text("client")?;
+    let mut fields = Fields::of(alloc, members);
+    let client = fields.required_text("client");
     fields.skip("do");
-    let filter = fields.required_text("filter")?;
-    fields.end()?;
+    let filter = fields.required_text("filter");
+    if fields.are_faulty() {
+        return Err(LineFault::BadField);
+    }
     Ok(Command::Unsubscribe { client, filter })
 }
 
+#[tactic(auto, using(crate::proofs::WalkLemmas::publish_read))]
 fn publish(alloc: Global, members: &mut Map<String, Value>) -> Result<Command, LineFault>
     ensures value { Gives request_of result
         (publish_fields (object (members_view members.old.entries))) }
     ensures valid { IfOk result (λ c. IsTrue (is_valid (request_of c))) }
 {
-    let mut fields = Fields::of(members);
-    let client = fields.required_text("client")?;
+    let mut fields = Fields::of(alloc, members);
+    let client = fields.required_text("client");
     fields.skip("do");
-    let expiry = fields.optional_number("expiry", 0, u32::MAX)?;
-    let payload = fields.text_or_empty(alloc, "payload")?;
-    let qos = fields.number_or_zero("qos", MOST_QOS)?;
-    let retain = fields.is_set("retain")?;
-    let topic = fields.required_text("topic")?;
-    fields.end()?;
+    let expiry = fields.optional_number("expiry", 0, u32::MAX);
+    let payload = fields.text_or_empty("payload");
+    let qos = fields.number_or_zero("qos", MOST_QOS);
+    let retain = fields.is_set("retain");
+    let topic = fields.required_text("topic");
+    if fields.are_faulty() {
+        return Err(LineFault::BadField);
+    }
     Ok(Command::Publish {
         client,
         topic,
@@ -121,41 +136,47 @@ fn publish(alloc: Global, members: &mut Map<String, Value>) -> Result<Command, L
     })
 }
 
-#[tactic(auto, using(crate::proofs::WalkLemmas::acl_walked))]
-fn acl(members: &mut Map<String, Value>) -> Result<Command, LineFault>
+#[tactic(auto, using(crate::proofs::WalkLemmas::acl_read))]
+fn acl(alloc: Global, members: &mut Map<String, Value>) -> Result<Command, LineFault>
     ensures value { Gives request_of result
         (acl_fields (object (members_view members.old.entries))) }
     ensures valid { IfOk result (λ c. IsTrue (is_valid (request_of c))) }
 {
-    let mut fields = Fields::of(members);
+    let mut fields = Fields::of(alloc, members);
     fields.skip("do");
-    let text = fields.optional_text("text")?;
-    fields.end()?;
+    let text = fields.optional_text("text");
+    if fields.are_faulty() {
+        return Err(LineFault::BadField);
+    }
     Ok(Command::SetAcl { text })
 }
 
-#[tactic(auto, using(crate::proofs::WalkLemmas::advance_walked))]
-fn advance(members: &mut Map<String, Value>) -> Result<Command, LineFault>
+#[tactic(auto, using(crate::proofs::WalkLemmas::advance_read))]
+fn advance(alloc: Global, members: &mut Map<String, Value>) -> Result<Command, LineFault>
     ensures value { Gives request_of result
         (advance_fields (object (members_view members.old.entries))) }
     ensures valid { IfOk result (λ c. IsTrue (is_valid (request_of c))) }
 {
-    let mut fields = Fields::of(members);
+    let mut fields = Fields::of(alloc, members);
     fields.skip("do");
-    let seconds = fields.required_number("seconds")?;
-    fields.end()?;
+    let seconds = fields.required_number("seconds");
+    if fields.are_faulty() {
+        return Err(LineFault::BadField);
+    }
     Ok(Command::Advance { seconds })
 }
 
-#[tactic(auto, using(crate::proofs::WalkLemmas::stat_walked))]
-fn stat(members: &mut Map<String, Value>) -> Result<Command, LineFault>
+#[tactic(auto, using(crate::proofs::WalkLemmas::stat_read))]
+fn stat(alloc: Global, members: &mut Map<String, Value>) -> Result<Command, LineFault>
     ensures value { Gives request_of result
         (stat_fields (object (members_view members.old.entries))) }
     ensures valid { IfOk result (λ c. IsTrue (is_valid (request_of c))) }
 {
-    let mut fields = Fields::of(members);
+    let mut fields = Fields::of(alloc, members);
     fields.skip("do");
-    fields.end()?;
+    if fields.are_faulty() {
+        return Err(LineFault::BadField);
+    }
     Ok(Command::Stat)
 }
 
@@ -169,14 +190,14 @@ fn command_in(alloc: Global, members: &mut Map<String, Value>) -> Result<Command
         return Err(LineFault::BadCommand);
     };
     match word {
-        "connect" => connect(members),
-        "disconnect" => disconnect(members),
-        "subscribe" => subscribe(members),
-        "unsubscribe" => unsubscribe(members),
+        "connect" => connect(alloc, members),
+        "disconnect" => disconnect(alloc, members),
+        "subscribe" => subscribe(alloc, members),
+        "unsubscribe" => unsubscribe(alloc, members),
         "publish" => publish(alloc, members),
-        "acl" => acl(members),
-        "advance" => advance(members),
-        "stat" => stat(members),
+        "acl" => acl(alloc, members),
+        "advance" => advance(alloc, members),
+        "stat" => stat(alloc, members),
         _ => Err(LineFault::BadCommand),
     }
 }

@@ -1,52 +1,25 @@
 use Rattle.std.proofs.Common.{arith, sym}
 use Rattle.std.proofs.lemmas.Grind.{common_steps}
 use Rattle.serde_json.specs.View.{members_view}
-use Rattle.mq_lines.proofs.WalkLemmas.{unsubscribe_walked}
+use Rattle.mq_lines.proofs.WalkLemmas.{unsubscribe_read}
 use Rattle.mq_lines.proofs.read.unsubscribe.Goals as goal
 
-pub returns-in_err-client-clause-value : goal.returns-in_err-client-clause-value
-returns-in_err-client-clause-value c =
-    let walk = unsubscribe_walked (members_view c.args.members.now.entries)
+pub returns-then-are_faulty-clause-value : goal.returns-then-are_faulty-clause-value
+returns-then-are_faulty-clause-value c =
+    let walk = unsubscribe_read (members_view c.args.members.now.entries)
     c.of-fields.ensures.ordered in
-    rw (walk, sym c.of-fields.ensures.all) (grind (arith, common_steps))
-
-pub returns-in_err-filter-clause-value : goal.returns-in_err-filter-clause-value
-returns-in_err-filter-clause-value c =
-    let walk = unsubscribe_walked (members_view c.args.members.now.entries)
-    c.of-fields.ensures.ordered in
+    let told = c.are_faulty.ensures.faulty c.if-are_faulty.true in
     rw (
       walk,
       sym c.of-fields.ensures.all,
-      sym c.required_text.ensures.left,
-      sym c.skip.ensures,
-      c.in_ok-client.ensures.value,
-    ) (grind (arith, common_steps))
-
-pub returns-in_err-end-clause-value : goal.returns-in_err-end-clause-value
-returns-in_err-end-clause-value c =
-    let walk = unsubscribe_walked (members_view c.args.members.now.entries)
-    c.of-fields.ensures.ordered in
-    rw (
-      walk,
-      sym c.of-fields.ensures.all,
-      sym c.required_text.ensures.left,
-      sym c.skip.ensures,
-      sym c.required_text-2.ensures.left,
-      c.in_ok-client.ensures.value,
-      c.in_ok-filter.ensures.value,
-    ) (grind (arith, common_steps))
-
-pub returns-clause-value : goal.returns-clause-value
-returns-clause-value c =
-    let walk = unsubscribe_walked (members_view c.args.members.now.entries)
-    c.of-fields.ensures.ordered in
-    rw (
-      walk,
-      sym c.of-fields.ensures.all,
-      sym c.required_text.ensures.left,
-      sym c.skip.ensures,
-      sym c.required_text-2.ensures.left,
-      c.in_ok-client.ensures.value,
-      c.in_ok-filter.ensures.value,
-      c.in_ok-end.ensures,
-    )
+      sym c.required_text-client.ensures.left,
+      sym c.skip.ensures.left,
+      sym c.required_text-filter.ensures.left,
+    ) (grind (
+      arith,
+      common_steps,
+      told,
+      c.required_text-client.ensures.faulty,
+      c.skip.ensures.faulty,
+      c.required_text-filter.ensures.faulty,
+    ))
