@@ -39,7 +39,7 @@ impl Datum<'_> {
 }
 
 /// Writes a text over a value. The memory of a text that is there is used again.
-pub fn set_text(alloc: Global, slot: &mut Value, text: &str) -> Result<(), AllocError>
+fn set_text(alloc: Global, slot: &mut Value, text: &str) -> Result<(), AllocError>
     ensures ok { OnOk result (view slot.new ≡ string text.now) }
     ensures err { OnErr result (has_float (view slot.old) ≡ false
         → has_float (view slot.new) ≡ false) }
@@ -65,7 +65,7 @@ fn set_numbers(alloc: Global, slot: &mut Value, numbers: &[u32]) -> Result<(), A
 }
 
 /// Numbers as a value.
-pub fn numbers_value(alloc: Global, numbers: &[u32]) -> Result<Value, AllocError>
+fn numbers_value(alloc: Global, numbers: &[u32]) -> Result<Value, AllocError>
     ensures { IfOk result (λ v. view v ≡ array (numbers_data numbers.now)) }
 {
     let mut list = Vec::new(alloc);

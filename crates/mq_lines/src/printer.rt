@@ -37,7 +37,7 @@ fn plain(code: u8, name: &'static str) -> Option<LineReport>
 }
 
 /// None for lack of memory.
-pub fn refusal_report(refusal: Refusal) -> Option<LineReport>
+fn refusal_report(refusal: Refusal) -> Option<LineReport>
     ensures { option_map report_of result ≡ report_of_refusal refusal }
 {
     match refusal {
@@ -60,7 +60,7 @@ pub fn refusal_report(refusal: Refusal) -> Option<LineReport>
 }
 
 /// None for lack of memory.
-pub fn line_fault_report(fault: LineFault) -> Option<LineReport>
+fn line_fault_report(fault: LineFault) -> Option<LineReport>
     ensures { option_map report_of result ≡ report_of_fault fault }
 {
     match fault {
