@@ -1,5 +1,5 @@
 #!/usr/bin/env python3
-"""Writes crates/mq_runs/src/tests/scripts.rt: two worked rows of tests/rows, since a test reads no files.
+"""Writes crates/mq_calls/src/tests/scripts.rt: two worked rows of tests/rows, since a test reads no files.
 
 Their lines of more than 1,000 bytes are left out, and the others renumbered: the scripts are cut at each byte. Run from the
 repository's top, whenever one of the rows changes: dev/hostile_scripts.py; with the argument --check it writes nothing and
@@ -10,7 +10,7 @@ import re
 import sys
 
 ROWS = pathlib.Path("tests/rows")
-MADE = pathlib.Path("crates/mq_runs/src/tests/scripts.rt")
+MADE = pathlib.Path("crates/mq_calls/src/tests/scripts.rt")
 NAMES = ("first-look", "refusals")
 LONGEST_LINE = 1_000
 NUMBER = re.compile(r'"line":(\d+)')

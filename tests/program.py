@@ -122,6 +122,20 @@ def faults_of_arguments(folder):
         yield f"mqroute --help: {written, told, status}"
 
 
+def faults_of_devices(folder):
+    """A folder as standard input can't be read, and a full device takes nothing."""
+    folder_in = os.open(folder, os.O_RDONLY)
+    read = subprocess.run([PROGRAM], stdin=folder_in, capture_output=True, timeout=60)
+    os.close(folder_in)
+    if (read.stdout, read.stderr, read.returncode) != (b"", b"mqroute: read fault\n", 3):
+        yield f"mqroute with a folder as its input: {read}"
+    for arguments in (["--help"], ["--unbuffered", "script"]):
+        with open("/dev/full", "wb") as full:
+            told = subprocess.run([PROGRAM, *arguments], stdout=full, stderr=subprocess.PIPE, cwd=folder, timeout=60)
+        if (told.stderr, told.returncode) != (b"mqroute: write fault\n", 3):
+            yield f"mqroute {arguments} on a full device: {told}"
+
+
 def refusal(code):
     return None if code is None else (code, NAMES[code])
 
@@ -192,10 +206,10 @@ def main():
         return 1
     with tempfile.TemporaryDirectory() as folder:
         os.chmod(folder, 0o755)
-        faults = [*faults_of_arguments(folder), *faults_of_lines(), *faults_of_topics(), *faults_of_access(), *faults_of_prefixes()]
+        faults = [*faults_of_arguments(folder), *faults_of_devices(folder), *faults_of_lines(), *faults_of_topics(), *faults_of_access(), *faults_of_prefixes()]
     for fault in faults:
         print(f"program: {fault}")
-    tried = len(CASES) + len(MISUSED) + 1 + len(LINES) + len(COMMANDS) + len(BLANK) + 1 + len(TOPICS) + len(FILTERS) + len(MATCHES) + len(LISTS) + len(ACCESS) + 2
+    tried = len(CASES) + len(MISUSED) + 4 + len(LINES) + len(COMMANDS) + len(BLANK) + 1 + len(TOPICS) + len(FILTERS) + len(MATCHES) + len(LISTS) + len(ACCESS) + 2
     print(f"program: {tried - len(faults)} passed, {len(faults)} failed")
     return 1 if faults else 0
 

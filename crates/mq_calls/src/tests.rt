@@ -1,5 +1,10 @@
-//! Calls of single crates.
+//! Calls of the crates below the command line.
 
 mod access;
+mod devices;
+mod example;
+mod runs;
+mod scripts;
+mod streams;
 mod topics;
 mod tree;

@@ -1,5 +1,4 @@
-//! Readers and writers that implement `Source` and `Sink` and misbehave where they are told to.
-//! Each fails once, and
+//! Readers and writers that implement `Source` and `Sink` and misbehave where they are told to. Each fails once, and
 //! then goes on as if nothing had happened.
 ghost use Rattle.std.specs.Prelude.{◌≡◌, ◌+◌, ◌||◌, ℕ, List, Option, None, IsTrue, false};
 ghost use Rattle.std.specs.Prelude.{if◌then◌else◌};
@@ -104,8 +103,7 @@ impl Countdown {
     }
 }
 
-/// A writer that takes at most `most` bytes a call and compares them with what is wanted. It is in
-/// trouble at the call
+/// A writer that takes at most `most` bytes a call and compares them with what is wanted. It is in trouble at the call
 /// of that kind after `calls` others.
 #[derive(Drop)]
 pub(crate) struct Page<'a> {

@@ -1,10 +1,8 @@
-//! Runs over readers and writers that fail at each of their calls in turn, and scripts cut at each
-//! byte.
-use crate::tests::hostile_devices::{Page, Script, Spaces, Trouble};
+//! Runs over readers and writers that fail at each of their calls in turn, and scripts cut at each byte.
+use crate::tests::devices::{Page, Script, Spaces, Trouble};
 use crate::tests::scripts::{FIRST_LOOK, REFUSALS};
-use mq_cli::{AclFileFault, read_acl};
 use mq_router::Router;
-use mq_script::{RunFault, Sink, Source, Summary, run, run_unbuffered, run_within};
+use mq_script::{RunFault, Source, Summary, exit_status, run, run_unbuffered, run_within};
 use std::alloc::{AllocError, Global};
 use std::process::Abort;
 use std::test::Fail;
@@ -82,6 +80,33 @@ fn flushes_of_an_unbuffered_run(rt: HostRuntime) -> Result<(), Fail> {
     let flushes = script.len().div_ceil(100).saturating_add(2);
     assert_eq!(rt; (writer.flushes, writer.flushed), (flushes, output.len()));
     Ok(())
+}
+
+const CONNECT: &str = "{\"do\":\"connect\",\"client\":\"a\"}\n";
+
+const ANSWER: &str = "{\"line\":1,\"reason\":0}\n";
+
+// The first two calls of 20 bytes give the line and the front of another.
+#[test]
+fn a_reader_that_fails_within_a_line(rt: HostRuntime) -> Result<(), Fail> {
+    let script = format!(in rt.alloc(); "{CONNECT}{{\"do\":")?;
+    let mut reader = Script::failing(script.as_bytes(), 20, 2);
+    let mut writer = Page::new(ANSWER.as_bytes(), 100);
+    let result = ended(rt.alloc(), &mut reader, &mut writer);
+    assert!(rt; matches!(&result, Err(RunFault::Read)));
+    assert_eq!(rt; (writer.is_same, writer.taken), (true, ANSWER.len()));
+    assert_eq!(rt; exit_status(&result), 3);
+    Ok(())
+}
+
+#[test]
+fn a_writer_that_fails_after_ten_bytes(rt: HostRuntime) {
+    let mut reader = Script::new(CONNECT.as_bytes(), 100);
+    let mut writer = Page::failing(ANSWER.as_bytes(), 10, Trouble::Write, 1);
+    let result = ended(rt.alloc(), &mut reader, &mut writer);
+    assert!(rt; matches!(&result, Err(RunFault::Write)));
+    assert_eq!(rt; (writer.is_same, writer.taken), (true, 10));
+    assert_eq!(rt; exit_status(&result), 3);
 }
 
 #[test]
@@ -227,16 +252,6 @@ fn a_script_cut_at_each_byte(rt: HostRuntime) -> Result<(), Fail> {
             let written = bytes_as_wanted(rt.alloc(), front, wanted.as_slice());
             assert_eq!(rt; written, Some(wanted.len()), "{bytes}");
         }
-    }
-    Ok(())
-}
-
-#[test]
-fn an_access_list_whose_reader_fails_at_each_call(rt: HostRuntime) -> Result<(), Fail> {
-    let list = b"topic read a\nuser b\n";
-    for calls in 0..=list.len() {
-        let result = read_acl(rt.alloc(), &mut Script::failing(list, 1, calls));
-        assert!(rt; matches!(&result, Err(AclFileFault::Read)), "{calls}");
     }
     Ok(())
 }

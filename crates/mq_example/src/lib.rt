@@ -4,9 +4,8 @@
 mod publish;
 
 use mq_router::{Command, Refusal, Router};
-use publish::copies_of;
+pub use publish::copies_of;
 use std::alloc::{AllocError, Global};
-use std::process::ExitCode;
 
 fn text(alloc: Global, text: &str) -> Result<String, AllocError> {
     String::from_str(alloc, text)
@@ -41,8 +40,8 @@ fn commands(alloc: Global) -> Result<[Command; 3], AllocError> {
     ])
 }
 
-// How many copies the last of these commands sends.
-fn sent(alloc: Global) -> Result<usize, Refusal> {
+/// How many copies the last of these commands sends.
+pub fn sent(alloc: Global) -> Result<usize, Refusal> {
     let mut router = Router::new(alloc);
     let mut count = 0;
     for command in &commands(alloc)? {
@@ -51,14 +50,4 @@ fn sent(alloc: Global) -> Result<usize, Refusal> {
         }
     }
     Ok(count)
-}
-
-fn main(rt: HostRuntime) -> ExitCode {
-    match sent(rt.alloc()) {
-        Ok(count) => match println!(&rt; "copies of the last command: {count}") {
-            Ok(()) => ExitCode::SUCCESS,
-            Err(_) => ExitCode::from(3),
-        },
-        Err(_) => ExitCode::from(3),
-    }
 }
