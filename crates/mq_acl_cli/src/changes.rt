@@ -15,7 +15,7 @@ use mq_topic::LevelText;
 use std::alloc::Global;
 
 /// Two lists, and where they differ.
-#[derive(Debug, Drop)]
+#[derive(Drop)]
 pub struct Changes {
     /// The rows of the old list.
     pub old: Vec<Row>,

@@ -14,7 +14,7 @@ use mq_topic::{TopicFault, TopicName};
 use std::alloc::Global;
 
 /// Whether a client may read and write a topic, and why.
-#[derive(Clone, Copy, Debug, Drop)]
+#[derive(Clone, Copy, Drop)]
 pub struct Explanation {
     /// Whether it may read the topic.
     pub reading: Verdict,

@@ -2,7 +2,7 @@ ghost use Rattle.std.specs.Prelude.{◌≡◌};
 ghost use Rattle.mq_acl_cli.specs.Statuses.{outcome_status};
 
 /// What a question that was answered comes to.
-#[derive(Clone, Copy, Debug, Drop, PartialEq, Eq)]
+#[derive(Clone, Copy, Drop, PartialEq, Eq)]
 pub enum Outcome {
     /// Nothing is to be remarked.
     Clear,

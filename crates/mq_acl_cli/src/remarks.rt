@@ -12,7 +12,7 @@ use mq_report::{Remark, RemarkKind, needless, remarks};
 use std::alloc::Global;
 
 /// The remarks on a list.
-#[derive(Debug, Drop)]
+#[derive(Drop)]
 pub struct Remarks {
     /// Lines that are faulty or odd.
     pub odd: Vec<Remark>,

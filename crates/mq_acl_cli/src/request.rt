@@ -9,7 +9,7 @@ ghost use Rattle.mq_acl_cli.specs.CommandLine.{reach_asked_by, why_asked_by};
 use clap::ArgMatches;
 
 /// A client.
-#[derive(Clone, Copy, Debug, Drop)]
+#[derive(Clone, Copy, Drop)]
 pub struct Client<'a> {
     /// Its client id.
     pub id: &'a str,
@@ -18,7 +18,7 @@ pub struct Client<'a> {
 }
 
 /// A question to access lists, each in a file.
-#[derive(Clone, Copy, Debug, Drop)]
+#[derive(Clone, Copy, Drop)]
 pub enum Question<'a> {
     /// What one list allows and the other doesn't.
     Compare {
@@ -54,7 +54,7 @@ pub enum Question<'a> {
 }
 
 /// What the command line asks for.
-#[derive(Clone, Copy, Debug, Drop)]
+#[derive(Clone, Copy, Drop)]
 pub struct Request<'a> {
     /// The question.
     pub question: Question<'a>,

@@ -1,7 +1,7 @@
 //! Access lists as they stand in files.
 
 /// An access list: the name of its file, and its text.
-#[derive(Clone, Copy, Debug, Drop)]
+#[derive(Clone, Copy, Drop)]
 pub struct ListText<'a, 't> {
     /// The name of its file, as it is told.
     pub file: &'a str,

@@ -17,7 +17,7 @@ use std::marker::Model;
 use std::rc::RcStr;
 
 /// Ends, in seconds, with clients, each as often as it was added and not taken out.
-#[derive(Debug, Drop)]
+#[derive(Drop)]
 pub struct Ends {
     heap: BinaryHeap<(Reverse<u64>, RcStr)>,
 }

@@ -11,7 +11,7 @@ use std::alloc::{AllocError, Global};
 use std::collections::BTreeMap;
 
 /// The user names of the clients that are connected, by client id; a client may have none.
-#[derive(Debug, Drop)]
+#[derive(Drop)]
 pub(crate) struct Clients {
     users: BTreeMap<String, Option<String>>,
 }

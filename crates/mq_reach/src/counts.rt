@@ -3,7 +3,7 @@ ghost use Rattle.std.specs.Prelude.{◌≡◌, ◌+◌, ◌^◌, ◌<◌, ◌≤
 ghost use Rattle.mq_reach.specs.Counts.{counted};
 
 /// How many lines a script has.
-#[derive(Clone, Copy, Debug, PartialEq, Eq)]
+#[derive(Clone, Copy, PartialEq, Eq)]
 pub struct Counts {
     /// All lines, blank ones too.
     pub lines: u64,
@@ -16,7 +16,7 @@ pub struct Counts {
 }
 
 /// What a line is counted as.
-#[derive(Clone, Copy, Debug, PartialEq, Eq)]
+#[derive(Clone, Copy, PartialEq, Eq)]
 pub(crate) enum LineKind {
     Subscription,
     NoCommand,

@@ -16,7 +16,7 @@ use mq_world::Command;
 use std::alloc::{AllocError, Global};
 
 /// What is found in a script.
-#[derive(Debug, Drop)]
+#[derive(Drop)]
 pub struct Findings {
     /// The subscriptions that are in vain, in the order of their lines.
     pub vain: Vec<Subscription>,

@@ -1,5 +1,5 @@
 /// A subscription of a script.
-#[derive(Debug, Drop)]
+#[derive(Drop)]
 pub struct Subscription {
     /// The number of the line of its subscribe, from 1.
     pub line: u64,

@@ -26,7 +26,7 @@ use mq_world::{Delivery, Message};
 use std::alloc::{AllocError, Global};
 
 /// The copies of a message that are sent, those that begin to wait, and the members of groups that it serves.
-#[derive(Debug, Drop)]
+#[derive(Drop)]
 pub(crate) struct Deliveries {
     pub(crate) copies: Vec<Delivery>,
     pub(crate) queued: Vec<QueuedCopy>,

@@ -4,7 +4,7 @@ ghost use Rattle.mq_world.specs.Clock.{last_moment, deadline_of, time_left};
 ghost use Rattle.mq_world.specs.Sessions.{session_end};
 
 /// The moment, in seconds from the start: at most 1,000,000,000,000.
-#[derive(Clone, Copy, Debug)]
+#[derive(Clone, Copy)]
 pub struct Clock {
     pub moment: u64,
     ghost within: { moment ≤ last_moment },

@@ -35,7 +35,7 @@ use std::marker::Model;
 use std::rc::RcStr;
 
 /// The sessions, by client id, and the ends of those whose clients are away.
-#[derive(Debug, Drop)]
+#[derive(Drop)]
 pub struct Sessions {
     by_id: BTreeMap<RcStr, Session>,
     ends: Ends,

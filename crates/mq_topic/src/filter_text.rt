@@ -5,7 +5,7 @@ use crate::level_text::LevelText;
 use std::marker::Model;
 
 /// A topic filter that is a part of a text and takes no memory of its own, such as a key to look up by.
-#[derive(Debug, Drop)]
+#[derive(Drop)]
 pub struct FilterText<'a> {
     text: &'a str,
 }

@@ -4,7 +4,7 @@ use mq_topic::TopicName;
 use std::rc::RcStr;
 
 /// A message that is published.
-#[derive(Clone, Copy, Debug)]
+#[derive(Clone, Copy)]
 pub struct Message<'a> {
     pub publisher: &'a RcStr,
     pub topic: &'a TopicName,

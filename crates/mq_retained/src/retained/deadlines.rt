@@ -13,7 +13,7 @@ use std::collections::BTreeSet;
 use std::marker::Model;
 
 /// A deadline, and the topic that it concerns.
-#[derive(Debug, Drop, PartialEq, Eq, PartialOrd, Ord)]
+#[derive(Drop, PartialEq, Eq, PartialOrd, Ord)]
 pub(crate) struct Due {
     deadline: u64,
     topic: TopicName,
@@ -36,7 +36,7 @@ impl Due {
 }
 
 /// Pairs of a deadline and a topic, by deadline and then by the bytes of the topic.
-#[derive(Debug, Drop)]
+#[derive(Drop)]
 pub(crate) struct Deadlines {
     pairs: BTreeSet<Due>,
 }

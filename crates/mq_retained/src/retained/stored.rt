@@ -8,7 +8,7 @@ use std::alloc::{AllocError, Global};
 use std::rc::RcStr;
 
 /// The message that is retained for a topic.
-#[derive(Debug, Drop)]
+#[derive(Drop)]
 pub(crate) struct Stored {
     pub(crate) topic: TopicName,
     pub(crate) payload: String,

@@ -9,7 +9,7 @@ use std::alloc::{AllocError, Global};
 use std::rc::{Rc, RcStr};
 
 /// A message with its texts as its copies hold them: they are made once, and each copy shares them.
-#[derive(Debug, Drop)]
+#[derive(Drop)]
 pub(crate) struct Outgoing<'a> {
     pub(crate) message: Message<'a>,
     topic: RcStr,

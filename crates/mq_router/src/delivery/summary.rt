@@ -8,7 +8,7 @@ use std::alloc::{AllocError, Global};
 use std::marker::Model;
 
 /// The greatest QoS, whether some ask for Retain As Published, and the identifiers.
-#[derive(Debug, Drop)]
+#[derive(Drop)]
 pub(crate) struct Summary {
     qos: u8,
     rap: bool,

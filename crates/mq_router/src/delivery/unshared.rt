@@ -20,7 +20,7 @@ use std::alloc::{AllocError, Global};
 use std::rc::RcStr;
 
 /// The copies that are sent, and those that begin to wait.
-#[derive(Debug, Drop)]
+#[derive(Drop)]
 pub(crate) struct Direct {
     pub(crate) copies: Vec<Delivery>,
     pub(crate) queued: Vec<QueuedCopy>,

@@ -11,7 +11,7 @@ use std::collections::BTreeMap;
 use std::rc::RcStr;
 
 /// An end, and the id of the client whose session ends then.
-#[derive(Debug, Drop)]
+#[derive(Drop)]
 pub(crate) struct Leaving {
     pub(crate) id: RcStr,
     pub(crate) end: Option<u64>,

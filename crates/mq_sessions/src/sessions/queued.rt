@@ -6,7 +6,7 @@ use std::collections::LinkedList;
 use std::rc::RcStr;
 
 /// A copy that begins to wait, in a list of its own: that can join those that wait without memory.
-#[derive(Debug, Drop)]
+#[derive(Drop)]
 pub struct QueuedCopy {
     pub client: RcStr,
     pub copies: LinkedList<Waiting>,

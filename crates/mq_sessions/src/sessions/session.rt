@@ -20,14 +20,14 @@ use std::rc::RcStr;
 
 /// Whether a client is connected, or away until its session ends, at a moment or never. While it is connected its id is kept
 /// once more, for the index of ends: where the connection ends, none can be made.
-#[derive(Debug, Drop)]
+#[derive(Drop)]
 pub enum Presence {
     Connected { id: RcStr },
     Away { end: Option<u64> },
 }
 
 /// Where a copy for a client goes.
-#[derive(Clone, Copy, Debug)]
+#[derive(Clone, Copy)]
 pub enum Way {
     Sent,
     Waits,
@@ -35,14 +35,14 @@ pub enum Way {
 }
 
 /// A copy that waits for its client, until its deadline if it has one.
-#[derive(Debug, Drop)]
+#[derive(Drop)]
 pub struct Waiting {
     pub copy: Delivery,
     pub deadline: Option<u64>,
 }
 
 /// What is known of a client.
-#[derive(Debug, Drop)]
+#[derive(Drop)]
 pub struct Session {
     pub user: Option<String>,
     /// The Session Expiry Interval in seconds.

@@ -13,7 +13,7 @@ use std::rc::RcStr;
 
 /// A client's subscriptions, by their texts, so that one can be looked up by the text of a command. Each has a place of its own,
 /// since a leaf of the set has room for more than most clients subscribe to.
-#[derive(Debug, Drop)]
+#[derive(Drop)]
 pub(crate) struct ClientFilters {
     texts: BTreeSet<RcStr>,
 }

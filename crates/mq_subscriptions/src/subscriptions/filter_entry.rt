@@ -28,7 +28,7 @@ use std::marker::Model;
 use std::rc::{Rc, RcStr};
 
 /// The subscriptions to one filter: those of clients in their own name, and the groups by share name.
-#[derive(Debug, Drop)]
+#[derive(Drop)]
 pub struct FilterEntry {
     filter: Rc<TopicFilter>,
     direct: BTreeMap<RcStr, SubscriptionOptions>,

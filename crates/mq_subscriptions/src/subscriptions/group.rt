@@ -16,7 +16,7 @@ use std::marker::Model;
 use std::rc::RcStr;
 
 /// The members of a group, the one that joined or was served longest ago first.
-#[derive(Debug, Drop)]
+#[derive(Drop)]
 pub(crate) struct Group {
     members: IndexMap<RcStr, SubscriptionOptions>,
 }

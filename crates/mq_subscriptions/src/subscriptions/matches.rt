@@ -8,7 +8,7 @@ use std::alloc::AllocError;
 use std::rc::RcStr;
 
 /// A client's subscription in its own name that takes part in a message.
-#[derive(Clone, Copy, Debug)]
+#[derive(Clone, Copy)]
 pub struct Match<'a> {
     pub client: &'a RcStr,
     pub options: SubscriptionOptions,

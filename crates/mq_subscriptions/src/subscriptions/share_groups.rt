@@ -21,7 +21,7 @@ use std::marker::Model;
 use std::rc::{Rc, RcStr};
 
 /// The groups at a filter, by share name. Each has a member.
-#[derive(Debug, Drop)]
+#[derive(Drop)]
 pub(crate) struct ShareGroups {
     by_share: BTreeMap<RcStr, Group>,
 }

@@ -10,7 +10,7 @@ use std::alloc::AllocError;
 use std::rc::{Rc, RcStr};
 
 /// A member of a group that a publish serves.
-#[derive(Debug, Drop)]
+#[derive(Drop)]
 pub struct Turn {
     pub share: RcStr,
     pub filter: Rc<TopicFilter>,
