@@ -76,12 +76,6 @@ judged_in_turn client user name direction rows groups first all own g a o e =
     grant : List AclRow → Bool
     grant rs = list_any (λ row. concerns client user name row && grants direction row.access) rs
 
--- without a list all is allowed
-pub allowed_without_list : (client : List ℕ) (user : Option (List ℕ)) (name : List ℕ)
-    (direction : Direction) → allowed None client user name direction ≡ true
-unfolding allowed
-allowed_without_list client user name direction = refl
-
 -- with a list its rows decide
 pub allowed_by_list : (rows : List AclRow) (client : List ℕ) (user : Option (List ℕ))
     (name : List ℕ) (direction : Direction) → allowed (Some rows) client user name direction

@@ -1,46 +1,12 @@
 -- Rows by whom they are for.
 use Rattle.std.proofs.Common.{◌≡◌, ℕ, Bool, true, false, ◌&&◌, ◌||◌, if◌then◌else◌, List, [], ◌∷◌}
-use Rattle.std.proofs.Common.{◌++◌, Option, Some, None, refl, ap, sym, ◌∙◌, append-nil}
+use Rattle.std.proofs.Common.{Option, Some, None, refl, ap, sym, ◌∙◌}
 use Rattle.std.specs.List.{filter, list_any}
-use Rattle.std.specs.Str.{bytes_eq}
-use Rattle.std.proofs.lemmas.List.{map-append}
-use Rattle.std.proofs.lemmas.List.Elements.{filter-append}
 use Rattle.std.proofs.Math.Bool.{or_assoc}
 use Rattle.mq_topic.proofs.BoolLemmas.{or_swapped}
 use Rattle.mq_acl.specs.Rows.{Who, Anonymous, Named, Everyone, AclRow}
-use Rattle.mq_acl.specs.Views.{row_view, row_views}
 use Rattle.mq_acl.specs.Groups.{is_own, is_everyones}
-use Rattle.mq_acl.specs.declared.row.Row.{Row}
 use Rattle.mq_acl.specs.Access.{applies}
-
--- one row more, for the clients of a user name
-pub own_more : (rows : List AclRow) (row : Row) (name user : List ℕ) (old new : List Row)
-    → (row_view row).who ≡ Named name
-    → new ≡ old ++ (if bytes_eq user name then row ∷ [] else [])
-    → row_views old ≡ filter (λ r. is_own (Some user) r.who) rows
-    → row_views new ≡ filter (λ r. is_own (Some user) r.who) (rows ++ row_view row ∷ [])
-own_more rows row name user old new w more e =
-    ap row_views more ∙ map-append row_view old (if bytes_eq user name then row ∷ [] else [])
-    ∙ ap (λ l. l ++ row_views (if bytes_eq user name then row ∷ [] else [])) e
-    ∙ ap (λ l. filter (λ r. is_own (Some user) r.who) rows ++ l) (last (bytes_eq user name) refl)
-    ∙ sym (filter-append (λ r. is_own (Some user) r.who) rows (row_view row ∷ []))
-  where
-    here : (b : Bool) → bytes_eq user name ≡ b → is_own (Some user) (row_view row).who ≡ b
-    here b q = ap (is_own (Some user)) w ∙ q
-
-    last : (b : Bool) → bytes_eq user name ≡ b
-        → row_views (if b then row ∷ [] else [])
-        ≡ filter (λ r. is_own (Some user) r.who) (row_view row ∷ [])
-    last true q = sym (ap (λ (t : Bool). if t then row_view row ∷ [] else []) (here true q))
-    last false q = sym (ap (λ (t : Bool). if t then row_view row ∷ [] else []) (here false q))
-
--- one row more, for others
-pub others_same : (p : Who → Bool) (rows : List AclRow) (row : AclRow) → p row.who ≡ false
-    → filter (λ r. p r.who) (rows ++ row ∷ []) ≡ filter (λ r. p r.who) rows
-others_same p rows row e =
-    filter-append (λ r. p r.who) rows (row ∷ [])
-    ∙ ap (λ (t : Bool). filter (λ r. p r.who) rows ++ (if t then row ∷ [] else [])) e
-    ∙ append-nil (filter (λ r. p r.who) rows)
 
 or_both : (a b c : Bool) → (a || (b || c)) ≡ ((a || b) || (a || c))
 or_both true b c = refl

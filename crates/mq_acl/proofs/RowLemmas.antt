@@ -1,19 +1,16 @@
 -- The rows of a text, line by line.
 use Rattle.std.proofs.Common.{◌≡◌, ℕ, ◌+◌, ◌≤◌, List, [], ◌∷◌, ◌++◌, length, take, Option, Some}
 use Rattle.std.proofs.Common.{None, Ok, Err, refl, ap, sym, ◌∙◌, arith, append_assoc, append-nil}
-use Rattle.std.proofs.Common.{length-append, inl, inr, ◌⊎◌}
+use Rattle.std.proofs.Common.{length-append}
 use Rattle.std.specs.List.{filter_map, cons_option, last_or, enumerate_from}
 use Rattle.std.specs.Option.{option_to_list}
 use Rattle.std.specs.Result.{result_ok}
 use Rattle.std.proofs.lemmas.List.{take-append-le, take_all}
 use Rattle.std.proofs.lemmas.List.Elements.{filter_map-append}
 use Rattle.mq_acl.specs.Lines.{Entry, Skipped, User, Topic, Pattern, entry_of}
-use Rattle.mq_acl.specs.Rows.{Who, Anonymous, AclRow, user_name, who_of, who_after, row_of, rows_in}
+use Rattle.mq_acl.specs.Rows.{Who, AclRow, user_name, who_of, who_after, row_of, rows_in}
 use Rattle.mq_acl.specs.Rows.{entries_of, row_line, fault_at, faults_of, unless_faulty}
-use Rattle.mq_acl.specs.Rows.{out_of_memory}
-use Rattle.mq_acl.specs.Views.{who_then, fault_of, Fails, IsAdded}
-use Rattle.mq_acl.specs.declared.fault.AclKind.{AclKind}
-use Rattle.mq_acl.specs.declared.fault.AclKind.TheVariants as kinds
+use Rattle.mq_acl.specs.Views.{who_then, IsAdded}
 use Rattle.mq_acl.specs.declared.fault.AclFault.{AclFault}
 
 last_or_push : {A : Type 0} (o : Option A) (xs : List A) (y : A) → last_or o (xs ++ y ∷ []) ≡ Some y
@@ -125,18 +122,6 @@ pub record IsReadTo (all left : List (List ℕ)) (n : ℕ) (who : Who) (rows : L
   pub who_is : who ≡ who_after (entries_of done)
   pub numbers_are : numbers ≡ row_lines_of done
 
--- before the first line nothing is read
-pub read_start : (all : List (List ℕ)) → IsReadTo all all 0 Anonymous [] []
-read_start all = record {
-  done = [];
-  count = refl;
-  parts = refl;
-  faultless = refl;
-  rows_are = refl;
-  who_is = refl;
-  numbers_are = refl;
-}
-
 -- one more line is read, with the rows that it adds
 pub read_step : (all left more : List (List ℕ)) (line : List ℕ) (n : ℕ) (who next : Who)
     (rows now : List AclRow) (numbers numbers_now : List ℕ)
@@ -180,16 +165,6 @@ read_fault all left more line n who rows numbers fault s cut f =
     ∙ ap (λ o. cons_option o later) f in
     ap (λ faults. unless_faulty faults (rows_in (entries_of all))) first
 
--- once no line is left, the rows read are the rows of the list
-pub read_end : (all left : List (List ℕ)) (n : ℕ) (who : Who) (rows : List AclRow)
-    (numbers : List ℕ) → IsReadTo all left n who rows numbers → left ≡ []
-    → unless_faulty (faults_of all) (rows_in (entries_of all)) ≡ Ok rows
-read_end all left n who rows numbers s cut =
-    let whole : all ≡ s.done = sym s.parts ∙ ap (λ l. s.done ++ l) cut ∙ append-nil s.done in
-    ap (λ l. unless_faulty (faults_of l) (rows_in (entries_of l))) whole
-    ∙ ap (λ faults. unless_faulty faults (rows_in (entries_of s.done))) s.faultless
-    ∙ ap Ok (sym s.rows_are)
-
 -- once no line is left, the numbers are those of the lines with rows
 pub read_lines : (all left : List (List ℕ)) (n : ℕ) (who : Who) (rows : List AclRow)
     (numbers : List ℕ) → IsReadTo all left n who rows numbers → left ≡ []
@@ -206,14 +181,3 @@ read_count all left n who rows numbers s =
     let both = length-append s.done left in
     let count = s.count in
     omega arith
-
--- a line whose fault is told, or no memory
-pub told_fault : (n : ℕ) (line : List ℕ) (kind : AclKind) (fault : AclFault)
-    → Fails kind (entry_of line) → fault ≡ fault_of n kind → (fault ≡ out_of_memory)
-    ⊎ (fault_at n (entry_of line) ≡ Some fault)
-told_fault n line kinds.Memory fault e f = inl f
-told_fault n line kinds.Keyword fault e f = inr (ap (fault_at n) e ∙ ap Some (sym f))
-told_fault n line kinds.Access fault e f = inr (ap (fault_at n) e ∙ ap Some (sym f))
-told_fault n line kinds.Topic fault e f = inr (ap (fault_at n) e ∙ ap Some (sym f))
-told_fault n line kinds.User fault e f = inr (ap (fault_at n) e ∙ ap Some (sym f))
-told_fault n line kinds.Pattern fault e f = inr (ap (fault_at n) e ∙ ap Some (sym f))

@@ -193,10 +193,6 @@ copy_refilled r k c ds old new b refill same =
     on_ok_weaker r (λ e. e ∙ ap (named (copy_names (parts_of c))) same ∙ named_so)
     (refilled_as r (copy_names (parts_of c)) ds old new b refill)
 
--- an object without members fits any names
-pub none_fits : (names : List (List ℕ)) (ms : Members) → ms ≡ no_members → IsFor names ms
-none_fits names ms none = λ some. absurd (some (ap names_of none))
-
 -- ## A closing line with a reason
 
 abbrev pub set_reason : ℕ → ℕ → Members → Members

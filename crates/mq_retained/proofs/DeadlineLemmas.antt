@@ -1,6 +1,6 @@
 -- The pairs of the index by deadline: one that joins, one that leaves, and the first one.
 use Rattle.std.proofs.Common.{◌≡◌, ◌<◌, ◌≤◌, ℕ, eqb, Bool, true, false, ◌&&◌, ◌||◌, not, List, []}
-use Rattle.std.proofs.Common.{◌∷◌, map, Some, None, refl, sym, ◌∙◌, ap, arith}
+use Rattle.std.proofs.Common.{◌∷◌, map, Some, refl, sym, ◌∙◌, ap, arith}
 use Rattle.std.specs.declared.cmp.Ordering.{Ordering}
 use Rattle.std.specs.declared.cmp.Ordering.TheVariants.{Less, Equal, Greater}
 use Rattle.std.specs.Ordering.{is_eq, is_gt, on, then_cmp, nat_cmp, match_ordering}
@@ -108,10 +108,6 @@ has-remove due dues s = λ d topic.
     ∙ ap (λ b. not (is_pair d topic (due_of due)) && b)
     (sym (list_any-map due_of (is_pair d topic) dues))
 
--- where no pair leaves, the pairs stay as they are
-pub drops-none : (pairs : List Pair) → Drops None pairs pairs
-drops-none pairs = λ d topic. refl
-
 -- ## The first pair
 
 -- no pair after the first is like it
@@ -142,10 +138,6 @@ first-taken moment first dues due above = record {
       ∙ first-apart first dues above) in
       (elim (is_pair d topic (due_of first)) as P [ true ↦ here | false ↦ λ h. refl ]) refl;
 }
-
--- in an empty index nothing is due
-pub none-in-empty : (moment : ℕ) → NoneDue moment []
-none-in-empty moment = λ d topic h. cc
 
 not_below : (a b : Due) → IsLeBy due_cmp a b → a.deadline ≤ b.deadline
 not_below a b h =

@@ -299,15 +299,3 @@ Stopped-front a b w g buf room n e h s =
     (Stopped-grown a b w (g ++ take room buf) (drop room (take n buf)) e s)
 
 -- ## The start
-
--- before anything is given no line is answered, and nothing is kept
-pub Told-start : (w : World) (p : Progress) (r : State) (a : Option (List ℕ)) → p.router ≡ r
-    → StandsFor r w → p.summary.lines ≡ 0 → p.summary.refused ≡ 0 → p.line.items ≡ []
-    → Told w [] p a a
-Told-start w p r a same s lines refused line = record {
-  stands = rw same s;
-  lines = lines;
-  refused = refused;
-  line = line ∙ sym (take_all kept [] (omega arith));
-  written = Appends-nil a;
-}

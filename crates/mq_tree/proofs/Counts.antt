@@ -1,5 +1,5 @@
 -- How many keys and nodes a node has, and what its values hold together.
-use Rattle.std.proofs.Common.{true≢false, ◌≡◌, ◌≢◌, ℕ, ◌+◌, ◌≤◌, Bool, true, false, ◌↔◌, eqb, List}
+use Rattle.std.proofs.Common.{true≢false, ◌≡◌, ℕ, ◌+◌, ◌≤◌, Bool, true, false, ◌↔◌, eqb, List}
 use Rattle.std.proofs.Common.{[], ◌∷◌, ◌++◌, length, Option, Some, None, is_some, refl, sym, ap}
 use Rattle.std.proofs.Common.{ap₂, ◌∙◌, suc, arith, length-append}
 use mir.Val.{bool_byte}
@@ -11,6 +11,7 @@ use Rattle.mq_tree.specs.Entries.{Entries, capped}
 use Rattle.mq_tree.specs.Nodes.{NodeView, Branches, Children, under, below, own, entries_of}
 use Rattle.mq_tree.specs.Nodes.{entries_in, children_of, AreChildren}
 use Rattle.mq_tree.specs.Below.{tally}
+use Rattle.mq_tree.specs.Falls.{some_length}
 use Rattle.mq_tree.specs.Prefixes.{prefixes}
 use Rattle.mq_tree.proofs.Blocks.{prefixes_own, length-blocks}
 
@@ -18,10 +19,6 @@ use Rattle.mq_tree.proofs.Blocks.{prefixes_own, length-blocks}
 pub length-under : {V : Type 0} (l : List ℕ) (es : Entries V) → length (under l es) ≡ length es
 length-under l [] = refl
 length-under l (e ∷ es) = omega (arith, length-under l es)
-
-some_length : {A : Type 0} (es : List A) → es ≢ [] → 1 ≤ length es
-some_length [] h = absurd (h refl)
-some_length (e ∷ es) h = omega arith
 
 -- there are as many entries below as the children have together
 pub length-below : {V : Type 0} (children : Children V)

@@ -1,5 +1,5 @@
 -- What the levels of a valid text look like.
-use Rattle.std.proofs.Common.{true≢false, ◌≡◌, ℕ, ◌-◌, ◌&&◌, true, false, not, List, [], ◌∷◌}
+use Rattle.std.proofs.Common.{true≢false, ◌≡◌, ℕ, ◌-◌, ◌&&◌, true, not, List, [], ◌∷◌}
 use Rattle.std.proofs.Common.{length, take, sym, ap, ◌∙◌, arith, suc}
 use Rattle.std.specs.Prelude.{nat_le}
 use Rattle.std.specs.List.{list_all}

@@ -1,13 +1,13 @@
 -- Facts on lists that the definitions and the code need.
 use Rattle.std.proofs.Common.{◌≡◌, Bool, true, false, cond, ◌||◌, ◌≤◌, length, not, List, [], ◌∷◌}
-use Rattle.std.proofs.Common.{◌++◌, map, append_assoc, Option, Some, None, is_some, Result, Ok, Err}
+use Rattle.std.proofs.Common.{◌++◌, map, Option, Some, None, is_some, Result, Ok, Err}
 use Rattle.std.proofs.Common.{arith, refl, sym, ◌∙◌, ap}
 use Rattle.std.proofs.lemmas.List.Filters.{length-filter_both}
 use Rattle.std.specs.declared.cmp.Ordering.{Ordering}
 use Rattle.std.specs.declared.cmp.Ordering.TheVariants.{Less, Equal, Greater}
 use Rattle.std.specs.Ordering.{is_lt, match_ordering}
 use Rattle.std.specs.Cmp.{IsTotalOrder}
-use Rattle.std.specs.Result.{OnOk, OnErr}
+use Rattle.std.specs.Result.{OnErr}
 use Rattle.std.specs.List.{find, filter, list_any, filter_map, cons_option, AllByRecursion}
 use Rattle.std.specs.List.Sorted.{IsStrictlySortedBy}
 use Rattle.std.specs.Map.{lookup, remove_entry, keys_of}
@@ -71,11 +71,6 @@ filter-same p q h [] = refl
 filter-same p q h (x ∷ xs) = rw (h x, filter-same p q h xs) refl
 
 -- ## One row among rows in order
-
--- what holds in any case holds where a result is ok
-pub on_ok : {X E : Type 0} {P : Type 0} (r : Result X E) → P → OnOk r P
-on_ok (Ok x) p = p
-on_ok (Err e) p = tt
 
 -- what holds in any case holds where a result is an error
 pub on_err : {X E : Type 0} {P : Type 0} (r : Result X E) → P → OnErr r P
@@ -259,20 +254,6 @@ filter_map-filter f p (x ∷ xs) =
     ]
 
 -- ## What a loop has collected, and what it will of the rest
-
--- one more element is collected, and the total stays
-pub collected-more : {X Y : Type 0} (f : X → Option Y) (ys total : List Y) (o : Option Y) (x : X)
-    (rest : List X) → o ≡ f x → ys ++ filter_map f (x ∷ rest) ≡ total
-    → (ys ++ cons_option o []) ++ filter_map f rest ≡ total
-collected-more f ys total o x rest says h =
-    append_assoc ys (cons_option o []) (filter_map f rest)
-    ∙ ap (λ l. ys ++ l) (one o (filter_map f rest)
-    ∙ ap (λ p. cons_option p (filter_map f rest)) says)
-    ∙ h
-  where
-    one : {Y : Type 0} (p : Option Y) (l : List Y) → cons_option p [] ++ l ≡ cons_option p l
-    one None l = refl
-    one (Some y) l = refl
 
 -- where each element fails, the filter keeps none
 pub filter-none : {X : Type 0} (p : X → Bool) (xs : List X) → AllByRecursion (λ x. p x ≡ false) xs
