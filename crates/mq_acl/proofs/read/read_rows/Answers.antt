@@ -45,3 +45,6 @@ loop-rest-preserved c =
     (row_views c.read_line_into.new.rows.items) (line_views c.loop-rest.rows.items)
     (line_views c.read_line_into.new.rows.items) c.loop-rest.invariant
     (ap lines_left c.in-Some.is ∙ c.split_line.ensures) c.in_ok-user.ensures.ok
+
+pub loop-rest-init : goal.loop-rest-init
+loop-rest-init c = search rules

@@ -1,3 +1,5 @@
+use Rattle.std.proofs.lemmas.Grind.{common_steps}
+use Rattle.std.proofs.Common.{arith}
 use Rattle.mq_ends.proofs.HeapLemmas.{popped}
 use Rattle.mq_ends.proofs.Ends.pop.Goals as goal
 
@@ -5,3 +7,6 @@ pub returns-clause-entries : goal.returns-clause-entries
 returns-clause-entries c =
     rw (← c.self.view_is)
     (popped _ _ _ c.in_ok-client.ensures.top c.in_ok-client.ensures.permutation)
+
+pub returns-clause-client : goal.returns-clause-client
+returns-clause-client c = grind (arith, common_steps)

@@ -1,4 +1,4 @@
-use Rattle.std.proofs.Common.{◌≡◌, ◌∙◌, subst, sym, true}
+use Rattle.std.proofs.Common.{◌≡◌, ◌∙◌, subst, sym, true, rules}
 use Rattle.std.proofs.lemmas.List.{get_or_default}
 use Rattle.std.proofs.lemmas.Result.{err_from_is_err_and}
 use Rattle.mq_acl.specs.Views.{row_view}
@@ -29,3 +29,6 @@ returns-in_err-makes_needless-clause-err c = λ short none.
     (short_at c.args.rows.now c.loop-place.place c.index-rows-place.result none
     c.loop-place-test.true) in
     rw (fault.1, fault.2) (c.in_err-makes_needless.ensures.err short other)
+
+pub returns-then-branch-clause-some : goal.returns-then-branch-clause-some
+returns-then-branch-clause-some c = search rules

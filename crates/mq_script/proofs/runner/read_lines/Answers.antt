@@ -158,3 +158,6 @@ returns-in_err-take-2-clause-err g c = λ w start.
           (let k = c.in_err-take-2.ensures.counted in let flushed =
           c.in_ok-before_read.ensures.counted in omega arith),
     )
+
+pub returns-then-n-eq0-clause-err : goal.returns-then-n-eq0-clause-err
+returns-then-n-eq0-clause-err g c = search rules

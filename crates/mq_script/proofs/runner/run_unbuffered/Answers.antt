@@ -1,3 +1,4 @@
+use Rattle.std.proofs.Common.{rules}
 use Rattle.mq_script.specs.Ending.{script_limit}
 use Rattle.mq_script.proofs.HeadlineLemmas.{EndsOver-honest}
 use Rattle.mq_script.proofs.runner.run_unbuffered.Goals as goal
@@ -11,3 +12,6 @@ returns-clause-headline g c = λ w script before stands.
 pub returns-clause-ending : goal.returns-clause-ending
 unfolding script_limit
 returns-clause-ending g c = c.run_as.ensures.ending
+
+pub returns-clause-unbuffered : goal.returns-clause-unbuffered
+returns-clause-unbuffered c = search rules

@@ -21,3 +21,6 @@ returns-in_err-rows-clause-line c =
     (λ is_own. ⊎_elim (λ same. absurd (is_own (ap (λ f. f.kind) same)))
     (λ own. (own, (text_fault c.args.text.now fault own).1)) c.in_err-rows.ensures.rows) in
     search rules
+
+pub returns-in-Ok-clause-rows : goal.returns-in-Ok-clause-rows
+returns-in-Ok-clause-rows c = search rules

@@ -1,3 +1,4 @@
+use Rattle.std.proofs.Common.{rules}
 use Rattle.std.specs.Option.{option_copied}
 use Rattle.mq_acl.specs.Views.{row_views}
 use Rattle.mq_questions.proofs.FreshLemmas.{are_longer}
@@ -10,3 +11,6 @@ any_read-requires c =
     (option_copied c.args.user) c.args.filter.now c.self.inside.longest c.fresh.result
     (c.in_default.ensures.none (row_views c.self.inside.rows.now) c.self.invariant.rows_usable)
     (are_longer c.self.inside.longest c.self.invariant.longer) c.fresh.ensures
+
+pub returns-clause-vain : goal.returns-clause-vain
+returns-clause-vain c = search rules

@@ -1,4 +1,4 @@
-use Rattle.std.proofs.Common.{◌∙◌, ap, sym, subst, Option}
+use Rattle.std.proofs.Common.{◌∙◌, ap, sym, subst, Option, rules}
 use Rattle.mq_tree.specs.Entries.{Entries}
 use Rattle.mq_world.specs.Lists.{with_row}
 use Rattle.mq_world.specs.World.{Retained, retained_cmp}
@@ -74,3 +74,6 @@ returns-clause-filed c =
     (c.deadline_at.ensures
     ∙ ap (λ (k : RetainedView). deadline_at topic k.messages) (sym c.self.view_is)))
     c.remove-in-Ok.ensures)))
+
+pub invariant_of-self : goal.invariant_of-self
+invariant_of-self c = search rules

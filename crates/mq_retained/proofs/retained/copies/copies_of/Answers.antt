@@ -1,4 +1,5 @@
-use Rattle.std.proofs.Common.{◌≡◌, ◌∙◌, ◌<◌, ◌+◌, ◌++◌, ◌∷◌, [], ◌^◌, ap, sym, subst, map, take}
+use Rattle.std.proofs.lemmas.Grind.{common_steps}
+use Rattle.std.proofs.Common.{◌≡◌, ◌∙◌, ◌<◌, ◌+◌, ◌++◌, ◌∷◌, [], ◌^◌, ap, sym, subst, map, take, arith}
 use Rattle.std.proofs.Common.{get_or, true, false}
 use Rattle.std.specs.List.{filter}
 use Rattle.std.specs.Option.{IfSome, option_copied}
@@ -50,3 +51,6 @@ loop-stored-preserved-then-not-may_get c =
     c.loop-stored.invariant
     ∙ sym (held_more (λ v. message_in v.now) p (retained_copy r.clock.moment s) found i item
     c.loop-stored-test.true fails)
+
+pub returns : goal.returns
+returns c = grind (arith, common_steps)

@@ -117,3 +117,6 @@ returns-then-is_full-clause-counted c = search rules
 
 pub returns-clause-counted : goal.returns-clause-counted
 returns-clause-counted c = search rules
+
+pub returns-then-is_full-clause-err : goal.returns-then-is_full-clause-err
+returns-then-is_full-clause-err c = search rules

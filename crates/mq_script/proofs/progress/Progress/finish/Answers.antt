@@ -1,3 +1,5 @@
+use Rattle.mq_script.proofs.StepLemmas.{ends_flushed}
+use Rattle.std.proofs.Common.{rules}
 use Rattle.std.proofs.lemmas.Result.{err_from_is_err_and}
 use Rattle.mq_script.proofs.progress.Progress.finish.Goals as goal
 
@@ -5,3 +7,6 @@ pub returns-in_err-answer_last-clause-ends : goal.returns-in_err-answer_last-cla
 returns-in_err-answer_last-clause-ends g c =
     let fault = err_from_is_err_and c.from_residual.result c.from_residual.ensures.1 in
     rw (fault.1, fault.2) c.in_err-answer_last.ensures.ends
+
+pub returns-clause-flushed : goal.returns-clause-flushed
+returns-clause-flushed c = search (rules, ends_flushed)

@@ -1,3 +1,4 @@
+use Rattle.std.proofs.Common.{rules}
 use Rattle.mq_tree.specs.Nodes.{entries_of}
 use Rattle.mq_tree.proofs.Orders.{put_at_most}
 use Rattle.mq_tree.proofs.tree.LevelTree.get_mut.Goals as goal
@@ -8,3 +9,6 @@ invariant_of-self-lent g c = λ r. (
       (c.get_mut.follows.holds w).2 c.self.invariant,
   rw c.get_mut.follows.holds-at-none c.self.invariant,
 )
+
+pub returns : goal.returns
+returns c = search rules

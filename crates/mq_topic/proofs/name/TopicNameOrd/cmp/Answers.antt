@@ -1,0 +1,5 @@
+use Rattle.std.proofs.Common.{rules}
+use Rattle.mq_topic.proofs.name.TopicNameOrd.cmp.Goals as goal
+
+pub returns : goal.returns
+returns c = search rules
