@@ -8,6 +8,7 @@ import pathlib
 import subprocess
 import sys
 import tempfile
+import time
 
 TOP = pathlib.Path(__file__).resolve().parent.parent
 PROGRAM = TOP / "crates/mqroute/out/mqroute"
@@ -134,6 +135,26 @@ def faults_of_devices(folder):
             told = subprocess.run([PROGRAM, *arguments], stdout=full, stderr=subprocess.PIPE, cwd=folder, timeout=60)
         if (told.stderr, told.returncode) != (b"mqroute: write fault\n", 3):
             yield f"mqroute {arguments} on a full device: {told}"
+    # What can't be told is passed over: the status is as if it had been told.
+    for argument, status in (("nowhere", 2), ("--bad", 2), (".", 3)):
+        with open("/dev/full", "wb") as full:
+            done = subprocess.run([PROGRAM, argument], stdout=subprocess.PIPE, stderr=full, cwd=folder, timeout=60)
+        if (done.stdout, done.returncode) != (b"", status):
+            yield f"mqroute {argument}, whose fault can't be told: {done}"
+
+
+def faults_of_pieces(folder):
+    """An access list that comes byte by byte is read to its end."""
+    os.mkfifo(pathlib.Path(folder, "fifo"))
+    words = [PROGRAM, "--acl-file", "fifo"]
+    with subprocess.Popen(words, stdin=subprocess.PIPE, stdout=subprocess.PIPE, cwd=folder) as program:
+        with open(pathlib.Path(folder, "fifo"), "wb", buffering=0) as pieces:
+            for byte in b"topic a\ntopic b\n":
+                pieces.write(bytes([byte]))
+                time.sleep(0.01)
+        written = program.communicate(SCRIPT.encode(), timeout=60)[0].decode()
+        if (written, program.returncode) != (ALLOWED, 0):
+            yield f"an access list byte by byte: {written}, {program.returncode}"
 
 
 def refusal(code):
@@ -206,10 +227,10 @@ def main():
         return 1
     with tempfile.TemporaryDirectory() as folder:
         os.chmod(folder, 0o755)
-        faults = [*faults_of_arguments(folder), *faults_of_devices(folder), *faults_of_lines(), *faults_of_topics(), *faults_of_access(), *faults_of_prefixes()]
+        faults = [*faults_of_arguments(folder), *faults_of_devices(folder), *faults_of_pieces(folder), *faults_of_lines(), *faults_of_topics(), *faults_of_access(), *faults_of_prefixes()]
     for fault in faults:
         print(f"program: {fault}")
-    tried = len(CASES) + len(MISUSED) + 4 + len(LINES) + len(COMMANDS) + len(BLANK) + 1 + len(TOPICS) + len(FILTERS) + len(MATCHES) + len(LISTS) + len(ACCESS) + 2
+    tried = len(CASES) + len(MISUSED) + 8 + len(LINES) + len(COMMANDS) + len(BLANK) + 1 + len(TOPICS) + len(FILTERS) + len(MATCHES) + len(LISTS) + len(ACCESS) + 2
     print(f"program: {tried - len(faults)} passed, {len(faults)} failed")
     return 1 if faults else 0
 
