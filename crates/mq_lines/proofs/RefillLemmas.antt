@@ -57,22 +57,20 @@ pub refilled : {F : Type 0} (T : Calls F) (todo : F → List Data) → WritesInT
     → IsRefilled es kept (todo f)
 refilled T todo writes f [] kept r whole same = rw r (refl, nothing (todo f) (sym same))
 refilled T todo writes f (e ∷ es) kept r whole same =
-    by_answer r.0 (todo f) (todo r.2) r.1 r.3 (writes f e.0 e.1 r.0 r.1 r.2 r.4) r.6 same
-    (no_more T todo writes r.2 es r.3 r.5) (refilled T todo writes r.2 es r.3 r.5)
+    by_answer r.0 (writes f e.0 e.1 r.0 r.1 r.2 r.4) r.6 (refilled T todo writes r.2 es r.3 r.5)
   where
-    by_answer : (b : Bool) (ds later : List Data) (w : Value) (rest : List Entry)
-        → WritesNext ds b (view w) later
-        → kept ≡ cond b ((e.0, w) ∷ rest) rest → length (e ∷ es) ≡ length ds
-        → length rest ≤ length later
-        → (length rest ≡ length es → length es ≡ length later → IsRefilled es rest later)
-        → IsRefilled (e ∷ es) kept ds
-    by_answer true ds later w rest is left same bound more =
-        let counted : length ((e.0, w) ∷ rest) ≡ length (e ∷ es) = rw left at whole in
-        let matched : length (e ∷ es) ≡ length (view w ∷ later) = rw is at same in
+    by_answer : (b : Bool) → WritesNext (todo f) b (view r.1) (todo r.2)
+        → kept ≡ cond b ((e.0, r.1) ∷ r.3) r.3
+        → (length r.3 ≡ length es → length es ≡ length (todo r.2) → IsRefilled es r.3 (todo r.2))
+        → IsRefilled (e ∷ es) kept (todo f)
+    by_answer true is left more =
+        let counted : length ((e.0, r.1) ∷ r.3) ≡ length (e ∷ es) = rw left at whole in
+        let matched : length (e ∷ es) ≡ length (view r.1 ∷ todo r.2) = rw is at same in
         let below = more (omega (arith, counted)) (omega (arith, matched)) in
-        rw (left, is) (ap (λ ns. string_bytes e.0 ∷ ns) below.0, ap (λ vs. view w ∷ vs) below.1)
-    by_answer false ds later w rest none left same bound more =
-        let counted : length rest ≡ length (e ∷ es) = rw left at whole in
+        rw (left, is) (ap (λ ns. string_bytes e.0 ∷ ns) below.0, ap (λ vs. view r.1 ∷ vs) below.1)
+    by_answer false none left more =
+        let counted : length r.3 ≡ length (e ∷ es) = rw left at whole in
+        let bound : length r.3 ≤ length (todo r.2) = no_more T todo writes r.2 es r.3 r.5 in
         let empty = rw none at bound in
         absurd (omega (arith, counted, empty))
 

@@ -60,6 +60,15 @@ faulty_now : {A B : Type 0} (r : Result A LineFault) (f : A → Result B LineFau
     → (r >>= f) ≡ Err BadField
 faulty_now r f h = ap (λ s. s >>= f) h
 
+-- five fields, each of which is read, or has the fault of a field
+record AreSound {A B C D E : Type 0} (a : Result A LineFault) (b : Result B LineFault)
+    (c : Result C LineFault) (d : Result D LineFault) (e : Result E LineFault) : Type 0 where
+  first : Sound a
+  second : Sound b
+  third : Sound c
+  fourth : Sound d
+  fifth : Sound e
+
 -- ---- faults may be gathered, and told at the end
 
 -- one more field: its fault joins those so far, and its value stands, or one in its place
@@ -178,22 +187,21 @@ subscribe_reordered : {A B C D E F G Y : Type 0} (client : Result A LineFault)
     (qos : Result F LineFault)
     (rap : Result G LineFault)
     (f : A → B → C → D → E → F → G → Y)
-    → Sound client → Sound filter → Sound handling → Sound id → Sound no_local → Sound qos
-    → Sound rap
+    → AreSound handling id no_local qos rap
     → (client >>= λ x0. filter >>= λ x1. qos >>= λ x5. no_local >>= λ x4. rap >>= λ x6. handling >>=
     λ x2. id >>= λ x3. Ok (f x0 x1 x2 x3 x4 x5 x6))
     ≡ (client >>= λ x0. filter >>= λ x1. handling >>= λ x2. id >>= λ x3. no_local >>= λ x4. qos >>=
     λ x5. rap >>= λ x6. Ok
     (f x0 x1 x2 x3 x4 x5 x6))
-subscribe_reordered (Err e) filter handling id no_local qos rap f h0 h1 h2 h3 h4 h5 h6 = refl
-subscribe_reordered (Ok x0) (Err e) handling id no_local qos rap f h0 h1 h2 h3 h4 h5 h6 = refl
-subscribe_reordered (Ok x0) (Ok x1) (Err e) id no_local qos rap f h0 h1 h2 h3 h4 h5 h6 =
-    search (rules, faulty)
-subscribe_reordered (Ok x0) (Ok x1) (Ok x2) (Err e) no_local qos rap f h0 h1 h2 h3 h4 h5 h6 =
-    search (rules, faulty)
-subscribe_reordered (Ok x0) (Ok x1) (Ok x2) (Ok x3) (Err e) qos rap f h0 h1 h2 h3 h4 h5 h6 =
-    search (rules, faulty)
-subscribe_reordered (Ok x0) (Ok x1) (Ok x2) (Ok x3) (Ok x4) qos rap f h0 h1 h2 h3 h4 h5 h6 = refl
+subscribe_reordered (Err e) filter handling id no_local qos rap f are = refl
+subscribe_reordered (Ok x0) (Err e) handling id no_local qos rap f are = refl
+subscribe_reordered (Ok x0) (Ok x1) (Err e) id no_local qos rap f are =
+    search (rules, faulty, are.first, are.third, are.fourth, are.fifth)
+subscribe_reordered (Ok x0) (Ok x1) (Ok x2) (Err e) no_local qos rap f are =
+    search (rules, faulty, are.second, are.third, are.fourth, are.fifth)
+subscribe_reordered (Ok x0) (Ok x1) (Ok x2) (Ok x3) (Err e) qos rap f are =
+    search (rules, faulty, are.third, are.fourth)
+subscribe_reordered (Ok x0) (Ok x1) (Ok x2) (Ok x3) (Ok x4) qos rap f are = refl
 
 -- a walk in the order of their names reads a subscribe's fields the same
 pub subscribe_walked : (ms : Members) → Ascends (names_of ms)
@@ -210,13 +218,14 @@ subscribe_walked ms sorted = walked subscribe_names subscribe_order ms _ (subscr
       a.1.1.1.1.1.1.0,
       a.1.1.1.1.1.1.1.0,
       a.1.1.1.1.1.1.1.1,
-    ) (subscribe_reordered _ _ _ _ _ _ _ _ (sound_required text (codes "client") (object ms))
-    (sound_required text
-    (codes "filter") (object ms)) (sound_defaulted 0 (whole 0 2) (codes "handling") (object ms))
-    (sound_optional (whole 1 268435455)
-    (codes "id") (object ms)) (sound_defaulted false flag (codes "no_local") (object ms))
-    (sound_defaulted 0 (whole 0 2) (codes "qos")
-    (object ms)) (sound_defaulted false flag (codes "rap") (object ms))))
+    ) (subscribe_reordered (required text (codes "client") (object ms))
+    (required text (codes "filter") (object ms)) _ _ _ _ _ _ (record {
+      first = sound_defaulted 0 (whole 0 2) (codes "handling") (object ms);
+      second = sound_optional (whole 1 268435455) (codes "id") (object ms);
+      third = sound_defaulted false flag (codes "no_local") (object ms);
+      fourth = sound_defaulted 0 (whole 0 2) (codes "qos") (object ms);
+      fifth = sound_defaulted false flag (codes "rap") (object ms);
+    })))
     (λ e. search (faulty, faulty_now, sound_required, sound_optional, sound_defaulted) depth 12)
 
 abbrev unsubscribe_order : List (List ℕ)
@@ -271,21 +280,21 @@ publish_reordered : {A B C D E F Y : Type 0} (client : Result A LineFault)
     (expiry : Result B LineFault) (payload : Result C LineFault)
     (qos : Result D LineFault) (retain : Result E LineFault) (topic : Result F LineFault)
     (f : A → B → C → D → E → F → Y)
-    → Sound client → Sound expiry → Sound payload → Sound qos → Sound retain → Sound topic
+    → AreSound expiry payload qos retain topic
     → (client >>= λ x0. topic >>= λ x5. payload >>= λ x2. qos >>= λ x3. retain >>= λ x4. expiry >>=
     λ x1. Ok (f x0 x1 x2 x3 x4 x5))
     ≡ (client >>= λ x0. expiry >>= λ x1. payload >>= λ x2. qos >>= λ x3. retain >>= λ x4. topic >>=
     λ x5. Ok (f x0 x1 x2 x3 x4 x5))
-publish_reordered (Err e) expiry payload qos retain topic f h0 h1 h2 h3 h4 h5 = refl
-publish_reordered (Ok x0) (Err e) payload qos retain topic f h0 h1 h2 h3 h4 h5 =
-    search (rules, faulty)
-publish_reordered (Ok x0) (Ok x1) (Err e) qos retain topic f h0 h1 h2 h3 h4 h5 =
-    search (rules, faulty)
-publish_reordered (Ok x0) (Ok x1) (Ok x2) (Err e) retain topic f h0 h1 h2 h3 h4 h5 =
-    search (rules, faulty)
-publish_reordered (Ok x0) (Ok x1) (Ok x2) (Ok x3) (Err e) topic f h0 h1 h2 h3 h4 h5 =
-    search (rules, faulty)
-publish_reordered (Ok x0) (Ok x1) (Ok x2) (Ok x3) (Ok x4) topic f h0 h1 h2 h3 h4 h5 = refl
+publish_reordered (Err e) expiry payload qos retain topic f are = refl
+publish_reordered (Ok x0) (Err e) payload qos retain topic f are =
+    search (rules, faulty, are.first, are.second, are.third, are.fourth, are.fifth)
+publish_reordered (Ok x0) (Ok x1) (Err e) qos retain topic f are =
+    search (rules, faulty, are.second, are.fifth)
+publish_reordered (Ok x0) (Ok x1) (Ok x2) (Err e) retain topic f are =
+    search (rules, faulty, are.third, are.fifth)
+publish_reordered (Ok x0) (Ok x1) (Ok x2) (Ok x3) (Err e) topic f are =
+    search (rules, faulty, are.fourth, are.fifth)
+publish_reordered (Ok x0) (Ok x1) (Ok x2) (Ok x3) (Ok x4) topic f are = refl
 
 -- a walk in the order of their names reads a publish's fields the same
 pub publish_walked : (ms : Members) → Ascends (names_of ms)
@@ -300,13 +309,13 @@ publish_walked ms sorted = walked publish_names publish_order ms _ (publish_walk
       a.1.1.1.1.1.0,
       a.1.1.1.1.1.1.0,
       a.1.1.1.1.1.1.1,
-    ) (publish_reordered _ _ _ _ _ _ _ (sound_required text (codes "client") (object ms))
-    (sound_optional
-    (whole 0 4294967295) (codes "expiry") (object ms))
-    (sound_defaulted [] text (codes "payload") (object ms)) (sound_defaulted 0
-    (whole 0 2) (codes "qos") (object ms)) (sound_defaulted false flag (codes "retain") (object ms))
-    (sound_required text
-    (codes "topic") (object ms))))
+    ) (publish_reordered _ _ _ _ _ _ _ (record {
+      first = sound_optional (whole 0 4294967295) (codes "expiry") (object ms);
+      second = sound_defaulted [] text (codes "payload") (object ms);
+      third = sound_defaulted 0 (whole 0 2) (codes "qos") (object ms);
+      fourth = sound_defaulted false flag (codes "retain") (object ms);
+      fifth = sound_required text (codes "topic") (object ms);
+    })))
     (λ e. search (faulty, faulty_now, sound_required, sound_optional, sound_defaulted) depth 12)
 
 abbrev acl_order : List (List ℕ)

@@ -12,17 +12,24 @@ use Rattle.mq_topic.specs.Matching.{is_wildcard}
 use Rattle.mq_topic.specs.Texts.{is_plain, contains_byte}
 use Rattle.mq_acl.specs.Access.{begins_with_dollar, is_user}
 use Rattle.mq_walk.specs.Names.{is_among, is_name_level, is_choice}
-use Rattle.mq_walk.specs.Remainders.{mark_passes, remainders_fit, GainsNothing}
+use Rattle.mq_walk.specs.Remainders.{MarkLevels, mark_passes, remainders_fit, GainsNothing}
 use Rattle.mq_questions.specs.Literals.{is_literal_of}
 use Rattle.mq_questions.specs.Fresh.{AreFresh, is_tried_client, is_no_client, is_no_user}
 use Rattle.mq_questions.specs.Fresh.{is_literal, marks_of}
 use Rattle.mq_questions.specs.declared.ask.fresh.Fresh.{Fresh}
 use Rattle.mq_walk.specs.declared.remainder.Remainder.{Remainder}
 use Rattle.mq_walk.specs.declared.start.Start.{Start}
-use Rattle.mq_questions.proofs.Swaps.{swap, is_apart}
+use Rattle.mq_questions.proofs.Swaps.{swap, swap_marks, is_apart}
 use Rattle.mq_questions.proofs.SwapLemmas.{swap_first, swap_apart, swap_nothing}
 use Rattle.mq_questions.proofs.LiteralLemmas.{all_fit_both, literals_pass, apart_rows}
 use Rattle.mq_walk.proofs.NameLemmas.{no_dollar, choice_is_level}
+use Rattle.mq_walk.proofs.TextLemmas.{or_cases}
+
+-- fresh texts that the rows before and after do not name
+pub record AreUnnamed (f : Fresh) (old new : List Remainder) : Type 0 where
+  pub fresh : AreFresh f
+  pub old_fits : remainders_fit (is_literal f) old ≡ true
+  pub new_fits : remainders_fit (is_literal f) new ≡ true
 
 -- ---- what a level that a row may name is
 pub literal_is_choice : (f : Fresh) (w : List ℕ) → is_literal f w ≡ true
@@ -70,60 +77,53 @@ literal_is_no_wildcard f w h = level_is_no_wildcard w
     (choice_is_level f.others w (literal_is_choice f w h))
 
 -- ---- the client ids that are tried
-pub tried_is_choice : (f : Fresh) (user : Option (List ℕ)) (old new : List Remainder) → AreFresh f
-    → mark_passes (is_choice f.others) user ≡ true
-    → remainders_fit (is_literal f) old ≡ true → remainders_fit (is_literal f) new ≡ true
+-- a client id that is tried may be chosen, where the user name may be
+pub tried_is_choice : (f : Fresh) (user : Option (List ℕ)) (old new : List Remainder)
+    → AreUnnamed f old new → mark_passes (is_choice f.others) user ≡ true
     → (c : List ℕ) → is_tried_client f user old new c ≡ true → is_choice f.others c ≡ true
-tried_is_choice f user old new a u o n c h =
-    one (bytes_eq c f.client.now) (bytes_eq c f.dollar_client.now) (bytes_eq c []) (is_user c user)
-    (is_literal_of c old) (is_literal_of c new) (is_choice f.others c)
-    (λ e. ap (is_choice f.others) (text_is c f.client.now e) ∙ a.client)
-    (λ e. ap (is_choice f.others) (text_is c f.dollar_client.now e) ∙ a.dollar_client)
-    (λ e. ap (is_choice f.others) (text_is c [] e) ∙ a.empty)
-    (mark user u) (λ e. literal_is_choice f c (literals_pass (is_literal f) old o c e))
-    (λ e. literal_is_choice f c (literals_pass (is_literal f) new n c e)) h
+tried_is_choice f user old new a u c h =
+    or_cases _ (is_literal_of c new) h
+    (λ k. or_cases _ (is_literal_of c old) k
+    (λ k. or_cases _ (is_user c user) k
+    (λ k. or_cases _ (bytes_eq c []) k
+    (λ k. or_cases (bytes_eq c f.client.now) (bytes_eq c f.dollar_client.now) k
+    (λ e. ap (is_choice f.others) (text_is c f.client.now e) ∙ a.fresh.client)
+    (λ e. ap (is_choice f.others) (text_is c f.dollar_client.now e) ∙ a.fresh.dollar_client))
+    (λ e. ap (is_choice f.others) (text_is c [] e) ∙ a.fresh.empty)) (mark user u))
+    (λ e. literal_is_choice f c (literals_pass (is_literal f) old a.old_fits c e)))
+    (λ e. literal_is_choice f c (literals_pass (is_literal f) new a.new_fits c e))
   where
     mark : (m : Option (List ℕ)) → mark_passes (is_choice f.others) m ≡ true → is_user c m ≡ true
         → is_choice f.others c ≡ true
     mark None p e = absurd (let k : false ≡ true = e in cc)
     mark (Some u) p e = ap (is_choice f.others) (text_is c u e) ∙ p
 
-    one : (p q r s t v w : Bool) → (p ≡ true → w ≡ true) → (q ≡ true → w ≡ true)
-        → (r ≡ true → w ≡ true) → (s ≡ true → w ≡ true) → (t ≡ true → w ≡ true)
-        → (v ≡ true → w ≡ true) → (p || q || r || s || t || v) ≡ true → w ≡ true
-    one true q r s t v w a b c d e f h = a refl
-    one false true r s t v w a b c d e f h = b refl
-    one false false true s t v w a b c d e f h = c refl
-    one false false false true t v w a b c d e f h = d refl
-    one false false false false true v w a b c d e f h = e refl
-    one false false false false false v w a b c d e f h = f h
-
--- what is known of a client id that is not tried
-pub record IsUntried (user : Option (List ℕ)) (old new : List Remainder) (c : List ℕ) : Type 0 where
+-- what is known of a client id or a user name that is not tried
+pub record IsUntried (old new : List Remainder) (c : List ℕ) : Type 0 where
   pub some : bytes_eq c [] ≡ false
-  pub no_user : is_user c user ≡ false
   pub old_lacks : is_literal_of c old ≡ false
   pub new_lacks : is_literal_of c new ≡ false
 
 untried : (f : Fresh) (user : Option (List ℕ)) (old new : List Remainder) (c : List ℕ)
-    → is_tried_client f user old new c ≡ false → IsUntried user old new c
+    → is_tried_client f user old new c ≡ false → IsUntried old new c × (is_user c user ≡ false)
 untried f user old new c h =
     let e5 = (or_parts (bytes_eq c f.client.now || bytes_eq c f.dollar_client.now || bytes_eq c []
     || is_user c user || is_literal_of c old) (is_literal_of c new) h).0 in
     let e4 = (or_parts (bytes_eq c f.client.now || bytes_eq c f.dollar_client.now || bytes_eq c []
     || is_user c user) (is_literal_of c old) e5).0 in
     let e3 = (or_parts (bytes_eq c f.client.now || bytes_eq c f.dollar_client.now || bytes_eq c [])
-    (is_user c user) e4).0 in
-    record {
-      some = (or_parts (bytes_eq c f.client.now || bytes_eq c f.dollar_client.now) (bytes_eq c [])
-          e3).1;
-      no_user = (or_parts (bytes_eq c f.client.now || bytes_eq c f.dollar_client.now
-          || bytes_eq c []) (is_user c user) e4).1;
-      old_lacks = (or_parts (bytes_eq c f.client.now || bytes_eq c f.dollar_client.now
-          || bytes_eq c [] || is_user c user) (is_literal_of c old) e5).1;
-      new_lacks = (or_parts (bytes_eq c f.client.now || bytes_eq c f.dollar_client.now
-          || bytes_eq c [] || is_user c user || is_literal_of c old) (is_literal_of c new) h).1;
-    }
+    (is_user c user) e4).0 in (
+      record {
+        some = (or_parts (bytes_eq c f.client.now || bytes_eq c f.dollar_client.now) (bytes_eq c [])
+            e3).1;
+        old_lacks = (or_parts (bytes_eq c f.client.now || bytes_eq c f.dollar_client.now
+            || bytes_eq c [] || is_user c user) (is_literal_of c old) e5).1;
+        new_lacks = (or_parts (bytes_eq c f.client.now || bytes_eq c f.dollar_client.now
+            || bytes_eq c [] || is_user c user || is_literal_of c old) (is_literal_of c new) h).1;
+      },
+      (or_parts (bytes_eq c f.client.now || bytes_eq c f.dollar_client.now || bytes_eq c [])
+          (is_user c user) e4).1,
+    )
 
 -- a text that is not the empty one has a byte
 pub not_empty : (c : List ℕ) → bytes_eq c [] ≡ false → (length c == 0) ≡ false
@@ -135,37 +135,37 @@ pub apart_by : (a b w : List ℕ) → not (bytes_eq w a) ≡ true → not (bytes
     → is_apart a b w ≡ true
 apart_by a b w e f = rw (e, f) refl
 
--- rows that do not name the client, nor the one that stands for it
-stand_in : (f : Fresh) (user : Option (List ℕ)) (old new : List Remainder) (start : Start)
-    (c b : List ℕ)
-    → remainders_fit (is_literal f) old ≡ true → remainders_fit (is_literal f) new ≡ true
-    → IsUntried user old new c
-    → begins_with_dollar c ≡ begins_with_dollar b → (length b == 0) ≡ false
-    → ((w : List ℕ) → is_no_client f w ≡ true → not (bytes_eq w b) ≡ true)
-    → mark_passes (is_no_client f) user ≡ true
-    → GainsNothing start 200 (marks_of b user) old new
-    → GainsNothing start 200 (marks_of c user) old new
-stand_in f user old new start c b o n t d s other u h =
-    swap_nothing start 200 (marks_of c user) c b old new
-    (record { dollar = d; some = not_empty c t.some; other_some = s })
-    (all_fit_both (λ w. not (bytes_eq w c)) (is_literal f) (is_apart c b) old
-    (λ w e g. apart_by c b w e (other w (literal_is_no_client f w g)))
-    (apart_rows (is_literal f) (literal_is_no_wildcard f) c old o t.old_lacks) o)
-    (all_fit_both (λ w. not (bytes_eq w c)) (is_literal f) (is_apart c b) new
-    (λ w e g. apart_by c b w e (other w (literal_is_no_client f w g)))
-    (apart_rows (is_literal f) (literal_is_no_wildcard f) c new n t.new_lacks) n)
-    (subst (λ m. GainsNothing start 200 m old new)
-    (sym (λ i. record {
-      client = Some (swap_first c b i);
-      user =
-          same_user user u t.no_user i;
-    })) h)
+-- a text that stands for another: both begin with `$`, or neither does, and none that passes is it
+pub record StandsFor (passes : List ℕ → Bool) (b c : List ℕ) : Type 0 where
+  pub dollar : begins_with_dollar c ≡ begins_with_dollar b
+  pub some : (length b == 0) ≡ false
+  pub apart : (w : List ℕ) → passes w ≡ true → not (bytes_eq w b) ≡ true
+
+-- what stands for another by one test does so by a narrower one
+pub stands_by : (p q : List ℕ → Bool) (b c : List ℕ) → ((w : List ℕ) → q w ≡ true → p w ≡ true)
+    → StandsFor p b c → StandsFor q b c
+stands_by p q b c narrow s = record {
+  dollar = s.dollar;
+  some = s.some;
+  apart = λ w h. s.apart w (narrow w h);
+}
+
+-- with a text that rows do not name, nothing is gained where nothing is with one that stands for it
+pub stand_in : (f : Fresh) (old new : List Remainder) (start : Start) (b c : List ℕ)
+    (marks : MarkLevels) → AreUnnamed f old new → IsUntried old new c
+    → StandsFor (is_literal f) b c → GainsNothing start 200 (swap_marks c b marks) old new
+    → GainsNothing start 200 marks old new
+stand_in f old new start b c marks a t s h =
+    swap_nothing start 200 marks c b old new
+    (record { dollar = s.dollar; some = not_empty c t.some; other_some = s.some })
+    (apart old a.old_fits t.old_lacks) (apart new a.new_fits t.new_lacks) h
   where
-    same_user : (m : Option (List ℕ)) → mark_passes (is_no_client f) m ≡ true → is_user c m ≡ false
-        → option_map (swap c b) m ≡ m
-    same_user None p e = refl
-    same_user (Some v) p e =
-        ap Some (swap_apart c b v (apart_by c b v (ap not (text_flip v c ∙ e)) (other v p)))
+    apart : (rs : List Remainder) → remainders_fit (is_literal f) rs ≡ true
+        → is_literal_of c rs ≡ false → remainders_fit (is_apart c b) rs ≡ true
+    apart rs fit lacks =
+        all_fit_both (λ w. not (bytes_eq w c)) (is_literal f) (is_apart c b) rs
+        (λ w e g. apart_by c b w e (s.apart w g))
+        (apart_rows (is_literal f) (literal_is_no_wildcard f) c rs fit lacks) fit
 
 second : (p q r s t v : Bool) → q ≡ true → (p || q || r || s || t || v) ≡ true
 second true q r s t v e = refl
@@ -173,12 +173,11 @@ second false q r s t v e = rw e refl
 
 -- where none of those that are tried gains anything, no client does
 pub no_client_gains : (f : Fresh) (user : Option (List ℕ)) (old new : List Remainder)
-    (start : Start) → AreFresh f → mark_passes (is_no_client f) user ≡ true
-    → remainders_fit (is_literal f) old ≡ true → remainders_fit (is_literal f) new ≡ true
+    (start : Start) → AreUnnamed f old new → mark_passes (is_no_client f) user ≡ true
     → ((c : List ℕ) → is_tried_client f user old new c ≡ true
     → GainsNothing start 200 (marks_of c user) old new)
     → (c : List ℕ) → GainsNothing start 200 (marks_of c user) old new
-no_client_gains f user old new start a u o n h c =
+no_client_gains f user old new start a u h c =
     at (is_tried_client f user old new c) refl (begins_with_dollar c) refl
   where
     first_tried : is_tried_client f user old new f.client.now ≡ true
@@ -192,19 +191,41 @@ no_client_gains f user old new start a u o n h c =
         (is_user f.dollar_client.now user) (is_literal_of f.dollar_client.now old)
         (is_literal_of f.dollar_client.now new) (text_itself f.dollar_client.now)
 
+    same_user : (b : List ℕ) → StandsFor (is_no_client f) b c → (m : Option (List ℕ))
+        → mark_passes (is_no_client f) m ≡ true → is_user c m ≡ false
+        → option_map (swap c b) m ≡ m
+    same_user b s None p e = refl
+    same_user b s (Some v) p e =
+        ap Some (swap_apart c b v (apart_by c b v (ap not (text_flip v c ∙ e)) (s.apart v p)))
+
+    by : (b : List ℕ) → is_tried_client f user old new b ≡ true
+        → is_tried_client f user old new c ≡ false → StandsFor (is_no_client f) b c
+        → GainsNothing start 200 (marks_of c user) old new
+    by b tried e s =
+        let facts = untried f user old new c e in
+        stand_in f old new start b c (marks_of c user) a facts.0
+        (stands_by (is_no_client f) (is_literal f) b c (literal_is_no_client f) s)
+        (subst (λ m. GainsNothing start 200 m old new)
+        (sym (λ i. record {
+          client = Some (swap_first c b i);
+          user = same_user b s user u facts.1 i;
+        })) (h b tried))
+
     at : (t : Bool) → is_tried_client f user old new c ≡ t → (d : Bool) → begins_with_dollar c ≡ d
         → GainsNothing start 200 (marks_of c user) old new
     at true e d k = h c e
-    at false e false k =
-        stand_in f user old new start c f.client.now o n (untried f user old new c e)
-        (k ∙ sym a.client_first) a.client_some
-        (λ w g. (and_parts (not (bytes_eq w f.client.now)) (not (bytes_eq w f.dollar_client.now))
-        g).0) u (h f.client.now first_tried)
-    at false e true k =
-        stand_in f user old new start c f.dollar_client.now o n (untried f user old new c e)
-        (k ∙ sym a.dollar_client_first) (no_dollar f.dollar_client.now a.dollar_client_first)
-        (λ w g. (and_parts (not (bytes_eq w f.client.now)) (not (bytes_eq w f.dollar_client.now))
-        g).1) u (h f.dollar_client.now second_tried)
+    at false e false k = by f.client.now first_tried e (record {
+      dollar = k ∙ sym a.fresh.client_first;
+      some = a.fresh.client_some;
+      apart = λ w g. (and_parts (not (bytes_eq w f.client.now))
+          (not (bytes_eq w f.dollar_client.now)) g).0;
+    })
+    at false e true k = by f.dollar_client.now second_tried e (record {
+      dollar = k ∙ sym a.fresh.dollar_client_first;
+      some = no_dollar f.dollar_client.now a.fresh.dollar_client_first;
+      apart = λ w g. (and_parts (not (bytes_eq w f.client.now))
+          (not (bytes_eq w f.dollar_client.now)) g).1;
+    })
 
 -- ---- one by one
 pub among_at : (items : List (Bor (List ℕ))) (i : ℕ) (d : Bor (List ℕ)) → i < length items
@@ -219,11 +240,14 @@ among_at (x ∷ xs) (suc i) d h = or_here (bytes_eq (get_or xs i d).now x.now)
     or_here true e = refl
     or_here false e = e
 
+-- it is true of each item before a place
+abbrev pub IsDoneTo : (List ℕ → Type 0) → List (Bor (List ℕ)) → ℕ → Type 0
+IsDoneTo P items i = (t : List ℕ) → is_among t items ≡ true → is_among t (drop i items) ≡ false
+    → P t
+
 -- what is true of the items before a place and of the item there is true of those before the next
 pub one_more_done : (P : List ℕ → Type 0) (items : List (Bor (List ℕ))) (i : ℕ) (d : Bor (List ℕ))
-    → i < length items → P (get_or items i d).now
-    → ((t : List ℕ) → is_among t items ≡ true → is_among t (drop i items) ≡ false → P t)
-    → (t : List ℕ) → is_among t items ≡ true → is_among t (drop (i + 1) items) ≡ false → P t
+    → i < length items → P (get_or items i d).now → IsDoneTo P items i → IsDoneTo P items (i + 1)
 one_more_done P items i d p here before t all rest = at (bytes_eq t (get_or items i d).now) refl
   where
     at : (b : Bool) → bytes_eq t (get_or items i d).now ≡ b → P t
@@ -232,9 +256,20 @@ one_more_done P items i d p here before t all rest = at (bytes_eq t (get_or item
 
 -- what is true of each level that has been tried is true of all in the end
 pub all_done : (P : List ℕ → Type 0) (items : List (Bor (List ℕ))) (i : ℕ) → length items ≤ i
-    → ((t : List ℕ) → is_among t items ≡ true → is_among t (drop i items) ≡ false → P t)
-    → (t : List ℕ) → is_among t items ≡ true → P t
+    → IsDoneTo P items i → (t : List ℕ) → is_among t items ≡ true → P t
 all_done P items i h done t e = done t e (ap (is_among t) (drop_of_length-le items {i = i} h))
+
+-- the items are those that are listed, and it is true of each before a place behind the last
+pub record AreAllDone (P : List ℕ → Type 0) (listed : List ℕ → Bool) (items : List (Bor (List ℕ)))
+    (i : ℕ) : Type 0 where
+  pub end : length items ≤ i
+  pub are : (t : List ℕ) → is_among t items ≡ listed t
+  pub done : IsDoneTo P items i
+
+-- so it is true of each that is listed
+pub listed_done : (P : List ℕ → Type 0) (listed : List ℕ → Bool) (items : List (Bor (List ℕ)))
+    (i : ℕ) → AreAllDone P listed items i → (t : List ℕ) → listed t ≡ true → P t
+listed_done P listed items i a t h = all_done P items i a.end a.done t (a.are t ∙ h)
 
 -- ---- the client ids that are tried, as they are listed
 pub tried_as_listed : (f : Fresh) (user : Option (List ℕ)) (old new : List Remainder) (c : List ℕ)

@@ -17,6 +17,7 @@ use Rattle.mq_questions.specs.FreshTexts.{AreLong, AreLonger, AreNew, IsNew, IsS
 use Rattle.mq_questions.specs.FreshTexts.{fresh_texts}
 use Rattle.mq_questions.specs.declared.ask.fresh.Fresh.{Fresh}
 use Rattle.mq_questions.specs.declared.ask.texts.FreshTexts.{FreshTexts}
+use Rattle.mq_walk.proofs.TextLemmas.{or_cases}
 
 many_lack : (b n : ℕ) → (120 == b) ≡ false → contains_byte b (replicate n 120) ≡ false
 many_lack b zero h = refl
@@ -75,8 +76,16 @@ long_is_new base text named long short = record {
   unnamed = too_long (named text) (length text) (short text) long.long;
 }
 
-module _ (f : Fresh) (p : IsPadded (codes "x") f.others.plain.now)
-    (d : IsPadded (codes "$x") f.others.dollar.now) where
+-- each of the texts that stand for others is made of a base of its own
+pub record AreMade (f : Fresh) : Type 0 where
+  pub plain : IsPadded (codes "x") f.others.plain.now
+  pub dollar : IsPadded (codes "$x") f.others.dollar.now
+  pub client : IsPadded (codes "client") f.client.now
+  pub dollar_client : IsPadded (codes "$client") f.dollar_client.now
+  pub user : IsPadded (codes "user") f.user.now
+  pub dollar_user : IsPadded (codes "$user") f.dollar_user.now
+
+module _ (f : Fresh) (made : AreMade f) where
   choice : (base text : List ℕ) → is_base base ≡ true
       → ((x y : List ℕ) → bytes_eq (base ++ x) (codes "x" ++ y) ≡ false)
       → ((x y : List ℕ) → bytes_eq (base ++ x) (codes "$x" ++ y) ≡ false)
@@ -84,69 +93,71 @@ module _ (f : Fresh) (p : IsPadded (codes "x") f.others.plain.now)
   choice base text h s t m =
       rw (
         made_level base text h m,
-        made_apart base (codes "x") text f.others.plain.now s m p,
-        made_apart base (codes "$x") text f.others.dollar.now t m d,
+        made_apart base (codes "x") text f.others.plain.now s m made.plain,
+        made_apart base (codes "$x") text f.others.dollar.now t m made.dollar,
       ) refl
 
   empty_choice : is_choice f.others [] ≡ true
-  empty_choice = (λ i. not (bytes_eq [] (p.is i)) && not (bytes_eq [] (d.is i)))
+  empty_choice = (λ i. not (bytes_eq [] (made.plain.is i)) && not (bytes_eq [] (made.dollar.is i)))
 
 -- texts that are made so are fresh
-pub are_fresh : (f : Fresh) → IsPadded (codes "x") f.others.plain.now
-    → IsPadded (codes "$x") f.others.dollar.now → IsPadded (codes "client") f.client.now
-    → IsPadded (codes "$client") f.dollar_client.now → IsPadded (codes "user") f.user.now
-    → IsPadded (codes "$user") f.dollar_user.now → AreFresh f
-are_fresh f p d c dc u du = record {
+pub are_fresh : (f : Fresh) → AreMade f → AreFresh f
+are_fresh f made = record {
   others = rw (
-    made_level (codes "x") f.others.plain.now refl p,
-    made_level (codes "$x") f.others.dollar.now refl d,
+    made_level (codes "x") f.others.plain.now refl made.plain,
+    made_level (codes "$x") f.others.dollar.now refl made.dollar,
   )
-      ((λ i. not (length (p.is i) == 0) && not (begins_with_dollar (p.is i)) && true
-      && begins_with_dollar (d.is i) && true)
+      ((λ i. not (length (made.plain.is i) == 0) && not (begins_with_dollar (made.plain.is i))
+      && true && begins_with_dollar (made.dollar.is i) && true)
       ∙ ap (λ b. not b && true && true && true && true)
-      (eqb-suc-zero (length (replicate p.count 120))));
-  client = choice f p d (codes "client") f.client.now refl (λ x y. refl) (λ x y. refl) c;
-  dollar_client = choice f p d (codes "$client") f.dollar_client.now refl (λ x y. refl)
-      (λ x y. refl) dc;
-  user = choice f p d (codes "user") f.user.now refl (λ x y. refl) (λ x y. refl) u;
-  dollar_user = choice f p d (codes "$user") f.dollar_user.now refl (λ x y. refl) (λ x y. refl) du;
-  empty = empty_choice f p d;
-  client_first = ap begins_with_dollar c.is;
-  dollar_client_first = ap begins_with_dollar dc.is;
-  user_first = ap begins_with_dollar u.is;
-  dollar_user_first = ap begins_with_dollar du.is;
-  client_some = ap (λ t. length t == 0) c.is
-      ∙ eqb-suc-zero (length (codes "lient" ++ replicate c.count 120));
-  user_some = ap (λ t. length t == 0) u.is
-      ∙ eqb-suc-zero (length (codes "ser" ++ replicate u.count 120));
-  dollar_user_some = ap (λ t. length t == 0) du.is
-      ∙ eqb-suc-zero (length (codes "user" ++ replicate du.count 120));
+      (eqb-suc-zero (length (replicate made.plain.count 120))));
+  client = choice f made (codes "client") f.client.now refl (λ x y. refl) (λ x y. refl) made.client;
+  dollar_client = choice f made (codes "$client") f.dollar_client.now refl (λ x y. refl)
+      (λ x y. refl) made.dollar_client;
+  user = choice f made (codes "user") f.user.now refl (λ x y. refl) (λ x y. refl) made.user;
+  dollar_user = choice f made (codes "$user") f.dollar_user.now refl (λ x y. refl)
+      (λ x y. refl) made.dollar_user;
+  empty = empty_choice f made;
+  client_first = ap begins_with_dollar made.client.is;
+  dollar_client_first = ap begins_with_dollar made.dollar_client.is;
+  user_first = ap begins_with_dollar made.user.is;
+  dollar_user_first = ap begins_with_dollar made.dollar_user.is;
+  client_some = ap (λ t. length t == 0) made.client.is
+      ∙ eqb-suc-zero (length (codes "lient" ++ replicate made.client.count 120));
+  user_some = ap (λ t. length t == 0) made.user.is
+      ∙ eqb-suc-zero (length (codes "ser" ++ replicate made.user.count 120));
+  dollar_user_some = ap (λ t. length t == 0) made.dollar_user.is
+      ∙ eqb-suc-zero (length (codes "user" ++ replicate made.dollar_user.count 120));
   user_apart = rw (
     made_apart (codes "user") (codes "client") f.user.now f.client.now (λ x y. refl)
-        u c,
+        made.user made.client,
     made_apart (codes "user") (codes "$client") f.user.now f.dollar_client.now
-        (λ x y. refl) u dc,
+        (λ x y. refl) made.user made.dollar_client,
   ) refl;
   dollar_user_apart =
       rw (
         made_apart (codes "$user") (codes "client") f.dollar_user.now f.client.now (λ x y. refl)
-            du c,
+            made.dollar_user made.client,
         made_apart (codes "$user") (codes "$client") f.dollar_user.now f.dollar_client.now
-            (λ x y. refl) du dc,
+            (λ x y. refl) made.dollar_user made.dollar_client,
       ) refl;
-  empty_apart = (λ i. not (bytes_eq [] (c.is i)) && not (bytes_eq [] (dc.is i)));
+  empty_apart = (λ i. not (bytes_eq [] (made.client.is i))
+      && not (bytes_eq [] (made.dollar_client.is i)));
 }
 
 -- new texts, seen as those that stand for others, are fresh
 pub seen_fresh : (t : FreshTexts) (f : Fresh) (named : List ℕ → Bool) → AreNew t named
     → IsSeen t f → AreFresh f
 seen_fresh t f named m s =
-    are_fresh f (subst (IsPadded (codes "x")) (sym s.plain) m.plain.made)
-    (subst (IsPadded (codes "$x")) (sym s.dollar) m.dollar.made)
-    (subst (IsPadded (codes "client")) (sym s.client) m.client.made)
-    (subst (IsPadded (codes "$client")) (sym s.dollar_client) m.dollar_client.made)
-    (subst (IsPadded (codes "user")) (sym s.user) m.user.made)
-    (subst (IsPadded (codes "$user")) (sym s.dollar_user) m.dollar_user.made)
+    are_fresh f (record {
+      plain = subst (IsPadded (codes "x")) (sym s.plain) m.plain.made;
+      dollar = subst (IsPadded (codes "$x")) (sym s.dollar) m.dollar.made;
+      client = subst (IsPadded (codes "client")) (sym s.client) m.client.made;
+      dollar_client = subst (IsPadded (codes "$client")) (sym s.dollar_client)
+          m.dollar_client.made;
+      user = subst (IsPadded (codes "user")) (sym s.user) m.user.made;
+      dollar_user = subst (IsPadded (codes "$user")) (sym s.dollar_user) m.dollar_user.made;
+    })
 
 -- a level that is named is none of them
 apart_from : (named : List ℕ → Bool) (l t u : List ℕ) → named l ≡ true → u ≡ t
@@ -177,29 +188,23 @@ named_no_fresh t f named m s l h =
 pub made_unnamed : (t : FreshTexts) (named : List ℕ → Bool) → AreNew t named → (text : List ℕ)
     → list_any (bytes_eq text) (fresh_texts t) ≡ true → named text ≡ false
 made_unnamed t named m text h =
-    one (bytes_eq text (string_bytes t.plain)) (bytes_eq text (string_bytes t.dollar))
-    (bytes_eq text (string_bytes t.client)) (bytes_eq text (string_bytes t.dollar_client))
-    (bytes_eq text (string_bytes t.user)) (bytes_eq text (string_bytes t.dollar_user))
-    (same (string_bytes t.plain) m.plain.unnamed) (same (string_bytes t.dollar) m.dollar.unnamed)
+    or_cases (bytes_eq text (string_bytes t.plain)) _ h
+    (same (string_bytes t.plain) m.plain.unnamed)
+    (λ k. or_cases (bytes_eq text (string_bytes t.dollar)) _ k
+    (same (string_bytes t.dollar) m.dollar.unnamed)
+    (λ k. or_cases (bytes_eq text (string_bytes t.client)) _ k
     (same (string_bytes t.client) m.client.unnamed)
+    (λ k. or_cases (bytes_eq text (string_bytes t.dollar_client)) _ k
     (same (string_bytes t.dollar_client) m.dollar_client.unnamed)
+    (λ k. or_cases (bytes_eq text (string_bytes t.user)) _ k
     (same (string_bytes t.user) m.user.unnamed)
-    (same (string_bytes t.dollar_user) m.dollar_user.unnamed) h
+    (λ k. or_cases (bytes_eq text (string_bytes t.dollar_user)) false k
+    (same (string_bytes t.dollar_user) m.dollar_user.unnamed)
+    (λ e. absurd (let n : false ≡ true = e in cc)))))))
   where
     same : (other : List ℕ) → named other ≡ false → bytes_eq text other ≡ true
         → named text ≡ false
     same other n e = ap named (text_is text other e) ∙ n
-
-    one : {A : Type 0} (p q r s t u : Bool) → (p ≡ true → A) → (q ≡ true → A) → (r ≡ true → A)
-        → (s ≡ true → A) → (t ≡ true → A) → (u ≡ true → A)
-        → (p || (q || (r || (s || (t || (u || false)))))) ≡ true → A
-    one true q r s t u a b c d e f h = a refl
-    one false true r s t u a b c d e f h = b refl
-    one false false true s t u a b c d e f h = c refl
-    one false false false true t u a b c d e f h = d refl
-    one false false false false true u a b c d e f h = e refl
-    one false false false false false true a b c d e f h = f refl
-    one false false false false false false a b c d e f h = absurd (let k : false ≡ true = h in cc)
 
 -- long texts are longer than any level that is short
 pub are_longer : (t : FreshTexts) → AreLong t → AreLonger t

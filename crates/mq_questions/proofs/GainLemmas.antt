@@ -93,48 +93,71 @@ roots_allow rows roots user other direction dollar a like client name d =
     ∙ sym (λ i. not (a.hits client name other true like d i)
     && a.hits client name other false like d i)
 
--- for a user who is alike, the rows gain a name just where the roots for such names do
+-- a walk over the names that begin with `$`, or over the others: its start, and both lists' roots
+pub record IsWalk (old new : List AclRow) (olds news : List Remainder) (user : Option (List ℕ))
+    (direction : Direction) (dollar : Bool) (start : Start) : Type 0 where
+  pub old_roots : AreRoots old user direction dollar olds
+  pub new_roots : AreRoots new user direction dollar news
+  pub start_is : start ≡ start_of dollar
+
+-- such a walk, and another user to whom the rows of both lists apply as to its user
+pub record IsWalkFor (old new : List AclRow) (olds news : List Remainder)
+    (user other : Option (List ℕ)) (direction : Direction) (dollar : Bool) (start : Start) :
+    Type 0 where
+  pub walk : IsWalk old new olds news user direction dollar start
+  pub old_alike : alike other user old ≡ true
+  pub new_alike : alike other user new ≡ true
+
+-- the walk's own user is one
+walk_self : (old new : List AclRow) (olds news : List Remainder) (user : Option (List ℕ))
+    (direction : Direction) (dollar : Bool) (start : Start)
+    → IsWalk old new olds news user direction dollar start
+    → IsWalkFor old new olds news user user direction dollar start
+walk_self old new olds news user direction dollar start walk = record {
+  walk = walk;
+  old_alike = alike_self user old;
+  new_alike = alike_self user new;
+}
+
+-- for such a user, the rows gain a name just where the roots for such names do
 pub gained_is : (old new : List AclRow) (olds news : List Remainder) (user other : Option (List ℕ))
-    (direction : Direction) (dollar : Bool) → AreRoots old user direction dollar olds
-    → AreRoots new user direction dollar news
-    → alike other user old ≡ true → alike other user new ≡ true
+    (direction : Direction) (dollar : Bool) (start : Start)
+    → IsWalkFor old new olds news user other direction dollar start
     → (client name : List ℕ) → begins_with_dollar name ≡ dollar
     → is_gained old new client other name direction
     ≡ gains (marks_of client other) (levels name) olds news
-gained_is old new olds news user other direction dollar a b l m client name d =
-    (λ i. roots_allow new news user other direction dollar b m client name d i
-    && not (roots_allow old olds user other direction dollar a l client name d i))
+gained_is old new olds news user other direction dollar start w client name d =
+    (λ i. roots_allow new news user other direction dollar w.walk.new_roots w.new_alike client name
+    d i && not (roots_allow old olds user other direction dollar w.walk.old_roots w.old_alike client
+    name d i))
 
 -- where no walk gains a name, no valid name is gained
 pub nothing_gained : (old new : List AclRow) (olds news : List Remainder) (user : Option (List ℕ))
     (direction : Direction) (dollar : Bool) (start : Start)
-    → AreRoots old user direction dollar olds → AreRoots new user direction dollar news
-    → start ≡ start_of dollar
+    → IsWalk old new olds news user direction dollar start
     → ((c : List ℕ) → GainsNothing start 200 (marks_of c (level_of user)) olds news)
     → (client name : List ℕ) → IsTrue (is_name name) → begins_with_dollar name ≡ dollar
     → is_gained old new client user name direction ≡ false
-nothing_gained old new olds news user direction dollar start a b st h client name valid d =
+nothing_gained old new olds news user direction dollar start walk h client name valid d =
     let is = name_is name valid in
-    gained_is old new olds news user user direction dollar a b (alike_self user old)
-    (alike_self user new) client name d
+    gained_is old new olds news user user direction dollar start
+    (walk_self old new olds news user direction dollar start walk) client name d
     ∙ level_gains client user (levels name) olds news is.can
-    ∙ h client (levels name) (ap (λ s. suits s (levels name)) st ∙ name_suits name dollar is.some d)
-    is.few
+    ∙ h client (levels name)
+    (ap (λ s. suits s (levels name)) walk.start_is ∙ name_suits name dollar is.some d) is.few
 
 -- the same for another user that the rows apply to as to this one
 pub nothing_gained_by : (old new : List AclRow) (olds news : List Remainder)
     (user other : Option (List ℕ)) (direction : Direction) (dollar : Bool) (start : Start)
-    → AreRoots old user direction dollar olds → AreRoots new user direction dollar news
-    → alike other user old ≡ true → alike other user new ≡ true → start ≡ start_of dollar
+    → IsWalkFor old new olds news user other direction dollar start
     → ((c : List ℕ) → GainsNothing start 200 (marks_of c other) olds news)
     → (client name : List ℕ) → IsTrue (is_name name) → begins_with_dollar name ≡ dollar
     → is_gained old new client other name direction ≡ false
-nothing_gained_by old new olds news user other direction dollar start a b l m st h client name valid
-    d =
+nothing_gained_by old new olds news user other direction dollar start w h client name valid d =
     let is = name_is name valid in
-    gained_is old new olds news user other direction dollar a b l m client name d
-    ∙ h client (levels name) (ap (λ s. suits s (levels name)) st ∙ name_suits name dollar is.some d)
-    is.few
+    gained_is old new olds news user other direction dollar start w client name d
+    ∙ h client (levels name)
+    (ap (λ s. suits s (levels name)) w.walk.start_is ∙ name_suits name dollar is.some d) is.few
 
 -- a level of a name can be a level
 pub level_can : (l : List ℕ) → is_name_level l ≡ true → can_be_level l ≡ true
@@ -143,15 +166,16 @@ level_can l h = (and_parts (can_be_level l) _ h).0
 -- a name that the walk gains is gained
 pub name_gained : (old new : List AclRow) (olds news : List Remainder) (user : Option (List ℕ))
     (direction : Direction) (dollar : Bool) (start : Start)
-    → AreRoots old user direction dollar olds → AreRoots new user direction dollar news
-    → start ≡ start_of dollar → (client name : List ℕ) (ls : List (List ℕ)) → levels name ≡ ls
+    → IsWalk old new olds news user direction dollar start
+    → (client name : List ℕ) (ls : List (List ℕ)) → levels name ≡ ls
     → IsGain start 200 (marks_of client (level_of user)) olds news ls
     → is_gained old new client user name direction ≡ true
-name_gained old new olds news user direction dollar start a b st client name ls e h =
-    let fit : suits (start_of dollar) (levels name) ≡ true = (λ i. suits (sym st i) (e i))
-    ∙ h.suitable in
-    gained_is old new olds news user user direction dollar a b (alike_self user old)
-    (alike_self user new) client name (suits_dollar name dollar (some_name name dollar fit) fit)
+name_gained old new olds news user direction dollar start walk client name ls e h =
+    let fit : suits (start_of dollar) (levels name) ≡ true =
+    (λ i. suits (sym walk.start_is i) (e i)) ∙ h.suitable in
+    gained_is old new olds news user user direction dollar start
+    (walk_self old new olds news user direction dollar start walk) client name
+    (suits_dollar name dollar (some_name name dollar fit) fit)
     ∙ ap (λ k. gains (marks_of client user) k olds news) e
     ∙ level_gains client user ls olds news (all_by is_name_level can_be_level level_can ls h.valid)
     ∙ h.gained
@@ -159,15 +183,14 @@ name_gained old new olds news user direction dollar start a b st client name ls 
 -- a name that the walk gains is gained by each user who is alike
 pub name_gained_by : (old new : List AclRow) (olds news : List Remainder)
     (user other : Option (List ℕ)) (direction : Direction) (dollar : Bool) (start : Start)
-    → AreRoots old user direction dollar olds → AreRoots new user direction dollar news
-    → alike other user old ≡ true → alike other user new ≡ true → start ≡ start_of dollar
+    → IsWalkFor old new olds news user other direction dollar start
     → (client name : List ℕ) (ls : List (List ℕ)) → levels name ≡ ls
     → IsGain start 200 (marks_of client other) olds news ls
     → is_gained old new client other name direction ≡ true
-name_gained_by old new olds news user other direction dollar start a b l m st client name ls e h =
-    let fit : suits (start_of dollar) (levels name) ≡ true = (λ i. suits (sym st i) (e i))
-    ∙ h.suitable in
-    gained_is old new olds news user other direction dollar a b l m client name
+name_gained_by old new olds news user other direction dollar start w client name ls e h =
+    let fit : suits (start_of dollar) (levels name) ≡ true =
+    (λ i. suits (sym w.walk.start_is i) (e i)) ∙ h.suitable in
+    gained_is old new olds news user other direction dollar start w client name
     (suits_dollar name dollar (some_name name dollar fit) fit)
     ∙ ap (λ k. gains (marks_of client other) k olds news) e
     ∙ h.gained

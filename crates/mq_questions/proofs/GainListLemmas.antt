@@ -1,29 +1,29 @@
 -- Gains that are listed.
-use Rattle.std.proofs.Common.{◌≡◌, ◌<◌, ◌≤◌, ◌+◌, ℕ, Bool, true, false, ◌||◌, List, [], ◌∷◌, ◌++◌}
-use Rattle.std.proofs.Common.{length, get_or, drop, refl, ap, sym, ◌∙◌, subst, map, Option, Bor}
+use Rattle.std.proofs.Common.{◌≡◌, ◌<◌, ◌+◌, ℕ, Bool, true, false, ◌||◌, List, [], ◌∷◌, ◌++◌}
+use Rattle.std.proofs.Common.{length, get_or, refl, ap, sym, ◌∙◌, subst, map, Option, Bor}
 use Rattle.std.proofs.Common.{codes, bytes_eq, if◌then◌else◌, string_bytes, take, zero, suc, arith}
 use Rattle.std.specs.List.{All}
 use Rattle.std.proofs.lemmas.List.{map_push, map-id}
 use Rattle.std.proofs.lemmas.List.Elements.{All-same, All-push, All-head, All-tail, All-append}
 use Rattle.std.proofs.lemmas.List.Elements.{All-take, All-weaker, All-cons, All-nil}
 use Rattle.mq_topic.proofs.ByteLemmas.{text_is, text_itself}
-use Rattle.mq_questions.specs.Fresh.{AreFresh, marks_of, is_tried_client, is_no_client, is_literal}
+use Rattle.mq_questions.specs.Fresh.{marks_of, is_tried_client, is_no_client}
 use Rattle.mq_questions.specs.Literals.{has_mark}
-use Rattle.mq_walk.specs.Names.{is_among, is_choice, start_of, suits}
+use Rattle.mq_walk.specs.Names.{is_choice, start_of, suits}
 use Rattle.mq_questions.specs.Texts.{level_of}
 use Rattle.mq_questions.specs.declared.ask.fresh.Fresh.{Fresh}
-use Rattle.mq_questions.proofs.ClientLemmas.{one_more_done, all_done, no_client_gains}
-use Rattle.mq_questions.proofs.ClientLemmas.{tried_is_choice}
+use Rattle.mq_questions.proofs.ClientLemmas.{AreUnnamed, IsDoneTo, AreAllDone, one_more_done}
+use Rattle.mq_questions.proofs.ClientLemmas.{listed_done, no_client_gains, tried_is_choice}
 use Rattle.mq_questions.proofs.MarkLemmas.{any_client_nothing}
 use Rattle.mq_topic.specs.Levels.{levels}
 use Rattle.mq_acl.specs.Rows.{AclRow}
 use Rattle.mq_acl.specs.declared.access.Direction.{Direction}
-use Rattle.mq_questions.specs.Roots.{AreRoots, is_gained}
+use Rattle.mq_questions.specs.Roots.{is_gained}
 use Rattle.mq_questions.specs.Gains.{IsGainOf, IsNamed, told, witness_view}
 use Rattle.mq_questions.specs.declared.ask.gain.Witness.{Witness}
-use Rattle.mq_questions.proofs.GainLemmas.{name_gained}
+use Rattle.mq_questions.proofs.GainLemmas.{IsWalk, name_gained}
 use Rattle.mq_walk.specs.Paths.{levels_of, all_levels}
-use Rattle.mq_walk.specs.Remainders.{mark_passes, remainders_fit, GainsNothing, IsGain}
+use Rattle.mq_walk.specs.Remainders.{mark_passes, GainsNothing, IsGain}
 use Rattle.mq_questions.specs.declared.ask.clients.Gain.{Gain}
 use Rattle.mq_walk.specs.declared.path.Path.{Path}
 use Rattle.mq_walk.specs.declared.remainder.Remainder.{Remainder}
@@ -94,10 +94,10 @@ added_new client before done path gain gains next e f g a = record {
 }
 
 -- ---- client by client
+-- gains of clients, and none only where no client before this place gains anything
 pub record AreGains (start : Start) (user : Option (List ℕ)) (old new : List Remainder)
     (items : List (Bor (List ℕ))) (i : ℕ) (gains : List Gain) : Type 0 where
-  pub tried : gains ≡ [] → (c : List ℕ) → is_among c items ≡ true
-      → is_among c (drop i items) ≡ false → GainsNothing start 200 (marks_of c user) old new
+  pub tried : gains ≡ [] → IsDoneTo (λ c. GainsNothing start 200 (marks_of c user) old new) items i
   pub each : All (IsGainOf start user old new) gains
 
 -- before the first client no gain is listed
@@ -109,55 +109,57 @@ gains_none start user old new items gains h = record {
   each = All-same (IsGainOf start user old new) gains [] h (All-nil (IsGainOf start user old new));
 }
 
+-- the paths that are found for a client: none only where it gains nothing, and each is its gain
+pub record AreFound (start : Start) (user : Option (List ℕ)) (old new : List Remainder)
+    (client : List ℕ) (paths : List Path) : Type 0 where
+  pub nothing : paths ≡ [] → GainsNothing start 200 (marks_of client user) old new
+  pub each : All (IsGain start 200 (marks_of client user) old new) (all_levels paths)
+
 -- the gains of one more client are listed
 pub gains_more : (start : Start) (user : Option (List ℕ)) (old new : List Remainder)
     (items : List (Bor (List ℕ))) (i : ℕ) (d : Bor (List ℕ)) (before after : List Gain)
     (paths : List Path)
-    → i < length items → (after ≡ [] → before ≡ []) → (after ≡ [] → paths ≡ [])
-    → ((start : Start) (user : Option (List ℕ)) (old new : List Remainder)
-    → All (IsGainOf start user old new) before
-    → All (IsGain start 200 (marks_of (get_or items i d).now user) old new) (all_levels paths)
-    → All (IsGainOf start user old new) after)
-    → (paths ≡ [] → GainsNothing start 200 (marks_of (get_or items i d).now user) old new)
-    → All (IsGain start 200 (marks_of (get_or items i d).now user) old new) (all_levels paths)
+    → i < length items → IsAdded (get_or items i d).now before paths after
+    → AreFound start user old new (get_or items i d).now paths
     → AreGains start user old new items i before → AreGains start user old new items (i + 1) after
-gains_more start user old new items i d before after paths h kept none each nothing all a = record {
+gains_more start user old new items i d before after paths h added found a = record {
   tried = λ e. one_more_done (λ t. GainsNothing start 200 (marks_of t user) old new) items i d h
-      (nothing (none e)) (a.tried (kept e));
-  each = each start user old new a.each all;
+      (found.nothing (added.none e)) (a.tried (added.kept e));
+  each = added.each start user old new a.each found.each;
 }
 
--- all that stand for others have been tried
+-- the client ids that are listed: one alone where no row has `%c`
+abbrev pub listed_clients : Fresh → Option (List ℕ) → List Remainder → List Remainder → List ℕ
+    → Bool
+listed_clients f user old new c = if has_mark (codes "%c") old || has_mark (codes "%c") new then
+    is_tried_client f user old new c else bytes_eq c f.client.now
+
+-- where those that are listed gain nothing, no client does
 pub no_client : (f : Fresh) (user : Option (List ℕ)) (old new : List Remainder) (start : Start)
-    (items : List (Bor (List ℕ))) (i : ℕ) (gains : List Gain)
-    → AreFresh f → mark_passes (is_no_client f) user ≡ true
-    → remainders_fit (is_literal f) old ≡ true → remainders_fit (is_literal f) new ≡ true
-    → length items ≤ i
-    → ((c : List ℕ) → is_among c items
-    ≡ (if has_mark (codes "%c") old || has_mark (codes "%c") new then
-    is_tried_client f user old new c else bytes_eq c f.client.now))
-    → AreGains start user old new items i gains → gains ≡ [] → (c : List ℕ)
-    → GainsNothing start 200 (marks_of c user) old new
-no_client f user old new start items i gains a u o n end listed g e =
+    (items : List (Bor (List ℕ))) (i : ℕ) → AreUnnamed f old new
+    → mark_passes (is_no_client f) user ≡ true
+    → AreAllDone (λ c. GainsNothing start 200 (marks_of c user) old new)
+    (listed_clients f user old new) items i
+    → (c : List ℕ) → GainsNothing start 200 (marks_of c user) old new
+no_client f user old new start items i a u all =
     at (has_mark (codes "%c") old) refl (has_mark (codes "%c") new) refl
   where
-    done : (c : List ℕ) → is_among c items ≡ true → GainsNothing start 200 (marks_of c user) old new
-    done c h = all_done (λ t. GainsNothing start 200 (marks_of t user) old new) items i end
-        (g.tried e) c h
+    done : (c : List ℕ) → listed_clients f user old new c ≡ true
+        → GainsNothing start 200 (marks_of c user) old new
+    done = listed_done (λ c. GainsNothing start 200 (marks_of c user) old new)
+        (listed_clients f user old new) items i all
 
     by_all : (has_mark (codes "%c") old || has_mark (codes "%c") new) ≡ true → (c : List ℕ)
         → GainsNothing start 200 (marks_of c user) old new
-    by_all m = no_client_gains f user old new start a u o n
-        (λ c h. done c (listed c
-        ∙ ap (λ b. if b then is_tried_client f user old new c else bytes_eq c f.client.now) m
-        ∙ h))
+    by_all m = no_client_gains f user old new start a u
+        (λ c h. done c (ap (λ b. if b then is_tried_client f user old new c
+        else bytes_eq c f.client.now) m ∙ h))
 
     by_one : has_mark (codes "%c") old ≡ false → has_mark (codes "%c") new ≡ false → (c : List ℕ)
         → GainsNothing start 200 (marks_of c user) old new
     by_one p q c =
         any_client_nothing f.client.now c user start 200 old new p q
-        (done f.client.now (listed f.client.now
-        ∙ (λ j. if p j || q j then is_tried_client f user old new f.client.now
+        (done f.client.now ((λ j. if p j || q j then is_tried_client f user old new f.client.now
         else bytes_eq f.client.now f.client.now) ∙ text_itself f.client.now))
 
     at : (p : Bool) → has_mark (codes "%c") old ≡ p → (q : Bool) → has_mark (codes "%c") new ≡ q
@@ -167,19 +169,16 @@ no_client f user old new start items i gains a u o n end listed g e =
     at false p false h = by_one p h
 
 -- a client id that is listed may be chosen, where the user name and the levels of the rows may be
-pub listed_is_choice : (f : Fresh) (user : Option (List ℕ)) (old new : List Remainder) → AreFresh f
-    → mark_passes (is_choice f.others) user ≡ true
-    → remainders_fit (is_literal f) old ≡ true → remainders_fit (is_literal f) new ≡ true
-    → (c : List ℕ) → (if has_mark (codes "%c") old || has_mark (codes "%c") new then
-    is_tried_client f user old new c else bytes_eq c f.client.now) ≡ true
-    → is_choice f.others c ≡ true
-listed_is_choice f user old new a u o n c =
+pub listed_is_choice : (f : Fresh) (user : Option (List ℕ)) (old new : List Remainder)
+    → AreUnnamed f old new → mark_passes (is_choice f.others) user ≡ true
+    → (c : List ℕ) → listed_clients f user old new c ≡ true → is_choice f.others c ≡ true
+listed_is_choice f user old new a u c =
     at (has_mark (codes "%c") old || has_mark (codes "%c") new)
   where
     at : (b : Bool) → (if b then is_tried_client f user old new c else bytes_eq c f.client.now)
         ≡ true → is_choice f.others c ≡ true
-    at true h = tried_is_choice f user old new a u o n c h
-    at false h = ap (is_choice f.others) (text_is c f.client.now h) ∙ a.client
+    at true h = tried_is_choice f user old new a u c h
+    at false h = ap (is_choice f.others) (text_is c f.client.now h) ∙ a.fresh.client
 
 -- ---- what is shown
 pub shown_none : {A B C : Type 0} (f : A → C) (g : B → C) (xs : List A) (ys : List B)
@@ -214,8 +213,7 @@ gain_named start dollar user old new e gain h =
 -- names that are gained by these rows
 module _ (old new : List AclRow) (olds news : List Remainder) (user : Option (List ℕ))
     (direction : Direction) (dollar : Bool) (start : Start)
-    (a : AreRoots old user direction dollar olds) (b : AreRoots new user direction dollar news)
-    (e : start ≡ start_of dollar) where
+    (walk : IsWalk old new olds news user direction dollar start) where
   pub each_gained : (ws : List Witness) (gs : List Gain) → map witness_view ws ≡ map told gs
       → All (IsGainOf start (level_of user) olds news) gs
       → All (λ w. is_gained old new (string_bytes w.client) user w.name direction ≡ true) ws
@@ -223,7 +221,7 @@ module _ (old new : List AclRow) (olds news : List Remainder) (user : Option (Li
       All-weaker (λ (w : Witness). IsGain start 200
       (marks_of (string_bytes w.client) (level_of user)) olds news (levels w.name))
       (λ w. is_gained old new (string_bytes w.client) user w.name direction ≡ true)
-      (λ w g. name_gained old new olds news user direction dollar start a b e
+      (λ w g. name_gained old new olds news user direction dollar start walk
       (string_bytes w.client) w.name (levels w.name) refl g) ws
       (shown_each witness_view told
       (λ p. IsGain start 200 (marks_of p.0 (level_of user)) olds news p.1) ws

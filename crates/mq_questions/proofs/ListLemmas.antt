@@ -31,29 +31,29 @@ use Rattle.mq_questions.proofs.ClientLemmas.{level_is_no_wildcard}
 use Rattle.mq_walk.proofs.TextLemmas.{or_cases}
 
 -- ---- a filter's levels
--- the last level
-last_fits : (plus hash zero slash p h short : Bool) → ((not plus || p) && (not hash || h)) ≡ true
-    → not zero ≡ true → not slash ≡ true → short ≡ true
-    → (p || (h && true) || (not plus && not hash && not zero && not slash && short)) ≡ true
-last_fits plus hash zero slash true h short a b c d = refl
-last_fits plus hash zero slash false true short a b c d = refl
-last_fits true hash zero slash false false short a b c d = absurd (let n : false ≡ true = a in cc)
-last_fits false true zero slash false false short a b c d = absurd (let n : false ≡ true = a in cc)
-last_fits false false zero slash false false short a b c d = rw (b, c, d) refl
+-- what is known of a level, by the bytes that it has, whether it is a wildcard, and its length
+record IsPart (plus hash nul slash p h short : Bool) : Type 0 where
+  pub wild : ((not plus || p) && (not hash || h)) ≡ true
+  pub no_nul : not nul ≡ true
+  pub no_slash : not slash ≡ true
+  pub is_short : short ≡ true
 
--- a level before the last
-inner_fits : (plus hash zero slash p h last short : Bool)
-    → ((not plus || p) && (not hash || h)) ≡ true → not zero ≡ true → not slash ≡ true
-    → short ≡ true → not hash ≡ true
-    → (p || (h && last) || (not plus && not hash && not zero && not slash && short)) ≡ true
-inner_fits plus hash zero slash true h last short a b c d e = refl
-inner_fits plus hash zero slash false true true short a b c d e = refl
-inner_fits true hash zero slash false true false short a b c d e =
-    absurd (let n : false ≡ true = a in cc)
-inner_fits false hash zero slash false true false short a b c d e = rw (b, c, d, e) refl
-inner_fits true hash zero slash false false last short a b c d e =
-    absurd (let n : false ≡ true = a in cc)
-inner_fits false hash zero slash false false last short a b c d e = rw (b, c, d, e) refl
+-- such a level fits, where it is the last one or has no `#`
+part_fits : (plus hash nul slash p h last short : Bool) → IsPart plus hash nul slash p h short
+    → (last || not hash) ≡ true
+    → (p || (h && last) || (not plus && not hash && not nul && not slash && short)) ≡ true
+part_fits plus hash nul slash true h last short a e = refl
+part_fits plus hash nul slash false true true short a e = refl
+part_fits true hash nul slash false true false short a e =
+    absurd (let n : false ≡ true = a.wild in cc)
+part_fits false hash nul slash false true false short a e =
+    rw (a.no_nul, a.no_slash, a.is_short, e) refl
+part_fits true hash nul slash false false last short a e =
+    absurd (let n : false ≡ true = a.wild in cc)
+part_fits false true nul slash false false last short a e =
+    absurd (let n : false ≡ true = a.wild in cc)
+part_fits false false nul slash false false last short a e =
+    rw (a.no_nul, a.no_slash, a.is_short) refl
 
 abbrev all_lack : ℕ → List (List ℕ) → Bool
 all_lack b ls = list_all (λ l. not (contains_byte b l)) ls
@@ -61,36 +61,57 @@ all_lack b ls = list_all (λ l. not (contains_byte b l)) ls
 abbrev all_short : List (List ℕ) → Bool
 all_short ls = list_all (λ l. nat_le (length l) 300) ls
 
-levels_fit : (ls : List (List ℕ)) → list_all is_level ls ≡ true → all_lack 35 (parents ls) ≡ true
-    → all_lack 0 ls ≡ true → all_lack 47 ls ≡ true → all_short ls ≡ true
-    → fits is_short_level ls ≡ true
-levels_fit [] a b c d e = refl
-levels_fit (l ∷ []) a b c d e =
-    rw (last_fits (contains_byte 43 l) (contains_byte 35 l) (contains_byte 0 l) (contains_byte 47 l)
+-- the levels of a valid filter that keeps to the limit
+record AreUsable (ls : List (List ℕ)) : Type 0 where
+  pub valid : list_all is_level ls ≡ true
+  pub hashes : all_lack 35 (parents ls) ≡ true
+  pub no_nul : all_lack 0 ls ≡ true
+  pub no_slash : all_lack 47 ls ≡ true
+  pub are_short : all_short ls ≡ true
+
+first_part : (l : List ℕ) (ls : List (List ℕ)) → AreUsable (l ∷ ls)
+    → IsPart (contains_byte 43 l) (contains_byte 35 l) (contains_byte 0 l) (contains_byte 47 l)
     (bytes_eq l (codes "+")) (bytes_eq l (codes "#")) (nat_le (length l) 300)
-    (and_parts (is_level l) true a).0 (and_parts (not (contains_byte 0 l)) true c).0
-    (and_parts (not (contains_byte 47 l)) true d).0
-    (and_parts (nat_le (length l) 300) true e).0) refl
-levels_fit (l ∷ m ∷ ms) a b c d e =
+first_part l ls u = record {
+  wild = (and_parts (is_level l) (list_all is_level ls) u.valid).0;
+  no_nul = (and_parts (not (contains_byte 0 l)) (all_lack 0 ls) u.no_nul).0;
+  no_slash = (and_parts (not (contains_byte 47 l)) (all_lack 47 ls) u.no_slash).0;
+  is_short = (and_parts (nat_le (length l) 300) (all_short ls) u.are_short).0;
+}
+
+-- the levels behind the first
+levels_behind : (l m : List ℕ) (ms : List (List ℕ)) → AreUsable (l ∷ m ∷ ms)
+    → (not (contains_byte 35 l) ≡ true) × AreUsable (m ∷ ms)
+levels_behind l m ms u =
     let more : length (l ∷ m ∷ ms) - 1 ≡ suc (length ms) = omega arith in
     let less : length (m ∷ ms) - 1 ≡ length ms = omega arith in
     let front : (not (contains_byte 35 l) && all_lack 35 (take (length ms) (m ∷ ms))) ≡ true =
-    sym (ap (λ k. all_lack 35 (take k (l ∷ m ∷ ms))) more) ∙ b in
-    let rest : all_lack 35 (parents (m ∷ ms)) ≡ true = ap (λ k. all_lack 35 (take k (m ∷ ms))) less
-    ∙ (and_parts (not (contains_byte 35 l)) (all_lack 35 (take (length ms) (m ∷ ms))) front).1
-    in
-    rw (inner_fits (contains_byte 43 l) (contains_byte 35 l) (contains_byte 0 l)
-    (contains_byte 47 l) (bytes_eq l (codes "+")) (bytes_eq l (codes "#"))
-    (length (m ∷ ms) == 0) (nat_le (length l) 300)
-    (and_parts (is_level l) (list_all is_level (m ∷ ms)) a).0
-    (and_parts (not (contains_byte 0 l)) (all_lack 0 (m ∷ ms)) c).0
-    (and_parts (not (contains_byte 47 l)) (all_lack 47 (m ∷ ms)) d).0
-    (and_parts (nat_le (length l) 300) (all_short (m ∷ ms)) e).0
-    (and_parts (not (contains_byte 35 l)) (all_lack 35 (take (length ms) (m ∷ ms))) front).0)
-    (levels_fit (m ∷ ms) (and_parts (is_level l) (list_all is_level (m ∷ ms)) a).1 rest
-    (and_parts (not (contains_byte 0 l)) (all_lack 0 (m ∷ ms)) c).1
-    (and_parts (not (contains_byte 47 l)) (all_lack 47 (m ∷ ms)) d).1
-    (and_parts (nat_le (length l) 300) (all_short (m ∷ ms)) e).1)
+    sym (ap (λ k. all_lack 35 (take k (l ∷ m ∷ ms))) more) ∙ u.hashes in
+    let parts = and_parts (not (contains_byte 35 l)) (all_lack 35 (take (length ms) (m ∷ ms))) front
+    in (
+      parts.0,
+      record {
+        valid = (and_parts (is_level l) (list_all is_level (m ∷ ms)) u.valid).1;
+        hashes = ap (λ k. all_lack 35 (take k (m ∷ ms))) less ∙ parts.1;
+        no_nul = (and_parts (not (contains_byte 0 l)) (all_lack 0 (m ∷ ms)) u.no_nul).1;
+        no_slash = (and_parts (not (contains_byte 47 l)) (all_lack 47 (m ∷ ms)) u.no_slash).1;
+        are_short = (and_parts (nat_le (length l) 300) (all_short (m ∷ ms)) u.are_short).1;
+      },
+    )
+
+levels_fit : (ls : List (List ℕ)) → AreUsable ls → fits is_short_level ls ≡ true
+levels_fit [] u = refl
+levels_fit (l ∷ []) u =
+    rw (part_fits (contains_byte 43 l) (contains_byte 35 l) (contains_byte 0 l) (contains_byte 47 l)
+    (bytes_eq l (codes "+")) (bytes_eq l (codes "#")) true (nat_le (length l) 300)
+    (first_part l [] u) refl) refl
+levels_fit (l ∷ m ∷ ms) u =
+    let behind = levels_behind l m ms u in
+    rw (part_fits (contains_byte 43 l) (contains_byte 35 l) (contains_byte 0 l) (contains_byte 47 l)
+    (bytes_eq l (codes "+")) (bytes_eq l (codes "#")) (length (m ∷ ms) == 0) (nat_le (length l) 300)
+    (first_part l (m ∷ ms) u)
+    (ap (λ b. (length (m ∷ ms) == 0) || b) behind.0 ∙ or-true (length (m ∷ ms) == 0)))
+    (levels_fit (m ∷ ms) behind.1)
 
 -- a valid filter that keeps to the limit has short levels that can be a name's, but for wildcards
 pub filter_usable : (text : List ℕ) → is_filter text ≡ true → all_short (levels text) ≡ true
@@ -100,14 +121,17 @@ filter_usable text h s =
     (nat_le (length (levels text)) 200) h).0 in
     let bytes = (and_parts (is_text text) (wildcards_fit (levels text)) front).0 in
     let wild = (and_parts (is_text text) (wildcards_fit (levels text)) front).1 in
-    levels_fit (levels text) (and_parts (list_all is_level (levels text))
-    (list_all (λ l. not (contains_byte 35 l)) (parents (levels text))) wild).0
-    (and_parts (list_all is_level (levels text))
-    (list_all (λ l. not (contains_byte 35 l)) (parents (levels text))) wild).1
-    (levels_lack 0 text (not-true (contains_byte 0 text)
-    (and_parts (nat_lt 0 (length text) && nat_le (length text) 65535)
-    (not (contains_byte 0 text)) bytes).1))
-    (levels_without text) s
+    let wilds =
+    and_parts (list_all is_level (levels text)) (all_lack 35 (parents (levels text))) wild in
+    levels_fit (levels text) (record {
+      valid = wilds.0;
+      hashes = wilds.1;
+      no_nul = levels_lack 0 text (not-true (contains_byte 0 text)
+          (and_parts (nat_lt 0 (length text) && nat_le (length text) 65535)
+          (not (contains_byte 0 text)) bytes).1);
+      no_slash = levels_without text;
+      are_short = s;
+    })
 
 -- a row with such a filter, and a user name that keeps to the limit too, is usable
 pub row_usable : (row : AclRow) → is_filter row.filter ≡ true → is_short_row row ≡ true

@@ -121,27 +121,31 @@ apart_levels : (p : List ℕ → Bool) (plain : (w : List ℕ) → p w ≡ true 
     → fits (λ w. not (bytes_eq w l)) ws ≡ true
 apart_levels p plain l [] e h = refl
 apart_levels p plain l (w ∷ ws) e h =
-    one (bytes_eq w (codes "+") || (bytes_eq w (codes "#") && (length ws == 0))) (p w) (fits p ws)
-    (bytes_eq l w) (is_wildcard w) (is_literal_in l ws) (bytes_eq w l)
-    (fits (λ w. not (bytes_eq w l)) ws)
-    (plain w) (λ k. ap (λ t. bytes_eq t w) (sym (text_is w l k)) ∙ text_itself w)
-    (apart_levels p plain l ws) e h
+    let facts = and_parts (bytes_eq w (codes "+") || (bytes_eq w (codes "#") && (length ws == 0))
+    || p w) (fits p ws) e in
+    let lacks = or_parts (bytes_eq l w && not (is_wildcard w)) (is_literal_in l ws) h in
+    rw (
+      first (bytes_eq w l) refl facts.0 lacks.0,
+      apart_levels p plain l ws facts.1 lacks.1,
+    ) refl
   where
-    one : (wild q fit eq card rest same apart : Bool) → (q ≡ true → card ≡ false)
-        → (same ≡ true → eq ≡ true) → (fit ≡ true → rest ≡ false → apart ≡ true)
-        → ((wild || q) && fit) ≡ true → ((eq && not card) || rest) ≡ false
-        → ((wild || not same) && apart) ≡ true
-    one true q fit eq card true same apart f g k e h =
-        absurd (let n : true ≡ false = sym (or-true (eq && not card)) ∙ h in cc)
-    one true q fit eq card false same apart f g k e h = k e refl
-    one false q fit eq card true same apart f g k e h =
-        absurd (let n : true ≡ false = sym (or-true (eq && not card)) ∙ h in cc)
-    one false true fit eq card false true apart f g k e h =
-        absurd (let n : true ≡ false =
-        sym (ap (λ t. (t && not card) || false) (g refl) ∙ ap (λ t. not t || false) (f refl))
-        ∙ h in cc)
-    one false true fit eq card false false apart f g k e h = k e refl
-    one false false fit eq card false same apart f g k e h = absurd (let n : false ≡ true = e in cc)
+    wild : (b q card : Bool) → (q ≡ true → card ≡ false) → (b || q) ≡ true → not card ≡ false
+        → (b || false) ≡ true
+    wild true q card f k n = refl
+    wild false true card f k n = absurd (let m : true ≡ false = sym (ap not (f refl)) ∙ n in cc)
+    wild false false card f k n = absurd (let m : false ≡ true = k in cc)
+
+    first : (b : Bool) → bytes_eq w l ≡ b
+        → (bytes_eq w (codes "+") || (bytes_eq w (codes "#") && (length ws == 0)) || p w) ≡ true
+        → (bytes_eq l w && not (is_wildcard w)) ≡ false
+        → (bytes_eq w (codes "+") || (bytes_eq w (codes "#") && (length ws == 0)) || not b) ≡ true
+    first true q k n =
+        wild (bytes_eq w (codes "+") || (bytes_eq w (codes "#") && (length ws == 0))) (p w)
+        (is_wildcard w) (plain w) k
+        (sym (ap (λ t. t && not (is_wildcard w))
+        (ap (λ t. bytes_eq t w) (sym (text_is w l q)) ∙ text_itself w)) ∙ n)
+    first false q k n =
+        or-true (bytes_eq w (codes "+") || (bytes_eq w (codes "#") && (length ws == 0)))
 
 -- and so it is from the levels of all remainders, where no wildcard passes the test that they fit
 pub apart_rows : (p : List ℕ → Bool) → ((w : List ℕ) → p w ≡ true → is_wildcard w ≡ false)

@@ -6,7 +6,8 @@ use Rattle.std.specs.Prelude.{nat_le, nat_lt}
 use Rattle.std.specs.List.{list_all, flat_map, onto_first}
 use Rattle.std.proofs.lemmas.Bool.Decides.{nat_tests}
 use Rattle.std.proofs.lemmas.List.Folds.{list_any-append}
-use Rattle.std.proofs.lemmas.Bool.{and_parts, not-true, leb-true, ltb-true, or_parts}
+use Rattle.std.proofs.lemmas.Bool.{and_parts, not-true, or_parts, leb-true, le-leb, ltb-true}
+use Rattle.std.proofs.lemmas.Bool.{lt-ltb}
 use Rattle.std.proofs.Math.Dec.{eqb-suc-zero}
 use Rattle.std.proofs.Math.Bool.{and-true}
 use Rattle.mq_topic.specs.Levels.{levels, is_slash}
@@ -131,10 +132,25 @@ some_bytes [] [] false s = absurd (let e : false ≡ true = s in cc)
 some_bytes [] (m ∷ ms) dollar s = omega arith
 some_bytes (x ∷ xs) ls dollar s = omega arith
 
-valid : (text few : Bool) (n m : ℕ) (nul plus hash : Bool) → 0 < n → n ≤ 65535 → m ≤ 200
-    → nul ≡ false → plus ≡ false → hash ≡ false
-    → (nat_lt 0 n && nat_le n 65535 && not nul && (not plus && not hash) && nat_le m 200) ≡ true
-valid text few n m nul plus hash a b d e f g = rw (e, f, g) (grind (arith, nat_tests))
+-- what makes a text the name of a topic
+record IsFit (text : List ℕ) : Type 0 where
+  pub some : 0 < length text
+  pub short : length text ≤ 65535
+  pub few : length (levels text) ≤ 200
+  pub nul : contains_byte 0 text ≡ false
+  pub plus : contains_byte 43 text ≡ false
+  pub hash : contains_byte 35 text ≡ false
+
+fit_is_name : (text : List ℕ) → IsFit text → is_name text ≡ true
+fit_is_name text h =
+    rw (
+      lt-ltb 0 (length text) h.some,
+      le-leb (length text) 65535 h.short,
+      le-leb (length (levels text)) 200 h.few,
+      h.nul,
+      h.plus,
+      h.hash,
+    ) refl
 
 -- levels of names, at most 200, join to a name
 pub joined_is_name : (ls : List (List ℕ)) (dollar : Bool) → list_all is_name_level ls ≡ true
@@ -147,18 +163,17 @@ joined_is_name (l ∷ ls) dollar h n s =
     let size = length-append l (slashed ls) in
     let short = first.short in
     let parts = ap length (levels_of_joined (l ∷ ls) dollar h s) in
-    valid true true (length (join_levels (l ∷ ls))) (length (levels (join_levels (l ∷ ls))))
-    (contains_byte 0 (join_levels (l ∷ ls))) (contains_byte 43 (join_levels (l ∷ ls)))
-    (contains_byte 35 (join_levels (l ∷ ls)))
-    (some_bytes l ls dollar s) (omega (arith, more, size, short)) (omega (arith, parts))
-    (joined_lack 0 l ls refl (all_by is_name_level (λ t. not (contains_byte 0 t))
-    (λ t e. (level_is t e).nul) (l ∷ ls) h))
-    (joined_lack 43 l ls refl
-    (all_by is_name_level (λ t. not (contains_byte 43 t)) (λ t e. (level_is t e).plus)
-    (l ∷ ls) h))
-    (joined_lack 35 l ls refl
-    (all_by is_name_level (λ t. not (contains_byte 35 t)) (λ t e. (level_is t e).hash)
-    (l ∷ ls) h))
+    fit_is_name (join_levels (l ∷ ls)) (record {
+      some = some_bytes l ls dollar s;
+      short = omega (arith, more, size, short);
+      few = omega (arith, parts);
+      nul = joined_lack 0 l ls refl (all_by is_name_level (λ t. not (contains_byte 0 t))
+          (λ t e. (level_is t e).nul) (l ∷ ls) h);
+      plus = joined_lack 43 l ls refl (all_by is_name_level (λ t. not (contains_byte 43 t))
+          (λ t e. (level_is t e).plus) (l ∷ ls) h);
+      hash = joined_lack 35 l ls refl (all_by is_name_level (λ t. not (contains_byte 35 t))
+          (λ t e. (level_is t e).hash) (l ∷ ls) h);
+    })
 
 -- ---- names that begin with `$`, and the others
 slash_no_dollar : (x : ℕ) → is_slash x ≡ true → (x == 36) ≡ false

@@ -15,28 +15,31 @@ use Rattle.mq_questions.proofs.FreshLemmas.{seen_fresh, named_no_fresh, made_unn
 use Rattle.mq_questions.proofs.ListLemmas.{names_short, user_is_named, rows_literal, user_fits}
 use Rattle.mq_walk.proofs.TextLemmas.{or_cases, false_is}
 
+-- the levels and user names that two usable lists name
+pub record AreNames (old new : List AclRow) (literals : Literals) : Type 0 where
+  pub named : (l : List ℕ) → is_named l literals ≡ (rows_name l old || rows_name l new)
+  pub old_usable : list_all usable old ≡ true
+  pub new_usable : list_all usable new ≡ true
+
 -- the levels and user names of both lists keep to the limit
-pub both_short : (old new : List AclRow) (literals : Literals)
-    → ((l : List ℕ) → is_named l literals ≡ (rows_name l old || rows_name l new))
-    → list_all usable old ≡ true → list_all usable new ≡ true
+pub both_short : (old new : List AclRow) (literals : Literals) → AreNames old new literals
     → (l : List ℕ) → is_named l literals ≡ true → length l ≤ 300
-both_short old new literals e u v l h =
-    or_cases (rows_name l old) (rows_name l new) (sym (e l) ∙ h) (names_short old u l)
-    (names_short new v l)
+both_short old new literals are l h =
+    or_cases (rows_name l old) (rows_name l new) (sym (are.named l) ∙ h)
+    (names_short old are.old_usable l) (names_short new are.new_usable l)
 
 -- two usable lists are ready with the names in them, the user names in them, and texts that are new
 -- to those names
 pub ready : (old new : List AclRow) (texts : FreshTexts) (named literals : Literals)
-    → ((l : List ℕ) → is_named l literals ≡ (rows_name l old || rows_name l new))
+    → AreNames old new literals
     → ((l : List ℕ) → is_named l named ≡ (is_user_of l old || is_user_of l new))
-    → list_all usable old ≡ true → list_all usable new ≡ true
     → AreNew texts (λ l. is_named l literals)
     → IsReady old new texts named
-ready old new texts named literals e n u v m = record {
+ready old new texts named literals are n m = record {
   fresh = λ f s. seen_fresh texts f (λ l. is_named l literals) m s;
-  old_fits = λ f s. rows_literal f old u
+  old_fits = λ f s. rows_literal f old are.old_usable
       (λ l h. no_fresh f s l (or_left (rows_name l old) (rows_name l new) h));
-  new_fits = λ f s. rows_literal f new v
+  new_fits = λ f s. rows_literal f new are.new_usable
       (λ l h. no_fresh f s l (or_right (rows_name l old) (rows_name l new) h));
   user = λ f s. false_is (is_named f.user.now named) (is_named f.user.now literals)
       (users_named f.user.now) (ap (λ t. is_named t literals) s.user ∙ m.user.unnamed);
@@ -45,17 +48,17 @@ ready old new texts named literals e n u v m = record {
       (ap (λ t. is_named t literals) s.dollar_user ∙ m.dollar_user.unnamed);
   named = n;
   level = λ f s user h. user_fits f user
-      (both_short old new literals e u v user (users_named user h))
+      (both_short old new literals are user (users_named user h))
       (named_no_fresh texts f (λ l. is_named l literals) m s user (users_named user h));
-  unnamed = λ text h. sym (e text) ∙ made_unnamed texts (λ l. is_named l literals) m text h;
+  unnamed = λ text h. sym (are.named text) ∙ made_unnamed texts (λ l. is_named l literals) m text h;
 }
   where
     no_fresh : (f : Fresh) → IsSeen texts f → (l : List ℕ)
         → (rows_name l old || rows_name l new) ≡ true → is_no_fresh f l ≡ true
-    no_fresh f s l h = named_no_fresh texts f (λ l. is_named l literals) m s l (e l ∙ h)
+    no_fresh f s l h = named_no_fresh texts f (λ l. is_named l literals) m s l (are.named l ∙ h)
 
     users_named : (l : List ℕ) → is_named l named ≡ true → is_named l literals ≡ true
-    users_named l h = e l ∙ or_cases (is_user_of l old) (is_user_of l new) (sym (n l) ∙ h)
+    users_named l h = are.named l ∙ or_cases (is_user_of l old) (is_user_of l new) (sym (n l) ∙ h)
         (λ k. or_left (rows_name l old) (rows_name l new) (user_is_named old l k))
         (λ k. or_right (rows_name l old) (rows_name l new) (user_is_named new l k))
 

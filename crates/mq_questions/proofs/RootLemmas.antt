@@ -74,6 +74,13 @@ pub alike_self : (user : Option (List ℕ)) (rows : List AclRow) → alike user 
 alike_self user [] = refl
 alike_self user (row ∷ rows) = rw (same_self (applies user row.who)) (alike_self user rows)
 
+-- where the first are the roots of some rows, the second are those of these rows and the added ones
+abbrev pub AddRoots : Option (List ℕ) → Direction → Bool → List AclRow → List Remainder
+    → List Remainder → Type 0
+AddRoots user direction dollar added old new = (before : List AclRow)
+    → AreRoots before user direction dollar old
+    → AreRoots (before ++ added) user direction dollar new
+
 module _ (user : Option (List ℕ)) (direction : Direction) (dollar : Bool) where
   pub no_root : (before : List AclRow) (row : AclRow) (roots : List Remainder)
       → ((client name : List ℕ) (other : Option (List ℕ)) (deny : Bool)
@@ -119,12 +126,9 @@ module _ (user : Option (List ℕ)) (direction : Direction) (dollar : Bool) wher
   -- the rows so far
   pub rows_more : (old : List Remainder) (rows : List Row) (i : ℕ) (x : Row)
       (now next : List Remainder) → i < length rows → x ≡ get_or rows i x
-      → ((before : List AclRow) → AreRoots before user direction dollar now
-      → AreRoots (before ++ row_view x ∷ []) user direction dollar next)
-      → ((before : List AclRow) → AreRoots before user direction dollar old
-      → AreRoots (before ++ row_views (take i rows)) user direction dollar now)
-      → (before : List AclRow) → AreRoots before user direction dollar old
-      → AreRoots (before ++ row_views (take (i + 1) rows)) user direction dollar next
+      → AddRoots user direction dollar (row_view x ∷ []) now next
+      → AddRoots user direction dollar (row_views (take i rows)) old now
+      → AddRoots user direction dollar (row_views (take (i + 1) rows)) old next
   rows_more old rows i x now next h e f g before a =
       subst (λ l. AreRoots l user direction dollar next)
       (append_assoc before (row_views (take i rows)) (row_view x ∷ [])
@@ -135,10 +139,8 @@ module _ (user : Option (List ℕ)) (direction : Direction) (dollar : Bool) wher
 
   pub rows_all : (old : List Remainder) (rows : List Row) (i : ℕ) (now : List Remainder)
       → length rows ≤ i
-      → ((before : List AclRow) → AreRoots before user direction dollar old
-      → AreRoots (before ++ row_views (take i rows)) user direction dollar now)
-      → (before : List AclRow) → AreRoots before user direction dollar old
-      → AreRoots (before ++ row_views rows) user direction dollar now
+      → AddRoots user direction dollar (row_views (take i rows)) old now
+      → AddRoots user direction dollar (row_views rows) old now
   rows_all old rows i now h g before a =
       subst (λ l. AreRoots (before ++ row_views l) user direction dollar now) (take_all i rows h)
       (g before a)

@@ -105,19 +105,24 @@ TakesBytes-text rows p q xs n is one search line = λ given holds. record {
       ∙ ap (take kept) (sym (last_piece-text given xs one));
 }
 
+-- the line that is kept, with the rest of it, is searched, and then none is kept
+pub record EndsLine (rows : List AclRow) (p q : Reading) (rest line : List ℕ) (n : ℕ) :
+    Type 0 where
+  pub grown : line ≡ p.line.items ++ take (n - length p.line.items) rest
+  pub searched : (before : List (List ℕ)) → IsSearched rows before p.search
+      → IsSearched rows (before ++ line ∷ []) q.search
+  pub none : q.line.items ≡ []
+
 -- a line feed ends the line that is kept
 pub TakesBytes-line : (rows : List AclRow) (p q : Reading) (rest line : List ℕ) (n : ℕ) → kept ≡ n
-    → pieces rest ≡ rest ∷ []
-    → line ≡ p.line.items ++ take (n - length p.line.items) rest
-    → ((before : List (List ℕ)) → IsSearched rows before p.search
-    → IsSearched rows (before ++ line ∷ []) q.search)
-    → q.line.items ≡ [] → TakesBytes rows p q (rest ++ 10 ∷ [])
+    → pieces rest ≡ rest ∷ [] → EndsLine rows p q rest line n
+    → TakesBytes rows p q (rest ++ 10 ∷ [])
 unfolding TakesBytes
-TakesBytes-line rows p q rest line n is one grown step none = λ given holds.
+TakesBytes-line rows p q rest line n is one ends = λ given holds.
     let ls : List (List ℕ) = whole_lines given in
     let piece : List ℕ = last_piece given ++ rest in
     let front : line ≡ take kept piece =
-    kept_line n p.line.items line (last_piece given) rest is holds.line grown in
+    kept_line n p.line.items line (last_piece given) rest is holds.line ends.grown in
     let same : given ++ (rest ++ 10 ∷ []) ≡ (given ++ rest) ++ 10 ∷ [] =
     sym (append_assoc given rest (10 ∷ [])) in
     let all : whole_lines ((given ++ rest) ++ 10 ∷ []) ≡ ls ++ piece ∷ [] =
@@ -126,12 +131,13 @@ TakesBytes-line rows p q rest line n is one grown step none = λ given holds.
     ∙ ap (λ l. ls ++ l ∷ []) (last_piece-text given rest one) in
     let searched : IsSearched rows (ls ++ piece ∷ []) q.search =
     IsSearched-kept rows ls piece q.search
-    (subst (λ l. IsSearched rows (ls ++ l ∷ []) q.search) front (step ls holds.searched)) in
+    (subst (λ l. IsSearched rows (ls ++ l ∷ []) q.search) front (ends.searched ls holds.searched))
+    in
     record {
       searched = subst (λ l. IsSearched rows (whole_lines l) q.search) (sym same)
           (subst (λ l. IsSearched rows l q.search) (sym all) searched);
       line =
-          none ∙ sym (take_all kept [] (omega arith))
+          ends.none ∙ sym (take_all kept [] (omega arith))
           ∙ ap (take kept) (sym (ap last_piece same ∙ last_piece-feed (given ++ rest)));
     }
 

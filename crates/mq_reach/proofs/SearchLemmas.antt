@@ -117,18 +117,22 @@ counts-push rows lines line old new kind is applies =
           ∙ sym (ap (λ l. slice_get l 0) (faulty_lines-push lines line));
     }
 
+-- the search is the same, but for a line of this kind that is counted
+pub record CountsLine (old new : Search) (kind : LineKind) : Type 0 where
+  pub clients : new.clients ≡ old.clients
+  pub vain : new.vain.items ≡ old.vain.items
+  pub counts : new.counts ≡ counted old.counts kind
+
 -- one more line is searched, and counted
 pub IsSearched-push : (rows : List AclRow) (lines : List (List ℕ)) (line : List ℕ)
     (old mid new : Search) (kind : LineKind)
     → IsSearched rows lines old → Applies rows (reading line) old mid kind
-    → new.clients ≡ mid.clients → new.vain.items ≡ mid.vain.items
-    → new.counts ≡ counted mid.counts kind
-    → IsSearched rows (lines ++ line ∷ []) new
-IsSearched-push rows lines line old mid new kind is applies clients vain counts =
+    → CountsLine mid new kind → IsSearched rows (lines ++ line ∷ []) new
+IsSearched-push rows lines line old mid new kind is applies counts =
     let command : Option Request = command_in (reading line) in
     record {
       clients = λ id.
-          ap (λ c. user_at c id) clients ∙ applies.clients id
+          ap (λ c. user_at c id) counts.clients ∙ applies.clients id
           ∙ ap (connection_then id command) (is.clients id)
           ∙ sym (connection-line id lines line);
       vain =
@@ -136,11 +140,11 @@ IsSearched-push rows lines line old mid new kind is applies clients vain counts 
           ++ option_to_list (made_by old command) =
           subscriptions-push lines line ∙ ap (λ o. subscriptions lines ++ option_to_list o)
           (sym (made-is rows lines old command is)) in
-          rw (made, vain)
+          rw (made, counts.vain)
           (AreVain-push rows (made_by old command) (subscriptions lines)
           (subscription_views old.vain.items) (subscription_views mid.vain.items) is.vain
           applies.told);
-      counts = rw counts (counts-push rows lines line old mid kind is applies);
+      counts = rw counts.counts (counts-push rows lines line old mid kind is applies);
     }
 
 -- ## A subscribe

@@ -1,5 +1,5 @@
 -- Differences that are told.
-use Rattle.std.proofs.Common.{◌≡◌, ℕ, ◌+◌, ◌<◌, ◌≤◌, Bool, true, false, not, ◌&&◌, List, [], ◌∷◌}
+use Rattle.std.proofs.Common.{◌≡◌, ℕ, ◌+◌, ◌<◌, Bool, true, false, not, ◌&&◌, List, [], ◌∷◌}
 use Rattle.std.proofs.Common.{◌++◌, length, drop, get_or, Option, Some, None, All, IsTrue, refl}
 use Rattle.std.proofs.Common.{ap, sym, ◌∙◌, subst, Bor}
 use Rattle.std.proofs.lemmas.List.Elements.{All-append, All-nil, All-cons}
@@ -12,7 +12,7 @@ use Rattle.mq_questions.specs.Comparison.{Compared, lists_user}
 use Rattle.mq_walk.specs.Names.{is_among}
 use Rattle.mq_questions.specs.declared.way.Way.{Way}
 use Rattle.mq_questions.specs.declared.way.Way.TheVariants.{Gained, Lost}
-use Rattle.mq_questions.proofs.ClientLemmas.{one_more_done, all_done}
+use Rattle.mq_questions.proofs.ClientLemmas.{IsDoneTo, AreAllDone, one_more_done, listed_done}
 use Rattle.mq_report.proofs.AnyLemmas.{any_kept}
 use Rattle.mq_report.specs.Classes.{is_listed}
 use Rattle.mq_report.specs.Differences.{is_told_of, IsReal, Adds, Tells}
@@ -55,8 +55,7 @@ pub record IsTold (old new : List Row) (names : List (Bor (List ℕ))) (n : ℕ)
     : Type 0 where
   pub real : All (IsReal old new) all
   pub anonymous : ToldFor old new None all
-  pub users : (t : List ℕ) → is_among t names ≡ true → is_among t (drop n names) ≡ false
-      → ToldFor old new (Some t) all
+  pub users : IsDoneTo (λ t. ToldFor old new (Some t) all) names n
 
 -- what is told for these clients stays told when more is added
 pub told_kept : (old new : List Row) (user : Option (List ℕ)) (before after : List Difference)
@@ -92,21 +91,22 @@ told_one old new names n d before after h a here s = record {
 
 -- with all listed names done, and all told for the names that no list has, all is told
 pub told_all : (old new : List Row) (names : List (Bor (List ℕ))) (n : ℕ)
-    (before after : List Difference) → length names ≤ n
-    → ((t : List ℕ) → is_among t names ≡ is_listed (row_views old) (row_views new) t)
+    (before after : List Difference) → ToldFor old new None before
+    → AreAllDone (λ t. ToldFor old new (Some t) before)
+    (is_listed (row_views old) (row_views new)) names n
     → Adds old new before after → ((t : List ℕ)
     → is_listed (row_views old) (row_views new) t ≡ false → ToldFor old new (Some t) after)
-    → IsTold old new names n before
     → (user : Option (List ℕ)) → ToldFor old new user after
-told_all old new names n before after h listed a others s None =
-    told_kept old new None before after a s.anonymous
-told_all old new names n before after h listed a others s (Some t) =
+told_all old new names n before after anonymous all a others None =
+    told_kept old new None before after a anonymous
+told_all old new names n before after anonymous all a others (Some t) =
     at (is_listed (row_views old) (row_views new) t) refl
   where
     at : (b : Bool) → is_listed (row_views old) (row_views new) t ≡ b
         → ToldFor old new (Some t) after
     at true e = told_kept old new (Some t) before after a
-        (all_done (λ t. ToldFor old new (Some t) before) names n h s.users t (listed t ∙ e))
+        (listed_done (λ t. ToldFor old new (Some t) before)
+        (is_listed (row_views old) (row_views new)) names n all t e)
     at false e = others t e
 
 -- ---- where nothing is told, nothing changed

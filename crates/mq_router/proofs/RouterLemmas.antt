@@ -3,20 +3,20 @@ use Rattle.std.proofs.Common.{◌≡◌, ◌⊎◌, ◌<◌, ◌≤◌, ◌+◌,
 use Rattle.std.proofs.Common.{List, [], ◌∷◌, ◌++◌, map, Option, Some, None, Result, Err, is_some}
 use Rattle.std.proofs.Common.{◌&&◌, if◌then◌else◌, refl, sym, ◌∙◌, ap, subst, inl, inr}
 use Rattle.std.specs.Option.{option_map}
-use Rattle.std.specs.List.{filter, list_any}
+use Rattle.std.specs.List.{filter}
 use Rattle.std.proofs.lemmas.Bool.Decides.{nat_tests}
 use Rattle.mq_topic.specs.Texts.{is_name, is_shared, is_subscription, share_of, share_name}
 use Rattle.mq_topic.specs.Texts.{filter_part}
 use Rattle.mq_acl.specs.Access.{allowed}
 use Rattle.mq_acl.specs.declared.access.Direction.TheVariants.{Writing}
 use Rattle.mq_world.specs.Lists.{Text, with_row}
-use Rattle.mq_world.specs.World.{Session, Subscription, SubscriptionOptions, Message, Copy, Reply}
-use Rattle.mq_world.specs.World.{Request, Connect, Disconnect, Subscribe, Unsubscribe, Publish}
-use Rattle.mq_world.specs.World.{SetAcl, Advance, Stat, subscription_of, session_cmp, has_id}
-use Rattle.mq_world.specs.World.{has_key}
+use Rattle.mq_world.specs.World.{Session, Subscription, SubscriptionOptions, Message, Retained}
+use Rattle.mq_world.specs.World.{Request, Reply, Connect, Disconnect, Subscribe, Unsubscribe}
+use Rattle.mq_world.specs.World.{Publish, SetAcl, Advance, Stat, subscription_of, session_cmp}
+use Rattle.mq_world.specs.World.{has_id, has_key}
 use Rattle.mq_world.specs.Clock.{last_moment}
 use Rattle.mq_world.specs.Sessions.{new_session, user_of, outlives, resumes, left_by, has_ended}
-use Rattle.mq_world.specs.Waiting.{begins_to_wait, waiting_after, resumed_copies}
+use Rattle.mq_world.specs.Waiting.{waiting_after}
 use Rattle.mq_world.specs.Refusals.{Conditions, first_refusal, client_conditions, is_client_id}
 use Rattle.mq_world.specs.Refusals.{is_user_name, faulty_line, refusal}
 use Rattle.mq_world.specs.Retained.{asks_for_retained, retained_copies, retained_after, is_full}
@@ -24,17 +24,16 @@ use Rattle.mq_world.specs.Retained.{without_expired}
 use Rattle.mq_world.specs.Counts.{filters_among, topics_of}
 use Rattle.mq_retained.specs.Deadlines.{Indexes}
 use Rattle.mq_world.specs.Turns.{SameInTurn}
-use Rattle.mq_world.specs.Answers.{reason, publish_reply}
+use Rattle.mq_world.specs.Answers.{reason}
 use Rattle.mq_world.specs.After.{access_of}
 use Rattle.mq_router.specs.StandsFor.{State, Refuses}
-use Rattle.mq_router.specs.router.Effects.{Applied, Does, world_of, copies_now, members_now}
+use Rattle.mq_router.specs.router.Effects.{Applied, Does, world_of, reply_to, members_now}
 use Rattle.mq_router.specs.router.Effects.{copies_sent, counts_now, without, lasts}
 use Rattle.mq_subscriptions.specs.Turns.{upsert, all_turned}
 use Rattle.mq_subscriptions.specs.Filters.{SubscriptionsView, AreKeys}
 use Rattle.mq_retained.specs.Stored.{RetainedView, AreFiled}
-use Rattle.mq_subscriptions.proofs.InTurn.{same-is, same-itself}
+use Rattle.mq_subscriptions.proofs.InTurn.{same-is, same-itself, same-then}
 use Rattle.mq_world.specs.declared.answer.Answer.{Answer}
-use Rattle.mq_world.specs.declared.answer.Outcome.TheVariants.{Reason}
 use Rattle.mq_world.specs.declared.refusal.Refusal.{Refusal}
 use Rattle.mq_world.specs.declared.refusal.Refusal.TheVariants.{ClientId, UserName, TopicName}
 use Rattle.mq_world.specs.declared.refusal.Refusal.TheVariants.{TopicFilter, SharedNoLocal}
@@ -91,6 +90,23 @@ passed-behind : (xs ys : Conditions) (wanted : Refusal) (b : Bool) → None ≡ 
     → b ≡ true → first_refusal (xs ++ (not b, wanted) ∷ ys) ≡ first_refusal ys
 passed-behind xs ys wanted b h e = first-passed xs ((not b, wanted) ∷ ys) h ∙ skip b wanted ys e
 
+-- ## What comes next
+
+-- the request is accepted, and this is the reply to it
+pub record IsAccepted (s : State) (request : Request) (reply : Reply) : Type 0 where
+  pub accepted : refusal (world_of s) request ≡ None
+  pub reply_is : reply ≡ reply_to s request
+
+-- the subscriptions that come next are such rows in turn, filed if those before were
+pub record AreNext (s : State) (subs : SubscriptionsView) (rows : List Subscription) : Type 0 where
+  pub same : SameInTurn subs.rows rows
+  pub keys : s.filter_keys ≡ filters_among s.subscriptions → AreKeys subs
+
+-- the retained messages that come next are these, and filed if those before were
+pub record AreKept (s : State) (kept : RetainedView) (messages : List Retained) : Type 0 where
+  pub same : kept.messages ≡ messages
+  pub filed : s.topic_keys ≡ topics_of s.retained → Indexes s.deadlines s.retained → AreFiled kept
+
 -- ## Connect and disconnect
 
 -- a connect is refused for its client id if that can't be one
@@ -113,33 +129,37 @@ connect-user s id user clean interval e u =
 abbrev pub connect_rows : State → Text → Bool → List Subscription
 connect_rows s id resumed = if resumed then s.subscriptions else without id s.subscriptions
 
--- a valid connect is done: its session is there, it is sent what waited, and the
+-- a connect is accepted if its client id and its user name can be ones
+pub connect-accepted : (s : State) (id : Text) (user : Option Text) (clean : Bool) (interval : ℕ)
+    → is_client_id id ≡ true → is_user_name user ≡ true
+    → refusal (world_of s) (Connect id user clean interval) ≡ None
+unfolding refusal
+connect-accepted s id user clean interval e u =
+    skip (is_client_id id) ClientId ((not (is_user_name user), UserName) ∷ []) e
+    ∙ skip (is_user_name user) UserName [] u
+
+-- an accepted connect is done: its session is there, it is sent what waited, and the
 -- client's subscriptions stay only if the session resumes
 pub connect-does : (s : State) (id : Text) (user : Option Text) (clean : Bool) (interval : ℕ)
-    (sessions : List Session) (subs : SubscriptionsView) (copies : List Copy)
-    → is_client_id id ≡ true → is_user_name user ≡ true
-    → copies ≡ resumed_copies s.moment s.sessions id clean
+    (sessions : List Session) (subs : SubscriptionsView) (reply : Reply)
+    → IsAccepted s (Connect id user clean interval) reply
     → sessions ≡ with_row session_cmp (new_session id user interval) s.sessions
-    → subs.rows ≡ connect_rows s id (resumes s.sessions id clean)
-    → (s.filter_keys ≡ filters_among s.subscriptions → AreKeys subs)
-    → Does s (Connect id user clean interval) (record { copies = copies; outcome = Reason 0 })
+    → AreNext s subs (connect_rows s id (resumes s.sessions id clean))
+    → Does s (Connect id user clean interval) reply
     (record s { sessions = sessions; subscriptions = subs.rows; filter_keys = subs.keys })
-unfolding refusal
-connect-does s id user clean interval sessions subs copies e u r ss xs keys = record {
-  accepted = skip (is_client_id id) ClientId ((not (is_user_name user), UserName) ∷ []) e
-      ∙ skip (is_user_name user) UserName [] u;
-  reply_is = ap (λ l. record { copies = l; outcome = Reason 0 }) r;
+connect-does s id user clean interval sessions subs reply is ss next = record {
+  accepted = is.accepted;
+  reply_is = is.reply_is;
   rows = record {
     limits = refl;
     moment = refl;
     access = refl;
     sessions = ss;
-    subscriptions =
-        same-is _ _ xs;
+    subscriptions = next.same;
     retained = refl;
   };
   filed = λ old. record {
-    filter_keys = keys old.filter_keys;
+    filter_keys = next.keys old.filter_keys;
     topic_keys = old.topic_keys;
     deadlines = old.deadlines;
   };
@@ -151,6 +171,13 @@ pub disconnect-client : (s : State) (id : Text) (r : Refusal)
     → Refuses (world_of s) (Disconnect id) r
 unfolding refusal
 disconnect-client s id r h = inr (sym h)
+
+-- a disconnect is accepted if its client passes
+pub disconnect-accepted : (s : State) (id : Text)
+    → None ≡ first_refusal (client_conditions s.sessions id)
+    → refusal (world_of s) (Disconnect id) ≡ None
+unfolding refusal
+disconnect-accepted s id h = sym h
 
 -- a disconnect is done where the session outlives it: the client is away from now on
 pub disconnect-leaves : (s : State) (id : Text) (sessions : List Session) (reply : Reply)
@@ -180,26 +207,24 @@ disconnect-leaves s id sessions reply h stays r ss = record {
 -- a disconnect is done where the session ends with it: the session and the
 -- client's subscriptions go
 pub disconnect-does : (s : State) (id : Text) (sessions : List Session) (subs : SubscriptionsView)
-    (reply : Reply) → None ≡ first_refusal (client_conditions s.sessions id)
-    → outlives s.sessions id ≡ false → reply ≡ reason 0
+    (reply : Reply) → IsAccepted s (Disconnect id) reply → outlives s.sessions id ≡ false
     → sessions ≡ filter (λ session. not (has_id id session)) s.sessions
-    → subs.rows ≡ without id s.subscriptions → AreKeys subs
+    → AreNext s subs (without id s.subscriptions)
     → Does s (Disconnect id) reply
     (record s { sessions = sessions; subscriptions = subs.rows; filter_keys = subs.keys })
-unfolding refusal
-disconnect-does s id sessions subs reply h ends r ss xs keys = record {
-  accepted = sym h;
-  reply_is = r;
+disconnect-does s id sessions subs reply is ends ss next = record {
+  accepted = is.accepted;
+  reply_is = is.reply_is;
   rows = rw ends (record {
     limits = refl;
     moment = refl;
     access = refl;
     sessions = ss;
-    subscriptions = same-is _ _ xs;
+    subscriptions = next.same;
     retained = refl;
   });
   filed = λ old. record {
-    filter_keys = keys;
+    filter_keys = next.keys old.filter_keys;
     topic_keys = old.topic_keys;
     deadlines =
         old.deadlines;
@@ -247,36 +272,38 @@ subscribe-shared s id text options h f e =
     ∙ ap (λ v. first_refusal ((v, SharedNoLocal) ∷ []))
     (sym (ap (λ b. b && options.no_local) (shared-is text)) ∙ e))
 
+-- a subscribe is accepted if its client and its filter pass, and it isn't shared with No Local
+pub subscribe-accepted : (s : State) (id text : Text) (options : SubscriptionOptions)
+    → None ≡ first_refusal (client_conditions s.sessions id) → is_subscription text ≡ true
+    → (is_some (share_of text) && options.no_local) ≡ false
+    → refusal (world_of s) (Subscribe id text options) ≡ None
+unfolding refusal
+subscribe-accepted s id text options h f e =
+    passed-behind (client_conditions s.sessions id) (shared_condition text options) TopicFilter
+    (is_subscription text) h f
+    ∙ ap (λ v. first_refusal ((v, SharedNoLocal) ∷ []))
+    (sym (ap (λ b. b && options.no_local) (shared-is text)) ∙ e)
+
 -- an accepted subscribe is done: it is sent its retained copies, granted its QoS, and
 -- stands among the subscriptions
 pub subscribe-does : (s : State) (id text : Text) (options : SubscriptionOptions)
-    (subs : SubscriptionsView) (reply : Reply)
-    → None ≡ first_refusal (client_conditions s.sessions id) → is_subscription text ≡ true
-    → (is_some (share_of text) && options.no_local) ≡ false
-    → reply ≡ record {
-      copies = copies_sent s (subscription_of id text options);
-      outcome =
-          Reason options.qos;
-    } → SameInTurn subs.rows (upsert (subscription_of id text options) s.subscriptions)
-    → AreKeys subs → Does s (Subscribe id text options) reply
+    (subs : SubscriptionsView) (reply : Reply) → IsAccepted s (Subscribe id text options) reply
+    → AreNext s subs (upsert (subscription_of id text options) s.subscriptions)
+    → Does s (Subscribe id text options) reply
     (record s { subscriptions = subs.rows; filter_keys = subs.keys })
-unfolding refusal
-subscribe-does s id text options subs reply h f e r xs keys = record {
-  accepted = passed-behind (client_conditions s.sessions id) (shared_condition text options)
-      TopicFilter (is_subscription text) h f
-      ∙ ap (λ v. first_refusal ((v, SharedNoLocal) ∷ []))
-      (sym (ap (λ b. b && options.no_local) (shared-is text)) ∙ e);
-  reply_is = r;
+subscribe-does s id text options subs reply is next = record {
+  accepted = is.accepted;
+  reply_is = is.reply_is;
   rows = record {
     limits = refl;
     moment = refl;
     access = refl;
     sessions = refl;
-    subscriptions = xs;
+    subscriptions = next.same;
     retained = refl;
   };
   filed = λ old. record {
-    filter_keys = keys;
+    filter_keys = next.keys old.filter_keys;
     topic_keys = old.topic_keys;
     deadlines =
         old.deadlines;
@@ -319,30 +346,34 @@ unfolding refusal
 unsubscribe-filter s id text r h why =
     refused-behind (client_conditions s.sessions id) [] r TopicFilter (is_subscription text) h why
 
+-- an unsubscribe is accepted if its client and its filter pass
+pub unsubscribe-accepted : (s : State) (id text : Text)
+    → None ≡ first_refusal (client_conditions s.sessions id) → is_subscription text ≡ true
+    → refusal (world_of s) (Unsubscribe id text) ≡ None
+unfolding refusal
+unsubscribe-accepted s id text h f =
+    passed-behind (client_conditions s.sessions id) [] TopicFilter (is_subscription text) h f
+
 -- an accepted unsubscribe is done: the subscription goes, and it is told if there was one
 pub unsubscribe-does : (s : State) (id text : Text) (subs : SubscriptionsView) (reply : Reply)
-    → None ≡ first_refusal (client_conditions s.sessions id) → is_subscription text ≡ true
-    → reply ≡ reason (if list_any (has_key id (share_of text) (filter_part text)) s.subscriptions
-    then 0 else 17) → subs.rows ≡ filter
-    (λ x. not (has_key id (share_of text) (filter_part text) x)) s.subscriptions → AreKeys subs
+    → IsAccepted s (Unsubscribe id text) reply
+    → AreNext s subs
+    (filter (λ x. not (has_key id (share_of text) (filter_part text) x)) s.subscriptions)
     → Does s (Unsubscribe id text) reply
     (record s { subscriptions = subs.rows; filter_keys = subs.keys })
-unfolding refusal
-unsubscribe-does s id text subs reply h f r xs keys = record {
-  accepted = passed-behind (client_conditions s.sessions id) [] TopicFilter (is_subscription text) h
-      f;
-  reply_is = r;
+unsubscribe-does s id text subs reply is next = record {
+  accepted = is.accepted;
+  reply_is = is.reply_is;
   rows = record {
     limits = refl;
     moment = refl;
     access = refl;
     sessions = refl;
-    subscriptions =
-        same-is _ _ xs;
+    subscriptions = next.same;
     retained = refl;
   };
   filed = λ old. record {
-    filter_keys = keys;
+    filter_keys = next.keys old.filter_keys;
     topic_keys = old.topic_keys;
     deadlines =
         old.deadlines;
@@ -418,14 +449,10 @@ publish-accepted s m h n e room =
 -- an accepted publish is done: copies are sent, others wait, members served go last in
 -- their groups, and retained messages change as it says
 pub publish-does : (s : State) (m : Message) (sessions : List Session) (subs : SubscriptionsView)
-    (kept : RetainedView) (reply : Reply) → refusal (world_of s) (Publish m) ≡ None
-    → reply ≡ publish_reply (copies_now s m)
-    (begins_to_wait s.limits.queued s.access s.sessions s.subscriptions m)
+    (kept : RetainedView) (reply : Reply) → IsAccepted s (Publish m) reply
     → sessions ≡ map (waiting_after s.limits.queued s.access s.subscriptions s.moment m) s.sessions
-    → SameInTurn subs.rows (all_turned (members_now s m) s.subscriptions)
-    → (s.filter_keys ≡ filters_among s.subscriptions → AreKeys subs)
-    → kept.messages ≡ retained_after s.moment s.retained m
-    → (s.topic_keys ≡ topics_of s.retained → Indexes s.deadlines s.retained → AreFiled kept)
+    → AreNext s subs (all_turned (members_now s m) s.subscriptions)
+    → AreKept s kept (retained_after s.moment s.retained m)
     → Does s (Publish m) reply
     (record s {
       sessions = sessions;
@@ -436,20 +463,20 @@ pub publish-does : (s : State) (m : Message) (sessions : List Session) (subs : S
       topic_keys = kept.keys;
       deadlines = kept.pairs;
     })
-publish-does s m sessions subs kept reply accepted r ss xs keys rs filed = record {
-  accepted = accepted;
-  reply_is = r;
+publish-does s m sessions subs kept reply is ss next messages = record {
+  accepted = is.accepted;
+  reply_is = is.reply_is;
   rows = record {
     limits = refl;
     moment = refl;
     access = refl;
     sessions = ss;
-    subscriptions = xs;
-    retained = rs;
+    subscriptions = next.same;
+    retained = messages.same;
   };
-  filed = λ old. (let now : AreFiled kept = filed old.topic_keys old.deadlines in
+  filed = λ old. (let now : AreFiled kept = messages.filed old.topic_keys old.deadlines in
       record {
-        filter_keys = keys old.filter_keys;
+        filter_keys = next.keys old.filter_keys;
         topic_keys = now.keys;
         deadlines =
             now.pairs;
@@ -505,15 +532,25 @@ advance-refused s seconds h =
     inr (ap (λ b. first_refusal ((b, ClockTooFar) ∷ []))
     (is_above last_moment (s.moment + seconds) h))
 
--- the clock goes on to no later than the last moment: sessions that have ended go, with their
--- subscriptions, and so do retained messages that have expired
+-- the clock can go on to no later than the last moment
+pub advance-accepted : (s : State) (seconds : ℕ) → s.moment + seconds ≤ last_moment
+    → refusal (world_of s) (Advance seconds) ≡ None
+unfolding refusal
+advance-accepted s seconds h = ap (λ b. first_refusal ((b, ClockTooFar) ∷ []))
+    (not_above last_moment (s.moment + seconds) h)
+
+-- the clock has gone on to a moment, and the sessions that have ended are gone
+pub record IsLater (s : State) (seconds moment : ℕ) (sessions : List Session) : Type 0 where
+  pub reached : moment ≡ s.moment + seconds
+  pub sessions_are : sessions ≡ filter (λ session. not (has_ended moment session)) s.sessions
+
+-- an accepted advance is done: sessions that have ended go, with their subscriptions, and so do
+-- retained messages that have expired
 pub advance-does : (s : State) (seconds moment : ℕ) (sessions : List Session)
-    (subs : SubscriptionsView) (kept : RetainedView) (reply : Reply) → moment ≤ last_moment
-    → moment ≡ s.moment + seconds → sessions
-    ≡ filter (λ session. not (has_ended moment session)) s.sessions
-    → subs.rows ≡ filter (lasts moment s.sessions) s.subscriptions
-    → (s.filter_keys ≡ filters_among s.subscriptions → AreKeys subs)
-    → kept.messages ≡ without_expired moment s.retained → AreFiled kept → reply ≡ reason 0
+    (subs : SubscriptionsView) (kept : RetainedView) (reply : Reply)
+    → IsAccepted s (Advance seconds) reply → IsLater s seconds moment sessions
+    → AreNext s subs (filter (lasts moment s.sessions) s.subscriptions)
+    → AreKept s kept (without_expired moment s.retained)
     → Does s (Advance seconds) reply
     (record s {
       moment = moment;
@@ -525,27 +562,26 @@ pub advance-does : (s : State) (seconds moment : ℕ) (sessions : List Session)
       topic_keys = kept.keys;
       deadlines = kept.pairs;
     })
-unfolding refusal
-advance-does s seconds moment sessions subs kept reply within m ss xs keys rs filed r =
-    let reached : s.moment + seconds ≤ last_moment = omega arith in
-    record {
-      accepted = ap (λ b. first_refusal ((b, ClockTooFar) ∷ []))
-          (not_above last_moment (s.moment + seconds) reached);
-      reply_is = r;
-      rows = record {
-        limits = refl;
-        moment = m;
-        access = refl;
-        sessions = ss ∙ ap (λ n. filter (λ session. not (has_ended n session)) s.sessions) m;
-        subscriptions = same-is _ _ (xs ∙ ap (λ n. filter (lasts n s.sessions) s.subscriptions) m);
-        retained = rs ∙ ap (λ n. without_expired n s.retained) m;
-      };
-      filed = λ old. record {
-        filter_keys = keys old.filter_keys;
-        topic_keys = filed.keys;
-        deadlines = filed.pairs;
-      };
-    }
+advance-does s seconds moment sessions subs kept reply is later next messages = record {
+  accepted = is.accepted;
+  reply_is = is.reply_is;
+  rows = record {
+    limits = refl;
+    moment = later.reached;
+    access = refl;
+    sessions = later.sessions_are
+        ∙ ap (λ n. filter (λ session. not (has_ended n session)) s.sessions) later.reached;
+    subscriptions = same-then _ _ _ next.same
+        (same-is _ _ (ap (λ n. filter (lasts n s.sessions) s.subscriptions) later.reached));
+    retained = messages.same ∙ ap (λ n. without_expired n s.retained) later.reached;
+  };
+  filed = λ old. (let now : AreFiled kept = messages.filed old.topic_keys old.deadlines in
+      record {
+        filter_keys = next.keys old.filter_keys;
+        topic_keys = now.keys;
+        deadlines = now.pairs;
+      });
+}
 
 -- ## Counts
 

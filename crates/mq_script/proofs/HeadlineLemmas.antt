@@ -52,27 +52,33 @@ Ending-ok limit w summary seen to_come script before e f c h =
       subst (λ (s : List ℕ). Summarizes w s summary) all h.summary,
     )
 
+-- the device told these bytes before, and none of its calls failed
+pub record IsHonest (device : Watched) (bytes : List ℕ) : Type 0 where
+  pub told : device.before ≡ Some bytes
+  pub well : DidNotFail device.calls
+
+-- the script is within the limit, and memory sufficed
+pub record IsWithin (limit : ℕ) (script : List ℕ) (result : Result Summary RunFault) : Type 0 where
+  pub bytes : length script ≤ limit
+  pub memory : result ≡ Err fault.Memory → ⊥
+
 -- where the devices tell their bytes and don't fail, and memory suffices, it ends well
 pub EndsOver-honest : (limit : ℕ) (w : World) (result : Result Summary RunFault)
     (reader writer : Watched) (script before : List ℕ)
-    → EndsOver limit w result reader writer → reader.before ≡ Some script
-    → writer.before ≡ Some before → length script ≤ limit
-    → DidNotFail reader.calls → DidNotFail writer.calls → (result ≡ Err fault.Memory → ⊥)
+    → EndsOver limit w result reader writer → IsHonest reader script → IsHonest writer before
+    → IsWithin limit script result
     → IsOkAnd result (λ summary. (writer.after ≡ Some (before ++ output w script))
     × Summarizes w script summary)
-EndsOver-honest limit w (Ok summary) reader writer script before end e f small read_well wrote_well
-    memory =
-    Ending-ok limit w summary _ reader.before script before e f end.1 end.2
-EndsOver-honest limit w (Err fault.Read) reader writer script before end e f small read_well
-    wrote_well memory =
-    absurd (failed_not reader.calls end.2.reader read_well)
-EndsOver-honest limit w (Err fault.Write) reader writer script before end e f small read_well
-    wrote_well memory =
-    absurd (failed_not writer.calls end.2.writer wrote_well)
-EndsOver-honest limit w (Err fault.TooMuch) reader writer script before end e f small read_well
-    wrote_well memory =
-    let fits = front reader.before reader.after script end.0 e end.1 in
+EndsOver-honest limit w (Ok summary) reader writer script before end reads writes within =
+    Ending-ok limit w summary _ reader.before script before reads.told writes.told end.1 end.2
+EndsOver-honest limit w (Err fault.Read) reader writer script before end reads writes within =
+    absurd (failed_not reader.calls end.2.reader reads.well)
+EndsOver-honest limit w (Err fault.Write) reader writer script before end reads writes within =
+    absurd (failed_not writer.calls end.2.writer writes.well)
+EndsOver-honest limit w (Err fault.TooMuch) reader writer script before end reads writes within =
+    let fits = front reader.before reader.after script end.0 reads.told end.1 in
     let over = end.2.over in
+    let small = within.bytes in
     absurd (omega arith)
-EndsOver-honest limit w (Err fault.Memory) reader writer script before end e f small read_well
-    wrote_well memory = absurd (memory refl)
+EndsOver-honest limit w (Err fault.Memory) reader writer script before end reads writes within =
+    absurd (within.memory refl)

@@ -60,22 +60,28 @@ Stopped-grown a b w g ys fault.Memory h = WritesLines-grown a b w g ys h
 
 -- ## A text without a line feed
 
--- a text without a line feed joins the line that is kept: no line ends, and nothing is written
+-- a text without a line feed has just joined the line, of which so many bytes are kept
+pub record HasJoined (xs : List ℕ) (n : ℕ) (p q : Progress) : Type 0 where
+  pub room : kept ≡ n
+  pub one : pieces xs ≡ xs ∷ []
+  pub router : q.router ≡ p.router
+  pub summary : q.summary ≡ p.summary
+  pub line : q.line.items ≡ p.line.items ++ take (n - length p.line.items) xs
+
+-- where a text joins the line that is kept, no line ends, and nothing is written
 pub Told-text : (w : World) (g xs : List ℕ) (n : ℕ) (p q : Progress) (a b : Option (List ℕ))
-    → kept ≡ n → pieces xs ≡ xs ∷ [] → Told w g p a b
-    → q.router ≡ p.router → q.summary ≡ p.summary
-    → q.line.items ≡ p.line.items ++ take (n - length p.line.items) xs → Told w (g ++ xs) q a b
-Told-text w g xs n p q a b is one told router summary line =
-    let same = whole_lines-text g xs one in
+    → HasJoined xs n p q → Told w g p a b → Told w (g ++ xs) q a b
+Told-text w g xs n p q a b joined told =
+    let same = whole_lines-text g xs joined.one in
     let text : p.line.items ++ take (n - length p.line.items) xs ≡ take kept (last_piece g ++ xs) =
     subst (λ (k : ℕ). p.line.items ++ take (k - length p.line.items) xs
-    ≡ take kept (last_piece g ++ xs)) is (kept_more p.line.items (last_piece g) xs told.line)
-    in
+    ≡ take kept (last_piece g ++ xs)) joined.room
+    (kept_more p.line.items (last_piece g) xs told.line) in
     record {
-      stands = rw (same, router) told.stands;
-      lines = rw (same, summary) told.lines;
-      refused = rw (same, summary) told.refused;
-      line = line ∙ text ∙ ap (take kept) (sym (last_piece-text g xs one));
+      stands = rw (same, joined.router) told.stands;
+      lines = rw (same, joined.summary) told.lines;
+      refused = rw (same, joined.summary) told.refused;
+      line = joined.line ∙ text ∙ ap (take kept) (sym (last_piece-text g xs joined.one));
       written = rw same told.written;
     }
 

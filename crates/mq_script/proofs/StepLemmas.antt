@@ -1,5 +1,5 @@
 -- What the calls of a run make of it.
-use Rattle.std.proofs.Common.{◌≡◌, ℕ, ◌+◌, ◌-◌, List, [], ◌∷◌, ◌++◌, length, take, Bool, cond}
+use Rattle.std.proofs.Common.{◌≡◌, ℕ, ◌+◌, List, [], ◌∷◌, ◌++◌, Bool, cond}
 use Rattle.std.proofs.Common.{Option, Result, Ok, Err, ap, ◌∙◌, subst, append_assoc, append-nil}
 use Rattle.std.specs.Prelude.{OnOk, OnErr, IfErr}
 use Rattle.std.proofs.KnownBytes.{Appends-kept}
@@ -13,10 +13,11 @@ use Rattle.mq_script.specs.Output.{world_after}
 use Rattle.mq_script.specs.Ending.{AppendsSome}
 use Rattle.mq_script.specs.Running.{IsTold, Told, Stopped, Answers, AnswersLine, StopsAtLine}
 use Rattle.mq_script.specs.Running.{TakesBytes, StopsAmong, Takes, EndsLines, StopsLast, Ends}
-use Rattle.mq_lines.specs.Lines.{kept, pieces, whole_lines}
-use Rattle.mq_script.proofs.RunLemmas.{Told-text, Told-feed, Stopped-feed, Stopped-grown}
-use Rattle.mq_script.proofs.RunLemmas.{Stopped-memory, WritesLines-grown, Finished-empty}
-use Rattle.mq_script.proofs.RunLemmas.{Finished-piece, StoppedLast-piece, AppendsSome-all}
+use Rattle.mq_lines.specs.Lines.{whole_lines}
+use Rattle.mq_script.proofs.RunLemmas.{HasJoined, Told-text, Told-feed, Stopped-feed}
+use Rattle.mq_script.proofs.RunLemmas.{Stopped-grown, Stopped-memory, WritesLines-grown}
+use Rattle.mq_script.proofs.RunLemmas.{Finished-empty, Finished-piece, StoppedLast-piece}
+use Rattle.mq_script.proofs.RunLemmas.{AppendsSome-all}
 
 -- ## Bytes that are taken
 
@@ -34,13 +35,11 @@ TakesBytes-then p q r xs ys a b c s t = λ w given start told.
     (t w (given ++ xs) start (s w given start told))
 
 -- bytes without a line feed are taken where they just join the line, as far as it is kept
-pub TakesBytes-text : (p q : Progress) (xs : List ℕ) (n : ℕ) (a : Option (List ℕ)) → kept ≡ n
-    → pieces xs ≡ xs ∷ []
-    → q.router ≡ p.router → q.summary ≡ p.summary
-    → q.line.items ≡ p.line.items ++ take (n - length p.line.items) xs → TakesBytes p q xs a a
+pub TakesBytes-text : (p q : Progress) (xs : List ℕ) (n : ℕ) (a : Option (List ℕ))
+    → HasJoined xs n p q → TakesBytes p q xs a a
 unfolding TakesBytes
-TakesBytes-text p q xs n a is one router summary line = λ w given start told.
-    Told-text w given xs n p q start a is one told router summary line
+TakesBytes-text p q xs n a joined = λ w given start told.
+    Told-text w given xs n p q start a joined told
 
 -- a flush after them writes nothing
 pub TakesBytes-kept : (p q : Progress) (xs : List ℕ) (a b c : Option (List ℕ))
@@ -83,30 +82,36 @@ StopsAmong-memory p xs a = λ w given start told. WritesLines-grown start a w gi
 
 -- ## A line
 
+-- a text was written, or some of it before the writer failed
+pub record IsWritten {T : Type 0} (result : Result T RunFault) (text : List ℕ)
+    (a b : Option (List ℕ)) : Type 0 where
+  pub all : OnOk result (Appends a b text)
+  pub some : OnErr result (AppendsSome a b text)
+  pub kind : IfErr result (λ e. e ≡ fault.Write)
+
 -- its answer is put together, and then written
 pub Answers-written : {T : Type 0} (result : Result T RunFault) (p q : Progress) (refused : Bool)
     (text : List ℕ) (a b : Option (List ℕ))
     → ((w : World) → StandsFor p.router w
     → IsTold (p.summary.lines + 1) w p.line.items refused q.router [] text)
     → q.summary.refused ≡ p.summary.refused + cond refused 1 0
-    → OnOk result (Appends a b text) → OnErr result (AppendsSome a b text)
-    → IfErr result (λ e. e ≡ fault.Write) → Answers p q result a b
+    → IsWritten result text a b → Answers p q result a b
 unfolding AnswersLine StopsAtLine
-Answers-written (Ok x) p q refused text a b told count ok err kind = λ w stands.
+Answers-written (Ok x) p q refused text a b told count is = λ w stands.
     let line = told w stands in
     record {
       stands = line.stands;
       refused = count ∙ ap (λ (r : Bool). p.summary.refused + cond r 1 0) line.refused;
-      written = subst (λ (t : List ℕ). Appends a b t) line.text ok;
+      written = subst (λ (t : List ℕ). Appends a b t) line.text is.all;
     }
-Answers-written (Err fault.Write) p q refused text a b told count ok err kind = λ w stands.
-    subst (λ (t : List ℕ). AppendsSome a b t) (told w stands).text err
-Answers-written (Err fault.Read) p q refused text a b told count ok err kind =
-    absurd (let bad : fault.Read ≡ fault.Write = kind in cc)
-Answers-written (Err fault.TooMuch) p q refused text a b told count ok err kind =
-    absurd (let bad : fault.TooMuch ≡ fault.Write = kind in cc)
-Answers-written (Err fault.Memory) p q refused text a b told count ok err kind =
-    absurd (let bad : fault.Memory ≡ fault.Write = kind in cc)
+Answers-written (Err fault.Write) p q refused text a b told count is = λ w stands.
+    subst (λ (t : List ℕ). AppendsSome a b t) (told w stands).text is.some
+Answers-written (Err fault.Read) p q refused text a b told count is =
+    absurd (let bad : fault.Read ≡ fault.Write = is.kind in cc)
+Answers-written (Err fault.TooMuch) p q refused text a b told count is =
+    absurd (let bad : fault.TooMuch ≡ fault.Write = is.kind in cc)
+Answers-written (Err fault.Memory) p q refused text a b told count is =
+    absurd (let bad : fault.Memory ≡ fault.Write = is.kind in cc)
 
 -- ## Both
 

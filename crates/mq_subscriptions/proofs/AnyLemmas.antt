@@ -134,17 +134,22 @@ Lists = List (Text × List FilterKey)
 abbrev AreLive : Lists → Type 0
 AreLive lists = AllByRecursion (λ l. is_empty l.1 ≡ false) lists
 
--- a subscription joins both the tree and the lists, each well formed after it: they agree again
+-- a tree and lists that agreed have become others, each of them well formed
+pub record IsChange (old new : AtEntries) (before after : Lists) : Type 0 where
+  pub agreed : AreListed old before
+  pub kept : AreEntries new
+  pub live : AreLive after
+
+-- a subscription joins both the tree and the lists: they agree again
 pub listed-joined : (x : Subscription) (old new : AtEntries) (before after : Lists)
-    → AreListed old before → AreEntries new → SameInTurn (all_rows new) (upsert x (all_rows old))
+    → IsChange old new before after → SameInTurn (all_rows new) (upsert x (all_rows old))
     → ((s : Subscription) → is_listed after s
-    ≡ (has_key x.client x.share x.filter s || is_listed before s)) → AreLive after
-    → AreListed new after
-listed-joined x old new before after h kept same adds live = record {
-  kept = kept;
-  listed = λ s. adds s ∙ ap (λ b. same_key x s || b) (h.listed s)
+    ≡ (has_key x.client x.share x.filter s || is_listed before s)) → AreListed new after
+listed-joined x old new before after change same adds = record {
+  kept = change.kept;
+  listed = λ s. adds s ∙ ap (λ b. same_key x s || b) (change.agreed.listed s)
       ∙ sym (any-joined x s (all_rows new) (all_rows old) same);
-  live = live;
+  live = change.live;
 }
 
 -- a key that is there joins again
@@ -157,35 +162,42 @@ listed-again x old lists h found s =
     ∙ sym (ap (λ b. b || is_listed lists s) t))
     (λ f. sym (ap (λ b. b || is_listed lists s) f))
 
--- a key leaves both the tree and the lists, each well formed after it: they agree again
+-- a key leaves both the tree and the lists: they agree again
 pub listed-left : (client : Text) (k : FilterKey) (old new : AtEntries) (before after : Lists)
-    → AreListed old before → AreEntries new → all_rows new
-    ≡ filter (λ s. not (has_key client k.0 k.1 s)) (all_rows old)
+    → IsChange old new before after
+    → all_rows new ≡ filter (λ s. not (has_key client k.0 k.1 s)) (all_rows old)
     → ((s : Subscription) → is_listed after s
-    ≡ (not (has_key client k.0 k.1 s) && is_listed before s)) → AreLive after
-    → AreListed new after
-listed-left client k old new before after h kept rows drops live = record {
-  kept = kept;
+    ≡ (not (has_key client k.0 k.1 s) && is_listed before s)) → AreListed new after
+listed-left client k old new before after change rows drops = record {
+  kept = change.kept;
   listed = λ s.
-      drops s ∙ ap (λ b. not (has_key client k.0 k.1 s) && b) (h.listed s)
+      drops s ∙ ap (λ b. not (has_key client k.0 k.1 s) && b) (change.agreed.listed s)
       ∙ sym (any-left (λ c sh f. same_text c client && same_share sh k.0 && same_text f k.1) s
       (all_rows old)) ∙ ap (list_any (same_key s)) (sym rows);
-  live = live;
+  live = change.live;
 }
 
--- a key that joined and left again
+-- a key that the tree doesn't have joined the lists, and left them again
+pub record IsUndone (client : Text) (k : FilterKey) (old : AtEntries) (before added after : Lists)
+    : Type 0 where
+  pub absent : list_any (has_key client k.0 k.1) (all_rows old) ≡ false
+  pub adds : (s : Subscription) → is_listed added s
+      ≡ (has_key client k.0 k.1 s || is_listed before s)
+  pub drops : (s : Subscription) → is_listed after s
+      ≡ (not (has_key client k.0 k.1 s) && is_listed added s)
+  pub live : AreLive after
+
+-- where the tree stayed as it was meanwhile, it agrees with the lists again
 pub listed-undone : (client : Text) (k : FilterKey) (old new : AtEntries)
     (before added after : Lists)
-    → AreListed old before → new ≡ old → list_any (has_key client k.0 k.1) (all_rows old) ≡ false
-    → ((s : Subscription) → is_listed added s ≡ (has_key client k.0 k.1 s || is_listed before s))
-    → ((s : Subscription) → is_listed after s
-    ≡ (not (has_key client k.0 k.1 s) && is_listed added s)) → AreLive after → AreListed new after
-listed-undone client k old new before added after h same absent adds drops live =
+    → AreListed old before → new ≡ old → IsUndone client k old before added after
+    → AreListed new after
+listed-undone client k old new before added after h same is =
     subst (λ (es : AtEntries). AreListed es after) (sym same) (record {
       kept = h.kept;
-      listed = λ s. drops s ∙ ap (λ b. not (has_key client k.0 k.1 s) && b) (adds s)
+      listed = λ s. is.drops s ∙ ap (λ b. not (has_key client k.0 k.1 s) && b) (is.adds s)
           ∙ undone (has_key client k.0 k.1 s) (is_listed before s) (nobody s) ∙ h.listed s;
-      live = live;
+      live = is.live;
     })
   where
     undone : (n o : Bool) → (n ≡ true → o ≡ false) → (not n && (n || o)) ≡ o
@@ -208,7 +220,7 @@ listed-undone client k old new before added after h same absent adds drops live 
         (same_text-is s.filter k.1
         (and_parts (same_text s.client client && same_share s.share k.0)
         (same_text s.filter k.1) t).1)
-        ∙ absent
+        ∙ is.absent
 
 -- where a subscription goes last in the tree, which stays well formed, the lists agree as they were
 pub listed-turned : (x : Subscription) (old new : AtEntries) (lists : Lists) → AreListed old lists
@@ -293,23 +305,28 @@ others : (a b o : Bool) → a ≡ b → (if a then false else o) ≡ (not b && o
 others true b o e = ap (λ v. not v && o) e
 others false b o e = ap (λ v. not v && o) e
 
--- a client's list goes, of lists in order, and all its subscriptions leave the tree, which stays
--- well formed: the two agree again
-pub listed-gone : (c : Text) (ls : ClientLists) → IsStrictlySortedBy key_cmp (keys_of ls)
-    → (v : List FilterKey) (out : ClientLists) → lookup (finds c) ls ≡ Some v
-    → out ≡ remove_entry (finds c) ls → (old new : AtEntries) → AreListed old (texts ls)
-    → AreEntries new → all_rows new ≡ filter (λ s. not (same_text s.client c)) (all_rows old)
+-- the list of a client went, of lists in order
+pub record IsListOut (c : Text) (ls : ClientLists) (v : List FilterKey) (out : ClientLists) : Type 0
+    where
+  pub sorted : IsStrictlySortedBy key_cmp (keys_of ls)
+  pub found : lookup (finds c) ls ≡ Some v
+  pub gone : out ≡ remove_entry (finds c) ls
+
+-- a client's list goes, and all its subscriptions leave the tree: the two agree again
+pub listed-gone : (c : Text) (ls : ClientLists) (v : List FilterKey) (out : ClientLists)
+    (old new : AtEntries) → IsListOut c ls v out → AreListed old (texts ls) → AreEntries new
+    → all_rows new ≡ filter (λ s. not (same_text s.client c)) (all_rows old)
     → AreListed new (texts out)
-listed-gone c ls sorted v out found gone old new h kept rows =
-    let same : ls ≡ set_value (finds c) ls v = sym (set_value_same (finds c) ls v found) in
+listed-gone c ls v out old new is h kept rows =
+    let same : ls ≡ set_value (finds c) ls v = sym (set_value_same (finds c) ls v is.found) in
     record {
       kept = kept;
       listed = λ s.
-          list-out c ls sorted v v ls found same out gone s
+          list-out c ls is.sorted v v ls is.found same out is.gone s
           ∙ others (is_text s.client c) (same_text s.client c) (is_listed (texts ls) s)
           (is_text-is s.client c)
           ∙ ap (λ b. not (same_text s.client c) && b) (h.listed s)
           ∙ sym (any-left (λ k sh f. same_text k c) s (all_rows old))
           ∙ ap (list_any (same_key s)) (sym rows);
-      live = live-out c ls v ls out same gone h.live;
+      live = live-out c ls v ls out same is.gone h.live;
     }

@@ -135,13 +135,15 @@ module _ {V : Type 0} (l : List ℕ) (rest : List (List ℕ)) (value : Option V)
       → own value ++ below fin ≡ remove_entry (is_key (l ∷ rest)) (own value ++ below children)
   take_kept es new fin f n e = rw (e, n) (remove_step es f)
 
-  pub take_cut : (es new : Entries V) (mid fin : Children V)
+  -- a child that is left with no entries is taken out
+  pub take_cut : (es new : Entries V) (fin : Children V)
       → lookup (is_level l) children ≡ Some es → new ≡ remove_entry (is_key rest) es → new ≡ []
-      → mid ≡ set_value (is_level l) children new → fin ≡ remove_entry (is_level l) mid
+      → fin ≡ remove_entry (is_level l) (set_value (is_level l) children new)
       → own value ++ below fin ≡ remove_entry (is_key (l ∷ rest)) (own value ++ below children)
-  take_cut es new mid fin f n b m e =
-      let cut : below fin ≡ below mid = rw (e, m, b) (below_cut (is_level l) children) in
-      ap (λ xs. own value ++ xs) cut ∙ take_kept es new mid f n m
+  take_cut es new fin f n b e =
+      let bare = set_value (is_level l) children new in
+      let cut : below fin ≡ below bare = rw (e, b) (below_cut (is_level l) children) in
+      ap (λ xs. own value ++ xs) cut ∙ take_kept es new bare f n refl
 
   pub take_none : lookup (is_level l) children ≡ None
       → own value ++ below children ≡ remove_entry (is_key (l ∷ rest)) (own value ++ below children)

@@ -55,17 +55,25 @@ module _ {Y V : Type 0} (key : List (List ℕ)) (l : List ℕ) (rest : List (Lis
       (entries_in new) (children_of fin) (child_is (Some node) f) n
       (ap children_of e ∙ set_children l nodes new))
 
-  pub take_cut : (node new : Box (NodeView V)) (mid fin : Branches Y V)
+  -- the children once the one at the level has got a new node and is taken out
+  cut_is : (new : Box (NodeView V)) (fin : Branches Y V)
+      → fin ≡ remove_entry (is_text l) (set_value (is_text l) nodes new)
+      → children_of fin
+      ≡ remove_entry (is_level l) (set_value (is_level l) (children_of nodes) (entries_in new))
+  cut_is new fin e =
+      ap children_of e ∙ remove_children l (set_value (is_text l) nodes new)
+      ∙ ap (remove_entry (is_level l)) (set_children l nodes new)
+
+  -- a child that is left with no entries is taken out
+  pub take_cut : (node new : Box (NodeView V)) (fin : Branches Y V)
       → Some node ≡ lookup (is_text l) nodes → entries_in new
       ≡ remove_entry (is_key rest) (entries_in node) → entries_in new ≡ []
-      → mid ≡ set_value (is_text l) nodes new → fin ≡ remove_entry (is_text l) mid
+      → fin ≡ remove_entry (is_text l) (set_value (is_text l) nodes new)
       → own value ++ below (children_of fin) ≡ remove_entry (is_key key) (entries_of now)
-  take_cut node new mid fin f n b m e =
+  take_cut node new fin f n b e =
       rw (at.key_is, ← entries_is)
       (changes.take_cut l rest value (children_of nodes) at.are (entries_in node)
-      (entries_in new) (children_of mid) (children_of fin) (child_is (Some node) f) n b
-      (ap children_of m ∙ set_children l nodes new)
-      (ap children_of e ∙ remove_children l mid))
+      (entries_in new) (children_of fin) (child_is (Some node) f) n b (cut_is new fin e))
 
   pub take_none : (fin : Branches Y V) → None ≡ lookup (is_text l) nodes → fin ≡ nodes
       → own value ++ below (children_of fin) ≡ remove_entry (is_key key) (entries_of now)
@@ -116,14 +124,14 @@ module _ {Y V : Type 0} (key : List (List ℕ)) (l : List ℕ) (rest : List (Lis
             (changes.live_set (is_level l) (children_of nodes) (entries_in new) at.are.live n);
       }
 
-  pub children_cut : (new : Box (NodeView V)) (mid fin : Branches Y V)
-      → mid ≡ set_value (is_text l) nodes new → fin ≡ remove_entry (is_text l) mid
+  pub children_cut : (new : Box (NodeView V)) (fin : Branches Y V)
+      → fin ≡ remove_entry (is_text l) (set_value (is_text l) nodes new)
       → IsStrictlySortedBy string_cmp (keys_of fin) → AreChildren (children_of fin)
-  children_cut new mid fin m e o =
+  children_cut new fin e o =
       record {
         ordered = ordered_levels fin o;
         live =
-            rw (e, remove_children l mid, m, set_children l nodes new)
+            rw (cut_is new fin e)
             (changes.live_cut (is_level l) (children_of nodes) (entries_in new) at.are.live);
       }
 

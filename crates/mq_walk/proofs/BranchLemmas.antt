@@ -1,7 +1,7 @@
 -- The remainders of rows behind one more level.
 use Rattle.std.proofs.Common.{◌≡◌, ℕ, Bool, true, false, ◌&&◌, ◌||◌, if◌then◌else◌, List, [], ◌∷◌}
 use Rattle.std.proofs.Common.{◌++◌, refl, ap, sym, ◌∙◌, bytes_eq, subst, ◌<◌, ◌≤◌, ◌+◌, zero, suc}
-use Rattle.std.proofs.Common.{arith, length, get_or, take}
+use Rattle.std.proofs.Common.{arith, length, get_or, take, Bor}
 use Rattle.std.specs.List.{list_all}
 use Rattle.std.proofs.lemmas.Grind.{take_at_read}
 use Rattle.std.proofs.lemmas.List.{take_all}
@@ -12,7 +12,9 @@ use Rattle.mq_topic.proofs.ByteLemmas.{text_is}
 use Rattle.mq_walk.specs.Remainders.{MarkLevels, covers, hit, same, remainder_fits, remainders_fit}
 use Rattle.mq_walk.specs.Remainders.{marks_pass}
 use Rattle.mq_walk.specs.Branches.{at, has, IsBranched, BranchesFit}
+use Rattle.mq_walk.specs.Nexts.{GoesOn, NextFits}
 use Rattle.mq_walk.specs.declared.remainder.Remainder.{Remainder}
+use Rattle.mq_walk.specs.declared.remainder.Next.TheVariants.{At}
 use Rattle.mq_walk.specs.declared.branches.Branches.{Branches}
 use Rattle.mq_walk.proofs.RemainderLemmas.{hit-append}
 
@@ -34,24 +36,26 @@ hit_if : (deny : Bool) (marks : MarkLevels) (ls : List (List ℕ)) (b : Bool) (r
 hit_if deny marks ls true r = or-false (covers marks ls r && same deny r.deny)
 hit_if deny marks ls false r = refl
 
+-- one more remainder stands behind this level, and all others stand where they stood
+pub record IsJoined (level : List ℕ) (next : Remainder) (old new : Branches) : Type 0 where
+  pub behind : (l : List ℕ) → at l new ≡ at l old ++ (if bytes_eq l level then next ∷ [] else [])
+  pub any : new.any.items ≡ old.any.items
+
 -- one more is branched: a remainder that goes on with one level only joins those of that level
-pub at_level : (marks : MarkLevels) (rs : List Remainder) (r next : Remainder) (level : List ℕ)
-    (old new : Branches)
-    → next.deny ≡ r.deny → ((l : List ℕ) (ls : List (List ℕ))
-    → covers marks (l ∷ ls) r ≡ (bytes_eq l level && covers marks ls next))
-    → ((l : List ℕ) → at l new ≡ at l old ++ (if bytes_eq l level then next ∷ [] else []))
-    → new.any.items ≡ old.any.items
+pub at_level : (marks : MarkLevels) (rs : List Remainder) (r next : Remainder)
+    (level : Bor (List ℕ)) (old new : Branches)
+    → GoesOn marks r (At level next) → IsJoined level.now next old new
     → IsBranched rs marks old → IsBranched (rs ++ r ∷ []) marks new
-at_level marks rs r next level old new d f a e b = record {
+at_level marks rs r next level old new on is b = record {
   hits = λ deny l ls.
       hit-append deny marks (l ∷ ls) rs (r ∷ [])
-      ∙ (λ i. b.hits deny l ls i || or-false (f l ls i && same deny (sym d i)) i)
-      ∙ more (bytes_eq l level) (covers marks ls next) (same deny next.deny)
+      ∙ (λ i. b.hits deny l ls i || or-false (on.1 l ls i && same deny (sym on.0 i)) i)
+      ∙ more (bytes_eq l level.now) (covers marks ls next) (same deny next.deny)
       (hit deny marks ls (at l old)) (hit deny marks ls old.any.items)
-      ∙ (λ i. sym (ap (hit deny marks ls) (a l)
-      ∙ hit-append deny marks ls (at l old) (if bytes_eq l level then next ∷ [] else [])
+      ∙ (λ i. sym (ap (hit deny marks ls) (is.behind l)
+      ∙ hit-append deny marks ls (at l old) (if bytes_eq l level.now then next ∷ [] else [])
       ∙ ap (λ k. hit deny marks ls (at l old) || k)
-      (hit_if deny marks ls (bytes_eq l level) next)) i || hit deny marks ls (sym e i));
+      (hit_if deny marks ls (bytes_eq l level.now) next)) i || hit deny marks ls (sym is.any i));
 }
 
 fit_if : (p : List ℕ → Bool) (b : Bool) (r : Remainder) → remainder_fits p r ≡ true
@@ -65,21 +69,20 @@ or_cases p l level true b e f g = f refl
 or_cases p l level false b e f g = g e
 
 -- branches still fit a test after such a remainder joins, if its level and what is behind pass it
-pub fit_level : (p : List ℕ → Bool) (next : Remainder) (level : List ℕ) (old new : Branches)
-    → p level ≡ true → remainder_fits p next ≡ true
-    → ((l : List ℕ) → at l new ≡ at l old ++ (if bytes_eq l level then next ∷ [] else []))
-    → ((l : List ℕ) → has l new ≡ (has l old || bytes_eq l level))
-    → new.any.items ≡ old.any.items
+pub fit_level : (p : List ℕ → Bool) (next : Remainder) (level : Bor (List ℕ)) (old new : Branches)
+    → NextFits p (At level next) → IsJoined level.now next old new
+    → ((l : List ℕ) → has l new ≡ (has l old || bytes_eq l level.now))
     → BranchesFit p old → BranchesFit p new
-fit_level p next level old new q h a k e b = record {
-  named = λ l n. or_cases p l level (has l old) (bytes_eq l level) (sym (k l) ∙ n) (b.named l)
-      (λ s. ap p (text_is l level s) ∙ q);
-  behind = λ l. ap (remainders_fit p) (a l)
-      ∙ list_all-append (remainder_fits p) (at l old) (if bytes_eq l level then next ∷ [] else [])
+fit_level p next level old new f is h b = record {
+  named = λ l n. or_cases p l level.now (has l old) (bytes_eq l level.now) (sym (h l) ∙ n)
+      (b.named l) (λ s. ap p (text_is l level.now s) ∙ f.0);
+  behind = λ l. ap (remainders_fit p) (is.behind l)
+      ∙ list_all-append (remainder_fits p) (at l old)
+      (if bytes_eq l level.now then next ∷ [] else [])
       ∙ and_from (list_all (remainder_fits p) (at l old))
-      (list_all (remainder_fits p) (if bytes_eq l level then next ∷ [] else [])) (b.behind l)
-      (fit_if p (bytes_eq l level) next h);
-  any = ap (remainders_fit p) e ∙ b.any;
+      (list_all (remainder_fits p) (if bytes_eq l level.now then next ∷ [] else [])) (b.behind l)
+      (fit_if p (bytes_eq l level.now) next f.1);
+  any = ap (remainders_fit p) is.any ∙ b.any;
 }
 
 -- the branches of the first remainders; all of them fit

@@ -37,25 +37,30 @@ pub covers_cons : (test : List ℕ → List ℕ → Bool) (w l : List ℕ) (ws l
     → levels_match_by test (w ∷ ws) (l ∷ ls) ≡ (test w l && levels_match_by test ws ls)
 covers_cons test w l ws ls e = levels_match_cons test w l ws ls e
 
--- what is covered one level on
-pub step : (marks : MarkLevels) (r next : Remainder) (w : List ℕ)
-    → levels_left r.rest ≡ w ∷ levels_left next.rest
-    → (bytes_eq w (codes "#") && (length (levels_left next.rest) == 0)) ≡ false
-    → next.pattern ≡ r.pattern
+-- what is left of a remainder behind its first level, which is no last `#`
+pub record IsLeftBehind (r next : Remainder) (w : List ℕ) : Type 0 where
+  pub rest : levels_left r.rest ≡ w ∷ levels_left next.rest
+  pub no_hash : (bytes_eq w (codes "#") && (length (levels_left next.rest) == 0)) ≡ false
+  pub pattern : next.pattern ≡ r.pattern
+
+-- a name is covered just where its first level passes and what is left covers the others
+pub step : (marks : MarkLevels) (r next : Remainder) (w : List ℕ) → IsLeftBehind r next w
     → (l : List ℕ) (ls : List (List ℕ)) → covers marks (l ∷ ls) r
     ≡ (passes r.pattern marks w l && covers marks ls next)
-step marks r next w e h p l ls =
-    ap (λ k. levels_match_by (passes r.pattern marks) k (l ∷ ls)) e
-    ∙ covers_cons (passes r.pattern marks) w l (levels_left next.rest) ls h
+step marks r next w is l ls =
+    ap (λ k. levels_match_by (passes r.pattern marks) k (l ∷ ls)) is.rest
+    ∙ covers_cons (passes r.pattern marks) w l (levels_left next.rest) ls is.no_hash
     ∙ ap (λ b. passes r.pattern marks w l
-    && levels_match_by (passes b marks) (levels_left next.rest) ls) (sym p)
+    && levels_match_by (passes b marks) (levels_left next.rest) ls) (sym is.pattern)
 
-passes_client : (pattern : Bool) (marks : MarkLevels) (w l : List ℕ)
+-- in a `pattern` row the mark `%c` is passed by the client's level alone
+pub passes_client : (pattern : Bool) (marks : MarkLevels) (w l : List ℕ)
     → (pattern && bytes_eq w (codes "%c")) ≡ true
     → passes pattern marks w l ≡ is_user l marks.client
 passes_client pattern marks w l e = rw e refl
 
-passes_user : (pattern : Bool) (marks : MarkLevels) (w l : List ℕ)
+-- and the mark `%u` by the user's
+pub passes_user : (pattern : Bool) (marks : MarkLevels) (w l : List ℕ)
     → (pattern && bytes_eq w (codes "%c")) ≡ false → (pattern && bytes_eq w (codes "%u")) ≡ true
     → passes pattern marks w l ≡ is_user l marks.user
 passes_user pattern marks w l e f = rw (e, f) refl
@@ -65,63 +70,35 @@ passes_plain : (pattern : Bool) (marks : MarkLevels) (w l : List ℕ)
     → passes pattern marks w l ≡ level_matches w l
 passes_plain pattern marks w l e f = rw (e, f) refl
 
--- a level that only a mark's level passes
-pub mark_goes_on : (marks : MarkLevels) (r next : Remainder) (mark : Option (Bor (List ℕ)))
-    → next.deny ≡ r.deny
-    → ((l : List ℕ) (ls : List (List ℕ)) → covers marks (l ∷ ls) r
-    ≡ (is_user l (option_copied mark) && covers marks ls next))
+-- at a mark a `pattern` row's remainder goes on with the level that it stands for, if there is one
+pub mark_goes_on : (marks : MarkLevels) (r next : Remainder) (w : List ℕ)
+    (mark : Option (Bor (List ℕ))) → IsLeftBehind r next w → next.deny ≡ r.deny
+    → ((l : List ℕ) → passes r.pattern marks w l ≡ is_user l (option_copied mark))
     → GoesOn marks r (at_mark mark next)
-mark_goes_on marks r next None d f = f
-mark_goes_on marks r next (Some level) d f = (d, f)
-
--- at the mark `%c`, a `pattern` row's remainder goes on with the client's level, if there is one
-pub client_goes_on : (marks : MarkLevels) (r next : Remainder) (w : List ℕ)
-    (mark : Option (Bor (List ℕ))) → option_copied mark ≡ marks.client
-    → levels_left r.rest ≡ w ∷ levels_left next.rest
-    → (bytes_eq w (codes "#") && (length (levels_left next.rest) == 0)) ≡ false
-    → next.pattern ≡ r.pattern → next.deny ≡ r.deny
-    → (r.pattern && bytes_eq w (codes "%c")) ≡ true → GoesOn marks r (at_mark mark next)
-client_goes_on marks r next w mark m e h p d c =
-    mark_goes_on marks r next mark d (λ l ls. step marks r next w e h p l ls
-    ∙ ap (λ b. b && covers marks ls next) (passes_client r.pattern marks w l c
-    ∙ ap (is_user l) (sym m)))
-
--- at the mark `%u` it goes on with the user's
-pub user_goes_on : (marks : MarkLevels) (r next : Remainder) (w : List ℕ)
-    (mark : Option (Bor (List ℕ))) → option_copied mark ≡ marks.user
-    → levels_left r.rest ≡ w ∷ levels_left next.rest
-    → (bytes_eq w (codes "#") && (length (levels_left next.rest) == 0)) ≡ false
-    → next.pattern ≡ r.pattern → next.deny ≡ r.deny
-    → (r.pattern && bytes_eq w (codes "%c")) ≡ false → (r.pattern && bytes_eq w (codes "%u")) ≡ true
-    → GoesOn marks r (at_mark mark next)
-user_goes_on marks r next w mark m e h p d c u =
-    mark_goes_on marks r next mark d (λ l ls. step marks r next w e h p l ls
-    ∙ ap (λ b. b && covers marks ls next) (passes_user r.pattern marks w l c u
-    ∙ ap (is_user l) (sym m)))
+mark_goes_on marks r next w None is d m =
+    λ l ls. step marks r next w is l ls ∙ ap (λ b. b && covers marks ls next) (m l)
+mark_goes_on marks r next w (Some level) is d m = (
+  d,
+  λ l ls. step marks r next w is l ls ∙ ap (λ b. b && covers marks ls next) (m l),
+)
 
 -- at any other level but a last `#`, a name is covered just where it matches and the rest is
-pub level_is : (marks : MarkLevels) (r next : Remainder) (w : List ℕ)
-    → levels_left r.rest ≡ w ∷ levels_left next.rest
-    → (bytes_eq w (codes "#") && (length (levels_left next.rest) == 0)) ≡ false
-    → next.pattern ≡ r.pattern
+pub level_is : (marks : MarkLevels) (r next : Remainder) (w : List ℕ) → IsLeftBehind r next w
     → (r.pattern && bytes_eq w (codes "%c")) ≡ false
     → (r.pattern && bytes_eq w (codes "%u")) ≡ false
     → (l : List ℕ) (ls : List (List ℕ)) → covers marks (l ∷ ls) r
     ≡ (level_matches w l && covers marks ls next)
-level_is marks r next w e h p c u l ls = step marks r next w e h p l ls
+level_is marks r next w is c u l ls = step marks r next w is l ls
     ∙ ap (λ b. b && covers marks ls next) (passes_plain r.pattern marks w l c u)
 
 -- a level that is no wildcard is passed by itself alone
-pub level_only : (marks : MarkLevels) (r next : Remainder) (w : List ℕ)
-    → levels_left r.rest ≡ w ∷ levels_left next.rest
-    → (bytes_eq w (codes "#") && (length (levels_left next.rest) == 0)) ≡ false
-    → next.pattern ≡ r.pattern
+pub level_only : (marks : MarkLevels) (r next : Remainder) (w : List ℕ) → IsLeftBehind r next w
     → (r.pattern && bytes_eq w (codes "%c")) ≡ false
     → (r.pattern && bytes_eq w (codes "%u")) ≡ false → bytes_eq w (codes "+") ≡ false
     → (l : List ℕ) (ls : List (List ℕ)) → covers marks (l ∷ ls) r
     ≡ (bytes_eq l w && covers marks ls next)
-level_only marks r next w e h p c u plus l ls =
-    level_is marks r next w e h p c u l ls
+level_only marks r next w is c u plus l ls =
+    level_is marks r next w is c u l ls
     ∙ ap (λ b. (b || bytes_eq w l) && covers marks ls next) plus
     ∙ ap (λ b. b && covers marks ls next) (text_flip w l)
 

@@ -34,6 +34,7 @@ use Rattle.mq_walk.proofs.NameLemmas.{suits_inside, no_dollar}
 use Rattle.mq_walk.proofs.RemainderLemmas.{hit-append, gains_by}
 
 -- ---- behind a level
+-- what is said of a name that goes on with a level is what the remainders left behind it say
 pub behind_hits : (marks : MarkLevels) (rs : List Remainder) (b : Branches) (level : List ℕ)
     (left : List Remainder) → IsBranched rs marks b → left ≡ at level b ++ b.any.items
     → (deny : Bool) (ls : List (List ℕ)) → hit deny marks (level ∷ ls) rs ≡ hit deny marks ls left
@@ -48,42 +49,39 @@ behind_fits p b level left h e = ap (remainders_fit p) e
     ∙ and_from (list_all (remainder_fits p) (at level b)) (list_all (remainder_fits p) b.any.items)
     (h.behind level) h.any
 
+-- a name may go on with this level, and is then gained where what is left behind it gains the rest
+pub record IsStep (marks : MarkLevels) (start : Start) (n k : ℕ)
+    (old new olds news : List Remainder) (level : List ℕ) : Type 0 where
+  pub room : k + 1 ≤ n
+  pub fit : fits_start start level ≡ true
+  pub valid : is_name_level level ≡ true
+  pub same : (ls : List (List ℕ)) → gains marks (level ∷ ls) old new ≡ gains marks ls olds news
+
 -- a name that is gained behind a level is gained
 gain_longer : (marks : MarkLevels) (start : Start) (n k : ℕ) (old new olds news : List Remainder)
-    (level : List ℕ) (ls : List (List ℕ))
-    → k + 1 ≤ n → fits_start start level ≡ true → is_name_level level ≡ true
-    → ((deny : Bool) (ls : List (List ℕ)) → hit deny marks (level ∷ ls) old
-    ≡ hit deny marks ls olds)
-    → ((deny : Bool) (ls : List (List ℕ)) → hit deny marks (level ∷ ls) new
-    ≡ hit deny marks ls news)
+    (level : List ℕ) (ls : List (List ℕ)) → IsStep marks start n k old new olds news level
     → IsGain (behind start level) k marks olds news ls → IsGain start n marks old new (level ∷ ls)
-gain_longer marks start n k old new olds news level ls room fit valid f g h = record {
-  suitable = rw (fit, h.suitable) refl;
-  few = (let s = h.few in omega arith);
-  gained = gains_by marks marks (level ∷ ls) ls old new olds news (λ deny. f deny ls)
-      (λ deny. g deny ls) ∙ h.gained;
-  valid = rw (valid, h.valid) refl;
+gain_longer marks start n k old new olds news level ls is h = record {
+  suitable = rw (is.fit, h.suitable) refl;
+  few = (let s = h.few in let room = is.room in omega arith);
+  gained = is.same ls ∙ h.gained;
+  valid = rw (is.valid, h.valid) refl;
 }
 
 -- names that are gained behind a level, put behind that level, are gained
 pub gains_longer : (marks : MarkLevels) (start : Start) (n k : ℕ)
     (old new olds news : List Remainder) (level : List ℕ) (all more next : List (List (List ℕ)))
-    → k + 1 ≤ n → fits_start start level ≡ true → is_name_level level ≡ true
-    → ((deny : Bool) (ls : List (List ℕ)) → hit deny marks (level ∷ ls) old
-    ≡ hit deny marks ls olds)
-    → ((deny : Bool) (ls : List (List ℕ)) → hit deny marks (level ∷ ls) new
-    ≡ hit deny marks ls news)
-    → next ≡ all ++ map (λ ls. level ∷ ls) more → All (IsGain start n marks old new) all
+    → IsStep marks start n k old new olds news level → next ≡ all ++ map (λ ls. level ∷ ls) more
+    → All (IsGain start n marks old new) all
     → All (IsGain (behind start level) k marks olds news) more
     → All (IsGain start n marks old new) next
-gains_longer marks start n k old new olds news level all more next room fit valid f g e a m =
+gains_longer marks start n k old new olds news level all more next is e a m =
     All-same (IsGain start n marks old new) next (all ++ map (λ ls. level ∷ ls) more) e
     (All-append (IsGain start n marks old new) all (map (λ ls. level ∷ ls) more) a
     (All-map (IsGain start n marks old new) (λ ls. level ∷ ls) more
     (All-weaker (IsGain (behind start level) k marks olds news)
     (λ ls. IsGain start n marks old new (level ∷ ls))
-    (λ ls h. gain_longer marks start n k old new olds news level ls room fit valid f g h) more
-    m)))
+    (λ ls h. gain_longer marks start n k old new olds news level ls is h) more m)))
 
 -- lists that are joined to none are none
 pub no_parts : {A B : Type 0} (f : A → B) (old more next : List A) (g : B → B)
@@ -109,25 +107,21 @@ tried_none marks start n old new items t ls all rest fit h =
 -- one more level has been tried, where nothing is gained behind it
 pub tried_more : (marks : MarkLevels) (start : Start) (n : ℕ) (old new olds news : List Remainder)
     (items : List (Bor (List ℕ))) (i : ℕ) (d : Bor (List ℕ)) → i < length items
-    → ((deny : Bool) (ls : List (List ℕ)) → hit deny marks ((get_or items i d).now ∷ ls) old
-    ≡ hit deny marks ls olds)
-    → ((deny : Bool) (ls : List (List ℕ)) → hit deny marks ((get_or items i d).now ∷ ls) new
-    ≡ hit deny marks ls news)
+    → ((ls : List (List ℕ)) → gains marks ((get_or items i d).now ∷ ls) old new
+    ≡ gains marks ls olds news)
     → GainsNothing (behind start (get_or items i d).now) n marks olds news
     → Tried start n marks old new items i → Tried start n marks old new items (i + 1)
-tried_more marks start n old new olds news items i d p f g here before t ls all rest fit h =
+tried_more marks start n old new olds news items i d p same here before t ls all rest fit h =
     at_item (bytes_eq t (get_or items i d).now) refl
   where
     at_item : (b : Bool) → bytes_eq t (get_or items i d).now ≡ b
         → gains marks (t ∷ ls) old new ≡ false
     at_item true q =
-        let same = text_is t (get_or items i d).now q in
         let level = (get_or items i d).now in
-        ap (λ y. gains marks (y ∷ ls) old new) same
-        ∙ gains_by marks marks (level ∷ ls) ls old new olds news (λ deny. f deny ls)
-        (λ deny. g deny ls)
+        let is = text_is t level q in
+        ap (λ y. gains marks (y ∷ ls) old new) is ∙ same ls
         ∙ here ls (and_parts (fits_start start level) (suits (behind start level) ls)
-        (ap (λ y. suits start (y ∷ ls)) (sym same) ∙ fit)).1 h
+        (ap (λ y. suits start (y ∷ ls)) (sym is) ∙ fit)).1 h
     at_item false q = before t ls all (ap (is_among t) (drop_more items i d p)
         ∙ (λ j. q j || rest j)) fit h
 
@@ -240,39 +234,61 @@ unnamed_hits marks rs b l m h nl nm deny ls =
     h.hits deny l ls ∙ ap (λ k. hit deny marks ls k || hit deny marks ls b.any.items)
     (nothing_at _ nl ∙ sym (nothing_at _ nm)) ∙ sym (h.hits deny m ls)
 
--- all levels have been tried
+-- the branches of these remainders, of which each level that fits here is among those to try
+pub record AreListed (marks : MarkLevels) (start : Start) (others : Others)
+    (items : List (Bor (List ℕ))) (rs : List Remainder) (b : Branches) : Type 0 where
+  pub branched : IsBranched rs marks b
+  pub fit : BranchesFit (is_choice others) b
+  pub among : (l : List ℕ) → fits_start start l ≡ true → has l b ≡ true → is_among l items ≡ true
+
+-- the levels to try: those of the old and the new branches, and one that stands for all others
+pub record AreChoices (marks : MarkLevels) (start : Start) (others : Others)
+    (items : List (Bor (List ℕ))) (old new : List Remainder) (olds news : Branches) : Type 0 where
+  pub old_listed : AreListed marks start others items old olds
+  pub new_listed : AreListed marks start others items new news
+  pub other : is_among (other_at start others) items ≡ true
+
+-- a level that is not among those to try goes as the one that stands for all others
+unlisted_hits : (marks : MarkLevels) (start : Start) (others : Others)
+    (items : List (Bor (List ℕ))) (rs : List Remainder) (b : Branches) (l : List ℕ)
+    → are_others others ≡ true → AreListed marks start others items rs b
+    → fits_start start l ≡ true → is_among l items ≡ false
+    → (deny : Bool) (ls : List (List ℕ))
+    → hit deny marks (l ∷ ls) rs ≡ hit deny marks (other_at start others ∷ ls) rs
+unlisted_hits marks start others items rs b l o is fit q =
+    let other = other_at start others in
+    unnamed_hits marks rs b l other is.branched
+    (false_is (has l b) (is_among l items) (is.among l fit) q)
+    (false_is (has other b) (is_choice others other) (is.fit.named other)
+    (other_is start others o).unnamed)
+
+-- nothing is found: no name is gained that ends here or goes on with a level that has been tried
+pub record NothingFound (start : Start) (n : ℕ) (marks : MarkLevels) (old new : List Remainder)
+    (items : List (Bor (List ℕ))) (i : ℕ) : Type 0 where
+  pub here : (ends start && gains no_marks [] old new) ≡ false
+  pub tried : Tried start (n - 1) marks old new items i
+
+-- once all levels have been tried, nothing is gained where nothing was found
 pub tried_all : (marks : MarkLevels) (start : Start) (n : ℕ) (others : Others)
     (old new : List Remainder) (olds news : Branches) (items : List (Bor (List ℕ))) (i : ℕ)
-    → are_others others ≡ true → length items ≤ i
-    → (ends start && gains no_marks [] old new) ≡ false
-    → IsBranched old marks olds → IsBranched new marks news → BranchesFit (is_choice others) olds
-    → BranchesFit (is_choice others) news
-    → is_among (other_at start others) items ≡ true
-    → ((l : List ℕ) → fits_start start l ≡ true → has l olds ≡ true → is_among l items ≡ true)
-    → ((l : List ℕ) → fits_start start l ≡ true → has l news ≡ true → is_among l items ≡ true)
-    → Tried start (n - 1) marks old new items i → GainsNothing start n marks old new
-tried_all marks start n others old new olds news items i o p end bo bn fo fn among named_old
-    named_new done [] s h =
-    gains_end marks old new ∙ sym (ap (λ b. b && gains no_marks [] old new) s) ∙ end
-tried_all marks start n others old new olds news items i o p end bo bn fo fn among named_old
-    named_new done (l ∷ ls) s h = at_level (is_among l items) refl
+    → are_others others ≡ true → AreChoices marks start others items old new olds news
+    → length items ≤ i → NothingFound start n marks old new items i
+    → GainsNothing start n marks old new
+tried_all marks start n others old new olds news items i o are p none [] s h =
+    gains_end marks old new ∙ sym (ap (λ b. b && gains no_marks [] old new) s) ∙ none.here
+tried_all marks start n others old new olds news items i o are p none (l ∷ ls) s h =
+    at_level (is_among l items) refl
   where
     at_level : (b : Bool) → is_among l items ≡ b → gains marks (l ∷ ls) old new ≡ false
-    at_level true q = done l ls q (no_more l items i p) s (omega arith)
+    at_level true q = none.tried l ls q (no_more l items i p) s (omega arith)
     at_level false q =
         let other = other_at start others in
         let is_other = other_is start others o in
         let fit = (and_parts (fits_start start l) (suits (behind start l) ls) s).0 in
         gains_by marks marks (l ∷ ls) (other ∷ ls) old new old new
-        (λ deny. unnamed_hits marks old olds l other bo
-        (false_is (has l olds) (is_among l items) (named_old l fit) q)
-        (false_is (has other olds) (is_choice others other) (fo.named other) is_other.unnamed)
-        deny ls)
-        (λ deny. unnamed_hits marks new news l other bn
-        (false_is (has l news) (is_among l items) (named_new l fit) q)
-        (false_is (has other news) (is_choice others other) (fn.named other) is_other.unnamed)
-        deny ls)
-        ∙ done other ls among (no_more other items i p)
+        (λ deny. unlisted_hits marks start others items old olds l o are.old_listed fit q deny ls)
+        (λ deny. unlisted_hits marks start others items new news l o are.new_listed fit q deny ls)
+        ∙ none.tried other ls are.other (no_more other items i p)
         (suits_other start other ls is_other.fit is_other.some) (omega arith)
 
 -- ---- where the walk ends
@@ -338,6 +354,7 @@ few_longer f old more next g most e h k =
     omega (arith, size, olds, mores, h, k)
 
 -- ---- the levels that are tried
+-- a name may go on with the level at an index, which passes the test
 pub choice_at : (start : Start) (p : List ℕ → Bool) (items : List (Bor (List ℕ))) (i : ℕ)
     (d : Bor (List ℕ)) → i < length items → all_choices start p items ≡ true
     → (fits_start start (get_or items i d).now ≡ true) × (p (get_or items i d).now ≡ true)
@@ -349,9 +366,9 @@ choice_at start p items i d h e =
     )
 
 -- ---- the walk so far
+-- the paths that are found so far, none only where nothing is
 pub record IsWalked (start : Start) (n : ℕ) (marks : MarkLevels) (old new : List Remainder)
     (items : List (Bor (List ℕ))) (i : ℕ) (most : ℕ) (paths : List Path) : Type 0 where
-  pub here : paths ≡ [] → (ends start && gains no_marks [] old new) ≡ false
-  pub tried : paths ≡ [] → Tried start (n - 1) marks old new items i
+  pub none : paths ≡ [] → NothingFound start n marks old new items i
   pub each : All (IsGain start n marks old new) (all_levels paths)
   pub few : length paths ≤ most

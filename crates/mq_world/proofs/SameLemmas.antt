@@ -241,9 +241,6 @@ length-filter-cons p x xs =
       | false ↦ omega arith
     ]
 
-added : (x y a b c d i j : ℕ) → x ≡ i + a → b ≡ j + d → y ≡ j + c → c ≡ i + d → a ≡ b → x ≡ y
-added x y a b c d i j e1 e2 e3 e4 e5 = omega arith
-
 taken : (i a b : ℕ) → i + a ≡ i + b → a ≡ b
 taken i a b h = omega arith
 
@@ -259,9 +256,7 @@ arranged p n m ms ns h =
     length-filter-cons p n (m ∷ ns) in
     let d : length (filter p (m ∷ ns)) ≡ cond (p m) 1 0 + length (filter p ns) =
     length-filter-cons p m ns in
-    added (length (filter p (m ∷ ms))) (length (filter p (n ∷ m ∷ ns))) (length (filter p ms))
-    (length (filter p (n ∷ ns))) (length (filter p (m ∷ ns))) (length (filter p ns))
-    (cond (p m) 1 0) (cond (p n) 1 0) a b c d h
+    omega arith
 
 cancelled : (p : ℕ → Bool) (m : ℕ) (ms ns : List ℕ)
     → length (filter p (m ∷ ms)) ≡ length (filter p (m ∷ ns))

@@ -8,9 +8,11 @@ use Rattle.mq_reach.proofs.reading.end_line.Goals as goal
 pub returns-clause-takes : goal.returns-clause-takes
 returns-clause-takes c =
     TakesBytes-line c.args.list.now c.args.reading.now _ c.args.rest.now
-    c.as_slice.result.now _ kept_number c.requires.rest
-    (c.as_slice.ensures.value ∙ c.in_ok-keep_front.ensures) c.in_ok-take_line.ensures.searched
-    c.clear.ensures.items
+    c.as_slice.result.now _ kept_number c.requires.rest (record {
+      grown = c.as_slice.ensures.value ∙ c.in_ok-keep_front.ensures;
+      searched = c.in_ok-take_line.ensures.searched;
+      none = c.clear.ensures.items;
+    })
 
 pub returns-in_err-keep_front-clause-err : goal.returns-in_err-keep_front-clause-err
 returns-in_err-keep_front-clause-err c =

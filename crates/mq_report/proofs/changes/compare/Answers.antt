@@ -44,13 +44,17 @@ told_to : (c : goal.After-drop-comparison-inside-8) (user : Option (List ℕ))
     → ToldFor c.args.old.now c.args.new.now user c.add_clients-2.new.all.items
 told_to c =
     told_all c.args.old.now c.args.new.now c.deref-user-items.result.now c.loop-user.user-index
-    c.loop-user.all.items c.add_clients-2.new.all.items c.loop-user-test.false
-    (λ t. listed_by c.args.old.now c.args.new.now c.in_ok-comparison.comparison
-    c.in_ok-users.users.items c.deref-user-items.result.now t c.in_ok-comparison.ensures.old
-    c.in_ok-comparison.ensures.new c.deref-user-items.ensures.value (c.in_ok-users.ensures t))
+    c.loop-user.all.items c.add_clients-2.new.all.items c.loop-user.invariant.anonymous
+    (record {
+      end = c.loop-user-test.false;
+      are = λ t. listed_by c.args.old.now c.args.new.now c.in_ok-comparison.comparison
+          c.in_ok-users.users.items c.deref-user-items.result.now t
+          c.in_ok-comparison.ensures.old c.in_ok-comparison.ensures.new
+          c.deref-user-items.ensures.value (c.in_ok-users.ensures t);
+      done = c.loop-user.invariant.users;
+    })
     c.in_ok-add_clients-3.ensures.adds
     (λ t e way direction. c.in_ok-add_clients-3.ensures.told way direction (Some t) (ap not e))
-    c.loop-user.invariant
 
 pub returns-clause-told : goal.returns-clause-told
 returns-clause-told c = λ way direction user. told_to c user way direction

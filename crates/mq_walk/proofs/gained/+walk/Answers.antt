@@ -1,8 +1,8 @@
 use Rattle.std.proofs.Common.{◌≤◌, ℕ, List, [], ◌∷◌, length, sym, ◌∙◌, ap, ◌-◌, get_or, subst, Bor}
-use Rattle.std.proofs.Common.{arith}
+use Rattle.std.proofs.Common.{arith, ◌≡◌}
 use Rattle.std.specs.List.{All}
 use Rattle.mq_walk.specs.Paths.{levels_of, all_levels}
-use Rattle.mq_walk.specs.Remainders.{marks_view, GainsNothing, IsGain}
+use Rattle.mq_walk.specs.Remainders.{marks_view, gains, GainsNothing, IsGain}
 use Rattle.mq_walk.specs.Names.{is_among, is_choice, is_name_level, fits_start}
 use Rattle.mq_walk.specs.Choices.{all_choices, other_at}
 use Rattle.mq_walk.proofs.WalkLemmas.{behind_hits, behind_fits, gains_longer, no_parts, tried_none}
@@ -10,6 +10,7 @@ use Rattle.mq_walk.proofs.WalkLemmas.{tried_more, other_is, tried_all, each_here
 use Rattle.mq_walk.proofs.WalkLemmas.{nothing_here, nothing_settled, few_here, few_longer}
 use Rattle.mq_walk.proofs.WalkLemmas.{choice_at}
 use Rattle.mq_walk.proofs.NameLemmas.{choice_is_level}
+use Rattle.mq_walk.proofs.RemainderLemmas.{gains_by}
 use Rattle.mq_walk.proofs.gained.+walk.Goals as goal
 
 abbrev none : Bor (List ℕ)
@@ -48,9 +49,11 @@ returns-then-is_settled-clause-few t c =
 
 pub loop-level-init : goal.loop-level-init
 loop-level-init t c = record {
-  here = λ e. no_gain_here levels_of c.in_ok-paths.paths.items _ c.in_ok-paths.ensures e;
-  tried = λ e. tried_none (marks_view c.args.marks) c.args.start (c.args.budget - 1) c.args.old.now
-      c.args.new.now c.deref-level-items.result.now;
+  none = λ e. record {
+    here = no_gain_here levels_of c.in_ok-paths.paths.items _ c.in_ok-paths.ensures e;
+    tried = tried_none (marks_view c.args.marks) c.args.start (c.args.budget - 1)
+        c.args.old.now c.args.new.now c.deref-level-items.result.now;
+  };
   each = each_here (marks_view c.args.marks) c.args.start c.args.budget c.args.old.now
       c.args.new.now c.in_ok-paths.paths.items c.in_ok-paths.ensures;
   few = few_here levels_of c.in_ok-paths.paths.items _ c.args.most c.in_ok-paths.ensures
@@ -103,6 +106,10 @@ loop-level-preserved t c =
     let new_behind = behind_hits marks c.args.new.now c.in_ok-new_branches.new_branches level
     c.deref-in-loop-level.result.now c.in_ok-new_branches.ensures.branched
     (c.deref-in-loop-level.ensures.value ∙ c.in_ok-new.ensures) in
+    let same : (ls : List (List ℕ)) → gains marks (level ∷ ls) c.args.old.now c.args.new.now
+    ≡ gains marks ls c.deref.result.now c.deref-in-loop-level.result.now =
+    λ ls. gains_by marks marks (level ∷ ls) ls c.args.old.now c.args.new.now c.deref.result.now
+    c.deref-in-loop-level.result.now (λ deny. old_behind deny ls) (λ deny. new_behind deny ls) in
     let parts = no_parts levels_of c.loop-level.paths.items c.in_ok-behind.behind.items
     c.add_longer.new.paths.items (λ ls. level ∷ ls) c.in_ok-add_longer.ensures in
     let few : length c.in_ok-behind.behind.items ≤ c.args.most - c.len-in-loop-level.result =
@@ -110,21 +117,28 @@ loop-level-preserved t c =
     let size = c.len-in-loop-level.ensures in
     let listed = c.loop-level.paths.ok in
     record {
-      here = λ e. c.loop-level.invariant.here (parts e).0;
-      tried = λ e.
-          tried_more marks c.args.start (c.args.budget - 1) c.args.old.now c.args.new.now
-          c.deref.result.now c.deref-in-loop-level.result.now items i none
-          c.loop-level-test.true old_behind new_behind
-          (subst (λ start. GainsNothing start (c.args.budget - 1) marks c.deref.result.now
-          c.deref-in-loop-level.result.now) c.behind-in-loop-level-2.ensures
-          (c.in_ok-behind.ensures.none (parts e).1))
-          (c.loop-level.invariant.tried (parts e).0);
+      none = λ e.
+          let before = c.loop-level.invariant.none (parts e).0 in
+          record {
+            here = before.here;
+            tried = tried_more marks c.args.start (c.args.budget - 1) c.args.old.now c.args.new.now
+                c.deref.result.now c.deref-in-loop-level.result.now items i none
+                c.loop-level-test.true same
+                (subst (λ start. GainsNothing start (c.args.budget - 1) marks c.deref.result.now
+                c.deref-in-loop-level.result.now) c.behind-in-loop-level-2.ensures
+                (c.in_ok-behind.ensures.none (parts e).1)) before.tried;
+          };
       each =
           gains_longer marks c.args.start c.args.budget (c.args.budget - 1) c.args.old.now
           c.args.new.now c.deref.result.now c.deref-in-loop-level.result.now level
           (all_levels c.loop-level.paths.items) (all_levels c.in_ok-behind.behind.items)
           (all_levels c.add_longer.new.paths.items)
-          (omega (arith, c.if-budget-eq0.false)) choice.0 choice.1 old_behind new_behind
+          (record {
+            room = omega (arith, c.if-budget-eq0.false);
+            fit = choice.0;
+            valid = choice.1;
+            same = same;
+          })
           c.in_ok-add_longer.ensures c.loop-level.invariant.each
           (subst (λ start. All (IsGain start (c.args.budget - 1) marks c.deref.result.now
           c.deref-in-loop-level.result.now) (all_levels c.in_ok-behind.behind.items))
@@ -151,16 +165,21 @@ returns-clause-none t c = λ e.
     tried_all marks c.args.start c.args.budget c.args.others c.args.old.now c.args.new.now
     c.in_ok-old_branches.old_branches c.in_ok-new_branches.new_branches
     c.deref-level-items.result.now c.loop-level.level-index c.requires.others
-    c.loop-level-test.false (c.loop-level.invariant.here e)
-    c.in_ok-old_branches.ensures.branched c.in_ok-new_branches.ensures.branched
-    (c.in_ok-old_branches.ensures.fit p c.requires.marks c.requires.old)
-    (c.in_ok-new_branches.ensures.fit p c.requires.marks c.requires.new)
-    (ap (is_among (other_at c.args.start c.args.others)) value
-    ∙ ap (λ l. is_among l c.in_ok-levels.levels.items) (sym c.at.ensures)
-    ∙ c.in_ok-levels.ensures.other)
-    (λ l f h. ap (is_among l) value ∙ c.in_ok-levels.ensures.old l f h)
-    (λ l f h. ap (is_among l) value ∙ c.in_ok-levels.ensures.new l f h)
-    (c.loop-level.invariant.tried e)
+    (record {
+      old_listed = record {
+        branched = c.in_ok-old_branches.ensures.branched;
+        fit = c.in_ok-old_branches.ensures.fit p c.requires.marks c.requires.old;
+        among = λ l f h. ap (is_among l) value ∙ c.in_ok-levels.ensures.old l f h;
+      };
+      new_listed = record {
+        branched = c.in_ok-new_branches.ensures.branched;
+        fit = c.in_ok-new_branches.ensures.fit p c.requires.marks c.requires.new;
+        among = λ l f h. ap (is_among l) value ∙ c.in_ok-levels.ensures.new l f h;
+      };
+      other = ap (is_among (other_at c.args.start c.args.others)) value
+          ∙ ap (λ l. is_among l c.in_ok-levels.levels.items) (sym c.at.ensures)
+          ∙ c.in_ok-levels.ensures.other;
+    }) c.loop-level-test.false (c.loop-level.invariant.none e)
 
 pub returns-clause-each : goal.returns-clause-each
 returns-clause-each t c = c.loop-level.invariant.each

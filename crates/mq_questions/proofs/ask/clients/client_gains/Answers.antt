@@ -23,7 +23,11 @@ walk-requires-clause-marks c =
     ∙ among_at items c.loop-client.client-index none c.loop-client-test.true in
     rw (
       listed_is_choice c.args.fresh (option_copied c.args.user) c.args.old.now c.args.new.now
-          c.requires.fresh c.requires.user c.requires.old c.requires.new client listed,
+          (record {
+            fresh = c.requires.fresh;
+            old_fits = c.requires.old;
+            new_fits = c.requires.new;
+          }) c.requires.user client listed,
       c.requires.user,
     ) refl
 
@@ -39,9 +43,13 @@ pub loop-client-preserved : goal.loop-client-preserved
 loop-client-preserved c =
     gains_more c.args.start (option_copied c.args.user) c.args.old.now c.args.new.now
     c.deref-client-items.result.now c.loop-client.client-index none c.loop-client.gains.items
-    c.add_gains.new.gains.items c.in_ok-paths.paths.items
-    c.loop-client-test.true c.in_ok-add_gains.ensures.kept c.in_ok-add_gains.ensures.none
-    c.in_ok-add_gains.ensures.each c.in_ok-paths.ensures.none c.in_ok-paths.ensures.each
+    c.add_gains.new.gains.items c.in_ok-paths.paths.items c.loop-client-test.true
+    (record {
+      kept = c.in_ok-add_gains.ensures.kept;
+      none = c.in_ok-add_gains.ensures.none;
+      each = c.in_ok-add_gains.ensures.each;
+    })
+    (record { nothing = c.in_ok-paths.ensures.none; each = c.in_ok-paths.ensures.each })
     c.loop-client.invariant
 
 pub returns-then-len-most-clause-none : goal.returns-then-len-most-clause-none
@@ -53,10 +61,14 @@ returns-then-len-most-clause-each c = c.loop-client.invariant.each
 pub returns-clause-none : goal.returns-clause-none
 returns-clause-none c = λ e.
     no_client c.args.fresh (option_copied c.args.user) c.args.old.now c.args.new.now c.args.start
-    c.deref-client-items.result.now c.loop-client.client-index c.loop-client.gains.items
-    c.requires.fresh c.requires.apart c.requires.old c.requires.new c.loop-client-test.false
-    (λ t. ap (is_among t) c.deref-client-items.ensures.value ∙ c.in_ok-clients.ensures t)
-    c.loop-client.invariant e
+    c.deref-client-items.result.now c.loop-client.client-index
+    (record { fresh = c.requires.fresh; old_fits = c.requires.old; new_fits = c.requires.new })
+    c.requires.apart
+    (record {
+      end = c.loop-client-test.false;
+      are = λ t. ap (is_among t) c.deref-client-items.ensures.value ∙ c.in_ok-clients.ensures t;
+      done = c.loop-client.invariant.tried e;
+    })
 
 pub returns-clause-each : goal.returns-clause-each
 returns-clause-each c = c.loop-client.invariant.each

@@ -26,11 +26,15 @@ returns-clause-none c = λ e.
     let user = option_copied c.args.scope.user in
     nothing_gained (all_rows c.args.old) (all_rows c.args.new) c.deref.result.now
     c.deref-2.result.now user c.args.scope.direction c.args.scope.dollar c.of-start.result
-    (subst (AreRoots (all_rows c.args.old) user c.args.scope.direction c.args.scope.dollar)
-    (sym c.deref.ensures.value) c.in_ok-old_roots.ensures)
-    (subst (AreRoots (all_rows c.args.new) user c.args.scope.direction c.args.scope.dollar)
-    (sym c.deref-2.ensures.value) c.in_ok-new_roots.ensures)
-    c.of-start.ensures
+    (record {
+      old_roots = subst
+          (AreRoots (all_rows c.args.old) user c.args.scope.direction c.args.scope.dollar)
+          (sym c.deref.ensures.value) c.in_ok-old_roots.ensures;
+      new_roots = subst
+          (AreRoots (all_rows c.args.new) user c.args.scope.direction c.args.scope.dollar)
+          (sym c.deref-2.ensures.value) c.in_ok-new_roots.ensures;
+      start_is = c.of-start.ensures;
+    })
     (λ t. subst (λ m. GainsNothing c.of-start.result 200 (marks_of t m) c.deref.result.now
     c.deref-2.result.now) c.level_of-user.ensures
     (c.in_ok-gains.ensures.none (sym c.deref-3.ensures.value
@@ -42,11 +46,16 @@ returns-clause-each c =
     let user = option_copied c.args.scope.user in
     each_gained (all_rows c.args.old) (all_rows c.args.new) c.deref.result.now c.deref-2.result.now
     user c.args.scope.direction c.args.scope.dollar c.of-start.result
-    (subst (AreRoots (all_rows c.args.old) user c.args.scope.direction c.args.scope.dollar)
-    (sym c.deref.ensures.value) c.in_ok-old_roots.ensures)
-    (subst (AreRoots (all_rows c.args.new) user c.args.scope.direction c.args.scope.dollar)
-    (sym c.deref-2.ensures.value) c.in_ok-new_roots.ensures)
-    c.of-start.ensures c.in_ok-witnesses.witnesses.items c.deref-3.result.now
+    (record {
+      old_roots = subst
+          (AreRoots (all_rows c.args.old) user c.args.scope.direction c.args.scope.dollar)
+          (sym c.deref.ensures.value) c.in_ok-old_roots.ensures;
+      new_roots = subst
+          (AreRoots (all_rows c.args.new) user c.args.scope.direction c.args.scope.dollar)
+          (sym c.deref-2.ensures.value) c.in_ok-new_roots.ensures;
+      start_is = c.of-start.ensures;
+    })
+    c.in_ok-witnesses.witnesses.items c.deref-3.result.now
     c.in_ok-witnesses.ensures
     (All-same (IsGainOf c.of-start.result (level_of user) c.deref.result.now c.deref-2.result.now)
     c.deref-3.result.now c.in_ok-gains.gains.items c.deref-3.ensures.value

@@ -17,7 +17,8 @@ loop-gain-preserved-then-has_like c =
 pub loop-gain-preserved : goal.loop-gain-preserved
 loop-gain-preserved c =
     added_new c.args.user.now c.args.others.now.items c.loop-gain.yielded c.in-Some.gain _
-    c.loop-gain.others.items c.push.new.self.items refl refl refl c.in_ok-push.ensures.items
+    c.loop-gain.others.items c.push.new.self.items
+    (record { same_user = refl; same_client = refl; same_name = refl }) c.in_ok-push.ensures.items
     c.loop-gain.invariant
 
 pub returns-clause-each : goal.returns-clause-each

@@ -5,9 +5,9 @@ use Rattle.mq_questions.specs.Gains.{IsOtherGain, IsNamed, other_told, other_sho
 use Rattle.mq_walk.specs.Remainders.{remainders_fit}
 use Rattle.mq_questions.specs.Fresh.{is_literal}
 use Rattle.mq_questions.specs.Roots.{AreRoots, all_rows}
-use Rattle.mq_questions.proofs.GainLemmas.{nothing_gained_by}
+use Rattle.mq_questions.proofs.GainLemmas.{IsWalk, nothing_gained_by}
 use Rattle.mq_questions.proofs.GainListLemmas.{shown_none}
-use Rattle.mq_questions.proofs.OtherLemmas.{other_named, other_nothing, all_unlisted, all_gained}
+use Rattle.mq_questions.proofs.OtherLemmas.{other_named, other_walk, all_unlisted, all_gained}
 use Rattle.mq_questions.proofs.ask.others.others_in.Goals as goal
 
 pub other_gains-requires-clause-old : goal.other_gains-requires-clause-old
@@ -35,22 +35,27 @@ returns-clause-none c = λ e user client name unlisted valid d.
     let olds = c.deref.result.now in
     let news = c.deref-2.result.now in
     let first = c.args.fresh.user.now in
-    let a = subst (λ m. AreRoots (all_rows c.args.old) m c.args.scope.direction c.args.scope.dollar
-    olds) c.requires.scope
-    (subst (AreRoots (all_rows c.args.old) (option_copied c.args.scope.user)
-    c.args.scope.direction c.args.scope.dollar) (sym c.deref.ensures.value)
-    c.in_ok-old_roots.ensures) in
-    let b = subst (λ m. AreRoots (all_rows c.args.new) m c.args.scope.direction c.args.scope.dollar
-    news) c.requires.scope
-    (subst (AreRoots (all_rows c.args.new) (option_copied c.args.scope.user)
-    c.args.scope.direction c.args.scope.dollar) (sym c.deref-2.ensures.value)
-    c.in_ok-new_roots.ensures) in
-    let like = other_nothing (all_rows c.args.old) (all_rows c.args.new) olds news first
-    c.args.scope.direction c.args.scope.dollar c.of-start.result c.args.named.now a b
-    c.of-start.ensures c.requires.named c.requires.user user unlisted in
+    let walk : IsWalk (all_rows c.args.old) (all_rows c.args.new) olds news (Some first)
+    c.args.scope.direction c.args.scope.dollar c.of-start.result = record {
+      old_roots = subst
+          (λ m. AreRoots (all_rows c.args.old) m c.args.scope.direction c.args.scope.dollar olds)
+          c.requires.scope
+          (subst (AreRoots (all_rows c.args.old) (option_copied c.args.scope.user)
+          c.args.scope.direction c.args.scope.dollar) (sym c.deref.ensures.value)
+          c.in_ok-old_roots.ensures);
+      new_roots = subst
+          (λ m. AreRoots (all_rows c.args.new) m c.args.scope.direction c.args.scope.dollar news)
+          c.requires.scope
+          (subst (AreRoots (all_rows c.args.new) (option_copied c.args.scope.user)
+          c.args.scope.direction c.args.scope.dollar) (sym c.deref-2.ensures.value)
+          c.in_ok-new_roots.ensures);
+      start_is = c.of-start.ensures;
+    } in
     nothing_gained_by (all_rows c.args.old) (all_rows c.args.new) olds news (Some first) (Some user)
-    c.args.scope.direction c.args.scope.dollar c.of-start.result a b like.0 like.1
-    c.of-start.ensures
+    c.args.scope.direction c.args.scope.dollar c.of-start.result
+    (other_walk (all_rows c.args.old) (all_rows c.args.new) olds news first c.args.scope.direction
+    c.args.scope.dollar c.of-start.result c.args.named.now walk c.requires.named c.requires.user
+    user unlisted)
     (λ t. c.in_ok-others.ensures.none (sym c.deref-3.ensures.value
     ∙ shown_none other_shown other_told c.in_ok-witnesses.witnesses.items
     c.deref-3.result.now c.in_ok-witnesses.ensures e) user t unlisted)
@@ -61,19 +66,24 @@ returns-clause-unlisted c =
     let olds = c.deref.result.now in
     let news = c.deref-2.result.now in
     let first = c.args.fresh.user.now in
-    let a = subst (λ m. AreRoots (all_rows c.args.old) m c.args.scope.direction c.args.scope.dollar
-    olds) c.requires.scope
-    (subst (AreRoots (all_rows c.args.old) (option_copied c.args.scope.user)
-    c.args.scope.direction c.args.scope.dollar) (sym c.deref.ensures.value)
-    c.in_ok-old_roots.ensures) in
-    let b = subst (λ m. AreRoots (all_rows c.args.new) m c.args.scope.direction c.args.scope.dollar
-    news) c.requires.scope
-    (subst (AreRoots (all_rows c.args.new) (option_copied c.args.scope.user)
-    c.args.scope.direction c.args.scope.dollar) (sym c.deref-2.ensures.value)
-    c.in_ok-new_roots.ensures) in
+    let walk : IsWalk (all_rows c.args.old) (all_rows c.args.new) olds news (Some first)
+    c.args.scope.direction c.args.scope.dollar c.of-start.result = record {
+      old_roots = subst
+          (λ m. AreRoots (all_rows c.args.old) m c.args.scope.direction c.args.scope.dollar olds)
+          c.requires.scope
+          (subst (AreRoots (all_rows c.args.old) (option_copied c.args.scope.user)
+          c.args.scope.direction c.args.scope.dollar) (sym c.deref.ensures.value)
+          c.in_ok-old_roots.ensures);
+      new_roots = subst
+          (λ m. AreRoots (all_rows c.args.new) m c.args.scope.direction c.args.scope.dollar news)
+          c.requires.scope
+          (subst (AreRoots (all_rows c.args.new) (option_copied c.args.scope.user)
+          c.args.scope.direction c.args.scope.dollar) (sym c.deref-2.ensures.value)
+          c.in_ok-new_roots.ensures);
+      start_is = c.of-start.ensures;
+    } in
     all_unlisted (all_rows c.args.old) (all_rows c.args.new) olds news first c.args.scope.direction
-    c.args.scope.dollar c.of-start.result c.args.named.now a b c.of-start.ensures
-    c.requires.named c.requires.user
+    c.args.scope.dollar c.of-start.result c.args.named.now walk c.requires.named c.requires.user
     c.in_ok-witnesses.witnesses.items c.deref-3.result.now c.in_ok-witnesses.ensures
     (All-same (IsOtherGain c.of-start.result olds news c.args.named.now) c.deref-3.result.now
     c.in_ok-others.others.items c.deref-3.ensures.value c.in_ok-others.ensures.each)
@@ -83,19 +93,24 @@ returns-clause-each c =
     let olds = c.deref.result.now in
     let news = c.deref-2.result.now in
     let first = c.args.fresh.user.now in
-    let a = subst (λ m. AreRoots (all_rows c.args.old) m c.args.scope.direction c.args.scope.dollar
-    olds) c.requires.scope
-    (subst (AreRoots (all_rows c.args.old) (option_copied c.args.scope.user)
-    c.args.scope.direction c.args.scope.dollar) (sym c.deref.ensures.value)
-    c.in_ok-old_roots.ensures) in
-    let b = subst (λ m. AreRoots (all_rows c.args.new) m c.args.scope.direction c.args.scope.dollar
-    news) c.requires.scope
-    (subst (AreRoots (all_rows c.args.new) (option_copied c.args.scope.user)
-    c.args.scope.direction c.args.scope.dollar) (sym c.deref-2.ensures.value)
-    c.in_ok-new_roots.ensures) in
+    let walk : IsWalk (all_rows c.args.old) (all_rows c.args.new) olds news (Some first)
+    c.args.scope.direction c.args.scope.dollar c.of-start.result = record {
+      old_roots = subst
+          (λ m. AreRoots (all_rows c.args.old) m c.args.scope.direction c.args.scope.dollar olds)
+          c.requires.scope
+          (subst (AreRoots (all_rows c.args.old) (option_copied c.args.scope.user)
+          c.args.scope.direction c.args.scope.dollar) (sym c.deref.ensures.value)
+          c.in_ok-old_roots.ensures);
+      new_roots = subst
+          (λ m. AreRoots (all_rows c.args.new) m c.args.scope.direction c.args.scope.dollar news)
+          c.requires.scope
+          (subst (AreRoots (all_rows c.args.new) (option_copied c.args.scope.user)
+          c.args.scope.direction c.args.scope.dollar) (sym c.deref-2.ensures.value)
+          c.in_ok-new_roots.ensures);
+      start_is = c.of-start.ensures;
+    } in
     all_gained (all_rows c.args.old) (all_rows c.args.new) olds news first c.args.scope.direction
-    c.args.scope.dollar c.of-start.result c.args.named.now a b c.of-start.ensures
-    c.requires.named c.requires.user
+    c.args.scope.dollar c.of-start.result c.args.named.now walk c.requires.named c.requires.user
     c.in_ok-witnesses.witnesses.items c.deref-3.result.now c.in_ok-witnesses.ensures
     (All-same (IsOtherGain c.of-start.result olds news c.args.named.now) c.deref-3.result.now
     c.in_ok-others.others.items c.deref-3.ensures.value c.in_ok-others.ensures.each)

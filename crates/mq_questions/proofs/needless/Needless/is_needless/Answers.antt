@@ -1,4 +1,5 @@
-use Rattle.std.proofs.Common.{◌≡◌, ℕ, Bool, true, false, not, refl, List, Option, subst}
+use Rattle.std.proofs.Common.{◌≡◌, ℕ, List, Option, subst}
+use Rattle.std.proofs.lemmas.Bool.{not-true, not-false}
 use Rattle.mq_acl.specs.Views.{row_view, row_views}
 use Rattle.mq_questions.specs.Differ.{AllowSame, Differ, without}
 use Rattle.mq_questions.specs.Fresh.{is_literal}
@@ -43,14 +44,6 @@ owner_differs-requires-clause-other c =
     (row_views c.in-Some.back.now) c.args.index at (is_literal c.fresh-fresh.result)
     (c.self.invariant.old_fits c.fresh-fresh.result c.fresh-fresh.ensures)
 
-false_is : (b : Bool) → not b ≡ true → b ≡ false
-false_is true e = absurd (let k : false ≡ true = e in cc)
-false_is false e = refl
-
-true_is : (b : Bool) → not b ≡ false → b ≡ true
-true_is true e = refl
-true_is false e = absurd (let k : true ≡ false = e in cc)
-
 pub returns-clause-needless : goal.returns-clause-needless
 returns-clause-needless c = λ e.
     let rows = c.self.inside.rows.now in
@@ -61,7 +54,7 @@ returns-clause-needless c = λ e.
     subst (λ r. (user : Option (List ℕ)) → AllowSame r (without c.args.index r) user) is
     (same_without (row_views rows) (row_views c.split_at.result.0.now) (row_view c.in-Some.row.now)
     (row_views c.in-Some.back.now) c.args.index at
-    (c.in_ok-differ.ensures.same (false_is c.in_ok-differ.differ e)))
+    (c.in_ok-differ.ensures.same (not-true c.in_ok-differ.differ e)))
 
 pub returns-clause-needed : goal.returns-clause-needed
 returns-clause-needed c = λ e.
@@ -73,4 +66,4 @@ returns-clause-needed c = λ e.
     subst (λ r. Differ r (without c.args.index r)) is
     (differ_without (row_views rows) (row_views c.split_at.result.0.now)
     (row_view c.in-Some.row.now) (row_views c.in-Some.back.now) c.args.index at
-    (c.in_ok-differ.ensures.differ (true_is c.in_ok-differ.differ e)))
+    (c.in_ok-differ.ensures.differ (not-false c.in_ok-differ.differ e)))

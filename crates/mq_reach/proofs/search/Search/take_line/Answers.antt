@@ -7,8 +7,8 @@ use Rattle.mq_reach.proofs.search.Search.take_line.Goals as goal
 pub returns-clause-searched : goal.returns-clause-searched
 returns-clause-searched c = λ before is.
     IsSearched-push c.args.list.now before c.args.line.now c.args.self.now
-    c.read.new.self _ c.in_ok-kind.kind is
-    c.in_ok-kind.ensures.ok refl refl c.with_line-self.ensures
+    c.read.new.self _ c.in_ok-kind.kind is c.in_ok-kind.ensures.ok
+    (record { clients = refl; vain = refl; counts = c.with_line-self.ensures })
 
 pub returns-in_err-kind-clause-err : goal.returns-in_err-kind-clause-err
 returns-in_err-kind-clause-err c = λ before is.

@@ -1,5 +1,6 @@
 use Rattle.std.proofs.Common.{◌≤◌, not, sym, subst, arith}
 use Rattle.mq_world.specs.World.{Advance}
+use Rattle.mq_world.specs.Clock.{last_moment}
 use Rattle.mq_router.specs.StandsFor.{State, Refuses}
 use Rattle.mq_router.specs.router.Effects.{Does, world_of}
 use Rattle.mq_retained.specs.Stored.{AreNear}
@@ -7,7 +8,8 @@ use Rattle.mq_sessions.specs.Near.{AllReached}
 use Rattle.mq_world.specs.Sessions.{has_ended}
 use Rattle.mq_world.specs.Views.{reply_of}
 use Rattle.mq_router.specs.router.Views.{state_of}
-use Rattle.mq_router.proofs.RouterLemmas.{advance-refused, advance-does}
+use Rattle.mq_subscriptions.proofs.InTurn.{same-is}
+use Rattle.mq_router.proofs.RouterLemmas.{advance-refused, advance-accepted, advance-does}
 use Rattle.mq_retained.proofs.NearLemmas.{near-later}
 use Rattle.mq_sessions.proofs.ReachedLemmas.{reached-later}
 use Rattle.mq_world.specs.declared.refusal.Refusal.TheVariants.{ClockTooFar}
@@ -49,7 +51,17 @@ returns-clause-applied c =
     subst (λ (v : State). Does v (Advance c.args.seconds) (reply_of c.with_reason.result) new)
     c.self.view_is
     (advance-does s c.args.seconds c.in-Some.clock.moment c.end_sessions.new.sessions subs kept _
-    c.in-Some.clock.within c.in-Some.ensures.some
-    c.end_sessions.ensures.sessions c.end_sessions.ensures.rows
-    c.end_sessions.ensures.keys
-    c.advance.ensures.rest c.advance.ensures.filed c.with_reason.ensures)
+    (record {
+      accepted = advance-accepted s c.args.seconds
+          (subst (λ n. n ≤ last_moment) c.in-Some.ensures.some c.in-Some.clock.within);
+      reply_is = c.with_reason.ensures;
+    }) (record {
+      reached = c.in-Some.ensures.some;
+      sessions_are = c.end_sessions.ensures.sessions;
+    }) (record {
+      same = same-is _ _ c.end_sessions.ensures.rows;
+      keys = c.end_sessions.ensures.keys;
+    }) (record {
+      same = c.advance.ensures.rest;
+      filed = λ keys pairs. c.advance.ensures.filed;
+    }))

@@ -1,7 +1,7 @@
 use Rattle.std.proofs.Common.{◌≡◌, ◌∙◌, sym, ap, subst, map, string_bytes, false}
 use Rattle.std.specs.Option.{option_map, option_copied}
 use Rattle.mq_world.specs.Lists.{with_row}
-use Rattle.mq_world.specs.World.{Connect, Reply, session_cmp}
+use Rattle.mq_world.specs.World.{Connect, session_cmp}
 use Rattle.mq_world.specs.Sessions.{new_session, resumes}
 use Rattle.mq_sessions.specs.Near.{AllReached}
 use Rattle.mq_world.specs.Views.{copy_of, reply_of}
@@ -9,7 +9,9 @@ use Rattle.mq_router.specs.router.Views.{state_of}
 use Rattle.mq_router.specs.StandsFor.{State}
 use Rattle.mq_router.specs.router.Effects.{Does}
 use Rattle.mq_world.specs.declared.answer.Outcome.TheVariants.{Reason}
-use Rattle.mq_router.proofs.RouterLemmas.{connect-client, connect-user, connect-does, connect_rows}
+use Rattle.mq_subscriptions.proofs.InTurn.{same-is}
+use Rattle.mq_router.proofs.RouterLemmas.{connect-client, connect-user, connect-accepted}
+use Rattle.mq_router.proofs.RouterLemmas.{connect-does, connect_rows}
 use Rattle.mq_sessions.proofs.ReachedLemmas.{reached-with_row}
 use Rattle.mq_sessions.proofs.ResumeLemmas.{resumes-none, resumes-some, resumed-empty}
 use Rattle.mq_router.proofs.router.Router.connect.Goals as goal
@@ -64,14 +66,16 @@ returns-in_default-clause-applied c =
     ∙ ap (λ u. with_row session_cmp (new_session id u interval) s.sessions) c.in_ok-user.ensures in
     subst (λ (v : State). Does v (Connect id user c.args.clean interval)
     (reply_of c.with_reason.result) new) c.self.view_is
-    (subst (λ (r : Reply). Does s (Connect id user c.args.clean interval) r new)
-    (sym c.with_reason.ensures)
-    (connect-does s id user c.args.clean interval c.put.new.self subs _
-    (sym c.is_client_id.ensures ∙ c.if-not-is_client_id.false)
-    (sym c.is_user_name.ensures ∙ c.if-not-is_user_name.false)
-    (resumed-empty s.moment s.sessions id c.args.clean ends) sessions
-    (c.remove_client.ensures.rows ∙ ap (connect_rows s id) (sym ends))
-    (λ old. c.remove_client.ensures.keys)))
+    (connect-does s id user c.args.clean interval c.put.new.self subs _ (record {
+      accepted = connect-accepted s id user c.args.clean interval
+          (sym c.is_client_id.ensures ∙ c.if-not-is_client_id.false)
+          (sym c.is_user_name.ensures ∙ c.if-not-is_user_name.false);
+      reply_is = c.with_reason.ensures ∙ ap (λ l. record { copies = l; outcome = Reason 0 })
+          (resumed-empty s.moment s.sessions id c.args.clean ends);
+    }) sessions (record {
+      same = same-is _ _ (c.remove_client.ensures.rows ∙ ap (connect_rows s id) (sym ends));
+      keys = λ old. c.remove_client.ensures.keys;
+    }))
 
 pub returns-clause-applied : goal.returns-clause-applied
 returns-clause-applied c =
@@ -94,6 +98,12 @@ returns-clause-applied c =
     (record { copies = map copy_of c.in-Some.copies.items; outcome = Reason 0 }) new)
     c.self.view_is
     (connect-does s id user c.args.clean interval c.put.new.self c.self.inside.subscriptions _
-    (sym c.is_client_id.ensures ∙ c.if-not-is_client_id.false)
-    (sym c.is_user_name.ensures ∙ c.if-not-is_user_name.false)
-    stays.1 sessions (ap (connect_rows s id) (sym stays.0)) (λ keys. keys))
+    (record {
+      accepted = connect-accepted s id user c.args.clean interval
+          (sym c.is_client_id.ensures ∙ c.if-not-is_client_id.false)
+          (sym c.is_user_name.ensures ∙ c.if-not-is_user_name.false);
+      reply_is = ap (λ l. record { copies = l; outcome = Reason 0 }) stays.1;
+    }) sessions (record {
+      same = same-is _ _ (ap (connect_rows s id) (sym stays.0));
+      keys = λ keys. keys;
+    }))

@@ -83,16 +83,19 @@ returns-clause-done c = λ accepted.
     c.join_all.ensures.new ∙ ap (λ bs. queue_all limit bs s.sessions) queued
     ∙ queued-is limit s.access s.subscriptions s.moment m s.sessions c.join_all.ensures.ordered in
     subst (λ (v : State). Does v (Publish m) (reply_of c.published.result) new) c.self.view_is
-    (publish-does s m c.join_all.new.self subs kept _
-    (ap (λ (v : State). refusal (world_of v) (Publish m)) c.self.view_is ∙ accepted)
-    (c.published.ensures ∙ ap (λ l. publish_reply l (not c.is_empty-waits.result))
-    (c.in_ok-made.ensures.copies ∙ ap (λ (v : State). copies_now v m) (sym c.self.view_is))
-    ∙ ap (publish_reply (copies_now s m)) waits)
-    waiting
-    (same-then _ _ _ c.serve_all.ensures.rows
-    (same-is _ _ (ap (λ l. turned (map turn_of l)) c.as_slice.ensures.value
-    ∙ ap turned (c.in_ok-made.ensures.served
-    ∙ ap (λ (v : State). members_now v m) (sym c.self.view_is)))))
-    c.serve_all.ensures.keys
-    (c.in_ok-publish.ensures.ok s.moment value)
-    (λ keys pairs. c.in_ok-publish.ensures.filed (record { keys = keys; pairs = pairs })))
+    (publish-does s m c.join_all.new.self subs kept _ (record {
+      accepted = ap (λ (v : State). refusal (world_of v) (Publish m)) c.self.view_is ∙ accepted;
+      reply_is = c.published.ensures ∙ ap (λ l. publish_reply l (not c.is_empty-waits.result))
+          (c.in_ok-made.ensures.copies ∙ ap (λ (v : State). copies_now v m) (sym c.self.view_is))
+          ∙ ap (publish_reply (copies_now s m)) waits;
+    }) waiting (record {
+      same = same-then _ _ _ c.serve_all.ensures.rows
+          (same-is _ _ (ap (λ l. turned (map turn_of l)) c.as_slice.ensures.value
+          ∙ ap turned (c.in_ok-made.ensures.served
+          ∙ ap (λ (v : State). members_now v m) (sym c.self.view_is))));
+      keys = c.serve_all.ensures.keys;
+    }) (record {
+      same = c.in_ok-publish.ensures.ok s.moment value;
+      filed = λ keys pairs.
+          c.in_ok-publish.ensures.filed (record { keys = keys; pairs = pairs });
+    }))

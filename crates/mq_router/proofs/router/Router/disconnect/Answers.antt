@@ -8,8 +8,9 @@ use Rattle.mq_router.specs.router.Views.{state_of}
 use Rattle.mq_router.specs.StandsFor.{State}
 use Rattle.mq_router.specs.router.Effects.{Does}
 use Rattle.mq_world.specs.Views.{reply_of}
+use Rattle.mq_subscriptions.proofs.InTurn.{same-is}
 use Rattle.mq_router.proofs.RouterLemmas.{refused-applied, disconnect-client, disconnect-leaves}
-use Rattle.mq_router.proofs.RouterLemmas.{disconnect-does}
+use Rattle.mq_router.proofs.RouterLemmas.{disconnect-accepted, disconnect-does}
 use Rattle.mq_router.proofs.EndedLemmas.{connected-tested}
 use Rattle.mq_sessions.proofs.ReachedLemmas.{reached-left, reached-filter}
 use Rattle.mq_router.proofs.router.Router.disconnect.Goals as goal
@@ -72,6 +73,10 @@ returns-clause-applied c =
     in
     subst (λ (v : State). Does v (Disconnect id) (reply_of c.with_reason-2.result) new)
     c.self.view_is
-    (disconnect-does s id c.remove.new.self subs _ tested
-    (sym c.outlives.ensures ∙ c.if-outlives.false) c.with_reason-2.ensures c.remove.ensures
-    c.remove_client.ensures.rows c.remove_client.ensures.keys)
+    (disconnect-does s id c.remove.new.self subs _ (record {
+      accepted = disconnect-accepted s id tested;
+      reply_is = c.with_reason-2.ensures;
+    }) (sym c.outlives.ensures ∙ c.if-outlives.false) c.remove.ensures (record {
+      same = same-is _ _ c.remove_client.ensures.rows;
+      keys = λ old. c.remove_client.ensures.keys;
+    }))

@@ -12,7 +12,7 @@ use Rattle.mq_world.specs.Views.{options_of}
 use Rattle.mq_router.specs.router.Views.{state_of}
 use Rattle.mq_subscriptions.proofs.InTurn.{same-is, same-then}
 use Rattle.mq_router.proofs.RouterLemmas.{refused-applied, subscribe-client, subscribe-filter}
-use Rattle.mq_router.proofs.RouterLemmas.{subscribe-shared, subscribe-does}
+use Rattle.mq_router.proofs.RouterLemmas.{subscribe-shared, subscribe-accepted, subscribe-does}
 use Rattle.std.proofs.Common.{map, Option, Some, String, Global, is_some, ◌&&◌, refl, string_bytes}
 use Rattle.std.specs.Option.{option_map}
 use Rattle.mq_topic.specs.Texts.{share_of}
@@ -83,11 +83,15 @@ returns-clause-applied c =
       outcome =
           Reason c.args.options.qos;
     }) new) c.self.view_is
-    (subscribe-does s id text options subs _ tested ok.2
-    (ap (λ o. is_some o && c.args.options.no_local) (sym ok.0)
-    ∙ ap (λ b. b && c.args.options.no_local) (sym (some_told c.in_ok-wanted.wanted.share))
-    ∙ sym c.is_shared_no_local.ensures ∙ c.if-is_shared_no_local.false)
-    (ap (λ l. record { copies = l; outcome = Reason c.args.options.qos }) copies)
-    (same-then _ _ _ c.in_ok-put.ensures.ok
-    (same-is _ _ (ap (λ k. upsert (by k) s.subscriptions) kept
-    ∙ ap (λ (x : Subscription). upsert x s.subscriptions) is))) c.in_ok-put.ensures.keys)
+    (subscribe-does s id text options subs _ (record {
+      accepted = subscribe-accepted s id text options tested ok.2
+          (ap (λ o. is_some o && c.args.options.no_local) (sym ok.0)
+          ∙ ap (λ b. b && c.args.options.no_local) (sym (some_told c.in_ok-wanted.wanted.share))
+          ∙ sym c.is_shared_no_local.ensures ∙ c.if-is_shared_no_local.false);
+      reply_is = ap (λ l. record { copies = l; outcome = Reason c.args.options.qos }) copies;
+    }) (record {
+      same = same-then _ _ _ c.in_ok-put.ensures.ok
+          (same-is _ _ (ap (λ k. upsert (by k) s.subscriptions) kept
+          ∙ ap (λ (x : Subscription). upsert x s.subscriptions) is));
+      keys = λ old. c.in_ok-put.ensures.keys;
+    }))

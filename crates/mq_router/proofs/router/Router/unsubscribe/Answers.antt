@@ -8,8 +8,9 @@ use Rattle.mq_world.specs.declared.refusal.Refusal.TheVariants.{TopicFilter}
 use Rattle.mq_router.specs.router.Effects.{Does}
 use Rattle.mq_router.specs.router.Views.{state_of}
 use Rattle.mq_router.specs.StandsFor.{State}
+use Rattle.mq_subscriptions.proofs.InTurn.{same-is}
 use Rattle.mq_router.proofs.RouterLemmas.{refused-applied, unsubscribe-client, unsubscribe-filter}
-use Rattle.mq_router.proofs.RouterLemmas.{unsubscribe-does}
+use Rattle.mq_router.proofs.RouterLemmas.{unsubscribe-accepted, unsubscribe-does}
 use Rattle.mq_router.proofs.router.Router.unsubscribe.Goals as goal
 
 pub returns-in_err-check_client-clause-applied : goal.returns-in_err-check_client-clause-applied
@@ -40,7 +41,12 @@ returns-clause-applied c =
     in
     subst (λ (v : State). Does v (Unsubscribe id text) (reply_of c.with_reason.result) new)
     c.self.view_is
-    (unsubscribe-does s id text subs _ tested (sym c.is_valid.ensures ∙ c.if-not-is_valid.false)
-    (c.with_reason.ensures ∙ ap reason (c.reason_to_leave.ensures
-    ∙ ap (λ b. if b then 0 else 17) c.remove-existed.ensures.existed))
-    c.remove-existed.ensures.rows c.remove-existed.ensures.keys)
+    (unsubscribe-does s id text subs _ (record {
+      accepted = unsubscribe-accepted s id text tested
+          (sym c.is_valid.ensures ∙ c.if-not-is_valid.false);
+      reply_is = c.with_reason.ensures ∙ ap reason (c.reason_to_leave.ensures
+          ∙ ap (λ b. if b then 0 else 17) c.remove-existed.ensures.existed);
+    }) (record {
+      same = same-is _ _ c.remove-existed.ensures.rows;
+      keys = λ old. c.remove-existed.ensures.keys;
+    }))

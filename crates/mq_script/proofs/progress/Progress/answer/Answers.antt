@@ -8,5 +8,8 @@ returns-clause-answers g c =
     c.as_slice-2.result.now _ _
     (λ w stands. rw (c.clear.ensures.items, c.as_slice.ensures.value, ← c.as_slice-2.ensures.value)
     at (c.in_ok-is_refused.ensures.ok w stands))
-    (ap (λ s. s.refused) c.with_line-self.ensures) c.write_all.ensures.ok c.write_all.ensures.err
-    c.write_all.ensures.kind
+    (ap (λ s. s.refused) c.with_line-self.ensures) (record {
+      all = c.write_all.ensures.ok;
+      some = c.write_all.ensures.err;
+      kind = c.write_all.ensures.kind;
+    })

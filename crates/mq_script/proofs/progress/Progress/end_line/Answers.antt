@@ -7,8 +7,13 @@ use Rattle.mq_script.proofs.progress.Progress.end_line.Goals as goal
 pub returns-clause-takes : goal.returns-clause-takes
 returns-clause-takes g c =
     Takes-then c.answer.result c.args.self.now _ c.answer.new.self c.args.rest.now (10 ∷ []) _ _ _
-    (TakesBytes-text c.args.self.now _ c.args.rest.now _ _ kept_number c.requires.rest refl refl
-    c.in_ok-keep_front.ensures)
+    (TakesBytes-text c.args.self.now _ c.args.rest.now _ _ (record {
+      room = kept_number;
+      one = c.requires.rest;
+      router = refl;
+      summary = refl;
+      line = c.in_ok-keep_front.ensures;
+    }))
     (Takes-feed c.answer.result _ c.answer.new.self _ _ c.answer.ensures.answers
     c.answer.ensures.lines c.answer.ensures.line)
 

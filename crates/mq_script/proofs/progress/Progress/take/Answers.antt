@@ -55,8 +55,13 @@ pub returns-clause-takes : goal.returns-clause-takes
 returns-clause-takes g c =
     let at = c.lines.invariant.takes in
     rw at.1 (TakesBytes-then c.args.self.now c.lines.self _ at.0 c.lines.rest.now _ _ _ at.2
-    (TakesBytes-text c.lines.self _ c.lines.rest.now _ _ kept_number c.in_default.ensures refl refl
-    c.in_ok-keep_front.ensures))
+    (TakesBytes-text c.lines.self _ c.lines.rest.now _ _ (record {
+      room = kept_number;
+      one = c.in_default.ensures;
+      router = refl;
+      summary = refl;
+      line = c.in_ok-keep_front.ensures;
+    })))
 
 pub returns-in_err-keep_front-clause-takes : goal.returns-in_err-keep_front-clause-takes
 returns-in_err-keep_front-clause-takes g c =

@@ -22,10 +22,12 @@ invariant_of-self-then-contains c =
     k.rows) (sym c.self.view_is)
     ∙ ap (λ id. list_any (has_wanted id c.args.wanted.now) rows)
     c.as_str-id.ensures.value in
-    listed-joined x c.self.inside.tree c.join_in.new.tree lists lists c.self.invariant
-    c.join_in.ensures.kept c.in_ok-join_in.ensures.ok
+    listed-joined x c.self.inside.tree c.join_in.new.tree lists lists (record {
+      agreed = c.self.invariant;
+      kept = c.join_in.ensures.kept;
+      live = c.self.invariant.live;
+    }) c.in_ok-join_in.ensures.ok
     (listed-again x c.self.inside.tree lists c.self.invariant (sym has ∙ c.if-contains.true))
-    c.self.invariant.live
 
 pub invariant_of-self-in-Ok : goal.invariant_of-self-in-Ok
 invariant_of-self-in-Ok c =
@@ -36,11 +38,14 @@ invariant_of-self-in-Ok c =
     let has : Option Text → Text → Subscription → Bool =
     λ share filter s. has_key client share filter s || is_listed before s in
     listed-joined x c.self.inside.tree c.join_in-2.new.tree before
-    (texts c.list_add.new.lists.entries)
-    c.self.invariant c.join_in-2.ensures.kept c.in-Ok.ensures.ok
+    (texts c.list_add.new.lists.entries) (record {
+      agreed = c.self.invariant;
+      kept = c.join_in-2.ensures.kept;
+      live = c.list_add.ensures.live;
+    }) c.in-Ok.ensures.ok
     (λ s. c.in_ok-list_add.ensures.ok s
     ∙ ap (λ share. has share (text_key c.args.text.now).1 s) (sym asked.0)
-    ∙ ap (λ filter. has x.share filter s) (sym asked.1)) c.list_add.ensures.live
+    ∙ ap (λ filter. has x.share filter s) (sym asked.1))
 
 pub invariant_of-self-in-Err : goal.invariant_of-self-in-Err
 invariant_of-self-in-Err c =
@@ -61,11 +66,14 @@ invariant_of-self-in-Err c =
     listed-undone client key c.self.inside.tree c.join_in-2.new.tree
     (texts c.self.inside.lists.entries)
     added (texts c.list_remove.new.lists.entries)
-    c.self.invariant c.in-Err.ensures.err (sym named ∙ c.if-contains.false)
-    c.in_ok-list_add.ensures.ok
-    (λ s. c.list_remove.ensures.rest s
-    ∙ ap (λ id. not (has_key id key.0 key.1 s) && is_listed added s)
-    c.as_str-id.ensures.value) c.list_remove.ensures.live
+    c.self.invariant c.in-Err.ensures.err (record {
+      absent = sym named ∙ c.if-contains.false;
+      adds = c.in_ok-list_add.ensures.ok;
+      drops = λ s. c.list_remove.ensures.rest s
+          ∙ ap (λ id. not (has_key id key.0 key.1 s) && is_listed added s)
+          c.as_str-id.ensures.value;
+      live = c.list_remove.ensures.live;
+    })
 
 pub returns-then-contains-clause-keys : goal.returns-then-contains-clause-keys
 returns-then-contains-clause-keys c = kept-keys c.join_in.new.tree c.join_in.ensures.kept

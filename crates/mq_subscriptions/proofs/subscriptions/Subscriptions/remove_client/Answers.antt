@@ -9,9 +9,12 @@ use Rattle.mq_subscriptions.proofs.subscriptions.Subscriptions.remove_client.Goa
 pub invariant_of-self-2 : goal.invariant_of-self-2
 invariant_of-self-2 c =
     let found = sym c.remove.ensures.value ∙ c.in-Some.is in
-    listed-gone c.args.client.now c.self.inside.lists.entries c.len-count.ensures.ordered
-    c.in-Some.own c.remove.new.self.entries found c.remove.ensures.entries
-    c.self.inside.tree c.leave_all.new.tree c.self.invariant c.leave_all.ensures.kept
+    listed-gone c.args.client.now c.self.inside.lists.entries c.in-Some.own
+    c.remove.new.self.entries c.self.inside.tree c.leave_all.new.tree (record {
+      sorted = c.len-count.ensures.ordered;
+      found = found;
+      gone = c.remove.ensures.entries;
+    }) c.self.invariant c.leave_all.ensures.kept
     (c.leave_all.ensures.rows
     ∙ all-leave c.args.client.now c.self.inside.lists.entries c.in-Some.own c.self.inside.tree found
     c.self.invariant)

@@ -6,12 +6,12 @@ use Rattle.mq_walk.proofs.branches.Branches.add.Goals as goal
 pub returns-in_ok-add_named-in-At-clause-branched :
     goal.returns-in_ok-add_named-in-At-clause-branched
 returns-in_ok-add_named-in-At-clause-branched c = λ rs h.
-    at_level (marks_view c.args.marks) rs c.args.remainder.now c.in-At.next c.in-At.level.now
-    c.args.self.now _
-    c.in-At.ensures.goes_on.0 c.in-At.ensures.goes_on.1 c.in_ok-add_named-in-At.ensures.at refl h
+    at_level (marks_view c.args.marks) rs c.args.remainder.now c.in-At.next c.in-At.level
+    c.args.self.now _ c.in-At.ensures.goes_on
+    (record { behind = c.in_ok-add_named-in-At.ensures.at; any = refl }) h
 
 pub returns-in_ok-add_named-in-At-clause-fit : goal.returns-in_ok-add_named-in-At-clause-fit
 returns-in_ok-add_named-in-At-clause-fit c = λ p m r h.
-    let next = c.in-At.ensures.fits p m r in
-    fit_level p c.in-At.next c.in-At.level.now c.args.self.now _ next.0 next.1
-    c.in_ok-add_named-in-At.ensures.at c.in_ok-add_named-in-At.ensures.has refl h
+    fit_level p c.in-At.next c.in-At.level c.args.self.now _ (c.in-At.ensures.fits p m r)
+    (record { behind = c.in_ok-add_named-in-At.ensures.at; any = refl })
+    c.in_ok-add_named-in-At.ensures.has h

@@ -54,7 +54,7 @@ invariant_of-self-then-is_bare g t c =
       is = c.self.view_is;
     } in
     let new = with_value c.in-Some-get_mut.child.now c.take-taken.new.self in
-    children_cut _ _ _ _ _ _ at new _ _ (c.get_mut.follows.holds new).0 c.cut.ensures.entries
+    children_cut _ _ _ _ _ _ at new _ (rw (c.get_mut.follows.holds new).0 at c.cut.ensures.entries)
     c.cut.ensures.ordered
 
 pub invariant_of-self-else-is_bare : goal.invariant_of-self-else-is_bare
@@ -96,10 +96,10 @@ returns-then-is_bare-clause-rest g t c =
     } in
     let child = c.in-Some-get_mut.child.now in
     let new = with_value child c.take-taken.new.self in
-    take_cut _ _ _ _ _ _ at child new _ _ (rw c.in-Some-get_mut.is at c.get_mut.ensures.value)
+    take_cut _ _ _ _ _ _ at child new _ (rw c.in-Some-get_mut.is at c.get_mut.ensures.value)
     (rw c.deref_mut.ensures.value at c.take-taken.ensures.rest)
     (nil_from_bare _ c.is_bare.result (rw c.deref.ensures at c.is_bare.ensures) c.if-is_bare.true)
-    (c.get_mut.follows.holds new).0 c.cut.ensures.entries
+    (rw (c.get_mut.follows.holds new).0 at c.cut.ensures.entries)
 
 pub returns-else-is_bare-clause-value : goal.returns-else-is_bare-clause-value
 returns-else-is_bare-clause-value g t c =
