@@ -307,10 +307,10 @@ others false b o e = ap (λ v. not v && o) e
 
 -- the list of a client went, of lists in order
 pub record IsListOut (c : Text) (ls : ClientLists) (v : List FilterKey) (out : ClientLists) : Type 0
-    where
-  pub sorted : IsStrictlySortedBy key_cmp (keys_of ls)
-  pub found : lookup (finds c) ls ≡ Some v
-  pub gone : out ≡ remove_entry (finds c) ls
+  where
+    pub sorted : IsStrictlySortedBy key_cmp (keys_of ls)
+    pub found : lookup (finds c) ls ≡ Some v
+    pub gone : out ≡ remove_entry (finds c) ls
 
 -- a client's list goes, and all its subscriptions leave the tree: the two agree again
 pub listed-gone : (c : Text) (ls : ClientLists) (v : List FilterKey) (out : ClientLists)

@@ -528,15 +528,15 @@ none-is f ((k, m ∷ ms) ∷ gs) live b h =
 none-is f ((k, []) ∷ gs) live b h = absurd (true≢false live.0)
 
 -- nothing is here where no client subscribes in its own name and no group has a member
-pub bare-is : (f : Text) (d : List (Key × held.SubscriptionOptions)) (gs : GroupList) (b : Bool)
+pub empty-is : (f : Text) (d : List (Key × held.SubscriptionOptions)) (gs : GroupList) (b : Bool)
     → b ≡ is_empty (group_rows f gs) → length d ≡ 0
     → b ≡ is_empty (direct_rows f (texts d) ++ group_rows f gs)
-bare-is f [] gs b h e = h
-bare-is f (m ∷ d) gs b h e = absurd (let no : suc (length d) ≡ 0 = e in cc)
+empty-is f [] gs b h e = h
+empty-is f (m ∷ d) gs b h e = absurd (let no : suc (length d) ≡ 0 = e in cc)
 
 -- where some client subscribes in its own name, the filter has a row
-pub not_bare : (f : Text) (d : List (Key × held.SubscriptionOptions))
+pub not_empty : (f : Text) (d : List (Key × held.SubscriptionOptions))
     (gs : List (Text × List Member)) → (length d ≡ 0 → ⊥)
     → false ≡ is_empty (direct_rows f (texts d) ++ group_rows f gs)
-not_bare f [] gs h = absurd (h refl)
-not_bare f (m ∷ d) gs h = refl
+not_empty f [] gs h = absurd (h refl)
+not_empty f (m ∷ d) gs h = refl

@@ -269,7 +269,7 @@ fn leave_in(tree: &mut LevelTree<FilterEntry>, client: &str, text: &str) -> bool
     };
     let existed = at.contains(share, client);
     at.leave(share, client);
-    if at.is_bare() {
+    if at.is_empty() {
         let _ = tree.take(&filter);
     }
     existed

@@ -76,17 +76,17 @@ some_inserted (x ∷ es) k v =
     [ Less ↦ λ e. absurd (cc) | Equal ↦ λ e. absurd (cc) | Greater ↦ λ e. absurd (cc) ]
 
 -- a list whose length tests as 0 is empty
-pub nil_from_bare : {A : Type 0} (es : List A) (b : Bool) → b ≡ eqb (length es) 0 → b ≡ true
+pub nil_from_empty : {A : Type 0} (es : List A) (b : Bool) → b ≡ eqb (length es) 0 → b ≡ true
     → es ≡ []
-nil_from_bare [] b e t = refl
-nil_from_bare (x ∷ es) b e t =
+nil_from_empty [] b e t = refl
+nil_from_empty (x ∷ es) b e t =
     absurd (let z : length (x ∷ es) ≡ 0 = grind (arith, nat_tests) in omega arith)
 
 -- a list whose length does not test as 0 is not empty
-pub some_from_not_bare : {A : Type 0} (es : List A) (b : Bool) → b ≡ eqb (length es) 0 → b ≡ false
+pub some_from_not_empty : {A : Type 0} (es : List A) (b : Bool) → b ≡ eqb (length es) 0 → b ≡ false
     → es ≢ []
-some_from_not_bare [] b e t = λ _. absurd (cc)
-some_from_not_bare (x ∷ es) b e t = λ e. absurd (cc)
+some_from_not_empty [] b e t = λ _. absurd (cc)
+some_from_not_empty (x ∷ es) b e t = λ e. absurd (cc)
 
 -- ---- the same children
 set_same : {V : Type 0} (test : List ℕ → Bool) (children : Children V) (es : Entries V)
@@ -141,9 +141,9 @@ module _ {V : Type 0} (l : List ℕ) (rest : List (List ℕ)) (value : Option V)
       → fin ≡ remove_entry (is_level l) (set_value (is_level l) children new)
       → own value ++ below fin ≡ remove_entry (is_key (l ∷ rest)) (own value ++ below children)
   take_cut es new fin f n b e =
-      let bare = set_value (is_level l) children new in
-      let cut : below fin ≡ below bare = rw (e, b) (below_cut (is_level l) children) in
-      ap (λ xs. own value ++ xs) cut ∙ take_kept es new bare f n refl
+      let is_childless = set_value (is_level l) children new in
+      let cut : below fin ≡ below is_childless = rw (e, b) (below_cut (is_level l) children) in
+      ap (λ xs. own value ++ xs) cut ∙ take_kept es new is_childless f n refl
 
   pub take_none : lookup (is_level l) children ≡ None
       → own value ++ below children ≡ remove_entry (is_key (l ∷ rest)) (own value ++ below children)

@@ -44,10 +44,10 @@ some_below (child ∷ children) h p =
 nonzero : (n : ℕ) → 1 ≤ n → false ≡ eqb n 0
 nonzero n h = grind (arith, nat_tests)
 
-bare : {V : Type 0} (b : Bool) (children : Children V) → AreChildren children
+is_childless : {V : Type 0} (b : Bool) (children : Children V) → AreChildren children
     → ((b ≡ true) ↔ (length children ≡ 0)) → b ≡ eqb (length (below children)) 0
-bare b [] h f = f.1 refl
-bare b (child ∷ children) h f =
+is_childless b [] h f = f.1 refl
+is_childless b (child ∷ children) h f =
     elim b as (λ b. (b ≡ true → length (child ∷ children) ≡ 0)
     → b ≡ eqb (length (below (child ∷ children))) 0) [
       | true ↦ λ g. let e : length (child ∷ children) ≡ 0 = g refl in absurd (omega arith)
@@ -60,17 +60,17 @@ length-children (node ∷ nodes) = ap suc (length-children nodes)
 
 -- where a node has no value of its own, the test that its map is empty is the test that it has no
 -- entries: each child leads to one
-pub bare_from_none : {Y V : Type 0} (b : Bool) (value : Option V) (nodes : Branches Y V)
+pub empty_from_none : {Y V : Type 0} (b : Bool) (value : Option V) (nodes : Branches Y V)
     (now : NodeView V) → is_some value ≡ false → ◌≡◌ {A = NodeView V} (value, children_of nodes) now
     → AreChildren (children_of nodes) → ((b ≡ true) ↔ (length nodes ≡ 0))
     → b ≡ eqb (length (entries_of now)) 0
-bare_from_none b None nodes now e is h f =
-    rw (← is) (bare b (children_of nodes) h (
+empty_from_none b None nodes now e is h f =
+    rw (← is) (is_childless b (children_of nodes) h (
       λ t. length-children nodes
           ∙ f.0 t,
       λ n. f.1 (sym (length-children nodes) ∙ n),
     ))
-bare_from_none b (Some v) nodes now e is h f = absurd (true≢false e)
+empty_from_none b (Some v) nodes now e is h f = absurd (true≢false e)
 
 -- ---- keys
 pub length-own : {V : Type 0} (value : Option V) (children : Children V) (n : ℕ)

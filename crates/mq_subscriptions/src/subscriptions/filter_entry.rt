@@ -57,7 +57,7 @@ impl FilterEntry {
     }
 
     /// Whether no subscription is kept here.
-    pub fn is_bare(&self) -> bool
+    pub fn is_empty(&self) -> bool
         ensures { result ≡ is_empty self.now.rows }
     {
         self.direct.is_empty() && self.groups.is_empty()

@@ -54,7 +54,7 @@ impl<V> Node<V> {
     }
 
     /// No key leads here.
-    fn is_bare(&self) -> bool
+    fn is_empty(&self) -> bool
         ensures { result ≡ (length (entries_of self.now) == 0) }
     {
         self.value.is_none() && self.children.is_empty()

@@ -26,8 +26,8 @@ returns-in_default-clause-rows c =
     ∙ ap (λ g. filter (λ x. not (has_key c.args.client.now share g x)) (all_rows c.args.tree.now))
     c.split-filter.ensures.filter
 
-pub returns-then-is_bare-clause-rows : goal.returns-then-is_bare-clause-rows
-returns-then-is_bare-clause-rows c =
+pub returns-then-is_empty-clause-rows : goal.returns-then-is_empty-clause-rows
+returns-then-is_empty-clause-rows c =
     let f = c.split-filter.result.1 in
     let share = share_of c.args.text.now in
     let s : Subscription = record {
@@ -45,7 +45,7 @@ returns-then-is_bare-clause-rows c =
     tree-gone f c.args.tree.now c.requires.kept.each c.requires.kept.ordered v found w
     c.leave.ensures.filter c.leave.ensures.here (c.get_mut.follows.lender w) set s
     c.take.new.self refl c.take.ensures.rest
-    (sym c.is_bare.ensures ∙ c.if-is_bare.true)
+    (sym c.is_empty.ensures ∙ c.if-is_empty.true)
     (c.leave.ensures.rows
     ∙ ap (λ sh. filter (λ x. not (has_key c.args.client.now sh v.filter x)) v.rows)
     c.split-filter.ensures.share
@@ -53,8 +53,8 @@ returns-then-is_bare-clause-rows c =
     ∙ ap (λ g. filter (λ x. not (has_key c.args.client.now share g x)) (all_rows c.args.tree.now))
     c.split-filter.ensures.filter
 
-pub returns-then-is_bare-clause-kept : goal.returns-then-is_bare-clause-kept
-returns-then-is_bare-clause-kept c =
+pub returns-then-is_empty-clause-kept : goal.returns-then-is_empty-clause-kept
+returns-then-is_empty-clause-kept c =
     let f = c.split-filter.result.1 in
     let w = c.leave.new.self in
     let found = sym c.get_mut.ensures.value ∙ ap option_copied_mut c.in-Some.is in
@@ -63,8 +63,8 @@ returns-then-is_bare-clause-kept c =
     c.leave.ensures.filter c.leave.ensures.here (c.get_mut.follows.lender w) c.take.new.self set
     c.take.ensures.rest
 
-pub returns-else-is_bare-clause-rows : goal.returns-else-is_bare-clause-rows
-returns-else-is_bare-clause-rows c =
+pub returns-else-is_empty-clause-rows : goal.returns-else-is_empty-clause-rows
+returns-else-is_empty-clause-rows c =
     let f = c.split-filter.result.1 in
     let share = share_of c.args.text.now in
     let s : Subscription = record {
@@ -88,15 +88,15 @@ returns-else-is_bare-clause-rows c =
     ∙ ap (λ g. filter (λ x. not (has_key c.args.client.now share g x)) (all_rows c.args.tree.now))
     c.split-filter.ensures.filter
 
-pub returns-else-is_bare-clause-kept : goal.returns-else-is_bare-clause-kept
-returns-else-is_bare-clause-kept c =
+pub returns-else-is_empty-clause-kept : goal.returns-else-is_empty-clause-kept
+returns-else-is_empty-clause-kept c =
     let f = c.split-filter.result.1 in
     let w = c.leave.new.self in
     let found = sym c.get_mut.ensures.value ∙ ap option_copied_mut c.in-Some.is in
     let set = rw c.in-Some.is at (c.get_mut.follows.holds w) in
     set-kept f c.args.tree.now c.requires.kept.each c.requires.kept.ordered c.in-Some.at.now found w
     c.leave.ensures.filter c.leave.ensures.here (c.get_mut.follows.lender w) set
-    (sym c.is_bare.ensures ∙ c.if-is_bare.false)
+    (sym c.is_empty.ensures ∙ c.if-is_empty.false)
 
 pub returns-in_default-clause-existed : goal.returns-in_default-clause-existed
 returns-in_default-clause-existed c =
@@ -114,8 +114,8 @@ returns-in_default-clause-existed c =
     ∙ ap (λ g. list_any (has_key c.args.client.now share g) (all_rows c.args.tree.now))
     c.split-filter.ensures.filter
 
-pub returns-then-is_bare-clause-existed : goal.returns-then-is_bare-clause-existed
-returns-then-is_bare-clause-existed c =
+pub returns-then-is_empty-clause-existed : goal.returns-then-is_empty-clause-existed
+returns-then-is_empty-clause-existed c =
     let f = c.split-filter.result.1 in
     let share = share_of c.args.text.now in
     let s : Subscription = record {
@@ -135,8 +135,8 @@ returns-then-is_bare-clause-existed c =
     ∙ ap (λ g. list_any (has_key c.args.client.now share g) (all_rows c.args.tree.now))
     c.split-filter.ensures.filter
 
-pub returns-else-is_bare-clause-existed : goal.returns-else-is_bare-clause-existed
-returns-else-is_bare-clause-existed c =
+pub returns-else-is_empty-clause-existed : goal.returns-else-is_empty-clause-existed
+returns-else-is_empty-clause-existed c =
     let f = c.split-filter.result.1 in
     let share = share_of c.args.text.now in
     let s : Subscription = record {

@@ -83,7 +83,7 @@ impl<V> Node<V> {
             return None;
         };
         let taken = child.take(rest);
-        if child.is_bare() {
+        if child.is_empty() {
             cut(&mut self.children, level);
         }
         taken

@@ -4,7 +4,7 @@ use Rattle.mq_topic.specs.Levels.{levels_left}
 use Rattle.mq_tree.specs.Nodes.{own, below, children_of}
 use Rattle.mq_tree.proofs.Edits.{remove-here}
 use Rattle.mq_tree.proofs.Children.{lookup-here}
-use Rattle.mq_tree.proofs.Changes.{nil_from_bare, some_from_not_bare}
+use Rattle.mq_tree.proofs.Changes.{nil_from_empty, some_from_not_empty}
 use Rattle.mq_tree.proofs.Descents.{At, found_step, take_kept, take_cut, take_none, children_set}
 use Rattle.mq_tree.proofs.Descents.{children_cut}
 use Rattle.mq_tree.proofs.tree.node.Node.+take.Goals as goal
@@ -44,8 +44,8 @@ returns-in_default-get_mut-clause-rest g t c =
     (rw c.in_default-get_mut.is at c.get_mut.ensures.value)
     (ap (λ m. m.entries) c.get_mut.follows.holds-at-none)
 
-pub invariant_of-self-then-is_bare : goal.invariant_of-self-then-is_bare
-invariant_of-self-then-is_bare g t c =
+pub invariant_of-self-then-is_empty : goal.invariant_of-self-then-is_empty
+invariant_of-self-then-is_empty g t c =
     let at : At (levels_left c.args.key) c.split_first.result.0.now
     (levels_left c.split_first.result.1) c.self.inside.value c.self.inside.children.entries
     c.args.self.now = record {
@@ -57,8 +57,8 @@ invariant_of-self-then-is_bare g t c =
     children_cut _ _ _ _ _ _ at new _ (rw (c.get_mut.follows.holds new).0 at c.cut.ensures.entries)
     c.cut.ensures.ordered
 
-pub invariant_of-self-else-is_bare : goal.invariant_of-self-else-is_bare
-invariant_of-self-else-is_bare g t c =
+pub invariant_of-self-else-is_empty : goal.invariant_of-self-else-is_empty
+invariant_of-self-else-is_empty g t c =
     let at : At (levels_left c.args.key) c.split_first.result.0.now
     (levels_left c.split_first.result.1) c.self.inside.value c.self.inside.children.entries
     c.args.self.now = record {
@@ -69,11 +69,11 @@ invariant_of-self-else-is_bare g t c =
     let new = with_value c.in-Some-get_mut.child.now c.take-taken.new.self in
     let w = c.get_mut.follows.holds new in
     children_set _ _ _ _ _ _ at new _
-    (some_from_not_bare _ c.is_bare.result (rw c.deref.ensures at c.is_bare.ensures)
-    c.if-is_bare.false) w.0 w.4
+    (some_from_not_empty _ c.is_empty.result (rw c.deref.ensures at c.is_empty.ensures)
+    c.if-is_empty.false) w.0 w.4
 
-pub returns-then-is_bare-clause-value : goal.returns-then-is_bare-clause-value
-returns-then-is_bare-clause-value g t c =
+pub returns-then-is_empty-clause-value : goal.returns-then-is_empty-clause-value
+returns-then-is_empty-clause-value g t c =
     let at : At (levels_left c.args.key) c.split_first.result.0.now
     (levels_left c.split_first.result.1) c.self.inside.value c.self.inside.children.entries
     c.args.self.now = record {
@@ -85,8 +85,8 @@ returns-then-is_bare-clause-value g t c =
     ∙ sym (found_step _ _ _ _ _ _ at (Some c.in-Some-get_mut.child.now)
     (rw c.in-Some-get_mut.is at c.get_mut.ensures.value))
 
-pub returns-then-is_bare-clause-rest : goal.returns-then-is_bare-clause-rest
-returns-then-is_bare-clause-rest g t c =
+pub returns-then-is_empty-clause-rest : goal.returns-then-is_empty-clause-rest
+returns-then-is_empty-clause-rest g t c =
     let at : At (levels_left c.args.key) c.split_first.result.0.now
     (levels_left c.split_first.result.1) c.self.inside.value c.self.inside.children.entries
     c.args.self.now = record {
@@ -98,11 +98,12 @@ returns-then-is_bare-clause-rest g t c =
     let new = with_value child c.take-taken.new.self in
     take_cut _ _ _ _ _ _ at child new _ (rw c.in-Some-get_mut.is at c.get_mut.ensures.value)
     (rw c.deref_mut.ensures.value at c.take-taken.ensures.rest)
-    (nil_from_bare _ c.is_bare.result (rw c.deref.ensures at c.is_bare.ensures) c.if-is_bare.true)
+    (nil_from_empty _ c.is_empty.result (rw c.deref.ensures at c.is_empty.ensures)
+    c.if-is_empty.true)
     (rw (c.get_mut.follows.holds new).0 at c.cut.ensures.entries)
 
-pub returns-else-is_bare-clause-value : goal.returns-else-is_bare-clause-value
-returns-else-is_bare-clause-value g t c =
+pub returns-else-is_empty-clause-value : goal.returns-else-is_empty-clause-value
+returns-else-is_empty-clause-value g t c =
     let at : At (levels_left c.args.key) c.split_first.result.0.now
     (levels_left c.split_first.result.1) c.self.inside.value c.self.inside.children.entries
     c.args.self.now = record {
@@ -114,8 +115,8 @@ returns-else-is_bare-clause-value g t c =
     ∙ sym (found_step _ _ _ _ _ _ at (Some c.in-Some-get_mut.child.now)
     (rw c.in-Some-get_mut.is at c.get_mut.ensures.value))
 
-pub returns-else-is_bare-clause-rest : goal.returns-else-is_bare-clause-rest
-returns-else-is_bare-clause-rest g t c =
+pub returns-else-is_empty-clause-rest : goal.returns-else-is_empty-clause-rest
+returns-else-is_empty-clause-rest g t c =
     let at : At (levels_left c.args.key) c.split_first.result.0.now
     (levels_left c.split_first.result.1) c.self.inside.value c.self.inside.children.entries
     c.args.self.now = record {
