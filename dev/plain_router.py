@@ -390,19 +390,19 @@ class World:
         message = {"topic": topic, "payload": payload, "qos": qos, "retain": retain, "expiry": expiry}
         deadline = None if expiry is None else self.moment + expiry
         found = [it for it in self.subscriptions if matches(it.wanted, topic)]
-        direct = self.direct_copies(client, message, found)
+        unshared = self.unshared_copies(client, message, found)
         shared = self.group_copies(message, found)
         begins = False
-        for session, copy in direct:
+        for session, copy in unshared:
             if not session.is_connected and copy["qos"] > 0 and len(session.waiting) < self.max_queued:
                 session.waiting.append((copy, deadline))
                 begins = True
         if retain:
             self.retained = others + ([Message(topic, payload, qos, client, deadline)] if stores else [])
-        copies = [copy for session, copy in direct if session.is_connected] + shared
+        copies = [copy for session, copy in unshared if session.is_connected] + shared
         return copies, {"reason": 0 if copies or begins else 16}
 
-    def direct_copies(self, publisher, message, found):
+    def unshared_copies(self, publisher, message, found):
         """A pair of session and copy for each client that gets one, away or not."""
         pairs = []
         for session in sorted(self.sessions, key=lambda it: it.client.encode()):

@@ -37,7 +37,7 @@ use Rattle.mq_acl.specs.Access.{allowed}
 use Rattle.mq_world.specs.Lists.{Text, with_row}
 use Rattle.mq_world.specs.World.{World, Request, Connect, Disconnect, Subscribe, Unsubscribe, Publish, SetAcl, Advance, Stat, Group, Copy, Reply, fresh_world, empty_world, within}
 use Rattle.mq_world.specs.Refusals.{refusal}
-use Rattle.mq_world.specs.Copies.{direct_copies}
+use Rattle.mq_world.specs.Copies.{unshared_copies}
 use Rattle.mq_world.specs.Groups.{groups_of, served_rows}
 use Rattle.mq_world.specs.Retained.{retained_after, retained_copies}
 use Rattle.mq_world.specs.Waiting.{resumed_copies, begins_to_wait}
@@ -182,7 +182,7 @@ def row(path):
     name = path.stem.replace("-", "_")
     script = f"\nabbrev {name}-script : List Request\n{name}-script =\n    " + "\n    ∷ ".join(requests + ["[]"]) + "\n"
     equation = (f"\n{name} : answers {start_of(path)} {name}-script\n    ≡ (" + "\n    ∷ ".join(wanted + ["[])"])
-                + "\nunfolding fresh_world refusal answer after next with_row allowed direct_copies groups_of served_rows\n"
+                + "\nunfolding fresh_world refusal answer after next with_row allowed unshared_copies groups_of served_rows\n"
                 + "    retained_after retained_copies resumed_copies begins_to_wait filters_of counts" + f"\n{name} = refl\n")
     if path.stem not in STEPS:
         return script + equation

@@ -36,7 +36,7 @@ MADE_OF = {
     "Row": "line: u64, owner: Owner, access: Access, filter: TopicFilter",
     "Session": "user: Option<String>, interval: u32, presence: Presence, waiting: LinkedList<Waiting>",
     "LevelTree": "alloc: Global, root: Node<V>",
-    "FilterEntry": "filter: Rc<TopicFilter>, direct: BTreeMap<RcStr, SubscriptionOptions>, groups: ShareGroups",
+    "FilterEntry": "filter: Rc<TopicFilter>, unshared: BTreeMap<RcStr, SubscriptionOptions>, groups: ShareGroups",
     "ShareGroups": "by_share: BTreeMap<RcStr, Group>",
     "ClientFilters": "texts: BTreeSet<RcStr>",
     "Messages": "by_topic: LevelTree<Stored>, count: u64",

@@ -178,16 +178,16 @@ module _ (c : Text) where
 -- ## What takes part
 
 -- a client's options among all that take part are those of its own subscriptions that do
-pub options-own : (m : Message) (id : Text) (rows : List Subscription)
+pub options-unshared : (m : Message) (id : Text) (rows : List Subscription)
     → options_among id (unshared_matches m rows) ≡ gives_options m id rows
-options-own m id [] = refl
-options-own m id (s ∷ rows) =
+options-unshared m id [] = refl
+options-unshared m id (s ∷ rows) =
     let kept : List Subscription = filter (is_unshared_match m) rows in
     let P : Bool → Bool → Type 0 = λ a b. options_among id
     (map (λ (s : Subscription). (s.client, s.options)) (cond a (s ∷ kept) kept))
     ≡ map (λ (s : Subscription). s.options)
     (cond b (s ∷ filter (gives m id) rows) (filter (gives m id) rows)) in
-    let rest : P false false = options-own m id rows in
+    let rest : P false false = options-unshared m id rows in
     pick (same_text s.client id)
     (λ t. (let one : s.client ≡ id = same_text-is s.client id t in
     subst (λ b. P (is_unshared_match m s) b) (sym (mine t one))

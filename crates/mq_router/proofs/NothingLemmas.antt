@@ -9,7 +9,7 @@ use Rattle.mq_acl.specs.declared.access.Direction.TheVariants.{Reading}
 use Rattle.mq_world.specs.Lists.{Text}
 use Rattle.mq_world.specs.World.{Session, Subscription, Message, Copy}
 use Rattle.mq_world.specs.World as world
-use Rattle.mq_world.specs.Copies.{filter_matches, options_for, copy_by, direct_copy, direct_copies}
+use Rattle.mq_world.specs.Copies.{filter_matches, options_for, copy_by, unshared_copy, unshared_copies}
 use Rattle.mq_world.specs.Waiting.{has_room, with_qos}
 use Rattle.mq_sessions.specs.Queue.{begin_with}
 use Rattle.mq_router.specs.delivery.Copies.{begins, queued_by}
@@ -35,15 +35,15 @@ module _ (access : Option (List AclRow)) (sessions : List Session)
   no-options : (id : Text) → options_for subscriptions m id ≡ []
   no-options id = sym (options-matching m id subscriptions) ∙ ap (gives_options m id) none
 
-  no-copy : (id : Text) (user : Option Text) → direct_copy access subscriptions m id user ≡ None
+  no-copy : (id : Text) (user : Option Text) → unshared_copy access subscriptions m id user ≡ None
   no-copy id user =
       ap (λ (os : List world.SubscriptionOptions). if not (length os == 0)
       && allowed access id user m.topic Reading then Some (copy_by id None m os) else None)
       (no-options id)
 
-  pub no-copies : direct_copies access sessions subscriptions m ≡ []
-  unfolding direct_copies
-  no-copies = none-made (λ (s : Session). direct_copy access subscriptions m s.id s.user)
+  pub no-copies : unshared_copies access sessions subscriptions m ≡ []
+  unfolding unshared_copies
+  no-copies = none-made (λ (s : Session). unshared_copy access subscriptions m s.id s.user)
       (λ s. no-copy s.id s.user) sessions
 
   pub no-queued : (limit : ℕ) (deadline : Option ℕ)

@@ -14,7 +14,7 @@ use Rattle.mq_world.specs.Lists.{same_text}
 use Rattle.mq_world.specs.World.{Session, Subscription, Waiting, Message, Copy, session_cmp}
 use Rattle.mq_world.specs.Clock.{deadline_of}
 use Rattle.mq_world.specs.Sessions.{is_present}
-use Rattle.mq_world.specs.Copies.{direct_copy}
+use Rattle.mq_world.specs.Copies.{unshared_copy}
 use Rattle.mq_world.specs.Waiting.{has_place, with_qos, with_waiting, waiting_copy, waiting_after}
 use Rattle.mq_world.specs.Waiting.{begins_to_wait}
 use Rattle.mq_sessions.specs.Queue.{Begin, begin_with, queue_copies, edit_session, queue_one}
@@ -28,7 +28,7 @@ module _ (limit : ℕ) (access : Option (List AclRow)) (subs : List Subscription
   placed : (m : Message) (s : Session) (copy : Copy)
       → waiting_copy limit access subs m s ≡ Some copy → has_place limit s ≡ true
   placed m s copy h =
-      let o : Option Copy = option_and_then with_qos (direct_copy access subs m s.id s.user) in
+      let o : Option Copy = option_and_then with_qos (unshared_copy access subs m s.id s.user) in
       let P : Bool → Bool → Type 0 = λ away place. (if away && place then o else None) ≡ Some copy
       → place ≡ true in
       (elim (not (is_present s)) as (λ away. P away (has_place limit s)) [

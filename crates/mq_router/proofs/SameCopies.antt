@@ -9,7 +9,7 @@ use Rattle.mq_acl.specs.declared.access.Direction.TheVariants.{Reading}
 use Rattle.mq_world.specs.Lists.{SameElements, Text, greatest, ascending}
 use Rattle.mq_world.specs.World.{Session, Subscription, SubscriptionOptions, Message}
 use Rattle.mq_world.specs.Clock.{deadline_of}
-use Rattle.mq_world.specs.Copies.{takes_part, options_for, copy_by, direct_copy, direct_copies}
+use Rattle.mq_world.specs.Copies.{takes_part, options_for, copy_by, unshared_copy, unshared_copies}
 use Rattle.mq_world.specs.Waiting.{has_room, with_qos, waiting_copy, with_waiting, waiting_after}
 use Rattle.mq_world.specs.Waiting.{begins_to_wait}
 use Rattle.mq_world.proofs.ListLemmas.{list_any-same, map-same}
@@ -18,10 +18,10 @@ use Rattle.mq_world.proofs.SameLemmas.{SameElements-filter_map, length-SameEleme
 use Rattle.mq_world.proofs.SameLemmas.{list_any-SameElements, greatest-SameElements}
 use Rattle.mq_world.proofs.SameLemmas.{ascending-SameElements}
 
-direct_copy-same : (access : Option (List AclRow)) (xs ys : List Subscription) (m : Message)
+unshared_copy-same : (access : Option (List AclRow)) (xs ys : List Subscription) (m : Message)
     (id : Text) (user : Option Text) → SameElements xs ys
-    → direct_copy access xs m id user ≡ direct_copy access ys m id user
-direct_copy-same access xs ys m id user same =
+    → unshared_copy access xs m id user ≡ unshared_copy access ys m id user
+unshared_copy-same access xs ys m id user same =
     let part : Subscription → Bool = takes_part m id in
     let ox : List SubscriptionOptions = options_for xs m id in
     let oy : List SubscriptionOptions = options_for ys m id in
@@ -45,23 +45,23 @@ direct_copy-same access xs ys m id user same =
     ∙ ap (λ k. if not (length oy == 0) && able then Some k else None) copy
 
 -- the copies for clients in their own name don't depend on the order of subscriptions
-pub direct_copies-same : (access : Option (List AclRow)) (sessions : List Session)
+pub unshared_copies-same : (access : Option (List AclRow)) (sessions : List Session)
     (xs ys : List Subscription) (m : Message) → SameElements xs ys
-    → direct_copies access sessions xs m ≡ direct_copies access sessions ys m
-unfolding direct_copies
-direct_copies-same access [] xs ys m same = refl
-direct_copies-same access (c ∷ cs) xs ys m same =
-    ap (λ o. cons_option o (direct_copies access cs xs m))
-    (direct_copy-same access xs ys m c.id c.user same)
-    ∙ ap (cons_option (direct_copy access ys m c.id c.user))
-    (direct_copies-same access cs xs ys m same)
+    → unshared_copies access sessions xs m ≡ unshared_copies access sessions ys m
+unfolding unshared_copies
+unshared_copies-same access [] xs ys m same = refl
+unshared_copies-same access (c ∷ cs) xs ys m same =
+    ap (λ o. cons_option o (unshared_copies access cs xs m))
+    (unshared_copy-same access xs ys m c.id c.user same)
+    ∙ ap (cons_option (unshared_copy access ys m c.id c.user))
+    (unshared_copies-same access cs xs ys m same)
 
 waiting_copy-same : (limit : ℕ) (access : Option (List AclRow)) (xs ys : List Subscription)
     (m : Message) (s : Session) → SameElements xs ys
     → waiting_copy limit access xs m s ≡ waiting_copy limit access ys m s
 waiting_copy-same limit access xs ys m s same =
     ap (λ o. if has_room limit s then option_and_then with_qos o else None)
-    (direct_copy-same access xs ys m s.id s.user same)
+    (unshared_copy-same access xs ys m s.id s.user same)
 
 -- whether a copy begins to wait doesn't depend on the order of subscriptions
 pub begins_to_wait-same : (limit : ℕ) (access : Option (List AclRow)) (sessions : List Session)

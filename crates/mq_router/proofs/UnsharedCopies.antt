@@ -19,8 +19,8 @@ use Rattle.mq_world.specs.Sessions.{session_of, is_present, connected, user_of}
 use Rattle.mq_world.specs.Waiting.{has_room, with_qos}
 use Rattle.mq_sessions.specs.Queue.{Begin, begin_with}
 use Rattle.mq_router.specs.delivery.Copies.{begins, queued_by}
-use Rattle.mq_world.specs.Copies.{filter_matches, takes_part, options_for, copy_by, direct_copy}
-use Rattle.mq_world.specs.Copies.{direct_copies}
+use Rattle.mq_world.specs.Copies.{filter_matches, takes_part, options_for, copy_by, unshared_copy}
+use Rattle.mq_world.specs.Copies.{unshared_copies}
 use Rattle.mq_subscriptions.specs.Filters.{is_text}
 use Rattle.mq_router.specs.delivery.Summaries.{Summary, summary_of, summary_for, copy_from}
 use Rattle.mq_router.specs.delivery.Copies.{gives, gives_options, copies_by, begins_by}
@@ -188,11 +188,11 @@ module _ {X : Type 0} (test : Session → Bool) (make : Text → Summary → Opt
   passes-there None h = h
   passes-there (Some s) h = refl
 
-  pub own-made : (L : List (Text × Summary)) → IsStrictlySortedBy session_cmp sessions
+  pub unshared-made : (L : List (Text × Summary)) → IsStrictlySortedBy session_cmp sessions
       → IsStrictlySortedBy text_cmp (keys_of L)
       → ((id : Text) → lookup (is_text id) L ≡ summary_for (O id))
       → filter_map made_by L ≡ filter_map made_for sessions
-  own-made L s t found =
+  unshared-made L s t found =
       by_keys L (each_shown (λ (o : Option Summary). o) L (λ id. summary_for (O id)) t
       (λ id k. found id))
       ∙ same_gathered text_cmp nat_list_cmp_total key_text H (keys_of L) (ids sessions) t
@@ -218,28 +218,29 @@ module _ {X : Type 0} (test : Session → Bool) (make : Text → Summary → Opt
       flip a b = nat_list_eq_equiv.symm a b
 
 -- the copies that are sent
-pub own-copies : (access : Option (List AclRow)) (sessions : List Session)
+pub unshared-gathered : (access : Option (List AclRow)) (sessions : List Session)
     (subscriptions : List Subscription) (m : Message) (L : List (Text × Summary))
     → IsStrictlySortedBy session_cmp sessions → IsStrictlySortedBy text_cmp (keys_of L)
     → ((id : Text) → lookup (is_text id) L ≡ summary_for (options_for subscriptions m id))
-    → copies_by access sessions m L ≡ direct_copies access (connected sessions) subscriptions m
-unfolding direct_copies
-own-copies access sessions subscriptions m L s t found =
-    own-made is_present (λ id summary. Some (copy_from id None m summary)) access sessions
+    → copies_by access sessions m L ≡ unshared_copies access (connected sessions) subscriptions m
+unfolding unshared_copies
+unshared-gathered access sessions subscriptions m L s t found =
+    unshared-made is_present (λ id summary. Some (copy_from id None m summary)) access sessions
     subscriptions m L s t found
-    ∙ filter_map-filter (λ (x : Session). direct_copy access subscriptions m x.id x.user) is_present
+    ∙ filter_map-filter (λ (x : Session). unshared_copy access subscriptions m x.id x.user)
+    is_present
     sessions
 
 -- those that begin to wait
-pub own-queued : (limit : ℕ) (access : Option (List AclRow)) (sessions : List Session)
+pub unshared-queued : (limit : ℕ) (access : Option (List AclRow)) (sessions : List Session)
     (subscriptions : List Subscription) (m : Message) (deadline : Option ℕ)
     (L : List (Text × Summary)) → IsStrictlySortedBy session_cmp sessions
     → IsStrictlySortedBy text_cmp (keys_of L)
     → ((id : Text) → lookup (is_text id) L ≡ summary_for (options_for subscriptions m id))
     → begins_by limit access sessions m deadline L
     ≡ queued_by limit access sessions subscriptions m deadline
-own-queued limit access sessions subscriptions m deadline L s t found =
-    own-made (has_room limit) begin access sessions subscriptions m L s t found
+unshared-queued limit access sessions subscriptions m deadline L s t found =
+    unshared-made (has_room limit) begin access sessions subscriptions m L s t found
     ∙ filter_map-same (made_for (has_room limit) begin access sessions subscriptions m)
     (begins limit access subscriptions m deadline) each sessions
   where

@@ -24,7 +24,7 @@ use Rattle.mq_world.specs.Sessions.{new_session, connected, user_of, is_reader, 
 use Rattle.mq_world.specs.Sessions.{outlives, resumes, left_by, has_ended}
 use Rattle.mq_world.specs.Waiting.{begins_to_wait, waiting_after, resumed_copies}
 use Rattle.mq_world.specs.Refusals.{first_refusal, client_conditions, refusal}
-use Rattle.mq_world.specs.Copies.{direct_copies, filter_matches}
+use Rattle.mq_world.specs.Copies.{unshared_copies, filter_matches}
 use Rattle.mq_world.specs.Groups.{groups_of, turn_of, served_rows, served_by}
 use Rattle.mq_world.specs.Retained.{retained_copies, retained_after, is_full, without_expired}
 use Rattle.mq_world.specs.Counts.{filters_of, topics_of, counts, steps}
@@ -52,7 +52,7 @@ use Rattle.mq_subscriptions.proofs.OneServed.{told}
 use Rattle.mq_router.proofs.ServeTurn.{serves}
 use Rattle.mq_router.proofs.GroupLemmas.{groups-same, groups-told}
 use Rattle.mq_subscriptions.proofs.KeyLemmas.{filters-same}
-use Rattle.mq_router.proofs.SameCopies.{direct_copies-same, begins_to_wait-same, waiting_after-same}
+use Rattle.mq_router.proofs.SameCopies.{unshared_copies-same, begins_to_wait-same, waiting_after-same}
 use Rattle.mq_router.proofs.NextLemmas.{gone, after-is_world}
 use Rattle.mq_world.specs.declared.answer.Answer.{Answer}
 use Rattle.mq_world.specs.declared.answer.Outcome.{Outcome}
@@ -229,16 +229,16 @@ module _ (s : State) (w : World) (h : HasRows s w) where
       let members : List Subscription = next_members s.access s.sessions s.subscriptions m in
       ap (λ copies. publish_reply copies
       (begins_to_wait s.limits.queued s.access s.sessions s.subscriptions m))
-      (ap (λ access. direct_copies access (connected s.sessions) s.subscriptions m
+      (ap (λ access. unshared_copies access (connected s.sessions) s.subscriptions m
       ++ map (member_copy m) members) h.access
-      ∙ ap (λ ss. direct_copies w.access (connected ss) s.subscriptions m
+      ∙ ap (λ ss. unshared_copies w.access (connected ss) s.subscriptions m
       ++ map (member_copy m) members) h.sessions
       ∙ ap (λ l. l ++ map (member_copy m) members)
-      (direct_copies-same w.access (connected w.sessions) s.subscriptions (subscriptions_of w) m
+      (unshared_copies-same w.access (connected w.sessions) s.subscriptions (subscriptions_of w) m
       all_told)
-      ∙ ap (λ l. direct_copies w.access (connected w.sessions) (subscriptions_of w) m
+      ∙ ap (λ l. unshared_copies w.access (connected w.sessions) (subscriptions_of w) m
       ++ map (member_copy m) l) (served-held m)
-      ∙ ap (λ l. direct_copies w.access (connected w.sessions) (subscriptions_of w) m ++ l)
+      ∙ ap (λ l. unshared_copies w.access (connected w.sessions) (subscriptions_of w) m ++ l)
       (map-map (member_copy m) (λ (r : Row). r.subscription) (served_by w m)))
       ∙ ap (publish_reply (copies_of w m)) (waits-held m)
   answer-held told (SetAcl text) = refl

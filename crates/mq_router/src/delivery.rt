@@ -18,7 +18,7 @@ pub(crate) mod unshared;
 
 use crate::delivery::outgoing::Outgoing;
 use crate::delivery::summary::Summary;
-use crate::delivery::unshared::{Direct, direct_copies};
+use crate::delivery::unshared::{Unshared, unshared_copies};
 use mq_sessions::{QueuedCopy, Readers};
 use mq_subscriptions::{FilterEntry, Match, Subscriptions, Turn, sort_by_client, sort_by_share};
 use mq_tree::Steps;
@@ -83,10 +83,10 @@ pub(crate) fn make_copies(
 }
 
 // How many subscriptions of clients in their own name there are at most. It is a measure of room alone.
-fn own_count(found: &[&FilterEntry]) -> usize {
+fn unshared_count(found: &[&FilterEntry]) -> usize {
     let mut count: usize = 0;
     for at in found {
-        count = count.saturating_add(at.own_count());
+        count = count.saturating_add(at.unshared_count());
     }
     count
 }
@@ -102,7 +102,7 @@ fn matches_by_client<'a>(
         ≡ options_among id (unshared_matches (message_of message.now)
         (rows_found (lent_values found.now)))) }
 {
-    let mut matches = Vec::with_capacity(alloc, own_count(found))?;
+    let mut matches = Vec::with_capacity(alloc, unshared_count(found))?;
     for at in found {
         at.gather_matches(message, &mut matches)?;
     }
@@ -158,7 +158,9 @@ fn made_for(
         });
     }
     let outgoing = Outgoing::new(alloc, message)?;
-    let Direct { mut copies, queued } = direct_copies(alloc, readers, matches, &outgoing, limit)?;
+    let Unshared { mut copies, queued } = unshared_copies(
+        alloc, readers, matches, &outgoing, limit,
+    )?;
     add_group_copies(alloc, served.as_slice(), &outgoing, &mut copies)?;
     Ok(Deliveries {
         copies,

@@ -13,7 +13,7 @@ use Rattle.mq_world.specs.Lists.{Text, same_text, text_cmp}
 use Rattle.mq_world.specs.World.{Subscription, same_share, has_key, same_key}
 use Rattle.mq_world.specs.Turns.{SameInTurn}
 use Rattle.mq_subscriptions.specs.Turns.{with_one, put_last, upsert}
-use Rattle.mq_subscriptions.specs.Filters.{Member, has_client, row, is_empty, is_text, direct_rows}
+use Rattle.mq_subscriptions.specs.Filters.{Member, has_client, row, is_empty, is_text, unshared_rows}
 use Rattle.mq_subscriptions.specs.Filters.{At, AreHere, GroupList, group_rows, NoneEmpty}
 use Rattle.std.proofs.lemmas.Bool.{false_from_ne_true}
 use Rattle.mq_subscriptions.specs.Views.{texts}
@@ -307,7 +307,7 @@ all_any : (ms : List Member) → AllByRecursion Any ms
 all_any [] = tt
 all_any (m ∷ ms) = (tt, all_any ms)
 
-rows-flat : (f : Text) (ms : List Member) → direct_rows f ms ≡ flat_map (one_row f) ms
+rows-flat : (f : Text) (ms : List Member) → unshared_rows f ms ≡ flat_map (one_row f) ms
 rows-flat f [] = refl
 rows-flat f (m ∷ ms) = ap (λ l. row None f m ∷ l) (rows-flat f ms)
 
@@ -354,10 +354,10 @@ module _ (f bs : Text) (o : held.SubscriptionOptions) (es : List (Key × held.Su
       (texts es) (all_any (texts es)) (put_gap text_cmp bs (texts es) none) o
       (same-itself (mine ∷ []))
 
-  pub direct-joined : (name : Key) (new : List (Key × held.SubscriptionOptions))
+  pub unshared-joined : (name : Key) (new : List (Key × held.SubscriptionOptions))
       → rc_str_bytes name ≡ bs → new ≡ insert_entry key_cmp es name o
-      → SameInTurn (direct_rows f (texts new)) (upsert mine (direct_rows f (texts es)))
-  direct-joined name new named put =
+      → SameInTurn (unshared_rows f (texts new)) (upsert mine (unshared_rows f (texts es)))
+  unshared-joined name new named put =
       let put_is : texts new ≡ insert_entry text_cmp (texts es) bs o = ap texts put
       ∙ insert_entry-texts es name o ∙ ap (λ k. insert_entry text_cmp (texts es) k o) named in
       let P : Option held.SubscriptionOptions → Type 0 = λ r. lookup (is_text bs) (texts es) ≡ r
@@ -365,23 +365,24 @@ module _ (f bs : Text) (o : held.SubscriptionOptions) (es : List (Key × held.Su
       (upsert mine (flat_map (one_row f) (texts es))) in
       let flat = (elim (lookup (is_text bs) (texts es)) as P [ Some v ↦ replaced v | None ↦ added ])
       refl in
-      subst (λ (l : List Subscription). SameInTurn l (upsert mine (direct_rows f (texts es))))
-      (sym (ap (direct_rows f) put_is ∙ rows-flat f (insert_entry text_cmp (texts es) bs o)))
+      subst (λ (l : List Subscription). SameInTurn l (upsert mine (unshared_rows f (texts es))))
+      (sym (ap (unshared_rows f) put_is ∙ rows-flat f (insert_entry text_cmp (texts es) bs o)))
       (subst (λ (l : List Subscription). SameInTurn
       (flat_map (one_row f) (insert_entry text_cmp (texts es) bs o)) (upsert mine l))
       (sym (rows-flat f (texts es))) flat)
 
 -- where entries are in order, to remove a client's entry is to filter out its own row
-pub direct-left : (f bs : Text) (es new : List (Key × held.SubscriptionOptions))
+pub unshared-left : (f bs : Text) (es new : List (Key × held.SubscriptionOptions))
     → IsStrictlySortedBy key_cmp (keys_of es) → new ≡ remove_entry (finds bs) es
-    → direct_rows f (texts new) ≡ filter (λ x. not (has_key bs None f x)) (direct_rows f (texts es))
-direct-left f bs es new sorted out =
-    ap (λ l. direct_rows f (texts l))
+    → unshared_rows f (texts new) ≡ filter (λ x. not (has_key bs None f x))
+    (unshared_rows f (texts es))
+unshared-left f bs es new sorted out =
+    ap (λ l. unshared_rows f (texts l))
     (out ∙ map_remove_entry-filter key_cmp (finds bs) (apart bs) es sorted
     ∙ filter-same (λ e. not (finds bs e.0))
     (λ e. not (has_key bs None f (row None f (rc_str_bytes e.0, e.1))))
     (λ e. ap not (finds-is bs e.0 ∙ sym (own_key None f bs (rc_str_bytes e.0, e.1)))) es)
-    ∙ ap (direct_rows f)
+    ∙ ap (unshared_rows f)
     (map-filter (λ (e : Key × held.SubscriptionOptions). (rc_str_bytes e.0, e.1))
     (λ m. not (has_key bs None f (row None f m))) es)
     ∙ map-filter (row None f) (λ x. not (has_key bs None f x)) (texts es)
@@ -389,7 +390,7 @@ direct-left f bs es new sorted out =
 -- ## Both
 
 all_own : (f : Text) (s : Subscription) (share : Text) → s.share ≡ Some share → (ms : List Member)
-    → AllByRecursion (Unlike s) (direct_rows f ms)
+    → AllByRecursion (Unlike s) (unshared_rows f ms)
 all_own f s share e [] = tt
 all_own f s share e (m ∷ ms) =
     (unlike-share s (row None f m) (ap (same_share None) e), all_own f s share e ms)
@@ -405,24 +406,24 @@ all_shared f s e (g ∷ gs) = all_append (Unlike s) (rows_of f g) (group_rows f 
     go (m ∷ ms) = (unlike-share s (row (Some g.0) f m) (ap (same_share (Some g.0)) e), go ms)
 
 module _ (f c : Text) (o : held.SubscriptionOptions) where
-  pub at-joined-own : (d new : List Member) (gs : List (Text × List Member))
-      → SameInTurn (direct_rows f new) (upsert (row None f (c, o)) (direct_rows f d))
-      → SameInTurn (direct_rows f new ++ group_rows f gs)
-      (upsert (row None f (c, o)) (direct_rows f d ++ group_rows f gs))
-  at-joined-own d new gs h = joined-among (row None f (c, o)) [] (direct_rows f d)
-      (direct_rows f new) (group_rows f gs) tt (all_shared f (row None f (c, o)) refl gs) h
+  pub at-joined-unshared : (d new : List Member) (gs : List (Text × List Member))
+      → SameInTurn (unshared_rows f new) (upsert (row None f (c, o)) (unshared_rows f d))
+      → SameInTurn (unshared_rows f new ++ group_rows f gs)
+      (upsert (row None f (c, o)) (unshared_rows f d ++ group_rows f gs))
+  at-joined-unshared d new gs h = joined-among (row None f (c, o)) [] (unshared_rows f d)
+      (unshared_rows f new) (group_rows f gs) tt (all_shared f (row None f (c, o)) refl gs) h
 
   pub at-joined-shared : (share : Text) (d : List Member) (gs new : List (Text × List Member))
       → SameInTurn (group_rows f new) (upsert (row (Some share) f (c, o)) (group_rows f gs))
-      → SameInTurn (direct_rows f d ++ group_rows f new)
-      (upsert (row (Some share) f (c, o)) (direct_rows f d ++ group_rows f gs))
+      → SameInTurn (unshared_rows f d ++ group_rows f new)
+      (upsert (row (Some share) f (c, o)) (unshared_rows f d ++ group_rows f gs))
   at-joined-shared share d gs new h =
       let s : Subscription = row (Some share) f (c, o) in
-      subst (λ (l : List Subscription). SameInTurn (direct_rows f d ++ l)
-      (upsert s (direct_rows f d ++ group_rows f gs))) (append-nil (group_rows f new))
-      (subst (λ (l : List Subscription). SameInTurn (direct_rows f d ++ (group_rows f new ++ []))
-      (upsert s (direct_rows f d ++ l))) (append-nil (group_rows f gs))
-      (joined-among s (direct_rows f d) (group_rows f gs) (group_rows f new) []
+      subst (λ (l : List Subscription). SameInTurn (unshared_rows f d ++ l)
+      (upsert s (unshared_rows f d ++ group_rows f gs))) (append-nil (group_rows f new))
+      (subst (λ (l : List Subscription). SameInTurn (unshared_rows f d ++ (group_rows f new ++ []))
+      (upsert s (unshared_rows f d ++ l))) (append-nil (group_rows f gs))
+      (joined-among s (unshared_rows f d) (group_rows f gs) (group_rows f new) []
       (all_own f s share refl d) tt h))
 
 module _ (f c share : Text) where
@@ -431,42 +432,42 @@ module _ (f c share : Text) where
 
   pub at-turned : (d : List Member) (gs new : List (Text × List Member))
       → SameInTurn (group_rows f new) (put_last (has_key c (Some share) f) (group_rows f gs))
-      → SameInTurn (direct_rows f d ++ group_rows f new)
-      (put_last (has_key c (Some share) f) (direct_rows f d ++ group_rows f gs))
+      → SameInTurn (unshared_rows f d ++ group_rows f new)
+      (put_last (has_key c (Some share) f) (unshared_rows f d ++ group_rows f gs))
   at-turned d gs new h =
-      subst (λ (l : List Subscription). SameInTurn (direct_rows f d ++ l)
-      (put_last (same_key s1) (direct_rows f d ++ group_rows f gs)))
+      subst (λ (l : List Subscription). SameInTurn (unshared_rows f d ++ l)
+      (put_last (same_key s1) (unshared_rows f d ++ group_rows f gs)))
       (append-nil (group_rows f new))
-      (subst (λ (l : List Subscription). SameInTurn (direct_rows f d ++ (group_rows f new ++ []))
-      (put_last (same_key s1) (direct_rows f d ++ l))) (append-nil (group_rows f gs))
-      (turned-among s1 (direct_rows f d) (group_rows f gs) (group_rows f new) []
+      (subst (λ (l : List Subscription). SameInTurn (unshared_rows f d ++ (group_rows f new ++ []))
+      (put_last (same_key s1) (unshared_rows f d ++ l))) (append-nil (group_rows f gs))
+      (turned-among s1 (unshared_rows f d) (group_rows f gs) (group_rows f new) []
       (all_own f s1 share refl d) tt h))
 
   pub at-left-shared : (d : List Member) (gs new : List (Text × List Member))
       → group_rows f new ≡ filter (λ x. not (has_key c (Some share) f x)) (group_rows f gs)
-      → direct_rows f d ++ group_rows f new ≡ filter (λ x. not (has_key c (Some share) f x))
-      (direct_rows f d ++ group_rows f gs)
+      → unshared_rows f d ++ group_rows f new ≡ filter (λ x. not (has_key c (Some share) f x))
+      (unshared_rows f d ++ group_rows f gs)
   at-left-shared d gs new h =
-      ap (λ l. direct_rows f d ++ l) (sym (append-nil (group_rows f new)))
-      ∙ removed-among (same_key s1) (direct_rows f d) (group_rows f gs) (group_rows f new) []
-      (none_same s1 (direct_rows f d) (all_own f s1 share refl d)) tt h
-      ∙ ap (λ l. filter (λ x. not (same_key s1 x)) (direct_rows f d ++ l))
+      ap (λ l. unshared_rows f d ++ l) (sym (append-nil (group_rows f new)))
+      ∙ removed-among (same_key s1) (unshared_rows f d) (group_rows f gs) (group_rows f new) []
+      (none_same s1 (unshared_rows f d) (all_own f s1 share refl d)) tt h
+      ∙ ap (λ l. filter (λ x. not (same_key s1 x)) (unshared_rows f d ++ l))
       (append-nil (group_rows f gs))
 
 -- a client's own key leaves all rows at the filter as it leaves the own ones: no group has it
-pub at-left-own : (f c : Text) (d new : List Member) (gs : List (Text × List Member))
-    → direct_rows f new ≡ filter (λ x. not (has_key c None f x)) (direct_rows f d)
-    → direct_rows f new ++ group_rows f gs ≡ filter (λ x. not (has_key c None f x))
-    (direct_rows f d ++ group_rows f gs)
-at-left-own f c d new gs h =
+pub at-left-unshared : (f c : Text) (d new : List Member) (gs : List (Text × List Member))
+    → unshared_rows f new ≡ filter (λ x. not (has_key c None f x)) (unshared_rows f d)
+    → unshared_rows f new ++ group_rows f gs ≡ filter (λ x. not (has_key c None f x))
+    (unshared_rows f d ++ group_rows f gs)
+at-left-unshared f c d new gs h =
     let s : Subscription = record { client = c; share = None; filter = f; options = nothing } in
-    removed-among (same_key s) [] (direct_rows f d) (direct_rows f new) (group_rows f gs) tt
+    removed-among (same_key s) [] (unshared_rows f d) (unshared_rows f new) (group_rows f gs) tt
     (none_same s (group_rows f gs) (all_shared f s refl gs)) h
 
 -- each is to the filter
 pub here-is : (f : Text) (d : List Member) (gs : List (Text × List Member))
-    → AllByRecursion (λ s. s.filter ≡ f) (direct_rows f d ++ group_rows f gs)
-here-is f d gs = all_append (λ s. s.filter ≡ f) (direct_rows f d) (group_rows f gs) (of None d)
+    → AllByRecursion (λ s. s.filter ≡ f) (unshared_rows f d ++ group_rows f gs)
+here-is f d gs = all_append (λ s. s.filter ≡ f) (unshared_rows f d) (group_rows f gs) (of None d)
     (of_groups gs)
   where
     of : (share : Option Text) (ms : List Member)
@@ -482,13 +483,13 @@ here-is f d gs = all_append (λ s. s.filter ≡ f) (direct_rows f d) (group_rows
 
 -- so is each in what an entry shows
 pub is_here : (f : Text) (d : List Member) (gs : GroupList) (a : At)
-    → record { filter = f; rows = direct_rows f d ++ group_rows f gs } ≡ a → AreHere a
+    → record { filter = f; rows = unshared_rows f d ++ group_rows f gs } ≡ a → AreHere a
 is_here f d gs a e = subst AreHere e (here-is f d gs)
 
 -- a client is found among the entries just where it has an own row at the filter
-pub direct-any : (f bs : Text) (es : List (Key × held.SubscriptionOptions))
-    → is_some (lookup (finds bs) es) ≡ list_any (has_key bs None f) (direct_rows f (texts es))
-direct-any f bs es =
+pub unshared-any : (f bs : Text) (es : List (Key × held.SubscriptionOptions))
+    → is_some (lookup (finds bs) es) ≡ list_any (has_key bs None f) (unshared_rows f (texts es))
+unshared-any f bs es =
     is_some-lookup (finds bs) es
     ∙ list_any-same (λ e. finds bs e.0)
     (λ e. has_key bs None f (row None f (rc_str_bytes e.0, e.1)))
@@ -498,26 +499,26 @@ direct-any f bs es =
     ∙ sym (list_any-map (row None f) (has_key bs None f) (texts es))
 
 -- a client's own key is at the filter just where it is among the own rows
-pub at-any-own : (f c : Text) (d : List Member) (gs : List (Text × List Member))
-    → list_any (has_key c None f) (direct_rows f d)
-    ≡ list_any (has_key c None f) (direct_rows f d ++ group_rows f gs)
-at-any-own f c d gs =
+pub at-any-unshared : (f c : Text) (d : List Member) (gs : List (Text × List Member))
+    → list_any (has_key c None f) (unshared_rows f d)
+    ≡ list_any (has_key c None f) (unshared_rows f d ++ group_rows f gs)
+at-any-unshared f c d gs =
     let s : Subscription = record { client = c; share = None; filter = f; options = nothing } in
-    sym (any-append (same_key s) (direct_rows f d) (group_rows f gs)
-    ∙ ap (λ b. list_any (same_key s) (direct_rows f d) || b)
+    sym (any-append (same_key s) (unshared_rows f d) (group_rows f gs)
+    ∙ ap (λ b. list_any (same_key s) (unshared_rows f d) || b)
     (any-none (same_key s) (group_rows f gs) (none_same s _ (all_shared f s refl gs)))
-    ∙ or-false (list_any (same_key s) (direct_rows f d)))
+    ∙ or-false (list_any (same_key s) (unshared_rows f d)))
 
 -- a key with a share name is at the filter just where it is among the rows of groups
 pub at-any-shared : (f c share : Text) (d : List Member) (gs : List (Text × List Member))
     → list_any (has_key c (Some share) f) (group_rows f gs)
-    ≡ list_any (has_key c (Some share) f) (direct_rows f d ++ group_rows f gs)
+    ≡ list_any (has_key c (Some share) f) (unshared_rows f d ++ group_rows f gs)
 at-any-shared f c share d gs =
     let s : Subscription = record { client = c; share = Some share; filter = f; options = nothing }
     in
-    sym (any-append (same_key s) (direct_rows f d) (group_rows f gs)
+    sym (any-append (same_key s) (unshared_rows f d) (group_rows f gs)
     ∙ ap (λ b. b || list_any (same_key s) (group_rows f gs))
-    (any-none (same_key s) (direct_rows f d) (none_same s _ (all_own f s share refl d))))
+    (any-none (same_key s) (unshared_rows f d) (none_same s _ (all_own f s share refl d))))
 
 -- where there is no group there is no member
 pub none-is : (f : Text) (gs : List (Key × List Member)) → NoneEmpty (texts gs) → (b : Bool)
@@ -530,13 +531,13 @@ none-is f ((k, []) ∷ gs) live b h = absurd (true≢false live.0)
 -- nothing is here where no client subscribes in its own name and no group has a member
 pub empty-is : (f : Text) (d : List (Key × held.SubscriptionOptions)) (gs : GroupList) (b : Bool)
     → b ≡ is_empty (group_rows f gs) → length d ≡ 0
-    → b ≡ is_empty (direct_rows f (texts d) ++ group_rows f gs)
+    → b ≡ is_empty (unshared_rows f (texts d) ++ group_rows f gs)
 empty-is f [] gs b h e = h
 empty-is f (m ∷ d) gs b h e = absurd (let no : suc (length d) ≡ 0 = e in cc)
 
 -- where some client subscribes in its own name, the filter has a row
 pub not_empty : (f : Text) (d : List (Key × held.SubscriptionOptions))
     (gs : List (Text × List Member)) → (length d ≡ 0 → ⊥)
-    → false ≡ is_empty (direct_rows f (texts d) ++ group_rows f gs)
+    → false ≡ is_empty (unshared_rows f (texts d) ++ group_rows f gs)
 not_empty f [] gs h = absurd (h refl)
 not_empty f (m ∷ d) gs h = refl

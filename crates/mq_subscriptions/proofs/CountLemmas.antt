@@ -9,7 +9,7 @@ use Rattle.std.proofs.lemmas.List.Concat.{length-flat_map}
 use Rattle.std.proofs.lemmas.List.Sums.{sum_by-cons}
 use Rattle.mq_world.specs.Keys.{Key}
 use Rattle.mq_world.specs.Lists.{Text}
-use Rattle.mq_subscriptions.specs.Filters.{Member, At, AtEntries, row, direct_rows, group_rows}
+use Rattle.mq_subscriptions.specs.Filters.{Member, At, AtEntries, row, unshared_rows, group_rows}
 use Rattle.mq_subscriptions.specs.Filters.{GroupList, all_rows}
 use Rattle.mq_subscriptions.specs.Views.{texts}
 use Rattle.mq_world.specs.declared.options.SubscriptionOptions.{SubscriptionOptions}
@@ -24,13 +24,13 @@ group-number f (g ∷ groups) =
     ∙ sym (sum_by-cons length g.1 (values_of groups))
 
 -- the rows at a filter are as many as the own entries and the rows of groups together
-pub at-number : (f : Text) (direct : List (Key × SubscriptionOptions)) (groups : GroupList)
-    → length (direct_rows f (texts direct) ++ group_rows f groups) ≡ length direct
+pub at-number : (f : Text) (unshared : List (Key × SubscriptionOptions)) (groups : GroupList)
+    → length (unshared_rows f (texts unshared) ++ group_rows f groups) ≡ length unshared
     + length (group_rows f groups)
-at-number f direct groups =
-    length-append (direct_rows f (texts direct)) (group_rows f groups)
-    ∙ ap (λ n. n + length (group_rows f groups)) (length-map (texts direct) (row None f)
-    ∙ length-map direct (λ e. (rc_str_bytes e.0, e.1)))
+at-number f unshared groups =
+    length-append (unshared_rows f (texts unshared)) (group_rows f groups)
+    ∙ ap (λ n. n + length (group_rows f groups)) (length-map (texts unshared) (row None f)
+    ∙ length-map unshared (λ e. (rc_str_bytes e.0, e.1)))
 
 -- all rows are as many as those of each entry, summed
 pub all-number : (es : AtEntries) → length (all_rows es) ≡ sum_by (λ e. length e.1.rows) es

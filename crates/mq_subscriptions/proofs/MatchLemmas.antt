@@ -9,7 +9,7 @@ use Rattle.std.proofs.lemmas.List.Elements.{filter-append}
 use Rattle.std.proofs.lemmas.Simd.{map-map}
 use Rattle.mq_world.specs.Lists.{Text, same_text}
 use Rattle.mq_world.specs.World.{SubscriptionOptions, Subscription, Message}
-use Rattle.mq_subscriptions.specs.Filters.{Member, direct_rows, group_rows, row}
+use Rattle.mq_subscriptions.specs.Filters.{Member, unshared_rows, group_rows, row}
 use Rattle.mq_world.specs.Views.{options_of}
 use Rattle.mq_subscriptions.specs.Matches.{is_unshared_match, unshared_matches, match_views}
 use Rattle.mq_subscriptions.specs.Matches.{options_among}
@@ -54,26 +54,26 @@ no_groups_match m f (g ∷ gs) =
 
 -- by whichever filter
 by_any : (m : Message) (f : Text) (ms : List Member)
-    → unshared_matches m (direct_rows [] ms) ≡ unshared_matches m (direct_rows f ms)
+    → unshared_matches m (unshared_rows [] ms) ≡ unshared_matches m (unshared_rows f ms)
 by_any m f [] = refl
 by_any m f (x ∷ ms) =
     let pair : Subscription → Text × SubscriptionOptions = λ s. (s.client, s.options) in
     elim (is_unshared_match m (row None [] x))
-    as (λ b. map pair (cond b (row None [] x ∷ filter (is_unshared_match m) (direct_rows [] ms))
-    (filter (is_unshared_match m) (direct_rows [] ms)))
-    ≡ map pair (cond b (row None f x ∷ filter (is_unshared_match m) (direct_rows f ms))
-    (filter (is_unshared_match m) (direct_rows f ms)))) [
+    as (λ b. map pair (cond b (row None [] x ∷ filter (is_unshared_match m) (unshared_rows [] ms))
+    (filter (is_unshared_match m) (unshared_rows [] ms)))
+    ≡ map pair (cond b (row None f x ∷ filter (is_unshared_match m) (unshared_rows f ms))
+    (filter (is_unshared_match m) (unshared_rows f ms)))) [
       | true ↦ ap (λ l. (x.0, options_of x.1) ∷ l) (by_any m f ms)
       | false ↦ by_any m f ms
     ]
 
 -- of those at a filter, only own members take part in their own name, whichever filter it is
 pub matches-at : (m : Message) (f : Text) (ds : List Member) (gs : List (Text × List Member))
-    → unshared_matches m (direct_rows [] ds)
-    ≡ unshared_matches m (direct_rows f ds ++ group_rows f gs)
+    → unshared_matches m (unshared_rows [] ds)
+    ≡ unshared_matches m (unshared_rows f ds ++ group_rows f gs)
 matches-at m f ds gs =
     by_any m f ds
     ∙ sym (ap (map (λ (s : Subscription). (s.client, s.options)))
-    (filter-append (is_unshared_match m) (direct_rows f ds) (group_rows f gs)
-    ∙ ap (λ l. filter (is_unshared_match m) (direct_rows f ds) ++ l) (no_groups_match m f gs)
-    ∙ append-nil (filter (is_unshared_match m) (direct_rows f ds))))
+    (filter-append (is_unshared_match m) (unshared_rows f ds) (group_rows f gs)
+    ∙ ap (λ l. filter (is_unshared_match m) (unshared_rows f ds) ++ l) (no_groups_match m f gs)
+    ∙ append-nil (filter (is_unshared_match m) (unshared_rows f ds))))

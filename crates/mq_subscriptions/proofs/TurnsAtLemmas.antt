@@ -14,7 +14,7 @@ use Rattle.mq_world.specs.Lists.{Text, same_text, text_cmp}
 use Rattle.mq_world.specs.World.{Session, Subscription, Group, is_in_group}
 use Rattle.mq_world.specs.Sessions.{is_reader}
 use Rattle.mq_subscriptions.specs.Turns.{next_in}
-use Rattle.mq_subscriptions.specs.Filters.{Member, row, direct_rows, group_rows}
+use Rattle.mq_subscriptions.specs.Filters.{Member, row, unshared_rows, group_rows}
 use Rattle.mq_subscriptions.specs.Turns.{turn_of}
 use Rattle.mq_subscriptions.specs.Turns.{turns_listed}
 use Rattle.mq_subscriptions.specs.Turns.{turns_of}
@@ -76,9 +76,9 @@ module _ (access : Option (List AclRow)) (sessions : List Session) (name f share
       let l : List Subscription = filter (is_in_group here) (map (row (Some k) f) ms) in
       ap (λ v. cond (v && same_text f f) (row (Some k) f m ∷ l) l) e ∙ alike k false e ms
 
-  no_direct : (ms : List Member) → filter (is_in_group here) (direct_rows f ms) ≡ []
-  no_direct [] = refl
-  no_direct (m ∷ ms) = no_direct ms
+  no_unshared : (ms : List Member) → filter (is_in_group here) (unshared_rows f ms) ≡ []
+  no_unshared [] = refl
+  no_unshared (m ∷ ms) = no_unshared ms
 
   abbrev Away : List (Text × List Member) → Type 0
   Away gs = AllByRecursion (λ (g : Text × List Member). same_text g.0 share ≡ false) gs
@@ -148,11 +148,11 @@ module _ (access : Option (List AclRow)) (sessions : List Session) (name f share
   -- a subscription in its client's own name is in no group
   pub next-at : (ds : List Member) (gs : List (Text × List Member))
       → next_in access sessions (group_rows f gs) name here
-      ≡ next_in access sessions (direct_rows f ds ++ group_rows f gs) name here
+      ≡ next_in access sessions (unshared_rows f ds ++ group_rows f gs) name here
   next-at ds gs =
       ap (find may)
-      (sym (filter-append (is_in_group here) (direct_rows f ds) (group_rows f gs)
-      ∙ ap (λ l. l ++ filter (is_in_group here) (group_rows f gs)) (no_direct ds)))
+      (sym (filter-append (is_in_group here) (unshared_rows f ds) (group_rows f gs)
+      ∙ ap (λ l. l ++ filter (is_in_group here) (group_rows f gs)) (no_unshared ds)))
 
 -- ## One more
 

@@ -52,8 +52,8 @@ AreHere a = AllByRecursion (λ s. s.filter ≡ a.filter) a.rows
 abbrev pub is_text : Text → Text → Bool
 is_text text key = is_eq (slice_cmp nat_cmp text key)
 
-abbrev pub direct_rows : Text → List Member → List Subscription
-direct_rows f ms = map (row None f) ms
+abbrev pub unshared_rows : Text → List Member → List Subscription
+unshared_rows f ms = map (row None f) ms
 
 -- the members of each group, by share name
 abbrev pub GroupList : Type 0

@@ -3,7 +3,7 @@ use Rattle.std.specs.Prelude.{List, map, ◌++◌}
 use Rattle.std.specs.Rc.{rc_str_bytes}
 use Rattle.mq_world.specs.Keys.{Key}
 use Rattle.mq_world.specs.Lists.{Text}
-use Rattle.mq_subscriptions.specs.Filters.{Member, At, GroupList, direct_rows, group_rows}
+use Rattle.mq_subscriptions.specs.Filters.{Member, At, GroupList, unshared_rows, group_rows}
 use Rattle.mq_subscriptions.specs.Filters.{NoneEmpty}
 use Rattle.mq_subscriptions.specs.Filters.{AreListed, SubscriptionsView, entries_view}
 use Rattle.mq_subscriptions.specs.declared.subscriptions.group.Group.TheInside as in_group
@@ -27,7 +27,7 @@ NoneIsEmpty inside = NoneEmpty (groups_of inside)
 abbrev pub at_of : in_at.Inside → At
 at_of inside = record {
   filter = inside.filter.value;
-  rows = direct_rows inside.filter.value (texts inside.direct.entries)
+  rows = unshared_rows inside.filter.value (texts inside.unshared.entries)
       ++ group_rows inside.filter.value inside.groups;
 }
 

@@ -150,10 +150,10 @@ impl Subscriptions {
     {
         // Learns that the clients are in order.
         let _count = self.lists.len();
-        let Some(own) = self.lists.remove(client) else {
+        let Some(filters) = self.lists.remove(client) else {
             return;
         };
-        leave_all(&mut self.tree, &own, client);
+        leave_all(&mut self.tree, &filters, client);
     }
 
     /// What is kept at the filters that match the name, in level order of the filters.
@@ -276,13 +276,13 @@ fn leave_in(tree: &mut LevelTree<FilterEntry>, client: &str, text: &str) -> bool
 }
 
 // Takes a client's subscriptions out of the tree.
-fn leave_all(tree: &mut LevelTree<FilterEntry>, own: &ClientFilters, client: &str)
+fn leave_all(tree: &mut LevelTree<FilterEntry>, filters: &ClientFilters, client: &str)
     requires { AreEntries tree.old }
     ensures rows { all_rows tree.new ≡ filter
-        (λ s. not (same_text s.client client.now && is_in_list own.now s)) (all_rows tree.old) }
+        (λ s. not (same_text s.client client.now && is_in_list filters.now s)) (all_rows tree.old) }
     ensures kept { AreEntries tree.new }
 {
-    for text in own.texts() {
+    for text in filters.texts() {
         let _ = leave_in(tree, client, text.as_str());
     }
 }
@@ -301,8 +301,8 @@ fn list_add(
     ensures live { NoneEmptied lists.new.entries }
 {
     match lists.get_mut(client) {
-        Some(own) => {
-            own.add(alloc, text)?;
+        Some(filters) => {
+            filters.add(alloc, text)?;
             Ok(())
         }
         None => list_begin(lists, alloc, client, text),
@@ -326,9 +326,9 @@ fn list_begin(
 {
     let _count = lists.len();
     let client = client.clone()?;
-    let mut own = ClientFilters::new(alloc);
-    own.add(alloc, text)?;
-    lists.insert(client, own)?;
+    let mut filters = ClientFilters::new(alloc);
+    filters.add(alloc, text)?;
+    lists.insert(client, filters)?;
     Ok(())
 }
 
@@ -340,11 +340,11 @@ fn list_remove(lists: &mut BTreeMap<RcStr, ClientFilters>, client: &str, text: &
     ensures live { NoneEmptied lists.new.entries }
 {
     let _count = lists.len();
-    let Some(own) = lists.get_mut(client) else {
+    let Some(filters) = lists.get_mut(client) else {
         return;
     };
-    own.remove(text);
-    if own.is_empty() {
+    filters.remove(text);
+    if filters.is_empty() {
         let _ = lists.remove(client);
     }
 }

@@ -6,7 +6,7 @@ use Rattle.mq_acl.specs.Access.{allowed}
 use Rattle.mq_world.specs.Lists.{Text, with_row}
 use Rattle.mq_world.specs.World.{World, Request, Connect, Disconnect, Subscribe, Unsubscribe, Publish, SetAcl, Advance, Stat, Group, Copy, Reply, fresh_world, empty_world, within}
 use Rattle.mq_world.specs.Refusals.{refusal}
-use Rattle.mq_world.specs.Copies.{direct_copies}
+use Rattle.mq_world.specs.Copies.{unshared_copies}
 use Rattle.mq_world.specs.Groups.{groups_of, served_rows}
 use Rattle.mq_world.specs.Retained.{retained_after, retained_copies}
 use Rattle.mq_world.specs.Waiting.{resumed_copies, begins_to_wait}
@@ -84,7 +84,7 @@ access_list_lines : answers empty_world access_list_lines-script
     ∷ ok [] 0
     ∷ Err NotAuthorized
     ∷ [])
-unfolding fresh_world refusal answer after next with_row allowed direct_copies groups_of served_rows
+unfolding fresh_world refusal answer after next with_row allowed unshared_copies groups_of served_rows
     retained_after retained_copies resumed_copies begins_to_wait filters_of counts
 access_list_lines = refl
 
@@ -126,7 +126,7 @@ access_list : answers empty_world access_list-script
     ∷ Err NotAuthorized
     ∷ Err NotAuthorized
     ∷ [])
-unfolding fresh_world refusal answer after next with_row allowed direct_copies groups_of served_rows
+unfolding fresh_world refusal answer after next with_row allowed unshared_copies groups_of served_rows
     retained_after retained_copies resumed_copies begins_to_wait filters_of counts
 access_list = refl
 
@@ -182,7 +182,7 @@ away_session : answers empty_world away_session-script
     ∷ ok [] 0
     ∷ counted_reply 0 0 0
     ∷ [])
-unfolding fresh_world refusal answer after next with_row allowed direct_copies groups_of served_rows
+unfolding fresh_world refusal answer after next with_row allowed unshared_copies groups_of served_rows
     retained_after retained_copies resumed_copies begins_to_wait filters_of counts
 away_session = refl
 
@@ -200,7 +200,7 @@ clock_limit : answers empty_world clock_limit-script
     ∷ ok [] 0
     ∷ Err ClockTooFar
     ∷ [])
-unfolding fresh_world refusal answer after next with_row allowed direct_copies groups_of served_rows
+unfolding fresh_world refusal answer after next with_row allowed unshared_copies groups_of served_rows
     retained_after retained_copies resumed_copies begins_to_wait filters_of counts
 clock_limit = refl
 
@@ -234,7 +234,7 @@ dollar_names : answers empty_world dollar_names-script
     ∷ ok [] 0
     ∷ ok (record { client = (codes "a"); topic = (codes "a/$x"); payload = (codes "x"); qos = 0; retain = false; expiry = None; identifiers = []; group = None } ∷ record { client = (codes "b"); topic = (codes "a/$x"); payload = (codes "x"); qos = 0; retain = false; expiry = None; identifiers = []; group = None } ∷ []) 0
     ∷ [])
-unfolding fresh_world refusal answer after next with_row allowed direct_copies groups_of served_rows
+unfolding fresh_world refusal answer after next with_row allowed unshared_copies groups_of served_rows
     retained_after retained_copies resumed_copies begins_to_wait filters_of counts
 dollar_names = refl
 
@@ -270,7 +270,7 @@ expiry_replaced : answers empty_world expiry_replaced-script
     ∷ Err ClockTooFar
     ∷ ok (record { client = (codes "a"); topic = (codes "w"); payload = (codes "x"); qos = 0; retain = true; expiry = (Some 1); identifiers = []; group = None } ∷ []) 0
     ∷ [])
-unfolding fresh_world refusal answer after next with_row allowed direct_copies groups_of served_rows
+unfolding fresh_world refusal answer after next with_row allowed unshared_copies groups_of served_rows
     retained_after retained_copies resumed_copies begins_to_wait filters_of counts
 expiry_replaced = refl
 
@@ -292,7 +292,7 @@ first_look : answers empty_world first_look-script
     ∷ ok (record { client = (codes "a"); topic = (codes "a/b/c"); payload = []; qos = 0; retain = false; expiry = None; identifiers = []; group = None } ∷ []) 0
     ∷ ok [] 16
     ∷ [])
-unfolding fresh_world refusal answer after next with_row allowed direct_copies groups_of served_rows
+unfolding fresh_world refusal answer after next with_row allowed unshared_copies groups_of served_rows
     retained_after retained_copies resumed_copies begins_to_wait filters_of counts
 first_look = refl
 
@@ -330,7 +330,7 @@ first_path : answers empty_world first_path-script
     ∷ Err TopicFilter
     ∷ Err ClientId
     ∷ [])
-unfolding fresh_world refusal answer after next with_row allowed direct_copies groups_of served_rows
+unfolding fresh_world refusal answer after next with_row allowed unshared_copies groups_of served_rows
     retained_after retained_copies resumed_copies begins_to_wait filters_of counts
 first_path = refl
 
@@ -374,7 +374,7 @@ group_and_access : answers empty_world group_and_access-script
     ∷ ok [] 0
     ∷ ok (record { client = (codes "b"); topic = (codes "t"); payload = (codes "x"); qos = 0; retain = false; expiry = None; identifiers = []; group = group (codes "g") (codes "t") } ∷ []) 0
     ∷ [])
-unfolding fresh_world refusal answer after next with_row allowed direct_copies groups_of served_rows
+unfolding fresh_world refusal answer after next with_row allowed unshared_copies groups_of served_rows
     retained_after retained_copies resumed_copies begins_to_wait filters_of counts
 group_and_access = refl
 
@@ -420,7 +420,7 @@ group_turns : answers empty_world group_turns-script
     ∷ ok [] 0
     ∷ ok (record { client = (codes "c"); topic = (codes "t"); payload = (codes "x"); qos = 0; retain = false; expiry = None; identifiers = []; group = group (codes "g") (codes "t") } ∷ []) 0
     ∷ [])
-unfolding fresh_world refusal answer after next with_row allowed direct_copies groups_of served_rows
+unfolding fresh_world refusal answer after next with_row allowed unshared_copies groups_of served_rows
     retained_after retained_copies resumed_copies begins_to_wait filters_of counts
 group_turns = refl
 
@@ -448,7 +448,7 @@ leaving : answers empty_world leaving-script
     ∷ Err TopicFilter
     ∷ Err ClientId
     ∷ [])
-unfolding fresh_world refusal answer after next with_row allowed direct_copies groups_of served_rows
+unfolding fresh_world refusal answer after next with_row allowed unshared_copies groups_of served_rows
     retained_after retained_copies resumed_copies begins_to_wait filters_of counts
 leaving = refl
 
@@ -496,7 +496,7 @@ limits : answers (within (record { retained = (Some 1); queued = 1 }) empty_worl
     ∷ ok [] 0
     ∷ Err NotAuthorized
     ∷ [])
-unfolding fresh_world refusal answer after next with_row allowed direct_copies groups_of served_rows
+unfolding fresh_world refusal answer after next with_row allowed unshared_copies groups_of served_rows
     retained_after retained_copies resumed_copies begins_to_wait filters_of counts
 limits = refl
 
@@ -532,7 +532,7 @@ memory_refused : answers empty_world memory_refused-script
     ∷ ok [] 0
     ∷ counted_reply 3 1 3
     ∷ [])
-unfolding fresh_world refusal answer after next with_row allowed direct_copies groups_of served_rows
+unfolding fresh_world refusal answer after next with_row allowed unshared_copies groups_of served_rows
     retained_after retained_copies resumed_copies begins_to_wait filters_of counts
 memory_refused = refl
 
@@ -570,7 +570,7 @@ message_expiry : answers empty_world message_expiry-script
     ∷ ok (record { client = (codes "a"); topic = (codes "t"); payload = []; qos = 0; retain = false; expiry = None; identifiers = []; group = None } ∷ []) 0
     ∷ ok [] 0
     ∷ [])
-unfolding fresh_world refusal answer after next with_row allowed direct_copies groups_of served_rows
+unfolding fresh_world refusal answer after next with_row allowed unshared_copies groups_of served_rows
     retained_after retained_copies resumed_copies begins_to_wait filters_of counts
 message_expiry = refl
 
@@ -598,7 +598,7 @@ no_local_first : answers empty_world no_local_first-script
     ∷ ok [] 0
     ∷ ok (record { client = (codes "a"); topic = (codes "t"); payload = (codes "x"); qos = 0; retain = false; expiry = None; identifiers = (4 ∷ 6 ∷ []); group = None } ∷ []) 0
     ∷ [])
-unfolding fresh_world refusal answer after next with_row allowed direct_copies groups_of served_rows
+unfolding fresh_world refusal answer after next with_row allowed unshared_copies groups_of served_rows
     retained_after retained_copies resumed_copies begins_to_wait filters_of counts
 no_local_first = refl
 
@@ -624,7 +624,7 @@ no_local : answers empty_world no_local-script
     ∷ ok (record { client = (codes "a"); topic = (codes "t"); payload = (codes "x"); qos = 0; retain = false; expiry = None; identifiers = (6 ∷ []); group = None } ∷ []) 0
     ∷ ok [] 0
     ∷ [])
-unfolding fresh_world refusal answer after next with_row allowed direct_copies groups_of served_rows
+unfolding fresh_world refusal answer after next with_row allowed unshared_copies groups_of served_rows
     retained_after retained_copies resumed_copies begins_to_wait filters_of counts
 no_local = refl
 
@@ -646,7 +646,7 @@ order_of_groups : answers empty_world order_of_groups-script
     ∷ ok [] 0
     ∷ ok (record { client = (codes "a"); topic = (codes "t"); payload = (codes "x"); qos = 0; retain = false; expiry = None; identifiers = (1 ∷ []); group = None } ∷ record { client = (codes "a"); topic = (codes "t"); payload = (codes "x"); qos = 0; retain = true; expiry = None; identifiers = []; group = group (codes "f") (codes "+") } ∷ record { client = (codes "a"); topic = (codes "t"); payload = (codes "x"); qos = 0; retain = false; expiry = None; identifiers = []; group = group (codes "g") (codes "#") } ∷ record { client = (codes "a"); topic = (codes "t"); payload = (codes "x"); qos = 0; retain = false; expiry = None; identifiers = (2 ∷ []); group = group (codes "g") (codes "t") } ∷ []) 0
     ∷ [])
-unfolding fresh_world refusal answer after next with_row allowed direct_copies groups_of served_rows
+unfolding fresh_world refusal answer after next with_row allowed unshared_copies groups_of served_rows
     retained_after retained_copies resumed_copies begins_to_wait filters_of counts
 order_of_groups = refl
 
@@ -672,7 +672,7 @@ overlapping_identifiers_first : answers empty_world overlapping_identifiers_firs
     ∷ ok [] 1
     ∷ ok (record { client = (codes "a"); topic = (codes "a/b"); payload = (codes "x"); qos = 1; retain = false; expiry = None; identifiers = (7 ∷ 7 ∷ []); group = None } ∷ []) 0
     ∷ [])
-unfolding fresh_world refusal answer after next with_row allowed direct_copies groups_of served_rows
+unfolding fresh_world refusal answer after next with_row allowed unshared_copies groups_of served_rows
     retained_after retained_copies resumed_copies begins_to_wait filters_of counts
 overlapping_identifiers_first = refl
 
@@ -696,7 +696,7 @@ overlapping_identifiers : answers empty_world overlapping_identifiers-script
     ∷ ok [] 1
     ∷ ok (record { client = (codes "a"); topic = (codes "a/b"); payload = (codes "x"); qos = 0; retain = true; expiry = None; identifiers = (7 ∷ 7 ∷ []); group = None } ∷ []) 0
     ∷ [])
-unfolding fresh_world refusal answer after next with_row allowed direct_copies groups_of served_rows
+unfolding fresh_world refusal answer after next with_row allowed unshared_copies groups_of served_rows
     retained_after retained_copies resumed_copies begins_to_wait filters_of counts
 overlapping_identifiers = refl
 
@@ -728,7 +728,7 @@ refusals : answers empty_world refusals-script
     ∷ Err UserName
     ∷ ok [] 16
     ∷ [])
-unfolding fresh_world refusal answer after next with_row allowed direct_copies groups_of served_rows
+unfolding fresh_world refusal answer after next with_row allowed unshared_copies groups_of served_rows
     retained_after retained_copies resumed_copies begins_to_wait filters_of counts
 refusals = refl
 
@@ -766,7 +766,7 @@ retain_handling_unshared : answers empty_world retain_handling_unshared-script
     ∷ ok (record { client = (codes "a"); topic = (codes "t"); payload = (codes "x"); qos = 0; retain = true; expiry = None; identifiers = []; group = None } ∷ []) 0
     ∷ ok [] 17
     ∷ [])
-unfolding fresh_world refusal answer after next with_row allowed direct_copies groups_of served_rows
+unfolding fresh_world refusal answer after next with_row allowed unshared_copies groups_of served_rows
     retained_after retained_copies resumed_copies begins_to_wait filters_of counts
 retain_handling_unshared = refl
 
@@ -802,7 +802,7 @@ retain_handling : answers empty_world retain_handling-script
     ∷ ok (record { client = (codes "a"); topic = (codes "t"); payload = (codes "x"); qos = 0; retain = true; expiry = None; identifiers = []; group = None } ∷ []) 0
     ∷ ok [] 17
     ∷ [])
-unfolding fresh_world refusal answer after next with_row allowed direct_copies groups_of served_rows
+unfolding fresh_world refusal answer after next with_row allowed unshared_copies groups_of served_rows
     retained_after retained_copies resumed_copies begins_to_wait filters_of counts
 retain_handling = refl
 
@@ -848,7 +848,7 @@ retained_and_access : answers empty_world retained_and_access-script
     ∷ ok [] 0
     ∷ ok (record { client = (codes "a"); topic = (codes "b"); payload = (codes "x"); qos = 0; retain = true; expiry = None; identifiers = []; group = None } ∷ []) 0
     ∷ [])
-unfolding fresh_world refusal answer after next with_row allowed direct_copies groups_of served_rows
+unfolding fresh_world refusal answer after next with_row allowed unshared_copies groups_of served_rows
     retained_after retained_copies resumed_copies begins_to_wait filters_of counts
 retained_and_access = refl
 
@@ -872,7 +872,7 @@ retained_order : answers empty_world retained_order-script
     ∷ ok [] 16
     ∷ ok (record { client = (codes "a"); topic = (codes "/a"); payload = (codes "x"); qos = 0; retain = true; expiry = None; identifiers = []; group = None } ∷ record { client = (codes "a"); topic = (codes "a"); payload = (codes "x"); qos = 0; retain = true; expiry = None; identifiers = []; group = None } ∷ record { client = (codes "a"); topic = (codes "a/b"); payload = (codes "x"); qos = 0; retain = true; expiry = None; identifiers = []; group = None } ∷ record { client = (codes "a"); topic = (codes "a b"); payload = (codes "x"); qos = 0; retain = true; expiry = None; identifiers = []; group = None } ∷ []) 0
     ∷ [])
-unfolding fresh_world refusal answer after next with_row allowed direct_copies groups_of served_rows
+unfolding fresh_world refusal answer after next with_row allowed unshared_copies groups_of served_rows
     retained_after retained_copies resumed_copies begins_to_wait filters_of counts
 retained_order = refl
 
@@ -902,7 +902,7 @@ session_begun_anew : answers empty_world session_begun_anew-script
     ∷ Err NotConnected
     ∷ Err NotConnected
     ∷ [])
-unfolding fresh_world refusal answer after next with_row allowed direct_copies groups_of served_rows
+unfolding fresh_world refusal answer after next with_row allowed unshared_copies groups_of served_rows
     retained_after retained_copies resumed_copies begins_to_wait filters_of counts
 session_begun_anew = refl
 
@@ -928,7 +928,7 @@ session_taken_over : answers empty_world session_taken_over-script
     ∷ ok [] 0
     ∷ ok [] 16
     ∷ [])
-unfolding fresh_world refusal answer after next with_row allowed direct_copies groups_of served_rows
+unfolding fresh_world refusal answer after next with_row allowed unshared_copies groups_of served_rows
     retained_after retained_copies resumed_copies begins_to_wait filters_of counts
 session_taken_over = refl
 
@@ -950,7 +950,7 @@ single_level_wildcard : answers empty_world single_level_wildcard-script
     ∷ ok (record { client = (codes "a"); topic = (codes "/finance"); payload = (codes "x"); qos = 0; retain = false; expiry = None; identifiers = (1 ∷ 2 ∷ []); group = None } ∷ []) 0
     ∷ ok (record { client = (codes "a"); topic = (codes "finance"); payload = (codes "x"); qos = 0; retain = false; expiry = None; identifiers = (9 ∷ []); group = None } ∷ []) 0
     ∷ [])
-unfolding fresh_world refusal answer after next with_row allowed direct_copies groups_of served_rows
+unfolding fresh_world refusal answer after next with_row allowed unshared_copies groups_of served_rows
     retained_after retained_copies resumed_copies begins_to_wait filters_of counts
 single_level_wildcard = refl
 
@@ -990,7 +990,7 @@ stat_counts : answers empty_world stat_counts-script
     ∷ ok [] 0
     ∷ counted_reply 0 0 0
     ∷ [])
-unfolding fresh_world refusal answer after next with_row allowed direct_copies groups_of served_rows
+unfolding fresh_world refusal answer after next with_row allowed unshared_copies groups_of served_rows
     retained_after retained_copies resumed_copies begins_to_wait filters_of counts
 stat_counts = refl
 
@@ -1028,6 +1028,6 @@ two_groups : answers empty_world two_groups-script
     ∷ ok (record { client = (codes "b"); topic = (codes "t"); payload = (codes "x"); qos = 0; retain = false; expiry = None; identifiers = []; group = group (codes "g") (codes "+") } ∷ record { client = (codes "b"); topic = (codes "t"); payload = (codes "x"); qos = 0; retain = false; expiry = None; identifiers = []; group = group (codes "g") (codes "t") } ∷ []) 0
     ∷ ok (record { client = (codes "b"); topic = (codes "t"); payload = (codes "x"); qos = 0; retain = false; expiry = None; identifiers = []; group = group (codes "g") (codes "+") } ∷ record { client = (codes "a"); topic = (codes "t"); payload = (codes "x"); qos = 0; retain = false; expiry = None; identifiers = []; group = group (codes "g") (codes "t") } ∷ []) 0
     ∷ [])
-unfolding fresh_world refusal answer after next with_row allowed direct_copies groups_of served_rows
+unfolding fresh_world refusal answer after next with_row allowed unshared_copies groups_of served_rows
     retained_after retained_copies resumed_copies begins_to_wait filters_of counts
 two_groups = refl

@@ -7,7 +7,7 @@ use Rattle.mq_world.specs.World.{Unsubscribe, Publish, SetAcl, Advance, Stat, Co
 use Rattle.mq_world.specs.World.{subscription_of}
 use Rattle.mq_world.specs.World.{has_key, subscriptions_of}
 use Rattle.mq_world.specs.Sessions.{connected}
-use Rattle.mq_world.specs.Copies.{direct_copies}
+use Rattle.mq_world.specs.Copies.{unshared_copies}
 use Rattle.mq_world.specs.Waiting.{resumed_copies, begins_to_wait}
 use Rattle.mq_world.specs.Groups.{group_copies}
 use Rattle.mq_world.specs.Retained.{sent_to}
@@ -20,7 +20,7 @@ reason n = record { copies = []; outcome = Reason n }
 
 -- the copies that a publish sends: those for clients that are connected, then those for groups
 abbrev pub copies_of : World → Message → List Copy
-copies_of w m = direct_copies w.access (connected w.sessions) (subscriptions_of w) m
+copies_of w m = unshared_copies w.access (connected w.sessions) (subscriptions_of w) m
     ++ group_copies w m
 
 -- a publish has reason 16, no matching subscribers, where no copy is sent and none begins to wait

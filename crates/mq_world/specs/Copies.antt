@@ -40,16 +40,16 @@ abbrev pub options_for : List Subscription → Message → Text → List Subscri
 options_for subscriptions m id = map (λ s. s.options) (filter (takes_part m id) subscriptions)
 
 -- one copy for a client with this user name, unless no subscription takes part or it may not read the topic
-abbrev pub direct_copy : Option (List AclRow) → List Subscription → Message → Text → Option Text
+abbrev pub unshared_copy : Option (List AclRow) → List Subscription → Message → Text → Option Text
     → Option Copy
-direct_copy access subscriptions m id user =
+unshared_copy access subscriptions m id user =
     let options = options_for subscriptions m id in
     if not (length options == 0) && allowed access id user m.topic Reading
     then Some (copy_by id None m options)
     else None
 
 -- for each session, by client id
-unfoldable pub direct_copies : Option (List AclRow) → List Session → List Subscription → Message
+unfoldable pub unshared_copies : Option (List AclRow) → List Session → List Subscription → Message
     → List Copy
-direct_copies access sessions subscriptions m =
-    filter_map (λ session. direct_copy access subscriptions m session.id session.user) sessions
+unshared_copies access sessions subscriptions m =
+    filter_map (λ session. unshared_copy access subscriptions m session.id session.user) sessions

@@ -8,7 +8,7 @@ use Rattle.mq_world.specs.Lists.{Text}
 use Rattle.mq_world.specs.World.{Session, Subscription, Waiting, Message, Copy}
 use Rattle.mq_world.specs.Clock.{deadline_of, is_over, time_left}
 use Rattle.mq_world.specs.Sessions.{session_of, is_present, resumes}
-use Rattle.mq_world.specs.Copies.{direct_copy}
+use Rattle.mq_world.specs.Copies.{unshared_copy}
 
 -- ## What a publish leaves waiting
 
@@ -29,7 +29,7 @@ abbrev pub waiting_copy : ℕ → Option (List AclRow) → List Subscription →
     → Option Copy
 waiting_copy limit access subscriptions m session =
     if has_room limit session
-    then option_and_then with_qos (direct_copy access subscriptions m session.id session.user)
+    then option_and_then with_qos (unshared_copy access subscriptions m session.id session.user)
     else None
 
 unfoldable pub begins_to_wait : ℕ → Option (List AclRow) → List Session → List Subscription

@@ -17,7 +17,7 @@ use Rattle.mq_sessions.specs.Queue.{Begin}
 use Rattle.mq_router.specs.delivery.Copies.{queued_by}
 use Rattle.mq_world.specs.Waiting.{begins_to_wait, waiting_after, resumed_copies}
 use Rattle.mq_world.specs.Refusals.{refusal}
-use Rattle.mq_world.specs.Copies.{direct_copies}
+use Rattle.mq_world.specs.Copies.{unshared_copies}
 use Rattle.mq_world.specs.Groups.{group_copy}
 use Rattle.mq_world.specs.Retained.{asks_for_retained, retained_copies, retained_after}
 use Rattle.mq_world.specs.Retained.{without_expired}
@@ -60,7 +60,7 @@ member_copy m s = group_copy m (row_without_stamp s)
 abbrev pub message_copies : Option (List AclRow) → List Session → List Subscription → Message
     → List Copy
 message_copies access sessions subscriptions m =
-    direct_copies access (connected sessions) subscriptions m
+    unshared_copies access (connected sessions) subscriptions m
     ++ map (member_copy m) (next_members access sessions subscriptions m)
 
 -- those of a state

@@ -21,20 +21,20 @@ use std::rc::RcStr;
 
 /// The copies that are sent, and those that begin to wait.
 #[derive(Drop)]
-pub(crate) struct Direct {
+pub(crate) struct Unshared {
     pub(crate) copies: Vec<Delivery>,
     pub(crate) queued: Vec<QueuedCopy>,
 }
 
 /// The copies for the clients that may read the topic, by client id: for those that are connected, and for those that are
 /// away and have room.
-pub(crate) fn direct_copies(
+pub(crate) fn unshared_copies(
     alloc: Global,
     readers: &Readers,
     matches: &[Match],
     outgoing: &Outgoing,
     limit: u32,
-) -> Result<Direct, AllocError>
+) -> Result<Unshared, AllocError>
     requires { AreByClient (match_views matches.now) }
     ensures copies { IfOk result (λ d. copies_in d.copies
         ≡ copies_by readers.now.access.now readers.now.sessions.now
@@ -48,12 +48,12 @@ pub(crate) fn direct_copies(
     let most = matches.len().min(readers.sessions.len());
     let mut copies = Vec::with_capacity(alloc, most)?;
     let mut queued = Vec::new(alloc);
-    for own in matches.chunk_by(|a, b| a.client == b.client) {
-        let client = own[0].client;
+    for chunk in matches.chunk_by(|a, b| a.client == b.client) {
+        let client = chunk[0].client;
         match readers.way(client, outgoing.message.topic, limit) {
-            Way::Sent => copies.push(own_copy(alloc, client, own, outgoing)?)?,
+            Way::Sent => copies.push(unshared_copy(alloc, client, chunk, outgoing)?)?,
             Way::Waits => {
-                let copy = own_copy(alloc, client, own, outgoing)?;
+                let copy = unshared_copy(alloc, client, chunk, outgoing)?;
                 if let Some(one) = begin(alloc, copy, outgoing.message.deadline)? {
                     queued.push(one)?;
                 }
@@ -61,29 +61,29 @@ pub(crate) fn direct_copies(
             Way::Nowhere => {}
         }
     }
-    Ok(Direct { copies, queued })
+    Ok(Unshared { copies, queued })
 }
 
 // The copy for a client, by its subscriptions.
-fn own_copy(
+fn unshared_copy(
     alloc: Global,
     client: &RcStr,
-    own: &[Match],
+    matches: &[Match],
     outgoing: &Outgoing,
 ) -> Result<Delivery, AllocError>
     ensures { IfOk result (λ d. copy_of d
         ≡ copy_from (rc_str_bytes client.now) None (message_of outgoing.now.message)
-        (summary_of (map (λ x. options_of x.options) own.now))) }
+        (summary_of (map (λ x. options_of x.options) matches.now))) }
 {
-    outgoing.copy(client.clone()?, None, summarize(alloc, own)?)
+    outgoing.copy(client.clone()?, None, summarize(alloc, matches)?)
 }
 
-fn summarize(alloc: Global, own: &[Match]) -> Result<Summary, AllocError>
+fn summarize(alloc: Global, matches: &[Match]) -> Result<Summary, AllocError>
     ensures { IfOk result (λ summary. summary
-        ≡ summary_of (map (λ x. options_of x.options) own.now)) }
+        ≡ summary_of (map (λ x. options_of x.options) matches.now)) }
 {
     let mut summary = Summary::new(alloc);
-    for one in own {
+    for one in matches {
         summary.add(one.options)?;
     }
     Ok(summary)

@@ -31,7 +31,7 @@ use std::rc::{Rc, RcStr};
 #[derive(Drop)]
 pub struct FilterEntry {
     filter: Rc<TopicFilter>,
-    direct: BTreeMap<RcStr, SubscriptionOptions>,
+    unshared: BTreeMap<RcStr, SubscriptionOptions>,
     groups: ShareGroups,
 }
 
@@ -51,7 +51,7 @@ impl FilterEntry {
     {
         FilterEntry {
             filter,
-            direct: BTreeMap::new(alloc),
+            unshared: BTreeMap::new(alloc),
             groups: ShareGroups::new(alloc),
         }
     }
@@ -60,7 +60,7 @@ impl FilterEntry {
     pub fn is_empty(&self) -> bool
         ensures { result ≡ is_empty self.now.rows }
     {
-        self.direct.is_empty() && self.groups.is_empty()
+        self.unshared.is_empty() && self.groups.is_empty()
     }
 
     pub fn contains(&self, share: Option<&str>, client: &str) -> bool
@@ -68,7 +68,7 @@ impl FilterEntry {
             self.now.rows }
     {
         match share {
-            None => self.direct.contains_key(client),
+            None => self.unshared.contains_key(client),
             Some(share) => self.groups.contains(share, client),
         }
     }
@@ -90,10 +90,10 @@ impl FilterEntry {
         ensures err { OnErr result (self.new ≡ self.old) }
     {
         // Learns that the clients are in order.
-        let _count = self.direct.len();
+        let _count = self.unshared.len();
         match share {
             None => {
-                self.direct.insert(client, options)?;
+                self.unshared.insert(client, options)?;
                 Ok(())
             }
             Some(share) => self.groups.join(alloc, share, client, options),
@@ -110,10 +110,10 @@ impl FilterEntry {
         ensures here { AreHere self.new }
     {
         // Learns that the clients are in order.
-        let _count = self.direct.len();
+        let _count = self.unshared.len();
         match share {
             None => {
-                let _ = self.direct.remove(client);
+                let _ = self.unshared.remove(client);
             }
             Some(share) => self.groups.leave(share, client),
         }
@@ -131,8 +131,8 @@ impl FilterEntry {
     }
 
     /// How many clients subscribe in their own name.
-    pub fn own_count(&self) -> usize {
-        self.direct.len()
+    pub fn unshared_count(&self) -> usize {
+        self.unshared.len()
     }
 
     /// Adds the subscriptions of clients in their own name that take part in a message that the filter matches.
@@ -144,7 +144,7 @@ impl FilterEntry {
         ensures { OnOk result (match_views matches.new.items ≡ match_views matches.old.items
             ++ unshared_matches (message_of message.now) self.now.rows) }
     {
-        for (client, options) in &self.direct {
+        for (client, options) in &self.unshared {
             if !is_held_back(*options, client.as_str(), message) {
                 matches.push(Match {
                     client,
@@ -175,7 +175,7 @@ impl Counted for FilterEntry {
     ghost count_of = { λ at. length at.rows };
 
     fn count(&self) -> u64 {
-        (self.direct.len() as u64).saturating_add(self.groups.member_count())
+        (self.unshared.len() as u64).saturating_add(self.groups.member_count())
     }
 }
 

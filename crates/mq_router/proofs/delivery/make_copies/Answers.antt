@@ -5,7 +5,7 @@ use Rattle.mq_world.specs.World.{Subscription}
 use Rattle.mq_world.specs.Sessions.{connected}
 use Rattle.mq_subscriptions.specs.Turns.{next_members}
 use Rattle.mq_router.specs.router.Effects.{member_copy}
-use Rattle.mq_world.specs.Copies.{filter_matches, direct_copies}
+use Rattle.mq_world.specs.Copies.{filter_matches, unshared_copies}
 use Rattle.mq_subscriptions.specs.Matches.{rows_found}
 use Rattle.mq_router.specs.delivery.Copies.{gives_options}
 use Rattle.mq_router.specs.delivery.Summaries.{summary_for}
@@ -14,8 +14,8 @@ use Rattle.mq_sessions.specs.Views.{begin_of}
 use Rattle.mq_subscriptions.specs.Turns.{turns_in}
 use Rattle.mq_subscriptions.specs.Matches.{match_views, options_among}
 use Rattle.mq_router.specs.delivery.Copies.{by_client}
-use Rattle.mq_router.proofs.ClientLemmas.{sorted-by_client, lookup-by_client, options-own}
-use Rattle.mq_router.proofs.UnsharedCopies.{own-copies, own-queued, options-matching}
+use Rattle.mq_router.proofs.ClientLemmas.{sorted-by_client, lookup-by_client, options-unshared}
+use Rattle.mq_router.proofs.UnsharedCopies.{unshared-gathered, unshared-queued, options-matching}
 use Rattle.mq_router.proofs.GroupLemmas.{members-matching}
 use Rattle.mq_router.proofs.NothingLemmas.{empty-is, no-copies, no-queued, no-members}
 use Rattle.mq_router.proofs.delivery.make_copies.Goals as goal
@@ -84,12 +84,12 @@ returns-clause-queued c =
     let ms = match_views c.as_slice.result.now in
     IfOk-weaker c.made_for.result _ _
     (λ made e. e
-    ∙ own-queued c.args.limit A S subs m c.args.message.now.deadline (by_client ms)
+    ∙ unshared-queued c.args.limit A S subs m c.args.message.now.deadline (by_client ms)
     c.len-sessions.ensures.ordered (sorted-by_client ms)
     (λ id. lookup-by_client id ms
     ∙ ap summary_for (ap (λ l. options_among id (match_views l)) c.as_slice.ensures.value
     ∙ c.in_ok-matches.ensures.options id
-    ∙ options-own m id (rows_found (map (λ a. a.now) c.as_slice-found.result.now))
+    ∙ options-unshared m id (rows_found (map (λ a. a.now) c.as_slice-found.result.now))
     ∙ ap (λ l. gives_options m id (rows_found (map (λ a. a.now) l))) c.as_slice-found.ensures.value
     ∙ ap (gives_options m id) c.in_ok-candidates.ensures.rows ∙ options-matching m id subs)))
     c.made_for.ensures.queued
@@ -102,18 +102,18 @@ returns-clause-copies c =
     let subs = c.args.subscriptions.now.rows in
     let members : List Subscription → List Subscription = λ xs. next_members A S xs m in
     let ms = match_views c.as_slice.result.now in
-    let own = own-copies A S subs m (by_client ms) c.len-sessions.ensures.ordered
+    let own = unshared-gathered A S subs m (by_client ms) c.len-sessions.ensures.ordered
     (sorted-by_client ms)
     (λ id. lookup-by_client id ms
     ∙ ap summary_for (ap (λ l. options_among id (match_views l)) c.as_slice.ensures.value
     ∙ c.in_ok-matches.ensures.options id
-    ∙ options-own m id (rows_found (map (λ a. a.now) c.as_slice-found.result.now))
+    ∙ options-unshared m id (rows_found (map (λ a. a.now) c.as_slice-found.result.now))
     ∙ ap (λ l. gives_options m id (rows_found (map (λ a. a.now) l))) c.as_slice-found.ensures.value
     ∙ ap (gives_options m id) c.in_ok-candidates.ensures.rows ∙ options-matching m id subs)) in
     IfOk-weaker c.made_for.result _ _
     (λ made e. e
     ∙ ap (λ l. l ++ map (member_copy m) (turns_in c.in_ok-served.served)) own
-    ∙ ap (λ l. direct_copies A (connected S) subs m ++ map (member_copy m) l)
+    ∙ ap (λ l. unshared_copies A (connected S) subs m ++ map (member_copy m) l)
     (c.in_ok-served.ensures
     ∙ ap (λ l. members (rows_found (map (λ a. a.now) l))) c.as_slice-found.ensures.value
     ∙ ap members c.in_ok-candidates.ensures.rows

@@ -9,7 +9,7 @@ use Rattle.mq_subscriptions.proofs.subscriptions.leave_all.Given as goal
 abbrev pub invariant-loop-text : goal.invariant-loop-text
 invariant-loop-text l = record {
   rows : filter (leaves l.client (map key_in l.text-iterator)) (all_rows l.tree)
-      ≡ filter (leaves l.client l.own) (all_rows l.initial.tree);
+      ≡ filter (leaves l.client l.filters) (all_rows l.initial.tree);
   kept : AreEntries l.tree;
   valid : AllByRecursion IsAsked l.text-iterator;
 }

@@ -24,7 +24,7 @@ pub returns-in_ok-add-in-Some-clause-ok : goal.returns-in_ok-add-in-Some-clause-
 returns-in_ok-add-in-Some-clause-ok c =
     let w = c.add.new.self in
     added-there (rc_str_bytes c.args.client.now) (text_key c.args.text.now) c.args.lists.now.entries
-    c.get_mut.ensures.ordered c.in-Some.own.now w (c.get_mut.follows.lender w).entries
+    c.get_mut.ensures.ordered c.in-Some.filters.now w (c.get_mut.follows.lender w).entries
     (sym c.get_mut.ensures.value ∙ ap option_copied_mut c.in-Some.is) (c.get_mut.follows.holds w).0
     c.in_ok-add-in-Some.ensures.ok
 
@@ -33,7 +33,7 @@ returns-in_ok-add-in-Some-clause-live c =
     let w = c.add.new.self in
     live-set (rc_str_bytes c.args.client.now) c.args.lists.now.entries w
     (c.get_mut.follows.lender w).entries (c.get_mut.follows.holds w).0
-    (added-live (text_key c.args.text.now) c.in-Some.own.now w c.in_ok-add-in-Some.ensures.ok)
+    (added-live (text_key c.args.text.now) c.in-Some.filters.now w c.in_ok-add-in-Some.ensures.ok)
     c.requires.live
 
 pub returns-in_err-add-in-Some-clause-err : goal.returns-in_err-add-in-Some-clause-err
@@ -43,7 +43,7 @@ returns-in_err-add-in-Some-clause-err c =
     let found = sym c.get_mut.ensures.value ∙ ap option_copied_mut c.in-Some.is in
     on_err c.from_residual.result ((c.get_mut.follows.holds c.add.new.self).0
     ∙ ap (set_value test ls) c.in_err-add-in-Some.ensures.err
-    ∙ set_value_same test ls c.in-Some.own.now found)
+    ∙ set_value_same test ls c.in-Some.filters.now found)
 
 pub returns-in_err-add-in-Some-clause-live : goal.returns-in_err-add-in-Some-clause-live
 returns-in_err-add-in-Some-clause-live c =
@@ -52,7 +52,7 @@ returns-in_err-add-in-Some-clause-live c =
     let found = sym c.get_mut.ensures.value ∙ ap option_copied_mut c.in-Some.is in
     let same = (c.get_mut.follows.holds c.add.new.self).0
     ∙ ap (set_value test ls) c.in_err-add-in-Some.ensures.err
-    ∙ set_value_same test ls c.in-Some.own.now found in
+    ∙ set_value_same test ls c.in-Some.filters.now found in
     subst (λ (es : List (Key × List FilterKey)). AllByRecursion (λ l. is_empty l.1 ≡ false)
     (texts es))
     (sym same) c.requires.live

@@ -11,11 +11,12 @@ returns-clause-ok c =
     c.add.new.self c.insert.new.self.entries c.in_ok-insert.ensures.entries
     (λ s. c.in_ok-add.ensures.ok s ∙ ap
     (λ l. has_filter_key s (text_key c.args.text.now) || is_in_list l s)
-    c.new-own.ensures)
+    c.new-filters.ensures)
 
 pub returns-clause-live : goal.returns-clause-live
 returns-clause-live c =
     live-begun c.args.lists.now.entries c.in_ok-client.client c.add.new.self
     c.insert.new.self.entries c.in_ok-insert.ensures.entries
-    (added-live (text_key c.args.text.now) c.new-own.result c.add.new.self c.in_ok-add.ensures.ok)
+    (added-live (text_key c.args.text.now) c.new-filters.result c.add.new.self
+    c.in_ok-add.ensures.ok)
     c.requires.live

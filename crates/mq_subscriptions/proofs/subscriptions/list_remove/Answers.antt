@@ -16,7 +16,7 @@ pub returns-then-is_empty-clause-rest : goal.returns-then-is_empty-clause-rest
 returns-then-is_empty-clause-rest c =
     let w = c.remove.new.self in
     dropped-last c.args.client.now (text_key c.args.text.now) c.args.lists.now.entries
-    c.get_mut.ensures.ordered c.in-Some.own.now w (c.get_mut.follows.lender w).entries
+    c.get_mut.ensures.ordered c.in-Some.filters.now w (c.get_mut.follows.lender w).entries
     (sym c.get_mut.ensures.value ∙ ap option_copied_mut c.in-Some.is) (c.get_mut.follows.holds w).0
     c.remove-then-is_empty.new.self.entries c.remove-then-is_empty.ensures.entries
     (sym c.is_empty.ensures ∙ c.if-is_empty.true) c.remove.ensures
@@ -32,7 +32,7 @@ pub returns-else-is_empty-clause-rest : goal.returns-else-is_empty-clause-rest
 returns-else-is_empty-clause-rest c =
     let w = c.remove.new.self in
     dropped-there c.args.client.now (text_key c.args.text.now) c.args.lists.now.entries
-    c.get_mut.ensures.ordered c.in-Some.own.now w (c.get_mut.follows.lender w).entries
+    c.get_mut.ensures.ordered c.in-Some.filters.now w (c.get_mut.follows.lender w).entries
     (sym c.get_mut.ensures.value ∙ ap option_copied_mut c.in-Some.is) (c.get_mut.follows.holds w).0
     c.remove.ensures
 

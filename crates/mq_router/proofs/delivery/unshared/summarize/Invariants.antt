@@ -5,4 +5,4 @@ use Rattle.mq_router.proofs.delivery.unshared.summarize.Given as goal
 
 abbrev pub invariant-loop-one : goal.invariant-loop-one
 invariant-loop-one l = l.summary ≡ summary_of
-    (map (λ x. options_of x.options) (take l.one-index l.own))
+    (map (λ x. options_of x.options) (take l.one-index l.matches))

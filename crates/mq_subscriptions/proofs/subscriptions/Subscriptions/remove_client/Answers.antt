@@ -9,19 +9,21 @@ use Rattle.mq_subscriptions.proofs.subscriptions.Subscriptions.remove_client.Goa
 pub invariant_of-self-2 : goal.invariant_of-self-2
 invariant_of-self-2 c =
     let found = sym c.remove.ensures.value ∙ c.in-Some.is in
-    listed-gone c.args.client.now c.self.inside.lists.entries c.in-Some.own
+    listed-gone c.args.client.now c.self.inside.lists.entries c.in-Some.filters
     c.remove.new.self.entries c.self.inside.tree c.leave_all.new.tree (record {
       sorted = c.len-count.ensures.ordered;
       found = found;
       gone = c.remove.ensures.entries;
     }) c.self.invariant c.leave_all.ensures.kept
     (c.leave_all.ensures.rows
-    ∙ all-leave c.args.client.now c.self.inside.lists.entries c.in-Some.own c.self.inside.tree found
+    ∙ all-leave c.args.client.now c.self.inside.lists.entries c.in-Some.filters c.self.inside.tree
+    found
     c.self.invariant)
 
 pub returns-clause-rows : goal.returns-clause-rows
 returns-clause-rows c =
-    c.leave_all.ensures.rows ∙ all-leave c.args.client.now c.self.inside.lists.entries c.in-Some.own
+    c.leave_all.ensures.rows ∙ all-leave c.args.client.now c.self.inside.lists.entries
+    c.in-Some.filters
     c.self.inside.tree (sym c.remove.ensures.value ∙ c.in-Some.is) c.self.invariant
     ∙ ap (λ (k : SubscriptionsView). filter (λ s. not (same_text s.client c.args.client.now))
     k.rows)

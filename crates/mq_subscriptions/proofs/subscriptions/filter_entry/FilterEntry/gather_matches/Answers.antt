@@ -1,5 +1,5 @@
 use Rattle.std.proofs.Common.{◌≡◌, ◌∙◌, ◌++◌, [], ap, subst}
-use Rattle.mq_subscriptions.specs.Filters.{At, direct_rows}
+use Rattle.mq_subscriptions.specs.Filters.{At, unshared_rows}
 use Rattle.mq_subscriptions.specs.Views.{texts}
 use Rattle.mq_subscriptions.specs.Matches.{match_views}
 use Rattle.mq_world.specs.Views.{message_of}
@@ -11,10 +11,10 @@ pub loop-client-init : goal.loop-client-init
 loop-client-init c =
     let m = message_of c.args.message.now in
     let start = match_views c.args.matches.now.items in
-    ap (λ es. start ++ unshared_matches m (direct_rows [] (texts es)))
+    ap (λ es. start ++ unshared_matches m (unshared_rows [] (texts es)))
     c.into_iter-client-iterator.ensures.into_iter_gives.0
     ∙ ap (λ l. start ++ l)
-    (subst (λ (a : At). unshared_matches m (direct_rows [] (texts c.self.inside.direct.entries))
+    (subst (λ (a : At). unshared_matches m (unshared_rows [] (texts c.self.inside.unshared.entries))
     ≡ unshared_matches m a.rows) c.self.view_is
-    (matches-at m c.self.inside.filter.value (texts c.self.inside.direct.entries)
+    (matches-at m c.self.inside.filter.value (texts c.self.inside.unshared.entries)
     c.self.inside.groups))

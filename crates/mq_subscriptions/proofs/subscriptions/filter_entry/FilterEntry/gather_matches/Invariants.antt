@@ -1,5 +1,5 @@
 use Rattle.std.proofs.Common.{◌≡◌, ◌++◌, []}
-use Rattle.mq_subscriptions.specs.Filters.{direct_rows}
+use Rattle.mq_subscriptions.specs.Filters.{unshared_rows}
 use Rattle.mq_subscriptions.specs.Views.{texts}
 use Rattle.mq_subscriptions.specs.Matches.{match_views}
 use Rattle.mq_world.specs.Views.{message_of}
@@ -9,5 +9,5 @@ use Rattle.mq_subscriptions.proofs.subscriptions.filter_entry.FilterEntry.gather
 abbrev pub invariant-loop-client : goal.invariant-loop-client
 invariant-loop-client l =
     match_views l.matches.items ++ unshared_matches (message_of l.message)
-    (direct_rows [] (texts l.client-iterator)) ≡ match_views l.initial.matches.items
+    (unshared_rows [] (texts l.client-iterator)) ≡ match_views l.initial.matches.items
     ++ unshared_matches (message_of l.message) l.self.rows

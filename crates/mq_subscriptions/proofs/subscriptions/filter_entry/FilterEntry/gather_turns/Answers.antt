@@ -18,5 +18,5 @@ returns c =
     c.self.view_is
     (on_ok_weaker c.gather_turns.result (λ h share. h share
     ∙ ap (λ o. turns_listed share old ++ turns_of o)
-    (next-at A S N c.self.inside.filter.value share (texts c.self.inside.direct.entries)
+    (next-at A S N c.self.inside.filter.value share (texts c.self.inside.unshared.entries)
     c.self.inside.groups)) c.gather_turns.ensures)

@@ -6,8 +6,8 @@ use Rattle.mq_subscriptions.proofs.subscriptions.filter_entry.FilterEntryCounted
 pub returns : goal.returns
 returns c =
     let f = c.self.inside.filter.value in
-    let number : length c.args.self.now.rows ≡ length c.self.inside.direct.entries
+    let number : length c.args.self.now.rows ≡ length c.self.inside.unshared.entries
     + length (group_rows f c.self.inside.groups) =
     sym (ap (λ (a : At). length a.rows) c.self.view_is)
-    ∙ at-number f c.self.inside.direct.entries c.self.inside.groups in
+    ∙ at-number f c.self.inside.unshared.entries c.self.inside.groups in
     omega (arith, number, c.saturating_add.ensures, c.member_count.ensures f, c.len.ensures.len)

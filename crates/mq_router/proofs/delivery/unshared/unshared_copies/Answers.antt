@@ -12,43 +12,45 @@ use Rattle.mq_subscriptions.specs.Matches.{match_views}
 use Rattle.mq_router.specs.delivery.Copies.{by_client}
 use Rattle.std.specs.Slice.Iter.{chunk_by_rest}
 use Rattle.mq_router.proofs.ClientLemmas.{next-client, sent-first, waits-first, nowhere-first}
-use Rattle.mq_router.proofs.delivery.unshared.direct_copies.Goals as goal
+use Rattle.mq_router.proofs.delivery.unshared.unshared_copies.Goals as goal
 
-pub loop-own-preserved : goal.loop-own-preserved
-loop-own-preserved c =
+pub loop-chunk-preserved : goal.loop-chunk-preserved
+loop-chunk-preserved c =
     let m = message_of c.args.outgoing.now.message in
     let A = c.args.readers.now.access.now in
     let S = c.args.readers.now.sessions.now in
-    let held = c.loop-own.invariant in
+    let held = c.loop-chunk.invariant in
     let first =
-    next-client _ c.loop-own.own-iterator c.next.new.self c.next.result c.in-Some.own _ c.in-Some.is
+    next-client _ c.loop-chunk.chunk-iterator c.next.new.self c.next.result c.in-Some.chunk _
+    c.in-Some.is
     c.next.ensures.steps
     (answers_always _ _ _ (λ f a r g h. search rules)) held.sorted in
     let step =
     nowhere-first c.args.limit A S m c.args.outgoing.now.message.deadline _ c.way.result
     c.way.ensures.sent c.way.ensures.waits
-    (map copy_of c.loop-own.copies.items) (map begin_of c.loop-own.queued.items)
+    (map copy_of c.loop-chunk.copies.items) (map begin_of c.loop-chunk.queued.items)
     (by_client (match_views (chunk_by_rest c.next.new.self)))
-    (by_client (match_views (chunk_by_rest c.loop-own.own-iterator))) first.1
+    (by_client (match_views (chunk_by_rest c.loop-chunk.chunk-iterator))) first.1
     c.in-Nowhere.is in
     record { sorted = first.0; copies = step.0 ∙ held.copies; queued = step.1 ∙ held.queued }
 
-pub loop-own-preserved-in_default : goal.loop-own-preserved-in_default
-loop-own-preserved-in_default c =
+pub loop-chunk-preserved-in_default : goal.loop-chunk-preserved-in_default
+loop-chunk-preserved-in_default c =
     let m = message_of c.args.outgoing.now.message in
     let A = c.args.readers.now.access.now in
     let S = c.args.readers.now.sessions.now in
-    let held = c.loop-own.invariant in
+    let held = c.loop-chunk.invariant in
     let first =
-    next-client _ c.loop-own.own-iterator c.next.new.self c.next.result c.in-Some.own _ c.in-Some.is
+    next-client _ c.loop-chunk.chunk-iterator c.next.new.self c.next.result c.in-Some.chunk _
+    c.in-Some.is
     c.next.ensures.steps
     (answers_always _ _ _ (λ f a r g h. search rules)) held.sorted in
     let step =
     waits-first c.args.limit A S m c.args.outgoing.now.message.deadline _ c.way.result
     c.way.ensures.sent c.way.ensures.waits
-    (map copy_of c.loop-own.copies.items) (map begin_of c.loop-own.queued.items)
+    (map copy_of c.loop-chunk.copies.items) (map begin_of c.loop-chunk.queued.items)
     (by_client (match_views (chunk_by_rest c.next.new.self)))
-    (by_client (match_views (chunk_by_rest c.loop-own.own-iterator))) first.1
+    (by_client (match_views (chunk_by_rest c.loop-chunk.chunk-iterator))) first.1
     c.in-Waits.is (option_map begin_of c.in_ok-one-in-Waits.field-0)
     (c.in_ok-one-in-Waits.ensures
     ∙ ap (λ k. option_map (begin_with k.client c.args.outgoing.now.message.deadline)
@@ -58,57 +60,59 @@ loop-own-preserved-in_default c =
     record {
       sorted = first.0;
       copies = step.0 ∙ held.copies;
-      queued = ap (λ l. l ++ left) (sym (append-nil (map begin_of c.loop-own.queued.items)))
-          ∙ ap (λ o. (map begin_of c.loop-own.queued.items
+      queued = ap (λ l. l ++ left) (sym (append-nil (map begin_of c.loop-chunk.queued.items)))
+          ∙ ap (λ o. (map begin_of c.loop-chunk.queued.items
           ++ option_to_list (option_map begin_of o))
           ++ left) (sym c.in_default.is)
           ∙ step.1 ∙ held.queued;
     }
 
-pub loop-own-preserved-in_ok-push-in-Sent : goal.loop-own-preserved-in_ok-push-in-Sent
-loop-own-preserved-in_ok-push-in-Sent c =
+pub loop-chunk-preserved-in_ok-push-in-Sent : goal.loop-chunk-preserved-in_ok-push-in-Sent
+loop-chunk-preserved-in_ok-push-in-Sent c =
     let m = message_of c.args.outgoing.now.message in
     let A = c.args.readers.now.access.now in
     let S = c.args.readers.now.sessions.now in
-    let held = c.loop-own.invariant in
+    let held = c.loop-chunk.invariant in
     let first =
-    next-client _ c.loop-own.own-iterator c.next.new.self c.next.result c.in-Some.own _ c.in-Some.is
+    next-client _ c.loop-chunk.chunk-iterator c.next.new.self c.next.result c.in-Some.chunk _
+    c.in-Some.is
     c.next.ensures.steps
     (answers_always _ _ _ (λ f a r g h. search rules)) held.sorted in
-    let copy = c.in_ok-own_copy-in-Sent.field-0 in
+    let copy = c.in_ok-unshared_copy-in-Sent.field-0 in
     let step =
     sent-first c.args.limit A S m c.args.outgoing.now.message.deadline _ c.way.result
     c.way.ensures.sent c.way.ensures.waits
-    (map copy_of c.loop-own.copies.items) (map begin_of c.loop-own.queued.items)
+    (map copy_of c.loop-chunk.copies.items) (map begin_of c.loop-chunk.queued.items)
     (by_client (match_views (chunk_by_rest c.next.new.self)))
-    (by_client (match_views (chunk_by_rest c.loop-own.own-iterator))) first.1
-    c.in-Sent.is (copy_of copy) c.in_ok-own_copy-in-Sent.ensures in
+    (by_client (match_views (chunk_by_rest c.loop-chunk.chunk-iterator))) first.1
+    c.in-Sent.is (copy_of copy) c.in_ok-unshared_copy-in-Sent.ensures in
     let left = copies_by A S m (by_client (match_views (chunk_by_rest c.next.new.self))) in
     record {
       sorted = first.0;
       copies = ap (λ l. map copy_of l ++ left) c.in_ok-push-in-Sent.ensures.items
-          ∙ ap (λ l. l ++ left) (map-append copy_of c.loop-own.copies.items (copy ∷ []))
+          ∙ ap (λ l. l ++ left) (map-append copy_of c.loop-chunk.copies.items (copy ∷ []))
           ∙ step.0 ∙ held.copies;
       queued = step.1 ∙ held.queued;
     }
 
-pub loop-own-preserved-in_ok-push-in-Waits : goal.loop-own-preserved-in_ok-push-in-Waits
-loop-own-preserved-in_ok-push-in-Waits c =
+pub loop-chunk-preserved-in_ok-push-in-Waits : goal.loop-chunk-preserved-in_ok-push-in-Waits
+loop-chunk-preserved-in_ok-push-in-Waits c =
     let m = message_of c.args.outgoing.now.message in
     let A = c.args.readers.now.access.now in
     let S = c.args.readers.now.sessions.now in
-    let held = c.loop-own.invariant in
+    let held = c.loop-chunk.invariant in
     let first =
-    next-client _ c.loop-own.own-iterator c.next.new.self c.next.result c.in-Some.own _ c.in-Some.is
+    next-client _ c.loop-chunk.chunk-iterator c.next.new.self c.next.result c.in-Some.chunk _
+    c.in-Some.is
     c.next.ensures.steps
     (answers_always _ _ _ (λ f a r g h. search rules)) held.sorted in
     let one = c.in-Some-2.one in
     let step =
     waits-first c.args.limit A S m c.args.outgoing.now.message.deadline _ c.way.result
     c.way.ensures.sent c.way.ensures.waits
-    (map copy_of c.loop-own.copies.items) (map begin_of c.loop-own.queued.items)
+    (map copy_of c.loop-chunk.copies.items) (map begin_of c.loop-chunk.queued.items)
     (by_client (match_views (chunk_by_rest c.next.new.self)))
-    (by_client (match_views (chunk_by_rest c.loop-own.own-iterator))) first.1
+    (by_client (match_views (chunk_by_rest c.loop-chunk.chunk-iterator))) first.1
     c.in-Waits.is (option_map begin_of c.in_ok-one-in-Waits.field-0)
     (c.in_ok-one-in-Waits.ensures
     ∙ ap (λ k. option_map (begin_with k.client c.args.outgoing.now.message.deadline)
@@ -119,8 +123,8 @@ loop-own-preserved-in_ok-push-in-Waits c =
       sorted = first.0;
       copies = step.0 ∙ held.copies;
       queued = ap (λ l. map begin_of l ++ left) c.in_ok-push-in-Waits.ensures.items
-          ∙ ap (λ l. l ++ left) (map-append begin_of c.loop-own.queued.items (one ∷ []))
-          ∙ ap (λ o. (map begin_of c.loop-own.queued.items
+          ∙ ap (λ l. l ++ left) (map-append begin_of c.loop-chunk.queued.items (one ∷ []))
+          ∙ ap (λ o. (map begin_of c.loop-chunk.queued.items
           ++ option_to_list (option_map begin_of o))
           ++ left) (sym c.in-Some-2.is)
           ∙ step.1 ∙ held.queued;

@@ -6,18 +6,18 @@ use Rattle.mq_sessions.specs.Views.{begin_of}
 use Rattle.mq_router.specs.delivery.Copies.{copies_by, begins_by}
 use Rattle.mq_subscriptions.specs.Matches.{match_views, AreByClient}
 use Rattle.mq_router.specs.delivery.Copies.{by_client}
-use Rattle.mq_router.proofs.delivery.unshared.direct_copies.Given as goal
+use Rattle.mq_router.proofs.delivery.unshared.unshared_copies.Given as goal
 
-abbrev pub invariant-loop-own : goal.invariant-loop-own
-invariant-loop-own l = record {
-  sorted : AreByClient (match_views (chunk_by_rest l.own-iterator));
+abbrev pub invariant-loop-chunk : goal.invariant-loop-chunk
+invariant-loop-chunk l = record {
+  sorted : AreByClient (match_views (chunk_by_rest l.chunk-iterator));
   copies : map copy_of l.copies.items ++ copies_by l.readers.access.now l.readers.sessions.now
-      (message_of l.outgoing.message) (by_client (match_views (chunk_by_rest l.own-iterator)))
+      (message_of l.outgoing.message) (by_client (match_views (chunk_by_rest l.chunk-iterator)))
       ≡ copies_by l.readers.access.now l.readers.sessions.now (message_of l.outgoing.message)
       (by_client (match_views l.fn.matches));
   queued : map begin_of l.queued.items ++ begins_by l.limit l.readers.access.now
       l.readers.sessions.now (message_of l.outgoing.message) l.outgoing.message.deadline
-      (by_client (match_views (chunk_by_rest l.own-iterator)))
+      (by_client (match_views (chunk_by_rest l.chunk-iterator)))
       ≡ begins_by l.limit l.readers.access.now l.readers.sessions.now
       (message_of l.outgoing.message) l.outgoing.message.deadline
       (by_client (match_views l.fn.matches));
