@@ -171,7 +171,7 @@ impl Retained {
             message.deadline,
             message.topic,
         )?;
-        self.deadlines.put(message.deadline, message.topic)?;
+        self.deadlines.insert(message.deadline, message.topic)?;
         match self.tree.put(message.topic, stored) {
             Err(fault) => {
                 self.deadlines.remove(&new);

@@ -21,7 +21,7 @@ use Rattle.mq_acl.specs.Access.{allowed}
 use Rattle.mq_acl.specs.declared.access.Direction.TheVariants.{Reading}
 use Rattle.mq_world.specs.Sessions.{is_reader, user_of}
 use Rattle.mq_world.specs.Waiting.{with_qos}
-use Rattle.mq_sessions.specs.Queue.{Begin, room_for, begin_with}
+use Rattle.mq_sessions.specs.Queue.{QueueItem, room_for, queue_item}
 use Rattle.mq_sessions.specs.Ways.{is_sent, waits}
 use Rattle.mq_sessions.specs.declared.sessions.session.Way.{Way}
 use Rattle.mq_sessions.specs.declared.sessions.session.Way.TheVariants.{Sent, Waits, Nowhere}
@@ -36,8 +36,8 @@ use Rattle.mq_subscriptions.specs.Filters.{is_text, is_empty}
 use Rattle.mq_world.specs.Views.{options_of}
 use Rattle.mq_router.specs.delivery.Summaries.{Summary, summary_of, summary_for, together}
 use Rattle.mq_router.specs.delivery.Summaries.{copy_from}
-use Rattle.mq_router.specs.delivery.Copies.{gives, gives_options, copy_for, copies_by, begin_for}
-use Rattle.mq_router.specs.delivery.Copies.{begins_by, by_client}
+use Rattle.mq_router.specs.delivery.Copies.{gives, gives_options, copy_for, copies_by, queue_item_for}
+use Rattle.mq_router.specs.delivery.Copies.{queue_items_by, by_client}
 use Rattle.mq_subscriptions.specs.Matches.{is_unshared_match, unshared_matches, match_views}
 use Rattle.mq_subscriptions.specs.Matches.{clients_of}
 use Rattle.mq_subscriptions.specs.Matches.{options_among, AreAscending, AreByClient}
@@ -319,11 +319,11 @@ module _ (limit : ℕ) (access : Option (List AclRow)) (sessions : List Session)
       ≡ (if is_sent w then Some (copy_from l.0 None m l.1) else None)
   copy-by_way = ap (λ b. if b then Some (copy_from l.0 None m l.1) else None) (sym sent)
 
-  begin-by_way : begin_for limit access sessions m deadline l
-      ≡ (if waits w then option_map (begin_with l.0 deadline) (with_qos (copy_from l.0 None m l.1))
+  begin-by_way : queue_item_for limit access sessions m deadline l
+      ≡ (if waits w then option_map (queue_item l.0 deadline) (with_qos (copy_from l.0 None m l.1))
       else None)
   begin-by_way =
-      ap (λ b. if b then option_map (begin_with l.0 deadline) (with_qos (copy_from l.0 None m l.1))
+      ap (λ b. if b then option_map (queue_item l.0 deadline) (with_qos (copy_from l.0 None m l.1))
       else None) (sym waiting)
 
   pub copies-first : (copies : List Copy) (L all : List (Text × Summary)) → all ≡ l ∷ L
@@ -335,26 +335,27 @@ module _ (limit : ℕ) (access : Option (List AclRow)) (sessions : List Session)
       ∙ ap (λ p. copies ++ cons_option p (copies_by access sessions m L)) (sym is ∙ sym copy-by_way)
       ∙ ap (λ k. copies ++ copies_by access sessions m k) (sym e)
 
-  pub begins-first : (queued : List Begin) (L all : List (Text × Summary)) → all ≡ l ∷ L
-      → (o : Option Begin)
-      → (if waits w then option_map (begin_with l.0 deadline) (with_qos (copy_from l.0 None m l.1))
-      else None) ≡ o → (queued ++ option_to_list o) ++ begins_by limit access sessions m deadline L
-      ≡ queued ++ begins_by limit access sessions m deadline all
+  pub begins-first : (queued : List QueueItem) (L all : List (Text × Summary)) → all ≡ l ∷ L
+      → (o : Option QueueItem)
+      → (if waits w then option_map (queue_item l.0 deadline) (with_qos (copy_from l.0 None m l.1))
+      else None) ≡ o → (queued ++ option_to_list o)
+      ++ queue_items_by limit access sessions m deadline L
+      ≡ queued ++ queue_items_by limit access sessions m deadline all
   begins-first queued L all e o is =
-      onto queued o (begins_by limit access sessions m deadline L)
-      ∙ ap (λ p. queued ++ cons_option p (begins_by limit access sessions m deadline L))
+      onto queued o (queue_items_by limit access sessions m deadline L)
+      ∙ ap (λ p. queued ++ cons_option p (queue_items_by limit access sessions m deadline L))
       (sym is ∙ sym begin-by_way)
-      ∙ ap (λ k. queued ++ begins_by limit access sessions m deadline k) (sym e)
+      ∙ ap (λ k. queued ++ queue_items_by limit access sessions m deadline k) (sym e)
 
-  module _ (copies : List Copy) (queued : List Begin) (L all : List (Text × Summary))
+  module _ (copies : List Copy) (queued : List QueueItem) (L all : List (Text × Summary))
       (e : all ≡ l ∷ L) where
     abbrev copies_stay : Type 0
     copies_stay = copies ++ copies_by access sessions m L ≡ copies
         ++ copies_by access sessions m all
 
     abbrev queued_stay : Type 0
-    queued_stay = queued ++ begins_by limit access sessions m deadline L ≡ queued
-        ++ begins_by limit access sessions m deadline all
+    queued_stay = queued ++ queue_items_by limit access sessions m deadline L ≡ queued
+        ++ queue_items_by limit access sessions m deadline all
 
     no_copy : is_sent w ≡ false → copies_stay
     no_copy h =
@@ -364,9 +365,9 @@ module _ (limit : ℕ) (access : Option (List AclRow)) (sessions : List Session)
 
     none_begins : waits w ≡ false → queued_stay
     none_begins h =
-        ap (λ k. k ++ begins_by limit access sessions m deadline L) (sym (append-nil queued))
+        ap (λ k. k ++ queue_items_by limit access sessions m deadline L) (sym (append-nil queued))
         ∙ begins-first queued L all e None
-        (ap (λ b. if b then option_map (begin_with l.0 deadline)
+        (ap (λ b. if b then option_map (queue_item l.0 deadline)
         (with_qos (copy_from l.0 None m l.1)) else None) h)
 
     pub sent-first : w ≡ Sent → (copy : Copy) → copy ≡ copy_from l.0 None m l.1
@@ -379,15 +380,15 @@ module _ (limit : ℕ) (access : Option (List AclRow)) (sessions : List Session)
       none_begins (ap waits h),
     )
 
-    pub waits-first : w ≡ Waits → (o : Option Begin)
-        → o ≡ option_map (begin_with l.0 deadline) (with_qos (copy_from l.0 None m l.1))
+    pub waits-first : w ≡ Waits → (o : Option QueueItem)
+        → o ≡ option_map (queue_item l.0 deadline) (with_qos (copy_from l.0 None m l.1))
         → copies_stay × ((queued ++ option_to_list o)
-        ++ begins_by limit access sessions m deadline L
-        ≡ queued ++ begins_by limit access sessions m deadline all)
+        ++ queue_items_by limit access sessions m deadline L
+        ≡ queued ++ queue_items_by limit access sessions m deadline all)
     waits-first h o is = (
       no_copy (ap is_sent h),
       begins-first queued L all e o
-          (ap (λ v. if waits v then option_map (begin_with l.0 deadline)
+          (ap (λ v. if waits v then option_map (queue_item l.0 deadline)
           (with_qos (copy_from l.0 None m l.1)) else None) h ∙ sym is),
     )
 

@@ -11,7 +11,7 @@ use Rattle.mq_world.specs.World.{Session, Subscription, Message, Copy}
 use Rattle.mq_world.specs.World as world
 use Rattle.mq_world.specs.Copies.{filter_matches, options_for, copy_by, unshared_copy, unshared_copies}
 use Rattle.mq_world.specs.Waiting.{has_room, with_qos}
-use Rattle.mq_sessions.specs.Queue.{begin_with}
+use Rattle.mq_sessions.specs.Queue.{queue_item}
 use Rattle.mq_router.specs.delivery.Copies.{begins, queued_by}
 use Rattle.mq_router.specs.delivery.Copies.{gives_options}
 use Rattle.mq_subscriptions.specs.Turns.{next_members, groups_among}
@@ -50,13 +50,13 @@ module _ (access : Option (List AclRow)) (sessions : List Session)
       → queued_by limit access sessions subscriptions m deadline ≡ []
   no-queued limit deadline =
       none-made (begins limit access subscriptions m deadline)
-      (λ s. ap (λ (o : Option Copy). option_map (begin_with s.id deadline)
+      (λ s. ap (λ (o : Option Copy). option_map (queue_item s.id deadline)
       (if has_room limit s then option_and_then with_qos o else None)) (no-copy s.id s.user)
       ∙ either_way (has_room limit s) s.id)
       sessions
     where
       either_way : (b : Bool) (id : Text)
-          → option_map (begin_with id deadline) (if b then None else None) ≡ None
+          → option_map (queue_item id deadline) (if b then None else None) ≡ None
       either_way true id = refl
       either_way false id = refl
 

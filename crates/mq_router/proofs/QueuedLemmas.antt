@@ -17,7 +17,7 @@ use Rattle.mq_world.specs.Sessions.{is_present}
 use Rattle.mq_world.specs.Copies.{unshared_copy}
 use Rattle.mq_world.specs.Waiting.{has_place, with_qos, with_waiting, waiting_copy, waiting_after}
 use Rattle.mq_world.specs.Waiting.{begins_to_wait}
-use Rattle.mq_sessions.specs.Queue.{Begin, begin_with, queue_copies, edit_session, queue_one}
+use Rattle.mq_sessions.specs.Queue.{QueueItem, queue_item, queue_copies, edit_session, queue_one}
 use Rattle.mq_sessions.specs.Queue.{queue_all}
 use Rattle.mq_router.specs.delivery.Copies.{begins}
 use Rattle.mq_world.proofs.SameLemmas.{some_pass}
@@ -48,14 +48,14 @@ module _ (limit : ℕ) (access : Option (List AclRow)) (subs : List Subscription
   begins_apart m deadline s [] h = tt
   begins_apart m deadline s (x ∷ xs) h =
       elim (waiting_copy limit access subs m x)
-      as (λ o. AllByRecursion (λ (b : Begin). same_text s.id b.0 ≡ false)
-      (cons_option (option_map (begin_with x.id deadline) o)
+      as (λ o. AllByRecursion (λ (b : QueueItem). same_text s.id b.0 ≡ false)
+      (cons_option (option_map (queue_item x.id deadline) o)
       (filter_map (begins limit access subs m deadline) xs))) [
         | None ↦ begins_apart m deadline s xs h.1
         | Some copy ↦ (apart_below s x h.0, begins_apart m deadline s xs h.1)
       ]
 
-  queued_apart : (bs : List Begin) (s : Session) (ss : List Session)
+  queued_apart : (bs : List QueueItem) (s : Session) (ss : List Session)
       → AllByRecursion (λ b. same_text s.id b.0 ≡ false) bs
       → queue_all limit bs (s ∷ ss) ≡ s ∷ queue_all limit bs ss
   queued_apart [] s ss h = refl
@@ -76,11 +76,11 @@ module _ (limit : ℕ) (access : Option (List AclRow)) (subs : List Subscription
   queued-is now m [] sorted = refl
   queued-is now m (s ∷ ss) sorted =
       let deadline : Option ℕ = deadline_of now m.expiry in
-      let bs : List Begin = filter_map (begins limit access subs m deadline) ss in
+      let bs : List QueueItem = filter_map (begins limit access subs m deadline) ss in
       let rest : queue_all limit bs ss ≡ map (waiting_after limit access subs now m) ss =
       queued-is now m ss sorted.1 in
       let P : Option Copy → Type 0 = λ o. waiting_copy limit access subs m s ≡ o
-      → queue_all limit (cons_option (option_map (begin_with s.id deadline) o) bs) (s ∷ ss)
+      → queue_all limit (cons_option (option_map (queue_item s.id deadline) o) bs) (s ∷ ss)
       ≡ option_map_or (λ copy. with_waiting s
       (record { copy = copy; deadline = deadline } ∷ [])) o s
       ∷ map (waiting_after limit access subs now m) ss in
@@ -108,7 +108,7 @@ module _ (limit : ℕ) (access : Option (List AclRow)) (subs : List Subscription
   waits-is m deadline [] = refl
   waits-is m deadline (s ∷ ss) =
       elim (waiting_copy limit access subs m s)
-      as (λ o. not (length (cons_option (option_map (begin_with s.id deadline) o)
+      as (λ o. not (length (cons_option (option_map (queue_item s.id deadline) o)
       (filter_map (begins limit access subs m deadline) ss)) == 0)
       ≡ (is_some o || list_any (λ session. is_some (waiting_copy limit access subs m session))
       ss)) [

@@ -17,13 +17,13 @@ use Rattle.mq_world.specs.Lists.{Text, same_text, text_cmp}
 use Rattle.mq_world.specs.World.{Session, Subscription, Message, Copy, session_cmp, has_id}
 use Rattle.mq_world.specs.Sessions.{session_of, is_present, connected, user_of}
 use Rattle.mq_world.specs.Waiting.{has_room, with_qos}
-use Rattle.mq_sessions.specs.Queue.{Begin, begin_with}
+use Rattle.mq_sessions.specs.Queue.{QueueItem, queue_item}
 use Rattle.mq_router.specs.delivery.Copies.{begins, queued_by}
 use Rattle.mq_world.specs.Copies.{filter_matches, takes_part, options_for, copy_by, unshared_copy}
 use Rattle.mq_world.specs.Copies.{unshared_copies}
 use Rattle.mq_subscriptions.specs.Filters.{is_text}
 use Rattle.mq_router.specs.delivery.Summaries.{Summary, summary_of, summary_for, copy_from}
-use Rattle.mq_router.specs.delivery.Copies.{gives, gives_options, copies_by, begins_by}
+use Rattle.mq_router.specs.delivery.Copies.{gives, gives_options, copies_by, queue_items_by}
 use Rattle.mq_world.proofs.ListLemmas.{filter-same, filter_map-same, filter_map-filter}
 use Rattle.mq_world.proofs.ListLemmas.{list_any-map, list_any-same, is_some-find}
 use Rattle.mq_world.proofs.SameLemmas.{filter-filter}
@@ -237,19 +237,19 @@ pub unshared-queued : (limit : ℕ) (access : Option (List AclRow)) (sessions : 
     (L : List (Text × Summary)) → IsStrictlySortedBy session_cmp sessions
     → IsStrictlySortedBy text_cmp (keys_of L)
     → ((id : Text) → lookup (is_text id) L ≡ summary_for (options_for subscriptions m id))
-    → begins_by limit access sessions m deadline L
+    → queue_items_by limit access sessions m deadline L
     ≡ queued_by limit access sessions subscriptions m deadline
 unshared-queued limit access sessions subscriptions m deadline L s t found =
     unshared-made (has_room limit) begin access sessions subscriptions m L s t found
     ∙ filter_map-same (made_for (has_room limit) begin access sessions subscriptions m)
     (begins limit access subscriptions m deadline) each sessions
   where
-    begin : Text → Summary → Option Begin
-    begin id summary = option_map (begin_with id deadline) (with_qos (copy_from id None m summary))
+    begin : Text → Summary → Option QueueItem
+    begin id summary = option_map (queue_item id deadline) (with_qos (copy_from id None m summary))
 
     onto : (t b : Bool) (id : Text) (copy : Copy)
-        → cond t (if b then option_map (begin_with id deadline) (with_qos copy) else None) None
-        ≡ option_map (begin_with id deadline) (if t then
+        → cond t (if b then option_map (queue_item id deadline) (with_qos copy) else None) None
+        ≡ option_map (queue_item id deadline) (if t then
         option_and_then with_qos (if b then Some copy else None) else None)
     onto false b id copy = refl
     onto true false id copy = refl

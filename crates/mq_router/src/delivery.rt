@@ -5,8 +5,8 @@ ghost use Rattle.mq_tree.specs.Prefixes.{prefixes, met_by_name};
 ghost use Rattle.mq_world.specs.Lists.{Text};
 ghost use Rattle.mq_world.specs.Views.{message_of, copies_in};
 ghost use Rattle.mq_subscriptions.specs.Turns.{turn_of, turns_in, next_members};
-ghost use Rattle.mq_sessions.specs.Views.{begin_of};
-ghost use Rattle.mq_router.specs.delivery.Copies.{queued_by, by_client, copies_by, begins_by};
+ghost use Rattle.mq_sessions.specs.Views.{queue_item_of};
+ghost use Rattle.mq_router.specs.delivery.Copies.{queued_by, by_client, copies_by, queue_items_by};
 ghost use Rattle.mq_subscriptions.specs.Filters.{AreAtFilters};
 ghost use Rattle.mq_subscriptions.specs.Matches.{lent_values, match_views, options_among};
 ghost use Rattle.mq_subscriptions.specs.Matches.{AreByClient, rows_found, unshared_matches};
@@ -60,7 +60,7 @@ pub(crate) fn make_copies(
     ensures copies { IfOk result (λ m. copies_in m.copies
         ≡ message_copies readers.now.access.now readers.now.sessions.now subscriptions.now.rows
         (message_of message.now)) }
-    ensures queued { IfOk result (λ m. map begin_of m.queued.items
+    ensures queued { IfOk result (λ m. map queue_item_of m.queued.items
         ≡ queued_by limit readers.now.access.now readers.now.sessions.now subscriptions.now.rows
         (message_of message.now)
         message.now.deadline) }
@@ -145,8 +145,9 @@ fn made_for(
         ≡ copies_by readers.now.access.now readers.now.sessions.now (message_of message.now)
         (by_client (match_views matches.now))
         ++ map (member_copy (message_of message.now)) (turns_in served)) }
-    ensures queued { IfOk result (λ m. map begin_of m.queued.items
-        ≡ begins_by limit readers.now.access.now readers.now.sessions.now (message_of message.now)
+    ensures queued { IfOk result (λ m. map queue_item_of m.queued.items
+        ≡ queue_items_by limit readers.now.access.now readers.now.sessions.now
+        (message_of message.now)
         message.now.deadline
         (by_client (match_views matches.now))) }
     ensures served { IfOk result (λ m. m.served ≡ served) }

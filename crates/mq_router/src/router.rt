@@ -20,7 +20,7 @@ ghost use Rattle.mq_world.specs.Views.{copies_in};
 ghost use Rattle.mq_subscriptions.specs.Turns.{turns_in};
 ghost use Rattle.mq_router.specs.router.Views.{published_message};
 ghost use Rattle.mq_world.specs.Views.{message_of};
-ghost use Rattle.mq_sessions.specs.Views.{begin_of};
+ghost use Rattle.mq_sessions.specs.Views.{queue_item_of};
 
 mod ended;
 
@@ -204,7 +204,7 @@ impl Router {
         let resumed = self
             .sessions
             .resumed_copies(self.alloc, self.clock, client, clean)?;
-        self.sessions.put(self.alloc, id, user, session_expiry)?;
+        self.sessions.insert(self.alloc, id, user, session_expiry)?;
         let Some(copies) = resumed else {
             self.subscriptions.remove_client(client);
             return Ok(with_reason(self.alloc, 0));
@@ -222,7 +222,7 @@ impl Router {
     {
         self.check_client(client)?;
         if self.sessions.outlives(client) {
-            self.sessions.leave(client, self.clock);
+            self.sessions.disconnect(client, self.clock);
             return Ok(with_reason(self.alloc, 0));
         }
         self.sessions.remove(client);
@@ -250,7 +250,7 @@ impl Router {
             return Err(Refusal::SharedNoLocal);
         }
         let copies = self.copies_sent(&id, &wanted, options, steps)?;
-        self.subscriptions.put(&id, text, &wanted, options)?;
+        self.subscriptions.insert(&id, text, &wanted, options)?;
         Ok(Answer {
             copies,
             outcome: Outcome::Reason(options.qos),
@@ -361,7 +361,7 @@ impl Router {
         self.retained.publish(message)?;
         self.subscriptions.serve_all(made.served.as_slice());
         let waits = !made.queued.is_empty();
-        self.sessions.join_all(self.limits.queued, made.queued);
+        self.sessions.queue_all(self.limits.queued, made.queued);
         Ok(published(made.copies, waits))
     }
 
@@ -369,7 +369,7 @@ impl Router {
     fn make_copies(&self, message: &Message, steps: &mut Steps) -> Result<Deliveries, AllocError>
         ensures copies { IfOk result
             (λ m. copies_in m.copies ≡ copies_now self.now (message_of message.now)) }
-        ensures queued { IfOk result (λ m. map begin_of m.queued.items
+        ensures queued { IfOk result (λ m. map queue_item_of m.queued.items
             ≡ queued_now self.now (message_of message.now) message.now.deadline) }
         ensures served { IfOk result
             (λ m. turns_in m.served ≡ members_now self.now (message_of message.now)) }

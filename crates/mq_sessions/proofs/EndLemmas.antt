@@ -24,7 +24,7 @@ use Rattle.mq_world.proofs.ListLemmas.{list_any-map, list_any-same}
 use Rattle.mq_world.proofs.SameLemmas.{filter-swap}
 use Rattle.mq_world.proofs.OrderLemmas.{all_weaker, all_filtered}
 use Rattle.mq_world.proofs.OrderLemmas.{same_text-itself}
-use Rattle.mq_sessions.specs.Queue.{Begin, queue_copies, edit_session, queue_one}
+use Rattle.mq_sessions.specs.Queue.{QueueItem, queue_copies, edit_session, queue_one}
 use Rattle.mq_sessions.specs.Ends.{end_of, ends_so, IsListed, AreListed, IsFirstLive, AreIndexed}
 use Rattle.mq_sessions.specs.Ends.{Entry, views_of}
 use Rattle.mq_sessions.specs.Views.{session_in, view_of}
@@ -244,7 +244,7 @@ lists-all now all dues done so_far =
 
 -- ## Copies begin to wait
 
-queued-as : (limit : ℕ) (b : Begin) (P : Session → Type 0)
+queued-as : (limit : ℕ) (b : QueueItem) (P : Session → Type 0)
     → ((s : Session) → P s → P (with_waiting s b.1)) → (s : Session) → P s
     → P (edit_session (queue_copies limit b.1) b.0 s)
 queued-as limit b P step s h =
@@ -255,7 +255,7 @@ queued-as limit b P step s h =
     ]
 
 -- copies that begin to wait change nothing that the index of ends keeps
-pub indexed-queued : (limit : ℕ) (b : Begin) (index : Dues) (ss : List Session)
+pub indexed-queued : (limit : ℕ) (b : QueueItem) (index : Dues) (ss : List Session)
     → AreIndexed index ss → AreIndexed index (queue_one limit b ss)
 indexed-queued limit b index ss h = record {
   listed = all_mapped (IsListed index.entries) f

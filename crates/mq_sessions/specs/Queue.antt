@@ -11,11 +11,11 @@ abbrev pub room_for : ℕ → List Session → Text → Bool
 room_for limit sessions id = option_map_or (has_room limit) (session_of sessions id) false
 
 -- a client and what begins to wait for it
-abbrev pub Begin : Type 0
-Begin = Text × List Waiting
+abbrev pub QueueItem : Type 0
+QueueItem = Text × List Waiting
 
-abbrev pub begin_with : Text → Option ℕ → Copy → Begin
-begin_with id deadline copy = (id, record { copy = copy; deadline = deadline } ∷ [])
+abbrev pub queue_item : Text → Option ℕ → Copy → QueueItem
+queue_item id deadline copy = (id, record { copy = copy; deadline = deadline } ∷ [])
 
 -- the session with these copies behind those that wait, if there is a place
 abbrev pub queue_copies : ℕ → List Waiting → Session → Session
@@ -26,9 +26,9 @@ queue_copies limit waiting session = if has_place limit session then
 abbrev pub edit_session : (Session → Session) → Text → Session → Session
 edit_session f id session = if has_id id session then f session else session
 
-abbrev pub queue_one : ℕ → Begin → List Session → List Session
+abbrev pub queue_one : ℕ → QueueItem → List Session → List Session
 queue_one limit b sessions = map (edit_session (queue_copies limit b.1) b.0) sessions
 
-abbrev pub queue_all : ℕ → List Begin → List Session → List Session
+abbrev pub queue_all : ℕ → List QueueItem → List Session → List Session
 queue_all limit [] sessions = sessions
 queue_all limit (b ∷ bs) sessions = queue_all limit bs (queue_one limit b sessions)

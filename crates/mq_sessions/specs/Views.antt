@@ -6,7 +6,7 @@ use Rattle.mq_world.specs.Lists.{Text}
 use Rattle.mq_world.specs.Keys.{Key}
 use Rattle.mq_world.specs.World as world
 use Rattle.mq_world.specs.Views.{copy_of}
-use Rattle.mq_sessions.specs.Queue.{Begin}
+use Rattle.mq_sessions.specs.Queue.{QueueItem}
 use Rattle.mq_sessions.specs.declared.sessions.session.Session.{Session}
 use Rattle.mq_sessions.specs.declared.sessions.session.Waiting.{Waiting}
 use Rattle.mq_sessions.specs.declared.sessions.session.Presence.{Presence}
@@ -44,5 +44,5 @@ session_in entry = session_at (rc_str_bytes entry.0) entry.1
 abbrev pub sessions_of : in_sessions.Inside → List world.Session
 sessions_of inside = map session_in inside.by_id.entries
 
-abbrev pub begin_of : QueuedCopy → Begin
-begin_of b = (rc_str_bytes b.client, map waiting_of b.copies)
+abbrev pub queue_item_of : QueuedCopy → QueueItem
+queue_item_of b = (rc_str_bytes b.client, map waiting_of b.copies)

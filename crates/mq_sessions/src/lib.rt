@@ -7,7 +7,7 @@ mod sessions;
 
 pub use access::{Readers, may_read, may_write};
 pub use clock::Clock;
-pub use sessions::queue::begin;
+pub use sessions::queue::queued_copy;
 pub use sessions::queued::QueuedCopy;
 pub use sessions::session::{Presence, Session, Waiting, Way};
 pub use sessions::{Client, Sessions};

@@ -26,7 +26,7 @@ use crate::clock::Clock;
 use crate::sessions::queued::QueuedCopy;
 use crate::sessions::session::Session;
 use ends::{add_end, make_room, settle};
-use leaving::leave;
+use leaving::disconnect;
 use mq_ends::Ends;
 use mq_world::Delivery;
 use std::alloc::{AllocError, Global};
@@ -63,7 +63,7 @@ pub struct Client<'a> {
 }
 
 impl Sessions {
-    ghost use Rattle.mq_sessions.specs.Views.{begin_of, session_at};
+    ghost use Rattle.mq_sessions.specs.Views.{queue_item_of, session_at};
 
     pub fn new(alloc: Global) -> Self
         ensures { result ≡ [] }
@@ -159,7 +159,7 @@ impl Sessions {
     }
 
     /// Adds the session of a client that connects, in place of an older one.
-    pub fn put(
+    pub fn insert(
         &mut self,
         alloc: Global,
         id: RcStr,
@@ -180,12 +180,12 @@ impl Sessions {
     }
 
     /// The connection of a client ends, if there is one, and its session stays. It takes no memory.
-    pub fn leave(&mut self, id: &str, clock: Clock)
+    pub fn disconnect(&mut self, id: &str, clock: Clock)
         ensures left { is_connected self.old id.now ≡ true
             → self.new ≡ map (left_by clock.moment id.now) self.old }
         ensures away { is_connected self.old id.now ≡ false → self.new ≡ self.old }
     {
-        let Some(leaving) = leave(&mut self.by_id, id, clock) else {
+        let Some(leaving) = disconnect(&mut self.by_id, id, clock) else {
             return;
         };
         add_end(&mut self.ends, leaving.end, leaving.id);
@@ -224,8 +224,8 @@ impl Sessions {
     }
 
     // One more copy waits for a client.
-    fn join(&mut self, limit: u32, queued_copy: QueuedCopy)
-        ensures { self.new ≡ queue_one limit (begin_of queued_copy) self.old }
+    fn queue(&mut self, limit: u32, queued_copy: QueuedCopy)
+        ensures { self.new ≡ queue_one limit (queue_item_of queued_copy) self.old }
     {
         let Some(session) = self.by_id.get_mut(queued_copy.client.as_str()) else {
             return;
@@ -234,13 +234,13 @@ impl Sessions {
     }
 
     /// The copies begin to wait, each where fewer wait than may. It takes no memory.
-    pub fn join_all(&mut self, limit: u32, all: Vec<QueuedCopy>)
-        ensures new { self.new ≡ queue_all limit (map begin_of all.items) self.old }
+    pub fn queue_all(&mut self, limit: u32, all: Vec<QueuedCopy>)
+        ensures new { self.new ≡ queue_all limit (map queue_item_of all.items) self.old }
         ensures ordered { IsStrictlySortedBy session_cmp self.old }
     {
         learn_order(&self.by_id);
         for queued_copy in all {
-            self.join(limit, queued_copy);
+            self.queue(limit, queued_copy);
         }
     }
 }

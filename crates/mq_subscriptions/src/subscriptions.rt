@@ -100,7 +100,7 @@ impl Subscriptions {
     }
 
     /// Adds the subscription with this text, in the place of the one with its key.
-    pub fn put(
+    pub fn insert(
         &mut self,
         client: &RcStr,
         text: &str,
@@ -115,12 +115,12 @@ impl Subscriptions {
     {
         let id = client.as_str();
         if self.contains(id, wanted) {
-            join_in(&mut self.tree, self.alloc, client, wanted, options)?;
+            insert_in(&mut self.tree, self.alloc, client, wanted, options)?;
             return Ok(());
         }
-        list_add(&mut self.lists, self.alloc, client, text)?;
+        list_insert(&mut self.lists, self.alloc, client, text)?;
         // Where there is no memory, nothing is left beside the tree that leads to no subscription.
-        match join_in(&mut self.tree, self.alloc, client, wanted, options) {
+        match insert_in(&mut self.tree, self.alloc, client, wanted, options) {
             Ok(()) => Ok(()),
             Err(fault) => {
                 list_remove(&mut self.lists, id, text);
@@ -137,7 +137,7 @@ impl Subscriptions {
             self.old.rows }
         ensures keys { AreKeys self.new }
     {
-        let existed = leave_in(&mut self.tree, client, text);
+        let existed = remove_in(&mut self.tree, client, text);
         list_remove(&mut self.lists, client, text);
         existed
     }
@@ -153,7 +153,7 @@ impl Subscriptions {
         let Some(filters) = self.lists.remove(client) else {
             return;
         };
-        leave_all(&mut self.tree, &filters, client);
+        remove_all(&mut self.tree, &filters, client);
     }
 
     /// What is kept at the filters that match the name, in level order of the filters.
@@ -209,7 +209,7 @@ impl Subscriptions {
     }
 }
 
-fn join_in(
+fn insert_in(
     tree: &mut LevelTree<FilterEntry>,
     alloc: Global,
     client: &RcStr,
@@ -225,7 +225,7 @@ fn join_in(
     let client = client.clone()?;
     match tree.get_mut(&wanted.filter) {
         Some(at) => {
-            at.join(alloc, wanted.share.as_deref(), client, options)?;
+            at.insert(alloc, wanted.share.as_deref(), client, options)?;
             Ok(())
         }
         None => add_in(tree, alloc, client, wanted, options),
@@ -249,13 +249,13 @@ fn add_in(
 {
     let filter = Rc::new(alloc, wanted.filter.clone()?)?;
     let mut at = FilterEntry::new(alloc, filter);
-    at.join(alloc, wanted.share.as_deref(), client, options)?;
+    at.insert(alloc, wanted.share.as_deref(), client, options)?;
     tree.put(&wanted.filter, at)?;
     Ok(())
 }
 
 // Takes a subscription out, and the filter with its last one; says whether there was one.
-fn leave_in(tree: &mut LevelTree<FilterEntry>, client: &str, text: &str) -> bool
+fn remove_in(tree: &mut LevelTree<FilterEntry>, client: &str, text: &str) -> bool
     requires kept { AreEntries tree.old }
     requires valid { IsTrue (is_subscription text.now) }
     ensures existed { result ≡ list_any (has_asked client.now text.now) (all_rows tree.old) }
@@ -268,7 +268,7 @@ fn leave_in(tree: &mut LevelTree<FilterEntry>, client: &str, text: &str) -> bool
         return false;
     };
     let existed = at.contains(share, client);
-    at.leave(share, client);
+    at.remove(share, client);
     if at.is_empty() {
         let _ = tree.take(&filter);
     }
@@ -276,18 +276,18 @@ fn leave_in(tree: &mut LevelTree<FilterEntry>, client: &str, text: &str) -> bool
 }
 
 // Takes a client's subscriptions out of the tree.
-fn leave_all(tree: &mut LevelTree<FilterEntry>, filters: &ClientFilters, client: &str)
+fn remove_all(tree: &mut LevelTree<FilterEntry>, filters: &ClientFilters, client: &str)
     requires { AreEntries tree.old }
     ensures rows { all_rows tree.new ≡ filter
         (λ s. not (same_text s.client client.now && is_in_list filters.now s)) (all_rows tree.old) }
     ensures kept { AreEntries tree.new }
 {
     for text in filters.texts() {
-        let _ = leave_in(tree, client, text.as_str());
+        let _ = remove_in(tree, client, text.as_str());
     }
 }
 
-fn list_add(
+fn list_insert(
     lists: &mut BTreeMap<RcStr, ClientFilters>,
     alloc: Global,
     client: &RcStr,
@@ -302,15 +302,15 @@ fn list_add(
 {
     match lists.get_mut(client) {
         Some(filters) => {
-            filters.add(alloc, text)?;
+            filters.insert(alloc, text)?;
             Ok(())
         }
-        None => list_begin(lists, alloc, client, text),
+        None => list_insert_first(lists, alloc, client, text),
     }
 }
 
 // A client's first one, made aside.
-fn list_begin(
+fn list_insert_first(
     lists: &mut BTreeMap<RcStr, ClientFilters>,
     alloc: Global,
     client: &RcStr,
@@ -327,7 +327,7 @@ fn list_begin(
     let _count = lists.len();
     let client = client.clone()?;
     let mut filters = ClientFilters::new(alloc);
-    filters.add(alloc, text)?;
+    filters.insert(alloc, text)?;
     lists.insert(client, filters)?;
     Ok(())
 }

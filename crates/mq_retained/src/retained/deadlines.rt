@@ -62,7 +62,11 @@ impl Deadlines {
     }
 
     /// Adds a pair, if there is one.
-    pub(crate) fn put(&mut self, deadline: Option<u64>, topic: &TopicName) -> Result<(), AllocError>
+    pub(crate) fn insert(
+        &mut self,
+        deadline: Option<u64>,
+        topic: &TopicName,
+    ) -> Result<(), AllocError>
         ensures ok { OnOk result
             (Adds (option_map (λ d. (d, topic.now)) deadline) self.old self.new) }
         ensures err { OnErr result (self.new ≡ self.old) }

@@ -12,19 +12,19 @@ use Rattle.mq_acl.specs.declared.access.Direction.TheVariants.{Reading}
 use Rattle.mq_world.specs.World as world
 use Rattle.mq_world.specs.Sessions.{is_reader, user_of}
 use Rattle.mq_router.specs.delivery.Summaries.{Summary, copy_from, summary_of}
-use Rattle.mq_sessions.specs.Queue.{Begin, room_for, begin_with}
+use Rattle.mq_sessions.specs.Queue.{QueueItem, room_for, queue_item}
 use Rattle.mq_subscriptions.specs.Filters.{At}
 use Rattle.mq_subscriptions.specs.Turns.{next_in, turns_of}
 use Rattle.mq_subscriptions.specs.Matches.{clients_of, options_among}
 
 -- what begins to wait for the client of a session, until this deadline or for ever
 abbrev pub begins : ℕ → Option (List AclRow) → List Subscription → Message → Option ℕ → Session
-    → Option Begin
+    → Option QueueItem
 begins limit access subscriptions m deadline session =
-    option_map (begin_with session.id deadline) (waiting_copy limit access subscriptions m session)
+    option_map (queue_item session.id deadline) (waiting_copy limit access subscriptions m session)
 
 abbrev pub queued_by : ℕ → Option (List AclRow) → List Session → List Subscription → Message
-    → Option ℕ → List Begin
+    → Option ℕ → List QueueItem
 queued_by limit access sessions subscriptions m deadline =
     filter_map (begins limit access subscriptions m deadline) sessions
 
@@ -46,17 +46,18 @@ abbrev pub copies_by : Option (List AclRow) → List Session → Message → Lis
 copies_by access sessions m summaries = filter_map (copy_for access sessions m) summaries
 
 -- what begins to wait for a client that is away and may read the topic
-abbrev pub begin_for : ℕ → Option (List AclRow) → List Session → Message → Option ℕ → Text × Summary
-    → Option Begin
-begin_for limit access sessions m deadline l =
+abbrev pub queue_item_for : ℕ → Option (List AclRow) → List Session → Message → Option ℕ
+    → Text × Summary
+    → Option QueueItem
+queue_item_for limit access sessions m deadline l =
     if room_for limit sessions l.0 && allowed access l.0 (user_of sessions l.0) m.topic Reading
-    then option_map (begin_with l.0 deadline) (with_qos (copy_from l.0 None m l.1))
+    then option_map (queue_item l.0 deadline) (with_qos (copy_from l.0 None m l.1))
     else None
 
-abbrev pub begins_by : ℕ → Option (List AclRow) → List Session → Message → Option ℕ
-    → List (Text × Summary) → List Begin
-begins_by limit access sessions m deadline summaries =
-    filter_map (begin_for limit access sessions m deadline) summaries
+abbrev pub queue_items_by : ℕ → Option (List AclRow) → List Session → Message → Option ℕ
+    → List (Text × Summary) → List QueueItem
+queue_items_by limit access sessions m deadline summaries =
+    filter_map (queue_item_for limit access sessions m deadline) summaries
 
 -- the members in turn of the groups of a share name, by the filters that are found
 abbrev pub turns_at : Option (List AclRow) → List Session → Text → Text → List At

@@ -13,7 +13,7 @@ use Rattle.mq_world.specs.World.{Disconnect, Subscribe, Unsubscribe, Publish, Se
 use Rattle.mq_world.specs.World.{Reply, subscription_of, session_cmp, has_id, has_key}
 use Rattle.mq_world.specs.Sessions.{new_session, connected, user_of, outlives, resumes, left_by}
 use Rattle.mq_world.specs.Sessions.{has_ended, is_among}
-use Rattle.mq_sessions.specs.Queue.{Begin}
+use Rattle.mq_sessions.specs.Queue.{QueueItem}
 use Rattle.mq_router.specs.delivery.Copies.{queued_by}
 use Rattle.mq_world.specs.Waiting.{begins_to_wait, waiting_after, resumed_copies}
 use Rattle.mq_world.specs.Refusals.{refusal}
@@ -71,7 +71,7 @@ abbrev pub members_now : State → Message → List Subscription
 members_now s m = next_members s.access s.sessions s.subscriptions m
 
 -- what begins to wait, until this deadline or for ever
-abbrev pub queued_now : State → Message → Option ℕ → List Begin
+abbrev pub queued_now : State → Message → Option ℕ → List QueueItem
 queued_now s m deadline = queued_by s.limits.queued s.access s.sessions s.subscriptions m deadline
 
 abbrev pub copies_sent : State → Subscription → List Copy

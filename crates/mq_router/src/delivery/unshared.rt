@@ -5,15 +5,15 @@ ghost use Rattle.mq_world.specs.Views.{options_of};
 ghost use Rattle.mq_world.specs.Views.{copies_in};
 ghost use Rattle.mq_subscriptions.specs.Matches.{match_views, AreByClient};
 ghost use Rattle.mq_router.specs.delivery.Copies.{by_client};
-ghost use Rattle.mq_router.specs.delivery.Copies.{copies_by, begins_by};
+ghost use Rattle.mq_router.specs.delivery.Copies.{copies_by, queue_items_by};
 ghost use Rattle.mq_router.specs.delivery.Summaries.{summary_of, copy_from};
 ghost use Rattle.mq_world.specs.Views.{copy_of};
 ghost use Rattle.mq_world.specs.Views.{message_of};
-ghost use Rattle.mq_sessions.specs.Views.{begin_of};
+ghost use Rattle.mq_sessions.specs.Views.{queue_item_of};
 
 use crate::delivery::outgoing::Outgoing;
 use crate::delivery::summary::Summary;
-use mq_sessions::{QueuedCopy, Readers, Way, begin};
+use mq_sessions::{QueuedCopy, Readers, Way, queued_copy};
 use mq_subscriptions::Match;
 use mq_world::Delivery;
 use std::alloc::{AllocError, Global};
@@ -39,8 +39,8 @@ pub(crate) fn unshared_copies(
     ensures copies { IfOk result (λ d. copies_in d.copies
         ≡ copies_by readers.now.access.now readers.now.sessions.now
         (message_of outgoing.now.message) (by_client (match_views matches.now))) }
-    ensures queued { IfOk result (λ d. map begin_of d.queued.items
-        ≡ begins_by limit readers.now.access.now readers.now.sessions.now
+    ensures queued { IfOk result (λ d. map queue_item_of d.queued.items
+        ≡ queue_items_by limit readers.now.access.now readers.now.sessions.now
         (message_of outgoing.now.message) outgoing.now.message.deadline
         (by_client (match_views matches.now))) }
 {
@@ -54,7 +54,7 @@ pub(crate) fn unshared_copies(
             Way::Sent => copies.push(unshared_copy(alloc, client, chunk, outgoing)?)?,
             Way::Waits => {
                 let copy = unshared_copy(alloc, client, chunk, outgoing)?;
-                if let Some(one) = begin(alloc, copy, outgoing.message.deadline)? {
+                if let Some(one) = queued_copy(alloc, copy, outgoing.message.deadline)? {
                     queued.push(one)?;
                 }
             }

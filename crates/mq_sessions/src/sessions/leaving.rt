@@ -18,7 +18,7 @@ pub(crate) struct Leaving {
 }
 
 /// The connection of a client ends, if there is one. Gives the id that its session kept, and its end, if it ends.
-pub(crate) fn leave(
+pub(crate) fn disconnect(
     sessions: &mut BTreeMap<RcStr, Session>,
     id: &str,
     clock: Clock,
@@ -40,7 +40,7 @@ pub(crate) fn leave(
     let Some(session) = sessions.get_mut(id) else {
         return None;
     };
-    let Some(id) = session.leave(clock) else {
+    let Some(id) = session.disconnect(clock) else {
         return None;
     };
     Some(Leaving {

@@ -95,7 +95,7 @@ impl Session {
     }
 
     /// The connection ends, if there is one. Gives the id that was kept.
-    pub fn leave(&mut self, clock: Clock) -> Option<RcStr>
+    pub fn disconnect(&mut self, clock: Clock) -> Option<RcStr>
         ensures left { IfSome result (λ _. view_of self.new ≡ record (view_of self.old)
             { presence = Away (session_end clock.moment self.old.interval) }) }
         ensures away { IfNone result (self.new ≡ self.old) }

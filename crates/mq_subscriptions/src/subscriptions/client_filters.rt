@@ -47,7 +47,7 @@ impl ClientFilters {
     }
 
     /// Adds the subscription with this text.
-    pub(crate) fn add(&mut self, alloc: Global, text: &str) -> Result<(), AllocError>
+    pub(crate) fn insert(&mut self, alloc: Global, text: &str) -> Result<(), AllocError>
         requires { IsTrue (is_subscription text.now) }
         ensures ok { OnOk result ((s : Subscription)
             → is_in_list self.new s ≡ (has_filter_key s (text_key text.now)

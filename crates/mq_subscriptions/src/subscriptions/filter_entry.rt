@@ -75,7 +75,7 @@ impl FilterEntry {
 
     /// Adds a subscription, in the place of the one with its key.
     #[tactic(auto, using(crate::proofs::AtLemmas::is_here))]
-    pub fn join(
+    pub fn insert(
         &mut self,
         alloc: Global,
         share: Option<&str>,
@@ -96,13 +96,13 @@ impl FilterEntry {
                 self.unshared.insert(client, options)?;
                 Ok(())
             }
-            Some(share) => self.groups.join(alloc, share, client, options),
+            Some(share) => self.groups.insert(alloc, share, client, options),
         }
     }
 
     /// Takes a subscription out, and its group with its last member.
     #[tactic(auto, using(crate::proofs::AtLemmas::is_here))]
-    pub fn leave(&mut self, share: Option<&str>, client: &str)
+    pub fn remove(&mut self, share: Option<&str>, client: &str)
         ensures rows { self.new.rows ≡ filter
             (λ s. not (has_key client.now (option_copied share.entry) self.old.filter s))
             self.old.rows }
@@ -115,7 +115,7 @@ impl FilterEntry {
             None => {
                 let _ = self.unshared.remove(client);
             }
-            Some(share) => self.groups.leave(share, client),
+            Some(share) => self.groups.remove(share, client),
         }
     }
 

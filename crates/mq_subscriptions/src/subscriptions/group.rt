@@ -60,7 +60,7 @@ impl Group {
     }
 
     /// A member keeps its place, and a new one goes last.
-    pub(crate) fn join(
+    pub(crate) fn insert(
         &mut self,
         client: RcStr,
         options: SubscriptionOptions,
@@ -75,7 +75,7 @@ impl Group {
         Ok(())
     }
 
-    pub(crate) fn leave(&mut self, client: &str)
+    pub(crate) fn remove(&mut self, client: &str)
         ensures { self.new ≡ filter (λ m. not (has_client client.now m)) self.old }
     {
         let _count = self.members.len();

@@ -74,7 +74,7 @@ impl ShareGroups {
     }
 
     /// A member keeps its place, and a new one goes last.
-    pub(crate) fn join(
+    pub(crate) fn insert(
         &mut self,
         alloc: Global,
         share: &str,
@@ -87,7 +87,7 @@ impl ShareGroups {
     {
         match self.by_share.get_mut(share) {
             Some(group) => {
-                group.join(client, options)?;
+                group.insert(client, options)?;
                 Ok(())
             }
             None => self.add(alloc, share, client, options),
@@ -109,19 +109,19 @@ impl ShareGroups {
     {
         let name = RcStr::from_str(alloc, share)?;
         let mut group = Group::new(alloc);
-        group.join(client, options)?;
+        group.insert(client, options)?;
         self.by_share.insert(name, group)?;
         Ok(())
     }
 
     /// Takes a member out, and its group with its last one.
-    pub(crate) fn leave(&mut self, share: &str, client: &str)
+    pub(crate) fn remove(&mut self, share: &str, client: &str)
         ensures { GroupLeaves share.now client.now self.old self.new }
     {
         let Some(group) = self.by_share.get_mut(share) else {
             return;
         };
-        group.leave(client);
+        group.remove(client);
         if group.is_empty() {
             let _ = self.by_share.remove(share);
         }

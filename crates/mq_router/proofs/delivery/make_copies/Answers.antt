@@ -10,7 +10,7 @@ use Rattle.mq_subscriptions.specs.Matches.{rows_found}
 use Rattle.mq_router.specs.delivery.Copies.{gives_options}
 use Rattle.mq_router.specs.delivery.Summaries.{summary_for}
 use Rattle.mq_world.specs.Views.{message_of}
-use Rattle.mq_sessions.specs.Views.{begin_of}
+use Rattle.mq_sessions.specs.Views.{queue_item_of}
 use Rattle.mq_subscriptions.specs.Turns.{turns_in}
 use Rattle.mq_subscriptions.specs.Matches.{match_views, options_among}
 use Rattle.mq_router.specs.delivery.Copies.{by_client}
@@ -41,7 +41,7 @@ returns-then-is_empty-clause-queued c =
     ∙ ap (λ l. rows_found (map (λ a. a.now) l))
     (sym c.as_slice-found.ensures.value
     ∙ empty-is c.as_slice-found.result.now (sym c.is_empty.ensures ∙ c.if-is_empty.true)) in
-    ap (map begin_of) c.nothing.ensures.queued
+    ap (map queue_item_of) c.nothing.ensures.queued
     ∙ sym (no-queued c.args.readers.now.access.now c.args.readers.now.sessions.now subs m none
     c.args.limit c.args.message.now.deadline)
 

@@ -15,15 +15,15 @@ returns-clause-ok c =
     let share = option_map string_bytes c.args.wanted.now.share in
     let k = rc_str_bytes c.args.client in
     let start : At = c.new-at.result in
-    let one : At = c.join.new.self in
+    let one : At = c.insert.new.self in
     let is : start.filter ≡ f = ap (λ (a : At). a.filter) c.new-at.ensures
     ∙ c.in_ok-filter.ensures.ok ∙ c.in_ok-clone.ensures in
     let by : Option Text → Text → List Subscription → List Subscription =
     λ sh g xs. upsert (row sh g (k, c.args.options)) xs in
     tree-added f c.args.tree.now c.requires.kept.each c.requires.absent one
-    (c.join.ensures.filter ∙ is) c.join.ensures.here c.put.new.self c.in_ok-put.ensures.ok
+    (c.insert.ensures.filter ∙ is) c.insert.ensures.here c.put.new.self c.in_ok-put.ensures.ok
     (row share f (k, c.args.options)) refl
-    (same-then _ _ _ c.in_ok-join.ensures.ok
+    (same-then _ _ _ c.in_ok-insert.ensures.ok
     (same-is _ _ (ap (λ sh. by sh start.filter start.rows) c.as_deref.ensures.value
     ∙ ap (λ g. by share g start.rows) is
     ∙ ap (λ xs. by share f xs) (ap (λ (a : At). a.rows) c.new-at.ensures))))
@@ -32,12 +32,12 @@ pub returns-clause-kept : goal.returns-clause-kept
 returns-clause-kept c =
     let f = c.args.wanted.now.filter in
     let start : At = c.new-at.result in
-    let one : At = c.join.new.self in
+    let one : At = c.insert.new.self in
     let is : start.filter ≡ f = ap (λ (a : At). a.filter) c.new-at.ensures
     ∙ c.in_ok-filter.ensures.ok ∙ c.in_ok-clone.ensures in
     tree-added_kept f c.args.tree.now c.requires.kept.each c.requires.absent one
-    (c.join.ensures.filter ∙ is) c.join.ensures.here c.put.new.self c.in_ok-put.ensures.ok
+    (c.insert.ensures.filter ∙ is) c.insert.ensures.here c.put.new.self c.in_ok-put.ensures.ok
     c.requires.kept.ordered
     (joined-live (row (option_copied c.as_deref.result) start.filter
     (rc_str_bytes c.args.client, c.args.options)) one.rows start.rows
-    c.in_ok-join.ensures.ok)
+    c.in_ok-insert.ensures.ok)

@@ -16,9 +16,10 @@ invariant_of-self-in-Err c =
     let pairs = c.self.inside.deadlines in
     subst (λ (tree : Entries Stored). IsSound tree c.remove.new.self) (sym c.in-Err.ensures.err)
     (undone-sound c.args.message.now.deadline c.args.message.now.topic.now c.self.inside.tree pairs
-    c.put.new.self c.remove.new.self
-    c.in-Err.ensures.absent c.self.invariant c.in_ok-put.ensures.ok
-    (subst (λ (pair : Option Pair). Drops pair c.put.new.self c.remove.new.self) c.in_ok-new.ensures
+    c.insert.new.self c.remove.new.self
+    c.in-Err.ensures.absent c.self.invariant c.in_ok-insert.ensures.ok
+    (subst (λ (pair : Option Pair). Drops pair c.insert.new.self c.remove.new.self)
+    c.in_ok-new.ensures
     c.remove.ensures))
 
 pub invariant_of-self-in-Ok : goal.invariant_of-self-in-Ok
@@ -28,9 +29,9 @@ invariant_of-self-in-Ok c =
     in
     subst (λ (tree : Entries Stored). IsSound tree c.remove-in-Ok.new.self) (sym c.in-Ok.ensures.ok)
     (stored-sound c.in_ok-stored.stored kept c.self.inside.tree c.self.inside.deadlines
-    c.put.new.self c.remove-in-Ok.new.self
-    c.in_ok-stored.ensures c.self.invariant c.in_ok-put.ensures.ok
-    (subst (λ (pair : Option Pair). Drops pair c.put.new.self c.remove-in-Ok.new.self)
+    c.insert.new.self c.remove-in-Ok.new.self
+    c.in_ok-stored.ensures c.self.invariant c.in_ok-insert.ensures.ok
+    (subst (λ (pair : Option Pair). Drops pair c.insert.new.self c.remove-in-Ok.new.self)
     (c.in_ok-older.ensures
     ∙ ap (λ older. replaced older c.args.message.now.deadline topic)
     (c.deadline_at.ensures
@@ -48,12 +49,12 @@ returns-clause-ok c =
 
 pub returns-in-Err-clause-err : goal.returns-in-Err-clause-err
 returns-in-Err-clause-err c =
-    same-kept c.self.inside.tree c.put-2.new.self c.self.inside.deadlines c.remove.new.self
+    same-kept c.self.inside.tree c.put.new.self c.self.inside.deadlines c.remove.new.self
     c.in-Err.ensures.err
     (undone-pairs c.args.message.now.deadline c.args.message.now.topic.now c.self.inside.tree
-    c.self.inside.deadlines c.put.new.self c.remove.new.self
-    c.in-Err.ensures.absent c.self.invariant c.in_ok-put.ensures.ok
-    (subst (λ (pair : Option Pair). Drops pair c.put.new.self c.remove.new.self)
+    c.self.inside.deadlines c.insert.new.self c.remove.new.self
+    c.in-Err.ensures.absent c.self.invariant c.in_ok-insert.ensures.ok
+    (subst (λ (pair : Option Pair). Drops pair c.insert.new.self c.remove.new.self)
     c.in_ok-new.ensures c.remove.ensures))
     ∙ c.self.view_is
 
@@ -62,13 +63,13 @@ returns-clause-filed c =
     let topic = c.args.message.now.topic.now in
     let kept : Retained = stored_until c.args.message.now.deadline (message_of c.args.message.now)
     in
-    sound-filed c.put-2.new.self c.remove-in-Ok.new.self
+    sound-filed c.put.new.self c.remove-in-Ok.new.self
     (subst (λ (tree : Entries Stored). IsSound tree c.remove-in-Ok.new.self)
     (sym c.in-Ok.ensures.ok)
     (stored-sound c.in_ok-stored.stored kept c.self.inside.tree c.self.inside.deadlines
-    c.put.new.self c.remove-in-Ok.new.self
-    c.in_ok-stored.ensures c.self.invariant c.in_ok-put.ensures.ok
-    (subst (λ (pair : Option Pair). Drops pair c.put.new.self c.remove-in-Ok.new.self)
+    c.insert.new.self c.remove-in-Ok.new.self
+    c.in_ok-stored.ensures c.self.invariant c.in_ok-insert.ensures.ok
+    (subst (λ (pair : Option Pair). Drops pair c.insert.new.self c.remove-in-Ok.new.self)
     (c.in_ok-older.ensures
     ∙ ap (λ older. replaced older c.args.message.now.deadline topic)
     (c.deadline_at.ensures

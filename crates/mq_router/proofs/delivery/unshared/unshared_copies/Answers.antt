@@ -4,10 +4,10 @@ use Rattle.std.proofs.lemmas.List.{map-append, append-nil}
 use Rattle.std.proofs.lemmas.List.Sorted.{answers_always}
 use Rattle.mq_world.specs.Views.{copy_of}
 use Rattle.mq_world.specs.Views.{message_of}
-use Rattle.mq_sessions.specs.Views.{begin_of}
-use Rattle.mq_sessions.specs.Queue.{begin_with}
+use Rattle.mq_sessions.specs.Views.{queue_item_of}
+use Rattle.mq_sessions.specs.Queue.{queue_item}
 use Rattle.mq_world.specs.Waiting.{with_qos}
-use Rattle.mq_router.specs.delivery.Copies.{copies_by, begins_by}
+use Rattle.mq_router.specs.delivery.Copies.{copies_by, queue_items_by}
 use Rattle.mq_subscriptions.specs.Matches.{match_views}
 use Rattle.mq_router.specs.delivery.Copies.{by_client}
 use Rattle.std.specs.Slice.Iter.{chunk_by_rest}
@@ -28,7 +28,7 @@ loop-chunk-preserved c =
     let step =
     nowhere-first c.args.limit A S m c.args.outgoing.now.message.deadline _ c.way.result
     c.way.ensures.sent c.way.ensures.waits
-    (map copy_of c.loop-chunk.copies.items) (map begin_of c.loop-chunk.queued.items)
+    (map copy_of c.loop-chunk.copies.items) (map queue_item_of c.loop-chunk.queued.items)
     (by_client (match_views (chunk_by_rest c.next.new.self)))
     (by_client (match_views (chunk_by_rest c.loop-chunk.chunk-iterator))) first.1
     c.in-Nowhere.is in
@@ -48,21 +48,21 @@ loop-chunk-preserved-in_default c =
     let step =
     waits-first c.args.limit A S m c.args.outgoing.now.message.deadline _ c.way.result
     c.way.ensures.sent c.way.ensures.waits
-    (map copy_of c.loop-chunk.copies.items) (map begin_of c.loop-chunk.queued.items)
+    (map copy_of c.loop-chunk.copies.items) (map queue_item_of c.loop-chunk.queued.items)
     (by_client (match_views (chunk_by_rest c.next.new.self)))
     (by_client (match_views (chunk_by_rest c.loop-chunk.chunk-iterator))) first.1
-    c.in-Waits.is (option_map begin_of c.in_ok-one-in-Waits.field-0)
+    c.in-Waits.is (option_map queue_item_of c.in_ok-one-in-Waits.field-0)
     (c.in_ok-one-in-Waits.ensures
-    ∙ ap (λ k. option_map (begin_with k.client c.args.outgoing.now.message.deadline)
+    ∙ ap (λ k. option_map (queue_item k.client c.args.outgoing.now.message.deadline)
     (with_qos k)) c.in_ok-copy-in-Waits.ensures) in
-    let left = begins_by c.args.limit A S m c.args.outgoing.now.message.deadline
+    let left = queue_items_by c.args.limit A S m c.args.outgoing.now.message.deadline
     (by_client (match_views (chunk_by_rest c.next.new.self))) in
     record {
       sorted = first.0;
       copies = step.0 ∙ held.copies;
-      queued = ap (λ l. l ++ left) (sym (append-nil (map begin_of c.loop-chunk.queued.items)))
-          ∙ ap (λ o. (map begin_of c.loop-chunk.queued.items
-          ++ option_to_list (option_map begin_of o))
+      queued = ap (λ l. l ++ left) (sym (append-nil (map queue_item_of c.loop-chunk.queued.items)))
+          ∙ ap (λ o. (map queue_item_of c.loop-chunk.queued.items
+          ++ option_to_list (option_map queue_item_of o))
           ++ left) (sym c.in_default.is)
           ∙ step.1 ∙ held.queued;
     }
@@ -82,7 +82,7 @@ loop-chunk-preserved-in_ok-push-in-Sent c =
     let step =
     sent-first c.args.limit A S m c.args.outgoing.now.message.deadline _ c.way.result
     c.way.ensures.sent c.way.ensures.waits
-    (map copy_of c.loop-chunk.copies.items) (map begin_of c.loop-chunk.queued.items)
+    (map copy_of c.loop-chunk.copies.items) (map queue_item_of c.loop-chunk.queued.items)
     (by_client (match_views (chunk_by_rest c.next.new.self)))
     (by_client (match_views (chunk_by_rest c.loop-chunk.chunk-iterator))) first.1
     c.in-Sent.is (copy_of copy) c.in_ok-unshared_copy-in-Sent.ensures in
@@ -110,22 +110,22 @@ loop-chunk-preserved-in_ok-push-in-Waits c =
     let step =
     waits-first c.args.limit A S m c.args.outgoing.now.message.deadline _ c.way.result
     c.way.ensures.sent c.way.ensures.waits
-    (map copy_of c.loop-chunk.copies.items) (map begin_of c.loop-chunk.queued.items)
+    (map copy_of c.loop-chunk.copies.items) (map queue_item_of c.loop-chunk.queued.items)
     (by_client (match_views (chunk_by_rest c.next.new.self)))
     (by_client (match_views (chunk_by_rest c.loop-chunk.chunk-iterator))) first.1
-    c.in-Waits.is (option_map begin_of c.in_ok-one-in-Waits.field-0)
+    c.in-Waits.is (option_map queue_item_of c.in_ok-one-in-Waits.field-0)
     (c.in_ok-one-in-Waits.ensures
-    ∙ ap (λ k. option_map (begin_with k.client c.args.outgoing.now.message.deadline)
+    ∙ ap (λ k. option_map (queue_item k.client c.args.outgoing.now.message.deadline)
     (with_qos k)) c.in_ok-copy-in-Waits.ensures) in
-    let left = begins_by c.args.limit A S m c.args.outgoing.now.message.deadline
+    let left = queue_items_by c.args.limit A S m c.args.outgoing.now.message.deadline
     (by_client (match_views (chunk_by_rest c.next.new.self))) in
     record {
       sorted = first.0;
       copies = step.0 ∙ held.copies;
-      queued = ap (λ l. map begin_of l ++ left) c.in_ok-push-in-Waits.ensures.items
-          ∙ ap (λ l. l ++ left) (map-append begin_of c.loop-chunk.queued.items (one ∷ []))
-          ∙ ap (λ o. (map begin_of c.loop-chunk.queued.items
-          ++ option_to_list (option_map begin_of o))
+      queued = ap (λ l. map queue_item_of l ++ left) c.in_ok-push-in-Waits.ensures.items
+          ∙ ap (λ l. l ++ left) (map-append queue_item_of c.loop-chunk.queued.items (one ∷ []))
+          ∙ ap (λ o. (map queue_item_of c.loop-chunk.queued.items
+          ++ option_to_list (option_map queue_item_of o))
           ++ left) (sym c.in-Some-2.is)
           ∙ step.1 ∙ held.queued;
     }

@@ -2,8 +2,8 @@ use Rattle.std.proofs.Common.{◌≡◌, ◌++◌, map}
 use Rattle.std.specs.Slice.Iter.{chunk_by_rest}
 use Rattle.mq_world.specs.Views.{copy_of}
 use Rattle.mq_world.specs.Views.{message_of}
-use Rattle.mq_sessions.specs.Views.{begin_of}
-use Rattle.mq_router.specs.delivery.Copies.{copies_by, begins_by}
+use Rattle.mq_sessions.specs.Views.{queue_item_of}
+use Rattle.mq_router.specs.delivery.Copies.{copies_by, queue_items_by}
 use Rattle.mq_subscriptions.specs.Matches.{match_views, AreByClient}
 use Rattle.mq_router.specs.delivery.Copies.{by_client}
 use Rattle.mq_router.proofs.delivery.unshared.unshared_copies.Given as goal
@@ -15,10 +15,10 @@ invariant-loop-chunk l = record {
       (message_of l.outgoing.message) (by_client (match_views (chunk_by_rest l.chunk-iterator)))
       ≡ copies_by l.readers.access.now l.readers.sessions.now (message_of l.outgoing.message)
       (by_client (match_views l.fn.matches));
-  queued : map begin_of l.queued.items ++ begins_by l.limit l.readers.access.now
+  queued : map queue_item_of l.queued.items ++ queue_items_by l.limit l.readers.access.now
       l.readers.sessions.now (message_of l.outgoing.message) l.outgoing.message.deadline
       (by_client (match_views (chunk_by_rest l.chunk-iterator)))
-      ≡ begins_by l.limit l.readers.access.now l.readers.sessions.now
+      ≡ queue_items_by l.limit l.readers.access.now l.readers.sessions.now
       (message_of l.outgoing.message) l.outgoing.message.deadline
       (by_client (match_views l.fn.matches));
 }

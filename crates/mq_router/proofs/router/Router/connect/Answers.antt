@@ -30,14 +30,14 @@ returns-then-not-is_user_name-clause-applied c =
 pub invariant_of-self-in-Some-resumed-2 : goal.invariant_of-self-in-Some-resumed-2
 invariant_of-self-in-Some-resumed-2 c = (
   c.self.invariant.0,
-  subst (AllReached c.self.inside.clock.moment) (sym c.in_ok-put.ensures.ok)
+  subst (AllReached c.self.inside.clock.moment) (sym c.in_ok-insert.ensures.ok)
       (reached-with_row c.self.inside.clock.moment _ c.self.inside.sessions tt c.self.invariant.1),
 )
 
 pub invariant_of-self-in_default : goal.invariant_of-self-in_default
 invariant_of-self-in_default c = (
   c.self.invariant.0,
-  subst (AllReached c.self.inside.clock.moment) (sym c.in_ok-put.ensures.ok)
+  subst (AllReached c.self.inside.clock.moment) (sym c.in_ok-insert.ensures.ok)
       (reached-with_row c.self.inside.clock.moment _ c.self.inside.sessions tt c.self.invariant.1),
 )
 
@@ -49,7 +49,7 @@ returns-in_default-clause-applied c =
     let interval = c.args.session_expiry in
     let subs = c.remove_client.new.self in
     let new : State = record s {
-      sessions = c.put.new.self;
+      sessions = c.insert.new.self;
       subscriptions = subs.rows;
       filter_keys =
           subs.keys;
@@ -58,15 +58,16 @@ returns-in_default-clause-applied c =
     resumes-none s.moment s.sessions id c.args.clean
     (ap (option_map (λ list. map copy_of list.items)) (sym c.in_default.is)
     ∙ c.in_ok-resumed.ensures) in
-    let sessions : c.put.new.self ≡ with_row session_cmp (new_session id user interval) s.sessions =
-    c.in_ok-put.ensures.ok
+    let sessions : c.insert.new.self ≡ with_row session_cmp
+    (new_session id user interval) s.sessions =
+    c.in_ok-insert.ensures.ok
     ∙ ap (λ i. with_row session_cmp
     (new_session i (option_map string_bytes c.in_ok-user.user) interval) s.sessions)
     c.in_ok-id.ensures.ok
     ∙ ap (λ u. with_row session_cmp (new_session id u interval) s.sessions) c.in_ok-user.ensures in
     subst (λ (v : State). Does v (Connect id user c.args.clean interval)
     (reply_of c.with_reason.result) new) c.self.view_is
-    (connect-does s id user c.args.clean interval c.put.new.self subs _ (record {
+    (connect-does s id user c.args.clean interval c.insert.new.self subs _ (record {
       accepted = connect-accepted s id user c.args.clean interval
           (sym c.is_client_id.ensures ∙ c.if-not-is_client_id.false)
           (sym c.is_user_name.ensures ∙ c.if-not-is_user_name.false);
@@ -83,13 +84,14 @@ returns-clause-applied c =
     let id = c.args.client.now in
     let user = option_copied c.args.user in
     let interval = c.args.session_expiry in
-    let new : State = record s { sessions = c.put.new.self } in
+    let new : State = record s { sessions = c.insert.new.self } in
     let stays = resumes-some s.moment s.sessions id c.args.clean
     (map copy_of c.in-Some.copies.items)
     (ap (option_map (λ list. map copy_of list.items)) (sym c.in-Some.is)
     ∙ c.in_ok-resumed.ensures) in
-    let sessions : c.put.new.self ≡ with_row session_cmp (new_session id user interval) s.sessions =
-    c.in_ok-put.ensures.ok
+    let sessions : c.insert.new.self ≡ with_row session_cmp
+    (new_session id user interval) s.sessions =
+    c.in_ok-insert.ensures.ok
     ∙ ap (λ i. with_row session_cmp
     (new_session i (option_map string_bytes c.in_ok-user.user) interval) s.sessions)
     c.in_ok-id.ensures.ok
@@ -97,7 +99,7 @@ returns-clause-applied c =
     subst (λ (v : State). Does v (Connect id user c.args.clean interval)
     (record { copies = map copy_of c.in-Some.copies.items; outcome = Reason 0 }) new)
     c.self.view_is
-    (connect-does s id user c.args.clean interval c.put.new.self c.self.inside.subscriptions _
+    (connect-does s id user c.args.clean interval c.insert.new.self c.self.inside.subscriptions _
     (record {
       accepted = connect-accepted s id user c.args.clean interval
           (sym c.is_client_id.ensures ∙ c.if-not-is_client_id.false)

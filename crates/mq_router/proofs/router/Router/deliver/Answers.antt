@@ -1,13 +1,13 @@
 use Rattle.std.proofs.Common.{rules, ◌≡◌, ◌∙◌, ◌==◌, ◌<◌, ◌+◌, ◌^◌, ℕ, sym, ap, subst, map, not}
 use Rattle.std.proofs.Common.{length, Option, List}
 use Rattle.mq_subscriptions.specs.Turns.{turn_of}
-use Rattle.mq_sessions.specs.Views.{begin_of}
+use Rattle.mq_sessions.specs.Views.{queue_item_of}
 use Rattle.mq_router.specs.router.Views.{state_of}
 use Rattle.mq_world.specs.World.{Publish, Message, Subscription}
 use Rattle.mq_world.specs.Refusals.{refusal}
 use Rattle.mq_world.specs.Clock.{deadline_of}
 use Rattle.mq_world.specs.Waiting.{waiting_after, begins_to_wait}
-use Rattle.mq_sessions.specs.Queue.{Begin, queue_all}
+use Rattle.mq_sessions.specs.Queue.{QueueItem, queue_all}
 use Rattle.mq_router.specs.delivery.Copies.{queued_by}
 use Rattle.mq_sessions.specs.Near.{AllReached}
 use Rattle.std.specs.Option.{IfSome}
@@ -35,12 +35,12 @@ invariant_of-self-2 c =
     (sym c.self.view_is) c.requires.near in
     let near : IfSome (deadline_of s.moment m.expiry) (λ d. d < s.moment + 2 ^ 32) =
     subst (λ deadline. IfSome deadline (λ d. d < s.moment + 2 ^ 32)) value within in
-    let waiting : c.join_all.new.self
+    let waiting : c.queue_all.new.self
     ≡ map (waiting_after limit s.access s.subscriptions s.moment m) s.sessions =
-    c.join_all.ensures.new ∙ ap (λ bs. queue_all limit bs s.sessions)
+    c.queue_all.ensures.new ∙ ap (λ bs. queue_all limit bs s.sessions)
     (c.in_ok-made.ensures.queued ∙ ap (λ (v : State). queued_now v m c.args.message.now.deadline)
     (sym c.self.view_is) ∙ ap (queued_now s m) value)
-    ∙ queued-is limit s.access s.subscriptions s.moment m s.sessions c.join_all.ensures.ordered in (
+    ∙ queued-is limit s.access s.subscriptions s.moment m s.sessions c.queue_all.ensures.ordered in (
       c.in_ok-publish.ensures.near s.moment within c.self.invariant.0,
       subst (AllReached s.moment) (sym waiting)
           (reached-after limit s.access s.subscriptions s.moment m s.sessions near
@@ -54,7 +54,7 @@ returns-clause-done c = λ accepted.
     let subs = c.serve_all.new.self in
     let kept = c.publish.new.self in
     let new : State = record s {
-      sessions = c.join_all.new.self;
+      sessions = c.queue_all.new.self;
       subscriptions = subs.rows;
       filter_keys = subs.keys;
       retained = kept.messages;
@@ -67,7 +67,7 @@ returns-clause-done c = λ accepted.
     let deadline : Option ℕ = deadline_of s.moment m.expiry in
     let value : c.args.message.now.deadline ≡ deadline =
     c.requires.value ∙ ap (λ (v : State). deadline_of v.moment m.expiry) (sym c.self.view_is) in
-    let queued : map begin_of c.in_ok-made.made.queued.items
+    let queued : map queue_item_of c.in_ok-made.made.queued.items
     ≡ queued_by limit s.access s.sessions s.subscriptions m deadline =
     c.in_ok-made.ensures.queued ∙ ap (λ (v : State). queued_now v m c.args.message.now.deadline)
     (sym c.self.view_is) ∙ ap (queued_now s m) value in
@@ -75,15 +75,16 @@ returns-clause-done c = λ accepted.
     search rules in
     let waits : not c.is_empty-waits.result ≡ begins_to_wait limit s.access s.sessions
     s.subscriptions m =
-    ap not none ∙ ap (λ n. not (n == 0)) (sym (length-map c.in_ok-made.made.queued.items begin_of))
-    ∙ ap (λ (bs : List Begin). not (length bs == 0)) queued
+    ap not none ∙ ap (λ n. not (n == 0)) (sym (length-map c.in_ok-made.made.queued.items
+    queue_item_of))
+    ∙ ap (λ (bs : List QueueItem). not (length bs == 0)) queued
     ∙ waits-is limit s.access s.subscriptions m deadline s.sessions in
-    let waiting : c.join_all.new.self
+    let waiting : c.queue_all.new.self
     ≡ map (waiting_after limit s.access s.subscriptions s.moment m) s.sessions =
-    c.join_all.ensures.new ∙ ap (λ bs. queue_all limit bs s.sessions) queued
-    ∙ queued-is limit s.access s.subscriptions s.moment m s.sessions c.join_all.ensures.ordered in
+    c.queue_all.ensures.new ∙ ap (λ bs. queue_all limit bs s.sessions) queued
+    ∙ queued-is limit s.access s.subscriptions s.moment m s.sessions c.queue_all.ensures.ordered in
     subst (λ (v : State). Does v (Publish m) (reply_of c.published.result) new) c.self.view_is
-    (publish-does s m c.join_all.new.self subs kept _ (record {
+    (publish-does s m c.queue_all.new.self subs kept _ (record {
       accepted = ap (λ (v : State). refusal (world_of v) (Publish m)) c.self.view_is ∙ accepted;
       reply_is = c.published.ensures ∙ ap (λ l. publish_reply l (not c.is_empty-waits.result))
           (c.in_ok-made.ensures.copies ∙ ap (λ (v : State). copies_now v m) (sym c.self.view_is))

@@ -31,7 +31,7 @@ invariant_of-self c =
     in (
       c.self.invariant.0,
       subst (AllReached c.self.inside.clock.moment)
-          (sym (c.leave.ensures.left (connected-tested c.self.inside.sessions id tested)))
+          (sym (c.disconnect.ensures.left (connected-tested c.self.inside.sessions id tested)))
           (reached-left c.self.inside.clock.moment c.self.inside.clock.moment c.args.client.now
           c.self.inside.sessions c.self.invariant.1),
     )
@@ -48,14 +48,15 @@ pub returns-then-outlives-clause-applied : goal.returns-then-outlives-clause-app
 returns-then-outlives-clause-applied c =
     let s : State = state_of c.self.inside in
     let id = c.args.client.now in
-    let new : State = record s { sessions = c.leave.new.self } in
+    let new : State = record s { sessions = c.disconnect.new.self } in
     let tested : None ≡ first_refusal (client_conditions s.sessions id) =
     c.in_ok-check_client.ensures.refused
     ∙ ap (λ (v : State). first_refusal (client_conditions v.sessions id)) (sym c.self.view_is)
     in
     subst (λ (v : State). Does v (Disconnect id) (reply_of c.with_reason.result) new) c.self.view_is
-    (disconnect-leaves s id c.leave.new.self _ tested (sym c.outlives.ensures ∙ c.if-outlives.true)
-    c.with_reason.ensures (c.leave.ensures.left (connected-tested s.sessions id tested)))
+    (disconnect-leaves s id c.disconnect.new.self _ tested
+    (sym c.outlives.ensures ∙ c.if-outlives.true)
+    c.with_reason.ensures (c.disconnect.ensures.left (connected-tested s.sessions id tested)))
 
 pub returns-clause-applied : goal.returns-clause-applied
 returns-clause-applied c =

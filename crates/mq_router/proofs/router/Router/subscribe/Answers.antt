@@ -56,7 +56,7 @@ returns-clause-applied c =
     let id = c.args.client.now in
     let text = c.args.text.now in
     let options : SubscriptionOptions = options_of c.args.options in
-    let subs = c.put.new.self in
+    let subs = c.insert.new.self in
     let new : State = record s { subscriptions = subs.rows; filter_keys = subs.keys } in
     let tested : None ≡ first_refusal (client_conditions s.sessions id) =
     c.in_ok-check_client.ensures.refused
@@ -90,8 +90,8 @@ returns-clause-applied c =
           ∙ sym c.is_shared_no_local.ensures ∙ c.if-is_shared_no_local.false);
       reply_is = ap (λ l. record { copies = l; outcome = Reason c.args.options.qos }) copies;
     }) (record {
-      same = same-then _ _ _ c.in_ok-put.ensures.ok
+      same = same-then _ _ _ c.in_ok-insert.ensures.ok
           (same-is _ _ (ap (λ k. upsert (by k) s.subscriptions) kept
           ∙ ap (λ (x : Subscription). upsert x s.subscriptions) is));
-      keys = λ old. c.in_ok-put.ensures.keys;
+      keys = λ old. c.in_ok-insert.ensures.keys;
     }))

@@ -7,12 +7,12 @@ use Rattle.mq_subscriptions.proofs.subscriptions.Subscriptions.remove.Goals as g
 pub invariant_of-self : goal.invariant_of-self
 invariant_of-self c =
     listed-left c.args.client.now (text_key c.args.text.now) c.self.inside.tree
-    c.leave_in-existed.new.tree (texts c.self.inside.lists.entries)
+    c.remove_in-existed.new.tree (texts c.self.inside.lists.entries)
     (texts c.list_remove.new.lists.entries) (record {
       agreed = c.self.invariant;
-      kept = c.leave_in-existed.ensures.kept;
+      kept = c.remove_in-existed.ensures.kept;
       live = c.list_remove.ensures.live;
-    }) c.leave_in-existed.ensures.rows c.list_remove.ensures.rest
+    }) c.remove_in-existed.ensures.rows c.list_remove.ensures.rest
 
 pub returns-clause-keys : goal.returns-clause-keys
-returns-clause-keys c = kept-keys c.leave_in-existed.new.tree c.leave_in-existed.ensures.kept
+returns-clause-keys c = kept-keys c.remove_in-existed.new.tree c.remove_in-existed.ensures.kept

@@ -10,19 +10,19 @@ pub invariant_of-self-2 : goal.invariant_of-self-2
 invariant_of-self-2 c =
     let found = sym c.remove.ensures.value ∙ c.in-Some.is in
     listed-gone c.args.client.now c.self.inside.lists.entries c.in-Some.filters
-    c.remove.new.self.entries c.self.inside.tree c.leave_all.new.tree (record {
+    c.remove.new.self.entries c.self.inside.tree c.remove_all.new.tree (record {
       sorted = c.len-count.ensures.ordered;
       found = found;
       gone = c.remove.ensures.entries;
-    }) c.self.invariant c.leave_all.ensures.kept
-    (c.leave_all.ensures.rows
+    }) c.self.invariant c.remove_all.ensures.kept
+    (c.remove_all.ensures.rows
     ∙ all-leave c.args.client.now c.self.inside.lists.entries c.in-Some.filters c.self.inside.tree
     found
     c.self.invariant)
 
 pub returns-clause-rows : goal.returns-clause-rows
 returns-clause-rows c =
-    c.leave_all.ensures.rows ∙ all-leave c.args.client.now c.self.inside.lists.entries
+    c.remove_all.ensures.rows ∙ all-leave c.args.client.now c.self.inside.lists.entries
     c.in-Some.filters
     c.self.inside.tree (sym c.remove.ensures.value ∙ c.in-Some.is) c.self.invariant
     ∙ ap (λ (k : SubscriptionsView). filter (λ s. not (same_text s.client c.args.client.now))
@@ -30,7 +30,7 @@ returns-clause-rows c =
     c.self.view_is
 
 pub returns-clause-keys : goal.returns-clause-keys
-returns-clause-keys c = kept-keys c.leave_all.new.tree c.leave_all.ensures.kept
+returns-clause-keys c = kept-keys c.remove_all.new.tree c.remove_all.ensures.kept
 
 pub returns-in_default-clause-rows : goal.returns-in_default-clause-rows
 returns-in_default-clause-rows c =
