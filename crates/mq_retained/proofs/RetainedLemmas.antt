@@ -146,17 +146,17 @@ found-retained topic (e ∷ es) placed =
 -- ## The messages that a filter matches
 
 -- the entries whose keys a filter matches hold the messages whose topics it matches
-pub matched-retained : (wanted : Text) (tree : Entries Stored) → IsPlaced tree
-    → map message_in (values_of (filter (λ e. matches (levels wanted) e.0) tree))
-    ≡ filter (λ kept. filter_matches wanted kept.topic) (retained_in tree)
-matched-retained wanted tree placed =
-    map-map message_in (λ (e : Entry). e.1) (filter (λ e. matches (levels wanted) e.0) tree)
+pub matched-retained : (topic_filter : Text) (tree : Entries Stored) → IsPlaced tree
+    → map message_in (values_of (filter (λ e. matches (levels topic_filter) e.0) tree))
+    ≡ filter (λ kept. filter_matches topic_filter kept.topic) (retained_in tree)
+matched-retained topic_filter tree placed =
+    map-map message_in (λ (e : Entry). e.1) (filter (λ e. matches (levels topic_filter) e.0) tree)
     ∙ ap retained_in (at_topics tree placed)
-    ∙ map-filter view (λ kept. filter_matches wanted kept.topic) tree
+    ∙ map-filter view (λ kept. filter_matches topic_filter kept.topic) tree
   where
     at_topics : (es : Entries Stored) → IsPlaced es
-        → filter (λ e. matches (levels wanted) e.0) es
-        ≡ filter (λ e. filter_matches wanted (view e).topic) es
+        → filter (λ e. matches (levels topic_filter) e.0) es
+        ≡ filter (λ e. filter_matches topic_filter (view e).topic) es
     at_topics [] h = refl
     at_topics (e ∷ es) h = rw (h.0, at_topics es h.1) refl
 

@@ -15,7 +15,7 @@ ghost use Rattle.mq_router.specs.router.Effects.{counts_now, copies_now, queued_
 ghost use Rattle.mq_router.specs.router.Effects.{members_now};
 ghost use Rattle.mq_world.specs.Views.{limits_of, request_of, reply_of};
 ghost use Rattle.mq_world.specs.Views.{options_of};
-ghost use Rattle.mq_subscriptions.specs.Wanted.{wanted_row};
+ghost use Rattle.mq_subscriptions.specs.SubFilters.{sub_filter_row};
 ghost use Rattle.mq_world.specs.Views.{copies_in};
 ghost use Rattle.mq_subscriptions.specs.Turns.{turns_in};
 ghost use Rattle.mq_router.specs.router.Views.{published_message};
@@ -245,12 +245,12 @@ impl Router {
         ensures err { OnErr result (self.new ≡ self.old) }
     {
         let id = self.check_client(client)?.id.clone()?;
-        let wanted = parse_filter(self.alloc, text)?;
-        if is_shared_no_local(&wanted, options.no_local) {
+        let sub_filter = parse_filter(self.alloc, text)?;
+        if is_shared_no_local(&sub_filter, options.no_local) {
             return Err(Refusal::SharedNoLocal);
         }
-        let copies = self.copies_sent(&id, &wanted, options, steps)?;
-        self.subscriptions.insert(&id, text, &wanted, options)?;
+        let copies = self.copies_sent(&id, &sub_filter, options, steps)?;
+        self.subscriptions.insert(&id, text, &sub_filter, options)?;
         Ok(Answer {
             copies,
             outcome: Outcome::Reason(options.qos),
@@ -261,18 +261,19 @@ impl Router {
     fn copies_sent(
         &self,
         client: &RcStr,
-        wanted: &SubFilter,
+        sub_filter: &SubFilter,
         options: SubscriptionOptions,
         steps: &mut Steps,
     ) -> Result<Vec<Delivery>, AllocError>
         ensures copies { IfOk result (λ copies. copies_in copies
-            ≡ copies_sent self.now (wanted_row (rc_str_bytes client.now) wanted.now options)) }
+            ≡ copies_sent self.now
+            (sub_filter_row (rc_str_bytes client.now) sub_filter.now options)) }
         ensures count { OnOk result (steps.new ≡ steps.old + steps_sent self.now
-            (wanted_row (rc_str_bytes client.now) wanted.now options)) }
+            (sub_filter_row (rc_str_bytes client.now) sub_filter.now options)) }
     {
         if !self
             .subscriptions
-            .asks_for_retained(client.as_str(), wanted, options)
+            .asks_for_retained(client.as_str(), sub_filter, options)
         {
             return Ok(Vec::new(self.alloc));
         }
@@ -281,7 +282,7 @@ impl Router {
             clock: self.clock,
             user: self.sessions.user(client.as_str()),
             client,
-            filter: &wanted.filter,
+            filter: &sub_filter.filter,
             options,
         };
         let copies = self.retained.copies(&receiver, steps)?;

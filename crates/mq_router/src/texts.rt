@@ -4,7 +4,7 @@ ghost use Rattle.std.specs.Prelude.{true, false};
 ghost use Rattle.std.specs.Option.{option_copied, option_map};
 ghost use Rattle.mq_topic.specs.Texts.{is_name, is_subscription};
 ghost use Rattle.mq_world.specs.Refusals.{faulty_line, acl_refusal};
-ghost use Rattle.mq_subscriptions.specs.Wanted.{IsAskedBy};
+ghost use Rattle.mq_subscriptions.specs.SubFilters.{IsAskedBy};
 ghost use Rattle.mq_world.specs.After.{access_of};
 
 use mq_acl::{Acl, AclKind};
@@ -14,12 +14,12 @@ use std::alloc::{AllocError, Global};
 
 /// A filter, and a share name or none.
 pub(crate) fn parse_filter(alloc: Global, text: &str) -> Result<SubFilter, Refusal>
-    ensures ok { IfOk result (λ wanted. IsAskedBy text.now wanted) }
+    ensures ok { IfOk result (λ sub_filter. IsAskedBy text.now sub_filter) }
     ensures err { IfErr result (λ refusal. (refusal ≡ Refusal.Memory)
         ⊎ ((refusal ≡ Refusal.TopicFilter) × (is_subscription text.now ≡ false))) }
 {
     match SubFilter::parse(alloc, text) {
-        Ok(wanted) => Ok(wanted),
+        Ok(sub_filter) => Ok(sub_filter),
         Err(TopicFault::Memory) => Err(Refusal::Memory),
         Err(_) => Err(Refusal::TopicFilter),
     }
@@ -67,11 +67,11 @@ pub(crate) fn read_access(alloc: Global, text: Option<&str>) -> Result<Option<Ac
 }
 
 /// Whether a subscription asks for what is not for shared ones, No Local (MQTT 5.0, section 3.8.3.1).
-pub(crate) fn is_shared_no_local(wanted: &SubFilter, no_local: bool) -> bool
-    ensures { result ≡ (is_some wanted.now.share && no_local) }
+pub(crate) fn is_shared_no_local(sub_filter: &SubFilter, no_local: bool) -> bool
+    ensures { result ≡ (is_some sub_filter.now.share && no_local) }
 {
     if no_local {
-        wanted.share.is_some()
+        sub_filter.share.is_some()
     } else {
         false
     }

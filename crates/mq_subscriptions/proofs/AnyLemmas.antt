@@ -19,7 +19,7 @@ use Rattle.mq_world.proofs.OrderLemmas.{text_flip, all_weaker}
 use Rattle.mq_subscriptions.proofs.ClientFilterLemmas.{flip_share}
 use Rattle.mq_subscriptions.proofs.OneServed.{turned-elements}
 use Rattle.mq_subscriptions.specs.Views.{texts}
-use Rattle.mq_subscriptions.specs.Wanted.{ClientLists}
+use Rattle.mq_subscriptions.specs.SubFilters.{ClientLists}
 use Rattle.mq_subscriptions.proofs.AtLemmas.{own_key_is}
 use Rattle.mq_sessions.proofs.SessionLemmas.{finds}
 use Rattle.mq_subscriptions.proofs.TextMaps.{is_text-is, lookup-texts}

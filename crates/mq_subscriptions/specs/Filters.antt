@@ -112,8 +112,8 @@ pub record AreAtFilters (topic : Text) (found : List At) : Type 0 where
 abbrev pub FilterKey : Type 0
 FilterKey = Option Text × Text
 
-abbrev pub wanted_key : SubFilter → FilterKey
-wanted_key wanted = (option_map string_bytes wanted.share, wanted.filter)
+abbrev pub sub_filter_key : SubFilter → FilterKey
+sub_filter_key sub_filter = (option_map string_bytes sub_filter.share, sub_filter.filter)
 
 -- that of a subscription's text
 abbrev pub text_key : Text → FilterKey

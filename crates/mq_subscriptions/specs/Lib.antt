@@ -1,7 +1,7 @@
 pub mod Filters
 pub mod Views
 pub mod ClientViews
-pub mod Wanted
+pub mod SubFilters
 pub mod Turns
 pub mod Edits
 pub mod Matches

@@ -8,8 +8,8 @@ ghost use Rattle.mq_tree.specs.Entries.{capped, is_key};
 ghost use Rattle.mq_tree.specs.Prefixes.{prefixes, met_by_name};
 ghost use Rattle.mq_world.specs.Lists.{same_text};
 ghost use Rattle.mq_world.specs.World.{has_key};
-ghost use Rattle.mq_subscriptions.specs.Wanted.{wanted_row, has_wanted, has_asked, ListsMore};
-ghost use Rattle.mq_subscriptions.specs.Wanted.{ListsLess, NoneEmptied, IsAskedBy};
+ghost use Rattle.mq_subscriptions.specs.SubFilters.{sub_filter_row, has_sub_filter, has_asked, ListsMore};
+ghost use Rattle.mq_subscriptions.specs.SubFilters.{ListsLess, NoneEmptied, IsAskedBy};
 ghost use Rattle.mq_subscriptions.specs.Matches.{lent_values, rows_found};
 ghost use Rattle.mq_world.specs.Copies.{filter_matches};
 ghost use Rattle.mq_world.specs.Retained.{asks_for_retained};
@@ -70,11 +70,11 @@ impl Subscriptions {
         }
     }
 
-    pub fn contains(&self, client: &str, wanted: &SubFilter) -> bool
-        ensures { result ≡ list_any (has_wanted client.now wanted.now) self.now.rows }
+    pub fn contains(&self, client: &str, sub_filter: &SubFilter) -> bool
+        ensures { result ≡ list_any (has_sub_filter client.now sub_filter.now) self.now.rows }
     {
-        match self.tree.get(&wanted.filter) {
-            Some(at) => at.contains(wanted.share.as_deref(), client),
+        match self.tree.get(&sub_filter.filter) {
+            Some(at) => at.contains(sub_filter.share.as_deref(), client),
             None => false,
         }
     }
@@ -83,18 +83,18 @@ impl Subscriptions {
     pub fn asks_for_retained(
         &self,
         client: &str,
-        wanted: &SubFilter,
+        sub_filter: &SubFilter,
         options: SubscriptionOptions,
     ) -> bool
         ensures { result ≡ asks_for_retained self.now.rows
-            (wanted_row client.now wanted.now options) }
+            (sub_filter_row client.now sub_filter.now options) }
     {
-        if wanted.share.is_some() {
+        if sub_filter.share.is_some() {
             return false;
         }
         match options.handling {
             0 => true,
-            1 => !self.contains(client, wanted),
+            1 => !self.contains(client, sub_filter),
             _ => false,
         }
     }
@@ -104,23 +104,24 @@ impl Subscriptions {
         &mut self,
         client: &RcStr,
         text: &str,
-        wanted: &SubFilter,
+        sub_filter: &SubFilter,
         options: SubscriptionOptions,
     ) -> Result<(), AllocError>
-        requires { IsAskedBy text.now wanted.now }
+        requires { IsAskedBy text.now sub_filter.now }
         ensures ok { OnOk result (SameInTurn self.new.rows
-            (upsert (wanted_row (rc_str_bytes client.now) wanted.now options) self.old.rows)) }
+            (upsert (sub_filter_row (rc_str_bytes client.now) sub_filter.now options)
+            self.old.rows)) }
         ensures keys { OnOk result (AreKeys self.new) }
         ensures err { OnErr result (self.new ≡ self.old) }
     {
         let id = client.as_str();
-        if self.contains(id, wanted) {
-            insert_in(&mut self.tree, self.alloc, client, wanted, options)?;
+        if self.contains(id, sub_filter) {
+            insert_in(&mut self.tree, self.alloc, client, sub_filter, options)?;
             return Ok(());
         }
         list_insert(&mut self.lists, self.alloc, client, text)?;
         // Where there is no memory, nothing is left beside the tree that leads to no subscription.
-        match insert_in(&mut self.tree, self.alloc, client, wanted, options) {
+        match insert_in(&mut self.tree, self.alloc, client, sub_filter, options) {
             Ok(()) => Ok(()),
             Err(fault) => {
                 list_remove(&mut self.lists, id, text);
@@ -172,12 +173,12 @@ impl Subscriptions {
     }
 
     /// A member of a group goes last. It takes no memory.
-    pub fn serve(&mut self, share: &str, wanted: &TopicFilter, client: &str)
+    pub fn serve(&mut self, share: &str, topic_filter: &TopicFilter, client: &str)
         ensures rows { SameInTurn self.new.rows
-            (put_last (has_key client.now (Some share.now) wanted.now) self.old.rows) }
+            (put_last (has_key client.now (Some share.now) topic_filter.now) self.old.rows) }
         ensures keys { AreKeys self.new }
     {
-        let Some(at) = self.tree.get_mut(wanted) else {
+        let Some(at) = self.tree.get_mut(topic_filter) else {
             return;
         };
         at.serve(share, client);
@@ -213,22 +214,23 @@ fn insert_in(
     tree: &mut LevelTree<FilterEntry>,
     alloc: Global,
     client: &RcStr,
-    wanted: &SubFilter,
+    sub_filter: &SubFilter,
     options: SubscriptionOptions,
 ) -> Result<(), AllocError>
     requires { AreEntries tree.old }
     ensures ok { OnOk result (SameInTurn (all_rows tree.new)
-        (upsert (wanted_row (rc_str_bytes client.now) wanted.now options) (all_rows tree.old))) }
+        (upsert (sub_filter_row (rc_str_bytes client.now) sub_filter.now options)
+        (all_rows tree.old))) }
     ensures err { OnErr result (tree.new ≡ tree.old) }
     ensures kept { AreEntries tree.new }
 {
     let client = client.clone()?;
-    match tree.get_mut(&wanted.filter) {
+    match tree.get_mut(&sub_filter.filter) {
         Some(at) => {
-            at.insert(alloc, wanted.share.as_deref(), client, options)?;
+            at.insert(alloc, sub_filter.share.as_deref(), client, options)?;
             Ok(())
         }
-        None => add_in(tree, alloc, client, wanted, options),
+        None => add_in(tree, alloc, client, sub_filter, options),
     }
 }
 
@@ -237,20 +239,21 @@ fn add_in(
     tree: &mut LevelTree<FilterEntry>,
     alloc: Global,
     client: RcStr,
-    wanted: &SubFilter,
+    sub_filter: &SubFilter,
     options: SubscriptionOptions,
 ) -> Result<(), AllocError>
     requires kept { AreEntries tree.old }
-    requires absent { lookup (is_key (levels wanted.now.filter)) tree.old ≡ None }
+    requires absent { lookup (is_key (levels sub_filter.now.filter)) tree.old ≡ None }
     ensures ok { OnOk result (SameInTurn (all_rows tree.new)
-        (upsert (wanted_row (rc_str_bytes client) wanted.now options) (all_rows tree.old))) }
+        (upsert (sub_filter_row (rc_str_bytes client) sub_filter.now options)
+        (all_rows tree.old))) }
     ensures err { OnErr result (tree.new ≡ tree.old) }
     ensures kept { AreEntries tree.new }
 {
-    let filter = Rc::new(alloc, wanted.filter.clone()?)?;
+    let filter = Rc::new(alloc, sub_filter.filter.clone()?)?;
     let mut at = FilterEntry::new(alloc, filter);
-    at.insert(alloc, wanted.share.as_deref(), client, options)?;
-    tree.put(&wanted.filter, at)?;
+    at.insert(alloc, sub_filter.share.as_deref(), client, options)?;
+    tree.put(&sub_filter.filter, at)?;
     Ok(())
 }
 

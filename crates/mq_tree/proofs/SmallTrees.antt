@@ -9,7 +9,7 @@ abbrev by_name : List ℕ → List (List (List ℕ)) → ℕ
 by_name name keys = length (met_by_name (levels name) (prefixes keys))
 
 abbrev by_filter : List ℕ → List (List (List ℕ)) → ℕ
-by_filter wanted keys = length (met_by_filter (levels wanted) (prefixes keys))
+by_filter topic_filter keys = length (met_by_filter (levels topic_filter) (prefixes keys))
 
 -- ---- filters: `#`, `+`, `a`, `a/#`
 abbrev filters : List (List (List ℕ))

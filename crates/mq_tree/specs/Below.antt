@@ -49,7 +49,7 @@ meets_name name p = list_any (λ n. matches_below p n) (fronts name)
 
 -- a prefix of the filter matches p
 abbrev pub meets_filter : List (List ℕ) → List (List ℕ) → Bool
-meets_filter wanted p = list_any (λ g. matches_below g p) (fronts wanted)
+meets_filter topic_filter p = list_any (λ g. matches_below g p) (fronts topic_filter)
 
 -- the values at the keys that pass
 abbrev pub values_at : {V : Type 0} → (List (List ℕ) → Bool) → Entries V → List V

@@ -30,4 +30,4 @@ met_by_name name ps = filter (λ p. list_any (λ n. matches p n) (heads name)) p
 
 -- the prefixes that a nonempty prefix of the filter matches
 abbrev pub met_by_filter : List (List ℕ) → List (List (List ℕ)) → List (List (List ℕ))
-met_by_filter wanted ps = filter (λ p. list_any (λ g. matches g p) (heads wanted)) ps
+met_by_filter topic_filter ps = filter (λ p. list_any (λ g. matches g p) (heads topic_filter)) ps

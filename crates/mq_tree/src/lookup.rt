@@ -144,38 +144,39 @@ fn add_value<'a, V>(node: &'a Node<V>, found: &mut Vec<&'a V>) -> Result<(), All
 /// level that begins with `$` (MQTT 5.0, section 4.7.2).
 pub(crate) fn by_filter<'a, V>(
     root: &'a Node<V>,
-    wanted: &str,
+    topic_filter: &str,
     steps: &mut Walk,
     found: &mut Vec<&'a V>,
 ) -> Result<(), AllocError>
-    requires { HashLast (levels wanted.now) }
+    requires { HashLast (levels topic_filter.now) }
     ensures found { OnOk result (Adds found.old.items found.new.items
-        (values_at (matches (levels wanted.now)) (entries_of root.now))) }
+        (values_at (matches (levels topic_filter.now)) (entries_of root.now))) }
     ensures count { OnOk result (steps.new ≡ steps.old + length
-        (met_by_filter (levels wanted.now) (prefixes (keys_of (entries_of root.now))))) }
+        (met_by_filter (levels topic_filter.now) (prefixes (keys_of (entries_of root.now))))) }
 {
-    let (first, rest) = split_first(wanted);
+    let (first, rest) = split_first(topic_filter);
     if first == "#" {
-        return shown_by_filter(root, Some(wanted), steps, found);
+        return shown_by_filter(root, Some(topic_filter), steps, found);
     }
     if first == "+" {
         return shown_by_filter(root, rest, steps, found);
     }
-    below_by_filter(root, Some(wanted), steps, found)
+    below_by_filter(root, Some(topic_filter), steps, found)
 }
 
 // The values below each child whose level does not begin with `$`, with these levels left of the filter.
 fn shown_by_filter<'a, V>(
     root: &'a Node<V>,
-    wanted: Option<&str>,
+    topic_filter: Option<&str>,
     steps: &mut Walk,
     found: &mut Vec<&'a V>,
 ) -> Result<(), AllocError>
-    requires { HashLast (levels_left wanted) }
+    requires { HashLast (levels_left topic_filter) }
     ensures found { OnOk result (Adds found.old.items found.new.items
-        (values_below (matches_below (levels_left wanted.entry)) (plain_children root.now.1))) }
+        (values_below (matches_below (levels_left topic_filter.entry))
+        (plain_children root.now.1))) }
     ensures count { OnOk result
-        (steps.new ≡ steps.old + nodes_below (meets_filter (levels_left wanted.entry))
+        (steps.new ≡ steps.old + nodes_below (meets_filter (levels_left topic_filter.entry))
         (plain_children root.now.1)) }
     ensures children { AreChildren root.now.1 }
 {
@@ -183,7 +184,7 @@ fn shown_by_filter<'a, V>(
         if begins_with_dollar(child.level()) {
             continue;
         }
-        below_by_filter(child.enter(steps), wanted, steps, found)?;
+        below_by_filter(child.enter(steps), topic_filter, steps, found)?;
     }
     Ok(())
 }
@@ -192,21 +193,21 @@ fn shown_by_filter<'a, V>(
 // and matches its parent too.
 fn below_by_filter<'a, V>(
     node: &'a Node<V>,
-    wanted: Option<&str>,
+    topic_filter: Option<&str>,
     steps: &mut Walk,
     found: &mut Vec<&'a V>,
 ) -> Result<(), AllocError>
-    requires { HashLast (levels_left wanted) }
+    requires { HashLast (levels_left topic_filter) }
     ensures found { OnOk result (Adds found.old.items found.new.items
-        (values_at (matches_below (levels_left wanted.entry)) (entries_of node.now))) }
+        (values_at (matches_below (levels_left topic_filter.entry)) (entries_of node.now))) }
     ensures count { OnOk result
-        (steps.new ≡ steps.old + nodes_at (meets_filter (levels_left wanted.entry))
+        (steps.new ≡ steps.old + nodes_at (meets_filter (levels_left topic_filter.entry))
         (entries_of node.now)) }
 {
-    let Some(wanted) = wanted else {
+    let Some(topic_filter) = topic_filter else {
         return add_value(node, found);
     };
-    let (level, rest) = split_first(wanted);
+    let (level, rest) = split_first(topic_filter);
     if level == "#" {
         return all(node, steps, found);
     }

@@ -125,15 +125,19 @@ impl<V> LevelTree<V> {
 
     /// The values of the keys that the filter matches, in level order of the keys, by a walk over matching nodes
     /// alone.
-    pub fn for_filter(&self, wanted: &TopicFilter, steps: &mut Steps) -> Result<Vec<&V>, AllocError>
+    pub fn for_filter(
+        &self,
+        topic_filter: &TopicFilter,
+        steps: &mut Steps,
+    ) -> Result<Vec<&V>, AllocError>
         ensures found { IfOk result (λ found. map (λ v. v.now) found.items
-            ≡ values_of (filter (λ e. matches (levels wanted.now) e.0) self.now)) }
+            ≡ values_of (filter (λ e. matches (levels topic_filter.now) e.0) self.now)) }
         ensures count { OnOk result (steps.new ≡ steps.old + length
-            (met_by_filter (levels wanted.now) (prefixes (keys_of self.now)))) }
+            (met_by_filter (levels topic_filter.now) (prefixes (keys_of self.now)))) }
         ensures ordered { AreInOrder self.now }
     {
         let mut found = Vec::new(self.alloc);
-        by_filter(&self.root, wanted.text(), &mut steps.walk, &mut found)?;
+        by_filter(&self.root, topic_filter.text(), &mut steps.walk, &mut found)?;
         Ok(found)
     }
 }

@@ -98,16 +98,16 @@ impl Messages {
     /// The messages whose topics the filter matches, in level order of the topics.
     pub(crate) fn for_filter(
         &self,
-        wanted: &TopicFilter,
+        topic_filter: &TopicFilter,
         steps: &mut Steps,
     ) -> Result<Vec<&Stored>, AllocError>
         ensures found { IfOk result (λ found. map (λ v. v.now) found.items
-            ≡ values_of (filter (λ e. matches (levels wanted.now) e.0) self.now)) }
+            ≡ values_of (filter (λ e. matches (levels topic_filter.now) e.0) self.now)) }
         ensures count { OnOk result (steps.new ≡ steps.old + length
-            (met_by_filter (levels wanted.now) (prefixes (keys_of self.now)))) }
+            (met_by_filter (levels topic_filter.now) (prefixes (keys_of self.now)))) }
         ensures ordered { AreInOrder self.now }
     {
-        self.by_topic.for_filter(wanted, steps)
+        self.by_topic.for_filter(topic_filter, steps)
     }
 }
 

@@ -11,8 +11,8 @@ use Rattle.mq_subscriptions.proofs.subscriptions.add_in.Goals as goal
 
 pub returns-clause-ok : goal.returns-clause-ok
 returns-clause-ok c =
-    let f = c.args.wanted.now.filter in
-    let share = option_map string_bytes c.args.wanted.now.share in
+    let f = c.args.sub_filter.now.filter in
+    let share = option_map string_bytes c.args.sub_filter.now.share in
     let k = rc_str_bytes c.args.client in
     let start : At = c.new-at.result in
     let one : At = c.insert.new.self in
@@ -30,7 +30,7 @@ returns-clause-ok c =
 
 pub returns-clause-kept : goal.returns-clause-kept
 returns-clause-kept c =
-    let f = c.args.wanted.now.filter in
+    let f = c.args.sub_filter.now.filter in
     let start : At = c.new-at.result in
     let one : At = c.insert.new.self in
     let is : start.filter ≡ f = ap (λ (a : At). a.filter) c.new-at.ensures

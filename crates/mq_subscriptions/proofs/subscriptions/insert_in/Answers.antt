@@ -21,9 +21,9 @@ returns-in_err-insert-in-Some-clause-err c =
     let found = sym c.get_mut.ensures.value ∙ ap option_copied_mut c.in-Some.is in
     let set = rw c.in-Some.is at (c.get_mut.follows.holds c.insert.new.self) in
     on_err c.from_residual-in_err-insert-in-Some.result
-    (set ∙ ap (set_value (is_key (levels c.args.wanted.now.filter)) c.args.tree.now)
+    (set ∙ ap (set_value (is_key (levels c.args.sub_filter.now.filter)) c.args.tree.now)
     c.in_err-insert-in-Some.ensures.err
-    ∙ set_value_same (is_key (levels c.args.wanted.now.filter)) c.args.tree.now c.in-Some.at.now
+    ∙ set_value_same (is_key (levels c.args.sub_filter.now.filter)) c.args.tree.now c.in-Some.at.now
     found)
 
 pub returns-in_err-insert-in-Some-clause-kept : goal.returns-in_err-insert-in-Some-clause-kept
@@ -31,15 +31,15 @@ returns-in_err-insert-in-Some-clause-kept c =
     let found = sym c.get_mut.ensures.value ∙ ap option_copied_mut c.in-Some.is in
     let set = rw c.in-Some.is at (c.get_mut.follows.holds c.insert.new.self) in
     subst (λ (l : AtEntries). AreEntries l)
-    (sym (set ∙ ap (set_value (is_key (levels c.args.wanted.now.filter)) c.args.tree.now)
+    (sym (set ∙ ap (set_value (is_key (levels c.args.sub_filter.now.filter)) c.args.tree.now)
     c.in_err-insert-in-Some.ensures.err
-    ∙ set_value_same (is_key (levels c.args.wanted.now.filter)) c.args.tree.now c.in-Some.at.now
+    ∙ set_value_same (is_key (levels c.args.sub_filter.now.filter)) c.args.tree.now c.in-Some.at.now
     found)) c.requires
 
 pub returns-in_ok-insert-in-Some-clause-ok : goal.returns-in_ok-insert-in-Some-clause-ok
 returns-in_ok-insert-in-Some-clause-ok c =
-    let f = c.args.wanted.now.filter in
-    let share = option_map string_bytes c.args.wanted.now.share in
+    let f = c.args.sub_filter.now.filter in
+    let share = option_map string_bytes c.args.sub_filter.now.share in
     let k = rc_str_bytes c.args.client.now in
     let w : At = c.insert.new.self in
     let v : At = c.in-Some.at.now in
@@ -58,7 +58,7 @@ returns-in_ok-insert-in-Some-clause-ok c =
 
 pub returns-in_ok-insert-in-Some-clause-kept : goal.returns-in_ok-insert-in-Some-clause-kept
 returns-in_ok-insert-in-Some-clause-kept c =
-    let f = c.args.wanted.now.filter in
+    let f = c.args.sub_filter.now.filter in
     let w : At = c.insert.new.self in
     let v : At = c.in-Some.at.now in
     let found = sym c.get_mut.ensures.value ∙ ap option_copied_mut c.in-Some.is in
@@ -71,8 +71,8 @@ returns-in_ok-insert-in-Some-clause-kept c =
 
 pub returns-in-None-clause-ok : goal.returns-in-None-clause-ok
 returns-in-None-clause-ok c =
-    let share = option_map string_bytes c.args.wanted.now.share in
-    let f = c.args.wanted.now.filter in
+    let share = option_map string_bytes c.args.sub_filter.now.share in
+    let f = c.args.sub_filter.now.filter in
     subst (λ (id : Text). OnOk c.add_in.result
     (SameInTurn (all_rows c.add_in.new.tree)
     (upsert (row share f (id, c.args.options)) (all_rows c.args.tree.now))))

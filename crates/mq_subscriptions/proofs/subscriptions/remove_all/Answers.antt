@@ -5,7 +5,7 @@ use Rattle.std.proofs.lemmas.Map.Iter.{rest_more, rest_all}
 use Rattle.mq_topic.specs.Texts.{is_subscription}
 use Rattle.mq_world.specs.Keys.{Key}
 use Rattle.mq_world.specs.Lists.{Text}
-use Rattle.mq_subscriptions.specs.Wanted.{has_asked}
+use Rattle.mq_subscriptions.specs.SubFilters.{has_asked}
 use Rattle.mq_subscriptions.specs.Filters.{all_rows}
 use Rattle.mq_subscriptions.specs.ClientViews.{key_in, IsAsked}
 use Rattle.mq_subscriptions.proofs.ListedLemmas.{leaves, one-leaves, none-leave}

@@ -32,7 +32,7 @@ returns-in_default-clause-count g t c =
 pub returns-then-eq-clause-found : goal.returns-then-eq-clause-found
 returns-then-eq-clause-found g t c =
     let node = c.args.node.now in
-    let whole = hash_ends (levels_left c.args.wanted) c.split_first.result.0.now
+    let whole = hash_ends (levels_left c.args.topic_filter) c.split_first.result.0.now
     (levels_left c.split_first.result.1) (ap levels_left c.in-Some.is ∙ c.split_first.ensures)
     c.requires (text_is c.eq.result c.split_first.result.0.now 35 c.eq.ensures c.if-eq.true) in
     on_ok_weaker c.all.result (λ e. e
@@ -43,7 +43,7 @@ returns-then-eq-clause-found g t c =
 pub returns-then-eq-clause-count : goal.returns-then-eq-clause-count
 returns-then-eq-clause-count g t c =
     let node = c.args.node.now in
-    let whole = hash_ends (levels_left c.args.wanted) c.split_first.result.0.now
+    let whole = hash_ends (levels_left c.args.topic_filter) c.split_first.result.0.now
     (levels_left c.split_first.result.1) (ap levels_left c.in-Some.is ∙ c.split_first.ensures)
     c.requires (text_is c.eq.result c.split_first.result.0.now 35 c.eq.ensures c.if-eq.true) in
     let every = ap (λ ls. length (filter (meets_filter ls) (prefixes (keys_of (entries_of node)))))

@@ -7,7 +7,7 @@ use Rattle.mq_tree.specs.Prefixes.{prefixes}
 use Rattle.mq_tree.proofs.lookup.+below_by_filter.Given as goal
 
 abbrev pub decreases-below_by_filter : goal.decreases-below_by_filter
-decreases-below_by_filter g l = length (levels_left l.wanted)
+decreases-below_by_filter g l = length (levels_left l.topic_filter)
 
 abbrev pub invariant-loop-child : goal.invariant-loop-child
 invariant-loop-child g l =

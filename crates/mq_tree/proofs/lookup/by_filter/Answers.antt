@@ -17,7 +17,7 @@ use Rattle.mq_tree.proofs.lookup.by_filter.Goals as goal
 pub returns-then-eq-clause-found : goal.returns-then-eq-clause-found
 returns-then-eq-clause-found g c =
     let root = c.args.root.now in
-    let whole = hash_ends (levels c.args.wanted.now) c.split_first.result.0.now
+    let whole = hash_ends (levels c.args.topic_filter.now) c.split_first.result.0.now
     (levels_left c.split_first.result.1) c.split_first.ensures c.requires
     (text_is c.eq.result c.split_first.result.0.now 35 c.eq.ensures c.if-eq.true) in
     let all = ap (λ ls. values_at (matches ls) (entries_of root)) whole
@@ -30,7 +30,7 @@ returns-then-eq-clause-found g c =
 pub returns-then-eq-clause-count : goal.returns-then-eq-clause-count
 returns-then-eq-clause-count g c =
     let root = c.args.root.now in
-    let whole = hash_ends (levels c.args.wanted.now) c.split_first.result.0.now
+    let whole = hash_ends (levels c.args.topic_filter.now) c.split_first.result.0.now
     (levels_left c.split_first.result.1) c.split_first.ensures c.requires
     (text_is c.eq.result c.split_first.result.0.now 35 c.eq.ensures c.if-eq.true) in
     let all = ap (λ ls. length (met_by_filter ls (prefixes (keys_of (entries_of root))))) whole

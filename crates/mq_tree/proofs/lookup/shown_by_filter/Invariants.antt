@@ -10,7 +10,7 @@ use Rattle.mq_tree.proofs.lookup.shown_by_filter.Given as goal
 
 abbrev pub invariant-loop-child : goal.invariant-loop-child
 invariant-loop-child g l =
-    let rest = levels_left l.wanted in
+    let rest = levels_left l.topic_filter in
     let left = filter (λ child. not (begins_with_dollar child.0)) l.child-iterator in
     let all = filter (λ child. not (begins_with_dollar child.0)) l.initial.child-iterator in
     record {

@@ -16,29 +16,29 @@ use Rattle.mq_retained.proofs.retained.Retained.copies.Goals as goal
 
 pub copies_of-requires : goal.copies_of-requires
 copies_of-requires c =
-    let wanted = c.args.receiver.now.filter.now in
+    let topic_filter = c.args.receiver.now.filter.now in
     let seen : map (λ s. message_in s.now) c.as_slice.result.now
-    ≡ filter (λ kept. filter_matches wanted kept.topic) c.args.self.now.messages =
+    ≡ filter (λ kept. filter_matches topic_filter kept.topic) c.args.self.now.messages =
     ap (map (λ s. message_in s.now)) c.as_slice.ensures.value
     ∙ sym (map-map message_in (λ s. s.now) c.in_ok-found.found.items)
     ∙ ap (map message_in) c.in_ok-found.ensures.found
-    ∙ matched-retained wanted c.self.inside.tree c.self.invariant.placed
-    ∙ ap (λ (k : RetainedView). filter (λ (kept : Retained). filter_matches wanted kept.topic)
+    ∙ matched-retained topic_filter c.self.inside.tree c.self.invariant.placed
+    ∙ ap (λ (k : RetainedView). filter (λ (kept : Retained). filter_matches topic_filter kept.topic)
     k.messages) c.self.view_is in
     subst (λ retained. AreNear c.args.receiver.now.clock.moment retained) (sym seen)
-    (near-filter c.args.receiver.now.clock.moment (λ kept. filter_matches wanted kept.topic)
+    (near-filter c.args.receiver.now.clock.moment (λ kept. filter_matches topic_filter kept.topic)
     c.args.self.now.messages c.requires)
 
 pub returns-clause-copies : goal.returns-clause-copies
 returns-clause-copies c =
-    let wanted = c.args.receiver.now.filter.now in
+    let topic_filter = c.args.receiver.now.filter.now in
     let seen : map (λ s. message_in s.now) c.as_slice.result.now
-    ≡ filter (λ kept. filter_matches wanted kept.topic) c.args.self.now.messages =
+    ≡ filter (λ kept. filter_matches topic_filter kept.topic) c.args.self.now.messages =
     ap (map (λ s. message_in s.now)) c.as_slice.ensures.value
     ∙ sym (map-map message_in (λ s. s.now) c.in_ok-found.found.items)
     ∙ ap (map message_in) c.in_ok-found.ensures.found
-    ∙ matched-retained wanted c.self.inside.tree c.self.invariant.placed
-    ∙ ap (λ (k : RetainedView). filter (λ (kept : Retained). filter_matches wanted kept.topic)
+    ∙ matched-retained topic_filter c.self.inside.tree c.self.invariant.placed
+    ∙ ap (λ (k : RetainedView). filter (λ (kept : Retained). filter_matches topic_filter kept.topic)
     k.messages) c.self.view_is in
     c.in_ok-copies.ensures
     ∙ sent-is c.args.receiver.now.clock.moment c.args.receiver.now.access.now
@@ -47,8 +47,8 @@ returns-clause-copies c =
 
 pub returns-clause-count : goal.returns-clause-count
 returns-clause-count c =
-    let wanted = c.args.receiver.now.filter.now in
+    let topic_filter = c.args.receiver.now.filter.now in
     c.in_ok-found.ensures.count
-    ∙ ap (λ keys. c.args.steps.now + length (met_by_filter (levels wanted) (prefixes keys)))
+    ∙ ap (λ keys. c.args.steps.now + length (met_by_filter (levels topic_filter) (prefixes keys)))
     (keys-retained c.self.inside.tree c.self.invariant.placed
     ∙ ap (λ (k : RetainedView). topics_of k.messages) c.self.view_is)

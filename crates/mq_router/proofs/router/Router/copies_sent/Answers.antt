@@ -17,8 +17,9 @@ pub returns-then-not-asks_for_retained-clause-copies :
     goal.returns-then-not-asks_for_retained-clause-copies
 returns-then-not-asks_for_retained-clause-copies c =
     let s : State = state_of c.self.inside in
-    let by : Text → Subscription = λ client. row (option_map string_bytes c.args.wanted.now.share)
-    c.args.wanted.now.filter (client, c.args.options) in
+    let by : Text → Subscription = λ client. row (option_map string_bytes
+    c.args.sub_filter.now.share)
+    c.args.sub_filter.now.filter (client, c.args.options) in
     let new : Subscription = by (rc_str_bytes c.args.client.now) in
     let asks = c.asks_for_retained.ensures
     ∙ ap (λ client. asks_for_retained s.subscriptions (by client)) c.as_str.ensures.value in
@@ -30,8 +31,8 @@ pub returns-clause-copies : goal.returns-clause-copies
 returns-clause-copies c =
     let s : State = state_of c.self.inside in
     let by : Option Text → Text → Subscription =
-    λ share client. row share c.args.wanted.now.filter (client, c.args.options) in
-    let share : Option Text = option_map string_bytes c.args.wanted.now.share in
+    λ share client. row share c.args.sub_filter.now.filter (client, c.args.options) in
+    let share : Option Text = option_map string_bytes c.args.sub_filter.now.share in
     let id : Text = rc_str_bytes c.args.client.now in
     let new : Subscription = by share id in
     let asks = c.asks_for_retained.ensures

@@ -40,7 +40,8 @@ invariant_of-self-2 c =
     c.queue_all.ensures.new ∙ ap (λ bs. queue_all limit bs s.sessions)
     (c.in_ok-made.ensures.queued ∙ ap (λ (v : State). queued_now v m c.args.message.now.deadline)
     (sym c.self.view_is) ∙ ap (queued_now s m) value)
-    ∙ queued-is limit s.access s.subscriptions s.moment m s.sessions c.queue_all.ensures.ordered in (
+    ∙ queued-is limit s.access s.subscriptions s.moment m s.sessions
+    c.queue_all.ensures.ordered in (
       c.in_ok-publish.ensures.near s.moment within c.self.invariant.0,
       subst (AllReached s.moment) (sym waiting)
           (reached-after limit s.access s.subscriptions s.moment m s.sessions near

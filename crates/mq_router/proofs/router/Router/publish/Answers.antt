@@ -52,7 +52,8 @@ returns-then-not-may_write-clause-applied c =
     subst (λ (v : State). Refuses (world_of v) (Publish m) NotAuthorized) c.self.view_is
     (publish-write s m tested c.in_ok-name.ensures.ok.1
     (ap (λ t. allowed s.access m.publisher (user_of s.sessions m.publisher) t Writing)
-    (sym c.in_ok-name.ensures.ok.0) ∙ sym (c.may_write.ensures ∙ written) ∙ c.if-not-may_write.true))
+    (sym c.in_ok-name.ensures.ok.0) ∙ sym (c.may_write.ensures ∙ written)
+    ∙ c.if-not-may_write.true))
 
 pub returns-then-is_full-clause-applied : goal.returns-then-is_full-clause-applied
 returns-then-is_full-clause-applied c =

@@ -60,7 +60,8 @@ returns-clause-taken c =
     ap (map session_in) c.remove.ensures.entries
     ∙ removed-is c.as_str.result.now c.self.inside.by_id.entries c.len-count.ensures.ordered
     ∙ ap (λ id. filter (λ s. not (has_id id s)) (sessions_of c.self.inside)) c.as_str.ensures.value
-    ∙ ap (λ (ss : List Session). filter (λ s. not (has_id (rc_str_bytes c.in_ok-client.client) s)) ss)
+    ∙ ap (λ (ss : List Session). filter (λ s. not (has_id (rc_str_bytes c.in_ok-client.client) s))
+    ss)
     c.self.view_is
 
 pub returns-clause-ended : goal.returns-clause-ended

@@ -3,15 +3,15 @@ use Rattle.std.specs.Option.{option_copied, option_map}
 use Rattle.std.specs.List.{list_any}
 use Rattle.mq_world.specs.World.{Subscription, has_key}
 use Rattle.mq_subscriptions.specs.Filters.{SubscriptionsView}
-use Rattle.mq_subscriptions.specs.Wanted.{has_wanted}
+use Rattle.mq_subscriptions.specs.SubFilters.{has_sub_filter}
 use Rattle.mq_subscriptions.proofs.AtLemmas.{nothing}
 use Rattle.mq_subscriptions.proofs.TreeLemmas.{tree-any, tree-absent_any, found_filter}
 use Rattle.mq_subscriptions.proofs.subscriptions.Subscriptions.contains.Goals as goal
 
 pub returns-in-Some : goal.returns-in-Some
 returns-in-Some c =
-    let f = c.args.wanted.now.filter in
-    let share = option_map string_bytes c.args.wanted.now.share in
+    let f = c.args.sub_filter.now.filter in
+    let share = option_map string_bytes c.args.sub_filter.now.share in
     let s : Subscription = record {
       client = c.args.client.now;
       share = share;
@@ -28,22 +28,24 @@ returns-in-Some c =
     ∙ tree-any f c.self.inside.tree c.self.invariant.kept.each c.self.invariant.kept.ordered v
     found s
     refl
-    ∙ ap (λ (k : SubscriptionsView). list_any (has_wanted c.args.client.now c.args.wanted.now)
+    ∙ ap (λ (k : SubscriptionsView). list_any (has_sub_filter c.args.client.now
+    c.args.sub_filter.now)
     k.rows)
     c.self.view_is
 
 pub returns-in-None : goal.returns-in-None
 returns-in-None c =
-    let f = c.args.wanted.now.filter in
+    let f = c.args.sub_filter.now.filter in
     let s : Subscription = record {
       client = c.args.client.now;
       share =
-          option_map string_bytes c.args.wanted.now.share;
+          option_map string_bytes c.args.sub_filter.now.share;
       filter = f;
       options = nothing;
     } in
     tree-absent_any f c.self.inside.tree c.self.invariant.kept.each
     (sym c.get.ensures ∙ ap option_copied c.in-None.is) s refl
-    ∙ ap (λ (k : SubscriptionsView). list_any (has_wanted c.args.client.now c.args.wanted.now)
+    ∙ ap (λ (k : SubscriptionsView). list_any (has_sub_filter c.args.client.now
+    c.args.sub_filter.now)
     k.rows)
     c.self.view_is

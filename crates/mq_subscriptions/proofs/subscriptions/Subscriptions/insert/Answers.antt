@@ -4,7 +4,7 @@ use Rattle.std.specs.Rc.{rc_str_bytes}
 use Rattle.mq_topic.specs.Texts.{share_of}
 use Rattle.mq_world.specs.Lists.{Text}
 use Rattle.mq_world.specs.World.{Subscription, has_key}
-use Rattle.mq_subscriptions.specs.Wanted.{wanted_row, has_wanted}
+use Rattle.mq_subscriptions.specs.SubFilters.{sub_filter_row, has_sub_filter}
 use Rattle.mq_subscriptions.specs.Filters.{SubscriptionsView, text_key, all_rows, is_listed}
 use Rattle.mq_subscriptions.specs.Views.{texts}
 use Rattle.mq_subscriptions.proofs.AnyLemmas.{listed-joined, listed-again, listed-undone}
@@ -14,13 +14,14 @@ use Rattle.mq_subscriptions.proofs.subscriptions.Subscriptions.insert.Goals as g
 pub invariant_of-self-then-contains : goal.invariant_of-self-then-contains
 invariant_of-self-then-contains c =
     let client = rc_str_bytes c.args.client.now in
-    let x : Subscription = wanted_row client c.args.wanted.now c.args.options in
+    let x : Subscription = sub_filter_row client c.args.sub_filter.now c.args.options in
     let lists = texts c.self.inside.lists.entries in
     let rows = all_rows c.self.inside.tree in
     let has = c.contains.ensures
-    ∙ ap (λ (k : SubscriptionsView). list_any (has_wanted c.as_str-id.result.now c.args.wanted.now)
+    ∙ ap (λ (k : SubscriptionsView). list_any (has_sub_filter c.as_str-id.result.now
+    c.args.sub_filter.now)
     k.rows) (sym c.self.view_is)
-    ∙ ap (λ id. list_any (has_wanted id c.args.wanted.now) rows)
+    ∙ ap (λ id. list_any (has_sub_filter id c.args.sub_filter.now) rows)
     c.as_str-id.ensures.value in
     listed-joined x c.self.inside.tree c.insert_in.new.tree lists lists (record {
       agreed = c.self.invariant;
@@ -32,7 +33,7 @@ invariant_of-self-then-contains c =
 pub invariant_of-self-in-Ok : goal.invariant_of-self-in-Ok
 invariant_of-self-in-Ok c =
     let client = rc_str_bytes c.args.client.now in
-    let x : Subscription = wanted_row client c.args.wanted.now c.args.options in
+    let x : Subscription = sub_filter_row client c.args.sub_filter.now c.args.options in
     let before = texts c.self.inside.lists.entries in
     let asked = c.requires in
     let has : Option Text → Text → Subscription → Bool =
@@ -57,11 +58,12 @@ invariant_of-self-in-Err c =
     let by : Option Text → Text → Bool =
     λ share filter. list_any (has_key client share filter) rows in
     let has = c.contains.ensures
-    ∙ ap (λ (k : SubscriptionsView). list_any (has_wanted c.as_str-id.result.now c.args.wanted.now)
+    ∙ ap (λ (k : SubscriptionsView). list_any (has_sub_filter c.as_str-id.result.now
+    c.args.sub_filter.now)
     k.rows) (sym c.self.view_is)
-    ∙ ap (λ id. list_any (has_wanted id c.args.wanted.now) rows)
+    ∙ ap (λ id. list_any (has_sub_filter id c.args.sub_filter.now) rows)
     c.as_str-id.ensures.value in
-    let named = has ∙ ap (λ share. by share c.args.wanted.now.filter) asked.0
+    let named = has ∙ ap (λ share. by share c.args.sub_filter.now.filter) asked.0
     ∙ ap (by (share_of c.args.text.now)) asked.1 in
     listed-undone client key c.self.inside.tree c.insert_in-2.new.tree
     (texts c.self.inside.lists.entries)

@@ -16,7 +16,7 @@ use Rattle.mq_subscriptions.proofs.subscriptions.Subscriptions.serve.Goals as go
 
 pub invariant_of-self-2 : goal.invariant_of-self-2
 invariant_of-self-2 c =
-    let f = c.args.wanted.now in
+    let f = c.args.topic_filter.now in
     let s : Subscription = record {
       client = c.args.client.now;
       share = Some c.args.share.now;
@@ -43,7 +43,7 @@ invariant_of-self-2 c =
 
 pub returns-clause-rows : goal.returns-clause-rows
 returns-clause-rows c =
-    let f = c.args.wanted.now in
+    let f = c.args.topic_filter.now in
     let s : Subscription = record {
       client = c.args.client.now;
       share = Some c.args.share.now;
@@ -66,7 +66,7 @@ returns-clause-rows c =
 
 pub returns-clause-keys : goal.returns-clause-keys
 returns-clause-keys c =
-    let f = c.args.wanted.now in
+    let f = c.args.topic_filter.now in
     let kept = c.self.invariant.kept in
     let w : At = c.serve.new.self in
     let v : At = c.in-Some.at.now in
@@ -80,7 +80,7 @@ returns-clause-keys c =
 
 pub returns-in_default-clause-rows : goal.returns-in_default-clause-rows
 returns-in_default-clause-rows c =
-    let f = c.args.wanted.now in
+    let f = c.args.topic_filter.now in
     let s : Subscription = record {
       client = c.args.client.now;
       share = Some c.args.share.now;

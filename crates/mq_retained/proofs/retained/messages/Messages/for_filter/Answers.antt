@@ -12,5 +12,5 @@ pub returns-clause-found : goal.returns-clause-found
 returns-clause-found c =
     subst (λ (tree : Entries Stored). IfOk c.for_filter.result
     (λ found. map (λ v. v.now) found.items
-    ≡ values_of (filter (λ e. matches (levels c.args.wanted.now) e.0) tree))) c.self.view_is
+    ≡ values_of (filter (λ e. matches (levels c.args.topic_filter.now) e.0) tree))) c.self.view_is
     c.for_filter.ensures.found

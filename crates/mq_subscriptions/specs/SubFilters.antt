@@ -13,17 +13,18 @@ use Rattle.mq_world.specs.declared.options.SubscriptionOptions.{SubscriptionOpti
 
 -- the text is a valid subscription's, and this is its share name and its filter
 abbrev pub IsAskedBy : Text → SubFilter → Type 0
-IsAskedBy text wanted =
-    (option_map string_bytes wanted.share ≡ share_of text) × (wanted.filter ≡ filter_part text)
-    × (is_subscription text ≡ true)
+IsAskedBy text sub_filter =
+    (option_map string_bytes sub_filter.share ≡ share_of text)
+    × (sub_filter.filter ≡ filter_part text) × (is_subscription text ≡ true)
 
-abbrev pub wanted_row : Text → SubFilter → SubscriptionOptions → Subscription
-wanted_row client wanted options =
-    row (option_map string_bytes wanted.share) wanted.filter (client, options)
+abbrev pub sub_filter_row : Text → SubFilter → SubscriptionOptions → Subscription
+sub_filter_row client sub_filter options =
+    row (option_map string_bytes sub_filter.share) sub_filter.filter (client, options)
 
 -- the subscription is the client's, with this share name and filter
-abbrev pub has_wanted : Text → SubFilter → Subscription → Bool
-has_wanted client wanted s = has_key client (option_map string_bytes wanted.share) wanted.filter s
+abbrev pub has_sub_filter : Text → SubFilter → Subscription → Bool
+has_sub_filter client sub_filter s =
+    has_key client (option_map string_bytes sub_filter.share) sub_filter.filter s
 
 -- the subscription is the client's, with this text
 abbrev pub has_asked : Text → Text → Subscription → Bool
