@@ -41,8 +41,9 @@ fn verdict_line(
     };
     let deny = line_value(alloc, list, deny)?;
     let grant = line_value(alloc, list, verdict.grant)?;
-    let value =
-        json!(in alloc; {"access": verb, "allowed": verdict.is_allowed(), "deny": deny, "grant": grant})?;
+    let value = json!(in alloc; {
+        "access": verb, "allowed": verdict.is_allowed(), "deny": deny, "grant": grant
+    })?;
     let mut line = value.to_string(alloc)?;
     line.push('\n')?;
     Ok(line)

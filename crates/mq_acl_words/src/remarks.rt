@@ -61,8 +61,9 @@ fn add_json(
     let line = list.line(number);
     let words = kind_words(alloc, line, remark.kind)?;
     let words = words.as_str();
-    let value =
-        json!(in alloc; {"file": file, "kind": kind, "line": number, "text": line, "words": words})?;
+    let value = json!(in alloc; {
+        "file": file, "kind": kind, "line": number, "text": line, "words": words
+    })?;
     let line = value.to_string(alloc)?;
     text.push_str(line.as_str())?;
     text.push('\n')

@@ -117,7 +117,9 @@ fn subscription_value(
     let client = subscription.client.as_str();
     let filter = subscription.filter.as_str();
     let line = subscription.line;
-    json!(in alloc; {"client": client, "file": script, "filter": filter, "line": line, "user": user})
+    json!(in alloc; {
+        "client": client, "file": script, "filter": filter, "line": line, "user": user
+    })
 }
 
 fn counts_value(alloc: Global, vain: usize, counts: Counts) -> Result<Value, AllocError> {

@@ -386,7 +386,8 @@ pub connect_read : (ms : Members) → Ascends (names_of ms) →
     let f3 = f2 || is_fault session_expiry in
     let f4 = f3 || is_fault user in
     connect_fields (object ms) ≡ (outcome f4 m5 >>= λ _.
-    Ok (Connect (value_or [] client) (value_or None user) (value_or true clean) (value_or 0 session_expiry)))
+    Ok (Connect (value_or [] client) (value_or None user) (value_or true clean)
+    (value_or 0 session_expiry)))
 connect_read ms sorted =
     let m1 = past (codes "clean") ms in
     let m2 = past (codes "client") m1 in

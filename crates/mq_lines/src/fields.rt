@@ -129,8 +129,8 @@ impl<'a> Fields<'a> {
 
     /// True or false, and `absent` where it is absent.
     pub fn flag_or(&mut self, name: &str, absent: bool) -> bool
-        ensures value { result
-            ≡ value_or absent (defaulted absent flag_kind name.now (ahead (members_left self.old))) }
+        ensures value { result ≡ value_or absent
+            (defaulted absent flag_kind name.now (ahead (members_left self.old))) }
         ensures left { members_left self.new ≡ past name.now (members_left self.old) }
         ensures faulty { self.new.is_faulty ≡ (self.old.is_faulty
             || is_fault (defaulted absent flag_kind name.now (ahead (members_left self.old)))) }
