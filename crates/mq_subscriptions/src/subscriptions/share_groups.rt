@@ -1,7 +1,7 @@
 //! The groups at one filter.
 ghost use Rattle.std.specs.Prelude.{◌≡◌, [], length, Some, None, OnOk, OnErr};
-ghost use Rattle.std.specs.List.{list_any, sum_by};
-ghost use Rattle.std.specs.Map.{lookup, values_of};
+ghost use Rattle.std.specs.List.{list_any};
+ghost use Rattle.std.specs.Map.{lookup};
 ghost use Rattle.std.specs.Rc.{rc_str_bytes};
 ghost use Rattle.mq_tree.specs.Entries.{capped};
 ghost use Rattle.mq_world.specs.Lists.{Text};
@@ -58,7 +58,11 @@ impl ShareGroups {
     pub(crate) fn member_count(&self) -> u64
         ensures { (f : Text) → result ≡ capped (length (group_rows f self.now)) }
     {
-        member_count(&self.by_share)
+        let mut total = 0u64;
+        for group in self.by_share.values() {
+            total = total.saturating_add(group.len() as u64);
+        }
+        total
     }
 
     pub(crate) fn contains(&self, share: &str, client: &str) -> bool
@@ -161,14 +165,4 @@ impl ShareGroups {
         }
         Ok(())
     }
-}
-
-fn member_count(groups: &BTreeMap<RcStr, Group>) -> u64
-    ensures { result ≡ capped (sum_by length (values_of groups.now.entries)) }
-{
-    let mut total = 0u64;
-    for group in groups.values() {
-        total = total.saturating_add(group.len() as u64);
-    }
-    total
 }

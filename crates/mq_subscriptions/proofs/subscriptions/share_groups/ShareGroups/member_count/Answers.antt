@@ -1,10 +1,18 @@
-use Rattle.std.proofs.Common.{◌∙◌, length, sym, ap}
+use Rattle.std.proofs.Common.{◌≡◌, ◌∙◌, ◌+◌, ℕ, length, sym, ap, arith}
+use Rattle.std.specs.List.{sum_by}
+use Rattle.std.specs.Map.{values_of}
 use Rattle.mq_tree.specs.Entries.{capped}
 use Rattle.mq_subscriptions.specs.Filters.{GroupList, group_rows}
 use Rattle.mq_subscriptions.proofs.CountLemmas.{group-number}
 use Rattle.mq_subscriptions.proofs.subscriptions.share_groups.ShareGroups.member_count.Goals as goal
 
-pub returns : goal.returns
-returns c = λ f.
-    c.member_count.ensures ∙ ap capped (sym (group-number f c.self.inside.by_share.entries))
-    ∙ ap (λ (gs : GroupList). capped (length (group_rows f gs))) c.self.view_is
+pub loop-group-init : goal.loop-group-init
+loop-group-init c =
+    let is : (n : ℕ) → 0 + n ≡ n = λ n. omega arith in (
+      λ f. ap (λ l. capped (0 + sum_by length l))
+          (c.into_iter-group-iterator.ensures.into_iter_gives ∙ c.values-group-items.ensures.rest)
+          ∙ ap capped (is (sum_by length (values_of c.self.inside.by_share.entries)))
+          ∙ ap capped (sym (group-number f c.self.inside.by_share.entries))
+          ∙ ap (λ (gs : GroupList). capped (length (group_rows f gs))) c.self.view_is,
+      omega arith,
+    )
