@@ -26,7 +26,7 @@ use Rattle.mq_questions.specs.Fresh.{is_literal, is_user_level, is_no_client, is
 use Rattle.mq_questions.specs.FreshTexts.{is_no_fresh}
 use Rattle.mq_questions.specs.declared.ask.fresh.Fresh.{Fresh}
 use Rattle.mq_questions.proofs.NameLemmas.{levels_without}
-use Rattle.mq_questions.proofs.LiteralLemmas.{fits_both, literal_passes}
+use Rattle.mq_questions.proofs.LiteralLemmas.{fits_both, fits_step, literal_passes}
 use Rattle.mq_questions.proofs.ClientLemmas.{level_is_no_wildcard}
 use Rattle.mq_walk.proofs.TextLemmas.{or_cases}
 
@@ -187,18 +187,12 @@ named_fits : (p q : List ℕ → Bool) → ((w : List ℕ) → p w ≡ true → 
     → ((l : List ℕ) → is_literal_in l ws ≡ true → q l ≡ true) → fits q ws ≡ true
 named_fits p q plain [] e h = refl
 named_fits p q plain (w ∷ ws) e h =
-    one (bytes_eq w (codes "+") || (bytes_eq w (codes "#") && (length ws == 0))) (p w) (q w)
+    fits_step (bytes_eq w (codes "+") || (bytes_eq w (codes "#") && (length ws == 0))) (p w) (q w)
     (fits p ws) (fits q ws)
     (λ k. h w (ap (λ b. (b && not (is_wildcard w)) || is_literal_in w ws) (text_itself w)
     ∙ ap (λ b. not b || is_literal_in w ws) (plain w k)))
     (λ k. named_fits p q plain ws k
     (λ l m. h l (rw m (or-true (bytes_eq l w && not (is_wildcard w)))))) e
-  where
-    one : (wild a b c d : Bool) → (a ≡ true → b ≡ true) → (c ≡ true → d ≡ true)
-        → ((wild || a) && c) ≡ true → ((wild || b) && d) ≡ true
-    one true a b c d f g k = g k
-    one false true b c d f g k = rw (f refl, g k) refl
-    one false false b c d f g k = absurd (let n : false ≡ true = k in cc)
 
 short_is_name : (w : List ℕ) → is_short_level w ≡ true → is_name_level w ≡ true
 short_is_name w h =

@@ -30,18 +30,20 @@ pub named_is : (l : List ℕ) (literals : Literals)
 named_is l literals = keys_found l literals.levels.keys
 
 -- ---- levels that fit
+-- a level that is wild or passes, with others behind it that fit, still fits by what follows
+pub fits_step : (wild a b c d : Bool) → (a ≡ true → b ≡ true) → (c ≡ true → d ≡ true)
+    → ((wild || a) && c) ≡ true → ((wild || b) && d) ≡ true
+fits_step true a b c d f g k = g k
+fits_step false true b c d f g k = rw (f refl, g k) refl
+fits_step false false b c d f g k = absurd (let n : false ≡ true = k in cc)
+
+-- levels that fit a test fit what follows from it
 pub fits_mono : (p q : List ℕ → Bool) (ws : List (List ℕ))
     → ((w : List ℕ) → p w ≡ true → q w ≡ true) → fits p ws ≡ true → fits q ws ≡ true
 fits_mono p q [] h e = refl
 fits_mono p q (w ∷ ws) h e =
-    both (bytes_eq w (codes "+") || (bytes_eq w (codes "#") && (length ws == 0))) (p w) (q w)
+    fits_step (bytes_eq w (codes "+") || (bytes_eq w (codes "#") && (length ws == 0))) (p w) (q w)
     (fits p ws) (fits q ws) (h w) (fits_mono p q ws h) e
-  where
-    both : (wild a b c d : Bool) → (a ≡ true → b ≡ true) → (c ≡ true → d ≡ true)
-        → ((wild || a) && c) ≡ true → ((wild || b) && d) ≡ true
-    both true a b c d f g k = g k
-    both false true b c d f g k = rw (f refl, g k) refl
-    both false false b c d f g k = absurd (let n : false ≡ true = k in cc)
 
 -- levels that fit two tests fit what follows from both
 pub fits_both : (p q r : List ℕ → Bool) (ws : List (List ℕ))

@@ -2,7 +2,7 @@
 use Rattle.std.proofs.Common.{◌≡◌, ℕ, ◌==◌, Bool, true, false, not, ◌&&◌, ◌||◌, List, [], ◌∷◌}
 use Rattle.std.proofs.Common.{length, codes, bytes_eq, refl, ap, sym, ◌∙◌, Option, Some}
 use Rattle.std.specs.List.{list_any}
-use Rattle.std.proofs.lemmas.Bool.{not-true, or_parts}
+use Rattle.std.proofs.lemmas.Bool.{not-true, or_parts, and_right}
 use Rattle.std.proofs.lemmas.List.{map-id}
 use Rattle.mq_topic.proofs.ByteLemmas.{text_is}
 use Rattle.mq_topic.specs.Levels.{levels_left}
@@ -42,12 +42,8 @@ module _ (mark : List ℕ) (m k : MarkLevels) (plus : bytes_eq (codes "+") mark 
       → passes pattern m w l ≡ passes pattern k w l
   free_passes pattern w l h = alike pattern w l (at (bytes_eq w (codes "+")) refl)
     where
-      both : (p b : Bool) → b ≡ false → (p && b) ≡ false
-      both true b e = e
-      both false b e = refl
-
       at : (b : Bool) → bytes_eq w (codes "+") ≡ b → (pattern && bytes_eq w mark) ≡ false
-      at true e = both pattern (bytes_eq w mark)
+      at true e = and_right pattern (bytes_eq w mark)
           (ap (λ t. bytes_eq t mark) (text_is w (codes "+") e) ∙ plus)
       at false e = not-true (pattern && bytes_eq w mark)
           (sym (ap (λ b. b || is_free pattern mark w) e) ∙ h)

@@ -6,7 +6,7 @@ use Rattle.std.specs.Bool.{nat_eq}
 use Rattle.std.specs.List.{filter}
 use Rattle.std.specs.BTreeMap.{insert_entry}
 use Rattle.std.specs.Map.{lookup, remove_entry}
-use Rattle.std.proofs.lemmas.Bool.{eqb-true, eq-eqb}
+use Rattle.std.proofs.lemmas.Bool.{and_parts, eqb-true, eq-eqb}
 use Rattle.std.proofs.lemmas.Slice.Eq.{bytes_eq-Decides}
 use Rattle.mq_topic.specs.Levels.{levels, level_order}
 use Rattle.mq_tree.specs.Entries.{Entries, is_key, AreInOrder}
@@ -127,18 +127,13 @@ put-undone-indexed deadline gone retained pairs added new indexed absent adds dr
     let nobody : names (pair_at deadline gone) d topic ≡ true → has_pair d topic pairs ≡ false =
     λ h.
     (let here : gone ≡ topic = (bytes_eq-Decides gone topic).0
-    (last_part (is_deadline d deadline) (same_text gone topic)
-    (sym (names-is deadline gone d topic) ∙ h)) in
+    (and_parts (is_deadline d deadline) (same_text gone topic)
+    (sym (names-is deadline gone d topic) ∙ h)).1 in
     indexed d topic ∙ ap (λ t. is_deadline d (deadline_at t retained)) (sym here)
     ∙ ap (is_deadline d) absent) in
     drops d topic ∙ ap (λ b. not (names (pair_at deadline gone) d topic) && b) (adds d topic)
     ∙ undone (names (pair_at deadline gone) d topic) (has_pair d topic pairs) nobody
     ∙ indexed d topic
-  where
-    last_part : (a b : Bool) → (a && b) ≡ true → b ≡ true
-    last_part true true h = refl
-    last_part true false h = h
-    last_part false b h = cc
 
 no_longer : (o : Bool) → (not (o && true) && o) ≡ false
 no_longer true = refl

@@ -1,6 +1,7 @@
 -- The members that are served, as they are gathered by share name.
 use Rattle.std.proofs.Common.{◌≡◌, Bool, true, false, true≢false, cond, not, ◌&&◌, ◌||◌, List, []}
 use Rattle.std.proofs.Common.{◌∷◌, ◌++◌, map, Option, Some, None, is_some, refl, sym, ◌∙◌, ap}
+use Rattle.std.proofs.lemmas.Bool.{and_right}
 use Rattle.std.specs.Rc.{rc_str_bytes}
 use Rattle.std.specs.declared.cmp.Ordering.TheVariants.{Less}
 use Rattle.std.specs.Ordering.{is_eq, ordering_then}
@@ -55,13 +56,9 @@ not_here : (g : Group) (f : Text) → same_text f g.filter ≡ false → (xs : L
 not_here g f n [] h = refl
 not_here g f n (x ∷ xs) h =
     ap (λ b. cond b (x ∷ filter (is_in_group g) xs) (filter (is_in_group g) xs))
-    (last (same_share x.share (Some g.share)) (same_text x.filter g.filter)
+    (and_right (same_share x.share (Some g.share)) (same_text x.filter g.filter)
     (ap (λ (t : Text). same_text t g.filter) h.0 ∙ n))
     ∙ not_here g f n xs h.1
-  where
-    last : (a b : Bool) → b ≡ false → (a && b) ≡ false
-    last true b e = e
-    last false b e = refl
 
 none_found : (g : Group) (ats : List At) → AllByRecursion AreHere ats
     → AllByRecursion (λ (b : At). same_text b.filter g.filter ≡ false) ats

@@ -3,7 +3,7 @@ use Rattle.std.proofs.Common.{◌≡◌, ◌==◌, ℕ, Bool, true, false, true�
 use Rattle.std.proofs.Common.{◌||◌, List, [], ◌∷◌, map, length, Option, Some, None, is_some}
 use Rattle.std.proofs.Common.{if◌then◌else◌, refl, sym, ◌∙◌, ap}
 use Rattle.std.specs.declared.cmp.Ordering.TheVariants.{Less}
-use Rattle.std.specs.Cmp.Lexicographic.{nat_list_cmp_total, nat_list_eq_equiv}
+use Rattle.std.specs.Cmp.Lexicographic.{nat_list_cmp_total}
 use Rattle.std.specs.Option.{option_map, option_map_or, option_and_then}
 use Rattle.std.specs.List.{filter, filter_map, cons_option, find, list_any, AllByRecursion}
 use Rattle.std.specs.List.Sorted.{IsStrictlySortedBy}
@@ -29,7 +29,7 @@ use Rattle.mq_world.proofs.ListLemmas.{list_any-map, list_any-same, is_some-find
 use Rattle.mq_world.proofs.SameLemmas.{filter-filter}
 use Rattle.mq_world.proofs.SortedLemmas.{same_gathered}
 use Rattle.mq_world.proofs.BoolLemmas.{pick}
-use Rattle.mq_world.proofs.OrderLemmas.{same_text-itself}
+use Rattle.mq_world.proofs.OrderLemmas.{same_text-itself, text_flip}
 use Rattle.mq_subscriptions.proofs.TextMaps.{is_text-is, text-apart, key_text}
 use Rattle.mq_router.proofs.SummaryLemmas.{summarized, unsummarized}
 use Rattle.mq_world.specs.World as world
@@ -208,14 +208,11 @@ module _ {X : Type 0} (test : Session → Bool) (make : Text → Summary → Opt
       (λ f. absurd (true≢false (sym some ∙ unsummarized (O id) (sym (found id) ∙ unfound id L f))))
       ∙ sym (list_any-map (λ (x : Session). x.id) (is_text id) sessions
       ∙ list_any-same (λ (x : Session). is_text id x.id) (has_id id)
-      (λ x. is_text-is id x.id ∙ flip id x.id) sessions
+      (λ x. is_text-is id x.id ∙ text_flip id x.id) sessions
       ∙ sym (is_some-find (has_id id) sessions)
       ∙ passes-there (session_of sessions id)
       (and_parts (passes id) (not (length (O id) == 0)) both).0))
       ∙ sym (by_ids sessions (found_itself sessions s))
-    where
-      flip : (a b : Text) → same_text a b ≡ same_text b a
-      flip a b = nat_list_eq_equiv.symm a b
 
 -- the copies that are sent
 pub unshared-gathered : (access : Option (List AclRow)) (sessions : List Session)

@@ -8,7 +8,7 @@ use Rattle.std.specs.Map.{values_of}
 use Rattle.std.specs.List.{filter, list_any}
 use Rattle.std.proofs.lemmas.Bool.Decides.{nat_tests}
 use Rattle.std.proofs.lemmas.List.Elements.{filter_agree}
-use Rattle.std.proofs.lemmas.Bool.{or_parts}
+use Rattle.std.proofs.lemmas.Bool.{and_right, or_parts}
 use Rattle.mq_topic.proofs.ByteLemmas.{text_is, text_flip}
 use Rattle.mq_topic.specs.Matching.{matches, levels_match_by, level_matches, is_wildcard, level_at}
 use Rattle.mq_topic.proofs.Walk.{levels_match_cons, levels_match_end}
@@ -28,12 +28,7 @@ cond_same false = refl
 never_only : (f g : List ℕ) (fs : List (List ℕ))
     → (bytes_eq f (codes "#") && (length (g ∷ fs) == 0)) ≡ false
 never_only f g fs =
-    let n : (length (g ∷ fs) == 0) ≡ false = grind (arith, nat_tests) in
-    ap (λ b. bytes_eq f (codes "#") && b) n ∙ and_false (bytes_eq f (codes "#"))
-  where
-    and_false : (b : Bool) → (b && false) ≡ false
-    and_false true = refl
-    and_false false = refl
+    and_right (bytes_eq f (codes "#")) (length (g ∷ fs) == 0) (grind (arith, nat_tests))
 
 rest_is_nil : (ns : List (List ℕ)) → pointwise level_matches [] ns ≡ matches_below [] ns
 rest_is_nil [] = refl
@@ -174,8 +169,4 @@ module _ (n : List ℕ) (hidden : begins_with_dollar n ≡ true) where
 -- the empty filter matches no name
 pub no_key_matches : (n : List ℕ) (ns : List (List ℕ)) → matches [] (n ∷ ns) ≡ false
 no_key_matches n ns = matches_cons [] n ns
-    ∙ and_false (not (begins_with_dollar n && is_wildcard (level_at [] 0)))
-  where
-    and_false : (b : Bool) → (b && false) ≡ false
-    and_false true = refl
-    and_false false = refl
+    ∙ and_right (not (begins_with_dollar n && is_wildcard (level_at [] 0))) false refl
