@@ -3,8 +3,8 @@
 
 mod copies;
 
-use mq_router::{Command, Refusal, Router};
 pub use copies::copies_of;
+use mq_router::{Command, Refusal, Router};
 use std::alloc::{AllocError, Global};
 
 fn connect(alloc: Global) -> Result<Command, AllocError> {
@@ -47,10 +47,15 @@ fn count(router: &mut Router, command: &Command) -> Result<usize, Refusal> {
     Ok(copies_of(router, command)?.len())
 }
 
-/// How many copies are sent where a client connects, subscribes to a filter, and publishes.
+// A client connects, subscribes to a filter, and publishes.
+fn talk(alloc: Global, router: &mut Router) -> Result<usize, Refusal> {
+    count(router, &connect(alloc)?)?;
+    count(router, &subscribe(alloc)?)?;
+    count(router, &publish(alloc)?)
+}
+
+/// How many copies the publish of such a client sends.
 pub fn sent(alloc: Global) -> Result<usize, Refusal> {
     let mut router = Router::new(alloc);
-    count(&mut router, &connect(alloc)?)?;
-    count(&mut router, &subscribe(alloc)?)?;
-    count(&mut router, &publish(alloc)?)
+    talk(alloc, &mut router)
 }
