@@ -1,4 +1,4 @@
-use Rattle.std.proofs.Common.{◌∙◌, sym, subst}
+use Rattle.std.proofs.Common.{◌∙◌, sym, subst, rules}
 use Rattle.mq_acl_cli.specs.Answers.{HasDifference}
 use Rattle.mq_acl_cli.proofs.CompareLemmas.{compared}
 use Rattle.mq_acl_cli.proofs.compare.tell_changes.Goals as goal
@@ -9,3 +9,6 @@ returns-clause-ok g c =
     c.outcome_of-outcome.result c.in_ok-changes.ensures.ok
     (λ e. sym c.deref.ensures.value ∙ c.outcome_of-outcome.ensures.clear e)
     (λ e. subst HasDifference c.deref.ensures.value (c.outcome_of-outcome.ensures.remark e))
+
+pub returns-in_err-changes-clause-unread : goal.returns-in_err-changes-clause-unread
+returns-in_err-changes-clause-unread g c = search rules
