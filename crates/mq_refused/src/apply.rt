@@ -1,18 +1,56 @@
 //! A command in the middle of its script.
 use crate::growth::{refuse, was_refused};
 use crate::reply::Reply;
-use crate::row::{Line, Row, ValidCommand};
-use crate::trial::{Attempt, Trial};
-use mq_router::{Command, Outcome, Router};
+use crate::row::{Line, Row};
+use crate::trial::Trial;
+use mq_lines::read_line;
+use mq_router::{Command, Outcome, Refusal, Router};
 use std::alloc::{AllocError, Global};
 
-/// What comes after a command that answered that memory ran out.
-#[derive(Clone, Copy)]
-pub enum Then {
-    /// The same command.
-    Again,
-    /// The next line.
-    Next,
+// Answers these lines, and adds what is written for them.
+fn answer_all(
+    alloc: Global,
+    lines: &[Line],
+    router: &mut Router,
+    out: &mut Vec<u8>,
+) -> Result<(), AllocError> {
+    for line in lines {
+        if let Some(reply) = Reply::to(alloc, *line, router) {
+            reply.print(alloc, out)?;
+        }
+    }
+    Ok(())
+}
+
+/// Adds what the row's router answers to the lines before and after one that is left out.
+pub fn answer_around(
+    alloc: Global,
+    row: Row,
+    before: &[Line],
+    after: &[Line],
+    out: &mut Vec<u8>,
+) -> Result<(), AllocError> {
+    let mut router = row.router(alloc)?;
+    answer_both(alloc, before, after, &mut router, out)
+}
+
+fn answer_both(
+    alloc: Global,
+    before: &[Line],
+    after: &[Line],
+    router: &mut Router,
+    out: &mut Vec<u8>,
+) -> Result<(), AllocError> {
+    answer_all(alloc, before, router, out)?;
+    answer_all(alloc, after, router, out)
+}
+
+// The numbers of nodes, retained messages and subscriptions.
+fn counts(router: &mut Router) -> Option<Outcome> {
+    match router.apply(&Command::Stat) {
+        Ok(answer) => Some(answer.outcome),
+        Err(_) => None,
+    }
 }
 
 // What a command met.
@@ -26,136 +64,94 @@ enum Met {
     Fault,
 }
 
-/// A router on its way through the lines of a script.
-#[derive(Drop)]
-pub struct Replay {
-    alloc: Global,
-    router: Router,
-    /// The number of the line that it was at last.
-    line: u64,
-    /// What is written.
-    pub out: Vec<u8>,
+// Whether a command meets no growth, whatever it is answered.
+fn takes_no_memory(command: &Command) -> bool {
+    matches!(
+        command,
+        Command::Disconnect { .. }
+            | Command::Unsubscribe { .. }
+            | Command::Advance { .. }
+            | Command::Stat
+    )
 }
 
-impl Replay {
-    pub fn new(alloc: Global, row: Row) -> Result<Replay, AllocError> {
-        Ok(Replay {
-            alloc,
-            router: row.router(alloc)?,
-            line: 0,
-            out: Vec::new(alloc),
-        })
-    }
-
-    /// Leaves out a line.
-    pub fn leave_out(&mut self) {
-        self.line = self.line.saturating_add(1);
-    }
-
-    // Writes what answers the next line.
-    fn write(&mut self, reply: &Reply) -> Result<(), AllocError> {
-        self.leave_out();
-        reply.print(self.alloc, self.line, &mut self.out)
-    }
-
-    fn answer(&mut self, line: &Line) -> Result<(), AllocError> {
-        match line.reply(&mut self.router) {
-            Some(reply) => self.write(&reply),
-            None => {
-                self.leave_out();
-                Ok(())
-            }
-        }
-    }
-
-    /// Answers these lines.
-    pub fn answer_all(&mut self, lines: &[Line]) -> Result<(), AllocError> {
-        for line in lines {
-            self.answer(line)?;
-        }
+// Applies a command while its nth growth is refused, and writes what it answers, but for lack of memory.
+fn answer_refused(
+    alloc: Global,
+    nth: u32,
+    line: Line,
+    router: &mut Router,
+    out: &mut Vec<u8>,
+) -> Result<Met, AllocError> {
+    let (line, text) = line;
+    let Ok(Some(command)) = read_line(alloc, text.as_bytes()) else {
+        return Ok(Met::Fault);
+    };
+    let before = counts(router);
+    refuse(alloc, nth);
+    let answer = router.apply(&command);
+    let was_refused = was_refused(alloc);
+    let is_memory = matches!(answer, Err(Refusal::Memory));
+    let is_same = counts(router) == before;
+    let met = if was_refused && takes_no_memory(&command)
+        || is_memory && !(was_refused && is_same)
+    {
+        Met::Fault
+    } else if is_memory {
+        Met::Memory
+    } else {
+        Met::Answer { was_refused }
+    };
+    let answer = Ok(answer);
+    let reply = Reply { line, answer };
+    let printed = if is_memory {
         Ok(())
-    }
-
-    /// Answers the lines before and after one that is left out.
-    pub fn answer_around(&mut self, before: &[Line], after: &[Line]) -> Result<(), AllocError> {
-        self.answer_all(before)?;
-        self.leave_out();
-        self.answer_all(after)
-    }
-
-    // The numbers of nodes, retained messages and subscriptions.
-    fn counts(&mut self) -> Option<Outcome> {
-        match self.router.apply(&Command::Stat) {
-            Ok(answer) => Some(answer.outcome),
-            Err(_) => None,
-        }
-    }
-
-    // Applies a command while its nth growth is refused, and writes what it answers, but for lack of memory.
-    fn answer_refused(&mut self, command: &ValidCommand, nth: u32) -> Result<Met, AllocError> {
-        let counts = self.counts();
-        refuse(self.alloc, nth);
-        let reply = command.apply(&mut self.router);
-        let was_refused = was_refused(self.alloc);
-        if was_refused && command.takes_no_memory() {
-            return Ok(Met::Fault);
-        }
-        if !reply.is_memory() {
-            self.write(&reply)?;
-            return Ok(Met::Answer { was_refused });
-        }
-        if !was_refused || self.counts() != counts {
-            return Ok(Met::Fault);
-        }
-        Ok(Met::Memory)
-    }
+    } else {
+        reply.print(alloc, out)
+    };
+    printed.and(Ok(met))
 }
 
 /// A command, between the lines before and after it.
-#[derive(Drop)]
+#[derive(Clone, Copy)]
 pub struct Apply<'a> {
     pub row: Row<'a>,
-    pub before: &'a [Line],
-    pub line: &'a Line,
-    pub command: &'a ValidCommand,
-    pub after: &'a [Line],
-    pub then: Then,
+    pub before: &'a [Line<'a>],
+    pub line: Line<'a>,
+    pub after: &'a [Line<'a>],
     /// What is written for all lines.
     pub whole: &'a [u8],
-    /// What is written for those before and after the command.
-    pub without: Vec<u8>,
+    /// The lines that come next where it was refused, and what is written for them and those before.
+    pub next: (&'a [Line<'a>], &'a [u8]),
 }
 
 impl<'a> Apply<'a> {
-    fn attempt_on(&self, replay: &mut Replay, nth: u32) -> Result<Attempt, AllocError> {
-        replay.answer_all(self.before)?;
-        let (wanted, was_refused) = match replay.answer_refused(self.command, nth)? {
-            Met::Fault => return Ok(Attempt::Wrong),
-            Met::Answer { was_refused } => (self.whole, was_refused),
-            Met::Memory => match self.then {
-                Then::Again => {
-                    replay.answer(self.line)?;
-                    (self.whole, true)
-                }
-                Then::Next => {
-                    replay.leave_out();
-                    (self.without.as_slice(), true)
-                }
-            },
+    fn attempt_on(
+        &self,
+        alloc: Global,
+        nth: u32,
+        router: &mut Router,
+        out: &mut Vec<u8>,
+    ) -> Result<Option<bool>, AllocError> {
+        answer_all(alloc, self.before, router, out)?;
+        let ((rest, wanted), was_refused) = match answer_refused(
+            alloc, nth, self.line, router, out,
+        )? {
+            Met::Fault => return Ok(None),
+            Met::Memory => (self.next, true),
+            Met::Answer { was_refused } => ((self.after, self.whole), was_refused),
         };
-        replay.answer_all(self.after)?;
-        if replay.out.as_slice() != wanted {
-            return Ok(Attempt::Wrong);
-        }
-        Ok(Attempt::right(was_refused))
+        answer_all(alloc, rest, router, out)?;
+        Ok((out.as_slice() == wanted).then_some(was_refused))
     }
 }
 
 impl<'a> Trial for Apply<'a> {
     // Where it is refused, all that follows is answered as in a script without the command, or, if it comes again, as if
     // nothing had happened.
-    fn attempt(&self, alloc: Global, nth: u32) -> Result<Attempt, AllocError> {
-        let mut replay = Replay::new(alloc, self.row)?;
-        self.attempt_on(&mut replay, nth)
+    fn attempt(&self, alloc: Global, nth: u32) -> Result<Option<bool>, AllocError> {
+        let mut router = self.row.router(alloc)?;
+        let mut out = Vec::new(alloc);
+        self.attempt_on(alloc, nth, &mut router, &mut out)
     }
 }

@@ -48,21 +48,10 @@ impl<'a> Source for Lines<'a> {
 /// A writer that compares what it takes with what is wanted.
 #[derive(Drop)]
 pub struct Compared<'a> {
-    rest: &'a [u8],
-    /// How many bytes were taken.
-    pub taken: usize,
-    /// Whether they are the first ones of what is wanted.
+    /// What is wanted yet.
+    pub rest: &'a [u8],
+    /// Whether all that was taken was wanted.
     pub is_same: bool,
-}
-
-impl<'a> Compared<'a> {
-    pub fn new(wanted: &'a [u8]) -> Self {
-        Compared {
-            rest: wanted,
-            taken: 0,
-            is_same: true,
-        }
-    }
 }
 
 impl<'a> Sink for Compared<'a> {
@@ -77,7 +66,6 @@ impl<'a> Sink for Compared<'a> {
             Some(rest) => self.rest = rest,
             None => self.is_same = false,
         }
-        self.taken = self.taken.saturating_add(buf.len());
         Ok(buf.len())
     }
 

@@ -9,48 +9,54 @@
 mod apply;
 mod calls;
 mod devices;
-mod faults;
 mod growth;
 mod put;
 mod reply;
 mod row;
 mod run;
-mod tally;
 mod texts;
 mod trial;
 mod try_calls;
 mod try_row;
 
-use growth::is_preloaded;
+use growth::refuse;
 use mq_cli::arguments;
 use mq_router::Limits;
 use row::Row;
 use std::io::ErrorKind;
 use std::process::ExitCode;
 use std::{env, fs, io};
-use tally::Tally;
+use trial::Tally;
 use try_calls::try_calls;
 use try_row::try_row;
 
 fn main(rt: HostRuntime) -> io::Result<ExitCode> {
     let alloc = rt.alloc();
-    if !is_preloaded(alloc) {
+    if !refuse(alloc, 0) {
         println!(&rt; "no allocator is preloaded that refuses growths")?;
         return Ok(ExitCode::SUCCESS);
     }
-    let mut words = Vec::new(alloc);
-    for word in env::args(&rt)?.skip(1) {
-        words.push(word)?;
-    }
-    let mut tally = Tally::new(alloc);
-    match words.as_slice() {
-        [] => try_calls(alloc, &mut tally)?,
-        [output, ..] => try_files(&rt, output.as_str(), words.as_slice(), &mut tally)?,
-    }
+    let mut tally = Tally {
+        alloc,
+        lines: Vec::new(alloc),
+        is_right: true,
+    };
+    try_all(&rt, &mut tally)?;
     for line in &tally.lines {
         println!(&rt; "{line}")?;
     }
     Ok(ExitCode::from(if tally.is_right { 0 } else { 1 }))
+}
+
+fn try_all(rt: &HostRuntime, tally: &mut Tally) -> io::Result<()> {
+    let mut words = Vec::new(rt.alloc());
+    for word in env::args(rt)?.skip(1) {
+        words.push(word)?;
+    }
+    match words.as_slice() {
+        [] => Ok(try_calls(tally)?),
+        [output, ..] => try_files(rt, output.as_str(), words.as_slice(), tally),
+    }
 }
 
 // The words are a command line of mqroute's but for the first, which is passed over like the program's name.
@@ -81,5 +87,5 @@ fn try_files(
         script: script.as_str(),
         output: output.as_str(),
     };
-    Ok(try_row(rt.alloc(), row, tally)?)
+    Ok(try_row(tally, row)?)
 }

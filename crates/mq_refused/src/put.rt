@@ -1,12 +1,12 @@
 //! Entries that are put into the level tree.
 use crate::growth::{refuse, was_refused};
-use crate::trial::{Attempt, Trial};
+use crate::trial::Trial;
 use mq_topic::TopicFilter;
 use mq_tree::{LevelTree, Steps};
 use std::alloc::{AllocError, Global};
 
 /// What the trial puts. No other key has this value.
-const VALUE: u32 = 1000;
+pub const VALUE: u32 = 1000;
 
 /// The tree that holds these keys, each with its place.
 pub fn tree_of(alloc: Global, keys: &[TopicFilter]) -> Result<LevelTree<u32>, AllocError> {
@@ -20,12 +20,16 @@ pub fn tree_of(alloc: Global, keys: &[TopicFilter]) -> Result<LevelTree<u32>, Al
 }
 
 /// A key that is put into the tree of some keys, or put again.
-#[derive(Drop)]
+#[derive(Clone, Copy)]
 pub struct Put<'a> {
     pub keys: &'a [TopicFilter],
     pub key: &'a TopicFilter,
     /// The filter `#`.
     pub all: &'a TopicFilter,
+    /// The tree before the put, the one after it, and the value that it answers.
+    pub before: &'a LevelTree<u32>,
+    pub after: &'a LevelTree<u32>,
+    pub older: Option<u32>,
 }
 
 impl<'a> Put<'a> {
@@ -46,56 +50,35 @@ impl<'a> Put<'a> {
         let others = other.for_filter(self.all, &mut Steps::new())?;
         Ok(ones.as_slice() == others.as_slice())
     }
-}
 
-/// The tree before a put, the one after it, and the value that it answers.
-#[derive(Clone, Copy)]
-struct Wanted<'a> {
-    before: &'a LevelTree<u32>,
-    after: &'a LevelTree<u32>,
-    older: Option<u32>,
-}
-
-impl<'a> Put<'a> {
     fn attempt_on(
         &self,
         alloc: Global,
-        tree: &mut LevelTree<u32>,
-        wanted: Wanted,
         nth: u32,
-    ) -> Result<Attempt, AllocError> {
+        tree: &mut LevelTree<u32>,
+    ) -> Result<Option<bool>, AllocError> {
         refuse(alloc, nth);
         let mut answer = tree.put(self.key, VALUE);
         let was_refused = was_refused(alloc);
-        if was_refused && wanted.older.is_some() {
-            return Ok(Attempt::Wrong);
+        if was_refused && self.older.is_some() {
+            return Ok(None);
         }
         if answer.is_err() {
-            if !was_refused || !self.are_same(tree, wanted.before)? {
-                return Ok(Attempt::Wrong);
+            if !was_refused || !self.are_same(tree, self.before)? {
+                return Ok(None);
             }
             answer = tree.put(self.key, VALUE);
         }
-        if answer? != wanted.older || !self.are_same(tree, wanted.after)? {
-            return Ok(Attempt::Wrong);
-        }
-        Ok(Attempt::right(was_refused))
+        let is_right = answer? == self.older && self.are_same(tree, self.after)?;
+        Ok(is_right.then_some(was_refused))
     }
 }
 
 impl<'a> Trial for Put<'a> {
     // Where it is refused, the tree is as before, and the next put makes the tree that it should. A key that is there takes
     // no memory: no growth is met.
-    fn attempt(&self, alloc: Global, nth: u32) -> Result<Attempt, AllocError> {
-        let before = tree_of(alloc, self.keys)?;
-        let mut after = tree_of(alloc, self.keys)?;
-        let older = after.put(self.key, VALUE)?;
+    fn attempt(&self, alloc: Global, nth: u32) -> Result<Option<bool>, AllocError> {
         let mut tree = tree_of(alloc, self.keys)?;
-        let wanted = Wanted {
-            before: &before,
-            after: &after,
-            older,
-        };
-        self.attempt_on(alloc, &mut tree, wanted, nth)
+        self.attempt_on(alloc, nth, &mut tree)
     }
 }

@@ -1,5 +1,4 @@
 //! The texts that are tried: those of the worked rows on parses, access lists and command lines, and keys of a tree.
-use std::alloc::{AllocError, Global};
 
 pub const NAMES: [&str; 4] = ["", "a+", "a\0", "/"];
 
@@ -30,23 +29,17 @@ pub const SUBSCRIPTIONS: [&str; 10] = [
 pub const SHARE: &str = "$share/g/";
 
 /// How many bytes a text may have, and how many slashes.
-const MOST_BYTES: usize = 65_535;
+pub const MOST_BYTES: usize = 65_535;
 
-const MOST_SLASHES: usize = 199;
-
-/// Texts with this front that are as long and as deep as they may be, and others with one byte or one level more.
-pub fn at_limits(alloc: Global, front: &str) -> Result<Vec<String>, AllocError> {
-    let longest = "a".repeat(alloc, MOST_BYTES.saturating_sub(front.len()))?;
-    let deepest = "/".repeat(alloc, MOST_SLASHES)?;
-    let mut texts = Vec::new(alloc);
-    texts.push(format!(in alloc; "{front}{longest}a")?)?;
-    texts.push(format!(in alloc; "{front}{deepest}/")?)?;
-    texts.push(format!(in alloc; "{front}{longest}")?)?;
-    texts.push(format!(in alloc; "{front}{deepest}")?)?;
-    Ok(texts)
-}
+pub const MOST_SLASHES: usize = 199;
 
 pub const KEYS: [&str; 8] = ["a/#", "a", "+", "#", "/x", "a/b", "a/b/c/d/e", "$x"];
+
+/// More keys, beside one another: so many that a map of the tree splits.
+pub const NEIGHBOURS: [&str; 16] = [
+    "s/0", "s/1", "s/2", "s/3", "s/4", "s/5", "s/6", "s/7", "s/8", "s/9", "s/10", "s/11", "s/12",
+    "s/13", "s/14", "s/15",
+];
 
 pub const LOOKED_UP: [&str; 4] = ["a", "a/b", "$x", "/x"];
 

@@ -1,58 +1,52 @@
-//! Trials, in which each growth is refused in turn.
+//! Trials, in which each growth is refused in turn, and what came of them.
 use std::alloc::{AllocError, Global};
 
 /// More growths than any trial meets.
 const MOST: u32 = 100_000;
 
-/// What came of one attempt.
-#[derive(Clone, Copy)]
-pub enum Attempt {
-    /// Something was answered or left behind that should not be.
-    Wrong,
-    /// All was as it should be, and a growth was refused.
-    Refused,
-    /// All was as it should be, and none was refused.
-    Unrefused,
-}
-
-impl Attempt {
-    /// An attempt in which all was as it should be.
-    pub fn right(was_refused: bool) -> Attempt {
-        if was_refused {
-            Attempt::Refused
-        } else {
-            Attempt::Unrefused
-        }
-    }
-}
-
 /// Something that may meet growths.
 pub trait Trial {
-    /// Tries it while its nth growth is refused, and none for 0. It fails where memory really runs out.
-    fn attempt(&self, alloc: Global, nth: u32) -> Result<Attempt, AllocError>;
+    /// Tries it while its nth growth is refused, and none for 0. It answers whether a growth was, or nothing where
+    /// something was answered or left behind that should not be. It fails where memory really runs out.
+    fn attempt(&self, alloc: Global, nth: u32) -> Result<Option<bool>, AllocError>;
 }
 
-/// What came of a trial.
-#[derive(Clone, Copy)]
-pub enum Verdict {
-    /// All was right, and so many growths were refused.
-    Right(u32),
-    /// Something was wrong where this growth was refused, or with ample memory, for 0.
-    Wrong(u32),
-}
-
-/// Tries with ample memory, and then with each growth refused until none is met.
-pub fn tried<T: Trial>(alloc: Global, trial: &T) -> Result<Verdict, AllocError> {
+/// Tries with ample memory, and then with each growth refused until none is met. It answers how many growths were
+/// refused or, where something was wrong, which one was then, 0 for none.
+pub fn tried<T: Trial>(alloc: Global, trial: &T) -> Result<u32, u32> {
     for nth in 0..MOST {
-        match trial.attempt(alloc, nth)? {
-            Attempt::Wrong => return Ok(Verdict::Wrong(nth)),
-            Attempt::Refused => {}
-            Attempt::Unrefused => {
+        match trial.attempt(alloc, nth) {
+            Ok(Some(true)) => {}
+            Ok(Some(false)) => {
                 if nth > 0 {
-                    return Ok(Verdict::Right(nth - 1));
+                    return Ok(nth - 1);
                 }
             }
+            Ok(None) | Err(AllocError) => return Err(nth),
         }
     }
-    Ok(Verdict::Wrong(MOST))
+    Err(MOST)
+}
+
+/// A line for each trial, and whether all was right.
+#[derive(Drop)]
+pub struct Tally {
+    pub alloc: Global,
+    pub lines: Vec<String>,
+    pub is_right: bool,
+}
+
+impl Tally {
+    /// Notes what came of the trial with this label.
+    pub fn note(&mut self, label: String, outcome: Result<u32, u32>) -> Result<(), AllocError> {
+        let line = match outcome {
+            Ok(refusals) => format!(in self.alloc; "{label}: {refusals}")?,
+            Err(nth) => {
+                self.is_right = false;
+                format!(in self.alloc; "{label}: WRONG at growth {nth}")?
+            }
+        };
+        self.lines.push(line)?;
+        Ok(())
+    }
 }

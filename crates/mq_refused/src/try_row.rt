@@ -1,119 +1,102 @@
 //! Tries a worked row: its run, and each of its lines, commands and answers.
-use crate::apply::{Apply, Replay, Then};
-use crate::calls::{Asked, Call};
-use crate::reply::{Print, Reply};
+use crate::apply::{Apply, answer_around};
+use crate::calls::Call;
+use crate::reply::Reply;
 use crate::row::{Line, Row};
-use crate::run::Run;
-use crate::tally::Tally;
-use crate::trial::Verdict;
+use crate::trial::{Tally, tried};
+use mq_lines::read_line;
 use mq_router::Router;
-use std::alloc::{AllocError, Global};
+use std::alloc::AllocError;
 
-pub fn try_row(alloc: Global, row: Row, tally: &mut Tally) -> Result<(), AllocError> {
-    tally.add("run", "of the script", &Run { row })?;
-    try_lines(alloc, row, tally)?;
-    try_commands(alloc, row, tally)?;
-    try_answers(alloc, row, tally)
+pub fn try_row(tally: &mut Tally, row: Row) -> Result<(), AllocError> {
+    let alloc = tally.alloc;
+    tally.note(
+        String::from_str(alloc, "run of the script")?,
+        tried(alloc, &row),
+    )?;
+    let lines = row.lines(alloc)?;
+    let (once, _) = lines.as_slice().split_at(lines.len() / 2);
+    try_lines(tally, once)?;
+    try_commands(tally, row, lines.as_slice())?;
+    try_answers(tally, row, once)
 }
 
-fn try_lines(alloc: Global, row: Row, tally: &mut Tally) -> Result<(), AllocError> {
-    let mut number = 0u64;
-    for text in row.script.split_terminator('\n') {
-        number = number.saturating_add(1);
-        let subject = format!(in alloc; "of line {number}")?;
-        let asked = Asked::new(alloc, Call::ReadLine(text.as_bytes()))?;
-        tally.add("read_line", subject.as_str(), &asked)?;
+fn try_lines(tally: &mut Tally, lines: &[Line]) -> Result<(), AllocError> {
+    let alloc = tally.alloc;
+    for (number, text) in lines {
+        let label = format!(in alloc; "read_line of line {number}")?;
+        tally.note(label, tried(alloc, &Call::ReadLine(text.as_bytes())))?;
     }
     Ok(())
 }
 
 // The script is gone through twice, so that each command has all others behind it.
-fn try_commands(alloc: Global, row: Row, tally: &mut Tally) -> Result<(), AllocError> {
-    let lines = row.lines(alloc, 2)?;
-    let whole = written(alloc, row, lines.as_slice(), &[])?;
+fn try_commands(tally: &mut Tally, row: Row, lines: &[Line]) -> Result<(), AllocError> {
+    let mut whole = Vec::new(tally.alloc);
+    answer_around(tally.alloc, row, lines, &[], &mut whole)?;
     if !whole.as_slice().starts_with(row.output.as_bytes()) {
-        tally.note("apply", "of all lines", Verdict::Wrong(0))?;
+        tally.note(String::from_str(tally.alloc, "apply of all lines")?, Err(0))?;
     }
     for place in 0..lines.len() / 2 {
-        let (before, rest) = lines.as_slice().split_at(place);
-        try_command(alloc, row, whole.as_slice(), before, rest, tally)?;
+        let (before, rest) = lines.split_at(place);
+        try_command(tally, row, whole.as_slice(), before, rest)?;
     }
     Ok(())
-}
-
-// What is written for these lines, then one that is left out, and those after it.
-fn written(
-    alloc: Global,
-    row: Row,
-    before: &[Line],
-    after: &[Line],
-) -> Result<Vec<u8>, AllocError> {
-    let mut replay = Replay::new(alloc, row)?;
-    replay.answer_around(before, after)?;
-    Ok(replay.out)
 }
 
 // Tries the first of the rest, if it is a command.
 fn try_command<'a>(
-    alloc: Global,
+    tally: &mut Tally,
     row: Row<'a>,
     whole: &'a [u8],
-    before: &'a [Line],
-    rest: &'a [Line],
-    tally: &mut Tally,
+    before: &'a [Line<'a>],
+    rest: &'a [Line<'a>],
 ) -> Result<(), AllocError> {
+    let alloc = tally.alloc;
     let Some((line, after)) = rest.split_first() else {
         return Ok(());
     };
-    let Line::Command(command) = line else {
+    let (number, text) = *line;
+    if !matches!(read_line(alloc, text.as_bytes()), Ok(Some(_))) {
         return Ok(());
-    };
-    let mut apply = Apply {
+    }
+    let mut without = Vec::new(alloc);
+    answer_around(alloc, row, before, after, &mut without)?;
+    let again = Apply {
         row,
         before,
-        line,
-        command,
+        line: *line,
         after,
-        then: Then::Again,
         whole,
-        without: written(alloc, row, before, after)?,
+        next: (rest, whole),
     };
-    let number = before.len().saturating_add(1);
-    let again = format!(in alloc; "of line {number}, and again")?;
-    tally.add("apply", again.as_str(), &apply)?;
-    apply.then = Then::Next;
-    let next = format!(in alloc; "of line {number}, and on")?;
-    tally.add("apply", next.as_str(), &apply)
+    let label = format!(in alloc; "apply of line {number}, and again")?;
+    tally.note(label, tried(alloc, &again))?;
+    let on = Apply {
+        next: (after, without.as_slice()),
+        ..again
+    };
+    let label = format!(in alloc; "apply of line {number}, and on")?;
+    tally.note(label, tried(alloc, &on))
 }
 
-fn try_answers(alloc: Global, row: Row, tally: &mut Tally) -> Result<(), AllocError> {
-    let lines = row.lines(alloc, 1)?;
-    let mut router = row.router(alloc)?;
-    try_answers_of(alloc, lines.as_slice(), &mut router, tally)
+fn try_answers(tally: &mut Tally, row: Row, lines: &[Line]) -> Result<(), AllocError> {
+    let mut router = row.router(tally.alloc)?;
+    try_answers_of(tally, lines, &mut router)
 }
 
 fn try_answers_of(
-    alloc: Global,
+    tally: &mut Tally,
     lines: &[Line],
     router: &mut Router,
-    tally: &mut Tally,
 ) -> Result<(), AllocError> {
-    let mut number = 0u64;
+    let alloc = tally.alloc;
     for line in lines {
-        number = number.saturating_add(1);
-        if let Some(reply) = line.reply(router) {
-            try_answer(alloc, &reply, number, tally)?;
+        if let Some(reply) = Reply::to(alloc, *line, router) {
+            let number = reply.line;
+            let label = format!(in alloc; "print of line {number}")?;
+            tally.note(label, tried(alloc, &reply))?;
         }
     }
     Ok(())
-}
-
-fn try_answer(
-    alloc: Global,
-    reply: &Reply,
-    line: u64,
-    tally: &mut Tally,
-) -> Result<(), AllocError> {
-    let subject = format!(in alloc; "of line {line}")?;
-    tally.add("print", subject.as_str(), &Print { reply, line })
 }
