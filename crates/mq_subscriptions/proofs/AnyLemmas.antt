@@ -4,13 +4,13 @@ use Rattle.std.proofs.Common.{◌∷◌, map, Option, Some, None, if◌then◌el
 use Rattle.std.proofs.Common.{subst}
 use Rattle.std.specs.List.{filter, list_any, AllByRecursion}
 use Rattle.std.proofs.lemmas.Map.Views.{any-filter_same}
-use Rattle.mq_world.specs.Keys.{key_cmp}
 use Rattle.mq_world.specs.Lists.{Text, same_text}
 use Rattle.mq_world.specs.World.{Subscription, same_share, has_key, same_key}
 use Rattle.mq_world.specs.Turns.{SameInTurn}
 use Rattle.mq_subscriptions.specs.Turns.{put_last, upsert}
-use Rattle.mq_subscriptions.specs.Filters.{FilterKey, AtEntries, AreEntries, AreListed, is_text}
-use Rattle.mq_subscriptions.specs.Filters.{is_in_list, is_listed, is_empty, all_rows}
+use Rattle.mq_subscriptions.specs.Filters.{FilterKey, FilterLists, AtEntries, AreEntries, AreListed}
+use Rattle.mq_subscriptions.specs.Filters.{is_text, is_in_list, is_listed, all_rows}
+use Rattle.mq_subscriptions.specs.SubFilters.{ListsMore, ListsLess, ListsOthers}
 use Rattle.mq_world.proofs.ListLemmas.{list_any-map, list_any-same, any-append}
 use Rattle.mq_world.proofs.SameLemmas.{list_any-SameElements}
 use Rattle.mq_world.proofs.BoolLemmas.{pick}
@@ -18,17 +18,11 @@ use Rattle.mq_world.proofs.OrderLemmas.{same_text-is, same_share-is}
 use Rattle.mq_world.proofs.OrderLemmas.{text_flip, all_weaker}
 use Rattle.mq_subscriptions.proofs.ClientFilterLemmas.{flip_share}
 use Rattle.mq_subscriptions.proofs.OneServed.{turned-elements}
-use Rattle.mq_subscriptions.specs.Views.{texts}
-use Rattle.mq_subscriptions.specs.SubFilters.{ClientLists}
 use Rattle.mq_subscriptions.proofs.AtLemmas.{own_key_is}
-use Rattle.mq_sessions.proofs.SessionLemmas.{finds}
-use Rattle.mq_subscriptions.proofs.TextMaps.{is_text-is, lookup-texts}
-use Rattle.mq_subscriptions.proofs.ListedLemmas.{leaves, found_in, list-out, live-out}
-use Rattle.std.specs.List.Sorted.{IsStrictlySortedBy}
-use Rattle.std.specs.Map.{lookup, set_value, remove_entry, keys_of}
+use Rattle.mq_subscriptions.proofs.ListedLemmas.{leaves, found_in}
+use Rattle.std.specs.Map.{lookup}
 use Rattle.std.proofs.lemmas.Bool.{and_parts}
 use Rattle.std.proofs.Math.Bool.{and-true, or-false}
-use Rattle.std.proofs.lemmas.Map.Steps.{set_value_same}
 
 -- ## One key
 
@@ -128,34 +122,20 @@ any-turned x s new rows same = list_any-SameElements (same_key s) new rows
 
 -- ## Tree and lists
 
-abbrev Lists : Type 0
-Lists = List (Text × List FilterKey)
-
-abbrev AreLive : Lists → Type 0
-AreLive lists = AllByRecursion (λ l. is_empty l.1 ≡ false) lists
-
--- a tree and lists that agreed have become others, each of them well formed
-pub record IsChange (old new : AtEntries) (before after : Lists) : Type 0 where
-  pub agreed : AreListed old before
-  pub kept : AreEntries new
-  pub live : AreLive after
-
 -- a subscription joins both the tree and the lists: they agree again
-pub listed-joined : (x : Subscription) (old new : AtEntries) (before after : Lists)
-    → IsChange old new before after → SameInTurn (all_rows new) (upsert x (all_rows old))
-    → ((s : Subscription) → is_listed after s
-    ≡ (has_key x.client x.share x.filter s || is_listed before s)) → AreListed new after
-listed-joined x old new before after change same adds = record {
-  kept = change.kept;
-  listed = λ s. adds s ∙ ap (λ b. same_key x s || b) (change.agreed.listed s)
+pub listed-joined : (x : Subscription) (old new : AtEntries) (before after : FilterLists)
+    → AreListed old before → AreEntries new → SameInTurn (all_rows new) (upsert x (all_rows old))
+    → ListsMore x.client (x.share, x.filter) before after → AreListed new after
+listed-joined x old new before after h kept same adds = record {
+  kept = kept;
+  listed = λ s. adds s ∙ ap (λ b. same_key x s || b) (h.listed s)
       ∙ sym (any-joined x s (all_rows new) (all_rows old) same);
-  live = change.live;
 }
 
 -- a key that is there joins again
-pub listed-again : (x : Subscription) (old : AtEntries) (lists : Lists) → AreListed old lists
-    → list_any (same_key x) (all_rows old) ≡ true → (s : Subscription)
-    → is_listed lists s ≡ (has_key x.client x.share x.filter s || is_listed lists s)
+pub listed-again : (x : Subscription) (old : AtEntries) (lists : FilterLists)
+    → AreListed old lists → list_any (same_key x) (all_rows old) ≡ true
+    → ListsMore x.client (x.share, x.filter) lists lists
 listed-again x old lists h found s =
     pick (same_key x s)
     (λ t. h.listed s ∙ sym (there x s (all_rows old) t) ∙ found
@@ -163,33 +143,28 @@ listed-again x old lists h found s =
     (λ f. sym (ap (λ b. b || is_listed lists s) f))
 
 -- a key leaves both the tree and the lists: they agree again
-pub listed-left : (client : Text) (k : FilterKey) (old new : AtEntries) (before after : Lists)
-    → IsChange old new before after
+pub listed-left : (client : Text) (k : FilterKey) (old new : AtEntries)
+    (before after : FilterLists) → AreListed old before → AreEntries new
     → all_rows new ≡ filter (λ s. not (has_key client k.0 k.1 s)) (all_rows old)
-    → ((s : Subscription) → is_listed after s
-    ≡ (not (has_key client k.0 k.1 s) && is_listed before s)) → AreListed new after
-listed-left client k old new before after change rows drops = record {
-  kept = change.kept;
+    → ListsLess client k before after → AreListed new after
+listed-left client k old new before after h kept rows drops = record {
+  kept = kept;
   listed = λ s.
-      drops s ∙ ap (λ b. not (has_key client k.0 k.1 s) && b) (change.agreed.listed s)
+      drops s ∙ ap (λ b. not (has_key client k.0 k.1 s) && b) (h.listed s)
       ∙ sym (any-left (λ c sh f. same_text c client && same_share sh k.0 && same_text f k.1) s
       (all_rows old)) ∙ ap (list_any (same_key s)) (sym rows);
-  live = change.live;
 }
 
 -- a key that the tree doesn't have joined the lists, and left them again
-pub record IsUndone (client : Text) (k : FilterKey) (old : AtEntries) (before added after : Lists)
-    : Type 0 where
+pub record IsUndone (client : Text) (k : FilterKey) (old : AtEntries)
+    (before added after : FilterLists) : Type 0 where
   pub absent : list_any (has_key client k.0 k.1) (all_rows old) ≡ false
-  pub adds : (s : Subscription) → is_listed added s
-      ≡ (has_key client k.0 k.1 s || is_listed before s)
-  pub drops : (s : Subscription) → is_listed after s
-      ≡ (not (has_key client k.0 k.1 s) && is_listed added s)
-  pub live : AreLive after
+  pub adds : ListsMore client k before added
+  pub drops : ListsLess client k added after
 
 -- where the tree stayed as it was meanwhile, it agrees with the lists again
 pub listed-undone : (client : Text) (k : FilterKey) (old new : AtEntries)
-    (before added after : Lists)
+    (before added after : FilterLists)
     → AreListed old before → new ≡ old → IsUndone client k old before added after
     → AreListed new after
 listed-undone client k old new before added after h same is =
@@ -197,7 +172,6 @@ listed-undone client k old new before added after h same is =
       kept = h.kept;
       listed = λ s. is.drops s ∙ ap (λ b. not (has_key client k.0 k.1 s) && b) (is.adds s)
           ∙ undone (has_key client k.0 k.1 s) (is_listed before s) (nobody s) ∙ h.listed s;
-      live = is.live;
     })
   where
     undone : (n o : Bool) → (n ≡ true → o ≡ false) → (not n && (n || o)) ≡ o
@@ -223,13 +197,12 @@ listed-undone client k old new before added after h same is =
         ∙ is.absent
 
 -- where a subscription goes last in the tree, which stays well formed, the lists agree as they were
-pub listed-turned : (x : Subscription) (old new : AtEntries) (lists : Lists) → AreListed old lists
-    → AreEntries new → SameInTurn (all_rows new) (put_last (same_key x) (all_rows old))
-    → AreListed new lists
+pub listed-turned : (x : Subscription) (old new : AtEntries) (lists : FilterLists)
+    → AreListed old lists → AreEntries new
+    → SameInTurn (all_rows new) (put_last (same_key x) (all_rows old)) → AreListed new lists
 listed-turned x old new lists h kept same = record {
   kept = kept;
   listed = λ s. h.listed s ∙ sym (any-turned x s (all_rows new) (all_rows old) same);
-  live = h.live;
 }
 
 -- ## A client's session ends
@@ -248,85 +221,68 @@ each_there (x ∷ rows) = (
       (each_there rows),
 )
 
-each_listed : (old : AtEntries) (lists : Lists) → AreListed old lists
+each_listed : (old : AtEntries) (lists : FilterLists) → AreListed old lists
     → AllByRecursion (λ s. is_listed lists s ≡ true) (all_rows old)
 each_listed old lists h =
     all_weaker (λ (s : Subscription). list_any (same_key s) (all_rows old) ≡ true)
     (λ s. is_listed lists s ≡ true) (λ s e. h.listed s ∙ e) (all_rows old)
     (each_there (all_rows old))
 
-leaving : (c : Text) (ls : ClientLists) (v : List FilterKey) (rows : List Subscription)
-    → lookup (finds c) ls ≡ Some v → AllByRecursion (λ s. is_listed (texts ls) s ≡ true) rows
+leaving : (c : Text) (lists : FilterLists) (v : List FilterKey) (rows : List Subscription)
+    → lookup (is_text c) lists ≡ Some v → AllByRecursion (λ s. is_listed lists s ≡ true) rows
     → filter (leaves c v) rows ≡ filter (λ s. not (same_text s.client c)) rows
-leaving c ls v [] found h = refl
-leaving c ls v (s ∷ rows) found h =
+leaving c lists v [] found h = refl
+leaving c lists v (s ∷ rows) found h =
     ap (λ b. cond b (s ∷ filter (leaves c v) rows) (filter (leaves c v) rows))
     (pick (same_text s.client c) yes no)
-    ∙ ap (λ l. cond (not (same_text s.client c)) (s ∷ l) l) (leaving c ls v rows found h.1)
+    ∙ ap (λ l. cond (not (same_text s.client c)) (s ∷ l) l) (leaving c lists v rows found h.1)
   where
     yes : same_text s.client c ≡ true → leaves c v s ≡ not (same_text s.client c)
     yes t =
         let own : is_in_list v s ≡ true =
-        sym (ap (λ (k : Text). found_in s (lookup (is_text k) (texts ls)))
-        (same_text-is s.client c t) ∙ ap (found_in s) (lookup-texts c ls ∙ found)) ∙ h.0 in
+        sym (ap (λ (k : Text). found_in s (lookup (is_text k) lists))
+        (same_text-is s.client c t) ∙ ap (found_in s) found) ∙ h.0 in
         ap (λ b. not (same_text s.client c && b)) own ∙ ap not (and-true (same_text s.client c))
 
     no : same_text s.client c ≡ false → leaves c v s ≡ not (same_text s.client c)
     no f = ap (λ b. not (b && is_in_list v s)) f ∙ ap not (sym f)
 
 -- where tree and lists agree, what is in a client's list is all that the client has
-pub all-leave : (c : Text) (ls : ClientLists) (v : List FilterKey) (old : AtEntries)
-    → lookup (finds c) ls ≡ Some v → AreListed old (texts ls)
+pub all-leave : (c : Text) (lists : FilterLists) (v : List FilterKey) (old : AtEntries)
+    → lookup (is_text c) lists ≡ Some v → AreListed old lists
     → filter (leaves c v) (all_rows old) ≡ filter (λ s. not (same_text s.client c)) (all_rows old)
-all-leave c ls v old found h = leaving c ls v (all_rows old) found (each_listed old (texts ls) h)
+all-leave c lists v old found h =
+    leaving c lists v (all_rows old) found (each_listed old lists h)
 
-staying : (c : Text) (ls : ClientLists) (rows : List Subscription) → lookup (finds c) ls ≡ None
-    → AllByRecursion (λ s. is_listed (texts ls) s ≡ true) rows
+staying : (c : Text) (lists : FilterLists) (rows : List Subscription)
+    → lookup (is_text c) lists ≡ None → AllByRecursion (λ s. is_listed lists s ≡ true) rows
     → rows ≡ filter (λ s. not (same_text s.client c)) rows
-staying c ls [] none h = refl
-staying c ls (s ∷ rows) none h =
-    ap (λ l. s ∷ l) (staying c ls rows none h.1)
+staying c lists [] none h = refl
+staying c lists (s ∷ rows) none h =
+    ap (λ l. s ∷ l) (staying c lists rows none h.1)
     ∙ sym (ap (λ b. cond (not b) (s ∷ filter (λ r. not (same_text r.client c)) rows)
     (filter (λ r. not (same_text r.client c)) rows))
     (pick (same_text s.client c) yes (λ f. f)))
   where
     yes : same_text s.client c ≡ true → same_text s.client c ≡ false
     yes t = absurd
-        (true≢false (sym h.0 ∙ ap (λ (k : Text). found_in s (lookup (is_text k) (texts ls)))
-        (same_text-is s.client c t) ∙ ap (found_in s) (lookup-texts c ls ∙ none)))
+        (true≢false (sym h.0 ∙ ap (λ (k : Text). found_in s (lookup (is_text k) lists))
+        (same_text-is s.client c t) ∙ ap (found_in s) none))
 
 -- where the client has no list, it has nothing
-pub none-had : (c : Text) (ls : ClientLists) (old : AtEntries) → lookup (finds c) ls ≡ None
-    → AreListed old (texts ls) → all_rows old
-    ≡ filter (λ s. not (same_text s.client c)) (all_rows old)
-none-had c ls old none h = staying c ls (all_rows old) none (each_listed old (texts ls) h)
-
-others : (a b o : Bool) → a ≡ b → (if a then false else o) ≡ (not b && o)
-others true b o e = ap (λ v. not v && o) e
-others false b o e = ap (λ v. not v && o) e
-
--- the list of a client went, of lists in order
-pub record IsListOut (c : Text) (ls : ClientLists) (v : List FilterKey) (out : ClientLists) : Type 0
-  where
-    pub sorted : IsStrictlySortedBy key_cmp (keys_of ls)
-    pub found : lookup (finds c) ls ≡ Some v
-    pub gone : out ≡ remove_entry (finds c) ls
+pub none-had : (c : Text) (lists : FilterLists) (old : AtEntries)
+    → lookup (is_text c) lists ≡ None → AreListed old lists
+    → all_rows old ≡ filter (λ s. not (same_text s.client c)) (all_rows old)
+none-had c lists old none h = staying c lists (all_rows old) none (each_listed old lists h)
 
 -- a client's list goes, and all its subscriptions leave the tree: the two agree again
-pub listed-gone : (c : Text) (ls : ClientLists) (v : List FilterKey) (out : ClientLists)
-    (old new : AtEntries) → IsListOut c ls v out → AreListed old (texts ls) → AreEntries new
+pub listed-gone : (c : Text) (old new : AtEntries) (before after : FilterLists)
+    → AreListed old before → AreEntries new
     → all_rows new ≡ filter (λ s. not (same_text s.client c)) (all_rows old)
-    → AreListed new (texts out)
-listed-gone c ls v out old new is h kept rows =
-    let same : ls ≡ set_value (finds c) ls v = sym (set_value_same (finds c) ls v is.found) in
-    record {
-      kept = kept;
-      listed = λ s.
-          list-out c ls is.sorted v v ls is.found same out is.gone s
-          ∙ others (is_text s.client c) (same_text s.client c) (is_listed (texts ls) s)
-          (is_text-is s.client c)
-          ∙ ap (λ b. not (same_text s.client c) && b) (h.listed s)
-          ∙ sym (any-left (λ k sh f. same_text k c) s (all_rows old))
-          ∙ ap (list_any (same_key s)) (sym rows);
-      live = live-out c ls v ls out same is.gone h.live;
-    }
+    → ListsOthers c before after → AreListed new after
+listed-gone c old new before after h kept rows others = record {
+  kept = kept;
+  listed = λ s. others s ∙ ap (λ b. not (same_text s.client c) && b) (h.listed s)
+      ∙ sym (any-left (λ k sh f. same_text k c) s (all_rows old))
+      ∙ ap (list_any (same_key s)) (sym rows);
+}

@@ -29,12 +29,12 @@ use Rattle.mq_subscriptions.proofs.InTurn.{map-with_one, map-put_last}
 use Rattle.mq_world.proofs.OrderLemmas.{same_text-is, same_text-itself}
 use Rattle.mq_world.proofs.Splits.{some_same, Split, split, Put, put_gap, put_found, none_passes}
 use Rattle.mq_subscriptions.proofs.Cuts.{cut-any, absent-any, cut-joined, cut-turned, cut-left}
-use Rattle.mq_subscriptions.proofs.Cuts.{cut-out, live-set, live-out, absent-left, absent-turned}
-use Rattle.mq_subscriptions.proofs.Cuts.{put-joined, live-put}
+use Rattle.mq_subscriptions.proofs.Cuts.{cut-out, absent-left, absent-turned}
+use Rattle.mq_subscriptions.proofs.Cuts.{put-joined}
 use Rattle.mq_subscriptions.proofs.TextMaps.{is_text-is, text-apart, lookup-texts, set_value-texts}
 use Rattle.mq_subscriptions.proofs.TextMaps.{remove_entry-texts, insert_entry-texts, ordered-texts}
 use Rattle.mq_world.specs.World as world
-use Rattle.mq_world.specs.declared.options.SubscriptionOptions as held
+use Rattle.mq_world.specs.declared.options.SubscriptionOptions.{SubscriptionOptions}
 use Rattle.std.proofs.lemmas.List.{append-nil}
 use Rattle.std.proofs.Math.Bool.{or-false}
 
@@ -148,16 +148,8 @@ module _ (bs : Text) (es : List (Key × List Member)) (live : NoneEmpty (texts e
     key : cut.key ≡ bs
     key = key_is bs cut.key cut.passes
 
-    pub group-live : is_empty w ≡ false → NoneEmpty (texts new)
-    group-live h = subst (λ (l : List (Text × List Member)). NoneEmpty l) (sym set_is)
-        (live-set (rows_of []) IsLive (is_text bs)
-        (record { client = []; share = Some bs; filter = []; options = nothing })
-        (group_unlike [] bs
-        (record { client = []; share = Some bs; filter = []; options = nothing }) refl)
-        (texts es) live v cut w h)
-
     module _ (f c : Text) where
-      pub group-joined : (o : held.SubscriptionOptions) → w ≡ with_one (has_client c) (c, o) v
+      pub group-joined : (o : SubscriptionOptions) → w ≡ with_one (has_client c) (c, o) v
           → SameInTurn (group_rows f (texts new))
           (upsert (row (Some bs) f (c, o)) (group_rows f (texts es)))
       group-joined o h =
@@ -228,17 +220,6 @@ module _ (bs : Text) (es : List (Key × List Member)) (live : NoneEmpty (texts e
           ∙ cut-out (rows_of f) IsLive (is_text bs) s0 (group_unlike f bs s0 refl) (texts es) live v
           cut w (ap (map (row (Some cut.key) f)) (empty_is w e)) (left_here h)
 
-    pub gone-live : (out : List (Key × List Member)) → out ≡ remove_entry (finds bs) new
-        → NoneEmpty (texts out)
-    gone-live out o =
-        subst (λ (l : List (Text × List Member)). NoneEmpty l)
-        (sym (ap texts o ∙ remove_entry-texts bs new ∙ ap (remove_entry (is_text bs)) set_is))
-        (live-out (rows_of []) IsLive (is_text bs)
-        (record { client = []; share = Some bs; filter = []; options = nothing })
-        (group_unlike [] bs
-        (record { client = []; share = Some bs; filter = []; options = nothing }) refl)
-        (texts es) live v cut w)
-
   pub group-absent_any : (f c : Text) → lookup (finds bs) es ≡ None
       → false ≡ list_any (has_key c (Some bs) f) (group_rows f (texts es))
   group-absent_any f c none =
@@ -275,7 +256,7 @@ module _ (bs : Text) (es : List (Key × List Member)) (live : NoneEmpty (texts e
     put_is = ap texts put ∙ insert_entry-texts es name one
         ∙ ap (λ k. insert_entry text_cmp (texts es) k one) named
 
-    pub group-added : (f c : Text) (o : held.SubscriptionOptions)
+    pub group-added : (f c : Text) (o : SubscriptionOptions)
         → one ≡ with_one (has_client c) (c, o) []
         → SameInTurn (group_rows f (texts new))
         (upsert (row (Some bs) f (c, o)) (group_rows f (texts es)))
@@ -285,15 +266,6 @@ module _ (bs : Text) (es : List (Key × List Member)) (live : NoneEmpty (texts e
         (upsert s (group_rows f (texts es)))) (sym put_is)
         (put-joined (rows_of f) IsLive text_cmp bs s (group_unlike f bs s refl) (texts es) live gap
         one (same-is _ _ (ap (map (row (Some bs) f)) h)))
-
-    pub added-live : is_empty one ≡ false → NoneEmpty (texts new)
-    added-live h =
-        subst (λ (l : List (Text × List Member)). NoneEmpty l) (sym put_is)
-        (live-put (rows_of []) IsLive text_cmp bs
-        (record { client = []; share = Some bs; filter = []; options = nothing })
-        (group_unlike [] bs
-        (record { client = []; share = Some bs; filter = []; options = nothing }) refl)
-        (texts es) live gap one h)
 
 -- ## Clients in their own name
 
@@ -316,12 +288,12 @@ own_unlike : (f bs : Text) (s : Subscription) → s.share ≡ None → s.client 
 own_unlike f bs s own client m live h =
     (unlike-own s (row None f m) own (ap (same_text m.0) client ∙ other_text bs m.0 h), tt)
 
-module _ (f bs : Text) (o : held.SubscriptionOptions) (es : List (Key × held.SubscriptionOptions))
+module _ (f bs : Text) (o : SubscriptionOptions) (es : List (Key × SubscriptionOptions))
     (sorted : IsStrictlySortedBy key_cmp (keys_of es)) where
   abbrev mine : Subscription
   mine = row None f (bs, o)
 
-  replaced : (v : held.SubscriptionOptions) → lookup (is_text bs) (texts es) ≡ Some v
+  replaced : (v : SubscriptionOptions) → lookup (is_text bs) (texts es) ≡ Some v
       → SameInTurn (flat_map (one_row f) (insert_entry text_cmp (texts es) bs o))
       (upsert mine (flat_map (one_row f) (texts es)))
   replaced v found =
@@ -337,12 +309,12 @@ module _ (f bs : Text) (o : held.SubscriptionOptions) (es : List (Key × held.Su
       (cut-joined (one_row f) Any (is_text bs) mine (own_unlike f bs mine refl refl) (texts es)
       (all_any (texts es)) v cut o (same-is _ _ here))
     where
-      put_found' : (u : held.SubscriptionOptions) → lookup (is_text bs) (texts es) ≡ Some u
+      put_found' : (u : SubscriptionOptions) → lookup (is_text bs) (texts es) ≡ Some u
           → insert_entry text_cmp (texts es) bs o ≡ set_value (is_text bs) (texts es) o
       put_found' u h = put_found text_cmp nat_list_cmp_total bs (texts es) u o
           (ordered-texts es sorted) h
 
-      taken : (u : held.SubscriptionOptions) → upsert mine (one_row f (bs, u)) ≡ one_row f (bs, o)
+      taken : (u : SubscriptionOptions) → upsert mine (one_row f (bs, u)) ≡ one_row f (bs, o)
       taken u = ap (λ b. (if b then mine else row None f (bs, u))
           ∷ (if b || false then [] else mine ∷ []))
           (own_key None f bs (bs, u) ∙ same_text-itself bs)
@@ -354,13 +326,13 @@ module _ (f bs : Text) (o : held.SubscriptionOptions) (es : List (Key × held.Su
       (texts es) (all_any (texts es)) (put_gap text_cmp bs (texts es) none) o
       (same-itself (mine ∷ []))
 
-  pub unshared-joined : (name : Key) (new : List (Key × held.SubscriptionOptions))
+  pub unshared-joined : (name : Key) (new : List (Key × SubscriptionOptions))
       → rc_str_bytes name ≡ bs → new ≡ insert_entry key_cmp es name o
       → SameInTurn (unshared_rows f (texts new)) (upsert mine (unshared_rows f (texts es)))
   unshared-joined name new named put =
       let put_is : texts new ≡ insert_entry text_cmp (texts es) bs o = ap texts put
       ∙ insert_entry-texts es name o ∙ ap (λ k. insert_entry text_cmp (texts es) k o) named in
-      let P : Option held.SubscriptionOptions → Type 0 = λ r. lookup (is_text bs) (texts es) ≡ r
+      let P : Option SubscriptionOptions → Type 0 = λ r. lookup (is_text bs) (texts es) ≡ r
       → SameInTurn (flat_map (one_row f) (insert_entry text_cmp (texts es) bs o))
       (upsert mine (flat_map (one_row f) (texts es))) in
       let flat = (elim (lookup (is_text bs) (texts es)) as P [ Some v ↦ replaced v | None ↦ added ])
@@ -372,7 +344,7 @@ module _ (f bs : Text) (o : held.SubscriptionOptions) (es : List (Key × held.Su
       (sym (rows-flat f (texts es))) flat)
 
 -- where entries are in order, to remove a client's entry is to filter out its own row
-pub unshared-left : (f bs : Text) (es new : List (Key × held.SubscriptionOptions))
+pub unshared-left : (f bs : Text) (es new : List (Key × SubscriptionOptions))
     → IsStrictlySortedBy key_cmp (keys_of es) → new ≡ remove_entry (finds bs) es
     → unshared_rows f (texts new) ≡ filter (λ x. not (has_key bs None f x))
     (unshared_rows f (texts es))
@@ -383,7 +355,7 @@ unshared-left f bs es new sorted out =
     (λ e. not (has_key bs None f (row None f (rc_str_bytes e.0, e.1))))
     (λ e. ap not (finds-is bs e.0 ∙ sym (own_key None f bs (rc_str_bytes e.0, e.1)))) es)
     ∙ ap (unshared_rows f)
-    (map-filter (λ (e : Key × held.SubscriptionOptions). (rc_str_bytes e.0, e.1))
+    (map-filter (λ (e : Key × SubscriptionOptions). (rc_str_bytes e.0, e.1))
     (λ m. not (has_key bs None f (row None f m))) es)
     ∙ map-filter (row None f) (λ x. not (has_key bs None f x)) (texts es)
 
@@ -405,7 +377,7 @@ all_shared f s e (g ∷ gs) = all_append (Unlike s) (rows_of f g) (group_rows f 
     go [] = tt
     go (m ∷ ms) = (unlike-share s (row (Some g.0) f m) (ap (same_share (Some g.0)) e), go ms)
 
-module _ (f c : Text) (o : held.SubscriptionOptions) where
+module _ (f c : Text) (o : SubscriptionOptions) where
   pub at-joined-unshared : (d new : List Member) (gs : List (Text × List Member))
       → SameInTurn (unshared_rows f new) (upsert (row None f (c, o)) (unshared_rows f d))
       → SameInTurn (unshared_rows f new ++ group_rows f gs)
@@ -487,14 +459,14 @@ pub is_here : (f : Text) (d : List Member) (gs : GroupList) (a : At)
 is_here f d gs a e = subst AreHere e (here-is f d gs)
 
 -- a client is found among the entries just where it has an own row at the filter
-pub unshared-any : (f bs : Text) (es : List (Key × held.SubscriptionOptions))
+pub unshared-any : (f bs : Text) (es : List (Key × SubscriptionOptions))
     → is_some (lookup (finds bs) es) ≡ list_any (has_key bs None f) (unshared_rows f (texts es))
 unshared-any f bs es =
     is_some-lookup (finds bs) es
     ∙ list_any-same (λ e. finds bs e.0)
     (λ e. has_key bs None f (row None f (rc_str_bytes e.0, e.1)))
     (λ e. finds-is bs e.0 ∙ sym (own_key None f bs (rc_str_bytes e.0, e.1))) es
-    ∙ sym (list_any-map (λ (e : Key × held.SubscriptionOptions). (rc_str_bytes e.0, e.1))
+    ∙ sym (list_any-map (λ (e : Key × SubscriptionOptions). (rc_str_bytes e.0, e.1))
     (λ m. has_key bs None f (row None f m)) es)
     ∙ sym (list_any-map (row None f) (has_key bs None f) (texts es))
 
@@ -529,14 +501,14 @@ none-is f ((k, m ∷ ms) ∷ gs) live b h =
 none-is f ((k, []) ∷ gs) live b h = absurd (true≢false live.0)
 
 -- nothing is here where no client subscribes in its own name and no group has a member
-pub empty-is : (f : Text) (d : List (Key × held.SubscriptionOptions)) (gs : GroupList) (b : Bool)
+pub empty-is : (f : Text) (d : List (Key × SubscriptionOptions)) (gs : GroupList) (b : Bool)
     → b ≡ is_empty (group_rows f gs) → length d ≡ 0
     → b ≡ is_empty (unshared_rows f (texts d) ++ group_rows f gs)
 empty-is f [] gs b h e = h
 empty-is f (m ∷ d) gs b h e = absurd (let no : suc (length d) ≡ 0 = e in cc)
 
 -- where some client subscribes in its own name, the filter has a row
-pub not_empty : (f : Text) (d : List (Key × held.SubscriptionOptions))
+pub not_empty : (f : Text) (d : List (Key × SubscriptionOptions))
     (gs : List (Text × List Member)) → (length d ≡ 0 → ⊥)
     → false ≡ is_empty (unshared_rows f (texts d) ++ group_rows f gs)
 not_empty f [] gs h = absurd (h refl)

@@ -1,5 +1,6 @@
 -- Maps by text, seen through the bytes of their keys.
-use Rattle.std.proofs.Common.{◌≡◌, true, false, cond, List, [], ◌∷◌, Some, refl, sym, ap, ◌∙◌}
+use Rattle.std.proofs.Common.{◌≡◌, Bool, true, false, cond, List, [], ◌∷◌, Some, refl, sym, ap}
+use Rattle.std.proofs.Common.{◌∙◌, subst}
 use Rattle.std.specs.Rc.{rc_str_bytes}
 use Rattle.std.specs.declared.cmp.Ordering.TheVariants.{Less, Equal, Greater}
 use Rattle.std.specs.Ordering.{is_eq, match_ordering}
@@ -12,7 +13,7 @@ use Rattle.std.proofs.lemmas.Map.Text.{is_eq-slice_cmp}
 use Rattle.std.proofs.lemmas.Slice.Eq.{bytes_eq-Decides}
 use Rattle.mq_world.specs.Keys.{Key, key_cmp}
 use Rattle.mq_world.specs.Lists.{Text, same_text, text_cmp}
-use Rattle.mq_subscriptions.specs.Filters.{is_text}
+use Rattle.mq_subscriptions.specs.Filters.{is_text, is_empty, NoneEmpty}
 use Rattle.mq_subscriptions.specs.Views.{texts}
 use Rattle.mq_world.proofs.OrderLemmas.{equal_from}
 use Rattle.mq_sessions.proofs.SessionLemmas.{finds}
@@ -58,6 +59,21 @@ module _ {X : Type 0} where
         | false ↦ ap (λ l. (rc_str_bytes e.0, e.1) ∷ l) rest
       ]
 
+  -- to remove an entry with another value is to remove it as it was
+  pub removed-set : (test : Key → Bool) (es : List (Key × X)) (w : X)
+      → remove_entry test (set_value test es w) ≡ remove_entry test es
+  removed-set test [] w = refl
+  removed-set test (e ∷ es) w =
+      let rest = removed-set test es w in
+      let P : Bool → Type 0 = λ b. test e.0 ≡ b
+      → remove_entry test (cond b ((e.0, w) ∷ es) (e ∷ set_value test es w))
+      ≡ cond b es (e ∷ remove_entry test es) in
+      (elim (test e.0) as P [
+        | true ↦ λ t. ap (λ b. cond b es ((e.0, w) ∷ remove_entry test es)) t
+        | false ↦ λ f. ap (λ b. cond b (set_value test es w)
+            (e ∷ remove_entry test (set_value test es w))) f ∙ ap (λ l. e ∷ l) rest
+      ]) refl
+
   pub insert_entry-texts : (es : List (Key × X)) (k : Key) (v : X)
       → texts (insert_entry key_cmp es k v) ≡ insert_entry text_cmp (texts es) (rc_str_bytes k) v
   insert_entry-texts [] k v = refl
@@ -84,3 +100,56 @@ module _ {X : Type 0} where
   unfolding IsStrictlySortedBy
   ordered-texts [] s = tt
   ordered-texts (e ∷ es) s = (below-texts e.0 es s.0, ordered-texts es s.1)
+
+-- ## No list is empty
+
+module _ {X : Type 0} where
+  -- no list is empty after one became another that isn't
+  pub live-set : (test : Key → Bool) (es : List (Key × List X)) (w : List X)
+      (new : List (Key × List X)) → new ≡ set_value test es w → is_empty w ≡ false
+      → NoneEmpty (texts es) → NoneEmpty (texts new)
+  live-set test es w new set h live =
+      subst (λ (l : List (Key × List X)). NoneEmpty (texts l)) (sym set) (go es live)
+    where
+      go : (ds : List (Key × List X)) → NoneEmpty (texts ds)
+          → NoneEmpty (texts (set_value test ds w))
+      go [] a = tt
+      go (d ∷ ds) a =
+          let rest = go ds a.1 in
+          elim (test d.0)
+          as (λ b. NoneEmpty (texts (cond b ((d.0, w) ∷ ds) (d ∷ set_value test ds w))))
+          [ true ↦ (h, a.1) | false ↦ (a.0, rest) ]
+
+  -- nor after one was removed
+  pub live-out : (test : Key → Bool) (es out : List (Key × List X)) → out ≡ remove_entry test es
+      → NoneEmpty (texts es) → NoneEmpty (texts out)
+  live-out test es out gone live =
+      subst (λ (l : List (Key × List X)). NoneEmpty (texts l)) (sym gone) (go es live)
+    where
+      go : (ds : List (Key × List X)) → NoneEmpty (texts ds)
+          → NoneEmpty (texts (remove_entry test ds))
+      go [] a = tt
+      go (d ∷ ds) a =
+          let rest = go ds a.1 in
+          elim (test d.0) as (λ b. NoneEmpty (texts (cond b ds (d ∷ remove_entry test ds))))
+          [ true ↦ a.1 | false ↦ (a.0, rest) ]
+
+  -- nor after one that isn't was inserted
+  pub live-put : (es : List (Key × List X)) (k : Key) (w : List X) (new : List (Key × List X))
+      → new ≡ insert_entry key_cmp es k w → is_empty w ≡ false
+      → NoneEmpty (texts es) → NoneEmpty (texts new)
+  live-put es k w new put h live =
+      subst (λ (l : List (Key × List X)). NoneEmpty (texts l)) (sym put) (go es live)
+    where
+      go : (ds : List (Key × List X)) → NoneEmpty (texts ds)
+          → NoneEmpty (texts (insert_entry key_cmp ds k w))
+      go [] a = (h, tt)
+      go (d ∷ ds) a =
+          let rest = go ds a.1 in
+          elim (key_cmp k d.0)
+          as (λ r. NoneEmpty (texts (match_ordering r ((k, w) ∷ d ∷ ds) ((d.0, w) ∷ ds)
+          (d ∷ insert_entry key_cmp ds k w)))) [
+            | Less ↦ (h, a)
+            | Equal ↦ (h, a.1)
+            | Greater ↦ (a.0, rest)
+          ]

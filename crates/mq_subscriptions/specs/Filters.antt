@@ -62,9 +62,9 @@ GroupList = List (Text × List Member)
 abbrev pub group_rows : Text → GroupList → List Subscription
 group_rows f groups = flat_map (λ g. map (row (Some g.0) f) g.1) groups
 
--- no group is without a member
-abbrev pub NoneEmpty : GroupList → Type 0
-NoneEmpty groups = AllByRecursion (λ g. is_empty g.1 ≡ false) groups
+-- each text has something in its list
+abbrev pub NoneEmpty : {X : Type 0} → List (Text × List X) → Type 0
+NoneEmpty lists = AllByRecursion (λ l. is_empty l.1 ≡ false) lists
 
 -- ## All filters
 
@@ -126,13 +126,16 @@ has_filter_key s key = same_share s.share key.0 && same_text s.filter key.1
 abbrev pub is_in_list : List FilterKey → Subscription → Bool
 is_in_list list s = list_any (has_filter_key s) list
 
+-- what each client has, by its text
+abbrev pub FilterLists : Type 0
+FilterLists = List (Text × List FilterKey)
+
 -- the subscription is in the list of its client
-abbrev pub is_listed : List (Text × List FilterKey) → Subscription → Bool
+abbrev pub is_listed : FilterLists → Subscription → Bool
 is_listed lists s = option_map_or (λ list. is_in_list list s) (lookup (is_text s.client) lists)
     false
 
 -- the tree, with a list for each client that has subscriptions: in it stand those, and no others
-pub record AreListed (es : AtEntries) (lists : List (Text × List FilterKey)) : Type 0 where
+pub record AreListed (es : AtEntries) (lists : FilterLists) : Type 0 where
   pub kept : AreEntries es
   pub listed : (s : Subscription) → is_listed lists s ≡ list_any (same_key s) (all_rows es)
-  pub live : AllByRecursion (λ l. is_empty l.1 ≡ false) lists

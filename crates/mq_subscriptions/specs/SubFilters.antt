@@ -1,14 +1,11 @@
 -- Words of the contracts: what a client asks for, and what stands in its list.
-use Rattle.std.specs.Prelude.{◌≡◌, Bool, true, false, ◌&&◌, ◌||◌, not, List, string_bytes}
+use Rattle.std.specs.Prelude.{◌≡◌, Bool, true, ◌&&◌, ◌||◌, not, string_bytes}
 use Rattle.std.specs.Option.{option_map}
-use Rattle.std.specs.List.{AllByRecursion}
 use Rattle.mq_topic.specs.Texts.{is_subscription, share_of, filter_part}
 use Rattle.mq_topic.specs.declared.subscription.SubFilter.{SubFilter}
-use Rattle.mq_world.specs.Keys.{Key}
-use Rattle.mq_world.specs.Lists.{Text}
+use Rattle.mq_world.specs.Lists.{Text, same_text}
 use Rattle.mq_world.specs.World.{Subscription, has_key}
-use Rattle.mq_subscriptions.specs.Filters.{FilterKey, row, is_empty, is_listed}
-use Rattle.mq_subscriptions.specs.Views.{texts}
+use Rattle.mq_subscriptions.specs.Filters.{FilterKey, FilterLists, row, is_listed}
 use Rattle.mq_world.specs.declared.options.SubscriptionOptions.{SubscriptionOptions}
 
 -- the text is a valid subscription's, and this is its share name and its filter
@@ -30,19 +27,16 @@ has_sub_filter client sub_filter s =
 abbrev pub has_asked : Text → Text → Subscription → Bool
 has_asked client text s = has_key client (share_of text) (filter_part text) s
 
-abbrev pub ClientLists : Type 0
-ClientLists = List (Key × List FilterKey)
-
 -- the lists have the key too, or no longer
-abbrev pub ListsMore : Text → FilterKey → ClientLists → ClientLists → Type 0
+abbrev pub ListsMore : Text → FilterKey → FilterLists → FilterLists → Type 0
 ListsMore client key old new =
-    (s : Subscription) → is_listed (texts new) s
-    ≡ (has_key client key.0 key.1 s || is_listed (texts old) s)
+    (s : Subscription) → is_listed new s ≡ (has_key client key.0 key.1 s || is_listed old s)
 
-abbrev pub ListsLess : Text → FilterKey → ClientLists → ClientLists → Type 0
+abbrev pub ListsLess : Text → FilterKey → FilterLists → FilterLists → Type 0
 ListsLess client key old new =
-    (s : Subscription) → is_listed (texts new) s
-    ≡ (not (has_key client key.0 key.1 s) && is_listed (texts old) s)
+    (s : Subscription) → is_listed new s ≡ (not (has_key client key.0 key.1 s) && is_listed old s)
 
-abbrev pub NoneEmptied : ClientLists → Type 0
-NoneEmptied lists = AllByRecursion (λ l. is_empty l.1 ≡ false) (texts lists)
+-- they have what other clients had
+abbrev pub ListsOthers : Text → FilterLists → FilterLists → Type 0
+ListsOthers client old new =
+    (s : Subscription) → is_listed new s ≡ (not (same_text s.client client) && is_listed old s)

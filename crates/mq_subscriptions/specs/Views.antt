@@ -1,14 +1,17 @@
 -- What the subscriptions' own values show.
 use Rattle.std.specs.Prelude.{List, map, ◌++◌}
 use Rattle.std.specs.Rc.{rc_str_bytes}
-use Rattle.mq_world.specs.Keys.{Key}
+use Rattle.std.specs.List.Sorted.{IsStrictlySortedBy}
+use Rattle.std.specs.Map.{keys_of}
+use Rattle.mq_world.specs.Keys.{Key, key_cmp}
 use Rattle.mq_world.specs.Lists.{Text}
 use Rattle.mq_subscriptions.specs.Filters.{Member, At, GroupList, unshared_rows, group_rows}
-use Rattle.mq_subscriptions.specs.Filters.{NoneEmpty}
+use Rattle.mq_subscriptions.specs.Filters.{NoneEmpty, FilterLists}
 use Rattle.mq_subscriptions.specs.Filters.{AreListed, SubscriptionsView, entries_view}
 use Rattle.mq_subscriptions.specs.declared.subscriptions.group.Group.TheInside as in_group
 use Rattle.mq_subscriptions.specs.declared.subscriptions.share_groups.ShareGroups.TheInside as in_groups
 use Rattle.mq_subscriptions.specs.declared.subscriptions.filter_entry.FilterEntry.TheInside as in_at
+use Rattle.mq_subscriptions.specs.declared.subscriptions.client_lists.ClientLists.TheInside as in_lists
 use Rattle.mq_subscriptions.specs.declared.subscriptions.Subscriptions.TheInside as in_subscriptions
 
 -- the entries of a map from texts
@@ -31,8 +34,16 @@ at_of inside = record {
       ++ group_rows inside.filter.value inside.groups;
 }
 
+abbrev pub lists_of : in_lists.Inside → FilterLists
+lists_of inside = texts inside.by_client.entries
+
+-- each client that is there has something, and the clients are in order
+pub record AreClientLists (inside : in_lists.Inside) : Type 0 where
+  pub live : NoneEmpty (lists_of inside)
+  pub ordered : IsStrictlySortedBy key_cmp (keys_of inside.by_client.entries)
+
 abbrev pub subscriptions_of : in_subscriptions.Inside → SubscriptionsView
 subscriptions_of inside = entries_view inside.tree
 
 abbrev pub AreSubscriptions : in_subscriptions.Inside → Type 0
-AreSubscriptions inside = AreListed inside.tree (texts inside.lists.entries)
+AreSubscriptions inside = AreListed inside.tree inside.lists

@@ -8,20 +8,19 @@ ghost use Rattle.mq_tree.specs.Entries.{capped, is_key};
 ghost use Rattle.mq_tree.specs.Prefixes.{prefixes, met_by_name};
 ghost use Rattle.mq_world.specs.Lists.{same_text};
 ghost use Rattle.mq_world.specs.World.{has_key};
-ghost use Rattle.mq_subscriptions.specs.SubFilters.{sub_filter_row, has_sub_filter, has_asked, ListsMore};
-ghost use Rattle.mq_subscriptions.specs.SubFilters.{ListsLess, NoneEmptied, IsAskedBy};
+ghost use Rattle.mq_subscriptions.specs.SubFilters.{sub_filter_row, has_sub_filter, has_asked, IsAskedBy};
 ghost use Rattle.mq_subscriptions.specs.Matches.{lent_values, rows_found};
 ghost use Rattle.mq_world.specs.Copies.{filter_matches};
 ghost use Rattle.mq_world.specs.Retained.{asks_for_retained};
 ghost use Rattle.mq_world.specs.Turns.{SameInTurn};
 ghost use Rattle.mq_subscriptions.specs.Turns.{upsert, put_last, all_turned, turn_of};
 ghost use Rattle.mq_subscriptions.specs.Filters.{AreKeys, all_rows, AreEntries, AreAtFilters};
-ghost use Rattle.mq_subscriptions.specs.Filters.{is_empty, is_in_list, is_text, text_key};
+ghost use Rattle.mq_subscriptions.specs.Filters.{is_in_list};
 ghost use Rattle.std.specs.Map.{lookup};
 ghost use Rattle.mq_topic.specs.Levels.{levels};
-ghost use Rattle.mq_subscriptions.specs.Views.{texts};
 
 pub(crate) mod client_filters;
+pub(crate) mod client_lists;
 pub(crate) mod filter_entry;
 pub(crate) mod group;
 pub(crate) mod matches;
@@ -29,13 +28,13 @@ pub(crate) mod share_groups;
 pub(crate) mod turn;
 
 use crate::subscriptions::client_filters::ClientFilters;
+use crate::subscriptions::client_lists::ClientLists;
 use crate::subscriptions::filter_entry::FilterEntry;
 use crate::subscriptions::turn::Turn;
 use mq_topic::{SubFilter, TopicFilter, TopicName};
 use mq_tree::{LevelTree, Steps};
 use mq_world::SubscriptionOptions;
 use std::alloc::{AllocError, Global};
-use std::collections::BTreeMap;
 use std::marker::Model;
 use std::rc::{Rc, RcStr};
 
@@ -44,7 +43,7 @@ use std::rc::{Rc, RcStr};
 pub struct Subscriptions {
     alloc: Global,
     tree: LevelTree<FilterEntry>,
-    lists: BTreeMap<RcStr, ClientFilters>,
+    lists: ClientLists,
 }
 
 impl Model for Subscriptions {
@@ -66,7 +65,7 @@ impl Subscriptions {
         Subscriptions {
             alloc,
             tree: LevelTree::new(alloc),
-            lists: BTreeMap::new(alloc),
+            lists: ClientLists::new(alloc),
         }
     }
 
@@ -119,12 +118,12 @@ impl Subscriptions {
             insert_in(&mut self.tree, self.alloc, client, sub_filter, options)?;
             return Ok(());
         }
-        list_insert(&mut self.lists, self.alloc, client, text)?;
+        self.lists.insert(self.alloc, client, text)?;
         // Where there is no memory, nothing is left beside the tree that leads to no subscription.
         match insert_in(&mut self.tree, self.alloc, client, sub_filter, options) {
             Ok(()) => Ok(()),
             Err(fault) => {
-                list_remove(&mut self.lists, id, text);
+                self.lists.remove(id, text);
                 Err(fault)
             }
         }
@@ -139,7 +138,7 @@ impl Subscriptions {
         ensures keys { AreKeys self.new }
     {
         let existed = remove_in(&mut self.tree, client, text);
-        list_remove(&mut self.lists, client, text);
+        self.lists.remove(client, text);
         existed
     }
 
@@ -149,9 +148,7 @@ impl Subscriptions {
             self.old.rows }
         ensures keys { AreKeys self.new }
     {
-        // Learns that the clients are in order.
-        let _count = self.lists.len();
-        let Some(filters) = self.lists.remove(client) else {
+        let Some(filters) = self.lists.take(client) else {
             return;
         };
         remove_all(&mut self.tree, &filters, client);
@@ -287,67 +284,5 @@ fn remove_all(tree: &mut LevelTree<FilterEntry>, filters: &ClientFilters, client
 {
     for text in filters.texts() {
         let _ = remove_in(tree, client, text.as_str());
-    }
-}
-
-fn list_insert(
-    lists: &mut BTreeMap<RcStr, ClientFilters>,
-    alloc: Global,
-    client: &RcStr,
-    text: &str,
-) -> Result<(), AllocError>
-    requires live { NoneEmptied lists.old.entries }
-    requires valid { IsTrue (is_subscription text.now) }
-    ensures ok { OnOk result (ListsMore (rc_str_bytes client.now) (text_key text.now)
-        lists.old.entries lists.new.entries) }
-    ensures err { OnErr result (lists.new.entries ≡ lists.old.entries) }
-    ensures live { NoneEmptied lists.new.entries }
-{
-    match lists.get_mut(client) {
-        Some(filters) => {
-            filters.insert(alloc, text)?;
-            Ok(())
-        }
-        None => list_insert_first(lists, alloc, client, text),
-    }
-}
-
-// A client's first one, made aside.
-fn list_insert_first(
-    lists: &mut BTreeMap<RcStr, ClientFilters>,
-    alloc: Global,
-    client: &RcStr,
-    text: &str,
-) -> Result<(), AllocError>
-    requires live { NoneEmptied lists.old.entries }
-    requires valid { IsTrue (is_subscription text.now) }
-    requires absent { lookup (is_text (rc_str_bytes client.now)) (texts lists.old.entries) ≡ None }
-    ensures ok { OnOk result (ListsMore (rc_str_bytes client.now) (text_key text.now)
-        lists.old.entries lists.new.entries) }
-    ensures err { OnErr result (lists.new.entries ≡ lists.old.entries) }
-    ensures live { NoneEmptied lists.new.entries }
-{
-    let _count = lists.len();
-    let client = client.clone()?;
-    let mut filters = ClientFilters::new(alloc);
-    filters.insert(alloc, text)?;
-    lists.insert(client, filters)?;
-    Ok(())
-}
-
-// Takes a subscription out, and with its last one the client.
-fn list_remove(lists: &mut BTreeMap<RcStr, ClientFilters>, client: &str, text: &str)
-    requires live { NoneEmptied lists.old.entries }
-    requires valid { IsTrue (is_subscription text.now) }
-    ensures rest { ListsLess client.now (text_key text.now) lists.old.entries lists.new.entries }
-    ensures live { NoneEmptied lists.new.entries }
-{
-    let _count = lists.len();
-    let Some(filters) = lists.get_mut(client) else {
-        return;
-    };
-    filters.remove(text);
-    if filters.is_empty() {
-        let _ = lists.remove(client);
     }
 }

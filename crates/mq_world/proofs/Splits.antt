@@ -106,13 +106,6 @@ none_passes test (e ∷ es) h =
 
 -- a look-up among entries with one more, or another, in the middle
 module _ {K X : Type 0} (test : K → Bool) where
-  pub lookup-front : (front back : List (K × X)) (k : K) (v w : X) → test k ≡ false
-      → lookup test (front ++ (k, v) ∷ back) ≡ lookup test (front ++ (k, w) ∷ back)
-  lookup-front [] back k v w h = ap (λ b. cond b (Some v) (lookup test back)) h
-      ∙ sym (ap (λ b. cond b (Some w) (lookup test back)) h)
-  lookup-front (e ∷ front) back k v w h =
-      ap (cond (test e.0) (Some e.1)) (lookup-front front back k v w h)
-
   pub lookup-more : (front back : List (K × X)) (k : K) (v : X) → test k ≡ false
       → lookup test (front ++ (k, v) ∷ back) ≡ lookup test (front ++ back)
   lookup-more [] back k v h = ap (λ b. cond b (Some v) (lookup test back)) h

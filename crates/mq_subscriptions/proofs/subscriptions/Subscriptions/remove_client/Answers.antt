@@ -8,23 +8,23 @@ use Rattle.mq_subscriptions.proofs.subscriptions.Subscriptions.remove_client.Goa
 
 pub invariant_of-self-2 : goal.invariant_of-self-2
 invariant_of-self-2 c =
-    let found = sym c.remove.ensures.value ∙ c.in-Some.is in
-    listed-gone c.args.client.now c.self.inside.lists.entries c.in-Some.filters
-    c.remove.new.self.entries c.self.inside.tree c.remove_all.new.tree (record {
-      sorted = c.len-count.ensures.ordered;
-      found = found;
-      gone = c.remove.ensures.entries;
-    }) c.self.invariant c.remove_all.ensures.kept
+    listed-gone c.args.client.now c.self.inside.tree c.remove_all.new.tree c.self.inside.lists
+    c.take.new.self c.self.invariant c.remove_all.ensures.kept
     (c.remove_all.ensures.rows
-    ∙ all-leave c.args.client.now c.self.inside.lists.entries c.in-Some.filters c.self.inside.tree
-    found
-    c.self.invariant)
+    ∙ all-leave c.args.client.now c.self.inside.lists c.in-Some.filters c.self.inside.tree
+    (sym c.take.ensures.taken ∙ c.in-Some.is) c.self.invariant) c.take.ensures.rest
+
+pub invariant_of-self : goal.invariant_of-self
+invariant_of-self c =
+    listed-gone c.args.client.now c.self.inside.tree c.self.inside.tree c.self.inside.lists
+    c.take.new.self c.self.invariant c.self.invariant.kept
+    (none-had c.args.client.now c.self.inside.lists c.self.inside.tree
+    (sym c.take.ensures.taken ∙ c.in_default.is) c.self.invariant) c.take.ensures.rest
 
 pub returns-clause-rows : goal.returns-clause-rows
 returns-clause-rows c =
-    c.remove_all.ensures.rows ∙ all-leave c.args.client.now c.self.inside.lists.entries
-    c.in-Some.filters
-    c.self.inside.tree (sym c.remove.ensures.value ∙ c.in-Some.is) c.self.invariant
+    c.remove_all.ensures.rows ∙ all-leave c.args.client.now c.self.inside.lists c.in-Some.filters
+    c.self.inside.tree (sym c.take.ensures.taken ∙ c.in-Some.is) c.self.invariant
     ∙ ap (λ (k : SubscriptionsView). filter (λ s. not (same_text s.client c.args.client.now))
     k.rows)
     c.self.view_is
@@ -34,8 +34,8 @@ returns-clause-keys c = kept-keys c.remove_all.new.tree c.remove_all.ensures.kep
 
 pub returns-in_default-clause-rows : goal.returns-in_default-clause-rows
 returns-in_default-clause-rows c =
-    none-had c.args.client.now c.self.inside.lists.entries c.self.inside.tree
-    (sym c.remove.ensures.value ∙ c.in_default.is) c.self.invariant
+    none-had c.args.client.now c.self.inside.lists c.self.inside.tree
+    (sym c.take.ensures.taken ∙ c.in_default.is) c.self.invariant
     ∙ ap (λ (k : SubscriptionsView). filter (λ s. not (same_text s.client c.args.client.now))
     k.rows)
     c.self.view_is

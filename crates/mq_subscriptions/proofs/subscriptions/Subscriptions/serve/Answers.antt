@@ -5,7 +5,6 @@ use Rattle.mq_world.specs.Turns.{SameInTurn}
 use Rattle.mq_subscriptions.specs.Turns.{put_last}
 use Rattle.mq_subscriptions.specs.Filters.{At, AtEntries, SubscriptionsView, AreKeys}
 use Rattle.mq_subscriptions.specs.Filters.{all_rows, entries_view}
-use Rattle.mq_subscriptions.specs.Views.{texts}
 use Rattle.mq_subscriptions.proofs.AnyLemmas.{listed-turned}
 use Rattle.mq_subscriptions.proofs.AtLemmas.{nothing}
 use Rattle.mq_subscriptions.proofs.InTurn.{same-is, same-then}
@@ -29,8 +28,8 @@ invariant_of-self-2 c =
     let found = sym c.get_mut.ensures.value ∙ ap option_copied_mut c.in-Some.is in
     let set = rw c.in-Some.is at (c.get_mut.follows.holds w) in
     let is = found_filter f c.self.inside.tree kept.each kept.ordered v found in
-    listed-turned s c.self.inside.tree (c.get_mut.follows.lender w)
-    (texts c.self.inside.lists.entries) c.self.invariant
+    listed-turned s c.self.inside.tree (c.get_mut.follows.lender w) c.self.inside.lists
+    c.self.invariant
     (set-kept f c.self.inside.tree kept.each kept.ordered v found w c.serve.ensures.filter
     c.serve.ensures.here (c.get_mut.follows.lender w) set
     (turned-live (has_key c.args.client.now (Some c.args.share.now) v.filter) w.rows v.rows

@@ -11,8 +11,8 @@ use Rattle.mq_subscriptions.specs.Edits.{GroupJoins}
 use Rattle.mq_subscriptions.specs.Filters.{Member, GroupList, NoneEmpty, is_text, has_client}
 use Rattle.mq_subscriptions.specs.Filters.{is_empty}
 use Rattle.mq_subscriptions.specs.Views.{texts}
-use Rattle.mq_subscriptions.proofs.AtLemmas.{group-joined, group-live, with_one-live}
-use Rattle.mq_subscriptions.proofs.TextMaps.{lookup-texts}
+use Rattle.mq_subscriptions.proofs.AtLemmas.{group-joined, with_one-live}
+use Rattle.mq_subscriptions.proofs.TextMaps.{lookup-texts, live-set}
 use Rattle.mq_subscriptions.proofs.subscriptions.share_groups.ShareGroups.insert.Goals as goal
 
 pub returns-in_err-insert-in-Some-clause-err : goal.returns-in_err-insert-in-Some-clause-err
@@ -52,12 +52,11 @@ returns-in_ok-insert-in-Some-clause-ok c =
 pub invariant_of-self-in-Some : goal.invariant_of-self-in-Some
 invariant_of-self-in-Some c =
     let w = c.insert.new.self in
-    group-live c.args.share.now c.self.inside.by_share.entries c.self.invariant
-    c.get_mut.ensures.ordered c.in-Some.group.now w (c.get_mut.follows.lender w).entries
-    (sym c.get_mut.ensures.value ∙ ap option_copied_mut c.in-Some.is) (c.get_mut.follows.holds w).0
+    live-set (finds c.args.share.now) c.self.inside.by_share.entries w
+    (c.get_mut.follows.lender w).entries (c.get_mut.follows.holds w).0
     (ap is_empty c.in_ok-insert-in-Some.ensures.ok
     ∙ with_one-live (has_client (rc_str_bytes c.args.client))
-    (rc_str_bytes c.args.client, c.args.options) c.in-Some.group.now)
+    (rc_str_bytes c.args.client, c.args.options) c.in-Some.group.now) c.self.invariant
 
 pub returns-in-None-clause-ok : goal.returns-in-None-clause-ok
 returns-in-None-clause-ok c =

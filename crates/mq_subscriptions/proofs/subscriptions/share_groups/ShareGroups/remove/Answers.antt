@@ -1,10 +1,12 @@
 use Rattle.std.proofs.Common.{◌∙◌, sym, ap, subst}
 use Rattle.std.specs.Option.{option_copied_mut}
+use Rattle.std.specs.Map.{remove_entry}
+use Rattle.mq_sessions.proofs.SessionLemmas.{finds}
 use Rattle.mq_subscriptions.specs.Edits.{GroupLeaves}
 use Rattle.mq_subscriptions.specs.Filters.{GroupList, group_rows}
 use Rattle.mq_subscriptions.specs.Views.{texts}
-use Rattle.mq_subscriptions.proofs.AtLemmas.{group-left, group-gone, gone-live, group-live}
-use Rattle.mq_subscriptions.proofs.AtLemmas.{group-absent_left}
+use Rattle.mq_subscriptions.proofs.AtLemmas.{group-left, group-gone, group-absent_left}
+use Rattle.mq_subscriptions.proofs.TextMaps.{live-set, live-out, removed-set}
 use Rattle.mq_subscriptions.proofs.subscriptions.share_groups.ShareGroups.remove.Goals as goal
 
 pub returns-in_default : goal.returns-in_default
@@ -34,11 +36,12 @@ returns-then-is_empty c =
 
 pub invariant_of-self-then-is_empty : goal.invariant_of-self-then-is_empty
 invariant_of-self-then-is_empty c =
-    let w = c.remove.new.self in
-    gone-live c.args.share.now c.self.inside.by_share.entries c.self.invariant
-    c.get_mut.ensures.ordered c.in-Some.group.now w (c.get_mut.follows.lender w).entries
-    (sym c.get_mut.ensures.value ∙ ap option_copied_mut c.in-Some.is) (c.get_mut.follows.holds w).0
-    c.remove-then-is_empty.new.self.entries c.remove-then-is_empty.ensures.entries
+    let test = finds c.args.share.now in
+    let es = c.self.inside.by_share.entries in
+    live-out test es c.remove-then-is_empty.new.self.entries
+    (c.remove-then-is_empty.ensures.entries
+    ∙ ap (remove_entry test) (c.get_mut.follows.holds c.remove.new.self).0
+    ∙ removed-set test es c.remove.new.self) c.self.invariant
 
 pub returns-else-is_empty : goal.returns-else-is_empty
 returns-else-is_empty c =
@@ -53,7 +56,6 @@ returns-else-is_empty c =
 pub invariant_of-self-else-is_empty : goal.invariant_of-self-else-is_empty
 invariant_of-self-else-is_empty c =
     let w = c.remove.new.self in
-    group-live c.args.share.now c.self.inside.by_share.entries c.self.invariant
-    c.get_mut.ensures.ordered c.in-Some.group.now w (c.get_mut.follows.lender w).entries
-    (sym c.get_mut.ensures.value ∙ ap option_copied_mut c.in-Some.is) (c.get_mut.follows.holds w).0
-    (sym c.is_empty.ensures ∙ c.if-is_empty.false)
+    live-set (finds c.args.share.now) c.self.inside.by_share.entries w
+    (c.get_mut.follows.lender w).entries (c.get_mut.follows.holds w).0
+    (sym c.is_empty.ensures ∙ c.if-is_empty.false) c.self.invariant

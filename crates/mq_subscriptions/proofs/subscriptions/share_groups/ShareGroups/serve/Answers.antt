@@ -3,8 +3,10 @@ use Rattle.std.specs.Option.{option_copied_mut}
 use Rattle.mq_subscriptions.specs.Edits.{GroupTurns}
 use Rattle.mq_subscriptions.specs.Filters.{GroupList, group_rows, has_client, is_empty}
 use Rattle.mq_subscriptions.specs.Views.{texts}
+use Rattle.mq_sessions.proofs.SessionLemmas.{finds}
 use Rattle.mq_subscriptions.proofs.InTurn.{same-is, same-then}
-use Rattle.mq_subscriptions.proofs.AtLemmas.{group-turned, group-live, group-absent_turned}
+use Rattle.mq_subscriptions.proofs.TextMaps.{live-set}
+use Rattle.mq_subscriptions.proofs.AtLemmas.{group-turned, group-absent_turned}
 use Rattle.mq_subscriptions.proofs.AtLemmas.{put_last-live, found_live}
 use Rattle.mq_subscriptions.proofs.subscriptions.share_groups.ShareGroups.serve.Goals as goal
 
@@ -22,12 +24,11 @@ pub invariant_of-self-2 : goal.invariant_of-self-2
 invariant_of-self-2 c =
     let w = c.serve.new.self in
     let found = sym c.get_mut.ensures.value ∙ ap option_copied_mut c.in-Some.is in
-    group-live c.args.share.now c.self.inside.by_share.entries c.self.invariant
-    c.get_mut.ensures.ordered c.in-Some.group.now w (c.get_mut.follows.lender w).entries
-    found (c.get_mut.follows.holds w).0
+    live-set (finds c.args.share.now) c.self.inside.by_share.entries w
+    (c.get_mut.follows.lender w).entries (c.get_mut.follows.holds w).0
     (ap is_empty c.serve.ensures ∙ put_last-live (has_client c.args.client.now) c.in-Some.group.now
     (found_live c.args.share.now c.self.inside.by_share.entries c.self.invariant
-    c.in-Some.group.now found))
+    c.in-Some.group.now found)) c.self.invariant
 
 pub returns-in_default : goal.returns-in_default
 returns-in_default c =
