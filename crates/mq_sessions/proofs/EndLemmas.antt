@@ -28,7 +28,7 @@ use Rattle.mq_sessions.specs.Queue.{QueueItem, queue_copies, edit_session, queue
 use Rattle.mq_sessions.specs.Ends.{end_of, ends_so, IsListed, AreListed, IsFirstLive, AreIndexed}
 use Rattle.mq_sessions.specs.Ends.{Entry, views_of}
 use Rattle.mq_sessions.specs.Views.{session_in, view_of}
-use Rattle.mq_sessions.specs.declared.sessions.session.Session as kept
+use Rattle.mq_sessions.specs.declared.sessions.session.Session as code
 use Rattle.mq_sessions.proofs.SessionLemmas.{apart, finds, finds-is}
 use Rattle.mq_sessions.proofs.ReachedLemmas.{all_mapped}
 
@@ -98,7 +98,7 @@ none-found end bs (e ∷ es) h =
     (ends-other (end, bs) (session_in e) (sym (finds-is bs e.0) ∙ h.0))
     ∙ none-found end bs es h.1
 
-abbrev pub ends_then : ℕ → kept.Session → Bool
+abbrev pub ends_then : ℕ → code.Session → Bool
 ends_then end u = option_map_or (λ e. e == end) (end_of (view_of u)) false
 
 -- a look-up tells whether a session ends so

@@ -23,7 +23,7 @@ use Rattle.mq_sessions.specs.Ends.{Entry, end_of, IsListed, AreListed, KeepsId, 
 use Rattle.mq_sessions.specs.Views.{kept_id, presence_of, session_at, session_in, view_of}
 use Rattle.mq_sessions.specs.declared.sessions.session.Presence.{Presence}
 use Rattle.mq_sessions.specs.declared.sessions.session.Presence.TheVariants.{Connected, Away}
-use Rattle.mq_sessions.specs.declared.sessions.session.Session as kept
+use Rattle.mq_sessions.specs.declared.sessions.session.Session as code
 use Rattle.mq_sessions.proofs.SessionLemmas.{finds, found-is}
 
 key-same : (k y : Key) → key_cmp k y ≡ Equal → rc_str_bytes k ≡ rc_str_bytes y
@@ -32,7 +32,7 @@ key-same k y h =
     (sym (is_eq-slice_cmp (rc_str_bytes k) (rc_str_bytes y)) ∙ ap is_eq h)
 
 -- the one that a look-up finds is edited
-all-edited : (P Q : Entry → Type 0) (test : Key → Bool) (u v : kept.Session) (es : List Entry)
+all-edited : (P Q : Entry → Type 0) (test : Key → Bool) (u v : code.Session) (es : List Entry)
     → lookup test es ≡ Some u
     → ((k : Key) → test k ≡ true → P (k, u) → Q (k, v)) → ((e : Entry) → P e → Q e)
     → AllByRecursion P es → AllByRecursion Q (set_value test es v)
@@ -55,7 +55,7 @@ all-removed P test (e ∷ es) h =
     elim (test e.0) as (λ b. AllByRecursion P (cond b es (e ∷ remove_entry test es)))
     [ true ↦ h.1 | false ↦ (h.0, all-removed P test es h.1) ]
 
-all-inserted : (P : Entry → Type 0) (k : Key) (v : kept.Session) → P (k, v)
+all-inserted : (P : Entry → Type 0) (k : Key) (v : code.Session) → P (k, v)
     → ((y : Key) → key_cmp k y ≡ Equal → P (y, v)) → (es : List Entry) → AllByRecursion P es
     → AllByRecursion P (insert_entry key_cmp es k v)
 all-inserted P k v here same [] h = (here, tt)
@@ -72,7 +72,7 @@ all-inserted P k v here same (e ∷ es) h =
 -- ## The ids that are kept
 
 -- an entry that keeps its client's id joins those that do
-pub ids-put : (k : Key) (v : kept.Session) (es : List Entry) → KeepsId (k, v) → KeepIds es
+pub ids-put : (k : Key) (v : code.Session) (es : List Entry) → KeepsId (k, v) → KeepIds es
     → KeepIds (insert_entry key_cmp es k v)
 ids-put k v es here h =
     all-inserted KeepsId k v here
@@ -84,7 +84,7 @@ pub ids-removed : (test : Key → Bool) (es : List Entry) → KeepIds es
 ids-removed test es h = all-removed KeepsId test es h
 
 -- an edit of a session that leaves its kept id as it was
-pub ids-edited : (test : Key → Bool) (u v : kept.Session) (es : List Entry)
+pub ids-edited : (test : Key → Bool) (u v : code.Session) (es : List Entry)
     → lookup test es ≡ Some u → kept_id v ≡ kept_id u → KeepIds es
     → KeepIds (set_value test es v)
 ids-edited test u v es found same h =
@@ -93,7 +93,7 @@ ids-edited test u v es found same h =
     (λ e keeps. keeps) h
 
 -- an edit after which a session keeps no id, as when its client leaves
-pub ids-left : (test : Key → Bool) (u v : kept.Session) (es : List Entry)
+pub ids-left : (test : Key → Bool) (u v : code.Session) (es : List Entry)
     → lookup test es ≡ Some u → kept_id v ≡ None → KeepIds es → KeepIds (set_value test es v)
 ids-left test u v es found gone h =
     all-edited KeepsId KeepsId test u v es found
@@ -124,21 +124,21 @@ abbrev is_present_in : Presence → Bool
 is_present_in p = elim (presence_of p) [ world.Connected ↦ true | world.Away end ↦ false ]
 
 -- the id that was kept is that of the client
-kept-is : (id : Text) (k : Key) (u : kept.Session) → Some id ≡ kept_id u → KeepsId (k, u)
+kept-is : (id : Text) (k : Key) (u : code.Session) → Some id ≡ kept_id u → KeepsId (k, u)
     → id ≡ rc_str_bytes k
 kept-is id k u is keeps =
     let P : Option Text → Type 0 = λ o. IfSome o (λ i. i ≡ rc_str_bytes k) in
     subst P (sym is) keeps
 
 -- the session that a look-up finds, whose client has this id and leaves, and when it ends then
-pub record IsLeft (test : Key → Bool) (u v : kept.Session) (es : List Entry) (id : Text)
+pub record IsLeft (test : Key → Bool) (u v : code.Session) (es : List Entry) (id : Text)
     (end : Option ℕ) : Type 0 where
   pub found : lookup test es ≡ Some u
   pub id_is : Some id ≡ kept_id u
   pub end_is : end ≡ end_of (view_of v)
 
 -- a connection ends: once the session's end, if it has one, is in the index, the ends of all are
-pub listed-left : (test : Key → Bool) (u v : kept.Session) (es : List Entry) (id : Text)
+pub listed-left : (test : Key → Bool) (u v : code.Session) (es : List Entry) (id : Text)
     (end : Option ℕ) (dues : List Due) → IsLeft test u v es id end → KeepIds es
     → AreListed dues (views_of es) → IfSome end (λ at. is_in (at, id) dues ≡ true)
     → AreListed dues (views_of (set_value test es v))
@@ -154,7 +154,7 @@ listed-left test u v es id end dues left keep listed there =
     (all_of_shown (IsListed dues) es listed)))
 
 -- a session that keeps an id is of a client that is connected
-pub present-kept : (id : Text) (u : kept.Session) → Some id ≡ kept_id u
+pub present-kept : (id : Text) (u : code.Session) → Some id ≡ kept_id u
     → is_present (view_of u) ≡ true
 present-kept id u =
     elim u.presence as (λ p. Some id ≡ id_in p → is_present_in p ≡ true) [
@@ -163,7 +163,7 @@ present-kept id u =
     ]
 
 -- a session that keeps no id is of a client that is away
-pub absent-kept : (u : kept.Session) → None ≡ kept_id u → is_present (view_of u) ≡ false
+pub absent-kept : (u : code.Session) → None ≡ kept_id u → is_present (view_of u) ≡ false
 absent-kept u =
     elim u.presence as (λ p. None ≡ id_in p → is_present_in p ≡ false) [
       | Connected i ↦ λ h. cc
@@ -171,14 +171,14 @@ absent-kept u =
     ]
 
 -- a client is connected if the session that a look-up finds says so
-pub connected-found : (id : Text) (u : kept.Session) (es : List Entry)
+pub connected-found : (id : Text) (u : code.Session) (es : List Entry)
     → lookup (finds id) es ≡ Some u → is_connected (views_of es) id ≡ is_present (view_of u)
 connected-found id u es found =
     ap (λ s. option_map_or is_present s false)
     (sym (found-is id es) ∙ ap (option_map (session_at id)) found)
 
 -- one is connected no more
-pub connected-left : (test : Key → Bool) (u v : kept.Session) (es : List Entry)
+pub connected-left : (test : Key → Bool) (u v : code.Session) (es : List Entry)
     → lookup test es ≡ Some u → is_present (view_of u) ≡ true → is_present (view_of v) ≡ false
     → length (connected (views_of (set_value test es v))) + 1 ≡ length (connected (views_of es))
 connected-left test u v [] found here gone = cc
@@ -209,7 +209,7 @@ connected-left test u v (e ∷ es) found here gone =
     longer s ss = omega arith
 
 -- an entry that is put makes at most one more
-pub length-put : (k : Key) (v : kept.Session) (es : List Entry)
+pub length-put : (k : Key) (v : code.Session) (es : List Entry)
     → length (insert_entry key_cmp es k v) ≤ length es + 1
 length-put k v [] = omega arith
 length-put k v (e ∷ es) =

@@ -8,7 +8,7 @@ use Rattle.mq_world.specs.Keys.{Key}
 use Rattle.mq_world.specs.World.{Session, Connected, Away}
 use Rattle.mq_world.specs.Sessions.{connected}
 use Rattle.mq_sessions.specs.Views.{kept_id, session_in}
-use Rattle.mq_sessions.specs.declared.sessions.session.Session as kept
+use Rattle.mq_sessions.specs.declared.sessions.session.Session as code
 
 -- when the session ends, if its client is away and it ends
 abbrev pub end_of : Session → Option ℕ
@@ -37,7 +37,7 @@ pub record AreIndexed (index : Dues) (sessions : List Session) : Type 0 where
   pub room : length index.entries + length (connected sessions) ≤ index.room
 
 abbrev pub Entry : Type 0
-Entry = Key × kept.Session
+Entry = Key × code.Session
 
 -- an id that a session keeps is that of its client
 abbrev pub KeepsId : Entry → Type 0

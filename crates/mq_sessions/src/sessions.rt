@@ -15,8 +15,8 @@ ghost use Rattle.mq_sessions.specs.Near.{AllReached};
 ghost use Rattle.mq_world.specs.Views.{copy_of};
 ghost use Rattle.mq_sessions.specs.Views.{session_in};
 
+mod disconnection;
 mod ends;
-mod leaving;
 pub(crate) mod queue;
 pub(crate) mod queued;
 mod resume;
@@ -25,8 +25,8 @@ pub(crate) mod session;
 use crate::clock::Clock;
 use crate::sessions::queued::QueuedCopy;
 use crate::sessions::session::Session;
+use disconnection::disconnect;
 use ends::{add_end, make_room, settle};
-use leaving::disconnect;
 use mq_ends::Ends;
 use mq_world::Delivery;
 use std::alloc::{AllocError, Global};
@@ -185,10 +185,10 @@ impl Sessions {
             → self.new ≡ map (left_by clock.moment id.now) self.old }
         ensures away { is_connected self.old id.now ≡ false → self.new ≡ self.old }
     {
-        let Some(leaving) = disconnect(&mut self.by_id, id, clock) else {
+        let Some(disconnection) = disconnect(&mut self.by_id, id, clock) else {
             return;
         };
-        add_end(&mut self.ends, leaving.end, leaving.id);
+        add_end(&mut self.ends, disconnection.end, disconnection.id);
         settle(&mut self.ends, &self.by_id);
     }
 

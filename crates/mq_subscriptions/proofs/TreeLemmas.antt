@@ -68,11 +68,11 @@ insert_order k es v s =
 abbrev rows_of : List Text × At → List Subscription
 rows_of e = e.1.rows
 
-abbrev Kept : List Text × At → Type 0
-Kept e = IsEntry e.0 e.1
+abbrev Fits : List Text × At → Type 0
+Fits e = IsEntry e.0 e.1
 
 -- what stands at another key is to another filter
-other_filter : (f : Text) (e : List Text × At) → Kept e → is_key (levels f) e.0 ≡ false
+other_filter : (f : Text) (e : List Text × At) → Fits e → is_key (levels f) e.0 ≡ false
     → same_text e.1.filter f ≡ false
 other_filter f e h n =
     let P : Bool → Type 0 = λ b. same_text e.1.filter f ≡ b → same_text e.1.filter f ≡ false in
@@ -84,7 +84,7 @@ other_filter f e h n =
       | false ↦ λ t. t
     ]) refl
 
-tree_unlike : (f : Text) (s : Subscription) → s.filter ≡ f → (e : List Text × At) → Kept e
+tree_unlike : (f : Text) (s : Subscription) → s.filter ≡ f → (e : List Text × At) → Fits e
     → is_key (levels f) e.0 ≡ false → AllByRecursion (Unlike s) (rows_of e)
 tree_unlike f s own e h n = go e.1.rows h.here
   where
@@ -112,8 +112,8 @@ module _ (f : Text) (es : AtEntries) (kept : AllEntries es) where
     abbrev any_one : Subscription
     any_one = record { client = []; share = None; filter = f; options = nothing }
 
-    here : Kept (cut.key, v)
-    here = live_at rows_of Kept (is_key k) any_one (tree_unlike f any_one refl) es kept v cut
+    here : Fits (cut.key, v)
+    here = live_at rows_of Fits (is_key k) any_one (tree_unlike f any_one refl) es kept v cut
 
     -- it is to the filter
     pub found_filter : v.filter ≡ f
@@ -123,7 +123,7 @@ module _ (f : Text) (es : AtEntries) (kept : AllEntries es) where
     found_live = here.live
 
     module _ (w : At) (same : w.filter ≡ v.filter) (w_here : AreHere w) where
-      w_kept : is_empty w.rows ≡ false → Kept (cut.key, w)
+      w_kept : is_empty w.rows ≡ false → Fits (cut.key, w)
       w_kept live = record {
         key_is = key ∙ ap levels (sym (same ∙ found_filter));
         here = w_here;
@@ -134,7 +134,7 @@ module _ (f : Text) (es : AtEntries) (kept : AllEntries es) where
           → AreEntries new
       set-kept new set live = record {
         each = subst (λ (l : AtEntries). AllEntries l) (sym set)
-            (live-set rows_of Kept (is_key k) any_one (tree_unlike f any_one refl) es kept v cut w
+            (live-set rows_of Fits (is_key k) any_one (tree_unlike f any_one refl) es kept v cut w
             (w_kept live));
         ordered = subst (λ (l : AtEntries). AreInOrder l) (sym set) (set_order k es w sorted);
       }
@@ -146,7 +146,7 @@ module _ (f : Text) (es : AtEntries) (kept : AllEntries es) where
           ∙ ap (remove_entry (is_key k)) set in
           record {
             each = subst (λ (l : AtEntries). AllEntries l) (sym is)
-                (live-out rows_of Kept (is_key k) any_one (tree_unlike f any_one refl) es kept v cut
+                (live-out rows_of Fits (is_key k) any_one (tree_unlike f any_one refl) es kept v cut
                 w);
             ordered = subst (λ (l : AtEntries). AreInOrder l) (sym is)
                 (remove_order k (set_value (is_key k) es w) (set_order k es w sorted));
@@ -157,7 +157,7 @@ module _ (f : Text) (es : AtEntries) (kept : AllEntries es) where
             → SameInTurn (all_rows new) (upsert s (all_rows es))
         tree-joined s own h =
             subst (λ (l : AtEntries). SameInTurn (all_rows l) (upsert s (all_rows es))) (sym set)
-            (cut-joined rows_of Kept (is_key k) s (tree_unlike f s own) es kept v cut w h)
+            (cut-joined rows_of Fits (is_key k) s (tree_unlike f s own) es kept v cut w h)
 
         pub tree-turned : (s : Subscription) → s.filter ≡ f
             → SameInTurn w.rows (put_last (same_key s) v.rows)
@@ -165,13 +165,13 @@ module _ (f : Text) (es : AtEntries) (kept : AllEntries es) where
         tree-turned s own h =
             subst (λ (l : AtEntries). SameInTurn (all_rows l) (put_last (same_key s) (all_rows es)))
             (sym set)
-            (cut-turned rows_of Kept (is_key k) s (tree_unlike f s own) es kept v cut w h)
+            (cut-turned rows_of Fits (is_key k) s (tree_unlike f s own) es kept v cut w h)
 
         pub tree-left : (s : Subscription) → s.filter ≡ f
             → w.rows ≡ filter (λ x. not (same_key s x)) v.rows
             → all_rows new ≡ filter (λ x. not (same_key s x)) (all_rows es)
         tree-left s own h = ap all_rows set
-            ∙ cut-left rows_of Kept (is_key k) s (tree_unlike f s own) es kept v cut w h
+            ∙ cut-left rows_of Fits (is_key k) s (tree_unlike f s own) es kept v cut w h
 
         pub tree-gone : (s : Subscription) (out : AtEntries) → s.filter ≡ f
             → out ≡ remove_entry (is_key k) new → is_empty w.rows ≡ true
@@ -179,7 +179,7 @@ module _ (f : Text) (es : AtEntries) (kept : AllEntries es) where
             → all_rows out ≡ filter (λ x. not (same_key s x)) (all_rows es)
         tree-gone s out own o e h =
             ap all_rows (o ∙ ap (remove_entry (is_key k)) set)
-            ∙ cut-out rows_of Kept (is_key k) s (tree_unlike f s own) es kept v cut w
+            ∙ cut-out rows_of Fits (is_key k) s (tree_unlike f s own) es kept v cut w
             (empty_is w.rows e) h
           where
             empty_is : (xs : List Subscription) → is_empty xs ≡ true → xs ≡ []
@@ -189,23 +189,23 @@ module _ (f : Text) (es : AtEntries) (kept : AllEntries es) where
     -- a test that no subscription to another filter passes
     pub tree-any : (s : Subscription) → s.filter ≡ f
         → list_any (same_key s) v.rows ≡ list_any (same_key s) (all_rows es)
-    tree-any s own = sym (cut-any rows_of Kept (is_key k) s (tree_unlike f s own) es kept v cut)
+    tree-any s own = sym (cut-any rows_of Fits (is_key k) s (tree_unlike f s own) es kept v cut)
 
   module _ (none : lookup (is_key k) es ≡ None) where
     pub tree-absent_left : (s : Subscription) → s.filter ≡ f
         → all_rows es ≡ filter (λ x. not (same_key s x)) (all_rows es)
-    tree-absent_left s own = absent-left rows_of Kept (is_key k) s (tree_unlike f s own) es kept
+    tree-absent_left s own = absent-left rows_of Fits (is_key k) s (tree_unlike f s own) es kept
         (none_passes (is_key k) es none)
 
     pub tree-absent_turned : (s : Subscription) → s.filter ≡ f
         → SameInTurn (all_rows es) (put_last (same_key s) (all_rows es))
-    tree-absent_turned s own = absent-turned rows_of Kept (is_key k) s (tree_unlike f s own) es kept
+    tree-absent_turned s own = absent-turned rows_of Fits (is_key k) s (tree_unlike f s own) es kept
         (none_passes (is_key k) es none)
 
     pub tree-absent_any : (s : Subscription) → s.filter ≡ f
         → false ≡ list_any (same_key s) (all_rows es)
     tree-absent_any s own =
-        sym (absent-any rows_of Kept (is_key k) s (tree_unlike f s own) es kept
+        sym (absent-any rows_of Fits (is_key k) s (tree_unlike f s own) es kept
         (none_passes (is_key k) es none))
 
     gap : Put level_order k es
@@ -217,7 +217,7 @@ module _ (f : Text) (es : AtEntries) (kept : AllEntries es) where
           → SameInTurn (all_rows new) (upsert s (all_rows es))
       tree-added s own h =
           subst (λ (l : AtEntries). SameInTurn (all_rows l) (upsert s (all_rows es))) (sym put)
-          (put-joined rows_of Kept level_order k s (tree_unlike f s own) es kept gap one h)
+          (put-joined rows_of Fits level_order k s (tree_unlike f s own) es kept gap one h)
 
       pub tree-added_kept : AreInOrder es → is_empty one.rows ≡ false → AreEntries new
       tree-added_kept sorted live =
@@ -225,7 +225,7 @@ module _ (f : Text) (es : AtEntries) (kept : AllEntries es) where
           record { client = []; share = None; filter = f; options = nothing } in
           record {
             each = subst (λ (l : AtEntries). AllEntries l) (sym put)
-                (live-put rows_of Kept level_order k any_one (tree_unlike f any_one refl) es kept
+                (live-put rows_of Fits level_order k any_one (tree_unlike f any_one refl) es kept
                 gap one (record {
                   key_is = ap levels (sym own_filter);
                   here = one_here;

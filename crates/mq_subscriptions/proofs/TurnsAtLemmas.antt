@@ -21,7 +21,7 @@ use Rattle.mq_subscriptions.specs.Turns.{turns_of}
 use Rattle.mq_subscriptions.proofs.TextMaps.{is_text-is, text-apart}
 use Rattle.mq_world.proofs.OrderLemmas.{same_text-is, same_text-itself}
 use Rattle.mq_subscriptions.specs.declared.subscriptions.turn.Turn.{Turn}
-use Rattle.mq_world.specs.declared.options.SubscriptionOptions as held
+use Rattle.mq_world.specs.declared.options.SubscriptionOptions.{SubscriptionOptions}
 
 abbrev pub able : Option (List AclRow) → List Session → Text → Text → Bool
 able access sessions name client = is_reader access sessions name client
@@ -177,7 +177,7 @@ turns-more access sessions name f share old new t g gs e named is =
     ∙ ap (λ o. if same_text g.0 share then turns_of o else []) (sym is))
 
 -- equal clients, share names and filters make the same row, with the same options
-pub same_turn : (client client' : Text) (share share' f f' : Text) (o : held.SubscriptionOptions)
+pub same_turn : (client client' : Text) (share share' f f' : Text) (o : SubscriptionOptions)
     → client ≡ client' → share ≡ share' → f ≡ f'
     → row (Some share) f (client, o) ≡ row (Some share') f' (client', o)
 same_turn client client' share share' f f' o e1 e2 e3 = rw (e1, e2, e3) refl

@@ -12,7 +12,7 @@ use std::rc::RcStr;
 
 /// An end, and the id of the client whose session ends then.
 #[derive(Drop)]
-pub(crate) struct Leaving {
+pub(crate) struct Disconnection {
     pub(crate) id: RcStr,
     pub(crate) end: Option<u64>,
 }
@@ -22,7 +22,7 @@ pub(crate) fn disconnect(
     sessions: &mut BTreeMap<RcStr, Session>,
     id: &str,
     clock: Clock,
-) -> Option<Leaving>
+) -> Option<Disconnection>
     requires { KeepIds sessions.old.entries }
     ensures ids { KeepIds sessions.new.entries }
     ensures away { IfNone result (sessions.new.entries ≡ sessions.old.entries) }
@@ -32,9 +32,9 @@ pub(crate) fn disconnect(
         ≡ map (left_by clock.moment id.now) (views_of sessions.old.entries)) }
     ensures fewer { IfSome result (λ _. length (connected (views_of sessions.new.entries)) + 1
         ≡ length (connected (views_of sessions.old.entries))) }
-    ensures listed { IfSome result (λ leaving. (dues : List Due)
+    ensures listed { IfSome result (λ it. (dues : List Due)
         → AreListed dues (views_of sessions.old.entries)
-        → IfSome leaving.end (λ end. is_in (end, rc_str_bytes leaving.id) dues ≡ true)
+        → IfSome it.end (λ end. is_in (end, rc_str_bytes it.id) dues ≡ true)
         → AreListed dues (views_of sessions.new.entries)) }
 {
     let Some(session) = sessions.get_mut(id) else {
@@ -43,7 +43,7 @@ pub(crate) fn disconnect(
     let Some(id) = session.disconnect(clock) else {
         return None;
     };
-    Some(Leaving {
+    Some(Disconnection {
         id,
         end: session.end(),
     })

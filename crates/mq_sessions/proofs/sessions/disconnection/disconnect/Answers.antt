@@ -10,7 +10,7 @@ use Rattle.mq_sessions.specs.Views.{kept_id, session_at, session_in}
 use Rattle.mq_sessions.proofs.SessionLemmas.{edited-is, finds, found-is}
 use Rattle.mq_sessions.proofs.EntryLemmas.{absent-kept, connected-found, connected-left, ids-edited}
 use Rattle.mq_sessions.proofs.EntryLemmas.{ids-left, listed-left, present-kept}
-use Rattle.mq_sessions.proofs.sessions.leaving.disconnect.Goals as goal
+use Rattle.mq_sessions.proofs.sessions.disconnection.disconnect.Goals as goal
 
 abbrev away : ℕ → Session → Session
 away moment s = record s { presence = Away (session_end moment s.interval) }
