@@ -26,12 +26,23 @@ pub fn field<'a>(members: &'a Map<String, Value>, name: &str) -> Option<&'a Valu
 /// The members of an object that are left. Each name asked for is compared with the next member alone, so a name that
 /// isn't asked for in its place stays, and what comes after it seems absent. A field with a fault is read as if it were
 /// absent, or as an empty one where it must be there, and `are_faulty` tells it.
-#[derive(Drop)]
 pub struct Fields<'a> {
     alloc: Global,
     next: Option<(&'a String, &'a mut Value)>,
     rest: IterMut<'a, String, Value>,
     is_faulty: bool,
+}
+
+// So a drop of the fields is one step in the proof of who owns them.
+impl Drop for Fields<'_> {
+    fn drop(self) {
+        let Fields {
+            alloc: _,
+            next: _,
+            rest: _,
+            is_faulty: _,
+        } = self;
+    }
 }
 
 impl<'a> Fields<'a> {

@@ -191,13 +191,23 @@ fn print_report(
 
 /// Objects whose members are set again for each line of the same names: those for copies, one for closing lines with a
 /// reason, and one for faults without the line of an access list. Other lines have their own.
-#[derive(Drop)]
 pub struct Printer {
     copies: Copies,
     reason: Object,
     ghost reason_names: { IsFor reason_names (members_view reason.members.entries) },
     report: Object,
     ghost report_names: { IsFor (report_names false) (members_view report.members.entries) },
+}
+
+// So a drop of a printer is one step in the proof of who owns it, and not one for each thing inside.
+impl Drop for Printer {
+    fn drop(self) {
+        let Printer {
+            copies: _,
+            reason: _,
+            report: _,
+        } = self;
+    }
 }
 
 impl Printer {

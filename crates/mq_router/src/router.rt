@@ -44,7 +44,6 @@ use std::rc::RcStr;
 
 /// A clock, sessions, subscriptions, retained messages and an access list, or none, within limits. It keeps the allocator
 /// that it was made with.
-#[derive(Drop)]
 pub struct Router {
     alloc: Global,
     limits: Limits,
@@ -53,6 +52,21 @@ pub struct Router {
     sessions: Sessions,
     subscriptions: Subscriptions,
     retained: Retained,
+}
+
+// So a drop of a router is one step in the proof of who owns it, and not one for each thing inside.
+impl Drop for Router {
+    fn drop(self) {
+        let Router {
+            alloc: _,
+            limits: _,
+            clock: _,
+            access: _,
+            sessions: _,
+            subscriptions: _,
+            retained: _,
+        } = self;
+    }
 }
 
 impl Model for Router {
