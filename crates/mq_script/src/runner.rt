@@ -102,6 +102,31 @@ fn answer_all<R: Source, W: Sink>(
     Ok(progress.summary)
 }
 
+/// Makes room for the pieces, and answers the script.
+fn answer_script<R: Source, W: Sink>(
+    alloc: Global,
+    progress: &mut Progress,
+    reader: &mut R,
+    writer: &mut W,
+    limit: u64,
+    unbuffered: bool,
+) -> Result<Summary, RunFault>
+    requires lines { progress.old.summary.lines ≡ 0 }
+    requires line { progress.old.line.items ≡ [] }
+    ensures ending { (w : World) → Told w [] progress.old (W.taken writer.old) (W.taken writer.old)
+        → EndsOver limit w result (watch R.to_come R.failures reader.old reader.new)
+        (watch W.taken W.failures writer.old writer.new) }
+    ensures flushed { OnOk result (W.flushed writer.new ≡ W.taken writer.new) }
+    ensures unbuffered { IsTrue unbuffered → R.failures reader.new ≢ R.failures reader.old
+        → W.flushed writer.new ≡ W.taken writer.new }
+{
+    let Ok(mut piece) = vec![in alloc; 0u8; PIECE] else {
+        return Err(RunFault::Memory);
+    };
+    let piece = piece.as_mut_slice();
+    answer_all(progress, reader, writer, piece, limit, unbuffered)
+}
+
 /// Runs a script of at most `limit` bytes.
 fn run_as<R: Source, W: Sink>(
     alloc: Global,
@@ -118,12 +143,8 @@ fn run_as<R: Source, W: Sink>(
     ensures unbuffered { IsTrue unbuffered → R.failures reader.new ≢ R.failures reader.old
         → W.flushed writer.new ≡ W.taken writer.new }
 {
-    let Ok(mut piece) = vec![in alloc; 0u8; PIECE] else {
-        return Err(RunFault::Memory);
-    };
     let mut progress = Progress::new(alloc, router);
-    let piece = piece.as_mut_slice();
-    answer_all(&mut progress, reader, writer, piece, limit, unbuffered)
+    answer_script(alloc, &mut progress, reader, writer, limit, unbuffered)
 }
 
 /// Runs a script of at most `limit` bytes as `run` does: of a longer one the lines that end within its first `limit`
