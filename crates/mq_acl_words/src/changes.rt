@@ -1,5 +1,5 @@
 //! Where two lists differ, in words and as JSON.
-use crate::lines::line_value;
+use crate::json::{Datum, add_object};
 use crate::list::ListText;
 use crate::notes::notes_on;
 use crate::table::{add_cell, widened};
@@ -8,24 +8,24 @@ use mq_acl::Direction;
 use mq_questions::Way;
 use mq_report::{Difference, Group, Reason, gather};
 use mq_topic::LevelText;
-use serde_json::{Value, json};
 use std::alloc::{AllocError, Global};
 
 // A group of differences in words.
 #[derive(Drop)]
-struct ChangeRow {
+struct ChangeRow<'a> {
     who: String,
     access: &'static str,
-    topic: String,
+    topic: &'a str,
     notes: String,
-    sides: [Side; 2],
+    old: Side<'a>,
+    new: Side<'a>,
 }
 
 // What decides in one of the lists.
 #[derive(Drop)]
-struct Side {
+struct Side<'a> {
     place: String,
-    words: String,
+    words: &'a str,
 }
 
 #[derive(Clone, Copy, Drop)]
@@ -52,40 +52,42 @@ fn deciding_line(reason: Reason) -> Option<u64> {
     }
 }
 
-fn decision(alloc: Global, list: ListText<'_, '_>, reason: Reason) -> Result<Side, AllocError> {
+fn decision<'a>(
+    alloc: Global,
+    list: ListText<'a, 'a>,
+    reason: Reason,
+) -> Result<Side<'a>, AllocError> {
     let file = list.file;
     match deciding_line(reason) {
         Some(line) => Ok(Side {
             place: format!(in alloc; "{file}:{line}")?,
-            words: String::from_str(alloc, list.line(line))?,
+            words: list.line(line),
         }),
         None => Ok(Side {
             place: String::from_str(alloc, file)?,
-            words: String::from_str(alloc, "no line allows it")?,
+            words: "no line allows it",
         }),
     }
 }
 
-fn change_row(
+fn change_row<'a>(
     alloc: Global,
-    old: ListText<'_, '_>,
-    new: ListText<'_, '_>,
-    group: &Group,
-) -> Result<ChangeRow, AllocError> {
+    old: ListText<'a, 'a>,
+    new: ListText<'a, 'a>,
+    group: &'a Group,
+) -> Result<ChangeRow<'a>, AllocError> {
     let difference = &group.first;
     Ok(ChangeRow {
         who: who_text(alloc, group)?,
         access: access_words(difference.direction, difference.way),
-        topic: String::from_str(alloc, difference.topic.text())?,
+        topic: difference.topic.text(),
         notes: notes_on(alloc, difference)?,
-        sides: [
-            decision(alloc, old, difference.old_reason)?,
-            decision(alloc, new, difference.new_reason)?,
-        ],
+        old: decision(alloc, old, difference.old_reason)?,
+        new: decision(alloc, new, difference.new_reason)?,
     })
 }
 
-fn widths_of(rows: &[ChangeRow]) -> Widths {
+fn widths_of(rows: &[ChangeRow<'_>]) -> Widths {
     let mut widths = Widths {
         who: 0,
         access: 0,
@@ -95,34 +97,39 @@ fn widths_of(rows: &[ChangeRow]) -> Widths {
     for row in rows {
         widths.who = widened(widths.who, row.who.as_str());
         widths.access = widened(widths.access, row.access);
-        widths.topic = widened(widths.topic, row.topic.as_str());
-        for side in &row.sides {
-            widths.place = widened(widths.place, side.place.as_str());
-        }
+        widths.topic = widened(widths.topic, row.topic);
+        widths.place = widened(widths.place, row.old.place.as_str());
+        widths.place = widened(widths.place, row.new.place.as_str());
     }
     widths
 }
 
-fn add_row(text: &mut String, row: &ChangeRow, widths: Widths) -> Result<(), AllocError> {
+fn add_side(text: &mut String, side: &Side<'_>, width: usize) -> Result<(), AllocError> {
+    text.push_str("    ")?;
+    add_cell(text, side.place.as_str(), width)?;
+    text.push_str(side.words)?;
+    text.push('\n')
+}
+
+fn add_head(text: &mut String, row: &ChangeRow<'_>, widths: Widths) -> Result<(), AllocError> {
     add_cell(text, row.who.as_str(), widths.who)?;
     add_cell(text, row.access, widths.access)?;
     if row.notes.is_empty() {
-        text.push_str(row.topic.as_str())?;
+        text.push_str(row.topic)?;
     } else {
-        add_cell(text, row.topic.as_str(), widths.topic)?;
+        add_cell(text, row.topic, widths.topic)?;
         text.push_str(row.notes.as_str())?;
     }
-    text.push('\n')?;
-    for side in &row.sides {
-        text.push_str("    ")?;
-        add_cell(text, side.place.as_str(), widths.place)?;
-        text.push_str(side.words.as_str())?;
-        text.push('\n')?;
-    }
-    Ok(())
+    text.push('\n')
 }
 
-fn table(alloc: Global, rows: &[ChangeRow]) -> Result<String, AllocError> {
+fn add_row(text: &mut String, row: &ChangeRow<'_>, widths: Widths) -> Result<(), AllocError> {
+    add_head(text, row, widths)?;
+    add_side(text, &row.old, widths.place)?;
+    add_side(text, &row.new, widths.place)
+}
+
+fn table(alloc: Global, rows: &[ChangeRow<'_>]) -> Result<String, AllocError> {
     let widths = widths_of(rows);
     let mut text = String::new(alloc);
     for row in rows {
@@ -130,32 +137,16 @@ fn table(alloc: Global, rows: &[ChangeRow]) -> Result<String, AllocError> {
     }
     let count = rows.len();
     let plural = if count == 1 { "" } else { "s" };
-    let total = format!(in alloc; "{count} difference{plural}\n")?;
-    text.push_str(total.as_str())?;
+    writeln!(text, "{count} difference{plural}")?;
     Ok(text)
 }
 
-fn texts_value(alloc: Global, texts: &[String]) -> Result<Value, AllocError> {
-    let mut values = Vec::new(alloc);
-    for text in texts {
-        values.push(Value::try_from_str(alloc, text.as_str())?)?;
-    }
-    Ok(Value::Array(values))
-}
-
-fn user_value(alloc: Global, user: Option<&str>) -> Result<Value, AllocError> {
-    match user {
-        Some(user) => Value::try_from_str(alloc, user),
-        None => Ok(Value::Null),
-    }
-}
-
-fn add_json(
+fn add_json<'a>(
     alloc: Global,
     text: &mut String,
-    old: ListText<'_, '_>,
-    new: ListText<'_, '_>,
-    difference: &Difference,
+    old: ListText<'a, 'a>,
+    new: ListText<'a, 'a>,
+    difference: &'a Difference,
 ) -> Result<(), AllocError> {
     let access = match difference.direction {
         Direction::Reading => "read",
@@ -165,19 +156,22 @@ fn add_json(
         Way::Gained => "gained",
         Way::Lost => "lost",
     };
-    let user = user_value(alloc, difference.class.user())?;
-    let made_up = texts_value(alloc, &difference.made_up)?;
-    let old_line = line_value(alloc, old, deciding_line(difference.old_reason))?;
-    let new_line = line_value(alloc, new, deciding_line(difference.new_reason))?;
-    let client = difference.client.as_str();
-    let topic = difference.topic.text();
-    let value = json!(in alloc; {
-        "access": access, "change": change, "client": client, "made_up": made_up,
-        "new": new_line, "old": old_line, "topic": topic, "user": user
-    })?;
-    let line = value.to_string(alloc)?;
-    text.push_str(line.as_str())?;
-    text.push('\n')
+    let old_line = deciding_line(difference.old_reason);
+    let new_line = deciding_line(difference.new_reason);
+    add_object(
+        alloc,
+        text,
+        &[
+            ("access", Datum::Text(access)),
+            ("change", Datum::Text(change)),
+            ("client", Datum::Text(difference.client.as_str())),
+            ("made_up", Datum::Texts(&difference.made_up)),
+            ("new", Datum::LineIf(new, new_line)),
+            ("old", Datum::LineIf(old, old_line)),
+            ("topic", Datum::Text(difference.topic.text())),
+            ("user", Datum::TextIf(difference.class.user())),
+        ],
+    )
 }
 
 fn json_lines(
@@ -191,6 +185,19 @@ fn json_lines(
         add_json(alloc, &mut text, old, new, difference)?;
     }
     Ok(text)
+}
+
+fn words<'a>(
+    alloc: Global,
+    old: ListText<'a, 'a>,
+    new: ListText<'a, 'a>,
+    groups: &'a [Group],
+) -> Result<String, AllocError> {
+    let mut rows = Vec::new(alloc);
+    for group in groups {
+        rows.push(change_row(alloc, old, new, group)?)?;
+    }
+    table(alloc, &rows)
 }
 
 /// Where the lists differ: as a table of differences that are alike, or as JSON, one difference a line.
@@ -208,11 +215,7 @@ pub fn changes_text(
         return String::from_str(alloc, SAME);
     }
     let groups = gather(alloc, differences)?;
-    let mut rows = Vec::new(alloc);
-    for group in &groups {
-        rows.push(change_row(alloc, old, new, group)?)?;
-    }
-    table(alloc, &rows)
+    words(alloc, old, new, &groups)
 }
 
 const SAME: &str = "both lists allow the same to every client, user and topic\n";

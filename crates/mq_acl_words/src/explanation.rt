@@ -1,65 +1,81 @@
 //! Which lines decide whether a client may read and write a topic, in words and as JSON.
-use crate::lines::{line_text, line_value};
+use crate::json::{Datum, add_object};
+use crate::lines::add_line;
 use crate::list::ListText;
 use mq_report::{Reason, Verdict};
-use serde_json::json;
 use std::alloc::{AllocError, Global};
 
-fn verdict_text(
-    alloc: Global,
+fn add_grant(
+    text: &mut String,
     list: ListText<'_, '_>,
-    verb: &str,
-    verdict: Verdict,
-) -> Result<String, AllocError> {
-    match (verdict.reason, verdict.grant) {
-        (Reason::Grant(line), _) => {
-            let line = line_text(alloc, list, line)?;
-            format!(in alloc; "may {verb}: {line}\n")
+    grant: Option<u64>,
+) -> Result<(), AllocError> {
+    match grant {
+        Some(grant) => {
+            text.push_str("    would be allowed by ")?;
+            add_line(text, list, grant)
         }
-        (Reason::Deny(line), Some(grant)) => {
-            let line = line_text(alloc, list, line)?;
-            let grant = line_text(alloc, list, grant)?;
-            format!(in alloc; "may not {verb}: {line}\n    would be allowed by {grant}\n")
-        }
-        (Reason::Deny(line), None) => {
-            let line = line_text(alloc, list, line)?;
-            format!(in alloc; "may not {verb}: {line}\n")
-        }
-        (Reason::NoGrant, _) => format!(in alloc; "may not {verb}: no line allows it\n"),
+        None => Ok(()),
     }
 }
 
-fn verdict_line(
-    alloc: Global,
+fn add_words(
+    text: &mut String,
     list: ListText<'_, '_>,
     verb: &str,
     verdict: Verdict,
-) -> Result<String, AllocError> {
+) -> Result<(), AllocError> {
+    let may = if verdict.is_allowed() {
+        "may"
+    } else {
+        "may not"
+    };
+    write!(text, "{may} {verb}: ")?;
+    match verdict.reason {
+        Reason::Grant(line) => add_line(text, list, line),
+        Reason::Deny(line) => {
+            add_line(text, list, line)?;
+            add_grant(text, list, verdict.grant)
+        }
+        Reason::NoGrant => text.push_str("no line allows it\n"),
+    }
+}
+
+fn add_json<'a>(
+    alloc: Global,
+    text: &mut String,
+    list: ListText<'a, 'a>,
+    verb: &'a str,
+    verdict: Verdict,
+) -> Result<(), AllocError> {
     let deny = match verdict.reason {
         Reason::Deny(line) => Some(line),
         _ => None,
     };
-    let deny = line_value(alloc, list, deny)?;
-    let grant = line_value(alloc, list, verdict.grant)?;
-    let value = json!(in alloc; {
-        "access": verb, "allowed": verdict.is_allowed(), "deny": deny, "grant": grant
-    })?;
-    let mut line = value.to_string(alloc)?;
-    line.push('\n')?;
-    Ok(line)
+    add_object(
+        alloc,
+        text,
+        &[
+            ("access", Datum::Text(verb)),
+            ("allowed", Datum::Flag(verdict.is_allowed())),
+            ("deny", Datum::LineIf(list, deny)),
+            ("grant", Datum::LineIf(list, verdict.grant)),
+        ],
+    )
 }
 
-fn told(
+fn add_verdict(
     alloc: Global,
+    text: &mut String,
     list: ListText<'_, '_>,
     verb: &str,
     verdict: Verdict,
     json: bool,
-) -> Result<String, AllocError> {
+) -> Result<(), AllocError> {
     if json {
-        return verdict_line(alloc, list, verb, verdict);
+        return add_json(alloc, text, list, verb, verdict);
     }
-    verdict_text(alloc, list, verb, verdict)
+    add_words(text, list, verb, verdict)
 }
 
 /// The answers for reading and writing, each with the line that decides it.
@@ -70,8 +86,8 @@ pub fn explanation_text(
     writing: Verdict,
     json: bool,
 ) -> Result<String, AllocError> {
-    let mut text = told(alloc, list, "read", reading, json)?;
-    let writing = told(alloc, list, "write", writing, json)?;
-    text.push_str(writing.as_str())?;
+    let mut text = String::new(alloc);
+    add_verdict(alloc, &mut text, list, "read", reading, json)?;
+    add_verdict(alloc, &mut text, list, "write", writing, json)?;
     Ok(text)
 }

@@ -20,27 +20,26 @@ fn topic_in(line: &str) -> &str {
     }
 }
 
+fn no_such(alloc: Global, word: &str, what: &str) -> Result<String, AllocError> {
+    format!(in alloc; "{word:?} is no {what}")
+}
+
 /// What is wrong with this line, which stands without the blanks round it.
 pub fn fault_words(alloc: Global, line: &str, kind: AclKind) -> Result<String, AllocError> {
     let (keyword, rest) = split_word(line);
     match kind {
-        AclKind::Keyword => {
-            format!(in alloc; "{keyword:?} is no keyword: topic, pattern or user")
-        }
+        AclKind::Keyword => no_such(alloc, keyword, "keyword: topic, pattern or user"),
         AclKind::Access => {
             let (access, _) = split_word(rest);
-            format!(in alloc; "{access:?} is no access: read, write, readwrite or deny")
+            no_such(alloc, access, "access: read, write, readwrite or deny")
         }
-        AclKind::Topic if rest.is_empty() => format!(in alloc; "the topic is missing"),
-        AclKind::Topic => {
-            let topic = topic_in(line);
-            format!(in alloc; "{topic:?} is no topic filter")
-        }
-        AclKind::User => format!(in alloc; "the user name is missing"),
+        AclKind::Topic if rest.is_empty() => String::from_str(alloc, "the topic is missing"),
+        AclKind::Topic => no_such(alloc, topic_in(line), "topic filter"),
+        AclKind::User => String::from_str(alloc, "the user name is missing"),
         AclKind::Pattern => {
             let topic = topic_in(line);
             format!(in alloc; "%c or %u is no whole level of {topic:?}")
         }
-        AclKind::Memory => format!(in alloc; "out of memory"),
+        AclKind::Memory => String::from_str(alloc, "out of memory"),
     }
 }

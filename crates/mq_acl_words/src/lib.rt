@@ -4,6 +4,7 @@
 mod changes;
 mod explanation;
 mod faults;
+mod json;
 mod lines;
 mod list;
 mod notes;

@@ -1,8 +1,8 @@
 //! Remarks on lines, in words and as JSON.
 use crate::faults::fault_words;
+use crate::json::{Datum, add_object};
 use crate::list::ListText;
 use mq_report::{Remark, RemarkKind};
-use serde_json::json;
 use std::alloc::{AllocError, Global};
 
 const NO_MARK: &str = "a pattern line without %c and %u is for all clients alike";
@@ -37,36 +37,48 @@ fn kind_words(alloc: Global, line: &str, kind: RemarkKind) -> Result<String, All
 }
 
 fn add_words(
-    alloc: Global,
     text: &mut String,
     list: ListText<'_, '_>,
     remark: Remark,
+    words: &str,
 ) -> Result<(), AllocError> {
     let file = list.file;
     let number = remark.line;
-    let words = kind_words(alloc, list.line(number), remark.kind)?;
-    let line = format!(in alloc; "{file}:{number}: {words}\n")?;
-    text.push_str(line.as_str())
+    writeln!(text, "{file}:{number}: {words}")
 }
 
-fn add_json(
+fn add_json<'a>(
+    alloc: Global,
+    text: &mut String,
+    list: ListText<'a, 'a>,
+    remark: Remark,
+    words: &'a str,
+) -> Result<(), AllocError> {
+    add_object(
+        alloc,
+        text,
+        &[
+            ("file", Datum::Text(list.file)),
+            ("kind", Datum::Text(kind_name(remark.kind))),
+            ("line", Datum::Number(remark.line)),
+            ("text", Datum::Text(list.line(remark.line))),
+            ("words", Datum::Text(words)),
+        ],
+    )
+}
+
+fn add_remark(
     alloc: Global,
     text: &mut String,
     list: ListText<'_, '_>,
     remark: Remark,
+    json: bool,
 ) -> Result<(), AllocError> {
-    let file = list.file;
-    let number = remark.line;
-    let kind = kind_name(remark.kind);
-    let line = list.line(number);
-    let words = kind_words(alloc, line, remark.kind)?;
-    let words = words.as_str();
-    let value = json!(in alloc; {
-        "file": file, "kind": kind, "line": number, "text": line, "words": words
-    })?;
-    let line = value.to_string(alloc)?;
-    text.push_str(line.as_str())?;
-    text.push('\n')
+    let words = kind_words(alloc, list.line(remark.line), remark.kind)?;
+    if json {
+        return add_json(alloc, text, list, remark, words.as_str());
+    }
+    add_words(text, list, remark, words.as_str())
 }
 
 fn add_all(
@@ -77,11 +89,7 @@ fn add_all(
     json: bool,
 ) -> Result<(), AllocError> {
     for remark in remarks {
-        if json {
-            add_json(alloc, text, list, *remark)?;
-        } else {
-            add_words(alloc, text, list, *remark)?;
-        }
+        add_remark(alloc, text, list, *remark, json)?;
     }
     Ok(())
 }

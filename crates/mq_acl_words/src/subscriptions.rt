@@ -1,7 +1,7 @@
 //! The subscriptions of a script that are in vain, in words and as JSON.
+use crate::json::{Datum, add_object};
 use crate::table::{add_cell, widened};
 use mq_reach::{Counts, Findings, Subscription};
-use serde_json::{Value, json};
 use std::alloc::{AllocError, Global};
 
 // A subscription in words.
@@ -60,21 +60,16 @@ fn add_row(text: &mut String, row: &SubscriptionRow<'_>, widths: Widths) -> Resu
     text.push('\n')
 }
 
-fn add_faulty(
-    alloc: Global,
-    text: &mut String,
-    script: &str,
-    counts: Counts,
-) -> Result<(), AllocError> {
+fn add_faulty(text: &mut String, script: &str, counts: Counts) -> Result<(), AllocError> {
     let faulty = counts.faulty;
-    let line = match counts.first_faulty {
-        None => return Ok(()),
-        Some(first) if faulty == 1 => format!(in alloc; "{script}:{first} is no command\n")?,
-        Some(first) => {
-            format!(in alloc; "{faulty} lines are no commands, the first is {script}:{first}\n")?
-        }
-    };
-    text.push_str(line.as_str())
+    match counts.first_faulty {
+        None => Ok(()),
+        Some(first) if faulty == 1 => writeln!(text, "{script}:{first} is no command"),
+        Some(first) => writeln!(
+            text,
+            "{faulty} lines are no commands, the first is {script}:{first}"
+        ),
+    }
 }
 
 fn table(alloc: Global, script: &str, findings: &Findings) -> Result<String, AllocError> {
@@ -87,66 +82,65 @@ fn table(alloc: Global, script: &str, findings: &Findings) -> Result<String, All
     for row in &rows {
         add_row(&mut text, row, widths)?;
     }
-    add_faulty(alloc, &mut text, script, findings.counts)?;
+    add_faulty(&mut text, script, findings.counts)?;
     let vain = findings.vain.len();
     let all = findings.counts.subscriptions;
-    let total = format!(in alloc; "{vain} of {all} subscriptions in vain\n")?;
-    text.push_str(total.as_str())?;
+    writeln!(text, "{vain} of {all} subscriptions in vain")?;
     Ok(text)
 }
 
-fn add_value(alloc: Global, text: &mut String, value: Value) -> Result<(), AllocError> {
-    let line = value.to_string(alloc)?;
-    text.push_str(line.as_str())?;
-    text.push('\n')
-}
-
-fn user_value(alloc: Global, user: &Option<String>) -> Result<Value, AllocError> {
-    match user {
-        Some(user) => Value::try_from_str(alloc, user.as_str()),
-        None => Ok(Value::Null),
-    }
-}
-
-fn subscription_value(
+fn add_subscription<'a>(
     alloc: Global,
-    script: &str,
-    subscription: &Subscription,
-) -> Result<Value, AllocError> {
-    let user = user_value(alloc, &subscription.user)?;
-    let client = subscription.client.as_str();
-    let filter = subscription.filter.as_str();
-    let line = subscription.line;
-    json!(in alloc; {
-        "client": client, "file": script, "filter": filter, "line": line, "user": user
-    })
+    text: &mut String,
+    script: &'a str,
+    subscription: &'a Subscription,
+) -> Result<(), AllocError> {
+    let user = match &subscription.user {
+        Some(user) => Some(user.as_str()),
+        None => None,
+    };
+    add_object(
+        alloc,
+        text,
+        &[
+            ("client", Datum::Text(subscription.client.as_str())),
+            ("file", Datum::Text(script)),
+            ("filter", Datum::Text(subscription.filter.as_str())),
+            ("line", Datum::Number(subscription.line)),
+            ("user", Datum::TextIf(user)),
+        ],
+    )
 }
 
-fn counts_value(alloc: Global, vain: usize, counts: Counts) -> Result<Value, AllocError> {
-    let first = match counts.first_faulty {
-        Some(first) => json!(in alloc; first)?,
-        None => Value::Null,
-    };
-    json!(in alloc; {
-        "first_no_command": first, "in_vain": vain, "no_commands": counts.faulty,
-        "subscriptions": counts.subscriptions
-    })
+fn add_counts(
+    alloc: Global,
+    text: &mut String,
+    vain: usize,
+    counts: Counts,
+) -> Result<(), AllocError> {
+    add_object(
+        alloc,
+        text,
+        &[
+            ("first_no_command", Datum::NumberIf(counts.first_faulty)),
+            ("in_vain", Datum::Number(vain as u64)),
+            ("no_commands", Datum::Number(counts.faulty)),
+            ("subscriptions", Datum::Number(counts.subscriptions)),
+        ],
+    )
 }
 
 fn json_lines(alloc: Global, script: &str, findings: &Findings) -> Result<String, AllocError> {
     let mut text = String::new(alloc);
     for subscription in &findings.vain {
-        let value = subscription_value(alloc, script, subscription)?;
-        add_value(alloc, &mut text, value)?;
+        add_subscription(alloc, &mut text, script, subscription)?;
     }
-    let counts = counts_value(alloc, findings.vain.len(), findings.counts)?;
-    add_value(alloc, &mut text, counts)?;
+    add_counts(alloc, &mut text, findings.vain.len(), findings.counts)?;
     Ok(text)
 }
 
 /// The subscriptions in vain of the script with this name, one a line, then the lines that are no
-/// commands, and the number of
-/// all subscriptions.
+/// commands, and the number of all subscriptions.
 pub fn subscriptions_text(
     alloc: Global,
     script: &str,

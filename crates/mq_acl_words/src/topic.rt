@@ -1,25 +1,34 @@
 //! What a subscription can be sent, in words and as JSON.
+use crate::json::{Datum, add_object};
 use mq_topic::{LevelText, TopicName};
-use serde_json::{Value, json};
 use std::alloc::{AllocError, Global};
-
-fn topic_value(alloc: Global, found: &Option<TopicName>) -> Result<Value, AllocError> {
-    match found {
-        Some(topic) => Value::try_from_str(alloc, topic.text()),
-        None => Ok(Value::Null),
-    }
-}
 
 fn topic_line(
     alloc: Global,
     subscription: &str,
-    found: &Option<TopicName>,
+    topic: Option<&str>,
 ) -> Result<String, AllocError> {
-    let topic = topic_value(alloc, found)?;
-    let value = json!(in alloc; {"filter": subscription, "topic": topic})?;
-    let mut line = value.to_string(alloc)?;
-    line.push('\n')?;
+    let mut line = String::new(alloc);
+    add_object(
+        alloc,
+        &mut line,
+        &[
+            ("filter", Datum::Text(subscription)),
+            ("topic", Datum::TextIf(topic)),
+        ],
+    )?;
     Ok(line)
+}
+
+fn topic_words(
+    alloc: Global,
+    subscription: &str,
+    topic: Option<&str>,
+) -> Result<String, AllocError> {
+    match topic {
+        Some(topic) => format!(in alloc; "{topic}\n"),
+        None => format!(in alloc; "a subscription to {subscription} can be sent nothing\n"),
+    }
 }
 
 /// A topic that the subscription can be sent, or that there is none.
@@ -29,14 +38,12 @@ pub fn topic_text(
     found: &Option<TopicName>,
     json: bool,
 ) -> Result<String, AllocError> {
+    let topic = match found {
+        Some(topic) => Some(topic.text()),
+        None => None,
+    };
     if json {
-        return topic_line(alloc, subscription, found);
+        return topic_line(alloc, subscription, topic);
     }
-    match found {
-        Some(topic) => {
-            let topic = topic.text();
-            format!(in alloc; "{topic}\n")
-        }
-        None => format!(in alloc; "a subscription to {subscription} can be sent nothing\n"),
-    }
+    topic_words(alloc, subscription, topic)
 }

@@ -5,23 +5,35 @@ use std::alloc::{AllocError, Global};
 /// How many user names are told in a row.
 const MOST_NAMES: usize = 4;
 
-// The classes of a group.
-fn classes<'a>(alloc: Global, group: &'a Group) -> Result<Vec<&'a Class>, AllocError> {
-    let mut classes = Vec::new(alloc);
-    classes.push(&group.first.class)?;
-    for difference in &group.others {
-        classes.push(&difference.class)?;
-    }
-    Ok(classes)
+fn has_anonymous(group: &Group) -> bool {
+    matches!(group.first.class, Class::Anonymous)
+        || group
+            .others
+            .iter()
+            .any(|other| matches!(other.class, Class::Anonymous))
 }
 
-// The user names among the classes.
-fn names<'a>(alloc: Global, classes: &[&'a Class]) -> Result<Vec<&'a str>, AllocError> {
+fn has_others(group: &Group) -> bool {
+    matches!(group.first.class, Class::Others(_))
+        || group
+            .others
+            .iter()
+            .any(|other| matches!(other.class, Class::Others(_)))
+}
+
+fn push_name<'a>(names: &mut Vec<&'a str>, class: &'a Class) -> Result<(), AllocError> {
+    if let Class::User(name) = class {
+        names.push(name.as_str())?;
+    }
+    Ok(())
+}
+
+// The user names among the classes of a group.
+fn names<'a>(alloc: Global, group: &'a Group) -> Result<Vec<&'a str>, AllocError> {
     let mut names = Vec::new(alloc);
-    for class in classes {
-        if let Class::User(name) = class {
-            names.push(name.as_str())?;
-        }
+    push_name(&mut names, &group.first.class)?;
+    for other in &group.others {
+        push_name(&mut names, &other.class)?;
     }
     Ok(names)
 }
@@ -33,20 +45,6 @@ fn separator(place: usize) -> &'static str {
     }
 }
 
-fn names_text(alloc: Global, names: &[&str]) -> Result<String, AllocError> {
-    let mut text = String::from_str(alloc, if names.len() == 1 { "user" } else { "users" })?;
-    for (place, name) in names.iter().take(MOST_NAMES).enumerate() {
-        text.push_str(separator(place))?;
-        text.push_str(name)?;
-    }
-    if names.len() > MOST_NAMES {
-        let more = names.len() - MOST_NAMES;
-        let more = format!(in alloc; " and {more} more")?;
-        text.push_str(more.as_str())?;
-    }
-    Ok(text)
-}
-
 fn add_part(text: &mut String, part: &str) -> Result<(), AllocError> {
     if !text.is_empty() {
         text.push_str("; ")?;
@@ -54,26 +52,45 @@ fn add_part(text: &mut String, part: &str) -> Result<(), AllocError> {
     text.push_str(part)
 }
 
+fn add_more(text: &mut String, count: usize) -> Result<(), AllocError> {
+    if count <= MOST_NAMES {
+        return Ok(());
+    }
+    let more = count - MOST_NAMES;
+    write!(text, " and {more} more")
+}
+
+fn add_names(text: &mut String, names: &[&str]) -> Result<(), AllocError> {
+    add_part(text, if names.len() == 1 { "user" } else { "users" })?;
+    for (place, name) in names.iter().take(MOST_NAMES).enumerate() {
+        text.push_str(separator(place))?;
+        text.push_str(name)?;
+    }
+    add_more(text, names.len())
+}
+
+fn add_users(alloc: Global, text: &mut String, group: &Group) -> Result<(), AllocError> {
+    let names = names(alloc, group)?;
+    if names.is_empty() {
+        return Ok(());
+    }
+    add_names(text, &names)
+}
+
+fn add_classes(alloc: Global, text: &mut String, group: &Group) -> Result<(), AllocError> {
+    if has_anonymous(group) {
+        add_part(text, "no user name")?;
+    }
+    add_users(alloc, text, group)?;
+    if has_others(group) {
+        add_part(text, "other users")?;
+    }
+    Ok(())
+}
+
 /// The clients of a group, in words.
 pub(crate) fn who_text(alloc: Global, group: &Group) -> Result<String, AllocError> {
-    let classes = classes(alloc, group)?;
-    let names = names(alloc, &classes)?;
     let mut text = String::new(alloc);
-    if classes
-        .iter()
-        .any(|class| matches!(class, Class::Anonymous))
-    {
-        add_part(&mut text, "no user name")?;
-    }
-    if !names.is_empty() {
-        let names = names_text(alloc, &names)?;
-        add_part(&mut text, names.as_str())?;
-    }
-    if classes
-        .iter()
-        .any(|class| matches!(class, Class::Others(_)))
-    {
-        add_part(&mut text, "other users")?;
-    }
+    add_classes(alloc, &mut text, group)?;
     Ok(text)
 }

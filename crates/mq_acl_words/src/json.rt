@@ -1,0 +1,104 @@
+//! JSON objects, one a line.
+use crate::list::ListText;
+use serde_json::{Map, Value};
+use std::alloc::{AllocError, Global};
+
+/// What stands under a name; where there is none, it is null.
+#[derive(Clone, Copy)]
+pub(crate) enum Datum<'a> {
+    Text(&'a str),
+    TextIf(Option<&'a str>),
+    Texts(&'a [String]),
+    Number(u64),
+    NumberIf(Option<u64>),
+    Flag(bool),
+    /// A line of a list: its file, its number, and the line as it stands.
+    LineIf(ListText<'a, 'a>, Option<u64>),
+}
+
+fn push_text(alloc: Global, texts: &mut Vec<Value>, text: &str) -> Result<(), AllocError> {
+    let text = Value::try_from_str(alloc, text)?;
+    texts.push(text)?;
+    Ok(())
+}
+
+fn texts_value(alloc: Global, texts: &[String]) -> Result<Value, AllocError> {
+    let mut values = Vec::new(alloc);
+    for text in texts {
+        push_text(alloc, &mut values, text.as_str())?;
+    }
+    Ok(Value::Array(values))
+}
+
+fn put(
+    alloc: Global,
+    members: &mut Map<String, Value>,
+    name: &str,
+    value: Value,
+) -> Result<(), AllocError> {
+    let name = String::from_str(alloc, name)?;
+    members.insert(name, value)?;
+    Ok(())
+}
+
+fn put_text(
+    alloc: Global,
+    members: &mut Map<String, Value>,
+    name: &str,
+    text: &str,
+) -> Result<(), AllocError> {
+    let text = Value::try_from_str(alloc, text)?;
+    put(alloc, members, name, text)
+}
+
+fn line_value(alloc: Global, list: ListText<'_, '_>, number: u64) -> Result<Value, AllocError> {
+    let mut members = Map::new(alloc);
+    put_text(alloc, &mut members, "file", list.file)?;
+    put(alloc, &mut members, "line", Value::from(number))?;
+    put_text(alloc, &mut members, "text", list.line(number))?;
+    Ok(Value::Object(members))
+}
+
+fn datum_value(alloc: Global, datum: Datum<'_>) -> Result<Value, AllocError> {
+    match datum {
+        Datum::Text(text) | Datum::TextIf(Some(text)) => Value::try_from_str(alloc, text),
+        Datum::Texts(texts) => texts_value(alloc, texts),
+        Datum::Number(number) | Datum::NumberIf(Some(number)) => Ok(Value::from(number)),
+        Datum::Flag(flag) => Ok(Value::Bool(flag)),
+        Datum::LineIf(list, Some(number)) => line_value(alloc, list, number),
+        Datum::TextIf(None) | Datum::NumberIf(None) | Datum::LineIf(_, None) => Ok(Value::Null),
+    }
+}
+
+fn put_datum(
+    alloc: Global,
+    members: &mut Map<String, Value>,
+    name: &str,
+    datum: Datum<'_>,
+) -> Result<(), AllocError> {
+    let value = datum_value(alloc, datum)?;
+    put(alloc, members, name, value)
+}
+
+fn object(alloc: Global, data: &[(&str, Datum<'_>)]) -> Result<Value, AllocError> {
+    let mut members = Map::new(alloc);
+    for (name, datum) in data {
+        put_datum(alloc, &mut members, name, *datum)?;
+    }
+    Ok(Value::Object(members))
+}
+
+fn object_text(alloc: Global, data: &[(&str, Datum<'_>)]) -> Result<String, AllocError> {
+    object(alloc, data)?.to_string(alloc)
+}
+
+/// Adds an object of these data under their names, and a line feed.
+pub(crate) fn add_object(
+    alloc: Global,
+    text: &mut String,
+    data: &[(&str, Datum<'_>)],
+) -> Result<(), AllocError> {
+    let object = object_text(alloc, data)?;
+    text.push_str(object.as_str())?;
+    text.push('\n')
+}
