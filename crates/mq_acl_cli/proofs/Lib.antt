@@ -3,3 +3,4 @@ pub mod CompareLemmas
 pub mod LintLemmas
 pub mod ReachLemmas
 pub mod ScriptLemmas
+pub mod CommandLineLemmas

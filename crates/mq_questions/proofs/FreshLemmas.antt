@@ -1,10 +1,11 @@
 -- Texts that are made to be named by no row.
 use Rattle.std.proofs.Common.{◌≡◌, ℕ, ◌==◌, Bool, true, false, not, ◌&&◌, ◌||◌, List, [], ◌++◌}
 use Rattle.std.proofs.Common.{length, codes, bytes_eq, refl, ap, sym, ◌∙◌, arith, ◌+◌, ◌<◌, ◌≤◌}
-use Rattle.std.proofs.Common.{replicate, zero, suc, length-append, subst, string_bytes}
+use Rattle.std.proofs.Common.{replicate, zero, suc, length-append, append_assoc, subst}
+use Rattle.std.proofs.Common.{string_bytes, ◌∷◌}
 use Rattle.std.specs.Prelude.{nat_le}
 use Rattle.std.specs.List.{list_any}
-use Rattle.std.proofs.lemmas.List.{length-replicate}
+use Rattle.std.proofs.lemmas.List.{length-replicate, replicate_more}
 use Rattle.std.proofs.lemmas.List.Folds.{list_any-append}
 use Rattle.std.proofs.lemmas.Bool.{and_parts, not-true, leb-true, le-leb}
 use Rattle.std.proofs.Math.Dec.{eqb-suc-zero}
@@ -63,6 +64,12 @@ made_apart : (a b s t : List ℕ) → ((x y : List ℕ) → bytes_eq (a ++ x) (b
     → IsPadded b t → not (bytes_eq s t) ≡ true
 made_apart a b s t h m n =
     ap not ((λ i. bytes_eq (m.is i) (n.is i)) ∙ h (replicate m.count 120) (replicate n.count 120))
+
+-- one more `x` behind a base
+pub padded_more : (base : List ℕ) (n : ℕ)
+    → (base ++ replicate n 120) ++ 120 ∷ [] ≡ base ++ replicate (n + 1) 120
+padded_more base n = append_assoc base (replicate n 120) (120 ∷ [])
+    ∙ ap (λ t. base ++ t) (replicate_more n 120)
 
 -- a text that is longer than what is named isn't named
 pub too_long : (named : Bool) (n : ℕ) → (named ≡ true → n ≤ 300) → 300 < n → named ≡ false

@@ -3,7 +3,8 @@ use Rattle.std.proofs.Common.{◌≡◌, ◌<◌, ◌+◌, ℕ, Bool, true, fals
 use Rattle.std.proofs.Common.{length, get_or, refl, ap, sym, ◌∙◌, subst, map, Option, Bor}
 use Rattle.std.proofs.Common.{codes, bytes_eq, if◌then◌else◌, string_bytes, take, zero, suc, arith}
 use Rattle.std.specs.List.{All}
-use Rattle.std.proofs.lemmas.List.{map_push, map-id}
+use Rattle.std.proofs.Common.{◌≤◌}
+use Rattle.std.proofs.lemmas.List.{map_push, map_more, map-id, length-take}
 use Rattle.std.proofs.lemmas.List.Elements.{All-same, All-push, All-head, All-tail, All-append}
 use Rattle.std.proofs.lemmas.List.Elements.{All-take, All-weaker, All-cons, All-nil}
 use Rattle.mq_topic.proofs.ByteLemmas.{text_is, text_itself}
@@ -181,6 +182,14 @@ listed_is_choice f user old new a u c =
     at false h = ap (is_choice f.others) (text_is c f.client.now h) ∙ a.fresh.client
 
 -- ---- what is shown
+-- the first elements are shown, and the next one is
+pub shown_more : {A B C : Type 0} (f : A → C) (g : B → C) (xs : List B) (i : ℕ) (d : B)
+    (shown next : List A) (x : A) → i < length xs → next ≡ shown ++ x ∷ []
+    → f x ≡ g (get_or xs i d) → map f shown ≡ map g (take i xs)
+    → map f next ≡ map g (take (i + 1) xs)
+shown_more f g xs i d shown next x h e one all =
+    ap (map f) e ∙ map_push f shown x ∙ (λ k. all k ++ one k ∷ []) ∙ sym (map_more g xs i d h)
+
 pub shown_none : {A B C : Type 0} (f : A → C) (g : B → C) (xs : List A) (ys : List B)
     → map f xs ≡ map g ys → xs ≡ [] → ys ≡ []
 shown_none f g xs [] e h = refl
@@ -240,12 +249,20 @@ pub none_joined : {X : Type 0} (xs ys next : List X) → next ≡ xs ++ ys → n
 none_joined [] ys next e f = (refl, sym e ∙ f)
 none_joined (x ∷ xs) ys next e f = absurd (let k = sym f ∙ e in cc)
 
+-- the first few are no more than that
+pub few_taken : {X : Type 0} (n : ℕ) (xs next : List X) → next ≡ take n xs → length next ≤ n
+few_taken n xs next e = let k = ap length e ∙ length-take n xs in omega arith
+
+-- what is true of each is true of the first few
+pub each_first : {X : Type 0} (P : X → Type 0) (n : ℕ) (xs next : List X) → next ≡ take n xs
+    → All P xs → All P next
+each_first P n xs next e a = All-same P next (take n xs) e (All-take P n xs a)
+
 -- what is true of each in two lists is true of the first few of both
 pub each_taken : {X : Type 0} (P : X → Type 0) (n : ℕ) (xs ys next last : List X) → next ≡ xs ++ ys
     → last ≡ take n next → All P xs → All P ys → All P last
 each_taken P n xs ys next last e f a b =
-    All-same P last (take n next) f
-    (All-take P n next (All-same P next (xs ++ ys) e (All-append P xs ys a b)))
+    each_first P n next last f (All-same P next (xs ++ ys) e (All-append P xs ys a b))
 
 -- what follows from each outcome of a test is so
 pub either : {A : Type 0} (b : Bool) → (b ≡ false → A) → (b ≡ true → A) → A

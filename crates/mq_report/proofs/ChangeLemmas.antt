@@ -12,7 +12,7 @@ use Rattle.mq_questions.specs.Comparison.{Compared, lists_user}
 use Rattle.mq_walk.specs.Names.{is_among}
 use Rattle.mq_questions.specs.declared.way.Way.{Way}
 use Rattle.mq_questions.specs.declared.way.Way.TheVariants.{Gained, Lost}
-use Rattle.mq_questions.proofs.ClientLemmas.{IsDoneTo, AreAllDone, one_more_done, listed_done}
+use Rattle.mq_questions.proofs.ClientLemmas.{IsDoneTo, one_more_done}
 use Rattle.mq_report.proofs.AnyLemmas.{any_kept}
 use Rattle.mq_report.specs.Classes.{is_listed}
 use Rattle.mq_report.specs.Differences.{is_told_of, IsReal, Adds, Tells}
@@ -50,11 +50,10 @@ abbrev pub ToldFor : List Row → List Row → Option (List ℕ) → List Differ
 ToldFor old new user all = (way : Way) (direction : Direction)
     → Tells (row_views old) (row_views new) way direction user all
 
--- for the clients without a user name, and for those of the first names, all is told
-pub record IsTold (old new : List Row) (names : List (Bor (List ℕ))) (n : ℕ) (all : List Difference)
-    : Type 0 where
-  pub real : All (IsReal old new) all
-  pub anonymous : ToldFor old new None all
+-- for the clients of the first names all is told, behind what was told before
+pub record IsTold (old new : List Row) (names : List (Bor (List ℕ))) (n : ℕ)
+    (before all : List Difference) : Type 0 where
+  pub adds : Adds old new before all
   pub users : IsDoneTo (λ t. ToldFor old new (Some t) all) names n
 
 -- what is told for these clients stays told when more is added
@@ -68,45 +67,39 @@ not_among : (names : List (Bor (List ℕ))) (t : List ℕ) → is_among t names 
     → is_among t (drop 0 names) ≡ false → ⊥
 not_among names t e f = let q : true ≡ false = sym e ∙ f in cc
 
--- to begin with, no name is done, and only what changes for clients without one must be told
+-- to begin with, no name is done
 pub told_start : (old new : List Row) (names : List (Bor (List ℕ))) (all : List Difference)
-    → Adds old new [] all → ToldFor old new None all → IsTold old new names 0 all
-told_start old new names all a h = record {
-  real = a.real (All-nil (IsReal old new));
-  anonymous = h;
+    → IsTold old new names 0 all all
+told_start old new names all = record {
+  adds = adds_none old new all;
   users = λ t e f. absurd (not_among names t e f);
 }
 
 -- one more name is done when all is told for the clients of this user name
 pub told_one : (old new : List Row) (names : List (Bor (List ℕ))) (n : ℕ) (d : Bor (List ℕ))
-    (before after : List Difference) → n < length names
-    → Adds old new before after → ToldFor old new (Some (get_or names n d).now) after
-    → IsTold old new names n before → IsTold old new names (n + 1) after
-told_one old new names n d before after h a here s = record {
-  real = a.real s.real;
-  anonymous = told_kept old new None before after a s.anonymous;
-  users = one_more_done (λ t. ToldFor old new (Some t) after) names n d h here
-      (λ t e f. told_kept old new (Some t) before after a (s.users t e f));
+    (before all more : List Difference) → n < length names → Adds old new all more
+    → ToldFor old new (Some (get_or names n d).now) more
+    → IsTold old new names n before all → IsTold old new names (n + 1) before more
+told_one old new names n d before all more h a here s = record {
+  adds = adds_both old new before all more s.adds a;
+  users = one_more_done (λ t. ToldFor old new (Some t) more) names n d h here
+      (λ t e f. told_kept old new (Some t) all more a (s.users t e f));
 }
 
--- with all listed names done, and all told for the names that no list has, all is told
-pub told_all : (old new : List Row) (names : List (Bor (List ℕ))) (n : ℕ)
-    (before after : List Difference) → ToldFor old new None before
-    → AreAllDone (λ t. ToldFor old new (Some t) before)
-    (is_listed (row_views old) (row_views new)) names n
-    → Adds old new before after → ((t : List ℕ)
-    → is_listed (row_views old) (row_views new) t ≡ false → ToldFor old new (Some t) after)
-    → (user : Option (List ℕ)) → ToldFor old new user after
-told_all old new names n before after anonymous all a others None =
+-- with all told for clients of no user name, of each that is listed, and of all others, all is told
+pub told_all : (old new : List Row) (before after : List Difference) → ToldFor old new None before
+    → ((t : List ℕ) → is_listed (row_views old) (row_views new) t ≡ true
+    → ToldFor old new (Some t) before) → Adds old new before after
+    → ((t : List ℕ) → is_listed (row_views old) (row_views new) t ≡ false
+    → ToldFor old new (Some t) after) → (user : Option (List ℕ)) → ToldFor old new user after
+told_all old new before after anonymous users a others None =
     told_kept old new None before after a anonymous
-told_all old new names n before after anonymous all a others (Some t) =
+told_all old new before after anonymous users a others (Some t) =
     at (is_listed (row_views old) (row_views new) t) refl
   where
     at : (b : Bool) → is_listed (row_views old) (row_views new) t ≡ b
         → ToldFor old new (Some t) after
-    at true e = told_kept old new (Some t) before after a
-        (listed_done (λ t. ToldFor old new (Some t) before)
-        (is_listed (row_views old) (row_views new)) names n all t e)
+    at true e = told_kept old new (Some t) before after a (users t e)
     at false e = others t e
 
 -- ---- where nothing is told, nothing changed

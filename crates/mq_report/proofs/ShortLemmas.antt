@@ -1,10 +1,12 @@
 -- Rows that keep to the limit.
 use Rattle.std.proofs.Common.{◌≡◌, ◌<◌, ℕ, suc, zero, Bool, true, false, not, List, [], ◌∷◌, length}
-use Rattle.std.proofs.Common.{get_or, Some, None, cond, refl, sym, ap, ◌∙◌, arith}
+use Rattle.std.proofs.Common.{get_or, Some, None, cond, refl, sym, ap, ◌∙◌, subst, arith, Result}
 use Rattle.std.specs.Prelude.{find}
 use Rattle.std.specs.List.{list_all}
 use Rattle.std.specs.Option.{option_map}
+use Rattle.std.specs.Result.{IfErr}
 use Rattle.std.proofs.lemmas.Bool.{and_parts}
+use Rattle.std.proofs.lemmas.Result.{IfErr-weaker}
 use Rattle.mq_acl.specs.Rows.{AclRow}
 use Rattle.mq_acl.specs.Views.{row_view, row_views}
 use Rattle.mq_acl.specs.declared.row.Row.{Row}
@@ -51,3 +53,10 @@ pub fault_is : (rows : List Row) (fault : ListFault) → IsListFault rows fault
 fault_is rows Memory is none = refl
 fault_is rows (Line line) is none =
     absurd (let bad : Some line ≡ None = sym is ∙ none in cc)
+
+-- where memory is short, no line is told
+pub memory_fault : {A : Type 0} (rows : List Row) (result : Result A ListFault)
+    → IfErr result (λ fault. fault ≡ Memory) → IfErr result (IsListFault rows)
+memory_fault rows result h =
+    IfErr-weaker result (λ fault. fault ≡ Memory) (IsListFault rows)
+    (λ fault e. subst (IsListFault rows) (sym e) tt) h

@@ -8,7 +8,7 @@ ghost use Rattle.mq_acl.specs.Views.{row_views};
 ghost use Rattle.mq_acl.specs.declared.access.Direction.{Direction};
 ghost use Rattle.mq_questions.specs.Limits.{IsComparisonFault};
 ghost use Rattle.mq_questions.specs.declared.way.Way.{Way};
-ghost use Rattle.mq_report.specs.Classes.{is_asked, AreListed};
+ghost use Rattle.mq_report.specs.Classes.{is_asked, is_listed, AreListed};
 ghost use Rattle.mq_report.specs.Differences.{IsReal, Compares, Tells, Adds};
 ghost use Rattle.mq_report.specs.declared.difference.Difference.{Difference};
 
@@ -94,6 +94,39 @@ fn add_clients(
     Ok(())
 }
 
+// Adds what the clients of each user name that a list names gain and lose.
+fn add_users(alloc: Global, all: &mut Vec<Difference>, lists: Lists) -> Result<(), AllocError>
+    requires { Compares lists.old.now lists.new.now lists.comparison.now }
+    ensures adds { OnOk result
+        (Adds lists.entry.old.now lists.entry.new.now all.old.items all.new.items) }
+    ensures told { OnOk result ((way : Way) (direction : Direction) (user : List ℕ)
+        → is_listed (row_views lists.entry.old.now) (row_views lists.entry.new.now) user ≡ true
+        → Tells (row_views lists.entry.old.now)
+        (row_views lists.entry.new.now) way direction (Some user) all.new.items) }
+{
+    let users = lists.comparison.users(alloc)?;
+    for user in &users {
+        add_clients(alloc, all, lists, Clients::User(user))?;
+    }
+    Ok(())
+}
+
+// What all clients gain and lose.
+fn differences(alloc: Global, lists: Lists) -> Result<Vec<Difference>, AllocError>
+    requires { Compares lists.old.now lists.new.now lists.comparison.now }
+    ensures told { IfOk result (λ all. (way : Way) (direction : Direction) (user : Option (List ℕ))
+        → Tells (row_views lists.entry.old.now)
+        (row_views lists.entry.new.now) way direction user all.items) }
+    ensures real { IfOk result
+        (λ all. All (IsReal lists.entry.old.now lists.entry.new.now) all.items) }
+{
+    let mut all = Vec::new(alloc);
+    add_clients(alloc, &mut all, lists, Clients::Anonymous)?;
+    add_users(alloc, &mut all, lists)?;
+    add_clients(alloc, &mut all, lists, Clients::Others)?;
+    Ok(all)
+}
+
 /// Where two lists differ: for the clients without a user name, for those of each user name that a list names, and for
 /// those of all others, what they gain and lose in each direction. Every difference for a client and a topic is told by
 /// one of the same class, direction and way, and each that is told is one.
@@ -118,12 +151,6 @@ pub fn compare<'a>(
         new,
         comparison: &comparison,
     };
-    let mut all = Vec::new(alloc);
-    add_clients(alloc, &mut all, lists, Clients::Anonymous)?;
-    let users = comparison.users(alloc)?;
-    for user in &users {
-        add_clients(alloc, &mut all, lists, Clients::User(user))?;
-    }
-    add_clients(alloc, &mut all, lists, Clients::Others)?;
+    let all = differences(alloc, lists)?;
     Ok(all)
 }

@@ -102,15 +102,14 @@ fn add(remarks: &mut Vec<Remark>, line: u64, by: Option<u64>) -> Result<(), Allo
     Ok(())
 }
 
-/// The lines without which, each by itself, the list allows the same to all: in the order of the rows, each with the line
-/// of the first other row that makes it needless, if one does. A row that denies makes another needless that covers no
-/// more; one that grants, another that grants and covers no more.
-pub fn needless(alloc: Global, rows: &[Row]) -> Result<Vec<Remark>, ListFault>
+// The lines without which the list of the question allows the same.
+fn needless_in(alloc: Global, rows: &[Row], question: &Needless) -> Result<Vec<Remark>, ListFault>
+    requires list { question.now ≡ row_views rows.now }
+    requires short { long_line rows.now ≡ None }
     ensures each { IfOk result (λ told. All (IsNeedlessLine rows.now) told.items) }
     ensures rest { IfOk result (λ told. AreRest rows.now (length rows.now) told.items) }
-    ensures fault { IfErr result (IsListFault rows.now) }
+    ensures err { IfErr result (λ fault. fault ≡ ListFault.Memory) }
 {
-    let question = Needless::new(alloc, rows)?;
     let mut remarks = Vec::new(alloc);
     for (index, row) in rows.iter().enumerate() {
         if !question.is_needless(alloc, index)? {
@@ -120,4 +119,16 @@ pub fn needless(alloc: Global, rows: &[Row]) -> Result<Vec<Remark>, ListFault>
         add(&mut remarks, row.line, by)?;
     }
     Ok(remarks)
+}
+
+/// The lines without which, each by itself, the list allows the same to all: in the order of the rows, each with the line
+/// of the first other row that makes it needless, if one does. A row that denies makes another needless that covers no
+/// more; one that grants, another that grants and covers no more.
+pub fn needless(alloc: Global, rows: &[Row]) -> Result<Vec<Remark>, ListFault>
+    ensures each { IfOk result (λ told. All (IsNeedlessLine rows.now) told.items) }
+    ensures rest { IfOk result (λ told. AreRest rows.now (length rows.now) told.items) }
+    ensures fault { IfErr result (IsListFault rows.now) }
+{
+    let question = Needless::new(alloc, rows)?;
+    needless_in(alloc, rows, &question)
 }

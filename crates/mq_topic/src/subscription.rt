@@ -100,7 +100,6 @@ fn parts(text: &str) -> (Option<&str>, &str)
 }
 
 // The first fault of the text as a subscription.
-#[tactic(auto, using(crate::proofs::TextLemmas::subscription_is_none))]
 fn subscription_fault(text: &str) -> Option<TopicFault>
     ensures first { result ≡ subscription_fault text.now }
     ensures no_memory { IfSome result (λ fault. is_memory fault ≡ false) }
@@ -110,9 +109,13 @@ fn subscription_fault(text: &str) -> Option<TopicFault>
     if let Some(fault) = first_fault(text, wildcards_fit(filter), is_deep(filter)) {
         return Some(fault);
     }
-    match share {
-        Some(share) if !share_fits(share, filter) => Some(TopicFault::Share),
-        _ => None,
+    let Some(share) = share else {
+        return None;
+    };
+    if share_fits(share, filter) {
+        None
+    } else {
+        Some(TopicFault::Share)
     }
 }
 

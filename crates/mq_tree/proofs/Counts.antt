@@ -4,16 +4,13 @@ use Rattle.std.proofs.Common.{[], ◌∷◌, ◌++◌, length, Option, Some, Non
 use Rattle.std.proofs.Common.{ap₂, ◌∙◌, suc, arith, length-append}
 use mir.Val.{bool_byte}
 use Rattle.std.specs.List.{sum_by}
-use Rattle.std.specs.Map.{keys_of, values_of}
+use Rattle.std.specs.Map.{values_of}
 use Rattle.std.proofs.lemmas.Bool.Decides.{nat_tests}
 use Rattle.std.proofs.lemmas.List.Sums.{sum_by-cons, sum_by-append}
 use Rattle.mq_tree.specs.Entries.{Entries, capped}
 use Rattle.mq_tree.specs.Nodes.{NodeView, Branches, Children, under, below, own, entries_of}
-use Rattle.mq_tree.specs.Nodes.{entries_in, children_of, AreChildren}
-use Rattle.mq_tree.specs.Below.{tally}
+use Rattle.mq_tree.specs.Nodes.{children_of, AreChildren}
 use Rattle.mq_tree.specs.Falls.{some_length}
-use Rattle.mq_tree.specs.Prefixes.{prefixes}
-use Rattle.mq_tree.proofs.Blocks.{prefixes_own, length-blocks}
 
 -- one level further down there are as many entries
 pub length-under : {V : Type 0} (l : List ℕ) (es : Entries V) → length (under l es) ≡ length es
@@ -79,48 +76,6 @@ pub length-own : {V : Type 0} (value : Option V) (children : Children V) (n : �
 length-own None children n e = omega (arith, length-below children)
 length-own (Some v) children n e = omega (arith, length-below children)
 
--- ---- over a map's nodes
-sum_by-children : {Y V : Type 0} (f : Entries V → ℕ) (nodes : Branches Y V)
-    → sum_by f (values_of (children_of nodes))
-    ≡ sum_by (λ node. f (entries_in node)) (values_of nodes)
-sum_by-children f [] = refl
-sum_by-children f (node ∷ nodes) = sum_by-cons f (entries_in node.1) (values_of (children_of nodes))
-    ∙ ap (λ n. f (entries_in node.1) + n) (sum_by-children f nodes)
-    ∙ sym (sum_by-cons (λ x. f (entries_in x)) node.1 (values_of nodes))
-
--- the entries of a node are its own and those of its children
-pub length-node : {Y V : Type 0} (value : Option V) (nodes : Branches Y V) (now : NodeView V)
-    (n : ℕ) → ◌≡◌ {A = NodeView V} (value, children_of nodes) now → n ≡ bool_byte (is_some value)
-    → n + sum_by (λ node. length (entries_in node)) (values_of nodes) ≡ length (entries_of now)
-length-node value nodes now n is e = ap (λ s. n + s) (sym (sum_by-children length nodes))
-    ∙ length-own value (children_of nodes) n e ∙ ap (λ node. length (entries_of node)) is
-
--- how many nodes a child and those below it are
-abbrev pub nodes_of : {V : Type 0} → Entries V → ℕ
-nodes_of es = length (prefixes (keys_of es)) + 1
-
-tallied_nodes : {Y V : Type 0} (nodes : Branches Y V)
-    → tally (λ child. length (prefixes (keys_of child.1))) (children_of nodes)
-    ≡ sum_by (λ node. nodes_of (entries_in node)) (values_of nodes)
-tallied_nodes [] = refl
-tallied_nodes (node ∷ nodes) =
-    omega (
-      arith,
-      tallied_nodes nodes,
-      sum_by-cons (λ x. nodes_of (entries_in x)) node.1
-          (values_of nodes),
-    )
-
--- the nodes below a node are its children, and those below them
-pub prefixes_node : {Y V : Type 0} (value : Option V) (nodes : Branches Y V) (now : NodeView V)
-    → ◌≡◌ {A = NodeView V} (value, children_of nodes) now → AreChildren (children_of nodes)
-    → sum_by (λ node. nodes_of (entries_in node)) (values_of nodes)
-    ≡ length (prefixes (keys_of (entries_of now)))
-prefixes_node value nodes now is are =
-    sym (tallied_nodes nodes) ∙ sym (length-blocks (children_of nodes))
-    ∙ ap length (sym (prefixes_own value (children_of nodes) are))
-    ∙ ap (λ node. length (prefixes (keys_of (entries_of node)))) is
-
 -- ---- values
 -- what the values hold, f of each
 abbrev pub held : {V : Type 0} → (V → ℕ) → Entries V → ℕ
@@ -143,19 +98,13 @@ held-below f (child ∷ children) =
 
 -- a node's own value and its children's values hold together what all of its entries hold,
 -- as a u64 gives it
-pub held-node : {Y V : Type 0} (f : V → ℕ) (value : Option V) (nodes : Branches Y V)
-    (now : NodeView V) (n : ℕ) → ◌≡◌ {A = NodeView V} (value, children_of nodes) now
-    → n ≡ capped (held f (own value))
-    → capped (n + sum_by (λ node. held f (entries_in node)) (values_of nodes))
-    ≡ capped (held f (entries_of now))
-held-node f value nodes now n is e =
-    let rest : held f (below (children_of nodes))
-    ≡ sum_by (λ node. held f (entries_in node)) (values_of nodes) =
-    held-below f (children_of nodes) ∙ sum_by-children (held f) nodes in
-    let whole : held f (own value ++ below (children_of nodes)) ≡ held f (own value)
-    + held f (below (children_of nodes)) =
-    sum_by-append (λ e. f e.1) (own value) (below (children_of nodes)) in
-    let both : capped (n + sum_by (λ node. held f (entries_in node)) (values_of nodes))
-    ≡ capped (held f (own value ++ below (children_of nodes))) =
-    omega (arith, e, rest, whole) in
-    both ∙ ap (λ node. capped (held f (entries_of node))) is
+pub held-node : {V : Type 0} (f : V → ℕ) (node : NodeView V) (n : ℕ)
+    → n ≡ capped (held f (own node.0))
+    → capped (n + sum_by (held f) (values_of node.1)) ≡ capped (held f (entries_of node))
+held-node f node n e =
+    omega (
+      arith,
+      e,
+      held-below f node.1,
+      sum_by-append (λ e. f e.1) (own node.0) (below node.1),
+    )

@@ -53,6 +53,14 @@ first_weighs_less child rest n live low =
     let s = some_length child.1 live.0 in
     (omega (arith, a, b, s, low), omega (arith, a, b, s, low))
 
+-- the children weigh no more than their node together, and each leads to an entry
+pub all_weigh_less : {V : Type 0} (node : NodeView V) (children : Children V) → children ≡ node.1
+    → AreChildren node.1 → (weight (below children) ≤ weight (entries_of node)) × NoneDead children
+all_weigh_less node children e are = (
+  omega (arith, weight-append (own node.0) (below node.1), ap (λ cs. weight (below cs)) e),
+  rw e are.live,
+)
+
 -- ---- the filter's end
 pub end_found : {V : Type 0} (node : NodeView V)
     → values_at (matches_below []) (entries_of node) ≡ values_of (own node.0)
@@ -73,6 +81,12 @@ pub end_met : {V : Type 0} (es : Entries V)
 end_met es = ap length (end_none (prefixes (keys_of es)) (long_prefixes (keys_of es)))
 
 -- ---- at `#`
+-- a `#` stands last in the rest too
+pub rest_hash_last : (ls : List (List ℕ)) (l : List ℕ) (rest : List (List ℕ)) → ls ≡ l ∷ rest
+    → HashLast ls → HashLast rest
+rest_hash_last ls l [] e h = tt
+rest_hash_last ls l (m ∷ rest) e h = (rw e at h).1
+
 pub hash_ends : (ls : List (List ℕ)) (l : List ℕ) (rest : List (List ℕ)) → ls ≡ l ∷ rest
     → HashLast ls → l ≡ hash → ls ≡ hash ∷ []
 hash_ends ls l [] e h s = e ∙ ap (λ x. x ∷ []) s

@@ -158,6 +158,13 @@ impl<'a, V> Child<'a, V> {
         self.level
     }
 
+    // Its node, for what counts a whole branch.
+    fn node(self) -> &'a Node<V>
+        ensures { entries_of result.now ≡ self.entry.1 }
+    {
+        self.node
+    }
+
     /// Enters it, which is one step.
     pub(crate) fn enter(self, steps: &mut Walk) -> &'a Node<V>
         ensures entries { entries_of result.now ≡ self.entry.1 }

@@ -3,14 +3,14 @@ use Rattle.std.proofs.Common.{append-nil}
 use Rattle.std.proofs.lemmas.Result.{on_ok_weaker}
 use Rattle.std.specs.Map.{keys_of}
 use Rattle.std.specs.List.{filter, flat_map}
-use Rattle.std.proofs.lemmas.Map.Iter.{rest_all}
+use Rattle.std.proofs.lemmas.Map.Iter.{rest_more, rest_all}
 use Rattle.mq_topic.specs.Levels.{levels_left}
-use Rattle.mq_tree.specs.Below.{hash, plus, matches_below, meets_filter, values_at, tally}
+use Rattle.mq_tree.specs.Below.{hash, plus, matches_below, meets_filter, values_at, nodes_at, tally}
 use Rattle.mq_tree.specs.Nodes.{entries_of}
 use Rattle.mq_tree.specs.Prefixes.{prefixes}
-use Rattle.mq_tree.proofs.Turns.{text_is, text_is_not, text_is_same, text_differs}
+use Rattle.mq_tree.proofs.Turns.{found_turn, text_is, text_is_not, text_is_same, text_differs}
 use Rattle.mq_tree.proofs.Filters.{end_found, end_met, hash_ends, hash_found, hash_met, exact_step}
-use Rattle.mq_tree.proofs.Filters.{exact_met_step, not_key, plus_found, plus_met}
+use Rattle.mq_tree.proofs.Filters.{exact_met_step, not_key, plus_found, plus_met, rest_hash_last}
 use Rattle.mq_tree.proofs.Exact.{found_some, found_none, met_some, met_none}
 use Rattle.mq_tree.proofs.lookup.+below_by_filter.Goals as goal
 
@@ -150,3 +150,41 @@ returns-clause-count g t c =
     (c.into_iter-child-iterator.ensures.into_iter_gives ∙ c.children-child-items.ensures.all) in
     let inv = c.loop-child.invariant.count in
     omega (arith, none, start, all, inv)
+
+pub below_by_filter-requires : goal.below_by_filter-requires
+below_by_filter-requires g t c =
+    let rest = levels_left c.split_first.result.1 in
+    let key = ap levels_left c.in-Some.is ∙ c.split_first.ensures in
+    λ κs x. (omega (arith, ap length key), (x, rest_hash_last _ _ rest key c.requires))
+
+pub loop-child-init : goal.loop-child-init
+loop-child-init g t c = record {
+  found = refl;
+  count = refl;
+  hash_last = rest_hash_last _ _ (levels_left c.split_first.result.1)
+      (ap levels_left c.in-Some.is ∙ c.split_first.ensures) c.requires;
+}
+
+pub loop-child-preserved : goal.loop-child-preserved
+loop-child-preserved g t c =
+    let rest = levels_left c.split_first.result.1 in
+    let child = c.in-Some-child-2.child in
+    let e = rest_more (λ x. x) _ _ _ child c.in-Some-child-2.is c.next.ensures.steps in
+    record {
+      found = found_turn _ _ (values_at (matches_below rest) child.1) _ _
+          (c.in_ok-below_by_filter.ensures.found
+          ∙ ap (λ es. map (λ (x : Bor g.row.V.Denot). x.now) c.loop-child.found.items
+          ++ values_at (matches_below rest) es) c.enter.ensures.entries)
+          (ap (λ cs. map (λ (x : Bor g.row.V.Denot). x.now) c.loop-child.found.items
+          ++ flat_map (λ child. values_at (matches_below rest) child.1) cs) (sym e)
+          ∙ c.loop-child.invariant.found);
+      count = omega (
+        arith,
+        c.in_ok-below_by_filter.ensures.count,
+        ap (nodes_at (meets_filter rest)) c.enter.ensures.entries,
+        c.enter.ensures.count,
+        ap (tally (λ child. length (filter (meets_filter rest) (prefixes (keys_of child.1))))) e,
+        c.loop-child.invariant.count,
+      );
+      hash_last = c.loop-child.invariant.hash_last;
+    }

@@ -282,3 +282,22 @@ returns-clause-count g t c =
     (all_given node.1 items c.loop-candidate.candidate-index (omega arith)) in
     let inv = c.loop-candidate.invariant.count in
     omega (arith, none, all, inv)
+
+pub below_by_name-requires : goal.below_by_name-requires
+below_by_name-requires g t c =
+    let rest = levels_left c.split_first.result.1 in
+    let key = ap levels_left c.in-Some.is ∙ c.split_first.ensures in
+    λ κs x. (omega (arith, ap length key), (x, (plain_cons _ _ rest key c.requires).1))
+
+pub below_by_name-requires-then-not-comes_before_plus-2 :
+    goal.below_by_name-requires-then-not-comes_before_plus-2
+below_by_name-requires-then-not-comes_before_plus-2 g t c =
+    let rest = levels_left c.split_first.result.1 in
+    let key = ap levels_left c.in-Some.is ∙ c.split_first.ensures in
+    λ κs x. (omega (arith, ap length key), (x, (plain_cons _ _ rest key c.requires).1))
+
+pub below_by_name-requires-in-loop-candidate : goal.below_by_name-requires-in-loop-candidate
+below_by_name-requires-in-loop-candidate g t c =
+    let rest = levels_left c.split_first.result.1 in
+    let key = ap levels_left c.in-Some.is ∙ c.split_first.ensures in
+    λ κs x. (omega (arith, ap length key), (x, (plain_cons _ _ rest key c.requires).1))

@@ -31,9 +31,9 @@ impl<V> Node<V> {
     pub(in crate::tree) fn len(&self) -> u64
         ensures { result ≡ capped (length (entries_of self.now)) }
     {
-        let mut total = u64::from(self.value.is_some());
-        for child in self.children.values() {
-            total = total.saturating_add(child.len());
+        let mut total = u64::from(self.value().is_some());
+        for child in self.children() {
+            total = total.saturating_add(child.node().len());
         }
         total
     }
@@ -43,8 +43,8 @@ impl<V> Node<V> {
         ensures { result ≡ capped (length (prefixes (keys_of (entries_of self.now)))) }
     {
         let mut total = 0u64;
-        for child in self.children.values() {
-            total = total.saturating_add(1).saturating_add(child.nodes());
+        for child in self.children() {
+            total = total.saturating_add(1).saturating_add(child.node().nodes());
         }
         total
     }
@@ -56,8 +56,8 @@ impl<V: Counted> Node<V> {
         ensures { result ≡ capped (sum_by (λ e. V.count_of e.1) (entries_of self.now)) }
     {
         let mut total = own_count(&self.value);
-        for child in self.children.values() {
-            total = total.saturating_add(child.total());
+        for child in self.children() {
+            total = total.saturating_add(child.node().total());
         }
         total
     }

@@ -1,5 +1,4 @@
-use Rattle.std.proofs.Common.{rules}
 use Rattle.mq_questions.proofs.ask.gain.show.Goals as goal
 
 pub returns : goal.returns
-returns c = search rules
+returns c = λ i. (c.in_ok-client.ensures.ok i, c.in_ok-name.ensures i)
