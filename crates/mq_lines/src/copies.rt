@@ -170,9 +170,8 @@ fn print_copy(
     Ok(())
 }
 
-/// An object for copies without identifiers, interval and group, and one for those with each of
-/// these alone. Other copies have
-/// their own.
+/// An object for copies without identifiers, interval and group, and one for those with each of these
+/// alone. Other copies have their own.
 #[derive(Drop)]
 pub struct Copies {
     plain: Object,
@@ -231,9 +230,8 @@ impl Copies {
         }
     }
 
-    /// Adds a line for each copy. Of copies that differ in their clients alone, as most of one
-    /// publish do, the client alone is
-    /// written again.
+    /// Adds a line for each copy. Of copies that differ in their clients alone, as most of one publish do,
+    /// the client alone is written again.
     pub fn print_all(
         &mut self,
         alloc: Global,

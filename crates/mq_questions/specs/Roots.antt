@@ -38,8 +38,7 @@ abbrev pub alike : Option (List ℕ) → Option (List ℕ) → List AclRow → B
 alike other user rows = list_all (λ row. same (applies other row.who) (applies user row.who)) rows
 
 -- for all users that the rows apply to as to this one, and the names that begin with `$`, or the
--- others, they decide as
--- the rows do
+-- others, they decide as the rows do
 pub record AreRoots (rows : List AclRow) (user : Option (List ℕ)) (direction : Direction)
     (dollar : Bool) (roots : List Remainder) : Type 0 where
   pub hits : (client name : List ℕ) (other : Option (List ℕ)) (deny : Bool)

@@ -21,8 +21,7 @@ abbrev pub as_grant : AclRow → AclRow
 as_grant row = record { who = row.who; access = granted_access row.access; filter = row.filter }
 
 -- the other row makes this one needless: it denies, or both grant; and of the two alone, a row that
--- denies taken for one
--- that grants, the one without this row allows the same
+-- denies taken for one that grants, the one without this row allows the same
 pub record MakesNeedless (other row : AclRow) : Type 0 where
   pub kind : (is_deny row.access && not (is_deny other.access)) ≡ false
   pub same : (user : Option (List ℕ))

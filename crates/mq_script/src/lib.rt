@@ -1,8 +1,8 @@
 //! The run of a script, and the devices that it reads from and writes to.
 //!
-//! A script goes through `run` line by line: `mq_lines` makes a command of a line, the router
-//! answers it, and a `Printer` makes
-//! the text that is written before the next command is applied. `exit_status` makes the status of what `run` answered.
+//! A script goes through `run` line by line: `mq_lines` makes a command of a line, the router answers it,
+//! and a `Printer` makes the text that is written before the next command is applied. `exit_status` makes
+//! the status of what `run` answered.
 #![tactic(auto)]
 
 mod answer;
