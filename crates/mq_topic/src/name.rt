@@ -1,5 +1,11 @@
 ghost use Rattle.std.specs.Prelude.{◌≡◌, IfOk, IfErr, IsTrue};
 ghost use Rattle.mq_topic.specs.Texts.{name_fault, told, accepts, is_name, is_filter};
+ghost use Rattle.std.specs.Prelude.{Some, nat_eq};
+ghost use Rattle.std.specs.Ordering.{nat_cmp};
+ghost use Rattle.std.specs.Cmp;
+ghost use Rattle.std.specs.Cmp.Lexicographic.{pointwise, slice_cmp, nat_list_eq_equiv};
+ghost use Rattle.std.specs.Cmp.Lexicographic.{nat_list_cmp_total, texts_ties, texts_po};
+ghost use Rattle.std.proofs.Common.{refl};
 
 use crate::fault::TopicFault;
 use crate::level_text::LevelText;
@@ -64,13 +70,6 @@ impl LevelText for TopicName {
         self.text.as_str()
     }
 }
-
-ghost use Rattle.std.specs.Prelude.{Some, nat_eq};
-ghost use Rattle.std.specs.Ordering.{nat_cmp};
-ghost use Rattle.std.specs.Cmp;
-ghost use Rattle.std.specs.Cmp.Lexicographic.{pointwise, slice_cmp, nat_list_eq_equiv};
-ghost use Rattle.std.specs.Cmp.Lexicographic.{nat_list_cmp_total, texts_ties, texts_po};
-ghost use Rattle.std.proofs.Common.{refl};
 
 impl PartialEq for TopicName {
     ghost eq = { pointwise nat_eq };
