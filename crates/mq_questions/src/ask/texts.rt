@@ -10,7 +10,6 @@ use mq_walk::Others;
 use std::alloc::{AllocError, Global};
 
 /// The texts that `Fresh` lends.
-#[derive(Drop)]
 pub(crate) struct FreshTexts {
     plain: String,
     dollar: String,
@@ -18,6 +17,20 @@ pub(crate) struct FreshTexts {
     dollar_client: String,
     user: String,
     dollar_user: String,
+}
+
+// So a drop of the texts is one step in the proof of who owns them.
+impl Drop for FreshTexts {
+    fn drop(self) {
+        let FreshTexts {
+            plain: _,
+            dollar: _,
+            client: _,
+            dollar_client: _,
+            user: _,
+            dollar_user: _,
+        } = self;
+    }
 }
 
 impl FreshTexts {
