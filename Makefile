@@ -38,7 +38,6 @@ test:
 
 bench:
 	bench/run.sh
-	bench/tree.sh
 	bench/acl.py crates/mqroute_acl/out/mqroute_acl
 
 install:

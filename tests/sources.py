@@ -19,7 +19,7 @@ TOP = pathlib.Path(__file__).resolve().parent.parent
 # The crates that a router is made of, and those that may count what they like.
 ROUTER = ["mq_router", "mq_subscriptions", "mq_retained", "mq_sessions", "mq_ends", "mq_world", "mq_acl", "mq_tree",
           "mq_topic"]
-TESTS_AND_TOOLS = {"mq_calls", "mq_refused", "mq_bench"}
+TESTS_AND_TOOLS = {"mq_calls", "mq_refused"}
 
 MADE_OF = {
     "Router":
