@@ -103,7 +103,7 @@ fn add(remarks: &mut Vec<Remark>, line: u64, by: Option<u64>) -> Result<(), Allo
 }
 
 // The lines without which the list of the question allows the same.
-fn needless_in(alloc: Global, rows: &[Row], question: &Needless) -> Result<Vec<Remark>, ListFault>
+fn remarks_on(alloc: Global, rows: &[Row], question: &Needless) -> Result<Vec<Remark>, ListFault>
     requires list { question.now ≡ row_views rows.now }
     requires short { long_line rows.now ≡ None }
     ensures each { IfOk result (λ told. All (IsNeedlessLine rows.now) told.items) }
@@ -130,5 +130,5 @@ pub fn needless(alloc: Global, rows: &[Row]) -> Result<Vec<Remark>, ListFault>
     ensures fault { IfErr result (IsListFault rows.now) }
 {
     let question = Needless::new(alloc, rows)?;
-    needless_in(alloc, rows, &question)
+    remarks_on(alloc, rows, &question)
 }

@@ -25,7 +25,8 @@ returns-then-is_empty c =
     (dropped-last c.args.client.now (text_key c.args.text.now) c.self.inside.by_client.entries
     c.in-Some.filters.now w (c.get_mut.follows.lender w).entries
     (sym c.get_mut.ensures.value ∙ ap option_copied_mut c.in-Some.is) (c.get_mut.follows.holds w).0
-    c.self.invariant.ordered c.remove-then-is_empty.new.self.entries c.remove-then-is_empty.ensures.entries
+    c.self.invariant.ordered c.remove-then-is_empty.new.self.entries
+    c.remove-then-is_empty.ensures.entries
     (sym c.is_empty.ensures ∙ c.if-is_empty.true) c.remove.ensures) in
     elim c.match-remove.branch [
       | goal.in-Some-1 s ↦ rw s.self-is rest

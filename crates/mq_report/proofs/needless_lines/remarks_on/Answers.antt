@@ -11,7 +11,7 @@ use Rattle.mq_report.specs.declared.remark.RemarkKind.TheVariants.{Needless}
 use Rattle.mq_report.proofs.NeedlessLemmas.{rest_needed, rest_told, line_same, by_of}
 use Rattle.mq_report.proofs.NeedlessLemmas.{line_is_needless}
 use Rattle.mq_report.proofs.ShortLemmas.{short_at}
-use Rattle.mq_report.proofs.needless_lines.needless_in.Goals as goal
+use Rattle.mq_report.proofs.needless_lines.remarks_on.Goals as goal
 
 pub loop-index-preserved-then-not-branch : goal.loop-index-preserved-then-not-branch
 loop-index-preserved-then-not-branch c = record {

@@ -1,6 +1,6 @@
 use Rattle.std.specs.List.{All}
 use Rattle.mq_report.specs.Needless.{IsNeedlessLine, AreRest}
-use Rattle.mq_report.proofs.needless_lines.needless_in.Given as goal
+use Rattle.mq_report.proofs.needless_lines.remarks_on.Given as goal
 
 abbrev pub invariant-loop-index : goal.invariant-loop-index
 invariant-loop-index l = record {
