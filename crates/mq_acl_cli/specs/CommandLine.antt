@@ -28,13 +28,17 @@ optional_argument name = record (new_rule name) { value_names = 1 }
 abbrev pub json_flag : Rule
 json_flag = record (new_rule (codes "json")) { long = Some (codes "json"); action = Some SetTrue }
 
+-- `--NAME VALUE`
+abbrev pub option : Text → Rule
+option name = record (new_rule name) { long = Some name; value_names = 1 }
+
 -- `--user NAME`
 abbrev pub user_option : Rule
-user_option = record (new_rule (codes "user")) { long = Some (codes "user"); value_names = 1 }
+user_option = option (codes "user")
 
 -- `--script SCRIPT`
 abbrev pub script_option : Rule
-script_option = record (new_rule (codes "script")) { long = Some (codes "script"); value_names = 1 }
+script_option = option (codes "script")
 
 -- `NAME LIST [--json]`
 abbrev pub question : (name list : Text) → App

@@ -25,6 +25,18 @@ pub struct Changes {
     pub differences: Vec<Difference>,
 }
 
+impl Changes {
+    /// Where the lists differ, without their rows.
+    pub fn into_differences(self) -> Vec<Difference> {
+        let Changes {
+            old: _,
+            new: _,
+            differences,
+        } = self;
+        differences
+    }
+}
+
 fn comparison_failure<'a>(
     old: ListText<'a, '_>,
     new: ListText<'a, '_>,

@@ -1,12 +1,13 @@
 //! The command line.
-ghost use Rattle.std.specs.Prelude.{◌≡◌, [], false, map, string_bytes, IfOk, OnOk, IfErr};
-ghost use Rattle.clap.specs.Words.{app_of, rule_of, fault_of, subcommand_of, FailsBy};
-ghost use Rattle.clap.specs.Words.{subcommand_rows_of};
+ghost use Rattle.std.specs.Prelude.{◌≡◌, List, [], false, map, string_bytes, IfOk};
+ghost use Rattle.std.specs.Prelude.{OnOk, IfErr};
+ghost use Rattle.clap.specs.Words.{App, Text, Kinds, app_of, rule_of, fault_of, subcommand_of};
+ghost use Rattle.clap.specs.Words.{subcommand_rows_of, new_app, with_subcommand, FailsBy, HasKind};
 ghost use Rattle.clap.specs.declared.builder.command.Command.TheViews.{out-Command as fields_of};
 ghost use Rattle.mq_acl_cli.specs.CommandLine.{mqroute_acl, argument, optional_argument, json_flag};
-ghost use Rattle.mq_acl_cli.specs.CommandLine.{user_option, script_option, question};
+ghost use Rattle.mq_acl_cli.specs.CommandLine.{option, question};
 ghost use Rattle.mq_acl_cli.specs.CommandLine.{compare, why, lint, reach, reach_question};
-ghost use Rattle.mq_acl_cli.specs.CommandLine.{AreGiven, IsFaultOf};
+ghost use Rattle.mq_acl_cli.specs.CommandLine.{AreGiven, IsAskedBy, IsFaultOf};
 
 use crate::help::{
     ABOUT, AFTER_HELP, CLIENT_HELP, COMPARE_ABOUT, COMPARE_AFTER_HELP, FILE_HELP, FILTER_HELP,
@@ -26,7 +27,7 @@ For more information, try 'mqroute-acl reach --help'.
 ";
 
 /// Why the command line asks for nothing.
-#[derive(Debug, Drop)]
+#[derive(Drop)]
 pub enum UsageFault {
     /// Help is asked for; the text is to be printed on standard output.
     Help(String),
@@ -74,75 +75,63 @@ fn json_flag<'a>(alloc: Global) -> Arg<'a>
         .help(JSON_HELP)
 }
 
-// `--user NAME`
-fn user_option<'a>(alloc: Global) -> Arg<'a>
-    ensures { (rule_of result ≡ user_option) × (result.global ≡ false) }
+// `--NAME VALUE`
+fn option<'a>(alloc: Global, name: &'a str, value: &'a str, help: &'a str) -> Arg<'a>
+    ensures { (rule_of result ≡ option name.entry.now) × (result.global ≡ false) }
 {
-    Arg::new(alloc, "user")
-        .long("user")
-        .value_name("NAME")
-        .help(USER_HELP)
+    Arg::new(alloc, name)
+        .long(name)
+        .value_name(value)
+        .help(help)
 }
 
-// `--script SCRIPT`
-fn script_option<'a>(alloc: Global) -> Arg<'a>
-    ensures { (rule_of result ≡ script_option) × (result.global ≡ false) }
-{
-    Arg::new(alloc, "script")
-        .long("script")
-        .value_name("SCRIPT")
-        .help(SCRIPT_HELP)
-}
-
-// `NAME LIST [--json]`
+// `NAME LIST [--json]`, of a command that has its name
 fn question<'a>(
     alloc: Global,
-    name: &'a str,
+    named: Command<'a>,
     list: &'a str,
     help: &'a str,
 ) -> Result<Command<'a>, AllocError>
-    ensures { IfOk result (λ c. (app_of c ≡ question name.entry.now list.entry.now)
-        × ((fields_of c).has_globals ≡ false)) }
+    ensures { IfOk result (λ c. (name : Text) → (app_of named.entry ≡ new_app name)
+        × ((fields_of named.entry).has_globals ≡ false)
+        → (app_of c ≡ question name list.entry.now) × ((fields_of c).has_globals ≡ false)) }
 {
-    let empty = Command::new(alloc, name);
-    let listed = empty.arg(argument(alloc, list, help))?;
-    let flagged = listed.arg(json_flag(alloc))?;
-    Ok(flagged)
+    let listed = named.arg(argument(alloc, list, help))?;
+    listed.arg(json_flag(alloc))
 }
 
 // `compare OLD NEW [--json]`
 fn compare_command<'a>(alloc: Global) -> Result<Command<'a>, AllocError>
     ensures { IfOk result (λ c. (app_of c ≡ compare) × ((fields_of c).has_globals ≡ false)) }
 {
-    let listed = question(alloc, "compare", "OLD", OLD_HELP)?;
-    let whole = listed.arg(argument(alloc, "NEW", NEW_HELP))?;
-    Ok(whole.about(COMPARE_ABOUT).after_help(COMPARE_AFTER_HELP))
+    let named = Command::new(alloc, "compare")
+        .about(COMPARE_ABOUT)
+        .after_help(COMPARE_AFTER_HELP);
+    let listed = question(alloc, named, "OLD", OLD_HELP)?;
+    listed.arg(argument(alloc, "NEW", NEW_HELP))
 }
 
-// The arguments of `why FILE CLIENT TOPIC [--user NAME] [--json]`.
-fn why_arguments<'a>(alloc: Global) -> Result<Command<'a>, AllocError>
-    ensures { IfOk result (λ c. (app_of c ≡ why) × ((fields_of c).has_globals ≡ false)) }
-{
-    let listed = question(alloc, "why", "FILE", FILE_HELP)?;
-    let held = listed.arg(argument(alloc, "CLIENT", CLIENT_HELP))?;
-    let about = held.arg(argument(alloc, "TOPIC", TOPIC_HELP))?;
-    let whole = about.arg(user_option(alloc))?;
-    Ok(whole)
-}
-
+// `why FILE CLIENT TOPIC [--user NAME] [--json]`
 fn why_command<'a>(alloc: Global) -> Result<Command<'a>, AllocError>
     ensures { IfOk result (λ c. (app_of c ≡ why) × ((fields_of c).has_globals ≡ false)) }
 {
-    let whole = why_arguments(alloc)?;
-    Ok(whole.about(WHY_ABOUT).after_help(WHY_AFTER_HELP))
+    let named = Command::new(alloc, "why")
+        .about(WHY_ABOUT)
+        .after_help(WHY_AFTER_HELP);
+    let listed = question(alloc, named, "FILE", FILE_HELP)?;
+    let held = listed.arg(argument(alloc, "CLIENT", CLIENT_HELP))?;
+    let about = held.arg(argument(alloc, "TOPIC", TOPIC_HELP))?;
+    about.arg(option(alloc, "user", "NAME", USER_HELP))
 }
 
 // `lint FILE [--json]`
 fn lint_command<'a>(alloc: Global) -> Result<Command<'a>, AllocError>
     ensures { IfOk result (λ c. (app_of c ≡ lint) × ((fields_of c).has_globals ≡ false)) }
 {
-    let whole = question(alloc, "lint", "FILE", FILE_HELP)?;
-    Ok(whole.about(LINT_ABOUT).after_help(LINT_AFTER_HELP))
+    let named = Command::new(alloc, "lint")
+        .about(LINT_ABOUT)
+        .after_help(LINT_AFTER_HELP);
+    question(alloc, named, "FILE", FILE_HELP)
 }
 
 // `reach FILE [CLIENT] [FILTER] [--json]`
@@ -150,38 +139,46 @@ fn reach_question<'a>(alloc: Global) -> Result<Command<'a>, AllocError>
     ensures { IfOk result (λ c. (app_of c ≡ reach_question)
         × ((fields_of c).has_globals ≡ false)) }
 {
-    let listed = question(alloc, "reach", "FILE", FILE_HELP)?;
+    let named = Command::new(alloc, "reach")
+        .about(REACH_ABOUT)
+        .after_help(REACH_AFTER_HELP);
+    let listed = question(alloc, named, "FILE", FILE_HELP)?;
     let held = listed.arg(optional_argument(alloc, "CLIENT", SUBSCRIBER_HELP))?;
-    let about = held.arg(optional_argument(alloc, "FILTER", FILTER_HELP))?;
-    Ok(about)
+    held.arg(optional_argument(alloc, "FILTER", FILTER_HELP))
 }
 
-// The arguments of `reach FILE [CLIENT] [FILTER] [--user NAME] [--script SCRIPT] [--json]`.
-fn reach_arguments<'a>(alloc: Global) -> Result<Command<'a>, AllocError>
-    ensures { IfOk result (λ c. (app_of c ≡ reach) × ((fields_of c).has_globals ≡ false)) }
-{
-    let about = reach_question(alloc)?;
-    let named = about.arg(user_option(alloc))?;
-    let whole = named.arg(script_option(alloc))?;
-    Ok(whole)
-}
-
+// `reach FILE [CLIENT] [FILTER] [--user NAME] [--script SCRIPT] [--json]`
 fn reach_command<'a>(alloc: Global) -> Result<Command<'a>, AllocError>
     ensures { IfOk result (λ c. (app_of c ≡ reach) × ((fields_of c).has_globals ≡ false)) }
 {
-    let whole = reach_arguments(alloc)?;
-    Ok(whole.about(REACH_ABOUT).after_help(REACH_AFTER_HELP))
+    let about = reach_question(alloc)?;
+    let named = about.arg(option(alloc, "user", "NAME", USER_HELP))?;
+    named.arg(option(alloc, "script", "SCRIPT", SCRIPT_HELP))
+}
+
+// The command with this subcommand too, if there was memory for it.
+fn with_subcommand<'a>(
+    command: Command<'a>,
+    subcommand: Result<Command<'a>, AllocError>,
+) -> Result<Command<'a>, AllocError>
+    ensures { IfOk result (λ c. (a s : App) → app_of command.entry ≡ a
+        → IfOk subcommand.entry (λ s'. (app_of s' ≡ s) × ((fields_of s').has_globals ≡ false))
+        → app_of c ≡ with_subcommand a s.top) }
+{
+    command.subcommand(subcommand?)
 }
 
 fn command<'a>(alloc: Global) -> Result<Command<'a>, AllocError>
     ensures { IfOk result (λ c. app_of c ≡ mqroute_acl) }
 {
-    let empty = Command::new(alloc, "mqroute-acl").subcommand_required(true);
-    let compared = empty.subcommand(compare_command(alloc)?)?;
-    let explained = compared.subcommand(why_command(alloc)?)?;
-    let linted = explained.subcommand(lint_command(alloc)?)?;
-    let whole = linted.subcommand(reach_command(alloc)?)?;
-    Ok(whole.about(ABOUT).after_help(AFTER_HELP))
+    let named = Command::new(alloc, "mqroute-acl")
+        .subcommand_required(true)
+        .about(ABOUT)
+        .after_help(AFTER_HELP);
+    let compared = with_subcommand(named, compare_command(alloc))?;
+    let explained = with_subcommand(compared, why_command(alloc))?;
+    let linted = with_subcommand(explained, lint_command(alloc))?;
+    with_subcommand(linted, reach_command(alloc))
 }
 
 fn matches_in<'a>(alloc: Global, words: &'a [String]) -> Result<ArgMatches<'a>, Error>
@@ -193,6 +190,35 @@ fn matches_in<'a>(alloc: Global, words: &'a [String]) -> Result<ArgMatches<'a>, 
     command.try_get_matches_from(words)
 }
 
+// What the values that `clap` took ask.
+fn asked<'a>(alloc: Global, matches: &ArgMatches<'a>) -> Result<Request<'a>, UsageFault>
+    ensures ok { IfOk result (IsAskedBy (subcommand_rows_of matches.now)) }
+    ensures err { IfErr result (λ fault. (words : List Text) → (kinds : Kinds)
+        → subcommand_rows_of matches.now ≡ subcommand_of mqroute_acl words
+        → IsFaultOf words kinds fault) }
+{
+    if let Some(request) = request_in(matches) {
+        return Ok(request);
+    }
+    let text = String::from_str(alloc, NO_QUESTION)?;
+    Err(UsageFault::Usage(text))
+}
+
+// Why `clap` refused the words.
+fn usage_fault(alloc: Global, error: &Error) -> UsageFault
+    ensures { (words : List Text) → (kinds : Kinds) → HasKind kinds error.now
+        → IsFaultOf words kinds result }
+{
+    let Ok(text) = error.to_string(alloc) else {
+        return UsageFault::Memory;
+    };
+    match error.kind() {
+        ErrorKind::DisplayHelp => UsageFault::Help(text),
+        ErrorKind::OutOfMemory => UsageFault::Memory,
+        _ => UsageFault::Usage(text),
+    }
+}
+
 /// What the words of a command line ask for; the first of them is the program's name.
 pub fn arguments<'a>(alloc: Global, words: &'a [String]) -> Result<Request<'a>, UsageFault>
     ensures ok { IfOk result (AreGiven (map string_bytes words.entry.now)) }
@@ -201,14 +227,7 @@ pub fn arguments<'a>(alloc: Global, words: &'a [String]) -> Result<Request<'a>, 
         IfErr result (IsFaultOf given (fault_of mqroute_acl given)) }
 {
     match matches_in(alloc, words) {
-        Ok(matches) => match request_in(&matches) {
-            Some(request) => Ok(request),
-            None => Err(UsageFault::Usage(String::from_str(alloc, NO_QUESTION)?)),
-        },
-        Err(e) => match e.kind() {
-            ErrorKind::DisplayHelp => Err(UsageFault::Help(e.to_string(alloc)?)),
-            ErrorKind::OutOfMemory => Err(UsageFault::Memory),
-            _ => Err(UsageFault::Usage(e.to_string(alloc)?)),
-        },
+        Ok(matches) => asked(alloc, &matches),
+        Err(error) => Err(usage_fault(alloc, &error)),
     }
 }

@@ -6,7 +6,7 @@ ghost use Rattle.mq_acl_cli.specs.Statuses.{failure_status};
 use crate::changes::{find_changes, outcome_of};
 use crate::failure::Failure;
 use crate::outcome::Outcome;
-use crate::print::print;
+use crate::print::print_answer;
 use mq_acl_words::{ListText, changes_text};
 use std::alloc::Global;
 use std::io::Write;
@@ -24,7 +24,7 @@ pub fn tell_changes<'a, W: Write>(
 {
     let changes = find_changes(alloc, old, new)?;
     let outcome = outcome_of(&changes.differences);
-    let text = changes_text(alloc, old, new, changes.differences, json)?;
-    print(out, text.as_str())?;
+    let text = changes_text(alloc, old, new, changes.into_differences(), json);
+    print_answer(out, text)?;
     Ok(outcome)
 }

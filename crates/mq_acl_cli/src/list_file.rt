@@ -10,7 +10,7 @@ use std::io::{self, ErrorKind, Read};
 const FILE_LIMIT: usize = 16_777_216;
 
 /// Why a file gives no text. `Memory` may stand in place of any answer.
-#[derive(Clone, Copy, Debug, PartialEq, Eq)]
+#[derive(Clone, Copy, Drop)]
 pub enum FileFault {
     /// The reader failed.
     Read,

@@ -3,6 +3,7 @@ ghost use Rattle.std.specs.Io.KnownBytes.{Appends};
 ghost use Rattle.mq_acl_cli.specs.Statuses.{failure_status};
 
 use crate::failure::Failure;
+use std::alloc::AllocError;
 use std::io::Write;
 
 /// Writes all of a text at once.
@@ -17,4 +18,15 @@ pub(crate) fn print<'a, W: Write>(out: &mut W, text: &str) -> Result<(), Failure
         Ok(()) => Ok(()),
         Err(_) => Err(Failure::Write),
     }
+}
+
+/// Writes all of an answer at once, if there was memory for it.
+pub(crate) fn print_answer<'a, W: Write>(
+    out: &mut W,
+    answer: Result<String, AllocError>,
+) -> Result<(), Failure<'a>>
+    ensures { IfErr result (λ failure. failure_status failure ≡ 3) }
+{
+    let text = answer?;
+    print(out, text.as_str())
 }

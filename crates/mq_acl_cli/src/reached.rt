@@ -48,6 +48,31 @@ fn reach_of<'a, 'r>(
     }
 }
 
+// A topic that the filter matches and that these rows, which are the list's, let the client read.
+fn topic_in<'a>(
+    alloc: Global,
+    list: ListText<'a, '_>,
+    rows: &[Row],
+    client: Client<'a>,
+    filter: &TopicFilter,
+) -> Result<Option<TopicName>, Failure<'a>>
+    requires { AreRows list.text.now rows.now }
+    ensures ok { IfOk result (λ found. (subscription : List ℕ)
+        → filter.now ≡ filter_part subscription → IsReach list.entry.text.now
+        client.entry.id.now (option_copied client.entry.user) subscription found) }
+    ensures err { IfErr result (λ failure. (subscription : List ℕ)
+        → filter.now ≡ filter_part subscription → IsListFailure list.entry failure
+        ⊎ IsWordFailure client.entry.id.now (option_copied client.entry.user)
+        subscription failure) }
+{
+    let reach = reach_of(alloc, list, rows)?;
+    match reach.topic(alloc, client.id, client.user, filter) {
+        Ok(found) => Ok(found),
+        Err(ReachFault::Memory) => Err(Failure::Memory),
+        Err(_) => Err(Failure::LongWord),
+    }
+}
+
 /// A topic that a subscription of this client can be sent by the list, or that there is none. A subscription is a topic
 /// filter, or `$share/NAME/FILTER`.
 pub fn find_topic<'a>(
@@ -64,12 +89,7 @@ pub fn find_topic<'a>(
 {
     let filter = filter_in(alloc, subscription)?;
     let rows = rows_in(alloc, list)?;
-    let reach = reach_of(alloc, list, &rows)?;
-    match reach.topic(alloc, client.id, client.user, &filter) {
-        Ok(found) => Ok(found),
-        Err(ReachFault::Memory) => Err(Failure::Memory),
-        Err(_) => Err(Failure::LongWord),
-    }
+    topic_in(alloc, list, &rows, client, &filter)
 }
 
 /// Whether there is a topic.

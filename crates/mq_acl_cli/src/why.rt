@@ -4,7 +4,7 @@ ghost use Rattle.mq_acl_cli.specs.Statuses.{failure_status};
 
 use crate::explanation::{Explanation, explain};
 use crate::failure::Failure;
-use crate::print::print;
+use crate::print::print_answer;
 use crate::request::Client;
 use mq_acl_words::{ListText, explanation_text};
 use std::alloc::Global;
@@ -22,6 +22,6 @@ pub fn tell_why<'a, W: Write>(
     ensures unread { IfErr result (λ failure. failure_status failure ≡ 2 → out.new ≡ out.old) }
 {
     let Explanation { reading, writing } = explain(alloc, list, client, topic)?;
-    let text = explanation_text(alloc, list, reading, writing, json)?;
-    print(out, text.as_str())
+    let text = explanation_text(alloc, list, reading, writing, json);
+    print_answer(out, text)
 }
