@@ -13,11 +13,22 @@ use std::alloc::{AllocError, Global};
 use std::collections::BTreeMap;
 
 /// The rows for all clients, for those without a user name, and for those of each user name, each in their order.
-#[derive(Debug, Drop)]
+#[derive(Debug)]
 pub(crate) struct Groups {
     everyone: Vec<Row>,
     anonymous: Vec<Row>,
     named: BTreeMap<String, Vec<Row>>,
+}
+
+// One step where it is dropped, and not one for each thing inside.
+impl Drop for Groups {
+    fn drop(self) {
+        let Groups {
+            everyone: _,
+            anonymous: _,
+            named: _,
+        } = self;
+    }
 }
 
 // Adds a row for the clients of this user name.

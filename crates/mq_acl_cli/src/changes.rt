@@ -15,7 +15,6 @@ use mq_topic::LevelText;
 use std::alloc::Global;
 
 /// Two lists, and where they differ.
-#[derive(Drop)]
 pub struct Changes {
     /// The rows of the old list.
     pub old: Vec<Row>,
@@ -23,6 +22,17 @@ pub struct Changes {
     pub new: Vec<Row>,
     /// Where they differ.
     pub differences: Vec<Difference>,
+}
+
+// One step where it is dropped, and not one for each thing inside.
+impl Drop for Changes {
+    fn drop(self) {
+        let Changes {
+            old: _,
+            new: _,
+            differences: _,
+        } = self;
+    }
 }
 
 impl Changes {

@@ -12,12 +12,21 @@ use mq_report::{Remark, RemarkKind, needless, remarks};
 use std::alloc::Global;
 
 /// The remarks on a list.
-#[derive(Drop)]
 pub struct Remarks {
     /// Lines that are faulty or odd.
     pub odd: Vec<Remark>,
     /// Lines that are needless, where none is faulty.
     pub needless: Vec<Remark>,
+}
+
+// One step where it is dropped, and not one for each thing inside.
+impl Drop for Remarks {
+    fn drop(self) {
+        let Remarks {
+            odd: _,
+            needless: _,
+        } = self;
+    }
 }
 
 fn has_fault(odd: &[Remark]) -> bool

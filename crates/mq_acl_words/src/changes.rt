@@ -11,7 +11,6 @@ use mq_topic::LevelText;
 use std::alloc::{AllocError, Global};
 
 // A group of differences in words.
-#[derive(Drop)]
 struct ChangeRow<'a> {
     who: String,
     access: &'static str,
@@ -21,11 +20,31 @@ struct ChangeRow<'a> {
     new: Side<'a>,
 }
 
+// One step where it is dropped, and not one for each thing inside.
+impl Drop for ChangeRow<'_> {
+    fn drop(self) {
+        let ChangeRow {
+            who: _,
+            access: _,
+            topic: _,
+            notes: _,
+            old: _,
+            new: _,
+        } = self;
+    }
+}
+
 // What decides in one of the lists.
-#[derive(Drop)]
 struct Side<'a> {
     place: String,
     words: &'a str,
+}
+
+// One step where it is dropped, and not one for each thing inside.
+impl Drop for Side<'_> {
+    fn drop(self) {
+        let Side { place: _, words: _ } = self;
+    }
 }
 
 #[derive(Clone, Copy, Drop)]

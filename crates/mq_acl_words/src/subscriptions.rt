@@ -5,12 +5,23 @@ use mq_reach::{Counts, Findings, Subscription};
 use std::alloc::{AllocError, Global};
 
 // A subscription in words.
-#[derive(Drop)]
 struct SubscriptionRow<'a> {
     place: String,
     client: &'a str,
     user: String,
     filter: &'a str,
+}
+
+// One step where it is dropped, and not one for each thing inside.
+impl Drop for SubscriptionRow<'_> {
+    fn drop(self) {
+        let SubscriptionRow {
+            place: _,
+            client: _,
+            user: _,
+            filter: _,
+        } = self;
+    }
 }
 
 #[derive(Clone, Copy, Drop)]

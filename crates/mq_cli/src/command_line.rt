@@ -59,7 +59,7 @@ Example:
   mqroute --acl-file current.acl script.jsonl";
 
 /// What the command line asks for.
-#[derive(Debug, Drop)]
+#[derive(Debug)]
 pub struct Options {
     /// The file of the access list.
     pub acl_file: Option<String>,
@@ -71,6 +71,19 @@ pub struct Options {
     pub unbuffered: bool,
     /// The file of the script.
     pub script: Option<String>,
+}
+
+// One step where it is dropped, and not one for each thing inside.
+impl Drop for Options {
+    fn drop(self) {
+        let Options {
+            acl_file: _,
+            max_retained: _,
+            max_queued: _,
+            unbuffered: _,
+            script: _,
+        } = self;
+    }
 }
 
 /// Why the command line gives no options.

@@ -172,7 +172,6 @@ fn print_copy(
 
 /// An object for copies without identifiers, interval and group, and one for those with each of these
 /// alone. Other copies have their own.
-#[derive(Drop)]
 pub struct Copies {
     plain: Object,
     ghost plain_names: { IsFor (copy_names (parts false false false))
@@ -186,6 +185,18 @@ pub struct Copies {
     with_group: Object,
     ghost group_names: { IsFor (copy_names (parts false false true))
         (members_view with_group.members.entries) },
+}
+
+// One step where it is dropped, and not one for each thing inside.
+impl Drop for Copies {
+    fn drop(self) {
+        let Copies {
+            plain: _,
+            with_ids: _,
+            with_expiry: _,
+            with_group: _,
+        } = self;
+    }
 }
 
 impl Copies {

@@ -33,7 +33,7 @@ pub struct Fields<'a> {
     is_faulty: bool,
 }
 
-// So a drop of the fields is one step in the proof of who owns them.
+// One step where it is dropped, and not one for each thing inside.
 impl Drop for Fields<'_> {
     fn drop(self) {
         let Fields {

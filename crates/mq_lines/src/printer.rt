@@ -199,7 +199,7 @@ pub struct Printer {
     ghost report_names: { IsFor (report_names false) (members_view report.members.entries) },
 }
 
-// So a drop of a printer is one step in the proof of who owns it, and not one for each thing inside.
+// One step where it is dropped, and not one for each thing inside.
 impl Drop for Printer {
     fn drop(self) {
         let Printer {

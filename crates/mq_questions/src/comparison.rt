@@ -50,12 +50,23 @@ impl From<AllocError> for ComparisonFault {
 /// doesn't. Each answer is for clients without a user name, for those of a user name that a list names, or for those of
 /// all others. An answer without a witness says that there is no difference; else it has all that are found, but for
 /// those that are the same up to the client id or the user name, and at most `MAX_WITNESSES`.
-#[derive(Drop)]
 pub struct Comparison<'a> {
     old: &'a [Row],
     new: &'a [Row],
     texts: FreshTexts,
     named: Literals<'a>,
+}
+
+// One step where it is dropped, and not one for each thing inside.
+impl Drop for Comparison<'_> {
+    fn drop(self) {
+        let Comparison {
+            old: _,
+            new: _,
+            texts: _,
+            named: _,
+        } = self;
+    }
 }
 
 impl<'a> Model for Comparison<'a> {

@@ -18,11 +18,21 @@ use std::alloc::{AllocError, Global};
 use std::marker::Model;
 
 /// A list that is asked which of its rows are needless: without such a row it allows each client the same.
-#[derive(Drop)]
 pub struct Needless<'a> {
     rows: &'a [Row],
     texts: FreshTexts,
     named: Literals<'a>,
+}
+
+// One step where it is dropped, and not one for each thing inside.
+impl Drop for Needless<'_> {
+    fn drop(self) {
+        let Needless {
+            rows: _,
+            texts: _,
+            named: _,
+        } = self;
+    }
 }
 
 impl<'a> Model for Needless<'a> {

@@ -95,11 +95,20 @@ fn unnamed_texts(
 }
 
 /// A list that is asked what clients may read of the topics that a filter matches (MQTT 5.0, section 4.7).
-#[derive(Drop)]
 pub struct Reach<'a> {
     rows: &'a [Row],
     // Where only the answer matters and not the topic, these spare to gather the levels of all rows.
     longest: FreshTexts,
+}
+
+// One step where it is dropped, and not one for each thing inside.
+impl Drop for Reach<'_> {
+    fn drop(self) {
+        let Reach {
+            rows: _,
+            longest: _,
+        } = self;
+    }
 }
 
 impl<'a> Model for Reach<'a> {

@@ -16,7 +16,6 @@ use mq_world::Command;
 use std::alloc::{AllocError, Global};
 
 /// What is found in a script.
-#[derive(Drop)]
 pub struct Findings {
     /// The subscriptions that are in vain, in the order of their lines.
     pub vain: Vec<Subscription>,
@@ -24,14 +23,31 @@ pub struct Findings {
     pub counts: Counts,
 }
 
+// One step where it is dropped, and not one for each thing inside.
+impl Drop for Findings {
+    fn drop(self) {
+        let Findings { vain: _, counts: _ } = self;
+    }
+}
+
 /// How far a search has come.
-#[derive(Drop)]
 pub(crate) struct Search {
     clients: Clients,
     vain: Vec<Subscription>,
     pub counts: Counts,
     ghost subscriptions: { counts.subscriptions ≤ counts.lines },
     ghost faulty: { counts.faulty ≤ counts.lines },
+}
+
+// One step where it is dropped, and not one for each thing inside.
+impl Drop for Search {
+    fn drop(self) {
+        let Search {
+            clients: _,
+            vain: _,
+            counts: _,
+        } = self;
+    }
 }
 
 impl Search {
@@ -179,9 +195,11 @@ impl Search {
         ensures { (rows : List AclRow) (lines : List (List ℕ)) → IsSearched rows lines self
             → IsFound rows lines result }
     {
-        Findings {
-            vain: self.vain,
-            counts: self.counts,
-        }
+        let Search {
+            clients: _,
+            vain,
+            counts,
+        } = self;
+        Findings { vain, counts }
     }
 }

@@ -1,5 +1,4 @@
 /// A subscription of a script.
-#[derive(Drop)]
 pub struct Subscription {
     /// The number of the line of its subscribe, from 1.
     pub line: u64,
@@ -9,4 +8,16 @@ pub struct Subscription {
     pub user: Option<String>,
     /// The filter as it is asked for, with `$share/NAME/` where it is shared.
     pub filter: String,
+}
+
+// One step where it is dropped, and not one for each thing inside.
+impl Drop for Subscription {
+    fn drop(self) {
+        let Subscription {
+            line: _,
+            client: _,
+            user: _,
+            filter: _,
+        } = self;
+    }
 }

@@ -9,7 +9,7 @@ use mq_questions::Way;
 use mq_topic::TopicName;
 
 /// A topic that a client may read or write by one list, and may not by another.
-#[derive(Debug, Drop)]
+#[derive(Debug)]
 pub struct Difference {
     /// Of which clients it is told.
     pub class: Class,
@@ -28,6 +28,22 @@ pub struct Difference {
     pub old_reason: Reason,
     /// What decides it in the new list.
     pub new_reason: Reason,
+}
+
+// One step where it is dropped, and not one for each thing inside.
+impl Drop for Difference {
+    fn drop(self) {
+        let Difference {
+            class: _,
+            direction: _,
+            way: _,
+            client: _,
+            topic: _,
+            made_up: _,
+            old_reason: _,
+            new_reason: _,
+        } = self;
+    }
 }
 
 pub(crate) fn same_direction(left: Direction, right: Direction) -> bool

@@ -7,12 +7,22 @@ use crate::difference::{Difference, same_direction};
 use std::alloc::{AllocError, Global};
 
 /// Differences that are alike: of the same way, direction and topic, and decided by the same lines.
-#[derive(Debug, Drop)]
+#[derive(Debug)]
 pub struct Group {
     /// One of them.
     pub first: Difference,
     /// The others.
     pub others: Vec<Difference>,
+}
+
+// One step where it is dropped, and not one for each thing inside.
+impl Drop for Group {
+    fn drop(self) {
+        let Group {
+            first: _,
+            others: _,
+        } = self;
+    }
 }
 
 fn is_alike(left: &Difference, right: &Difference) -> bool

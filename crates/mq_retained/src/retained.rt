@@ -31,11 +31,21 @@ use stored::Stored;
 
 /// One message for a topic, each with a deadline or none. It is seen as the list of the messages by topic in level order,
 /// with the keys of the tree and the pairs of the index.
-#[derive(Drop)]
 pub struct Retained {
     alloc: Global,
     tree: Messages,
     deadlines: Deadlines,
+}
+
+// One step where it is dropped, and not one for each thing inside.
+impl Drop for Retained {
+    fn drop(self) {
+        let Retained {
+            alloc: _,
+            tree: _,
+            deadlines: _,
+        } = self;
+    }
 }
 
 impl Model for Retained {

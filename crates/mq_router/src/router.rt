@@ -54,7 +54,7 @@ pub struct Router {
     retained: Retained,
 }
 
-// So a drop of a router is one step in the proof of who owns it, and not one for each thing inside.
+// One step where it is dropped, and not one for each thing inside.
 impl Drop for Router {
     fn drop(self) {
         let Router {

@@ -14,7 +14,6 @@ use mq_router::Router;
 use std::alloc::Global;
 
 /// How far a run has come.
-#[derive(Drop)]
 pub struct Progress {
     alloc: Global,
     printer: Printer,
@@ -26,6 +25,20 @@ pub struct Progress {
     line: Vec<u8>,
     /// Where an answer is put together before it is written.
     text: Vec<u8>,
+}
+
+// One step where it is dropped, and not one for each thing inside.
+impl Drop for Progress {
+    fn drop(self) {
+        let Progress {
+            alloc: _,
+            printer: _,
+            router: _,
+            summary: _,
+            line: _,
+            text: _,
+        } = self;
+    }
 }
 
 impl Progress {

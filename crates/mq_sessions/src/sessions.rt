@@ -35,10 +35,16 @@ use std::marker::Model;
 use std::rc::RcStr;
 
 /// The sessions, by client id, and the ends of those whose clients are away.
-#[derive(Drop)]
 pub struct Sessions {
     by_id: BTreeMap<RcStr, Session>,
     ends: Ends,
+}
+
+// One step where it is dropped, and not one for each thing inside.
+impl Drop for Sessions {
+    fn drop(self) {
+        let Sessions { by_id: _, ends: _ } = self;
+    }
 }
 
 impl Model for Sessions {

@@ -39,11 +39,21 @@ use std::marker::Model;
 use std::rc::{Rc, RcStr};
 
 /// The subscriptions, by their filters, and for each client that has any its own, so that its end walks no other's.
-#[derive(Drop)]
 pub struct Subscriptions {
     alloc: Global,
     tree: LevelTree<FilterEntry>,
     lists: ClientLists,
+}
+
+// One step where it is dropped, and not one for each thing inside.
+impl Drop for Subscriptions {
+    fn drop(self) {
+        let Subscriptions {
+            alloc: _,
+            tree: _,
+            lists: _,
+        } = self;
+    }
 }
 
 impl Model for Subscriptions {

@@ -23,10 +23,16 @@ use std::marker::Model;
 
 /// A map from topic names or topic filters to values, as a tree with a node for each level. It is seen as the
 /// list of its entries in level order: level by level, each by its bytes.
-#[derive(Drop)]
 pub struct LevelTree<V> {
     alloc: Global,
     root: Node<V>,
+}
+
+// One step where it is dropped, and not one for each thing inside.
+impl<V: Drop> Drop for LevelTree<V> {
+    fn drop(self) {
+        let LevelTree { alloc: _, root: _ } = self;
+    }
 }
 
 impl<V> Model for LevelTree<V> {

@@ -19,12 +19,18 @@ use std::alloc::{AllocError, Global};
 use std::collections::BTreeMap;
 
 /// The remainders of rows behind one more level of a name.
-#[derive(Drop)]
 pub(crate) struct Branches<'a> {
     /// Those that go on with this level alone.
     named: BTreeMap<&'a str, Vec<Remainder<'a>>>,
     /// Those that go on with any level.
     any: Vec<Remainder<'a>>,
+}
+
+// One step where it is dropped, and not one for each thing inside.
+impl Drop for Branches<'_> {
+    fn drop(self) {
+        let Branches { named: _, any: _ } = self;
+    }
 }
 
 // Adds one that goes on with this level.

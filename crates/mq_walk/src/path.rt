@@ -4,10 +4,16 @@ ghost use Rattle.mq_walk.specs.Paths.{levels_of, all_levels};
 use std::alloc::AllocError;
 
 /// The levels of a name, or of its end, the last one first.
-#[derive(Drop)]
 pub struct Path<'a> {
     /// Its levels.
     pub levels: Vec<&'a str>,
+}
+
+// One step where it is dropped, and not one for each thing inside.
+impl Drop for Path<'_> {
+    fn drop(self) {
+        let Path { levels: _ } = self;
+    }
 }
 
 impl<'a> Path<'a> {
@@ -15,7 +21,7 @@ impl<'a> Path<'a> {
     fn longer(self, level: &'a str) -> Result<Path<'a>, AllocError>
         ensures { IfOk result (λ path. levels_of path ≡ level.entry.now ∷ levels_of self.entry) }
     {
-        let mut levels = self.levels;
+        let Path { mut levels } = self;
         levels.push(level)?;
         Ok(Path { levels })
     }

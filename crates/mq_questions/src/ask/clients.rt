@@ -17,10 +17,16 @@ use mq_walk::{Marks, Path, Remainder, Start, is_barren, walk};
 use std::alloc::{AllocError, Global};
 
 /// A client id, and a name that this client gains.
-#[derive(Drop)]
 pub(crate) struct Gain<'a> {
     pub client: &'a str,
     pub path: Path<'a>,
+}
+
+// One step where it is dropped, and not one for each thing inside.
+impl Drop for Gain<'_> {
+    fn drop(self) {
+        let Gain { client: _, path: _ } = self;
+    }
 }
 
 // Each level that a row names, the user name, and some that stand for all others, those first.

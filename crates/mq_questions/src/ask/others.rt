@@ -34,10 +34,16 @@ pub struct OtherWitness {
 }
 
 /// A user name that no list names, and what a client with it gains.
-#[derive(Drop)]
 pub(crate) struct OtherGain<'a> {
     pub user: &'a str,
     pub gain: Gain<'a>,
+}
+
+// One step where it is dropped, and not one for each thing inside.
+impl Drop for OtherGain<'_> {
+    fn drop(self) {
+        let OtherGain { user: _, gain: _ } = self;
+    }
 }
 
 // Each level that a row names, and some user names that stand for all others, those first.

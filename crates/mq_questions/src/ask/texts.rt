@@ -19,7 +19,7 @@ pub(crate) struct FreshTexts {
     dollar_user: String,
 }
 
-// So a drop of the texts is one step in the proof of who owns them.
+// One step where it is dropped, and not one for each thing inside.
 impl Drop for FreshTexts {
     fn drop(self) {
         let FreshTexts {

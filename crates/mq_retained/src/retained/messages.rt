@@ -17,10 +17,19 @@ use std::marker::Model;
 
 /// The messages by topic, seen as the entries of the tree. Their number, at most `u64::MAX`, is kept beside it, so that a limit
 /// can be tested without a walk.
-#[derive(Drop)]
 pub(crate) struct Messages {
     by_topic: LevelTree<Stored>,
     count: u64,
+}
+
+// One step where it is dropped, and not one for each thing inside.
+impl Drop for Messages {
+    fn drop(self) {
+        let Messages {
+            by_topic: _,
+            count: _,
+        } = self;
+    }
 }
 
 impl Model for Messages {

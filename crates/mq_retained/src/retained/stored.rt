@@ -8,13 +8,25 @@ use std::alloc::{AllocError, Global};
 use std::rc::RcStr;
 
 /// The message that is retained for a topic.
-#[derive(Drop)]
 pub(crate) struct Stored {
     pub(crate) topic: TopicName,
     pub(crate) payload: String,
     pub(crate) qos: u8,
     pub(crate) publisher: RcStr,
     pub(crate) deadline: Option<u64>,
+}
+
+// One step where it is dropped, and not one for each thing inside.
+impl Drop for Stored {
+    fn drop(self) {
+        let Stored {
+            topic: _,
+            payload: _,
+            qos: _,
+            publisher: _,
+            deadline: _,
+        } = self;
+    }
 }
 
 impl Stored {

@@ -9,13 +9,23 @@ use std::alloc::{AllocError, Global};
 use std::rc::{Rc, RcStr};
 
 /// A message with its texts as its copies hold them: they are made once, and each copy shares them.
-#[derive(Drop)]
 pub(crate) struct Outgoing<'a> {
     pub(crate) message: Message<'a>,
     topic: RcStr,
     payload: RcStr,
     ghost same_topic: { rc_str_bytes topic ≡ message.topic.now },
     ghost same_payload: { rc_str_bytes payload ≡ message.payload.now },
+}
+
+// One step where it is dropped, and not one for each thing inside.
+impl Drop for Outgoing<'_> {
+    fn drop(self) {
+        let Outgoing {
+            message: _,
+            topic: _,
+            payload: _,
+        } = self;
+    }
 }
 
 impl<'a> Outgoing<'a> {

@@ -35,14 +35,22 @@ pub enum Way {
 }
 
 /// A copy that waits for its client, until its deadline if it has one.
-#[derive(Drop)]
 pub struct Waiting {
     pub copy: Delivery,
     pub deadline: Option<u64>,
 }
 
+// One step where it is dropped, and not one for each thing inside.
+impl Drop for Waiting {
+    fn drop(self) {
+        let Waiting {
+            copy: _,
+            deadline: _,
+        } = self;
+    }
+}
+
 /// What is known of a client.
-#[derive(Drop)]
 pub struct Session {
     pub user: Option<String>,
     /// The Session Expiry Interval in seconds.
@@ -50,6 +58,18 @@ pub struct Session {
     pub presence: Presence,
     /// The copies that wait, the first one first.
     pub waiting: LinkedList<Waiting>,
+}
+
+// One step where it is dropped, and not one for each thing inside.
+impl Drop for Session {
+    fn drop(self) {
+        let Session {
+            user: _,
+            interval: _,
+            presence: _,
+            waiting: _,
+        } = self;
+    }
 }
 
 impl Session {

@@ -28,11 +28,21 @@ use std::marker::Model;
 use std::rc::{Rc, RcStr};
 
 /// The subscriptions to one filter: those of clients in their own name, and the groups by share name.
-#[derive(Drop)]
 pub struct FilterEntry {
     filter: Rc<TopicFilter>,
     unshared: BTreeMap<RcStr, SubscriptionOptions>,
     groups: ShareGroups,
+}
+
+// One step where it is dropped, and not one for each thing inside.
+impl Drop for FilterEntry {
+    fn drop(self) {
+        let FilterEntry {
+            filter: _,
+            unshared: _,
+            groups: _,
+        } = self;
+    }
 }
 
 impl Model for FilterEntry {

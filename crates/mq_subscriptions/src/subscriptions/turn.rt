@@ -10,12 +10,23 @@ use std::alloc::AllocError;
 use std::rc::{Rc, RcStr};
 
 /// A member of a group that a publish serves.
-#[derive(Drop)]
 pub struct Turn {
     pub share: RcStr,
     pub filter: Rc<TopicFilter>,
     pub client: RcStr,
     pub options: SubscriptionOptions,
+}
+
+// One step where it is dropped, and not one for each thing inside.
+impl Drop for Turn {
+    fn drop(self) {
+        let Turn {
+            share: _,
+            filter: _,
+            client: _,
+            options: _,
+        } = self;
+    }
 }
 
 /// Sorts them by share name; those of one share name keep their order.
