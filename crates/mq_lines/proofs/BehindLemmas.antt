@@ -1,12 +1,21 @@
 -- Of copies that differ in their clients alone, the second one's line is the first one's with another client.
 use Rattle.std.proofs.Common.{◌≡◌, ℕ, List, [], ◌∷◌, Bool, Option, Some, None, IfSome, codes, refl}
-use Rattle.std.proofs.Common.{ap, ◌∙◌, subst}
+use Rattle.std.proofs.Common.{Result, OnOk, is_some, ◌==◌, true, false, sym, ap, ◌∙◌, subst}
+use Rattle.std.proofs.Common.{vec_len, Global}
+use Rattle.std.proofs.lemmas.Result.{on_ok_weaker}
+use Rattle.std.specs.Option.{option_map}
+use Rattle.std.specs.declared.rc.Rc.{Rc}
 use Rattle.serde_json.specs.Data.{string, Members, put}
+use Rattle.mq_world.specs.Keys.{Key}
+use Rattle.mq_world.specs.Lists.{Text}
+use Rattle.mq_world.specs.Views.{copy_of, group_of}
 use Rattle.mq_world.specs.World.{Copy, Group}
+use Rattle.mq_world.specs.declared.answer.Delivery.{Delivery}
 use Rattle.mq_lines.specs.Printed.{copy_members}
-use Rattle.mq_lines.specs.Behind.{with_client, IsAlike, IsBehind, held_for, Keeps, Follows}
+use Rattle.mq_lines.specs.Behind.{with_client, IsAlike, IsBehind, held, held_for, Keeps, Follows}
+use Rattle.mq_lines.specs.Objects.{Parts, parts, parts_of}
 use Rattle.mq_lines.specs.declared.object.Object.{Object}
-use Rattle.mq_lines.proofs.ObjectLemmas.{copy}
+use Rattle.mq_lines.proofs.ObjectLemmas.{copy, no_numbers, some_numbers}
 
 put_client : (k : ℕ) (x client topic payload : List ℕ) (qos : ℕ) (retain : Bool) (expiry : Option ℕ)
     (ids : List ℕ) (group : Option Group)
@@ -39,3 +48,61 @@ behind k before c plain ids expiry group alike keeps =
     let kept : Keeps k (with_client before.client c) plain ids expiry group =
     subst (λ (x : Copy). Keeps k x plain ids expiry group) alike keeps in
     some_weaker (held_for c plain ids expiry group) (is_behind k before.client c) kept
+
+-- ## The object for copies with the same parts
+
+some_group : (o : Option (Key × Rc Text Global)) → is_some (option_map group_of o) ≡ is_some o
+some_group None = refl
+some_group (Some g) = refl
+
+-- a copy without identifiers
+pub parts_without_ids : (d : Delivery) (expiry group : Bool) → (vec_len d.ids == 0) ≡ true
+    → is_some d.expiry ≡ expiry → is_some d.group ≡ group
+    → parts_of (copy_of d) ≡ parts false expiry group
+parts_without_ids d expiry group none e g =
+    rw (
+      no_numbers d.ids.items (ap (λ n. n == 0) (sym d.ids.ok.0) ∙ none),
+      e,
+      some_group d.group,
+      g,
+    )
+
+-- a copy with identifiers
+pub parts_with_ids : (d : Delivery) (expiry group : Bool) → (vec_len d.ids == 0) ≡ false
+    → is_some d.expiry ≡ expiry → is_some d.group ≡ group
+    → parts_of (copy_of d) ≡ parts true expiry group
+parts_with_ids d expiry group some e g =
+    rw (
+      some_numbers d.ids.items (ap (λ n. n == 0) (sym d.ids.ok.0) ∙ some),
+      e,
+      some_group d.group,
+      g,
+    )
+
+-- the members of the object for copies with these parts
+is_held : (c : Copy) (p : Parts) (plain ids expiry group : Object) (ms : Members) → parts_of c ≡ p
+    → held plain ids expiry group p.ids p.expiry p.group ≡ Some ms
+    → held_for c plain ids expiry group ≡ Some ms
+is_held c p plain ids expiry group ms same is =
+    ap (λ (q : Parts). held plain ids expiry group q.ids q.expiry q.group) same ∙ is
+
+-- of what follows a copy, the object that is for it is behind it
+pub held_follows : (k : ℕ) (c : Copy) (p : Parts) (plain ids expiry group : Object) (ms : Members)
+    → parts_of c ≡ p → held plain ids expiry group p.ids p.expiry p.group ≡ Some ms
+    → Follows k c plain ids expiry group
+    → IsBehind k c ms
+held_follows k c p plain ids expiry group ms same is follows =
+    subst (λ (o : Option Members). IfSome o (IsBehind k c))
+    (is_held c p plain ids expiry group ms same is) follows
+
+-- where the object that is for a copy has its line, the copy is kept
+pub held_keeps : {A E : Type 0} (r : Result A E) (k : ℕ) (c : Copy) (p : Parts)
+    (plain ids expiry group : Object) (ms : Members)
+    → parts_of c ≡ p → held plain ids expiry group p.ids p.expiry p.group ≡ Some ms
+    → OnOk r (ms ≡ copy_members k c)
+    → OnOk r (Keeps k c plain ids expiry group)
+held_keeps r k c p plain ids expiry group ms same is kept =
+    on_ok_weaker r
+    (λ e. subst (λ (o : Option Members). IfSome o (λ ms. ms ≡ copy_members k c))
+    (sym (is_held c p plain ids expiry group ms same is)) e)
+    kept

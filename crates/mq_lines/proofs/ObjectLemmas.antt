@@ -11,7 +11,7 @@ use Rattle.mq_world.specs.declared.answer.Outcome.TheVariants.{Reason}
 use Rattle.mq_lines.specs.Printed.{put_if, whole_data, numbers_data, text_if, whole_if, numbers_if}
 use Rattle.mq_lines.specs.Printed.{Report, copy_members, closing_members, report_members}
 use Rattle.mq_lines.specs.Objects.{names_of, values_of, IsFor, parts_of, copy_names, reason_names}
-use Rattle.mq_lines.specs.Objects.{report_names}
+use Rattle.mq_lines.specs.Objects.{Parts, report_names}
 use Rattle.std.specs.Option.{option_map}
 
 -- ## Members as names and values
@@ -140,6 +140,14 @@ pub copy_fits : (k : ℕ) (c : Copy) (ms : Members) → ms ≡ copy_members k c
 unfolding copy_members
 copy_fits k c ms is = λ some. ap names_of is
     ∙ names_copy k c.client c.topic c.payload c.qos c.retain c.expiry c.identifiers c.group
+
+-- how many members an object has that is refilled with the values of a copy with these parts
+pub copy_count : (c : Copy) (p : Parts) (old : Members) (b : Bool)
+    → IsFor (copy_names (parts_of c)) old → IsTrue b ↔ (names_of old ≡ []) → b ≡ false
+    → parts_of c ≡ p
+    → length (names_of old) ≡ length (copy_names p)
+copy_count c p old b fits empty some same =
+    ap length (had_names _ old b fits empty some ∙ ap copy_names same)
 
 abbrev value_if : Option Data → List Data → List Data
 value_if None ds = ds

@@ -1,7 +1,7 @@
 -- Each command's fields, read in the order of their names.
 use Rattle.std.proofs.Common.{◌≡◌, ℕ, List, [], ◌∷◌, true, false, Option, Some, None, option_map}
 use Rattle.std.proofs.Common.{Bool, ◌||◌, refl, rules, sym, ap, ◌∙◌}
-use Rattle.std.specs.Prelude.{Result, Ok, Err, codes, if◌then◌else◌}
+use Rattle.std.specs.Prelude.{Result, Ok, Err, codes, if◌then◌else◌, unwrap_or}
 use Rattle.serde_json.specs.Data.{Data, object, Members}
 use Rattle.serde_json.specs.Find.{get}
 use Rattle.mq_lines.specs.Objects.{names_of}
@@ -78,6 +78,15 @@ gather : {A Y : Type 0} (b : Bool) (r : Result A LineFault) (a : A) (rest : A �
 gather true r a rest h = refl
 gather false (Ok x) a rest h = refl
 gather false (Err e) a rest h = ap Err h
+
+-- the same of a field that stands for a where it is absent
+gather_or : {A Y : Type 0} (b : Bool) (r : Result (Option A) LineFault) (a : A)
+    (rest : A → Result Y LineFault)
+    → Sound r → (if b then Err BadField else ((r >>= λ o. Ok (unwrap_or o a)) >>= rest))
+    ≡ (if b || is_fault r then Err BadField else rest (unwrap_or (value_or None r) a))
+gather_or true r a rest h = refl
+gather_or false (Ok x) a rest h = refl
+gather_or false (Err e) a rest h = ap Err h
 
 -- what was gathered, and then whether no member is left
 finished : {Y : Type 0} (b : Bool) (ms : Members) (y : Y)
@@ -377,7 +386,7 @@ pub connect_read : (ms : Members) → Ascends (names_of ms) →
     let client = required text (codes "client") (ahead m1) in
     let m2 = past (codes "client") m1 in
     let m3 = past (codes "do") m2 in
-    let session_expiry = defaulted 0 (whole 0 4294967295) (codes "session_expiry") (ahead m3) in
+    let session_expiry = optional (whole 0 4294967295) (codes "session_expiry") (ahead m3) in
     let m4 = past (codes "session_expiry") m3 in
     let user = optional text (codes "user") (ahead m4) in
     let m5 = past (codes "user") m4 in
@@ -387,7 +396,7 @@ pub connect_read : (ms : Members) → Ascends (names_of ms) →
     let f4 = f3 || is_fault user in
     connect_fields (object ms) ≡ (outcome f4 m5 >>= λ _.
     Ok (Connect (value_or [] client) (value_or None user) (value_or true clean)
-    (value_or 0 session_expiry)))
+    (unwrap_or (value_or None session_expiry) 0)))
 connect_read ms sorted =
     let m1 = past (codes "clean") ms in
     let m2 = past (codes "client") m1 in
@@ -396,7 +405,7 @@ connect_read ms sorted =
     connect_walked ms sorted
     ∙ gather false _ true _ (sound_defaulted true flag (codes "clean") (ahead ms))
     ∙ gather _ _ [] _ (sound_required text (codes "client") (ahead m1))
-    ∙ gather _ _ 0 _ (sound_defaulted 0 (whole 0 4294967295) (codes "session_expiry") (ahead m3))
+    ∙ gather_or _ _ 0 _ (sound_optional (whole 0 4294967295) (codes "session_expiry") (ahead m3))
     ∙ gather _ _ None _ (sound_optional text (codes "user") (ahead m4))
     ∙ finished _ _ _
 

@@ -9,6 +9,7 @@ use Rattle.std.specs.declared.cmp.Ordering.TheVariants.{Less}
 use Rattle.std.specs.Str.{bytes_eq}
 use Rattle.serde_json.specs.Data.{Data, object, Members, no_members, member}
 use Rattle.serde_json.specs.View.{members_view}
+use Rattle.mq_lines.specs.Fields.{◌>>=◌}
 use Rattle.mq_lines.specs.declared.fault.LineFault.{LineFault}
 use Rattle.mq_lines.specs.declared.fault.LineFault.TheVariants.{BadField}
 use Rattle.mq_lines.specs.declared.fields.Fields.{Fields}
@@ -50,3 +51,7 @@ end (member l d ms) = Err BadField
 abbrev pub outcome : Bool → Members → Result ⊤ LineFault
 outcome true ms = Err BadField
 outcome false ms = end ms
+
+-- y, unless fields had a fault or have a member left
+abbrev pub finished : {Y : Type 0} → Fields → Y → Result Y LineFault
+finished f y = outcome f.is_faulty (members_left f) >>= λ _. Ok y

@@ -54,8 +54,7 @@ fn put_copy(
     object.numbers_if(alloc, "ids", delivery.ids.as_slice())?;
     object.short_if(alloc, "expiry", delivery.expiry)?;
     object.text_if(alloc, "filter", filter_of(delivery))?;
-    object.text_if(alloc, "share", share_of(delivery))?;
-    Ok(())
+    object.text_if(alloc, "share", share_of(delivery))
 }
 
 // Members that are there are written over in one walk, in the order of their names.

@@ -98,8 +98,8 @@ impl<'a> Fields<'a> {
             || is_fault (optional text_kind name.now (ahead (members_left self.old)))) }
     {
         let field = self.take(name)?;
-        match field.take() {
-            Value::String(text) => Some(text),
+        match field {
+            Value::String(text) => Some(mem::replace(text, String::new(self.alloc))),
             _ => {
                 self.is_faulty = true;
                 None

@@ -46,8 +46,7 @@ fn set_text(alloc: Global, slot: &mut Value, text: &str) -> Result<(), AllocErro
 {
     if let Value::String(held) = slot {
         held.clear();
-        held.push_str(text)?;
-        return Ok(());
+        return held.push_str(text);
     }
     *slot = Value::String(String::from_str(alloc, text)?);
     Ok(())

@@ -253,8 +253,7 @@ impl Printer {
     {
         self.copies
             .print_all(alloc, line, answer.copies.as_slice(), out)?;
-        self.closing(alloc, line, answer.outcome, out)?;
-        Ok(())
+        self.closing(alloc, line, answer.outcome, out)
     }
 
     /// Adds the answer to line `line`, as `print_answer` does. An error leaves the text as it is.

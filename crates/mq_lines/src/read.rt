@@ -4,6 +4,7 @@ ghost use Rattle.serde_json.specs.Data.{object};
 ghost use Rattle.serde_json.specs.View.{view, members_view};
 ghost use Rattle.mq_world.specs.Views.{request_of};
 ghost use Rattle.mq_world.specs.Refusals.{is_valid};
+ghost use Rattle.mq_lines.specs.Ahead.{finished};
 ghost use Rattle.mq_lines.specs.Fields.{Gives, or_fault};
 ghost use Rattle.mq_lines.specs.Reading.{connect_fields, disconnect_fields, subscribe_fields};
 ghost use Rattle.mq_lines.specs.Reading.{unsubscribe_fields};
@@ -26,7 +27,18 @@ const MOST_HANDLING: u8 = 2;
 
 const MOST_ID: u32 = 268_435_455;
 
-#[tactic(auto, using(crate::proofs::WalkLemmas::connect_read))]
+// The command, unless one of its fields has a fault or a member is left.
+fn finish(fields: &Fields, command: Command) -> Result<Command, LineFault>
+    ensures value { Gives request_of result (finished fields.now (request_of command)) }
+    ensures valid { IsTrue (is_valid (request_of command))
+        → IfOk result (λ c. IsTrue (is_valid (request_of c))) }
+{
+    if fields.are_faulty() {
+        return Err(LineFault::BadField);
+    }
+    Ok(command)
+}
+
 fn connect(alloc: Global, members: &mut Map<String, Value>) -> Result<Command, LineFault>
     ensures value { Gives request_of result
         (connect_fields (object (members_view members.old.entries))) }
@@ -38,18 +50,17 @@ fn connect(alloc: Global, members: &mut Map<String, Value>) -> Result<Command, L
     fields.skip("do");
     let session_expiry = fields.optional_number("session_expiry", 0, u32::MAX);
     let user = fields.optional_text("user");
-    if fields.are_faulty() {
-        return Err(LineFault::BadField);
-    }
-    Ok(Command::Connect {
-        client,
-        user,
-        clean,
-        session_expiry: session_expiry.unwrap_or(0),
-    })
+    finish(
+        &fields,
+        Command::Connect {
+            client,
+            user,
+            clean,
+            session_expiry: session_expiry.unwrap_or(0),
+        },
+    )
 }
 
-#[tactic(auto, using(crate::proofs::WalkLemmas::disconnect_read))]
 fn disconnect(alloc: Global, members: &mut Map<String, Value>) -> Result<Command, LineFault>
     ensures value { Gives request_of result
         (disconnect_fields (object (members_view members.old.entries))) }
@@ -58,13 +69,9 @@ fn disconnect(alloc: Global, members: &mut Map<String, Value>) -> Result<Command
     let mut fields = Fields::of(alloc, members);
     let client = fields.required_text("client");
     fields.skip("do");
-    if fields.are_faulty() {
-        return Err(LineFault::BadField);
-    }
-    Ok(Command::Disconnect { client })
+    finish(&fields, Command::Disconnect { client })
 }
 
-#[tactic(auto, using(crate::proofs::WalkLemmas::subscribe_read))]
 fn subscribe(alloc: Global, members: &mut Map<String, Value>) -> Result<Command, LineFault>
     ensures value { Gives request_of result
         (subscribe_fields (object (members_view members.old.entries))) }
@@ -79,21 +86,20 @@ fn subscribe(alloc: Global, members: &mut Map<String, Value>) -> Result<Command,
     let no_local = fields.is_set("no_local");
     let qos = fields.number_or_zero("qos", MOST_QOS);
     let rap = fields.is_set("rap");
-    if fields.are_faulty() {
-        return Err(LineFault::BadField);
-    }
-    Ok(Command::Subscribe {
-        client,
-        filter,
-        qos,
-        no_local,
-        rap,
-        handling,
-        id,
-    })
+    finish(
+        &fields,
+        Command::Subscribe {
+            client,
+            filter,
+            qos,
+            no_local,
+            rap,
+            handling,
+            id,
+        },
+    )
 }
 
-#[tactic(auto, using(crate::proofs::WalkLemmas::unsubscribe_read))]
 fn unsubscribe(alloc: Global, members: &mut Map<String, Value>) -> Result<Command, LineFault>
     ensures value { Gives request_of result
         (unsubscribe_fields (object (members_view members.old.entries))) }
@@ -103,13 +109,9 @@ fn unsubscribe(alloc: Global, members: &mut Map<String, Value>) -> Result<Comman
     let client = fields.required_text("client");
     fields.skip("do");
     let filter = fields.required_text("filter");
-    if fields.are_faulty() {
-        return Err(LineFault::BadField);
-    }
-    Ok(Command::Unsubscribe { client, filter })
+    finish(&fields, Command::Unsubscribe { client, filter })
 }
 
-#[tactic(auto, using(crate::proofs::WalkLemmas::publish_read))]
 fn publish(alloc: Global, members: &mut Map<String, Value>) -> Result<Command, LineFault>
     ensures value { Gives request_of result
         (publish_fields (object (members_view members.old.entries))) }
@@ -123,20 +125,19 @@ fn publish(alloc: Global, members: &mut Map<String, Value>) -> Result<Command, L
     let qos = fields.number_or_zero("qos", MOST_QOS);
     let retain = fields.is_set("retain");
     let topic = fields.required_text("topic");
-    if fields.are_faulty() {
-        return Err(LineFault::BadField);
-    }
-    Ok(Command::Publish {
-        client,
-        topic,
-        payload,
-        qos,
-        retain,
-        expiry,
-    })
+    finish(
+        &fields,
+        Command::Publish {
+            client,
+            topic,
+            payload,
+            qos,
+            retain,
+            expiry,
+        },
+    )
 }
 
-#[tactic(auto, using(crate::proofs::WalkLemmas::acl_read))]
 fn acl(alloc: Global, members: &mut Map<String, Value>) -> Result<Command, LineFault>
     ensures value { Gives request_of result
         (acl_fields (object (members_view members.old.entries))) }
@@ -145,13 +146,9 @@ fn acl(alloc: Global, members: &mut Map<String, Value>) -> Result<Command, LineF
     let mut fields = Fields::of(alloc, members);
     fields.skip("do");
     let text = fields.optional_text("text");
-    if fields.are_faulty() {
-        return Err(LineFault::BadField);
-    }
-    Ok(Command::SetAcl { text })
+    finish(&fields, Command::SetAcl { text })
 }
 
-#[tactic(auto, using(crate::proofs::WalkLemmas::advance_read))]
 fn advance(alloc: Global, members: &mut Map<String, Value>) -> Result<Command, LineFault>
     ensures value { Gives request_of result
         (advance_fields (object (members_view members.old.entries))) }
@@ -160,13 +157,9 @@ fn advance(alloc: Global, members: &mut Map<String, Value>) -> Result<Command, L
     let mut fields = Fields::of(alloc, members);
     fields.skip("do");
     let seconds = fields.required_number("seconds");
-    if fields.are_faulty() {
-        return Err(LineFault::BadField);
-    }
-    Ok(Command::Advance { seconds })
+    finish(&fields, Command::Advance { seconds })
 }
 
-#[tactic(auto, using(crate::proofs::WalkLemmas::stat_read))]
 fn stat(alloc: Global, members: &mut Map<String, Value>) -> Result<Command, LineFault>
     ensures value { Gives request_of result
         (stat_fields (object (members_view members.old.entries))) }
@@ -174,10 +167,7 @@ fn stat(alloc: Global, members: &mut Map<String, Value>) -> Result<Command, Line
 {
     let mut fields = Fields::of(alloc, members);
     fields.skip("do");
-    if fields.are_faulty() {
-        return Err(LineFault::BadField);
-    }
-    Ok(Command::Stat)
+    finish(&fields, Command::Stat)
 }
 
 #[tactic(auto, unfolding(crate::specs::Reading::command_of, crate::specs::Reading::fields_of))]

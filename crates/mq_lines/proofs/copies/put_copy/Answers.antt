@@ -1,16 +1,15 @@
-use Rattle.std.proofs.Common.{◌≡◌, ◌∙◌}
+use Rattle.std.proofs.Common.{◌∙◌}
+use Rattle.std.proofs.lemmas.Result.{on_ok_weaker}
 use Rattle.serde_json.specs.View.{members_view}
 use Rattle.mq_world.specs.Views.{copy_of}
-use Rattle.mq_lines.proofs.ObjectLemmas.{set_copy, copy_again}
+use Rattle.mq_lines.proofs.ObjectLemmas.{copy_again}
 use Rattle.mq_lines.proofs.copies.put_copy.Goals as goal
 
 pub returns : goal.returns
 returns c =
     let old = members_view c.args.object.now.members.entries in
-    let set : members_view c.text_if-2.new.self.members.entries
-    ≡ set_copy c.args.line (copy_of c.args.delivery.now) old =
-    rw (
-      c.in_ok-text_if-2.ensures,
+    let again = copy_again c.args.line (copy_of c.args.delivery.now) old c.requires in
+    let set = rw (
       c.share_of.ensures,
       c.in_ok-text_if.ensures,
       c.filter_of.ensures,
@@ -27,5 +26,5 @@ returns c =
       c.in_ok-number.ensures,
       c.in_ok-text.ensures,
       c.as_str.ensures.value,
-    ) in
-    set ∙ copy_again c.args.line (copy_of c.args.delivery.now) old c.requires
+    ) at c.text_if-2.ensures in
+    on_ok_weaker c.text_if-2.result (λ e. e ∙ again) set

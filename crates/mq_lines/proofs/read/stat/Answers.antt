@@ -1,0 +1,18 @@
+use Rattle.std.proofs.Common.{sym}
+use Rattle.serde_json.specs.View.{members_view}
+use Rattle.mq_lines.proofs.WalkLemmas.{stat_read}
+use Rattle.mq_lines.proofs.read.stat.Goals as goal
+
+pub returns-clause-value : goal.returns-clause-value
+returns-clause-value c =
+    let walk = stat_read (members_view c.args.members.now.entries)
+    c.of-fields.ensures.ordered in
+    let told = rw (
+      c.skip.ensures.faulty,
+      c.of-fields.ensures.sound,
+    ) at c.finish.ensures.value in
+    rw (
+      walk,
+      sym c.of-fields.ensures.all,
+      sym c.skip.ensures.left,
+    ) told
