@@ -152,13 +152,14 @@ fn script_argument<'a>(alloc: Global) -> Arg<'a>
 fn command<'a>(alloc: Global) -> Result<Command<'a>, AllocError>
     ensures { IfOk result (λ c. app_of c ≡ mqroute) }
 {
-    let empty = Command::new(alloc, "mqroute");
-    let listed = empty.arg(acl_file_option(alloc))?;
+    let described = Command::new(alloc, "mqroute")
+        .about(ABOUT)
+        .after_help(AFTER_HELP);
+    let listed = described.arg(acl_file_option(alloc))?;
     let bounded = listed.arg(number_option(alloc, "max-retained", MAX_RETAINED_HELP))?;
     let limited = bounded.arg(number_option(alloc, "max-queued", MAX_QUEUED_HELP))?;
     let flagged = limited.arg(unbuffered_flag(alloc))?;
-    let whole = flagged.arg(script_argument(alloc))?;
-    Ok(whole.about(ABOUT).after_help(AFTER_HELP))
+    flagged.arg(script_argument(alloc))
 }
 
 fn matches_in<'a>(alloc: Global, words: &'a [String]) -> Result<ArgMatches<'a>, Error>

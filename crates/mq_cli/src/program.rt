@@ -106,6 +106,7 @@ fn acl_failure(file: &str, fault: AclFileFault) -> Failure<'_>
 fn open_failure<'a>(error: &io::Error, failure: Failure<'a>) -> Failure<'a>
     ensures memory { error_kind error.now ≡ ErrorKind.OutOfMemory → result ≡ Failure.Memory }
     ensures other { error_kind error.now ≢ ErrorKind.OutOfMemory → result ≡ failure.entry }
+    ensures told { (result ≡ failure.entry) ⊎ (result ≡ Failure.Memory) }
 {
     match error.kind() {
         ErrorKind::OutOfMemory => Failure::Memory,

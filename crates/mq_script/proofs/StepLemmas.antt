@@ -19,6 +19,11 @@ use Rattle.mq_script.proofs.RunLemmas.{Stopped-grown, Stopped-memory, WritesLine
 use Rattle.mq_script.proofs.RunLemmas.{Finished-empty, Finished-piece, StoppedLast-piece}
 use Rattle.mq_script.proofs.RunLemmas.{AppendsSome-all}
 
+-- what holds whatever a call answers holds where it answers Ok
+pub at_ok : {T E : Type 0} (result : Result T E) (P : Type 0) → P → OnOk result P
+at_ok (Ok x) P h = h
+at_ok (Err e) P h = tt
+
 -- ## Bytes that are taken
 
 -- where nothing is given, nothing changes

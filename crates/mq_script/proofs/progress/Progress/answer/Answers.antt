@@ -1,5 +1,8 @@
-use Rattle.std.proofs.Common.{ap}
-use Rattle.mq_script.proofs.StepLemmas.{Answers-written}
+use Rattle.std.proofs.Common.{ap, arith}
+use Rattle.std.proofs.KnownBytes.{Appends-nil}
+use Rattle.std.proofs.lemmas.Result.{err_from_is_err_and}
+use Rattle.mq_script.specs.Running.{StopsAtLine}
+use Rattle.mq_script.proofs.StepLemmas.{Answers-written, at_ok}
 use Rattle.mq_script.proofs.progress.Progress.answer.Goals as goal
 
 pub returns-clause-answers : goal.returns-clause-answers
@@ -13,3 +16,37 @@ returns-clause-answers g c =
       some = c.write_all.ensures.err;
       kind = c.write_all.ensures.kind;
     })
+
+pub overflow_add-summary : goal.overflow_add-summary
+overflow_add-summary g c = omega arith
+
+pub returns-in_err-is_refused-clause-answers : goal.returns-in_err-is_refused-clause-answers
+unfolding StopsAtLine
+returns-in_err-is_refused-clause-answers g c =
+    let fault = err_from_is_err_and c.from_residual.result c.from_residual.ensures.1 in
+    rw (fault.1, fault.2) (λ w stands. Appends-nil _)
+
+pub returns-in_err-is_refused-clause-counted : goal.returns-in_err-is_refused-clause-counted
+returns-in_err-is_refused-clause-counted g c =
+    let fault = err_from_is_err_and c.from_residual.result c.from_residual.ensures.1 in
+    rw (fault.1, fault.2) (omega arith)
+
+pub returns-in_err-is_refused-clause-lines : goal.returns-in_err-is_refused-clause-lines
+returns-in_err-is_refused-clause-lines g c =
+    let fault = err_from_is_err_and c.from_residual.result c.from_residual.ensures.1 in
+    rw (fault.1) tt
+
+pub returns-in_err-is_refused-clause-line : goal.returns-in_err-is_refused-clause-line
+returns-in_err-is_refused-clause-line g c =
+    let fault = err_from_is_err_and c.from_residual.result c.from_residual.ensures.1 in
+    rw (fault.1) tt
+
+pub returns-clause-counted : goal.returns-clause-counted
+returns-clause-counted g c = c.write_all.ensures.counted
+
+pub returns-clause-lines : goal.returns-clause-lines
+returns-clause-lines g c =
+    at_ok c.write_all.result _ (ap (λ s. s.lines) c.with_line-self.ensures)
+
+pub returns-clause-line : goal.returns-clause-line
+returns-clause-line g c = at_ok c.write_all.result _ c.clear-2.ensures.items

@@ -71,3 +71,45 @@ returns-in_err-keep_front-clause-takes g c =
     rw (fault.1, fault.2, at.1)
     (StopsAmong-then c.args.self.now c.lines.self at.0 c.lines.rest.now _ _ _ _ at.2
     (StopsAmong-memory c.lines.self c.lines.rest.now _))
+
+-- ## What is left of lines, and of the devices' failures
+
+pub end_line-requires-clause-lines : goal.end_line-requires-clause-lines
+end_line-requires-clause-lines g c =
+    let grown : length c.lines.rest.now ≡ (length c.in-Some.line.now + 1)
+    + length c.in-Some.others.now = ap length c.in-Some.ensures.0 ∙ simp length-append in
+    omega arith
+
+pub end_line-requires-clause-rest : goal.end_line-requires-clause-rest
+end_line-requires-clause-rest g c = c.in-Some.ensures.1
+
+pub lines-smaller : goal.lines-smaller
+lines-smaller g c =
+    let grown : length c.lines.rest.now ≡ (length c.in-Some.line.now + 1)
+    + length c.in-Some.others.now = ap length c.in-Some.ensures.0 ∙ simp length-append in
+    omega arith
+
+pub returns-in_err-end_line-clause-counted : goal.returns-in_err-end_line-clause-counted
+returns-in_err-end_line-clause-counted g c =
+    let fault = err_from_is_err_and c.from_residual.result c.from_residual.ensures.1 in
+    rw (fault.1, fault.2) (let n = c.in_err-end_line.ensures.counted in omega arith)
+
+pub returns-in_err-end_line-clause-lines : goal.returns-in_err-end_line-clause-lines
+returns-in_err-end_line-clause-lines g c =
+    let fault = err_from_is_err_and c.from_residual.result c.from_residual.ensures.1 in
+    rw (fault.1) tt
+
+pub returns-in_err-keep_front-clause-counted : goal.returns-in_err-keep_front-clause-counted
+returns-in_err-keep_front-clause-counted g c =
+    let fault = err_from_is_err_and c.from_residual-in_err-keep_front.result
+    c.from_residual-in_err-keep_front.ensures.1 in
+    rw (fault.1, fault.2) (omega arith)
+
+pub returns-in_err-keep_front-clause-lines : goal.returns-in_err-keep_front-clause-lines
+returns-in_err-keep_front-clause-lines g c =
+    let fault = err_from_is_err_and c.from_residual-in_err-keep_front.result
+    c.from_residual-in_err-keep_front.ensures.1 in
+    rw (fault.1) tt
+
+pub returns-clause-counted : goal.returns-clause-counted
+returns-clause-counted g c = omega arith
