@@ -111,14 +111,11 @@ pub(crate) struct Page<'a> {
     most: usize,
     trouble: Trouble,
     countdown: Countdown,
-    /// Whether the bytes taken are the first ones of what is wanted.
-    pub(crate) is_same: bool,
-    /// How many bytes were taken.
-    pub(crate) taken: usize,
-    /// How often it was flushed.
-    pub(crate) flushes: usize,
-    /// How many bytes it had taken at the last flush.
-    pub(crate) flushed: usize,
+    // Whether the bytes taken are the first ones of what is wanted.
+    is_same: bool,
+    taken: usize,
+    flushes: usize,
+    flushed: usize,
 }
 
 impl<'a> Page<'a> {
@@ -140,6 +137,13 @@ impl<'a> Page<'a> {
             flushes: 0,
             flushed: 0,
         }
+    }
+
+    /// How many bytes were taken, if they are the first ones of what is wanted; how often it was flushed; and how many
+    /// bytes it had taken at the last flush.
+    pub(crate) fn seen(&self) -> (Option<usize>, usize, usize) {
+        let taken = if self.is_same { Some(self.taken) } else { None };
+        (taken, self.flushes, self.flushed)
     }
 
     fn take(&mut self, bytes: &[u8])

@@ -2,10 +2,9 @@
 use crate::tests::devices::{Page, Script, Spaces, Trouble};
 use crate::tests::scripts::{FIRST_LOOK, REFUSALS};
 use mq_router::Router;
-use mq_script::{RunFault, Source, Summary, exit_status, run, run_unbuffered, run_within};
+use mq_script::{RunFault, Summary, exit_status, run, run_unbuffered, run_within};
 use std::alloc::{AllocError, Global};
 use std::process::Abort;
-use std::test::Fail;
 
 // The scripts that are tried, each with its answers.
 fn scripts() -> [(&'static str, &'static str); 2] {
@@ -15,8 +14,31 @@ fn scripts() -> [(&'static str, &'static str); 2] {
     ]
 }
 
-fn ended<R: Source>(alloc: Global, reader: &mut R, writer: &mut Page) -> Result<Summary, RunFault> {
+fn ended(alloc: Global, reader: &mut Script, writer: &mut Page) -> Result<Summary, RunFault> {
     run(alloc, Router::new(alloc), reader, writer)
+}
+
+// How many lines a run reads by so many bytes a call, if it writes what is wanted, and flushes it once, at its end.
+fn lines_answered(alloc: Global, script: &[u8], wanted: &[u8], most: usize) -> Option<u64> {
+    let mut writer = Page::new(wanted, most);
+    let all = wanted.len();
+    match ended(alloc, &mut Script::new(script, most), &mut writer) {
+        Ok(summary) if writer.seen() == (Some(all), 1, all) => Some(summary.lines),
+        _ => None,
+    }
+}
+
+// The run fails so, when so many bytes are written, as wanted. None is flushed.
+fn assert_fails(
+    rt: &(impl Abort + AllocGlobal),
+    reader: &mut Script,
+    writer: &mut Page,
+    fault: RunFault,
+    taken: usize,
+) {
+    let result = ended(rt.alloc(), reader, writer);
+    assert_eq!(rt; (result, exit_status(&result)), (Err(fault), 3));
+    assert_eq!(rt; writer.seen(), (Some(taken), 0, 0));
 }
 
 // The number of the script's line that a line of the output answers.
@@ -42,44 +64,34 @@ fn line_feeds(bytes: &[u8]) -> usize {
 }
 
 #[test]
-fn one_byte_a_call(rt: HostRuntime) -> Result<(), Fail> {
+fn one_byte_a_call(rt: HostRuntime) {
     for (script, output) in scripts() {
-        let mut reader = Script::new(script.as_bytes(), 1);
-        let mut writer = Page::new(output.as_bytes(), 1);
-        let summary = ended(rt.alloc(), &mut reader, &mut writer)?;
-        assert_eq!(rt; summary.lines as usize, line_feeds(script.as_bytes()));
-        assert!(rt; writer.is_same);
-        assert_eq!(rt; (writer.taken, output.is_empty()), (output.len(), false));
-        // The flush comes once, and last.
-        assert_eq!(rt; (writer.flushes, writer.flushed), (1, output.len()));
+        let lines = lines_answered(rt.alloc(), script.as_bytes(), output.as_bytes(), 1);
+        let wanted = line_feeds(script.as_bytes()) as u64;
+        assert_eq!(rt; (lines, output.is_empty()), (Some(wanted), false));
     }
-    Ok(())
 }
 
 #[test]
-fn flush_after_a_last_piece(rt: HostRuntime) -> Result<(), Fail> {
+fn flush_after_a_last_piece(rt: HostRuntime) {
     for (script, output) in scripts() {
         let cut = &script.as_bytes()[..script.len().saturating_sub(1)];
-        let mut writer = Page::new(output.as_bytes(), 100);
-        ended(rt.alloc(), &mut Script::new(cut, 100), &mut writer)?;
-        assert!(rt; writer.is_same);
-        assert_eq!(rt; (writer.flushes, writer.flushed), (1, output.len()));
+        let lines = lines_answered(rt.alloc(), cut, output.as_bytes(), 100);
+        assert!(rt; lines.is_some());
     }
-    Ok(())
 }
 
 #[test]
-fn flushes_of_an_unbuffered_run(rt: HostRuntime) -> Result<(), Fail> {
+fn flushes_of_an_unbuffered_run(rt: HostRuntime) {
     let alloc = rt.alloc();
     let (script, output) = (FIRST_LOOK.script.as_bytes(), FIRST_LOOK.output);
     let mut writer = Page::new(output.as_bytes(), 100);
     let mut reader = Script::new(script, 100);
-    run_unbuffered(alloc, Router::new(alloc), &mut reader, &mut writer)?;
-    assert!(rt; writer.is_same);
+    let result = run_unbuffered(alloc, Router::new(alloc), &mut reader, &mut writer);
+    assert!(rt; result.is_ok());
     // One comes before each read, of which the last gives nothing, and one at the end.
     let flushes = script.len().div_ceil(100).saturating_add(2);
-    assert_eq!(rt; (writer.flushes, writer.flushed), (flushes, output.len()));
-    Ok(())
+    assert_eq!(rt; writer.seen(), (Some(output.len()), flushes, output.len()));
 }
 
 const CONNECT: &str = "{\"do\":\"connect\",\"client\":\"a\"}\n";
@@ -88,46 +100,46 @@ const ANSWER: &str = "{\"line\":1,\"reason\":0}\n";
 
 // The first two calls of 20 bytes give the line and the front of another.
 #[test]
-fn a_reader_that_fails_within_a_line(rt: HostRuntime) -> Result<(), Fail> {
-    let script = format!(in rt.alloc(); "{CONNECT}{{\"do\":")?;
+fn a_reader_that_fails_within_a_line(rt: HostRuntime) {
+    let script = "{\"do\":\"connect\",\"client\":\"a\"}\n{\"do\":";
     let mut reader = Script::failing(script.as_bytes(), 20, 2);
     let mut writer = Page::new(ANSWER.as_bytes(), 100);
-    let result = ended(rt.alloc(), &mut reader, &mut writer);
-    assert!(rt; matches!(&result, Err(RunFault::Read)));
-    assert_eq!(rt; (writer.is_same, writer.taken), (true, ANSWER.len()));
-    assert_eq!(rt; exit_status(&result), 3);
-    Ok(())
+    assert_fails(&rt, &mut reader, &mut writer, RunFault::Read, ANSWER.len());
 }
 
 #[test]
 fn a_writer_that_fails_after_ten_bytes(rt: HostRuntime) {
     let mut reader = Script::new(CONNECT.as_bytes(), 100);
     let mut writer = Page::failing(ANSWER.as_bytes(), 10, Trouble::Write, 1);
-    let result = ended(rt.alloc(), &mut reader, &mut writer);
-    assert!(rt; matches!(&result, Err(RunFault::Write)));
-    assert_eq!(rt; (writer.is_same, writer.taken), (true, 10));
-    assert_eq!(rt; exit_status(&result), 3);
+    assert_fails(&rt, &mut reader, &mut writer, RunFault::Write, 10);
+}
+
+// The reader fails after so many calls: the lines that it has given whole are answered.
+fn trouble_at_a_read(
+    rt: &(impl Abort + AllocGlobal),
+    script: &str,
+    output: &str,
+    most: usize,
+    calls: usize,
+) {
+    let given = script.len().min(most.saturating_mul(calls));
+    let lines = line_feeds(&script.as_bytes()[..given]);
+    let mut reader = Script::failing(script.as_bytes(), most, calls);
+    let mut writer = Page::new(output.as_bytes(), 100);
+    let taken = answers_to(output, lines);
+    assert_fails(rt, &mut reader, &mut writer, RunFault::Read, taken);
+    assert_eq!(rt; reader.given, given, "{most} {calls}");
 }
 
 #[test]
-fn a_reader_that_fails_at_each_call(rt: HostRuntime) -> Result<(), Fail> {
+fn a_reader_that_fails_at_each_call(rt: HostRuntime) {
     for (script, output) in scripts() {
         for most in [1, 7, 100] {
             for calls in 0..=script.len().div_ceil(most) {
-                let mut reader = Script::failing(script.as_bytes(), most, calls);
-                let mut writer = Page::new(output.as_bytes(), 100);
-                let result = ended(rt.alloc(), &mut reader, &mut writer);
-                assert!(rt; matches!(&result, Err(RunFault::Read)), "{most} {calls}");
-                let given = script.len().min(most.saturating_mul(calls));
-                assert_eq!(rt; reader.given, given, "{most} {calls}");
-                let lines = line_feeds(&script.as_bytes()[..given]);
-                assert!(rt; writer.is_same, "{most} {calls}");
-                assert_eq!(rt; writer.taken, answers_to(output, lines), "{most} {calls}");
-                assert_eq!(rt; writer.flushes, 0);
+                trouble_at_a_read(&rt, script, output, most, calls);
             }
         }
     }
-    Ok(())
 }
 
 // Each call of the writer in turn is in trouble: what came before it is written, byte by byte.
@@ -136,10 +148,7 @@ fn trouble_at_each_call(rt: &(impl Abort + AllocGlobal), trouble: Trouble) {
         for calls in 0..output.len() {
             let mut reader = Script::new(script.as_bytes(), 100);
             let mut writer = Page::failing(output.as_bytes(), 1, trouble, calls);
-            let result = ended(rt.alloc(), &mut reader, &mut writer);
-            assert!(rt; matches!(&result, Err(RunFault::Write)), "{calls}");
-            assert!(rt; writer.is_same, "{calls}");
-            assert_eq!(rt; (writer.taken, writer.flushes), (calls, 0));
+            assert_fails(rt, &mut reader, &mut writer, RunFault::Write, calls);
         }
     }
 }
@@ -155,59 +164,60 @@ fn a_writer_that_takes_nothing_at_each_call(rt: HostRuntime) {
 }
 
 #[test]
-fn a_flush_that_fails(rt: HostRuntime) -> Result<(), Fail> {
+fn a_flush_that_fails(rt: HostRuntime) {
     for (script, output) in scripts() {
         let mut reader = Script::new(script.as_bytes(), 100);
         let mut writer = Page::failing(output.as_bytes(), 100, Trouble::Flush, 0);
-        let result = ended(rt.alloc(), &mut reader, &mut writer);
-        assert!(rt; matches!(&result, Err(RunFault::Write)));
-        assert!(rt; writer.is_same);
-        assert_eq!(rt; (writer.taken, writer.flushes), (output.len(), 0));
+        assert_fails(&rt, &mut reader, &mut writer, RunFault::Write, output.len());
     }
-    Ok(())
 }
 
 #[test]
-fn spaces_without_end(rt: HostRuntime) -> Result<(), Fail> {
+fn spaces_without_end(rt: HostRuntime) {
     let alloc = rt.alloc();
     let mut writer = Page::new(b"", 100);
     let result = run_within(alloc, Router::new(alloc), &mut Spaces, &mut writer, 100_000);
-    assert!(rt; matches!(&result, Err(RunFault::TooMuch)));
-    assert_eq!(rt; (writer.taken, writer.flushes), (0, 0));
-    Ok(())
+    assert_eq!(rt;
+        (result, writer.seen()),
+        (Err(RunFault::TooMuch), (Some(0), 0, 0))
+    );
+}
+
+// What a run within a limit answers, and how many bytes it writes, if they answer two connects.
+fn limited(
+    alloc: Global,
+    script: &str,
+    most: usize,
+    limit: u64,
+) -> (Result<Summary, RunFault>, Option<usize>) {
+    let output = "{\"line\":1,\"reason\":0}\n{\"line\":2,\"reason\":0}\n";
+    let mut reader = Script::new(script.as_bytes(), most);
+    let mut writer = Page::new(output.as_bytes(), most);
+    let result = run_within(alloc, Router::new(alloc), &mut reader, &mut writer, limit);
+    (result, writer.seen().0)
+}
+
+fn accepted(lines: u64) -> Result<Summary, RunFault> {
+    Ok(Summary { lines, refused: 0 })
 }
 
 #[test]
-fn limits_in_bytes(rt: HostRuntime) -> Result<(), Fail> {
-    let alloc = rt.alloc();
-    let script = "{\"do\":\"connect\",\"client\":\"a\"}\n{\"do\":\"connect\",\"client\":\"a\"}\n";
-    let output = "{\"line\":1,\"reason\":0}\n{\"line\":2,\"reason\":0}\n";
-    for most in [1, 7, 100] {
-        for (limit, lines) in [(60, Some(2)), (59, None), (30, None), (29, None), (0, None)] {
-            let mut reader = Script::new(script.as_bytes(), most);
-            let mut writer = Page::new(output.as_bytes(), most);
-            let result = run_within(alloc, Router::new(alloc), &mut reader, &mut writer, limit);
-            match lines {
-                Some(lines) => assert_eq!(rt; result?.lines, lines),
-                None => assert!(rt; matches!(&result, Err(RunFault::TooMuch)), "{limit}"),
-            }
-            assert!(rt; writer.is_same);
-            assert_eq!(rt;
-                writer.taken,
-                answers_to(output, (limit / 30) as usize),
-                "{limit}"
-            );
+fn limits_in_bytes(rt: HostRuntime) {
+    let connects = "{\"do\":\"connect\",\"client\":\"a\"}\n{\"do\":\"connect\",\"client\":\"a\"}\n";
+    let cases = [
+        (connects, 60, accepted(2), 44),
+        (connects, 59, Err(RunFault::TooMuch), 22),
+        (connects, 30, Err(RunFault::TooMuch), 22),
+        (connects, 29, Err(RunFault::TooMuch), 0),
+        (connects, 0, Err(RunFault::TooMuch), 0),
+        ("", 0, accepted(0), 0),
+    ];
+    for (script, limit, result, taken) in cases {
+        for most in [1, 7, 100] {
+            let found = limited(rt.alloc(), script, most, limit);
+            assert_eq!(rt; found, (result, Some(taken)), "{most} {limit}");
         }
     }
-    let summary = run_within(
-        alloc,
-        Router::new(alloc),
-        &mut Script::new(b"", 1),
-        &mut Page::new(b"", 1),
-        0,
-    )?;
-    assert_eq!(rt; summary.lines, 0);
-    Ok(())
 }
 
 // The answers to the front of a script: a last piece that is no whole line is no JSON.
@@ -216,42 +226,29 @@ fn answers_to_front(
     script: &str,
     output: &str,
     bytes: usize,
-) -> Result<Vec<u8>, AllocError> {
+) -> Result<String, AllocError> {
     let front = &script.as_bytes()[..bytes.min(script.len())];
     let lines = line_feeds(front);
+    let next = lines.saturating_add(1);
     let ends = script.as_bytes().get(bytes) == Some(&b'\n');
     let begins = front.last().is_some_and(|byte| *byte != b'\n');
-    let whole = if ends { lines.saturating_add(1) } else { lines };
-    let whole = answers_to(output, whole).min(output.len());
-    let mut answers = Vec::from_slice(alloc, &output.as_bytes()[..whole])?;
-    if begins && !ends {
-        let line = lines.saturating_add(1);
-        let refusal = format!(in alloc;
-            "{{\"code\":2,\"line\":{line},\"refused\":\"BadJson\"}}\n"
-        )?;
-        answers.extend_from_slice(refusal.as_bytes())?;
+    let whole = answers_to(output, if ends { next } else { lines });
+    let answers = output.get(..whole).unwrap_or("");
+    if ends || !begins {
+        return String::from_str(alloc, answers);
     }
-    Ok(answers)
-}
-
-// How many bytes are written for a script, if they are the first ones of what is wanted.
-fn bytes_as_wanted(alloc: Global, script: &[u8], wanted: &[u8]) -> Option<usize> {
-    let mut writer = Page::new(wanted, 100);
-    match ended(alloc, &mut Script::new(script, 100), &mut writer) {
-        Ok(_) if writer.is_same => Some(writer.taken),
-        _ => None,
-    }
+    format!(in alloc; "{answers}{{\"code\":2,\"line\":{next},\"refused\":\"BadJson\"}}\n")
 }
 
 #[test]
-fn a_script_cut_at_each_byte(rt: HostRuntime) -> Result<(), Fail> {
+fn a_script_cut_at_each_byte(rt: HostRuntime) {
     for (script, output) in scripts() {
         for bytes in 0..=script.len() {
             let front = &script.as_bytes()[..bytes.min(script.len())];
-            let wanted = answers_to_front(rt.alloc(), script, output, bytes)?;
-            let written = bytes_as_wanted(rt.alloc(), front, wanted.as_slice());
-            assert_eq!(rt; written, Some(wanted.len()), "{bytes}");
+            let wanted = answers_to_front(rt.alloc(), script, output, bytes);
+            let wanted = wanted.expect(&rt, "memory");
+            let lines = lines_answered(rt.alloc(), front, wanted.as_bytes(), 100);
+            assert!(rt; lines.is_some(), "{bytes}");
         }
     }
-    Ok(())
 }

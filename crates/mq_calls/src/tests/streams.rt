@@ -1,5 +1,5 @@
 //! The wrappers of std's streams: each passes on one call, and a call that is interrupted isn't made again.
-use mq_script::{Sink, Source, StdSink, StdSource};
+use mq_script::{DeviceFault, Sink, Source, StdSink, StdSource};
 use std::io::{self, ErrorKind, Read, Write};
 
 /// A stream whose first call is interrupted; each later one gives or takes all that it may.
@@ -46,25 +46,23 @@ impl Write for Interrupted {
 fn interrupted_reads(rt: HostRuntime) {
     let mut source = StdSource::new(Interrupted::new());
     let mut piece = [0; 4];
-    let first = source.read(&mut piece);
-    assert!(rt; first.is_err());
-    let next = source.read(&mut piece);
-    assert_eq!(rt; next.ok(), Some(4));
+    let calls = (source.read(&mut piece), source.read(&mut piece));
+    assert_eq!(rt; calls, (Err(DeviceFault), Ok(4)));
 }
 
 #[test]
 fn interrupted_writes(rt: HostRuntime) {
     let mut sink = StdSink::new(Interrupted::new());
-    let first = sink.write(b"a");
-    assert!(rt; first.is_err());
-    let next = sink.write(b"a");
-    assert_eq!(rt; next.ok(), Some(1));
+    let calls = (sink.write(b"a"), sink.write(b"a"));
+    assert_eq!(rt; calls, (Err(DeviceFault), Ok(1)));
 }
 
 #[test]
 fn interrupted_flushes(rt: HostRuntime) {
     let mut sink = StdSink::new(Interrupted::new());
-    let first = sink.flush();
-    assert!(rt; first.is_err());
-    assert!(rt; sink.into_inner().was_interrupted);
+    let flushed = sink.flush();
+    assert_eq!(rt;
+        (flushed, sink.into_inner().was_interrupted),
+        (Err(DeviceFault), true)
+    );
 }
