@@ -1,25 +1,34 @@
 -- A command that its arguments are added to.
-use Rattle.std.proofs.Common.{◌≡◌, ◌∙◌, ◌||◌, ap₂, false, Result, IfOk}
-use Rattle.std.proofs.lemmas.Result.{IfOk-weaker}
-use Rattle.std.specs.declared.alloc.AllocError.{AllocError}
-use Rattle.clap.specs.Words.{App, Rule, AddsArg, app_of, rule_of, with_rule}
+use Rattle.std.proofs.Common.{◌≡◌, ◌∙◌, ◌||◌, ◌+◌, ◌<◌, ◌≤◌, ℕ, List, ap, ap₂, drop, false}
+use Rattle.std.proofs.Common.{get_or, length, map, sym}
+use Rattle.std.proofs.lemmas.List.{at_drop_more, drop_all}
+use Rattle.clap.specs.Words.{App, AddsArg, app_of, rule_of, with_rule}
 use Rattle.clap.specs.declared.builder.arg.Arg.{Arg}
 use Rattle.clap.specs.declared.builder.command.Command.{Command}
 use Rattle.clap.specs.declared.builder.command.Command.TheViews.{out-Command as fields_of}
+use Rattle.mq_acl_cli.specs.CommandLine.{rule_for, with_rules}
+use Rattle.mq_acl_cli.specs.declared.command_line.Argument.{Argument}
 
--- a command with one more argument, where none is for subcommands too
-pub argument_added : {old new : Command} {arg : Arg} {a : App} {r : Rule} → AddsArg old arg new
-    → (app_of old ≡ a) × ((fields_of old).has_globals ≡ false)
-    → (rule_of arg ≡ r) × (arg.global ≡ false)
-    → (app_of new ≡ with_rule a r) × ((fields_of new).has_globals ≡ false)
-argument_added added old arg =
-    (added.shape arg.1 ∙ ap₂ with_rule old.0 arg.0, added.globals ∙ ap₂ ◌||◌ old.1 arg.1)
+-- a command with one more argument, where none is for subcommands too: the arguments that are left
+-- make the same whole of it
+pub argument_added : (old new : Command) {arg : Arg} (all : List Argument) (i : ℕ) (d : Argument)
+    {whole : App} → i < length all → AddsArg old arg new
+    → (rule_of arg ≡ rule_for (get_or all i d)) × (arg.global ≡ false)
+    → (with_rules (app_of old) (map rule_for (drop i all)) ≡ whole)
+    × ((fields_of old).has_globals ≡ false)
+    → (with_rules (app_of new) (map rule_for (drop (i + 1) all)) ≡ whole)
+    × ((fields_of new).has_globals ≡ false)
+argument_added old new all i d is_in added is_arg so_far = (
+  ap (λ a. with_rules a (map rule_for (drop (i + 1) all)))
+      (added.shape is_arg.1 ∙ ap (with_rule (app_of old)) is_arg.0)
+      ∙ sym (at_drop_more (λ rest. with_rules (app_of old) (map rule_for rest)) all i d is_in)
+      ∙ so_far.0,
+  added.globals ∙ ap₂ ◌||◌ so_far.1 is_arg.1,
+)
 
--- and so where memory may have run out
-pub argument_added_if : (old : Command) (arg : Arg) {a : App} {r : Rule}
-    (result : Result Command AllocError) → IfOk result (AddsArg old arg)
-    → (app_of old ≡ a) × ((fields_of old).has_globals ≡ false)
-    → (rule_of arg ≡ r) × (arg.global ≡ false)
-    → IfOk result (λ new. (app_of new ≡ with_rule a r) × ((fields_of new).has_globals ≡ false))
-argument_added_if old arg result added is_old is_arg =
-    IfOk-weaker result (AddsArg old arg) _ (λ new h. argument_added h is_old is_arg) added
+-- and where none is left, that is the command
+pub all_added : (made : Command) (all : List Argument) (i : ℕ) {whole : App} → length all ≤ i
+    → with_rules (app_of made) (map rule_for (drop i all)) ≡ whole → app_of made ≡ whole
+all_added made all i is_past so_far =
+    ap (λ rest. with_rules (app_of made) (map rule_for rest)) (sym (drop_all i all is_past))
+    ∙ so_far

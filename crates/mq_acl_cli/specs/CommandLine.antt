@@ -1,6 +1,6 @@
 -- The command line of the program, in the words of `clap`.
-use Rattle.std.specs.Prelude.{◌≡◌, ◌≢◌, ◌⊎◌, true, false, if◌then◌else◌, List, [], Option, Some}
-use Rattle.std.specs.Prelude.{None, option_and_then, codes}
+use Rattle.std.specs.Prelude.{◌≡◌, ◌≢◌, ◌⊎◌, true, false, if◌then◌else◌, List, [], ◌∷◌, Option}
+use Rattle.std.specs.Prelude.{Some, None, option_and_then, codes}
 use Rattle.std.specs.Option.{option_copied}
 use Rattle.std.specs.Str.{bytes_eq}
 use Rattle.clap.specs.Words.{App, Row, Rule, Text, Kinds, IsAmong, new_app, new_rule, with_rule}
@@ -9,6 +9,8 @@ use Rattle.clap.specs.Words.{first_of, one_of, subcommand_of}
 use Rattle.clap.specs.declared.builder.action.ArgAction.TheVariants.{SetTrue}
 use Rattle.clap.specs.declared.error.ErrorKind.{ErrorKind}
 use Rattle.clap.specs.declared.error.ErrorKind.TheVariants.{DisplayHelp}
+use Rattle.mq_acl_cli.specs.declared.command_line.Argument.{Argument}
+use Rattle.mq_acl_cli.specs.declared.command_line.Argument.TheVariants as takes
 use Rattle.mq_acl_cli.specs.declared.command_line.UsageFault.{UsageFault}
 use Rattle.mq_acl_cli.specs.declared.command_line.UsageFault.TheVariants.{Help, Usage, Memory}
 use Rattle.mq_acl_cli.specs.declared.request.Request.{Request}
@@ -24,13 +26,28 @@ argument name = record (new_rule name) { value_names = 1; required = true }
 abbrev pub optional_argument : Text → Rule
 optional_argument name = record (new_rule name) { value_names = 1 }
 
--- `--json`
-abbrev pub json_flag : Rule
-json_flag = record (new_rule (codes "json")) { long = Some (codes "json"); action = Some SetTrue }
-
 -- `--NAME VALUE`
 abbrev pub option : Text → Rule
 option name = record (new_rule name) { long = Some name; value_names = 1 }
+
+-- `--NAME`
+abbrev pub flag : Text → Rule
+flag name = record (new_rule name) { long = Some name; action = Some SetTrue }
+
+abbrev pub rule_for : Argument → Rule
+rule_for (takes.Required name help) = argument name.now
+rule_for (takes.Optional name help) = optional_argument name.now
+rule_for (takes.Option name value help) = option name.now
+rule_for (takes.Flag name help) = flag name.now
+
+-- a command with these arguments too, in turn
+abbrev pub with_rules : App → List Rule → App
+with_rules a [] = a
+with_rules a (r ∷ rest) = with_rules (with_rule a r) rest
+
+-- `--json`
+abbrev pub json_flag : Rule
+json_flag = flag (codes "json")
 
 -- `--user NAME`
 abbrev pub user_option : Rule
@@ -40,34 +57,29 @@ user_option = option (codes "user")
 abbrev pub script_option : Rule
 script_option = option (codes "script")
 
--- `NAME LIST [--json]`
-abbrev pub question : (name list : Text) → App
-question name list = with_rule (with_rule (new_app name) (argument list)) json_flag
-
 -- `compare OLD NEW [--json]`
 abbrev pub compare : App
-compare = with_rule (question (codes "compare") (codes "OLD")) (argument (codes "NEW"))
+compare =
+    with_rules (new_app (codes "compare"))
+    (argument (codes "OLD") ∷ json_flag ∷ argument (codes "NEW") ∷ [])
 
 -- `why FILE CLIENT TOPIC [--user NAME] [--json]`
 abbrev pub why : App
 why =
-    with_rule (with_rule (with_rule (question (codes "why") (codes "FILE"))
-    (argument (codes "CLIENT"))) (argument (codes "TOPIC"))) user_option
+    with_rules (new_app (codes "why"))
+    (argument (codes "FILE") ∷ json_flag ∷ argument (codes "CLIENT") ∷ argument (codes "TOPIC")
+    ∷ user_option ∷ [])
 
 -- `lint FILE [--json]`
 abbrev pub lint : App
-lint = question (codes "lint") (codes "FILE")
-
--- `reach FILE [CLIENT] [FILTER] [--json]`
-abbrev pub reach_question : App
-reach_question =
-    with_rule (with_rule (question (codes "reach") (codes "FILE"))
-    (optional_argument (codes "CLIENT")))
-    (optional_argument (codes "FILTER"))
+lint = with_rules (new_app (codes "lint")) (argument (codes "FILE") ∷ json_flag ∷ [])
 
 -- `reach FILE [CLIENT] [FILTER] [--user NAME] [--script SCRIPT] [--json]`
 abbrev pub reach : App
-reach = with_rule (with_rule reach_question user_option) script_option
+reach =
+    with_rules (new_app (codes "reach"))
+    (argument (codes "FILE") ∷ json_flag ∷ optional_argument (codes "CLIENT")
+    ∷ optional_argument (codes "FILTER") ∷ user_option ∷ script_option ∷ [])
 
 -- a command that wants a subcommand
 abbrev pub wanting : App → App

@@ -4,9 +4,8 @@ ghost use Rattle.std.specs.Prelude.{OnOk, IfErr};
 ghost use Rattle.clap.specs.Words.{App, Text, Kinds, app_of, rule_of, fault_of, subcommand_of};
 ghost use Rattle.clap.specs.Words.{subcommand_rows_of, new_app, with_subcommand, FailsBy, HasKind};
 ghost use Rattle.clap.specs.declared.builder.command.Command.TheViews.{out-Command as fields_of};
-ghost use Rattle.mq_acl_cli.specs.CommandLine.{mqroute_acl, argument, optional_argument, json_flag};
-ghost use Rattle.mq_acl_cli.specs.CommandLine.{option, question};
-ghost use Rattle.mq_acl_cli.specs.CommandLine.{compare, why, lint, reach, reach_question};
+ghost use Rattle.mq_acl_cli.specs.CommandLine.{mqroute_acl, compare, why, lint, reach};
+ghost use Rattle.mq_acl_cli.specs.CommandLine.{rule_for, with_rules};
 ghost use Rattle.mq_acl_cli.specs.CommandLine.{AreGiven, IsAskedBy, IsFaultOf};
 
 use crate::help::{
@@ -48,112 +47,131 @@ impl From<AllocError> for UsageFault {
     }
 }
 
-// An argument that has to be there.
-fn argument<'a>(alloc: Global, name: &'a str, help: &'a str) -> Arg<'a>
-    ensures { (rule_of result ≡ argument name.entry.now) × (result.global ≡ false) }
-{
-    Arg::new(alloc, name)
-        .value_name(name)
-        .required(true)
-        .help(help)
+// An argument of a subcommand: its name, and its help last.
+#[derive(Drop)]
+enum Argument<'a> {
+    // One that has to be there.
+    Required(&'a str, &'a str),
+    // One that may be left out.
+    Optional(&'a str, &'a str),
+    // `--NAME VALUE`
+    Option(&'a str, &'a str, &'a str),
+    // `--NAME`
+    Flag(&'a str, &'a str),
 }
 
-// One that may be left out.
-fn optional_argument<'a>(alloc: Global, name: &'a str, help: &'a str) -> Arg<'a>
-    ensures { (rule_of result ≡ optional_argument name.entry.now) × (result.global ≡ false) }
+// In the words of `clap`.
+fn arg<'a>(alloc: Global, argument: &Argument<'a>) -> Arg<'a>
+    ensures { (rule_of result ≡ rule_for argument.now) × (result.global ≡ false) }
 {
-    Arg::new(alloc, name).value_name(name).help(help)
+    match *argument {
+        Argument::Required(name, help) => Arg::new(alloc, name)
+            .value_name(name)
+            .required(true)
+            .help(help),
+        Argument::Optional(name, help) => Arg::new(alloc, name).value_name(name).help(help),
+        Argument::Option(name, value, help) => Arg::new(alloc, name)
+            .long(name)
+            .value_name(value)
+            .help(help),
+        Argument::Flag(name, help) => Arg::new(alloc, name)
+            .long(name)
+            .action(ArgAction::SetTrue)
+            .help(help),
+    }
 }
 
-// `--json`
-fn json_flag<'a>(alloc: Global) -> Arg<'a>
-    ensures { (rule_of result ≡ json_flag) × (result.global ≡ false) }
-{
-    Arg::new(alloc, "json")
-        .long("json")
-        .action(ArgAction::SetTrue)
-        .help(JSON_HELP)
-}
-
-// `--NAME VALUE`
-fn option<'a>(alloc: Global, name: &'a str, value: &'a str, help: &'a str) -> Arg<'a>
-    ensures { (rule_of result ≡ option name.entry.now) × (result.global ≡ false) }
-{
-    Arg::new(alloc, name)
-        .long(name)
-        .value_name(value)
-        .help(help)
-}
-
-// `NAME LIST [--json]`, of a command that has its name
-fn question<'a>(
+// A subcommand with its arguments, in the order of help.
+fn subcommand<'a>(
     alloc: Global,
-    named: Command<'a>,
-    list: &'a str,
-    help: &'a str,
+    name: &'a str,
+    about: &'a str,
+    after_help: &'a str,
+    arguments: &[Argument<'a>],
 ) -> Result<Command<'a>, AllocError>
-    ensures { IfOk result (λ c. (name : Text) → (app_of named.entry ≡ new_app name)
-        × ((fields_of named.entry).has_globals ≡ false)
-        → (app_of c ≡ question name list.entry.now) × ((fields_of c).has_globals ≡ false)) }
+    ensures { IfOk result (λ c.
+        (app_of c ≡ with_rules (new_app name.entry.now) (map rule_for arguments.entry.now))
+        × ((fields_of c).has_globals ≡ false)) }
 {
-    let listed = named.arg(argument(alloc, list, help))?;
-    listed.arg(json_flag(alloc))
+    let mut command = Command::new(alloc, name)
+        .about(about)
+        .after_help(after_help);
+    for argument in arguments {
+        command = command.arg(arg(alloc, argument))?;
+    }
+    Ok(command)
 }
 
 // `compare OLD NEW [--json]`
 fn compare_command<'a>(alloc: Global) -> Result<Command<'a>, AllocError>
     ensures { IfOk result (λ c. (app_of c ≡ compare) × ((fields_of c).has_globals ≡ false)) }
 {
-    let named = Command::new(alloc, "compare")
-        .about(COMPARE_ABOUT)
-        .after_help(COMPARE_AFTER_HELP);
-    let listed = question(alloc, named, "OLD", OLD_HELP)?;
-    listed.arg(argument(alloc, "NEW", NEW_HELP))
+    subcommand(
+        alloc,
+        "compare",
+        COMPARE_ABOUT,
+        COMPARE_AFTER_HELP,
+        &[
+            Argument::Required("OLD", OLD_HELP),
+            Argument::Flag("json", JSON_HELP),
+            Argument::Required("NEW", NEW_HELP),
+        ],
+    )
 }
 
 // `why FILE CLIENT TOPIC [--user NAME] [--json]`
 fn why_command<'a>(alloc: Global) -> Result<Command<'a>, AllocError>
     ensures { IfOk result (λ c. (app_of c ≡ why) × ((fields_of c).has_globals ≡ false)) }
 {
-    let named = Command::new(alloc, "why")
-        .about(WHY_ABOUT)
-        .after_help(WHY_AFTER_HELP);
-    let listed = question(alloc, named, "FILE", FILE_HELP)?;
-    let held = listed.arg(argument(alloc, "CLIENT", CLIENT_HELP))?;
-    let about = held.arg(argument(alloc, "TOPIC", TOPIC_HELP))?;
-    about.arg(option(alloc, "user", "NAME", USER_HELP))
+    subcommand(
+        alloc,
+        "why",
+        WHY_ABOUT,
+        WHY_AFTER_HELP,
+        &[
+            Argument::Required("FILE", FILE_HELP),
+            Argument::Flag("json", JSON_HELP),
+            Argument::Required("CLIENT", CLIENT_HELP),
+            Argument::Required("TOPIC", TOPIC_HELP),
+            Argument::Option("user", "NAME", USER_HELP),
+        ],
+    )
 }
 
 // `lint FILE [--json]`
 fn lint_command<'a>(alloc: Global) -> Result<Command<'a>, AllocError>
     ensures { IfOk result (λ c. (app_of c ≡ lint) × ((fields_of c).has_globals ≡ false)) }
 {
-    let named = Command::new(alloc, "lint")
-        .about(LINT_ABOUT)
-        .after_help(LINT_AFTER_HELP);
-    question(alloc, named, "FILE", FILE_HELP)
-}
-
-// `reach FILE [CLIENT] [FILTER] [--json]`
-fn reach_question<'a>(alloc: Global) -> Result<Command<'a>, AllocError>
-    ensures { IfOk result (λ c. (app_of c ≡ reach_question)
-        × ((fields_of c).has_globals ≡ false)) }
-{
-    let named = Command::new(alloc, "reach")
-        .about(REACH_ABOUT)
-        .after_help(REACH_AFTER_HELP);
-    let listed = question(alloc, named, "FILE", FILE_HELP)?;
-    let held = listed.arg(optional_argument(alloc, "CLIENT", SUBSCRIBER_HELP))?;
-    held.arg(optional_argument(alloc, "FILTER", FILTER_HELP))
+    subcommand(
+        alloc,
+        "lint",
+        LINT_ABOUT,
+        LINT_AFTER_HELP,
+        &[
+            Argument::Required("FILE", FILE_HELP),
+            Argument::Flag("json", JSON_HELP),
+        ],
+    )
 }
 
 // `reach FILE [CLIENT] [FILTER] [--user NAME] [--script SCRIPT] [--json]`
 fn reach_command<'a>(alloc: Global) -> Result<Command<'a>, AllocError>
     ensures { IfOk result (λ c. (app_of c ≡ reach) × ((fields_of c).has_globals ≡ false)) }
 {
-    let about = reach_question(alloc)?;
-    let named = about.arg(option(alloc, "user", "NAME", USER_HELP))?;
-    named.arg(option(alloc, "script", "SCRIPT", SCRIPT_HELP))
+    subcommand(
+        alloc,
+        "reach",
+        REACH_ABOUT,
+        REACH_AFTER_HELP,
+        &[
+            Argument::Required("FILE", FILE_HELP),
+            Argument::Flag("json", JSON_HELP),
+            Argument::Optional("CLIENT", SUBSCRIBER_HELP),
+            Argument::Optional("FILTER", FILTER_HELP),
+            Argument::Option("user", "NAME", USER_HELP),
+            Argument::Option("script", "SCRIPT", SCRIPT_HELP),
+        ],
+    )
 }
 
 // The command with this subcommand too, if there was memory for it.

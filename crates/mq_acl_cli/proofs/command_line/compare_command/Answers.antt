@@ -1,14 +1,4 @@
-use Rattle.std.proofs.Common.{◌∙◌, ap, codes}
-use Rattle.clap.specs.Simple.{app_of_fields}
-use Rattle.mq_acl_cli.proofs.CommandLineLemmas.{argument_added_if}
 use Rattle.mq_acl_cli.proofs.command_line.compare_command.Goals as goal
 
 pub returns : goal.returns
-returns c =
-    argument_added_if c.in_ok-listed.listed c.argument.result c.arg.result c.arg.ensures
-    (c.in_ok-listed.ensures (codes "compare") (
-      ap app_of_fields c.after_help-named.ensures ∙ ap app_of_fields c.about.ensures
-          ∙ c.new.ensures.app,
-      rw (c.after_help-named.ensures, c.about.ensures) c.new.ensures.local,
-    ))
-    c.argument.ensures
+returns c = c.subcommand.ensures
