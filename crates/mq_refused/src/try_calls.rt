@@ -5,7 +5,7 @@ use crate::texts::{
     COMMAND_LINES, FILTERS, KEYS, LISTS, LOOKED_UP, MOST_BYTES, MOST_SLASHES, NAMES, NEIGHBOURS,
     SHARE, SUBSCRIPTIONS,
 };
-use crate::trial::{Tally, tried};
+use crate::trial::{Subject, Tally};
 use mq_topic::{LevelText, SubFilter, TopicFilter, TopicName};
 use mq_tree::LevelTree;
 use std::alloc::{AllocError, Global};
@@ -31,20 +31,9 @@ pub fn try_calls(tally: &mut Tally) -> Result<(), AllocError> {
     try_limits(tally, Kind::Subscription, SHARE)?;
     try_texts(tally, Kind::List, &LISTS)?;
     let file = Call::ReadListFile(b"\xff");
-    try_call(tally, "read_acl", "a byte that is no UTF-8", file)?;
+    tally.attempt("read_acl", Subject::Text("a byte that is no UTF-8"), &file)?;
     try_texts(tally, Kind::CommandLine, &COMMAND_LINES)?;
     try_tree(tally)
-}
-
-// A long text is told by its length.
-fn try_call(tally: &mut Tally, name: &str, text: &str, call: Call) -> Result<(), AllocError> {
-    let bytes = text.len();
-    let label = if bytes > 100 {
-        format!(in tally.alloc; "{name} of {bytes} bytes")?
-    } else {
-        format!(in tally.alloc; "{name} {text:?}")?
-    };
-    tally.note(label, tried(tally.alloc, &call))
 }
 
 // The words of a command line.
@@ -56,41 +45,53 @@ fn words_of(alloc: Global, text: &str) -> Result<Vec<String>, AllocError> {
     Ok(words)
 }
 
+fn try_name(tally: &mut Tally, text: &str) -> Result<(), AllocError> {
+    let subject = Subject::Text(text);
+    tally.attempt("TopicName::parse", subject, &Call::ParseName(text))?;
+    match TopicName::parse(tally.alloc, text) {
+        Ok(name) => tally.attempt("TopicName::clone", subject, &Call::CloneName(&name)),
+        Err(_) => Ok(()),
+    }
+}
+
+fn try_filter(tally: &mut Tally, text: &str) -> Result<(), AllocError> {
+    let subject = Subject::Text(text);
+    tally.attempt("TopicFilter::parse", subject, &Call::ParseFilter(text))?;
+    match TopicFilter::parse(tally.alloc, text) {
+        Ok(filter) => tally.attempt("TopicFilter::clone", subject, &Call::CloneFilter(&filter)),
+        Err(_) => Ok(()),
+    }
+}
+
+fn try_subscription(tally: &mut Tally, text: &str) -> Result<(), AllocError> {
+    let subject = Subject::Text(text);
+    tally.attempt("SubFilter::parse", subject, &Call::ParseSubscription(text))?;
+    match SubFilter::parse(tally.alloc, text) {
+        Ok(wanted) => tally.attempt(
+            "SubFilter::clone",
+            subject,
+            &Call::CloneSubscription(&wanted),
+        ),
+        Err(_) => Ok(()),
+    }
+}
+
 // Tries the calls that read this text, and the clones of what they give.
 fn try_text(tally: &mut Tally, kind: Kind, text: &str) -> Result<(), AllocError> {
+    let subject = Subject::Text(text);
     match kind {
-        Kind::Name => {
-            try_call(tally, "TopicName::parse", text, Call::ParseName(text))?;
-            if let Ok(name) = TopicName::parse(tally.alloc, text) {
-                let clone = Call::CloneName(&name);
-                try_call(tally, "TopicName::clone", text, clone)?;
-            }
-        }
-        Kind::Filter => {
-            try_call(tally, "TopicFilter::parse", text, Call::ParseFilter(text))?;
-            if let Ok(filter) = TopicFilter::parse(tally.alloc, text) {
-                let clone = Call::CloneFilter(&filter);
-                try_call(tally, "TopicFilter::clone", text, clone)?;
-            }
-        }
-        Kind::Subscription => {
-            let parse = Call::ParseSubscription(text);
-            try_call(tally, "SubFilter::parse", text, parse)?;
-            if let Ok(wanted) = SubFilter::parse(tally.alloc, text) {
-                let clone = Call::CloneSubscription(&wanted);
-                try_call(tally, "SubFilter::clone", text, clone)?;
-            }
-        }
+        Kind::Name => try_name(tally, text),
+        Kind::Filter => try_filter(tally, text),
+        Kind::Subscription => try_subscription(tally, text),
         Kind::List => {
-            try_call(tally, "Acl::read", text, Call::ReadList(text))?;
-            try_call(tally, "read_acl", text, Call::ReadListFile(text.as_bytes()))?;
+            tally.attempt("Acl::read", subject, &Call::ReadList(text))?;
+            tally.attempt("read_acl", subject, &Call::ReadListFile(text.as_bytes()))
         }
         Kind::CommandLine => {
             let words = words_of(tally.alloc, text)?;
-            try_call(tally, "arguments", text, Call::ReadWords(words.as_slice()))?;
+            tally.attempt("arguments", subject, &Call::ReadWords(words.as_slice()))
         }
     }
-    Ok(())
 }
 
 fn try_texts(tally: &mut Tally, kind: Kind, texts: &[&str]) -> Result<(), AllocError> {
@@ -138,16 +139,16 @@ fn try_puts(tally: &mut Tally, keys: &[TopicFilter]) -> Result<(), AllocError> {
     for place in 0..keys.len() {
         let (before, rest) = keys.split_at(place);
         if let Some((key, _)) = rest.split_first() {
-            try_put_into(tally, "put", before, key, &all)?;
-            try_put_into(tally, "put again", keys, key, &all)?;
+            try_put(tally, "put", before, key, &all)?;
+            try_put(tally, "put again", keys, key, &all)?;
         }
     }
     Ok(())
 }
 
-fn try_put_into(
+fn try_put(
     tally: &mut Tally,
-    name: &str,
+    call: &str,
     keys: &[TopicFilter],
     key: &TopicFilter,
     all: &TopicFilter,
@@ -163,24 +164,20 @@ fn try_put_into(
         after: &after,
         older,
     };
-    try_put(tally, name, &put)
-}
-
-fn try_put(tally: &mut Tally, name: &str, put: &Put) -> Result<(), AllocError> {
-    let text = put.key.text();
-    let label = format!(in tally.alloc; "{name} {text}")?;
-    tally.note(label, tried(tally.alloc, put))
+    tally.attempt(call, Subject::Text(key.text()), &put)
 }
 
 fn try_look_ups(tally: &mut Tally, tree: &LevelTree<u32>) -> Result<(), AllocError> {
     for text in &LOOKED_UP {
         if let Ok(name) = TopicName::parse(tally.alloc, text) {
-            try_call(tally, "for_name", text, Call::ForName(tree, &name))?;
+            let call = Call::ForName(tree, &name);
+            tally.attempt("for_name", Subject::Text(text), &call)?;
         }
     }
     for text in &KEYS {
         if let Ok(filter) = TopicFilter::parse(tally.alloc, text) {
-            try_call(tally, "for_filter", text, Call::ForFilter(tree, &filter))?;
+            let call = Call::ForFilter(tree, &filter);
+            tally.attempt("for_filter", Subject::Text(text), &call)?;
         }
     }
     Ok(())

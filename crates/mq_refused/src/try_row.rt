@@ -3,29 +3,28 @@ use crate::apply::{Apply, answer_around};
 use crate::calls::Call;
 use crate::reply::Reply;
 use crate::row::{Line, Row};
-use crate::trial::{Tally, tried};
+use crate::trial::{Subject, Tally};
 use mq_lines::read_line;
 use mq_router::Router;
 use std::alloc::AllocError;
 
 pub fn try_row(tally: &mut Tally, row: Row) -> Result<(), AllocError> {
-    let alloc = tally.alloc;
-    tally.note(
-        String::from_str(alloc, "run of the script")?,
-        tried(alloc, &row),
-    )?;
-    let lines = row.lines(alloc)?;
-    let (once, _) = lines.as_slice().split_at(lines.len() / 2);
+    tally.attempt("run", Subject::Script, &row)?;
+    let lines = row.lines(tally.alloc)?;
+    try_script(tally, row, lines.as_slice())
+}
+
+fn try_script(tally: &mut Tally, row: Row, lines: &[Line]) -> Result<(), AllocError> {
+    let (once, _) = lines.split_at(lines.len() / 2);
     try_lines(tally, once)?;
-    try_commands(tally, row, lines.as_slice())?;
+    try_commands(tally, row, lines)?;
     try_answers(tally, row, once)
 }
 
 fn try_lines(tally: &mut Tally, lines: &[Line]) -> Result<(), AllocError> {
-    let alloc = tally.alloc;
     for (number, text) in lines {
-        let label = format!(in alloc; "read_line of line {number}")?;
-        tally.note(label, tried(alloc, &Call::ReadLine(text.as_bytes())))?;
+        let read = Call::ReadLine(text.as_bytes());
+        tally.attempt("read_line", Subject::Line(*number), &read)?;
     }
     Ok(())
 }
@@ -35,11 +34,15 @@ fn try_commands(tally: &mut Tally, row: Row, lines: &[Line]) -> Result<(), Alloc
     let mut whole = Vec::new(tally.alloc);
     answer_around(tally.alloc, row, lines, &[], &mut whole)?;
     if !whole.as_slice().starts_with(row.output.as_bytes()) {
-        tally.note(String::from_str(tally.alloc, "apply of all lines")?, Err(0))?;
+        tally.note("apply of all lines", Subject::Script, Err(0))?;
     }
+    try_each(tally, row, whole.as_slice(), lines)
+}
+
+fn try_each(tally: &mut Tally, row: Row, whole: &[u8], lines: &[Line]) -> Result<(), AllocError> {
     for place in 0..lines.len() / 2 {
         let (before, rest) = lines.split_at(place);
-        try_command(tally, row, whole.as_slice(), before, rest)?;
+        try_command(tally, row, whole, before, rest)?;
     }
     Ok(())
 }
@@ -52,16 +55,13 @@ fn try_command<'a>(
     before: &'a [Line<'a>],
     rest: &'a [Line<'a>],
 ) -> Result<(), AllocError> {
-    let alloc = tally.alloc;
     let Some((line, after)) = rest.split_first() else {
         return Ok(());
     };
     let (number, text) = *line;
-    if !matches!(read_line(alloc, text.as_bytes()), Ok(Some(_))) {
+    if !matches!(read_line(tally.alloc, text.as_bytes()), Ok(Some(_))) {
         return Ok(());
     }
-    let mut without = Vec::new(alloc);
-    answer_around(alloc, row, before, after, &mut without)?;
     let again = Apply {
         row,
         before,
@@ -70,14 +70,14 @@ fn try_command<'a>(
         whole,
         next: (rest, whole),
     };
-    let label = format!(in alloc; "apply of line {number}, and again")?;
-    tally.note(label, tried(alloc, &again))?;
+    tally.attempt("apply (then again)", Subject::Line(number), &again)?;
+    let mut without = Vec::new(tally.alloc);
+    answer_around(tally.alloc, row, before, after, &mut without)?;
     let on = Apply {
         next: (after, without.as_slice()),
         ..again
     };
-    let label = format!(in alloc; "apply of line {number}, and on")?;
-    tally.note(label, tried(alloc, &on))
+    tally.attempt("apply (then on)", Subject::Line(number), &on)
 }
 
 fn try_answers(tally: &mut Tally, row: Row, lines: &[Line]) -> Result<(), AllocError> {
@@ -90,12 +90,9 @@ fn try_answers_of(
     lines: &[Line],
     router: &mut Router,
 ) -> Result<(), AllocError> {
-    let alloc = tally.alloc;
     for line in lines {
-        if let Some(reply) = Reply::to(alloc, *line, router) {
-            let number = reply.line;
-            let label = format!(in alloc; "print of line {number}")?;
-            tally.note(label, tried(alloc, &reply))?;
+        if let Some(reply) = Reply::to(tally.alloc, *line, router) {
+            tally.attempt("print", Subject::Line(reply.line), &reply)?;
         }
     }
     Ok(())
