@@ -55,10 +55,10 @@ none_differ one other user direction f g client name valid =
     (g client name valid)
 
 -- lists differ where the other one gains a name
-pub more_differ : (one other : List AclRow) (client : List ℕ) (user : Option (List ℕ))
+pub gain_differs : (one other : List AclRow) (client : List ℕ) (user : Option (List ℕ))
     (name : List ℕ) (direction : Direction) → IsTrue (is_name name)
     → is_gained one other client user name direction ≡ true → Differ one other
-more_differ one other client user name direction valid h =
+gain_differs one other client user name direction valid h =
     record {
       client = client;
       user = user;
@@ -69,18 +69,15 @@ more_differ one other client user name direction valid h =
           (allowed (Some other) client user name direction) h;
     }
 
--- lists differ where the first one gains a name
-pub fewer_differ : (one other : List AclRow) (client : List ℕ) (user : Option (List ℕ))
-    (name : List ℕ) (direction : Direction) → IsTrue (is_name name)
-    → is_gained other one client user name direction ≡ true → Differ one other
-fewer_differ one other client user name direction valid h = record {
-  client = client;
-  user = user;
-  name = name;
-  direction = direction;
-  valid = valid;
-  differs = λ e. one_of (allowed (Some other) client user name direction)
-      (allowed (Some one) client user name direction) h (sym e);
+-- and they do so either way round
+pub differ_back : (one other : List AclRow) → Differ one other → Differ other one
+differ_back one other d = record {
+  client = d.client;
+  user = d.user;
+  name = d.name;
+  direction = d.direction;
+  valid = d.valid;
+  differs = λ e. d.differs (sym e);
 }
 
 -- ---- each direction, and each user

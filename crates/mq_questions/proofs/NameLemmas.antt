@@ -1,12 +1,9 @@
 -- Levels of names, and the names that they make.
 use Rattle.std.proofs.Common.{◌≡◌, ℕ, ◌==◌, Bool, true, false, cond, not, ◌&&◌, ◌||◌, List, []}
 use Rattle.std.proofs.Common.{◌∷◌, ◌++◌, length, refl, ap, sym, ◌∙◌, arith, ◌<◌, ◌≤◌, ◌*◌}
-use Rattle.std.proofs.Common.{append-nil, append_assoc, length-append, suc, ◌+◌, Bor, get_or}
-use Rattle.std.proofs.Common.{map, take}
+use Rattle.std.proofs.Common.{append-nil, length-append, suc, Bor, map}
 use Rattle.std.specs.Prelude.{nat_le, nat_lt}
-use Rattle.std.specs.List.{list_all, flat_map, onto_first}
-use Rattle.std.proofs.lemmas.List.{map_more}
-use Rattle.std.proofs.lemmas.List.Concat.{flat_map-append}
+use Rattle.std.specs.List.{list_all, flat_map, join_by, onto_first}
 use Rattle.std.proofs.lemmas.Bool.Decides.{nat_tests}
 use Rattle.std.proofs.lemmas.List.Folds.{list_any-append}
 use Rattle.std.proofs.lemmas.Bool.{and_parts, not-true, or_parts, leb-true, le-leb, ltb-true}
@@ -42,13 +39,16 @@ levels_first (x ∷ xs) more h =
 abbrev slashed : List (List ℕ) → List ℕ
 slashed ls = flat_map (λ l. 47 ∷ l) ls
 
--- one more level behind some
-pub joined_more : (front : List ℕ) (ls : List (Bor (List ℕ))) (i : ℕ) (d : Bor (List ℕ))
-    → i < length ls
-    → ((front ++ slashed (map (λ l. l.now) (take i ls))) ++ 47 ∷ []) ++ (get_or ls i d).now
-    ≡ front ++ slashed (map (λ l. l.now) (take (i + 1) ls))
-joined_more front ls i d h =
-    rw (map_more (λ l. l.now) ls i d h, flat_map-append) (simp (append_assoc, append-nil))
+-- what `join` makes of them
+joined_behind : (ls : List (Bor (List ℕ)))
+    → flat_map (λ l. (47 ∷ []) ++ l.now) ls ≡ slashed (map (λ l. l.now) ls)
+joined_behind [] = refl
+joined_behind (l ∷ ls) = ap (λ t. (47 ∷ l.now) ++ t) (joined_behind ls)
+
+pub joined_is : (ls : List (Bor (List ℕ)))
+    → join_by (λ l. l.now) (47 ∷ []) ls ≡ join_levels (map (λ l. l.now) ls)
+joined_is [] = refl
+joined_is (l ∷ ls) = ap (λ t. l.now ++ t) (joined_behind ls)
 
 abbrev all_lack : ℕ → List (List ℕ) → Bool
 all_lack b ls = list_all (λ l. not (contains_byte b l)) ls

@@ -17,7 +17,7 @@ use Rattle.mq_acl.specs.Rows.{AclRow}
 use Rattle.mq_acl.specs.declared.access.Direction.TheVariants.{Reading}
 use Rattle.mq_questions.specs.Fresh.{marks_of}
 use Rattle.mq_walk.specs.Names.{can_be_level, is_name_level, start_of, suits}
-use Rattle.mq_questions.specs.Reach.{level_marks}
+use Rattle.mq_questions.specs.Reach.{IsNamedBy, level_marks}
 use Rattle.mq_walk.specs.Remainders.{MarkLevels, passes, same, hit, allow, gains, GainsNothing}
 use Rattle.mq_walk.specs.Remainders.{IsGain}
 use Rattle.mq_questions.specs.Roots.{AreRoots}
@@ -145,6 +145,16 @@ module _ (filter : List ℕ) (rows : List AclRow) (client : List ℕ) (user : Op
             ∙ level_allow client user ls roots
             (all_by is_name_level can_be_level level_can ls g.valid) ∙ both.0,
       )
+
+-- a gained name that is short enough is valid
+pub path_named : (start : Start) (dollar : Bool) (marks : MarkLevels) (old new : List Remainder)
+    → start ≡ start_of dollar → (ls : List (List ℕ)) → IsGain start 200 marks old new ls
+    → IsNamedBy dollar ls
+path_named start dollar marks old new e ls h = record {
+  valid = h.valid;
+  few = h.few;
+  suitable = (λ i. suits (sym e i) ls) ∙ h.suitable;
+}
 
 -- ---- by the case of an option
 pub none_then : {X : Type 0} {P Q : Type 0} (o : Option X) → (P → Q) → IfNone o P → IfNone o Q

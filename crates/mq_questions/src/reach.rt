@@ -90,8 +90,7 @@ fn unnamed_texts(
     literals.add_levels(filter.text())?;
     literals.add(client)?;
     literals.add_mark(user)?;
-    let texts = FreshTexts::find(alloc, &literals)?;
-    Ok(texts)
+    FreshTexts::find(alloc, &literals)
 }
 
 /// A list that is asked what clients may read of the topics that a filter matches (MQTT 5.0, section 4.7).

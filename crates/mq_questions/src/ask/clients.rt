@@ -45,8 +45,7 @@ fn named_clients<'a>(
     named.add_mark(user)?;
     named.add_remainders(old)?;
     named.add_remainders(new)?;
-    let all = named.list_behind(alloc, fresh.client, fresh.dollar_client)?;
-    Ok(all)
+    named.list_behind(alloc, fresh.client, fresh.dollar_client)
 }
 
 // The client ids to try: one alone where no row has `%c`.
@@ -71,22 +70,21 @@ fn clients<'a>(
     only(alloc, fresh.client)
 }
 
-// Whether the names are the same, but for the client ids.
-fn is_like(path: &Path, client: &str, other: &Gain) -> bool {
-    path.levels.len() == other.path.levels.len()
-        && path
-            .levels
-            .iter()
-            .zip(other.path.levels.iter())
-            .all(|(a, b)| a == b || (*a == client && *b == other.client))
+/// Whether the names are the same, but for the client ids and these user names.
+pub(crate) fn is_like(gain: &Gain, user: &str, other: &Gain, other_user: &str) -> bool {
+    gain.path.levels.len() == other.path.levels.len()
+        && gain.path.levels.iter().zip(other.path.levels.iter()).all(|(a, b)| {
+            a == b || (*a == gain.client && *b == other.client) || (*a == user && *b == other_user)
+        })
 }
 
-// Whether one of these gains is the same, but for the client id.
-fn has_like(gains: &[Gain], client: &str, path: &Path) -> bool
+// Whether one of these gains is the same, but for the client id. All are of clients of one user
+// name, or without one.
+fn has_like(gains: &[Gain], gain: &Gain) -> bool
     ensures { gains.now ≡ [] → result ≡ false }
 {
     for other in gains {
-        if is_like(path, client, other) {
+        if is_like(gain, "", other, "") {
             return true;
         }
     }
@@ -108,10 +106,11 @@ fn add_gains<'a>(
         → All (IsGainOf start user old new) gains.new.items) }
 {
     for path in paths {
-        if has_like(gains, client, &path) {
+        let gain = Gain { client, path };
+        if has_like(gains, &gain) {
             continue;
         }
-        gains.push(Gain { client, path })?;
+        gains.push(gain)?;
     }
     Ok(())
 }

@@ -9,7 +9,7 @@ ghost use Rattle.mq_questions.specs.Fresh.{AreFresh, is_literal, is_user_level};
 ghost use Rattle.mq_questions.specs.Literals.{is_named};
 ghost use Rattle.mq_questions.specs.Texts.{level_of};
 ghost use Rattle.mq_walk.specs.Remainders.{mark_passes};
-ghost use Rattle.mq_questions.specs.Roots.{all_rows, rows_fit, HasUsers};
+ghost use Rattle.mq_questions.specs.Roots.{all_rows, rows_fit, is_gained, HasUsers};
 ghost use Rattle.mq_questions.specs.Users.{is_name_of};
 
 use crate::ask::fresh::Fresh;
@@ -30,6 +30,34 @@ fn shows(witness: &Witness) -> bool
     true
 }
 
+// Whether some client of this user name, or without one, gains a name by the new rows.
+fn user_gains<'a>(
+    alloc: Global,
+    fresh: Fresh<'a>,
+    user: Option<&'a str>,
+    direction: Direction,
+    old: Rows<'a>,
+    new: Rows<'a>,
+) -> Result<bool, AllocError>
+    requires fresh { AreFresh fresh }
+    requires user { mark_passes (is_user_level fresh) (level_of (option_copied user)) ≡ true }
+    requires old { rows_fit (is_literal fresh) (all_rows old) ≡ true }
+    requires new { rows_fit (is_literal fresh) (all_rows new) ≡ true }
+    ensures none { IfOk result (λ gains. gains ≡ false → (client name : List ℕ)
+        → IsTrue (is_name name)
+        → is_gained (all_rows old.entry) (all_rows new.entry) client
+        (option_copied user.entry) name direction
+        ≡ false) }
+    ensures some { IfOk result (λ gains. gains ≡ true
+        → Differ (all_rows old.entry) (all_rows new.entry)) }
+{
+    let found = gains(alloc, fresh, user, direction, 1, old, new)?;
+    if let Some(witness) = found.first() {
+        return Ok(shows(witness));
+    }
+    Ok(false)
+}
+
 fn user_differs_in<'a>(
     alloc: Global,
     fresh: Fresh<'a>,
@@ -48,15 +76,10 @@ fn user_differs_in<'a>(
     ensures differ { IfOk result (λ differ. differ ≡ true
         → Differ (all_rows one.entry) (all_rows other.entry)) }
 {
-    let more = gains(alloc, fresh, user, direction, 1, one, other)?;
-    if let Some(witness) = more.first() {
-        return Ok(shows(witness));
+    if user_gains(alloc, fresh, user, direction, one, other)? {
+        return Ok(true);
     }
-    let fewer = gains(alloc, fresh, user, direction, 1, other, one)?;
-    if let Some(witness) = fewer.first() {
-        return Ok(shows(witness));
-    }
-    Ok(false)
+    user_gains(alloc, fresh, user, direction, other, one)
 }
 
 /// Whether the lists differ for some client of this user name, or without one.
@@ -79,8 +102,36 @@ pub(crate) fn user_differs<'a>(
     if user_differs_in(alloc, fresh, user, Direction::Reading, one, other)? {
         return Ok(true);
     }
-    let writing = user_differs_in(alloc, fresh, user, Direction::Writing, one, other)?;
-    Ok(writing)
+    user_differs_in(alloc, fresh, user, Direction::Writing, one, other)
+}
+
+// Whether some client of a user name that neither list names gains a name by the new rows.
+fn others_gain<'a>(
+    alloc: Global,
+    fresh: Fresh<'a>,
+    named: &Literals,
+    direction: Direction,
+    old: Rows<'a>,
+    new: Rows<'a>,
+) -> Result<bool, AllocError>
+    requires fresh { AreFresh fresh }
+    requires user { is_named fresh.user.now named.now ≡ false }
+    requires dollar_user { is_named fresh.dollar_user.now named.now ≡ false }
+    requires named { HasUsers named.now (all_rows old) (all_rows new) }
+    requires old { rows_fit (is_literal fresh) (all_rows old) ≡ true }
+    requires new { rows_fit (is_literal fresh) (all_rows new) ≡ true }
+    ensures none { IfOk result (λ gain. gain ≡ false → (user client name : List ℕ)
+        → is_named user named.now ≡ false → IsTrue (is_name name)
+        → is_gained (all_rows old.entry) (all_rows new.entry) client (Some user) name direction
+        ≡ false) }
+    ensures some { IfOk result (λ gain. gain ≡ true
+        → Differ (all_rows old.entry) (all_rows new.entry)) }
+{
+    let found = all_others(alloc, fresh, named, direction, 1, old, new)?;
+    if let Some(other) = found.first() {
+        return Ok(shows(&other.witness));
+    }
+    Ok(false)
 }
 
 fn others_differ_in<'a>(
@@ -104,15 +155,10 @@ fn others_differ_in<'a>(
     ensures differ { IfOk result (λ differ. differ ≡ true
         → Differ (all_rows one.entry) (all_rows other.entry)) }
 {
-    let more = all_others(alloc, fresh, named, direction, 1, one, other)?;
-    if let Some(other) = more.first() {
-        return Ok(shows(&other.witness));
+    if others_gain(alloc, fresh, named, direction, one, other)? {
+        return Ok(true);
     }
-    let fewer = all_others(alloc, fresh, named, direction, 1, other, one)?;
-    if let Some(other) = fewer.first() {
-        return Ok(shows(&other.witness));
-    }
-    Ok(false)
+    others_gain(alloc, fresh, named, direction, other, one)
 }
 
 // Whether the lists differ for some client of a user name that neither names.
@@ -139,8 +185,7 @@ fn others_differ<'a>(
     if others_differ_in(alloc, fresh, named, Direction::Reading, one, other)? {
         return Ok(true);
     }
-    let writing = others_differ_in(alloc, fresh, named, Direction::Writing, one, other)?;
-    Ok(writing)
+    others_differ_in(alloc, fresh, named, Direction::Writing, one, other)
 }
 
 // Whether the lists differ for some client of one of these user names.
@@ -199,8 +244,7 @@ fn all_differ<'a, 'b: 'a>(
     if users_differ(alloc, fresh, named, one, other)? {
         return Ok(true);
     }
-    let others = others_differ(alloc, fresh, named, one, other)?;
-    Ok(others)
+    others_differ(alloc, fresh, named, one, other)
 }
 
 /// Whether the lists differ for some client that a row of this owner is for. `named` has all user names of the lists,

@@ -99,8 +99,7 @@ fn gains_in<'a>(
     let old_roots = roots(alloc, old, scope)?;
     let new_roots = roots(alloc, new, scope)?;
     let gains = client_gains(alloc, fresh, user, start, most, &old_roots, &new_roots)?;
-    let witnesses = show_all(alloc, scope.dollar, &gains)?;
-    Ok(witnesses)
+    show_all(alloc, scope.dollar, &gains)
 }
 
 /// Clients of this user name, or without one, and names, that the new rows allow them in this direction and the old ones

@@ -81,8 +81,7 @@ impl<'a> Literals<'a> {
         if is_wildcard(level) {
             return Ok(());
         }
-        self.add(level)?;
-        Ok(())
+        self.add(level)
     }
 
     /// Adds the levels of this text.
@@ -117,8 +116,7 @@ impl<'a> Literals<'a> {
         let Some(text) = rest else {
             return Ok(());
         };
-        self.add_levels(text)?;
-        Ok(())
+        self.add_levels(text)
     }
 
     /// Adds the level that a mark stands for, if any.
@@ -129,8 +127,7 @@ impl<'a> Literals<'a> {
         let Some(level) = mark else {
             return Ok(());
         };
-        self.add(level)?;
-        Ok(())
+        self.add(level)
     }
 
     /// Whether this is one of the levels. It looks at each.
@@ -144,11 +141,7 @@ impl<'a> Literals<'a> {
     pub fn list(&self, alloc: Global) -> Result<Vec<&'a str>, AllocError>
         ensures { IfOk result (λ all. (l : List ℕ) → is_among l all.items ≡ is_named l self.now) }
     {
-        let mut all = Vec::new(alloc);
-        for level in self.levels.iter() {
-            all.push(*level)?;
-        }
-        Ok(all)
+        self.levels.iter().copied().collect(alloc)
     }
 
     /// These two, and all levels behind them.
@@ -177,8 +170,7 @@ impl<'a> Literals<'a> {
         let Owner::Named(name) = owner else {
             return Ok(());
         };
-        self.add(name.as_str())?;
-        Ok(())
+        self.add(name.as_str())
     }
 
     fn add_row(&mut self, row: &'a Row) -> Result<(), AllocError>
@@ -186,8 +178,7 @@ impl<'a> Literals<'a> {
             ≡ (is_named l self.old || row_names l (row_view row.entry.now))) }
     {
         self.add_levels(row.filter.text())?;
-        self.add_owner(&row.owner)?;
-        Ok(())
+        self.add_owner(&row.owner)
     }
 
     /// Adds the levels of the rows, and their user names.

@@ -45,18 +45,17 @@ fn all_but<'a>(alloc: Global, filter: &'a TopicFilter) -> Result<Vec<Remainder<'
     ensures fit { IfOk result (λ all. (p : List ℕ → Bool) → fits p (levels filter.now) ≡ true
         → remainders_fit p all.items ≡ true) }
 {
-    let mut all = Vec::new(alloc);
-    all.push(Remainder {
+    let everything = Remainder {
         pattern: false,
         deny: false,
         rest: Some("#"),
-    })?;
-    all.push(Remainder {
+    };
+    let matched = Remainder {
         pattern: false,
         deny: true,
         rest: Some(filter.text()),
-    })?;
-    Ok(all)
+    };
+    Ok(vec![in alloc; everything, matched]?)
 }
 
 fn first_name(alloc: Global, dollar: bool, paths: &[Path]) -> Result<Option<TopicName>, AllocError>
@@ -120,8 +119,7 @@ pub(crate) fn any_met<'a>(
     };
     let start = Start::of(dollar);
     let paths = walk(alloc, marks, others, start, 200, 1, &old, &new)?;
-    let name = first_name(alloc, dollar, &paths)?;
-    Ok(name)
+    first_name(alloc, dollar, &paths)
 }
 
 /// A topic that the filter matches and that the client may read, by these rows; or that there is none.
@@ -142,6 +140,5 @@ pub(crate) fn any_read<'a>(
     if let Some(name) = any_met(alloc, others, rows, client, user, filter, false)? {
         return Ok(Some(name));
     }
-    let dollar_name = any_met(alloc, others, rows, client, user, filter, true)?;
-    Ok(dollar_name)
+    any_met(alloc, others, rows, client, user, filter, true)
 }

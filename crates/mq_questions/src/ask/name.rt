@@ -1,7 +1,6 @@
-ghost use Rattle.std.specs.Prelude.{◌≡◌, ◌≤◌, Bool, true, length, IfOk, string_bytes, map};
+ghost use Rattle.std.specs.Prelude.{◌≡◌, ◌≤◌, Bool, true, length, IfOk, map};
 ghost use Rattle.std.specs.List.{list_all};
 ghost use Rattle.mq_topic.specs.Levels.{levels};
-ghost use Rattle.mq_questions.specs.Texts.{join_levels};
 ghost use Rattle.mq_walk.specs.Names.{suits, start_of, is_name_level};
 ghost use Rattle.mq_walk.specs.Paths.{levels_of};
 ghost use Rattle.mq_questions.specs.Reach.{IsNamedBy};
@@ -10,22 +9,6 @@ use mq_topic::{TopicFault, TopicName};
 use mq_walk::Path;
 use std::alloc::{AllocError, Global};
 
-// The levels with slashes between them.
-fn joined(alloc: Global, parts: &[&str]) -> Result<String, AllocError>
-    ensures { IfOk result (λ text. string_bytes text
-        ≡ join_levels (map (λ level. level.now) parts.now)) }
-{
-    let Some((first, rest)) = parts.split_first() else {
-        return Ok(String::new(alloc));
-    };
-    let mut text = String::from_str(alloc, first)?;
-    for level in rest {
-        text.push('/')?;
-        text.push_str(level)?;
-    }
-    Ok(text)
-}
-
 // The name with these levels, which begins with `$` or not.
 fn name_of(alloc: Global, dollar: bool, parts: &[&str]) -> Result<TopicName, AllocError>
     requires valid { list_all is_name_level (map (λ level. level.now) parts.now) ≡ true }
@@ -33,7 +16,7 @@ fn name_of(alloc: Global, dollar: bool, parts: &[&str]) -> Result<TopicName, All
     requires suitable { suits (start_of dollar) (map (λ level. level.now) parts.now) ≡ true }
     ensures { IfOk result (λ name. levels name ≡ map (λ level. level.now) parts.now) }
 {
-    let text = joined(alloc, parts)?;
+    let text = parts.join(alloc, "/")?;
     match TopicName::parse(alloc, text.as_str()) {
         Ok(name) => Ok(name),
         Err(fault) => match fault {
@@ -51,6 +34,5 @@ pub(crate) fn name_on(alloc: Global, dollar: bool, path: &Path) -> Result<TopicN
     let mut levels = Vec::new(alloc);
     levels.extend_from_slice(&path.levels)?;
     levels.reverse();
-    let name = name_of(alloc, dollar, &levels)?;
-    Ok(name)
+    name_of(alloc, dollar, &levels)
 }

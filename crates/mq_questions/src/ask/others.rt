@@ -14,7 +14,7 @@ ghost use Rattle.mq_walk.specs.Names.{is_among};
 ghost use Rattle.mq_walk.specs.Remainders.{remainders_fit, GainsNothing};
 ghost use Rattle.mq_questions.specs.Roots.{all_rows, rows_fit, is_gained, HasUsers};
 
-use crate::ask::clients::{Gain, client_gains};
+use crate::ask::clients::{Gain, client_gains, is_like};
 use crate::ask::fresh::Fresh;
 use crate::ask::gain::{Witness, show};
 use crate::ask::literals::{Literals, has_mark, only};
@@ -60,8 +60,7 @@ fn named_users<'a>(
     named.add("")?;
     named.add_remainders(old)?;
     named.add_remainders(new)?;
-    let all = named.list_behind(alloc, fresh.user, fresh.dollar_user)?;
-    Ok(all)
+    named.list_behind(alloc, fresh.user, fresh.dollar_user)
 }
 
 // The user names to try: one alone where no row has `%u`.
@@ -85,27 +84,12 @@ fn users<'a>(
     only(alloc, fresh.user)
 }
 
-// Whether the names are the same, but for the client ids and the user names.
-fn is_like(user: &str, gain: &Gain, other: &OtherGain) -> bool {
-    gain.path.levels.len() == other.gain.path.levels.len()
-        && gain
-            .path
-            .levels
-            .iter()
-            .zip(other.gain.path.levels.iter())
-            .all(|(a, b)| {
-                a == b
-                    || (*a == gain.client && *b == other.gain.client)
-                    || (*a == user && *b == other.user)
-            })
-}
-
 // Whether one of these is the same, but for the client id and the user name.
 fn has_like(others: &[OtherGain], user: &str, gain: &Gain) -> bool
     ensures { others.now ≡ [] → result ≡ false }
 {
     for other in others {
-        if is_like(user, gain, other) {
+        if is_like(gain, user, &other.gain, other.user) {
             return true;
         }
     }
@@ -224,8 +208,7 @@ fn others_in<'a>(
     let old_roots = roots(alloc, old, scope)?;
     let new_roots = roots(alloc, new, scope)?;
     let others = other_gains(alloc, fresh, named, start, most, &old_roots, &new_roots)?;
-    let witnesses = show_others(alloc, scope.dollar, &others)?;
-    Ok(witnesses)
+    show_others(alloc, scope.dollar, &others)
 }
 
 /// User names that no list names, clients with them, and names that the new rows allow them in this direction and the

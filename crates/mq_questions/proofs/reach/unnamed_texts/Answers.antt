@@ -1,5 +1,6 @@
 use Rattle.std.proofs.Common.{◌||◌, ℕ, List, bytes_eq, ap, ◌∙◌, sym}
 use Rattle.std.specs.Option.{option_copied}
+use Rattle.std.proofs.lemmas.Result.{IfOk-weaker}
 use Rattle.mq_topic.specs.Levels.{levels}
 use Rattle.mq_acl.specs.Access.{is_user}
 use Rattle.mq_acl.specs.Views.{row_views}
@@ -25,7 +26,7 @@ find-requires c =
     }
 
 pub returns : goal.returns
-returns c = λ fresh seen.
+returns c =
     let rows = row_views c.args.rows.now in
     let user = option_copied c.args.user in
     let named = λ (l : List ℕ). c.in_ok-add_mark.ensures l
@@ -35,5 +36,6 @@ returns c = λ fresh seen.
     ∙ (λ i. (c.in_ok-add_rows.ensures l
     ∙ ap (λ b. b || rows_name l rows) (c.new-literals.ensures l)) i
     || is_literal_in l (levels (c.text.ensures.text i))))) in
-    are_apart rows c.args.client.now user c.args.filter.now c.in_ok-texts.texts
-    (λ l. is_named l c.add_mark.new.self) fresh c.requires named c.in_ok-texts.ensures seen
+    IfOk-weaker c.find.result _ _ (λ texts new fresh seen.
+    are_apart rows c.args.client.now user c.args.filter.now texts
+    (λ l. is_named l c.add_mark.new.self) fresh c.requires named new seen) c.find.ensures

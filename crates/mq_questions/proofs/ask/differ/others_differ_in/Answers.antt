@@ -1,37 +1,41 @@
-use Rattle.std.proofs.Common.{◌≡◌, true, string_bytes, Some}
-use Rattle.mq_questions.specs.Roots.{all_rows, is_gained}
-use Rattle.mq_questions.proofs.DifferLemmas.{first_passes, no_first, none_differ, more_differ}
-use Rattle.mq_questions.proofs.DifferLemmas.{fewer_differ}
+use Rattle.std.proofs.Common.{Some}
+use Rattle.std.proofs.lemmas.Result.{IfOk-weaker}
+use Rattle.mq_questions.specs.Roots.{all_rows}
+use Rattle.mq_questions.proofs.DifferLemmas.{none_differ, differ_back}
 use Rattle.mq_questions.proofs.ask.differ.others_differ_in.Goals as goal
 
-pub returns-in-Some-clause-differ : goal.returns-in-Some-clause-differ
-returns-in-Some-clause-differ c = λ e.
-    let w = c.in-Some.other.now in
-    more_differ (all_rows c.args.one) (all_rows c.args.other) (string_bytes w.witness.client)
-    (Some (string_bytes w.user)) w.witness.name c.args.direction c.shows.ensures.valid
-    (first_passes (λ w. is_gained (all_rows c.args.one) (all_rows c.args.other)
-    (string_bytes w.witness.client) (Some (string_bytes w.user)) w.witness.name
-    c.args.direction ≡ true) c.in_ok-more.more.items c.deref.result.now w
-    c.deref.ensures.value c.in-Some.ensures.value c.in_ok-more.ensures.each)
+pub others_gain-requires : goal.others_gain-requires
+others_gain-requires c = record {
+  fresh = c.requires.fresh;
+  user = c.requires.user;
+  dollar_user = c.requires.dollar_user;
+  named = c.requires.forth;
+  old = c.requires.one;
+  new = c.requires.other;
+}
 
-pub returns-in-Some-first-clause-differ : goal.returns-in-Some-first-clause-differ
-returns-in-Some-first-clause-differ c = λ e.
-    let w = c.in-Some-first.other.now in
-    fewer_differ (all_rows c.args.one) (all_rows c.args.other) (string_bytes w.witness.client)
-    (Some (string_bytes w.user)) w.witness.name c.args.direction
-    c.shows-in-Some-first.ensures.valid
-    (first_passes (λ w. is_gained (all_rows c.args.other) (all_rows c.args.one)
-    (string_bytes w.witness.client) (Some (string_bytes w.user)) w.witness.name
-    c.args.direction ≡ true) c.in_ok-fewer.fewer.items c.deref-2.result.now w
-    c.deref-2.ensures.value c.in-Some-first.ensures.value c.in_ok-fewer.ensures.each)
+pub others_gain-requires-2 : goal.others_gain-requires-2
+others_gain-requires-2 c = record {
+  fresh = c.requires.fresh;
+  user = c.requires.user;
+  dollar_user = c.requires.dollar_user;
+  named = c.requires.back;
+  old = c.requires.other;
+  new = c.requires.one;
+}
 
 pub returns-clause-same : goal.returns-clause-same
-returns-clause-same c = λ e user unlisted.
-    none_differ (all_rows c.args.one) (all_rows c.args.other) (Some user) c.args.direction
-    (λ client name valid. c.in_ok-more.ensures.none
-    (no_first c.in_ok-more.more.items c.deref.result.now c.first.result c.deref.ensures.value
-    c.first.ensures.value c.in_default.is) user client name unlisted valid)
-    (λ client name valid. c.in_ok-fewer.ensures.none
-    (no_first c.in_ok-fewer.fewer.items c.deref-2.result.now c.first-2.result
-    c.deref-2.ensures.value c.first-2.ensures.value c.in_default-first.is) user client name
-    unlisted valid)
+returns-clause-same c =
+    IfOk-weaker c.others_gain-2.result _ _
+    (λ gain none e user unlisted. none_differ (all_rows c.args.one) (all_rows c.args.other)
+    (Some user) c.args.direction
+    (λ client name valid.
+    c.in_ok-others_gain.ensures.none c.if-branch.false user client name unlisted valid)
+    (λ client name valid. none e user client name unlisted valid))
+    c.others_gain-2.ensures.none
+
+pub returns-clause-differ : goal.returns-clause-differ
+returns-clause-differ c =
+    IfOk-weaker c.others_gain-2.result _ _
+    (λ gain some e. differ_back (all_rows c.args.other) (all_rows c.args.one) (some e))
+    c.others_gain-2.ensures.some

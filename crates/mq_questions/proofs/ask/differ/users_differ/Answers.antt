@@ -11,6 +11,15 @@ none = record { ref_ptr = (0, 0); now = [] }
 pub loop-user-init : goal.loop-user-init
 loop-user-init c = λ u all rest. absurd (let k : true ≡ false = sym all ∙ rest in cc)
 
+pub user_differs-requires-clause-fresh : goal.user_differs-requires-clause-fresh
+user_differs-requires-clause-fresh c = c.requires.fresh
+
+pub user_differs-requires-clause-one : goal.user_differs-requires-clause-one
+user_differs-requires-clause-one c = c.requires.one
+
+pub user_differs-requires-clause-other : goal.user_differs-requires-clause-other
+user_differs-requires-clause-other c = c.requires.other
+
 pub user_differs-requires-clause-user : goal.user_differs-requires-clause-user
 user_differs-requires-clause-user c =
     let items = c.deref-user-items.result.now in

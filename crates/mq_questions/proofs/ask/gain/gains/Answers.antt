@@ -6,6 +6,24 @@ use Rattle.mq_questions.proofs.GainListLemmas.{none_taken, none_joined, each_tak
 use Rattle.mq_questions.proofs.GainListLemmas.{few_taken, each_first}
 use Rattle.mq_questions.proofs.ask.gain.gains.Goals as goal
 
+pub gains_in-requires : goal.gains_in-requires
+gains_in-requires c = record {
+  fresh = c.requires.fresh;
+  user = c.requires.user;
+  most = c.requires.most;
+  old = c.requires.old;
+  new = c.requires.new;
+}
+
+pub gains_in-requires-2 : goal.gains_in-requires-2
+gains_in-requires-2 c = record {
+  fresh = c.requires.fresh;
+  user = c.requires.user;
+  most = c.requires.most;
+  old = c.requires.old;
+  new = c.requires.new;
+}
+
 pub returns-then-len-most-clause-none : goal.returns-then-len-most-clause-none
 returns-then-len-most-clause-none c = λ e client name v.
     absurd (let h = ap length (none_taken c.args.most c.in_ok-found.found.items

@@ -4,7 +4,7 @@ use Rattle.mq_topic.specs.Texts.{is_memory, is_name}
 use Rattle.mq_topic.specs.declared.fault.TopicFault.{TopicFault}
 use Rattle.mq_topic.specs.declared.fault.TopicFault.TheVariants.{Empty, TooLong, Nul, Wildcard}
 use Rattle.mq_topic.specs.declared.fault.TopicFault.TheVariants.{Levels, Share, Memory}
-use Rattle.mq_questions.proofs.NameLemmas.{levels_of_joined, joined_is_name}
+use Rattle.mq_questions.proofs.NameLemmas.{joined_is, joined_is_name, levels_of_joined}
 use Rattle.std.proofs.lemmas.List.{length-map}
 use Rattle.mq_questions.proofs.ask.name.name_of.Goals as goal
 
@@ -13,7 +13,8 @@ texts parts = map (λ level. level.now) parts
 
 pub returns-in-Ok : goal.returns-in-Ok
 returns-in-Ok c =
-    ap levels (c.in-Ok.ensures.text ∙ c.as_str.ensures.value ∙ c.in_ok-text.ensures)
+    ap levels (c.in-Ok.ensures.text ∙ c.as_str.ensures.value ∙ c.in_ok-text.ensures.ok
+    ∙ joined_is c.args.parts.now)
     ∙ levels_of_joined (texts c.args.parts.now) c.args.dollar c.requires.valid c.requires.suitable
 
 memory_is : (fault : TopicFault) → is_memory fault ≡ true → fault ≡ Memory
@@ -27,7 +28,8 @@ memory_is Memory e = refl
 
 pub unreachable-requires : goal.unreachable-requires
 unreachable-requires c =
-    let valid = ap is_name (c.as_str.ensures.value ∙ c.in_ok-text.ensures)
+    let valid = ap is_name (c.as_str.ensures.value ∙ c.in_ok-text.ensures.ok
+    ∙ joined_is c.args.parts.now)
     ∙ joined_is_name (texts c.args.parts.now) c.args.dollar c.requires.valid
     (subst (λ n. n ≤ 200) (sym (length-map c.args.parts.now (λ level. level.now)))
     c.requires.few) c.requires.suitable in

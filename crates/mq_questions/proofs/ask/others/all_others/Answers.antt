@@ -1,10 +1,34 @@
-use Rattle.std.proofs.Common.{◌≡◌, true, false, string_bytes, Some, ap, length, arith}
+use Rattle.std.proofs.Common.{◌≡◌, true, false, string_bytes, Some, ap, refl, length, arith}
 use Rattle.mq_acl.specs.Access.{begins_with_dollar}
 use Rattle.mq_questions.specs.Literals.{is_named}
 use Rattle.mq_questions.specs.Roots.{all_rows, is_gained}
 use Rattle.mq_questions.proofs.GainListLemmas.{none_taken, none_joined, each_taken, either}
 use Rattle.mq_questions.proofs.GainListLemmas.{few_taken, each_first}
 use Rattle.mq_questions.proofs.ask.others.all_others.Goals as goal
+
+pub others_in-requires : goal.others_in-requires
+others_in-requires c = record {
+  fresh = c.requires.fresh;
+  scope = refl;
+  user = c.requires.user;
+  dollar_user = c.requires.dollar_user;
+  named = c.requires.named;
+  most = c.requires.most;
+  old = c.requires.old;
+  new = c.requires.new;
+}
+
+pub others_in-requires-2 : goal.others_in-requires-2
+others_in-requires-2 c = record {
+  fresh = c.requires.fresh;
+  scope = refl;
+  user = c.requires.user;
+  dollar_user = c.requires.dollar_user;
+  named = c.requires.named;
+  most = c.requires.most;
+  old = c.requires.old;
+  new = c.requires.new;
+}
 
 pub returns-then-len-most-clause-unlisted : goal.returns-then-len-most-clause-unlisted
 returns-then-len-most-clause-unlisted c =

@@ -13,6 +13,18 @@ pub loop-user-init : goal.loop-user-init
 loop-user-init c = others_none c.args.start c.args.old.now c.args.new.now c.args.named.now
     c.deref-user-items.result.now c.new-others.result.items (search rules)
 
+pub client_gains-requires-clause-fresh : goal.client_gains-requires-clause-fresh
+client_gains-requires-clause-fresh c = c.requires.fresh
+
+pub client_gains-requires-clause-most : goal.client_gains-requires-clause-most
+client_gains-requires-clause-most c = c.requires.most
+
+pub client_gains-requires-clause-old : goal.client_gains-requires-clause-old
+client_gains-requires-clause-old c = c.requires.old
+
+pub client_gains-requires-clause-new : goal.client_gains-requires-clause-new
+client_gains-requires-clause-new c = c.requires.new
+
 pub client_gains-requires-clause-user : goal.client_gains-requires-clause-user
 client_gains-requires-clause-user c =
     let items = c.deref-user-items.result.now in

@@ -1,5 +1,6 @@
 use Rattle.std.proofs.Common.{◌≡◌, true, sym, ◌∙◌, subst, Some}
 use Rattle.std.proofs.lemmas.List.Elements.{All-weaker, All-same}
+use Rattle.std.proofs.lemmas.Result.{IfOk-weaker}
 use Rattle.std.specs.Option.{option_copied}
 use Rattle.mq_questions.specs.Gains.{IsOtherGain, IsNamed, other_told, other_shown}
 use Rattle.mq_walk.specs.Remainders.{remainders_fit}
@@ -31,7 +32,7 @@ show_others-requires c =
     c.in_ok-others.ensures.each)
 
 pub returns-clause-none : goal.returns-clause-none
-returns-clause-none c = λ e user client name unlisted valid d.
+returns-clause-none c =
     let olds = c.deref.result.now in
     let news = c.deref-2.result.now in
     let first = c.args.fresh.user.now in
@@ -51,15 +52,16 @@ returns-clause-none c = λ e user client name unlisted valid d.
           c.in_ok-new_roots.ensures);
       start_is = c.of-start.ensures;
     } in
+    IfOk-weaker c.show_others.result _ _ (λ found shown e user client name unlisted valid d.
     nothing_gained_by (all_rows c.args.old) (all_rows c.args.new) olds news (Some first) (Some user)
     c.args.scope.direction c.args.scope.dollar c.of-start.result
     (other_walk (all_rows c.args.old) (all_rows c.args.new) olds news first c.args.scope.direction
     c.args.scope.dollar c.of-start.result c.args.named.now walk c.requires.named c.requires.user
     user unlisted)
     (λ t. c.in_ok-others.ensures.none (sym c.deref-3.ensures.value
-    ∙ shown_none other_shown other_told c.in_ok-witnesses.witnesses.items
-    c.deref-3.result.now c.in_ok-witnesses.ensures e) user t unlisted)
-    client name valid d
+    ∙ shown_none other_shown other_told found.items c.deref-3.result.now shown e)
+    user t unlisted)
+    client name valid d) c.show_others.ensures
 
 pub returns-clause-unlisted : goal.returns-clause-unlisted
 returns-clause-unlisted c =
@@ -82,11 +84,12 @@ returns-clause-unlisted c =
           c.in_ok-new_roots.ensures);
       start_is = c.of-start.ensures;
     } in
+    IfOk-weaker c.show_others.result _ _ (λ found shown.
     all_unlisted (all_rows c.args.old) (all_rows c.args.new) olds news first c.args.scope.direction
     c.args.scope.dollar c.of-start.result c.args.named.now walk c.requires.named c.requires.user
-    c.in_ok-witnesses.witnesses.items c.deref-3.result.now c.in_ok-witnesses.ensures
+    found.items c.deref-3.result.now shown
     (All-same (IsOtherGain c.of-start.result olds news c.args.named.now) c.deref-3.result.now
-    c.in_ok-others.others.items c.deref-3.ensures.value c.in_ok-others.ensures.each)
+    c.in_ok-others.others.items c.deref-3.ensures.value c.in_ok-others.ensures.each)) c.show_others.ensures
 
 pub returns-clause-each : goal.returns-clause-each
 returns-clause-each c =
@@ -109,8 +112,9 @@ returns-clause-each c =
           c.in_ok-new_roots.ensures);
       start_is = c.of-start.ensures;
     } in
+    IfOk-weaker c.show_others.result _ _ (λ found shown.
     all_gained (all_rows c.args.old) (all_rows c.args.new) olds news first c.args.scope.direction
     c.args.scope.dollar c.of-start.result c.args.named.now walk c.requires.named c.requires.user
-    c.in_ok-witnesses.witnesses.items c.deref-3.result.now c.in_ok-witnesses.ensures
+    found.items c.deref-3.result.now shown
     (All-same (IsOtherGain c.of-start.result olds news c.args.named.now) c.deref-3.result.now
-    c.in_ok-others.others.items c.deref-3.ensures.value c.in_ok-others.ensures.each)
+    c.in_ok-others.others.items c.deref-3.ensures.value c.in_ok-others.ensures.each)) c.show_others.ensures
