@@ -1,6 +1,6 @@
 -- The command line of the program, in the words of `clap`.
 use Rattle.std.specs.Prelude.{◌≡◌, ◌≢◌, ◌⊎◌, true, false, if◌then◌else◌, List, [], ◌∷◌, Option}
-use Rattle.std.specs.Prelude.{Some, None, option_and_then, codes}
+use Rattle.std.specs.Prelude.{Some, None, option_and_then, codes, map}
 use Rattle.std.specs.Option.{option_copied}
 use Rattle.std.specs.Str.{bytes_eq}
 use Rattle.clap.specs.Words.{App, Row, Rule, Text, Kinds, IsAmong, new_app, new_rule, with_rule}
@@ -10,7 +10,9 @@ use Rattle.clap.specs.declared.builder.action.ArgAction.TheVariants.{SetTrue}
 use Rattle.clap.specs.declared.error.ErrorKind.{ErrorKind}
 use Rattle.clap.specs.declared.error.ErrorKind.TheVariants.{DisplayHelp}
 use Rattle.mq_acl_cli.specs.declared.command_line.Argument.{Argument}
-use Rattle.mq_acl_cli.specs.declared.command_line.Argument.TheVariants as takes
+use Rattle.mq_acl_cli.specs.declared.command_line.ArgumentKind.{ArgumentKind}
+use Rattle.mq_acl_cli.specs.declared.command_line.ArgumentKind.TheVariants as takes
+use Rattle.mq_acl_cli.specs.declared.command_line.Subcommand.{Subcommand}
 use Rattle.mq_acl_cli.specs.declared.command_line.UsageFault.{UsageFault}
 use Rattle.mq_acl_cli.specs.declared.command_line.UsageFault.TheVariants.{Help, Usage, Memory}
 use Rattle.mq_acl_cli.specs.declared.request.Request.{Request}
@@ -34,16 +36,28 @@ option name = record (new_rule name) { long = Some name; value_names = 1 }
 abbrev pub flag : Text → Rule
 flag name = record (new_rule name) { long = Some name; action = Some SetTrue }
 
+abbrev pub rule_of_kind : Text → ArgumentKind → Rule
+rule_of_kind name takes.Required = argument name
+rule_of_kind name takes.Optional = optional_argument name
+rule_of_kind name (takes.Option value) = option name
+rule_of_kind name takes.Flag = flag name
+
 abbrev pub rule_for : Argument → Rule
-rule_for (takes.Required name help) = argument name.now
-rule_for (takes.Optional name help) = optional_argument name.now
-rule_for (takes.Option name value help) = option name.now
-rule_for (takes.Flag name help) = flag name.now
+rule_for argument = rule_of_kind argument.0.now argument.1
 
 -- a command with these arguments too, in turn
 abbrev pub with_rules : App → List Rule → App
 with_rules a [] = a
 with_rules a (r ∷ rest) = with_rules (with_rule a r) rest
+
+abbrev pub app_for : Subcommand → App
+app_for subcommand =
+    with_rules (new_app subcommand.name.now) (map rule_for subcommand.arguments.now)
+
+-- a command with these subcommands too, in turn
+abbrev pub with_apps : App → List App → App
+with_apps a [] = a
+with_apps a (s ∷ rest) = with_apps (with_subcommand a s.top) rest
 
 -- `--json`
 abbrev pub json_flag : Rule

@@ -1,11 +1,11 @@
 //! The command line.
 ghost use Rattle.std.specs.Prelude.{◌≡◌, List, [], false, map, string_bytes, IfOk};
 ghost use Rattle.std.specs.Prelude.{OnOk, IfErr};
-ghost use Rattle.clap.specs.Words.{App, Text, Kinds, app_of, rule_of, fault_of, subcommand_of};
-ghost use Rattle.clap.specs.Words.{subcommand_rows_of, new_app, with_subcommand, FailsBy, HasKind};
+ghost use Rattle.clap.specs.Words.{Text, Kinds, app_of, rule_of, fault_of, subcommand_of};
+ghost use Rattle.clap.specs.Words.{subcommand_rows_of, new_app, FailsBy, HasKind};
 ghost use Rattle.clap.specs.declared.builder.command.Command.TheViews.{out-Command as fields_of};
-ghost use Rattle.mq_acl_cli.specs.CommandLine.{mqroute_acl, compare, why, lint, reach};
-ghost use Rattle.mq_acl_cli.specs.CommandLine.{rule_for, with_rules};
+ghost use Rattle.mq_acl_cli.specs.CommandLine.{mqroute_acl, app_for, rule_for};
+ghost use Rattle.mq_acl_cli.specs.CommandLine.{wanting, with_apps};
 ghost use Rattle.mq_acl_cli.specs.CommandLine.{AreGiven, IsAskedBy, IsFaultOf};
 
 use crate::help::{
@@ -47,156 +47,142 @@ impl From<AllocError> for UsageFault {
     }
 }
 
-// An argument of a subcommand: its name, and its help last.
+// An argument of a subcommand: its name, its kind, and its help.
 #[derive(Drop)]
-enum Argument<'a> {
+struct Argument<'a>(&'a str, ArgumentKind<'a>, &'a str);
+
+#[derive(Clone, Copy, Drop)]
+enum ArgumentKind<'a> {
     // One that has to be there.
-    Required(&'a str, &'a str),
+    Required,
     // One that may be left out.
-    Optional(&'a str, &'a str),
+    Optional,
     // `--NAME VALUE`
-    Option(&'a str, &'a str, &'a str),
+    Option(&'a str),
     // `--NAME`
-    Flag(&'a str, &'a str),
+    Flag,
 }
 
-// In the words of `clap`.
-fn arg<'a>(alloc: Global, argument: &Argument<'a>) -> Arg<'a>
-    ensures { (rule_of result ≡ rule_for argument.now) × (result.global ≡ false) }
-{
-    match *argument {
-        Argument::Required(name, help) => Arg::new(alloc, name)
-            .value_name(name)
-            .required(true)
-            .help(help),
-        Argument::Optional(name, help) => Arg::new(alloc, name).value_name(name).help(help),
-        Argument::Option(name, value, help) => Arg::new(alloc, name)
-            .long(name)
-            .value_name(value)
-            .help(help),
-        Argument::Flag(name, help) => Arg::new(alloc, name)
-            .long(name)
-            .action(ArgAction::SetTrue)
-            .help(help),
+impl<'a> Argument<'a> {
+    // In the words of `clap`.
+    fn arg(&self, alloc: Global) -> Arg<'a>
+        ensures { (rule_of result ≡ rule_for self.now) × (result.global ≡ false) }
+    {
+        let Argument(name, kind, help) = *self;
+        let arg = Arg::new(alloc, name).help(help);
+        match kind {
+            ArgumentKind::Required => arg.value_name(name).required(true),
+            ArgumentKind::Optional => arg.value_name(name),
+            ArgumentKind::Option(value) => arg.long(name).value_name(value),
+            ArgumentKind::Flag => arg.long(name).action(ArgAction::SetTrue),
+        }
     }
+}
+
+// A command with its name and its help.
+fn described<'a>(alloc: Global, name: &'a str, about: &'a str, after_help: &'a str) -> Command<'a>
+    ensures { (app_of result ≡ new_app name.entry.now) × ((fields_of result).has_globals ≡ false) }
+{
+    Command::new(alloc, name)
+        .about(about)
+        .after_help(after_help)
 }
 
 // A subcommand with its arguments, in the order of help.
-fn subcommand<'a>(
-    alloc: Global,
+struct Subcommand<'a> {
     name: &'a str,
     about: &'a str,
     after_help: &'a str,
-    arguments: &[Argument<'a>],
-) -> Result<Command<'a>, AllocError>
-    ensures { IfOk result (λ c.
-        (app_of c ≡ with_rules (new_app name.entry.now) (map rule_for arguments.entry.now))
-        × ((fields_of c).has_globals ≡ false)) }
-{
-    let mut command = Command::new(alloc, name)
-        .about(about)
-        .after_help(after_help);
-    for argument in arguments {
-        command = command.arg(arg(alloc, argument))?;
+    arguments: &'a [Argument<'a>],
+}
+
+impl<'a> Subcommand<'a> {
+    // In the words of `clap`.
+    fn command(&self, alloc: Global) -> Result<Command<'a>, AllocError>
+        ensures { IfOk result (λ c. (app_of c ≡ app_for self.now)
+            × ((fields_of c).has_globals ≡ false)) }
+    {
+        let mut command = described(alloc, self.name, self.about, self.after_help);
+        for argument in self.arguments {
+            command = command.arg(argument.arg(alloc))?;
+        }
+        Ok(command)
     }
-    Ok(command)
 }
 
 // `compare OLD NEW [--json]`
-fn compare_command<'a>(alloc: Global) -> Result<Command<'a>, AllocError>
-    ensures { IfOk result (λ c. (app_of c ≡ compare) × ((fields_of c).has_globals ≡ false)) }
-{
-    subcommand(
-        alloc,
-        "compare",
-        COMPARE_ABOUT,
-        COMPARE_AFTER_HELP,
-        &[
-            Argument::Required("OLD", OLD_HELP),
-            Argument::Flag("json", JSON_HELP),
-            Argument::Required("NEW", NEW_HELP),
-        ],
-    )
-}
+const COMPARE: Subcommand<'static> = Subcommand {
+    name: "compare",
+    about: COMPARE_ABOUT,
+    after_help: COMPARE_AFTER_HELP,
+    arguments: &[
+        Argument("OLD", ArgumentKind::Required, OLD_HELP),
+        Argument("json", ArgumentKind::Flag, JSON_HELP),
+        Argument("NEW", ArgumentKind::Required, NEW_HELP),
+    ],
+};
 
 // `why FILE CLIENT TOPIC [--user NAME] [--json]`
-fn why_command<'a>(alloc: Global) -> Result<Command<'a>, AllocError>
-    ensures { IfOk result (λ c. (app_of c ≡ why) × ((fields_of c).has_globals ≡ false)) }
-{
-    subcommand(
-        alloc,
-        "why",
-        WHY_ABOUT,
-        WHY_AFTER_HELP,
-        &[
-            Argument::Required("FILE", FILE_HELP),
-            Argument::Flag("json", JSON_HELP),
-            Argument::Required("CLIENT", CLIENT_HELP),
-            Argument::Required("TOPIC", TOPIC_HELP),
-            Argument::Option("user", "NAME", USER_HELP),
-        ],
-    )
-}
+const WHY: Subcommand<'static> = Subcommand {
+    name: "why",
+    about: WHY_ABOUT,
+    after_help: WHY_AFTER_HELP,
+    arguments: &[
+        Argument("FILE", ArgumentKind::Required, FILE_HELP),
+        Argument("json", ArgumentKind::Flag, JSON_HELP),
+        Argument("CLIENT", ArgumentKind::Required, CLIENT_HELP),
+        Argument("TOPIC", ArgumentKind::Required, TOPIC_HELP),
+        Argument("user", ArgumentKind::Option("NAME"), USER_HELP),
+    ],
+};
 
 // `lint FILE [--json]`
-fn lint_command<'a>(alloc: Global) -> Result<Command<'a>, AllocError>
-    ensures { IfOk result (λ c. (app_of c ≡ lint) × ((fields_of c).has_globals ≡ false)) }
-{
-    subcommand(
-        alloc,
-        "lint",
-        LINT_ABOUT,
-        LINT_AFTER_HELP,
-        &[
-            Argument::Required("FILE", FILE_HELP),
-            Argument::Flag("json", JSON_HELP),
-        ],
-    )
-}
+const LINT: Subcommand<'static> = Subcommand {
+    name: "lint",
+    about: LINT_ABOUT,
+    after_help: LINT_AFTER_HELP,
+    arguments: &[
+        Argument("FILE", ArgumentKind::Required, FILE_HELP),
+        Argument("json", ArgumentKind::Flag, JSON_HELP),
+    ],
+};
 
 // `reach FILE [CLIENT] [FILTER] [--user NAME] [--script SCRIPT] [--json]`
-fn reach_command<'a>(alloc: Global) -> Result<Command<'a>, AllocError>
-    ensures { IfOk result (λ c. (app_of c ≡ reach) × ((fields_of c).has_globals ≡ false)) }
-{
-    subcommand(
-        alloc,
-        "reach",
-        REACH_ABOUT,
-        REACH_AFTER_HELP,
-        &[
-            Argument::Required("FILE", FILE_HELP),
-            Argument::Flag("json", JSON_HELP),
-            Argument::Optional("CLIENT", SUBSCRIBER_HELP),
-            Argument::Optional("FILTER", FILTER_HELP),
-            Argument::Option("user", "NAME", USER_HELP),
-            Argument::Option("script", "SCRIPT", SCRIPT_HELP),
-        ],
-    )
-}
+const REACH: Subcommand<'static> = Subcommand {
+    name: "reach",
+    about: REACH_ABOUT,
+    after_help: REACH_AFTER_HELP,
+    arguments: &[
+        Argument("FILE", ArgumentKind::Required, FILE_HELP),
+        Argument("json", ArgumentKind::Flag, JSON_HELP),
+        Argument("CLIENT", ArgumentKind::Optional, SUBSCRIBER_HELP),
+        Argument("FILTER", ArgumentKind::Optional, FILTER_HELP),
+        Argument("user", ArgumentKind::Option("NAME"), USER_HELP),
+        Argument("script", ArgumentKind::Option("SCRIPT"), SCRIPT_HELP),
+    ],
+};
 
-// The command with this subcommand too, if there was memory for it.
-fn with_subcommand<'a>(
+// The command that wants one of these subcommands.
+fn wanting_one_of<'a>(
+    alloc: Global,
     command: Command<'a>,
-    subcommand: Result<Command<'a>, AllocError>,
+    subcommands: &[Subcommand<'a>],
 ) -> Result<Command<'a>, AllocError>
-    ensures { IfOk result (λ c. (a s : App) → app_of command.entry ≡ a
-        → IfOk subcommand.entry (λ s'. (app_of s' ≡ s) × ((fields_of s').has_globals ≡ false))
-        → app_of c ≡ with_subcommand a s.top) }
+    ensures { IfOk result (λ c. app_of c
+        ≡ with_apps (wanting (app_of command.entry)) (map app_for subcommands.now)) }
 {
-    command.subcommand(subcommand?)
+    let mut command = command.subcommand_required(true);
+    for subcommand in subcommands {
+        command = command.subcommand(subcommand.command(alloc)?)?;
+    }
+    Ok(command)
 }
 
 fn command<'a>(alloc: Global) -> Result<Command<'a>, AllocError>
     ensures { IfOk result (λ c. app_of c ≡ mqroute_acl) }
 {
-    let named = Command::new(alloc, "mqroute-acl")
-        .subcommand_required(true)
-        .about(ABOUT)
-        .after_help(AFTER_HELP);
-    let compared = with_subcommand(named, compare_command(alloc))?;
-    let explained = with_subcommand(compared, why_command(alloc))?;
-    let linted = with_subcommand(explained, lint_command(alloc))?;
-    with_subcommand(linted, reach_command(alloc))
+    let named = described(alloc, "mqroute-acl", ABOUT, AFTER_HELP);
+    wanting_one_of(alloc, named, &[COMPARE, WHY, LINT, REACH])
 }
 
 fn matches_in<'a>(alloc: Global, words: &'a [String]) -> Result<ArgMatches<'a>, Error>

@@ -6,7 +6,7 @@ ghost use Rattle.mq_acl_cli.specs.Statuses.{failure_status};
 use crate::changes::{find_changes, outcome_of};
 use crate::failure::Failure;
 use crate::outcome::Outcome;
-use crate::print::print_answer;
+use crate::print::print_outcome;
 use mq_acl_words::{ListText, changes_text};
 use std::alloc::Global;
 use std::io::Write;
@@ -25,6 +25,5 @@ pub fn tell_changes<'a, W: Write>(
     let changes = find_changes(alloc, old, new)?;
     let outcome = outcome_of(&changes.differences);
     let text = changes_text(alloc, old, new, changes.into_differences(), json);
-    print_answer(out, text)?;
-    Ok(outcome)
+    print_outcome(out, text, outcome)
 }

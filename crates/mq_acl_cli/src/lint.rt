@@ -5,7 +5,7 @@ ghost use Rattle.mq_acl_cli.specs.Statuses.{failure_status};
 
 use crate::failure::Failure;
 use crate::outcome::Outcome;
-use crate::print::print_answer;
+use crate::print::print_outcome;
 use crate::remarks::{find_remarks, outcome_of};
 use mq_acl_words::{ListText, remarks_text};
 use std::alloc::Global;
@@ -24,6 +24,5 @@ pub fn tell_remarks<'a, W: Write>(
     let found = find_remarks(alloc, list)?;
     let outcome = outcome_of(&found);
     let text = remarks_text(alloc, list, &found.odd, &found.needless, json);
-    print_answer(out, text)?;
-    Ok(outcome)
+    print_outcome(out, text, outcome)
 }

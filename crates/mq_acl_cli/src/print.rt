@@ -1,8 +1,9 @@
-ghost use Rattle.std.specs.Prelude.{◌≡◌, OnOk, IfErr};
+ghost use Rattle.std.specs.Prelude.{◌≡◌, IfOk, OnOk, IfErr};
 ghost use Rattle.std.specs.Io.KnownBytes.{Appends};
 ghost use Rattle.mq_acl_cli.specs.Statuses.{failure_status};
 
 use crate::failure::Failure;
+use crate::outcome::Outcome;
 use std::alloc::AllocError;
 use std::io::Write;
 
@@ -29,4 +30,17 @@ pub(crate) fn print_answer<'a, W: Write>(
 {
     let text = answer?;
     print(out, text.as_str())
+}
+
+/// Writes all of an answer at once too, and gives what it comes to.
+pub(crate) fn print_outcome<'a, W: Write>(
+    out: &mut W,
+    answer: Result<String, AllocError>,
+    outcome: Outcome,
+) -> Result<Outcome, Failure<'a>>
+    ensures ok { IfOk result (λ told. told ≡ outcome) }
+    ensures err { IfErr result (λ failure. failure_status failure ≡ 3) }
+{
+    print_answer(out, answer)?;
+    Ok(outcome)
 }

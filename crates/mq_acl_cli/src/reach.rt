@@ -6,7 +6,7 @@ ghost use Rattle.mq_acl_cli.specs.Statuses.{failure_status};
 
 use crate::failure::Failure;
 use crate::outcome::Outcome;
-use crate::print::print_answer;
+use crate::print::print_outcome;
 use crate::reached::{find_topic, outcome_of};
 use crate::request::Client;
 use mq_acl_words::{ListText, topic_text};
@@ -29,6 +29,5 @@ pub fn tell_reach<'a, W: Write>(
     let found = find_topic(alloc, list, client, subscription)?;
     let outcome = outcome_of(&found);
     let text = topic_text(alloc, subscription, &found, json);
-    print_answer(out, text)?;
-    Ok(outcome)
+    print_outcome(out, text, outcome)
 }

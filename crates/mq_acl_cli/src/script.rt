@@ -6,7 +6,7 @@ ghost use Rattle.mq_acl_cli.specs.Statuses.{failure_status};
 
 use crate::failure::Failure;
 use crate::outcome::Outcome;
-use crate::print::print_answer;
+use crate::print::print_outcome;
 use crate::searched::{find_subscriptions, outcome_of};
 use mq_acl_words::{ListText, subscriptions_text};
 use std::alloc::Global;
@@ -29,6 +29,5 @@ pub fn tell_subscriptions<'a, R: Read, W: Write>(
     let findings = find_subscriptions(alloc, list, script, reader)?;
     let outcome = outcome_of(&findings);
     let text = subscriptions_text(alloc, script, &findings, json);
-    print_answer(out, text)?;
-    Ok(outcome)
+    print_outcome(out, text, outcome)
 }

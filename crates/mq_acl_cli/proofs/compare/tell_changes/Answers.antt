@@ -1,14 +1,16 @@
 use Rattle.std.proofs.Common.{◌∙◌, sym, subst, rules}
+use Rattle.std.proofs.lemmas.Result.{IfOk-weaker}
 use Rattle.mq_acl_cli.specs.Answers.{HasDifference}
 use Rattle.mq_acl_cli.proofs.CompareLemmas.{compared}
 use Rattle.mq_acl_cli.proofs.compare.tell_changes.Goals as goal
 
 pub returns-clause-ok : goal.returns-clause-ok
 returns-clause-ok g c =
-    compared c.args.old.text.now c.args.new.text.now c.in_ok-changes.changes
+    let is = compared c.args.old.text.now c.args.new.text.now c.in_ok-changes.changes
     c.outcome_of-outcome.result c.in_ok-changes.ensures.ok
     (λ e. sym c.deref.ensures.value ∙ c.outcome_of-outcome.ensures.clear e)
-    (λ e. subst HasDifference c.deref.ensures.value (c.outcome_of-outcome.ensures.remark e))
+    (λ e. subst HasDifference c.deref.ensures.value (c.outcome_of-outcome.ensures.remark e)) in
+    IfOk-weaker c.print_outcome.result _ _ (λ told e. rw e is) c.print_outcome.ensures.ok
 
 pub returns-in_err-changes-clause-unread : goal.returns-in_err-changes-clause-unread
 returns-in_err-changes-clause-unread g c = search rules

@@ -1,4 +1,0 @@
-use Rattle.mq_acl_cli.proofs.command_line.why_command.Goals as goal
-
-pub returns : goal.returns
-returns c = c.subcommand.ensures
