@@ -1,7 +1,7 @@
 -- The command line of the program, in the words of `clap`.
 use Rattle.std.specs.Prelude.{◌≡◌, ◌≢◌, ◌↔◌, ℕ, ◌^◌, ◌&&◌, Bool, nat_lt, if◌then◌else◌, List}
-use Rattle.std.specs.Prelude.{length, Option, Some, None, option_map, option_and_then, codes}
-use Rattle.std.specs.Prelude.{string_bytes, IsTrue}
+use Rattle.std.specs.Prelude.{[], ◌∷◌, length, Option, Some, None, option_map, option_and_then}
+use Rattle.std.specs.Prelude.{codes, string_bytes, IsTrue}
 use Rattle.std.specs.List.{list_all}
 use Rattle.std.specs.Char.{digit_value}
 use Rattle.std.specs.Str.Parse.{digits_value, without_leading_plus}
@@ -11,13 +11,20 @@ use Rattle.clap.specs.declared.builder.action.ArgAction.TheVariants.{SetTrue}
 use Rattle.clap.specs.declared.builder.value_parser.ValueParser.TheVariants.{Unsigned}
 use Rattle.clap.specs.declared.error.ErrorKind.{ErrorKind}
 use Rattle.clap.specs.declared.error.ErrorKind.TheVariants.{DisplayHelp}
+use Rattle.mq_cli.specs.declared.command_line.Argument.{Argument}
+use Rattle.mq_cli.specs.declared.command_line.ArgumentKind.{ArgumentKind}
+use Rattle.mq_cli.specs.declared.command_line.ArgumentKind.TheVariants as takes
 use Rattle.mq_cli.specs.declared.command_line.UsageFault.{UsageFault}
 use Rattle.mq_cli.specs.declared.command_line.UsageFault.TheVariants.{Help, Usage, Memory}
 use Rattle.mq_cli.specs.declared.command_line.Options.{Options}
 
--- `--acl-file FILE`
-abbrev pub acl_file : Rule
-acl_file = record (new_rule (codes "acl-file")) { long = Some (codes "acl-file"); value_names = 1 }
+-- an argument that may be left out
+abbrev pub optional_argument : Text → Rule
+optional_argument name = record (new_rule name) { value_names = 1 }
+
+-- `--NAME VALUE`
+abbrev pub option : Text → Rule
+option name = record (new_rule name) { long = Some name; value_names = 1 }
 
 -- an option that takes a whole number of 32 bits, with no minus before it
 abbrev pub number_option : Text → Rule
@@ -27,16 +34,35 @@ number_option name = record (new_rule name) {
   parser = Some (Unsigned 0 4294967295);
 }
 
+-- `--NAME`
+abbrev pub flag : Text → Rule
+flag name = record (new_rule name) { long = Some name; action = Some SetTrue }
+
+abbrev pub rule_of_kind : Text → ArgumentKind → Rule
+rule_of_kind name (takes.Optional value) = optional_argument name
+rule_of_kind name (takes.Option value) = option name
+rule_of_kind name takes.Number = number_option name
+rule_of_kind name takes.Flag = flag name
+
+abbrev pub rule_for : Argument → Rule
+rule_for argument = rule_of_kind argument.0.now argument.1
+
+-- a command with these arguments too, in turn
+abbrev pub with_rules : App → List Rule → App
+with_rules a [] = a
+with_rules a (r ∷ rest) = with_rules (with_rule a r) rest
+
+-- `--acl-file FILE`
+abbrev pub acl_file : Rule
+acl_file = option (codes "acl-file")
+
 -- `--unbuffered`
 abbrev pub unbuffered : Rule
-unbuffered = record (new_rule (codes "unbuffered")) {
-  long = Some (codes "unbuffered");
-  action = Some SetTrue;
-}
+unbuffered = flag (codes "unbuffered")
 
 -- `SCRIPT`
 abbrev pub script : Rule
-script = record (new_rule (codes "script")) { value_names = 1 }
+script = optional_argument (codes "script")
 
 -- `mqroute [--acl-file FILE] [--max-retained N] [--max-queued N] [--unbuffered] [SCRIPT]`
 abbrev pub mqroute : App

@@ -1,9 +1,9 @@
 //! The command line.
-ghost use Rattle.std.specs.Prelude.{◌≡◌, [], false, map, option_map, string_bytes, IfOk, OnOk};
-ghost use Rattle.std.specs.Prelude.{IfErr};
+ghost use Rattle.std.specs.Prelude.{◌≡◌, List, [], false, map, option_map, string_bytes, IfOk};
+ghost use Rattle.std.specs.Prelude.{OnOk, IfErr};
 ghost use Rattle.clap.specs.Words.{app_of, rule_of, rows_of, found_of, matches_of, fault_of};
-ghost use Rattle.clap.specs.Words.{FailsBy};
-ghost use Rattle.mq_cli.specs.CommandLine.{mqroute, acl_file, number_option, unbuffered, script};
+ghost use Rattle.clap.specs.Words.{Text, Kinds, FailsBy, HasKind};
+ghost use Rattle.mq_cli.specs.CommandLine.{mqroute, rule_for, with_rules};
 ghost use Rattle.mq_cli.specs.CommandLine.{AreGiven, IsFaultOf};
 
 use clap::builder::ValueParser;
@@ -108,44 +108,55 @@ impl From<AllocError> for UsageFault {
     }
 }
 
-// `--acl-file FILE`
-fn acl_file_option<'a>(alloc: Global) -> Arg<'a>
-    ensures { (rule_of result ≡ acl_file) × (result.global ≡ false) }
-{
-    Arg::new(alloc, "acl-file")
-        .long("acl-file")
-        .value_name("FILE")
-        .help(ACL_FILE_HELP)
+// An argument: its name, its kind, and its help.
+#[derive(Drop)]
+struct Argument<'a>(&'a str, ArgumentKind<'a>, &'a str);
+
+#[derive(Clone, Copy, Drop)]
+enum ArgumentKind<'a> {
+    // One that may be left out.
+    Optional(&'a str),
+    // `--NAME VALUE`
+    Option(&'a str),
+    // `--NAME N`
+    Number,
+    // `--NAME`
+    Flag,
 }
 
-// `--NAME N`. The parser of an unsigned number refuses every minus sign; that of `u32` takes `-0` for 0.
-fn number_option<'a>(alloc: Global, name: &'a str, help: &'a str) -> Arg<'a>
-    ensures { (rule_of result ≡ number_option name.entry.now) × (result.global ≡ false) }
-{
-    Arg::new(alloc, name)
-        .long(name)
-        .value_name("N")
-        .value_parser(ValueParser::unsigned(0, u64::from(u32::MAX)))
-        .help(help)
+impl<'a> Argument<'a> {
+    // In the words of `clap`. The parser of an unsigned number refuses every minus sign; that of
+    // `u32` takes `-0` for 0.
+    fn arg(&self, alloc: Global) -> Arg<'a>
+        ensures { (rule_of result ≡ rule_for self.now) × (result.global ≡ false) }
+    {
+        let Argument(name, kind, help) = *self;
+        let arg = Arg::new(alloc, name).help(help);
+        match kind {
+            ArgumentKind::Optional(value) => arg.value_name(value),
+            ArgumentKind::Option(value) => arg.long(name).value_name(value),
+            ArgumentKind::Number => arg
+                .long(name)
+                .value_name("N")
+                .value_parser(ValueParser::unsigned(0, u64::from(u32::MAX))),
+            ArgumentKind::Flag => arg.long(name).action(ArgAction::SetTrue),
+        }
+    }
 }
 
-// `--unbuffered`
-fn unbuffered_flag<'a>(alloc: Global) -> Arg<'a>
-    ensures { (rule_of result ≡ unbuffered) × (result.global ≡ false) }
+// The command with these arguments too, in the order of help.
+fn with_arguments<'a>(
+    alloc: Global,
+    mut command: Command<'a>,
+    arguments: &[Argument<'a>],
+) -> Result<Command<'a>, AllocError>
+    ensures { IfOk result (λ c. app_of c
+        ≡ with_rules (app_of command.entry) (map rule_for arguments.now)) }
 {
-    Arg::new(alloc, "unbuffered")
-        .long("unbuffered")
-        .action(ArgAction::SetTrue)
-        .help(UNBUFFERED_HELP)
-}
-
-// `SCRIPT`
-fn script_argument<'a>(alloc: Global) -> Arg<'a>
-    ensures { (rule_of result ≡ script) × (result.global ≡ false) }
-{
-    Arg::new(alloc, "script")
-        .value_name("SCRIPT")
-        .help(SCRIPT_HELP)
+    for argument in arguments {
+        command = command.arg(argument.arg(alloc))?;
+    }
+    Ok(command)
 }
 
 /// `mqroute [--acl-file FILE] [--max-retained N] [--max-queued N] [--unbuffered] [SCRIPT]`.
@@ -155,11 +166,17 @@ fn command<'a>(alloc: Global) -> Result<Command<'a>, AllocError>
     let described = Command::new(alloc, "mqroute")
         .about(ABOUT)
         .after_help(AFTER_HELP);
-    let listed = described.arg(acl_file_option(alloc))?;
-    let bounded = listed.arg(number_option(alloc, "max-retained", MAX_RETAINED_HELP))?;
-    let limited = bounded.arg(number_option(alloc, "max-queued", MAX_QUEUED_HELP))?;
-    let flagged = limited.arg(unbuffered_flag(alloc))?;
-    flagged.arg(script_argument(alloc))
+    with_arguments(
+        alloc,
+        described,
+        &[
+            Argument("acl-file", ArgumentKind::Option("FILE"), ACL_FILE_HELP),
+            Argument("max-retained", ArgumentKind::Number, MAX_RETAINED_HELP),
+            Argument("max-queued", ArgumentKind::Number, MAX_QUEUED_HELP),
+            Argument("unbuffered", ArgumentKind::Flag, UNBUFFERED_HELP),
+            Argument("script", ArgumentKind::Optional("SCRIPT"), SCRIPT_HELP),
+        ],
+    )
 }
 
 fn matches_in<'a>(alloc: Global, words: &'a [String]) -> Result<ArgMatches<'a>, Error>
@@ -180,6 +197,37 @@ fn copied(alloc: Global, text: Option<&str>) -> Result<Option<String>, AllocErro
     }
 }
 
+// The options in the values that `clap` took.
+fn options_in(alloc: Global, matches: &ArgMatches<'_>) -> Result<Options, UsageFault>
+    ensures ok { IfOk result (λ options. (words : List Text)
+        → rows_of (found_of matches.now) ≡ matches_of mqroute words → AreGiven words options) }
+    ensures err { IfErr result (λ fault. fault ≡ UsageFault.Memory) }
+{
+    let acl_file = copied(alloc, matches.get_str("acl-file"))?;
+    let script = copied(alloc, matches.get_str("script"))?;
+    Ok(Options {
+        acl_file,
+        max_retained: matches.get_one("max-retained"),
+        max_queued: matches.get_one("max-queued"),
+        unbuffered: matches.get_one("unbuffered").unwrap_or(false),
+        script,
+    })
+}
+
+// Why `clap` refused the words.
+fn usage_fault(alloc: Global, error: &Error) -> UsageFault
+    ensures { (kinds : Kinds) → HasKind kinds error.now → IsFaultOf kinds result }
+{
+    let Ok(text) = error.to_string(alloc) else {
+        return UsageFault::Memory;
+    };
+    match error.kind() {
+        ErrorKind::DisplayHelp => UsageFault::Help(text),
+        ErrorKind::OutOfMemory => UsageFault::Memory,
+        _ => UsageFault::Usage(text),
+    }
+}
+
 /// The options in the words of a command line, of which the first is the program's name.
 pub fn arguments(alloc: Global, words: &[String]) -> Result<Options, UsageFault>
     ensures ok { IfOk result (AreGiven (map string_bytes words.now)) }
@@ -187,21 +235,7 @@ pub fn arguments(alloc: Global, words: &[String]) -> Result<Options, UsageFault>
     ensures err { IfErr result (IsFaultOf (fault_of mqroute (map string_bytes words.now))) }
 {
     match matches_in(alloc, words) {
-        Ok(matches) => {
-            let acl_file = copied(alloc, matches.get_str("acl-file"))?;
-            let script = copied(alloc, matches.get_str("script"))?;
-            Ok(Options {
-                acl_file,
-                max_retained: matches.get_one("max-retained"),
-                max_queued: matches.get_one("max-queued"),
-                unbuffered: matches.get_one("unbuffered").unwrap_or(false),
-                script,
-            })
-        }
-        Err(e) => match e.kind() {
-            ErrorKind::DisplayHelp => Err(UsageFault::Help(e.to_string(alloc)?)),
-            ErrorKind::OutOfMemory => Err(UsageFault::Memory),
-            _ => Err(UsageFault::Usage(e.to_string(alloc)?)),
-        },
+        Ok(matches) => options_in(alloc, &matches),
+        Err(error) => Err(usage_fault(alloc, &error)),
     }
 }

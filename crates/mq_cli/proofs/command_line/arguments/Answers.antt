@@ -1,33 +1,16 @@
-use Rattle.std.proofs.Common.{◌∙◌, ap, sym, codes}
-use Rattle.std.specs.Prelude.{option_and_then}
-use Rattle.clap.specs.Words.{first_of, one_of, found_of}
-use Rattle.clap.proofs.WalkLemmas.{first_value-rows, one_text-rows}
-use Rattle.mq_cli.specs.CommandLine.{number_in}
-use Rattle.mq_cli.proofs.NumberLemmas.{number-given}
-use Rattle.mq_cli.proofs.FlagLemmas.{flag-given}
+use Rattle.std.proofs.Common.{map, string_bytes}
+use Rattle.std.proofs.lemmas.Result.{IfOk-weaker}
+use Rattle.clap.specs.Words.{fault_of}
+use Rattle.mq_cli.specs.CommandLine.{mqroute}
 use Rattle.mq_cli.proofs.command_line.arguments.Goals as goal
 
 pub returns-in-Ok-clause-ok : goal.returns-in-Ok-clause-ok
 returns-in-Ok-clause-ok c =
-    let found = found_of c.in-Ok.matches in
-    record {
-      acl_file = c.in_ok-acl_file-in-Ok.ensures ∙ c.get_str.ensures
-          ∙ first_value-rows found (codes "acl-file")
-          ∙ ap (first_of (codes "acl-file")) c.in-Ok.ensures.rows;
-      max_retained = number-given _ c.get_one.result c.get_one.ensures.none c.get_one.ensures.value
-          ∙ ap (option_and_then number_in) (one_text-rows found (codes "max-retained")
-          ∙ ap (one_of (codes "max-retained")) c.in-Ok.ensures.rows);
-      max_queued = number-given _ c.get_one-in-Ok.result c.get_one-in-Ok.ensures.none
-          c.get_one-in-Ok.ensures.value
-          ∙ ap (option_and_then number_in) (one_text-rows found (codes "max-queued")
-          ∙ ap (one_of (codes "max-queued")) c.in-Ok.ensures.rows);
-      unbuffered =
-          let read = one_text-rows found (codes "unbuffered")
-          ∙ ap (one_of (codes "unbuffered")) c.in-Ok.ensures.rows in
-          rw (c.unwrap_or.ensures, sym read)
-          (flag-given _ _ c.get_one-in-Ok-2.result c.get_one-in-Ok-2.ensures.none
-          c.get_one-in-Ok-2.ensures.value);
-      script = c.in_ok-script-in-Ok.ensures ∙ c.get_str-in-Ok.ensures
-          ∙ first_value-rows found (codes "script")
-          ∙ ap (first_of (codes "script")) c.in-Ok.ensures.rows;
-    }
+    IfOk-weaker c.options_in.result _ _
+    (λ options is. is (map string_bytes c.args.words.now) c.in-Ok.ensures.rows)
+    c.options_in.ensures.ok
+
+pub returns-in-Err-clause-err : goal.returns-in-Err-clause-err
+returns-in-Err-clause-err c =
+    c.usage_fault.ensures (fault_of mqroute (map string_bytes c.args.words.now))
+    c.in-Err.ensures.kinds
