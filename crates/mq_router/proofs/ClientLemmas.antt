@@ -24,7 +24,6 @@ use Rattle.mq_world.specs.Waiting.{with_qos}
 use Rattle.mq_sessions.specs.Queue.{QueueItem, room_for, queue_item}
 use Rattle.mq_sessions.specs.Ways.{is_sent, waits}
 use Rattle.mq_sessions.specs.declared.sessions.session.Way.{Way}
-use Rattle.mq_sessions.specs.declared.sessions.session.Way.TheVariants.{Sent, Waits, Nowhere}
 use Rattle.mq_router.proofs.SummaryLemmas.{summary_of-append}
 use Rattle.std.proofs.lemmas.List.{map-append, append-nil}
 use Rattle.std.proofs.lemmas.List.Elements.{filter-append}
@@ -37,7 +36,7 @@ use Rattle.mq_world.specs.Views.{options_of}
 use Rattle.mq_router.specs.delivery.Summaries.{Summary, summary_of, summary_for, together}
 use Rattle.mq_router.specs.delivery.Summaries.{copy_from}
 use Rattle.mq_router.specs.delivery.Copies.{gives, gives_options, copy_for, copies_by, queue_item_for}
-use Rattle.mq_router.specs.delivery.Copies.{queue_items_by, by_client}
+use Rattle.mq_router.specs.delivery.Copies.{queue_items_by, by_client, sent_by_way, queued_by_way}
 use Rattle.mq_subscriptions.specs.Matches.{is_unshared_match, unshared_matches, match_views}
 use Rattle.mq_subscriptions.specs.Matches.{clients_of}
 use Rattle.mq_subscriptions.specs.Matches.{options_among, AreAscending, AreByClient}
@@ -316,81 +315,30 @@ module _ (limit : ℕ) (access : Option (List AclRow)) (sessions : List Session)
     (waiting : waits w ≡ (room_for limit sessions l.0
     && allowed access l.0 (user_of sessions l.0) m.topic Reading)) where
   copy-by_way : copy_for access sessions m l
-      ≡ (if is_sent w then Some (copy_from l.0 None m l.1) else None)
+      ≡ sent_by_way w (copy_from l.0 None m l.1)
   copy-by_way = ap (λ b. if b then Some (copy_from l.0 None m l.1) else None) (sym sent)
 
   begin-by_way : queue_item_for limit access sessions m deadline l
-      ≡ (if waits w then option_map (queue_item l.0 deadline) (with_qos (copy_from l.0 None m l.1))
-      else None)
+      ≡ queued_by_way w deadline (copy_from l.0 None m l.1)
   begin-by_way =
       ap (λ b. if b then option_map (queue_item l.0 deadline) (with_qos (copy_from l.0 None m l.1))
       else None) (sym waiting)
 
   pub copies-first : (copies : List Copy) (L all : List (Text × Summary)) → all ≡ l ∷ L
-      → (o : Option Copy) → (if is_sent w then Some (copy_from l.0 None m l.1) else None) ≡ o
-      → (copies ++ option_to_list o) ++ copies_by access sessions m L ≡ copies
-      ++ copies_by access sessions m all
-  copies-first copies L all e o is =
-      onto copies o (copies_by access sessions m L)
-      ∙ ap (λ p. copies ++ cons_option p (copies_by access sessions m L)) (sym is ∙ sym copy-by_way)
+      → (copies ++ option_to_list (sent_by_way w (copy_from l.0 None m l.1)))
+      ++ copies_by access sessions m L ≡ copies ++ copies_by access sessions m all
+  copies-first copies L all e =
+      onto copies (sent_by_way w (copy_from l.0 None m l.1)) (copies_by access sessions m L)
+      ∙ ap (λ p. copies ++ cons_option p (copies_by access sessions m L)) (sym copy-by_way)
       ∙ ap (λ k. copies ++ copies_by access sessions m k) (sym e)
 
   pub begins-first : (queued : List QueueItem) (L all : List (Text × Summary)) → all ≡ l ∷ L
-      → (o : Option QueueItem)
-      → (if waits w then option_map (queue_item l.0 deadline) (with_qos (copy_from l.0 None m l.1))
-      else None) ≡ o → (queued ++ option_to_list o)
+      → (queued ++ option_to_list (queued_by_way w deadline (copy_from l.0 None m l.1)))
       ++ queue_items_by limit access sessions m deadline L
       ≡ queued ++ queue_items_by limit access sessions m deadline all
-  begins-first queued L all e o is =
-      onto queued o (queue_items_by limit access sessions m deadline L)
+  begins-first queued L all e =
+      onto queued (queued_by_way w deadline (copy_from l.0 None m l.1))
+      (queue_items_by limit access sessions m deadline L)
       ∙ ap (λ p. queued ++ cons_option p (queue_items_by limit access sessions m deadline L))
-      (sym is ∙ sym begin-by_way)
+      (sym begin-by_way)
       ∙ ap (λ k. queued ++ queue_items_by limit access sessions m deadline k) (sym e)
-
-  module _ (copies : List Copy) (queued : List QueueItem) (L all : List (Text × Summary))
-      (e : all ≡ l ∷ L) where
-    abbrev copies_stay : Type 0
-    copies_stay = copies ++ copies_by access sessions m L ≡ copies
-        ++ copies_by access sessions m all
-
-    abbrev queued_stay : Type 0
-    queued_stay = queued ++ queue_items_by limit access sessions m deadline L ≡ queued
-        ++ queue_items_by limit access sessions m deadline all
-
-    no_copy : is_sent w ≡ false → copies_stay
-    no_copy h =
-        ap (λ k. k ++ copies_by access sessions m L) (sym (append-nil copies))
-        ∙ copies-first copies L all e None
-        (ap (λ b. if b then Some (copy_from l.0 None m l.1) else None) h)
-
-    none_begins : waits w ≡ false → queued_stay
-    none_begins h =
-        ap (λ k. k ++ queue_items_by limit access sessions m deadline L) (sym (append-nil queued))
-        ∙ begins-first queued L all e None
-        (ap (λ b. if b then option_map (queue_item l.0 deadline)
-        (with_qos (copy_from l.0 None m l.1)) else None) h)
-
-    pub sent-first : w ≡ Sent → (copy : Copy) → copy ≡ copy_from l.0 None m l.1
-        → ((copies ++ copy ∷ []) ++ copies_by access sessions m L ≡ copies
-        ++ copies_by access sessions m all) × queued_stay
-    sent-first h copy is = (
-      copies-first copies L all e (Some copy)
-          (ap (λ v. if is_sent v then Some (copy_from l.0 None m l.1) else None) h
-          ∙ ap Some (sym is)),
-      none_begins (ap waits h),
-    )
-
-    pub waits-first : w ≡ Waits → (o : Option QueueItem)
-        → o ≡ option_map (queue_item l.0 deadline) (with_qos (copy_from l.0 None m l.1))
-        → copies_stay × ((queued ++ option_to_list o)
-        ++ queue_items_by limit access sessions m deadline L
-        ≡ queued ++ queue_items_by limit access sessions m deadline all)
-    waits-first h o is = (
-      no_copy (ap is_sent h),
-      begins-first queued L all e o
-          (ap (λ v. if waits v then option_map (queue_item l.0 deadline)
-          (with_qos (copy_from l.0 None m l.1)) else None) h ∙ sym is),
-    )
-
-    pub nowhere-first : w ≡ Nowhere → copies_stay × queued_stay
-    nowhere-first h = (no_copy (ap is_sent h), none_begins (ap waits h))

@@ -1,7 +1,7 @@
 -- What each command does with what the router holds.
 use Rattle.std.proofs.Common.{◌≡◌, ◌⊎◌, ◌<◌, ◌≤◌, ◌+◌, nat_lt, arith, ℕ, Bool, true, false, not}
-use Rattle.std.proofs.Common.{List, [], ◌∷◌, ◌++◌, map, Option, Some, None, Result, Err, is_some}
-use Rattle.std.proofs.Common.{◌&&◌, if◌then◌else◌, refl, sym, ◌∙◌, ap, subst, inl, inr}
+use Rattle.std.proofs.Common.{List, [], ◌∷◌, ◌++◌, map, Option, Some, None, Result, Err, IfErr, is_some}
+use Rattle.std.proofs.Common.{◌&&◌, if◌then◌else◌, refl, sym, ◌∙◌, ap, subst, inl, inr, append_assoc}
 use Rattle.std.specs.Option.{option_map}
 use Rattle.std.specs.List.{filter}
 use Rattle.std.proofs.lemmas.Bool.Decides.{nat_tests}
@@ -29,6 +29,7 @@ use Rattle.mq_world.specs.After.{access_of}
 use Rattle.mq_router.specs.StandsFor.{State, Refuses}
 use Rattle.mq_router.specs.router.Effects.{Applied, Does, world_of, reply_to, members_now}
 use Rattle.mq_router.specs.router.Effects.{copies_sent, counts_now, without, lasts}
+use Rattle.mq_router.specs.router.Effects.{sender_conditions}
 use Rattle.mq_subscriptions.specs.Turns.{upsert, all_turned}
 use Rattle.mq_subscriptions.specs.Filters.{SubscriptionsView, AreKeys}
 use Rattle.mq_retained.specs.Stored.{RetainedView, AreFiled}
@@ -46,6 +47,10 @@ use Rattle.mq_world.specs.declared.refusal.Refusal.TheVariants.{AclLine, ClockTo
 pub refused-applied : (s : State) (request : Request) (result : Result Answer Refusal) (r : Refusal)
     (new : State) → result ≡ Err r → Refuses (world_of s) request r → Applied s request result new
 refused-applied s request result r new is why = subst (λ v. Applied s request v new) (sym is) why
+
+pub refused-as : {X : Type 0} (P : Refusal → Type 0) (result : Result X Refusal) (r : Refusal)
+    → result ≡ Err r → P r → IfErr result P
+refused-as P result r is why = subst (λ v. IfErr v P) (sym is) why
 
 hit : (b : Bool) (r : Refusal) (rest : Conditions) → b ≡ false
     → first_refusal ((not b, r) ∷ rest) ≡ Some r
@@ -385,65 +390,80 @@ unsubscribe-does s id text subs reply is next = record {
 abbrev full_condition : State → Message → Conditions
 full_condition s m = (is_full s.limits.retained s.retained m, RetainedFull) ∷ []
 
-abbrev write_condition : State → Message → Conditions
-write_condition s m = (
-  not (allowed s.access m.publisher (user_of s.sessions m.publisher) m.topic Writing),
-  NotAuthorized,
-) ∷ full_condition s m
+abbrev write_condition : State → Text → Text → Conditions
+write_condition s client topic =
+    (not (allowed s.access client (user_of s.sessions client) topic Writing), NotAuthorized) ∷ []
 
 -- a publish is refused as the conditions on its publisher say
-pub publish-client : (s : State) (m : Message) (r : Refusal)
-    → Some r ≡ first_refusal (client_conditions s.sessions m.publisher)
-    → Refuses (world_of s) (Publish m) r
-unfolding refusal
-publish-client s m r h =
-    inr (first-refused (client_conditions s.sessions m.publisher)
-    ((not (is_name m.topic), TopicName) ∷ write_condition s m) r h)
+pub sender-client : (s : State) (client topic : Text) (r : Refusal)
+    → Some r ≡ first_refusal (client_conditions s.sessions client)
+    → first_refusal (sender_conditions s client topic) ≡ Some r
+sender-client s client topic r h =
+    first-refused (client_conditions s.sessions client)
+    ((not (is_name topic), TopicName) ∷ write_condition s client topic) r h
 
 -- where its publisher passes, a publish is refused for a bad topic, or for lack of memory
-pub publish-name : (s : State) (m : Message) (r : Refusal)
-    → None ≡ first_refusal (client_conditions s.sessions m.publisher) → (r ≡ Memory)
-    ⊎ ((r ≡ TopicName) × (is_name m.topic ≡ false)) → Refuses (world_of s) (Publish m) r
-unfolding refusal
-publish-name s m r h why = refused-behind (client_conditions s.sessions m.publisher)
-    (write_condition s m) r TopicName (is_name m.topic) h why
+pub sender-name : (s : State) (client topic : Text) (r : Refusal)
+    → None ≡ first_refusal (client_conditions s.sessions client)
+    → (r ≡ Memory) ⊎ ((r ≡ TopicName) × (is_name topic ≡ false))
+    → (r ≡ Memory) ⊎ (first_refusal (sender_conditions s client topic) ≡ Some r)
+sender-name s client topic r h why = refused-behind (client_conditions s.sessions client)
+    (write_condition s client topic) r TopicName (is_name topic) h why
 
 -- where publisher and topic pass, a publish is refused if the publisher may not write there
-pub publish-write : (s : State) (m : Message)
-    → None ≡ first_refusal (client_conditions s.sessions m.publisher) → is_name m.topic ≡ true
-    → allowed s.access m.publisher (user_of s.sessions m.publisher) m.topic Writing ≡ false
-    → Refuses (world_of s) (Publish m) NotAuthorized
+pub sender-write : (s : State) (client topic : Text)
+    → None ≡ first_refusal (client_conditions s.sessions client) → is_name topic ≡ true
+    → allowed s.access client (user_of s.sessions client) topic Writing ≡ false
+    → first_refusal (sender_conditions s client topic) ≡ Some NotAuthorized
+sender-write s client topic h n e =
+    passed-behind (client_conditions s.sessions client) (write_condition s client topic) TopicName
+    (is_name topic) h n
+    ∙ hit (allowed s.access client (user_of s.sessions client) topic Writing) NotAuthorized [] e
+
+-- a publisher passes that is connected and may write there, if the topic passes
+pub sender-passes : (s : State) (client topic : Text)
+    → None ≡ first_refusal (client_conditions s.sessions client) → is_name topic ≡ true
+    → allowed s.access client (user_of s.sessions client) topic Writing ≡ true
+    → first_refusal (sender_conditions s client topic) ≡ None
+sender-passes s client topic h n e =
+    passed-behind (client_conditions s.sessions client) (write_condition s client topic) TopicName
+    (is_name topic) h n
+    ∙ skip (allowed s.access client (user_of s.sessions client) topic Writing) NotAuthorized [] e
+
+-- the condition on room is the last one
+full_last : (s : State) (m : Message) → refusal (world_of s) (Publish m)
+    ≡ first_refusal (sender_conditions s m.publisher m.topic ++ full_condition s m)
 unfolding refusal
-publish-write s m h n e =
-    inr (passed-behind (client_conditions s.sessions m.publisher) (write_condition s m) TopicName
-    (is_name m.topic) h n
-    ∙ hit (allowed s.access m.publisher (user_of s.sessions m.publisher) m.topic Writing)
-    NotAuthorized (full_condition s m) e)
+full_last s m = ap first_refusal (sym (append_assoc (client_conditions s.sessions m.publisher)
+    ((not (is_name m.topic), TopicName) ∷ write_condition s m.publisher m.topic)
+    (full_condition s m)))
+
+-- a publish is refused as the conditions on its publisher and its topic say
+pub publish-refused : (s : State) (m : Message) (r : Refusal) → (r ≡ Memory)
+    ⊎ (first_refusal (sender_conditions s m.publisher m.topic) ≡ Some r)
+    → Refuses (world_of s) (Publish m) r
+publish-refused s m r why = elim why as (λ _. Refuses (world_of s) (Publish m) r) [
+  | inl memory ↦ inl memory
+  | inr refused ↦ inr (full_last s m ∙ first-refused (sender_conditions s m.publisher m.topic)
+      (full_condition s m) r (sym refused))
+]
 
 -- where it may be written, a publish is refused if there is no room to retain its message
 pub publish-full : (s : State) (m : Message)
-    → None ≡ first_refusal (client_conditions s.sessions m.publisher) → is_name m.topic ≡ true
-    → allowed s.access m.publisher (user_of s.sessions m.publisher) m.topic Writing ≡ true
+    → first_refusal (sender_conditions s m.publisher m.topic) ≡ None
     → is_full s.limits.retained s.retained m ≡ true → Refuses (world_of s) (Publish m) RetainedFull
-unfolding refusal
-publish-full s m h n e full =
-    inr (passed-behind (client_conditions s.sessions m.publisher) (write_condition s m) TopicName
-    (is_name m.topic) h n
-    ∙ skip (allowed s.access m.publisher (user_of s.sessions m.publisher) m.topic Writing)
-    NotAuthorized (full_condition s m) e
+publish-full s m h full =
+    inr (full_last s m
+    ∙ first-passed (sender_conditions s m.publisher m.topic) (full_condition s m) (sym h)
     ∙ ap (λ b. first_refusal ((b, RetainedFull) ∷ [])) full)
 
--- a publish is accepted if its publisher and its topic pass, it may write, and there is room
+-- a publish is accepted if its publisher and its topic pass, and there is room
 pub publish-accepted : (s : State) (m : Message)
-    → None ≡ first_refusal (client_conditions s.sessions m.publisher) → is_name m.topic ≡ true
-    → allowed s.access m.publisher (user_of s.sessions m.publisher) m.topic Writing ≡ true
+    → first_refusal (sender_conditions s m.publisher m.topic) ≡ None
     → is_full s.limits.retained s.retained m ≡ false → refusal (world_of s) (Publish m) ≡ None
-unfolding refusal
-publish-accepted s m h n e room =
-    passed-behind (client_conditions s.sessions m.publisher) (write_condition s m) TopicName
-    (is_name m.topic) h n
-    ∙ skip (allowed s.access m.publisher (user_of s.sessions m.publisher) m.topic Writing)
-    NotAuthorized (full_condition s m) e
+publish-accepted s m h room =
+    full_last s m
+    ∙ first-passed (sender_conditions s m.publisher m.topic) (full_condition s m) (sym h)
     ∙ ap (λ b. first_refusal ((b, RetainedFull) ∷ [])) room
 
 -- an accepted publish is done: copies are sent, others wait, members served go last in

@@ -3,7 +3,7 @@ ghost use Rattle.std.specs.Prelude.{◌≡◌, ◌+◌, IfOk, length, map, ◌++
 ghost use Rattle.mq_topic.specs.Levels.{levels};
 ghost use Rattle.mq_tree.specs.Prefixes.{prefixes, met_by_name};
 ghost use Rattle.mq_world.specs.Lists.{Text};
-ghost use Rattle.mq_world.specs.Views.{message_of, copies_in};
+ghost use Rattle.mq_world.specs.Views.{message_of, copy_of, copies_in};
 ghost use Rattle.mq_subscriptions.specs.Turns.{turn_of, turns_in, next_members};
 ghost use Rattle.mq_sessions.specs.Views.{queue_item_of};
 ghost use Rattle.mq_router.specs.delivery.Copies.{queued_by, by_client, copies_by, queue_items_by};
@@ -181,10 +181,17 @@ fn add_group_copies(
         ++ map (λ t. member_copy (message_of outgoing.now.message) (turn_of t)) served.now) }
 {
     for turn in served {
-        let group = (turn.share.clone()?, turn.filter.clone()?);
-        let summary = Summary::of(alloc, turn.options)?;
-        let client = turn.client.clone()?;
-        copies.push(outgoing.copy(client, Some(group), summary)?)?;
+        copies.push(group_copy(alloc, turn, outgoing)?)?;
     }
     Ok(())
+}
+
+// The copy for a member of a group.
+fn group_copy(alloc: Global, turn: &Turn, outgoing: &Outgoing) -> Result<Delivery, AllocError>
+    ensures { IfOk result (λ d. copy_of d
+        ≡ member_copy (message_of outgoing.now.message) (turn_of turn.now)) }
+{
+    let summary = Summary::of(alloc, turn.options)?;
+    let group = (turn.share.clone()?, turn.filter.clone()?);
+    outgoing.copy(turn.client.clone()?, Some(group), summary)
 }

@@ -1,5 +1,5 @@
 ghost use Rattle.std.specs.Prelude.{◌≡◌, ◌≢◌, ◌+◌, ◌<◌, ◌^◌, [], Some, None, IsTrue, IfOk, OnOk};
-ghost use Rattle.std.specs.Prelude.{OnErr, IfErr, IfSome, map};
+ghost use Rattle.std.specs.Prelude.{OnErr, IfErr, IfSome, map, ◌⊎◌};
 ghost use Rattle.std.specs.Option.{option_copied};
 ghost use Rattle.std.specs.Rc.{rc_str_bytes};
 ghost use Rattle.mq_world.specs.Refusals.{is_valid, takes_no_memory, client_conditions};
@@ -8,14 +8,14 @@ ghost use Rattle.mq_world.specs.Clock.{deadline_of};
 ghost use Rattle.mq_world.specs.Sessions.{user_of};
 ghost use Rattle.mq_world.specs.World as world;
 ghost use Rattle.mq_world.specs.World.{fresh_world, empty_world, within};
-ghost use Rattle.mq_router.specs.StandsFor.{StandsFor, AnswersFor, CountsFor};
-ghost use Rattle.mq_router.specs.router.Effects.{Applied, CountsSteps, Does, world_of, refused_by};
+ghost use Rattle.mq_router.specs.StandsFor.{StandsFor, AnswersFor, CountsFor, Refuses};
+ghost use Rattle.mq_router.specs.router.Effects.{Applied, CountsSteps, world_of, refused_by};
 ghost use Rattle.mq_router.specs.router.Effects.{copies_sent, steps_sent, steps_to};
 ghost use Rattle.mq_router.specs.router.Effects.{counts_now, copies_now, queued_now};
-ghost use Rattle.mq_router.specs.router.Effects.{members_now};
+ghost use Rattle.mq_router.specs.router.Effects.{members_now, sender_conditions};
 ghost use Rattle.mq_world.specs.Views.{limits_of, request_of, reply_of};
 ghost use Rattle.mq_world.specs.Views.{options_of};
-ghost use Rattle.mq_subscriptions.specs.SubFilters.{sub_filter_row};
+ghost use Rattle.mq_subscriptions.specs.SubFilters.{sub_filter_row, IsAskedBy};
 ghost use Rattle.mq_world.specs.Views.{copies_in};
 ghost use Rattle.mq_subscriptions.specs.Turns.{turns_in};
 ghost use Rattle.mq_router.specs.router.Views.{published_message};
@@ -23,21 +23,23 @@ ghost use Rattle.mq_world.specs.Views.{message_of};
 ghost use Rattle.mq_sessions.specs.Views.{queue_item_of};
 
 mod ended;
+mod started;
 
 use crate::delivery::{Deliveries, make_copies};
 use crate::replies::{published, reason_to_leave, with_reason};
-use crate::texts::{copied, is_shared_no_local, parse_filter, parse_name, read_access};
+use crate::texts::{is_shared_no_local, parse_filter, parse_name, read_access};
 use ended::end_sessions;
 use mq_acl::Acl;
 use mq_retained::{Receiver, Retained};
 use mq_sessions::{Client, Clock, Readers, Sessions, may_write};
 use mq_subscriptions::Subscriptions;
-use mq_topic::SubFilter;
+use mq_topic::{SubFilter, TopicName};
 use mq_tree::Steps;
 use mq_world::{
     Answer, Command, Delivery, Limits, Message, Outcome, Refusal, SubscriptionOptions,
     is_client_id, is_user_name,
 };
+use started::start_session;
 use std::alloc::{AllocError, Global};
 use std::marker::Model;
 use std::rc::RcStr;
@@ -194,7 +196,6 @@ impl Router {
         self.sessions.connected(client).ok_or(Refusal::NotConnected)
     }
 
-    // What the answer needs comes first: the new session takes the place of the older one and of the copies that wait there.
     fn connect(
         &mut self,
         client: &str,
@@ -213,12 +214,15 @@ impl Router {
         if !is_user_name(user) {
             return Err(Refusal::UserName);
         }
-        let id = RcStr::from_str(self.alloc, client)?;
-        let user = copied(self.alloc, user)?;
-        let resumed = self
-            .sessions
-            .resumed_copies(self.alloc, self.clock, client, clean)?;
-        self.sessions.insert(self.alloc, id, user, session_expiry)?;
+        let resumed = start_session(
+            &mut self.sessions,
+            self.alloc,
+            self.clock,
+            client,
+            user,
+            clean,
+            session_expiry,
+        )?;
         let Some(copies) = resumed else {
             self.subscriptions.remove_client(client);
             return Ok(with_reason(self.alloc, 0));
@@ -258,17 +262,35 @@ impl Router {
             (world.Subscribe client.now text.now (options_of options)) result steps.old steps.new }
         ensures err { OnErr result (self.new ≡ self.old) }
     {
-        let id = self.check_client(client)?.id.clone()?;
-        let sub_filter = parse_filter(self.alloc, text)?;
-        if is_shared_no_local(&sub_filter, options.no_local) {
-            return Err(Refusal::SharedNoLocal);
-        }
+        let (id, sub_filter) = self.check_subscribe(client, text, options)?;
         let copies = self.copies_sent(&id, &sub_filter, options, steps)?;
         self.subscriptions.insert(&id, text, &sub_filter, options)?;
         Ok(Answer {
             copies,
             outcome: Outcome::Reason(options.qos),
         })
+    }
+
+    // The client's id and the filter of a subscribe that is not refused.
+    fn check_subscribe(
+        &self,
+        client: &str,
+        text: &str,
+        options: SubscriptionOptions,
+    ) -> Result<(RcStr, SubFilter), Refusal>
+        ensures ok { IfOk result (λ asked. (rc_str_bytes asked.0 ≡ client.now)
+            × IsAskedBy text.now asked.1
+            × (refusal (world_of self.now)
+            (world.Subscribe client.now text.now (options_of options)) ≡ None)) }
+        ensures err { IfErr result (λ refusal. Refuses (world_of self.now)
+            (world.Subscribe client.now text.now (options_of options)) refusal) }
+    {
+        let id = self.check_client(client)?.id.clone()?;
+        let sub_filter = parse_filter(self.alloc, text)?;
+        if is_shared_no_local(&sub_filter, options.no_local) {
+            return Err(Refusal::SharedNoLocal);
+        }
+        Ok((id, sub_filter))
     }
 
     // The copies of retained messages that a subscribe sends.
@@ -299,8 +321,7 @@ impl Router {
             filter: &sub_filter.filter,
             options,
         };
-        let copies = self.retained.copies(&receiver, steps)?;
-        Ok(copies)
+        self.retained.copies(&receiver, steps)
     }
 
     fn unsubscribe(&mut self, client: &str, text: &str) -> Result<Answer, Refusal>
@@ -336,12 +357,7 @@ impl Router {
             steps.old steps.new }
         ensures err { OnErr result (self.new ≡ self.old) }
     {
-        let publisher = self.check_client(client)?;
-        let id = publisher.id.clone()?;
-        let name = parse_name(self.alloc, topic)?;
-        if !may_write(&self.access, client, publisher.user, &name) {
-            return Err(Refusal::NotAuthorized);
-        }
+        let (id, name) = self.check_publish(client, topic)?;
         let deadline = self.clock.deadline(expiry);
         let message = Message {
             publisher: &id,
@@ -355,21 +371,36 @@ impl Router {
         if self.retained.is_full(self.limits.retained, &message) {
             return Err(Refusal::RetainedFull);
         }
-        let answer = self.deliver(&message, steps)?;
-        Ok(answer)
+        self.deliver(&message, steps)
+    }
+
+    // The client's id and the topic name of a publish, by a client that may write there.
+    fn check_publish(&self, client: &str, topic: &str) -> Result<(RcStr, TopicName), Refusal>
+        ensures ok { IfOk result (λ sender. (rc_str_bytes sender.0 ≡ client.now)
+            × (sender.1 ≡ topic.now)
+            × (first_refusal (sender_conditions self.now client.now topic.now) ≡ None)) }
+        ensures err { IfErr result (λ refusal. (refusal ≡ Refusal.Memory)
+            ⊎ (first_refusal (sender_conditions self.now client.now topic.now) ≡ Some refusal)) }
+    {
+        let publisher = self.check_client(client)?;
+        let id = publisher.id.clone()?;
+        let name = parse_name(self.alloc, topic)?;
+        if !may_write(&self.access, client, publisher.user, &name) {
+            return Err(Refusal::NotAuthorized);
+        }
+        Ok((id, name))
     }
 
     // All copies are made before anything changes; then the message is stored, or nothing changes; the turns and the copies
     // that begin to wait, which cannot fail, come last.
-    fn deliver(&mut self, message: &Message, steps: &mut Steps) -> Result<Answer, AllocError>
+    fn deliver(&mut self, message: &Message, steps: &mut Steps) -> Result<Answer, Refusal>
         requires value { message.now.deadline ≡ deadline_of self.old.moment message.now.expiry }
         requires near { IfSome message.now.deadline
             (λ deadline. deadline < self.old.moment + 2 ^ 32) }
-        ensures done { refusal (world_of self.old) (world.Publish (message_of message.now)) ≡ None
-            → IfOk result (λ answer. Does self.old (world.Publish (message_of message.now))
-            (reply_of answer) self.new) }
-        ensures count { OnOk result (steps.new ≡ steps.old + steps_to self.old
-            (world.Publish (message_of message.now))) }
+        ensures applied { refusal (world_of self.old) (world.Publish (message_of message.now)) ≡ None
+            → Applied self.old (world.Publish (message_of message.now)) result self.new }
+        ensures counted { CountsSteps self.old (world.Publish (message_of message.now)) result
+            steps.old steps.new }
         ensures err { OnErr result (self.new ≡ self.old) }
     {
         let made = self.make_copies(message, steps)?;
@@ -395,15 +426,14 @@ impl Router {
             access: &self.access,
             sessions: &self.sessions,
         };
-        let made = make_copies(
+        make_copies(
             self.alloc,
             &readers,
             &self.subscriptions,
             message,
             self.limits.queued,
             steps,
-        )?;
-        Ok(made)
+        )
     }
 
     fn set_acl(&mut self, text: Option<&str>) -> Result<Answer, Refusal>

@@ -1,12 +1,14 @@
 -- What each request does to what the router holds: without stamps, by the order in which members stand.
-use Rattle.std.specs.Prelude.{◌≡◌, ◌⊎◌, ℕ, ◌+◌, Bool, List, [], ◌++◌, length, map, not, Option}
+use Rattle.std.specs.Prelude.{◌≡◌, ◌⊎◌, ℕ, ◌+◌, Bool, List, [], ◌∷◌, ◌++◌, length, map, not, Option}
 use Rattle.std.specs.Prelude.{Some, None, Result, Ok, Err, MatchResult, if◌then◌else◌}
 use Rattle.std.specs.List.{filter, list_any}
 use Rattle.mq_topic.specs.Levels.{levels}
-use Rattle.mq_topic.specs.Texts.{share_of, filter_part}
+use Rattle.mq_topic.specs.Texts.{is_name, share_of, filter_part}
 use Rattle.mq_tree.specs.Entries.{capped}
 use Rattle.mq_tree.specs.Prefixes.{prefixes, met_by_name}
 use Rattle.mq_acl.specs.Rows.{AclRow}
+use Rattle.mq_acl.specs.Access.{allowed}
+use Rattle.mq_acl.specs.declared.access.Direction.TheVariants.{Writing}
 use Rattle.mq_world.specs.Lists.{Text, same_text, with_row}
 use Rattle.mq_world.specs.World.{World, Row, Session, Subscription, Message, Copy, Request, Connect}
 use Rattle.mq_world.specs.World.{Disconnect, Subscribe, Unsubscribe, Publish, SetAcl, Advance, Stat}
@@ -16,7 +18,7 @@ use Rattle.mq_world.specs.Sessions.{has_ended, is_among}
 use Rattle.mq_sessions.specs.Queue.{QueueItem}
 use Rattle.mq_router.specs.delivery.Copies.{queued_by}
 use Rattle.mq_world.specs.Waiting.{begins_to_wait, waiting_after, resumed_copies}
-use Rattle.mq_world.specs.Refusals.{refusal}
+use Rattle.mq_world.specs.Refusals.{Conditions, client_conditions, refusal}
 use Rattle.mq_world.specs.Copies.{unshared_copies}
 use Rattle.mq_world.specs.Groups.{group_copy}
 use Rattle.mq_world.specs.Retained.{asks_for_retained, retained_copies, retained_after}
@@ -33,7 +35,7 @@ use Rattle.mq_world.specs.declared.answer.Answer.{Answer}
 use Rattle.mq_world.specs.declared.answer.Outcome.{Outcome}
 use Rattle.mq_world.specs.declared.answer.Outcome.TheVariants.{Reason, Counts}
 use Rattle.mq_world.specs.declared.refusal.Refusal.{Refusal}
-use Rattle.mq_world.specs.declared.refusal.Refusal.TheVariants.{Memory}
+use Rattle.mq_world.specs.declared.refusal.Refusal.TheVariants.{Memory, TopicName, NotAuthorized}
 use Rattle.mq_subscriptions.specs.Turns.{upsert, all_turned, next_members}
 
 abbrev pub row_without_stamp : Subscription → Row
@@ -50,7 +52,13 @@ world_of s = record {
   accepted = 0;
 }
 
--- ## Subscriptions in turn
+-- ## Refusals
+
+-- the conditions on a publish that are about its client and its topic, and not about room
+abbrev pub sender_conditions : State → Text → Text → Conditions
+sender_conditions s client topic =
+    client_conditions s.sessions client ++ (not (is_name topic), TopicName)
+    ∷ (not (allowed s.access client (user_of s.sessions client) topic Writing), NotAuthorized) ∷ []
 
 -- ## Requests
 

@@ -1,14 +1,18 @@
 //! The copies of a message for clients in their own name: those that are sent, and those that begin to wait.
-ghost use Rattle.std.specs.Prelude.{◌≡◌, IfOk, None, map};
+ghost use Rattle.std.specs.Prelude.{◌≡◌, ◌++◌, IfOk, OnOk, None, map};
+ghost use Rattle.std.specs.Option.{option_map, option_to_list};
 ghost use Rattle.std.specs.Rc.{rc_str_bytes};
 ghost use Rattle.mq_world.specs.Views.{options_of};
 ghost use Rattle.mq_world.specs.Views.{copies_in};
 ghost use Rattle.mq_subscriptions.specs.Matches.{match_views, AreByClient};
 ghost use Rattle.mq_router.specs.delivery.Copies.{by_client};
 ghost use Rattle.mq_router.specs.delivery.Copies.{copies_by, queue_items_by};
+ghost use Rattle.mq_router.specs.delivery.Copies.{sent_by_way, queued_by_way};
 ghost use Rattle.mq_router.specs.delivery.Summaries.{summary_of, copy_from};
 ghost use Rattle.mq_world.specs.Views.{copy_of};
 ghost use Rattle.mq_world.specs.Views.{message_of};
+ghost use Rattle.mq_world.specs.Waiting.{with_qos};
+ghost use Rattle.mq_sessions.specs.Queue.{queue_item};
 ghost use Rattle.mq_sessions.specs.Views.{queue_item_of};
 
 use crate::delivery::outgoing::Outgoing;
@@ -46,22 +50,68 @@ pub(crate) fn unshared_copies(
 {
     // A client gets a copy if it has a session.
     let most = matches.len().min(readers.sessions.len());
-    let mut copies = Vec::with_capacity(alloc, most)?;
-    let mut queued = Vec::new(alloc);
+    let mut made = Unshared {
+        copies: Vec::with_capacity(alloc, most)?,
+        queued: Vec::new(alloc),
+    };
     for chunk in matches.chunk_by(|a, b| a.client == b.client) {
         let client = chunk[0].client;
-        match readers.way(client, outgoing.message.topic, limit) {
-            Way::Sent => copies.push(unshared_copy(alloc, client, chunk, outgoing)?)?,
-            Way::Waits => {
-                let copy = unshared_copy(alloc, client, chunk, outgoing)?;
-                if let Some(one) = queued_copy(alloc, copy, outgoing.message.deadline)? {
-                    queued.push(one)?;
-                }
+        let way = readers.way(client, outgoing.message.topic, limit);
+        made.add(alloc, way, client, chunk, outgoing)?;
+    }
+    Ok(made)
+}
+
+impl Unshared {
+    // Adds the copy for a client, by its subscriptions, where one goes.
+    fn add(
+        &mut self,
+        alloc: Global,
+        way: Way,
+        client: &RcStr,
+        matches: &[Match],
+        outgoing: &Outgoing,
+    ) -> Result<(), AllocError>
+        ensures copies { OnOk result (copies_in self.new.copies
+            ≡ copies_in self.old.copies ++ option_to_list (sent_by_way way
+            (copy_from (rc_str_bytes client.now) None (message_of outgoing.now.message)
+            (summary_of (map (λ x. options_of x.options) matches.now))))) }
+        ensures queued { OnOk result (map queue_item_of self.new.queued.items
+            ≡ map queue_item_of self.old.queued.items ++ option_to_list (queued_by_way way
+            outgoing.now.message.deadline
+            (copy_from (rc_str_bytes client.now) None (message_of outgoing.now.message)
+            (summary_of (map (λ x. options_of x.options) matches.now))))) }
+    {
+        match way {
+            Way::Sent => {
+                let copy = unshared_copy(alloc, client, matches, outgoing)?;
+                Ok(self.copies.push(copy)?)
             }
-            Way::Nowhere => {}
+            Way::Waits => {
+                let copy = unshared_copy(alloc, client, matches, outgoing)?;
+                self.queue(alloc, copy, outgoing.message.deadline)
+            }
+            Way::Nowhere => Ok(()),
         }
     }
-    Ok(Unshared { copies, queued })
+
+    // Adds what begins to wait of the copy, if it waits.
+    fn queue(
+        &mut self,
+        alloc: Global,
+        copy: Delivery,
+        deadline: Option<u64>,
+    ) -> Result<(), AllocError>
+        ensures copies { self.new.copies ≡ self.old.copies }
+        ensures queued { OnOk result (map queue_item_of self.new.queued.items
+            ≡ map queue_item_of self.old.queued.items ++ option_to_list (option_map
+            (queue_item (rc_str_bytes copy.client) deadline) (with_qos (copy_of copy)))) }
+    {
+        match queued_copy(alloc, copy, deadline)? {
+            Some(one) => Ok(self.queued.push(one)?),
+            None => Ok(()),
+        }
+    }
 }
 
 // The copy for a client, by its subscriptions.

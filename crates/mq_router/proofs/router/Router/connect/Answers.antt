@@ -1,8 +1,7 @@
-use Rattle.std.proofs.Common.{◌≡◌, ◌∙◌, sym, ap, subst, map, string_bytes, false}
+use Rattle.std.proofs.Common.{◌≡◌, ◌∙◌, sym, ap, subst, map, false}
 use Rattle.std.specs.Option.{option_map, option_copied}
-use Rattle.mq_world.specs.Lists.{with_row}
-use Rattle.mq_world.specs.World.{Connect, session_cmp}
-use Rattle.mq_world.specs.Sessions.{new_session, resumes}
+use Rattle.mq_world.specs.World.{Connect}
+use Rattle.mq_world.specs.Sessions.{resumes}
 use Rattle.mq_sessions.specs.Near.{AllReached}
 use Rattle.mq_world.specs.Views.{copy_of, reply_of}
 use Rattle.mq_router.specs.router.Views.{state_of}
@@ -27,17 +26,17 @@ returns-then-not-is_user_name-clause-applied c =
     (sym c.is_client_id.ensures ∙ c.if-not-is_client_id.false)
     (sym c.is_user_name.ensures ∙ c.if-not-is_user_name.true)
 
-pub invariant_of-self-in-Some-resumed-2 : goal.invariant_of-self-in-Some-resumed-2
-invariant_of-self-in-Some-resumed-2 c = (
+pub invariant_of-self-in-Some-1 : goal.invariant_of-self-in-Some-1
+invariant_of-self-in-Some-1 c = (
   c.self.invariant.0,
-  subst (AllReached c.self.inside.clock.moment) (sym c.in_ok-insert.ensures.ok)
+  subst (AllReached c.self.inside.clock.moment) (sym c.in_ok-resumed.ensures.ok)
       (reached-with_row c.self.inside.clock.moment _ c.self.inside.sessions tt c.self.invariant.1),
 )
 
 pub invariant_of-self-in_default : goal.invariant_of-self-in_default
 invariant_of-self-in_default c = (
   c.self.invariant.0,
-  subst (AllReached c.self.inside.clock.moment) (sym c.in_ok-insert.ensures.ok)
+  subst (AllReached c.self.inside.clock.moment) (sym c.in_ok-resumed.ensures.ok)
       (reached-with_row c.self.inside.clock.moment _ c.self.inside.sessions tt c.self.invariant.1),
 )
 
@@ -49,7 +48,7 @@ returns-in_default-clause-applied c =
     let interval = c.args.session_expiry in
     let subs = c.remove_client.new.self in
     let new : State = record s {
-      sessions = c.insert.new.self;
+      sessions = c.start_session.new.sessions;
       subscriptions = subs.rows;
       filter_keys =
           subs.keys;
@@ -57,23 +56,16 @@ returns-in_default-clause-applied c =
     let ends : resumes s.sessions id c.args.clean ≡ false =
     resumes-none s.moment s.sessions id c.args.clean
     (ap (option_map (λ list. map copy_of list.items)) (sym c.in_default.is)
-    ∙ c.in_ok-resumed.ensures) in
-    let sessions : c.insert.new.self ≡ with_row session_cmp
-    (new_session id user interval) s.sessions =
-    c.in_ok-insert.ensures.ok
-    ∙ ap (λ i. with_row session_cmp
-    (new_session i (option_map string_bytes c.in_ok-user.user) interval) s.sessions)
-    c.in_ok-id.ensures.ok
-    ∙ ap (λ u. with_row session_cmp (new_session id u interval) s.sessions) c.in_ok-user.ensures in
+    ∙ c.in_ok-resumed.ensures.resumed) in
     subst (λ (v : State). Does v (Connect id user c.args.clean interval)
     (reply_of c.with_reason.result) new) c.self.view_is
-    (connect-does s id user c.args.clean interval c.insert.new.self subs _ (record {
+    (connect-does s id user c.args.clean interval c.start_session.new.sessions subs _ (record {
       accepted = connect-accepted s id user c.args.clean interval
           (sym c.is_client_id.ensures ∙ c.if-not-is_client_id.false)
           (sym c.is_user_name.ensures ∙ c.if-not-is_user_name.false);
       reply_is = c.with_reason.ensures ∙ ap (λ l. record { copies = l; outcome = Reason 0 })
           (resumed-empty s.moment s.sessions id c.args.clean ends);
-    }) sessions (record {
+    }) c.in_ok-resumed.ensures.ok (record {
       same = same-is _ _ (c.remove_client.ensures.rows ∙ ap (connect_rows s id) (sym ends));
       keys = λ old. c.remove_client.ensures.keys;
     }))
@@ -84,28 +76,21 @@ returns-clause-applied c =
     let id = c.args.client.now in
     let user = option_copied c.args.user in
     let interval = c.args.session_expiry in
-    let new : State = record s { sessions = c.insert.new.self } in
+    let new : State = record s { sessions = c.start_session.new.sessions } in
     let stays = resumes-some s.moment s.sessions id c.args.clean
     (map copy_of c.in-Some.copies.items)
     (ap (option_map (λ list. map copy_of list.items)) (sym c.in-Some.is)
-    ∙ c.in_ok-resumed.ensures) in
-    let sessions : c.insert.new.self ≡ with_row session_cmp
-    (new_session id user interval) s.sessions =
-    c.in_ok-insert.ensures.ok
-    ∙ ap (λ i. with_row session_cmp
-    (new_session i (option_map string_bytes c.in_ok-user.user) interval) s.sessions)
-    c.in_ok-id.ensures.ok
-    ∙ ap (λ u. with_row session_cmp (new_session id u interval) s.sessions) c.in_ok-user.ensures in
+    ∙ c.in_ok-resumed.ensures.resumed) in
     subst (λ (v : State). Does v (Connect id user c.args.clean interval)
     (record { copies = map copy_of c.in-Some.copies.items; outcome = Reason 0 }) new)
     c.self.view_is
-    (connect-does s id user c.args.clean interval c.insert.new.self c.self.inside.subscriptions _
+    (connect-does s id user c.args.clean interval c.start_session.new.sessions c.self.inside.subscriptions _
     (record {
       accepted = connect-accepted s id user c.args.clean interval
           (sym c.is_client_id.ensures ∙ c.if-not-is_client_id.false)
           (sym c.is_user_name.ensures ∙ c.if-not-is_user_name.false);
       reply_is = ap (λ l. record { copies = l; outcome = Reason 0 }) stays.1;
-    }) sessions (record {
+    }) c.in_ok-resumed.ensures.ok (record {
       same = same-is _ _ (ap (connect_rows s id) (sym stays.0));
       keys = λ keys. keys;
     }))

@@ -1,4 +1,5 @@
 use Rattle.std.proofs.Common.{◌∙◌, sym, ap, map, refl, string_bytes, Option, None}
+use Rattle.std.proofs.lemmas.Result.{IfOk-weaker}
 use Rattle.std.specs.Option.{option_map}
 use Rattle.std.specs.Rc.{rc_str_bytes}
 use Rattle.mq_world.specs.Lists.{Text}
@@ -38,8 +39,10 @@ returns-clause-copies c =
     let asks = c.asks_for_retained.ensures
     ∙ ap (λ client. asks_for_retained s.subscriptions (by share client)) c.as_str.ensures.value
     in
-    c.in_ok-copies.ensures.copies
+    IfOk-weaker c.copies.result _ _
+    (λ copies e. e
     ∙ ap (λ user. retained_copies s.moment s.access user s.retained (by None id))
     (c.user.ensures ∙ ap (user_of s.sessions) c.as_str-2.ensures.value)
     ∙ sym (sent-some s new (by None id) refl (sym asks ∙ c.if-not-asks_for_retained.false))
-    ∙ ap (λ (v : State). copies_sent v new) c.self.view_is
+    ∙ ap (λ (v : State). copies_sent v new) c.self.view_is)
+    c.copies.ensures.copies

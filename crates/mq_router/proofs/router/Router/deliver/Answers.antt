@@ -48,8 +48,8 @@ invariant_of-self-2 c =
           c.self.invariant.1),
     )
 
-pub returns-clause-done : goal.returns-clause-done
-returns-clause-done c = λ accepted.
+pub returns-clause-applied : goal.returns-clause-applied
+returns-clause-applied c = λ accepted.
     let s : State = state_of c.self.inside in
     let m : Message = message_of c.args.message.now in
     let subs = c.serve_all.new.self in
