@@ -16,3 +16,4 @@ pub mod AscendingLemmas
 pub mod MatchLemmas
 pub mod FoundLemmas
 pub mod CountLemmas
+pub mod Outcomes

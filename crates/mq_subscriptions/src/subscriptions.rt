@@ -233,10 +233,7 @@ fn insert_in(
 {
     let client = client.clone()?;
     match tree.get_mut(&sub_filter.filter) {
-        Some(at) => {
-            at.insert(alloc, sub_filter.share.as_deref(), client, options)?;
-            Ok(())
-        }
+        Some(at) => at.insert(alloc, sub_filter.share.as_deref(), client, options),
         None => add_in(tree, alloc, client, sub_filter, options),
     }
 }

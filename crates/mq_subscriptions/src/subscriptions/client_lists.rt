@@ -52,10 +52,7 @@ impl ClientLists {
         ensures err { OnErr result (self.new ≡ self.old) }
     {
         match self.by_client.get_mut(client) {
-            Some(filters) => {
-                filters.insert(alloc, text)?;
-                Ok(())
-            }
+            Some(filters) => filters.insert(alloc, text),
             None => self.insert_first(alloc, client, text),
         }
     }

@@ -90,10 +90,7 @@ impl ShareGroups {
         ensures err { OnErr result (self.new ≡ self.old) }
     {
         match self.by_share.get_mut(share) {
-            Some(group) => {
-                group.insert(client, options)?;
-                Ok(())
-            }
+            Some(group) => group.insert(client, options),
             None => self.add(alloc, share, client, options),
         }
     }
@@ -155,12 +152,7 @@ impl ShareGroups {
     {
         for (share, group) in &self.by_share {
             if let Some((client, options)) = group.next(readers, name) {
-                turns.push(Turn {
-                    share: share.clone()?,
-                    filter: filter.clone()?,
-                    client: client.clone()?,
-                    options,
-                })?;
+                turns.push(Turn::of(share, filter, client, options)?)?;
             }
         }
         Ok(())

@@ -1,7 +1,9 @@
 //! Turns in groups.
-ghost use Rattle.std.specs.Prelude.{◌≡◌, OnOk};
+ghost use Rattle.std.specs.Prelude.{◌≡◌, Some, IfOk, OnOk};
+ghost use Rattle.std.specs.Rc.{rc_str_bytes};
+ghost use Rattle.mq_subscriptions.specs.Filters.{row};
 ghost use Rattle.mq_world.specs.Lists.{Text};
-ghost use Rattle.mq_subscriptions.specs.Turns.{shares_of, turns_listed};
+ghost use Rattle.mq_subscriptions.specs.Turns.{shares_of, turn_of, turns_listed};
 ghost use Rattle.mq_subscriptions.specs.Matches.{AreAscending};
 
 use mq_topic::TopicFilter;
@@ -26,6 +28,27 @@ impl Drop for Turn {
             client: _,
             options: _,
         } = self;
+    }
+}
+
+impl Turn {
+    /// That of a client in the group of this share name at this filter.
+    pub(crate) fn of(
+        share: &RcStr,
+        filter: &Rc<TopicFilter>,
+        client: &RcStr,
+        options: SubscriptionOptions,
+    ) -> Result<Turn, AllocError>
+        ensures share { IfOk result (λ turn. rc_str_bytes turn.share ≡ rc_str_bytes share.now) }
+        ensures row { IfOk result (λ turn. turn_of turn ≡ row (Some (rc_str_bytes share.now))
+            filter.now.value (rc_str_bytes client.now, options)) }
+    {
+        Ok(Turn {
+            share: share.clone()?,
+            filter: filter.clone()?,
+            client: client.clone()?,
+            options,
+        })
     }
 }
 

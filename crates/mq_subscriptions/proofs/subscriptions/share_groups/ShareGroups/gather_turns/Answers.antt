@@ -11,7 +11,7 @@ use Rattle.mq_subscriptions.specs.Views.{texts}
 use Rattle.mq_subscriptions.specs.Turns.{turns_listed}
 use Rattle.mq_subscriptions.specs.Turns.{turns_of}
 use Rattle.mq_subscriptions.proofs.TextMaps.{ordered-texts}
-use Rattle.mq_subscriptions.proofs.TurnsAtLemmas.{turns_left, turns-group, turns-more, same_turn}
+use Rattle.mq_subscriptions.proofs.TurnsAtLemmas.{turns_left, turns-group, turns-more}
 use Rattle.mq_subscriptions.proofs.subscriptions.share_groups.ShareGroups.gather_turns.Goals as goal
 
 pub loop-share-init : goal.loop-share-init
@@ -37,17 +37,12 @@ loop-share-preserved-in_ok-push c =
     let N = c.args.name.now in
     let f = c.args.filter.now.value in
     let k = rc_str_bytes c.in-Some.share.now in
-    let o = c.in-Some-next.options in
     let left = rest_more deref_pair _ _ _ (c.in-Some.share, c.in-Some.group) c.in-Some.is
     c.next.ensures.steps in
     λ share. turns-more A S N f share _ _ _ (k, c.in-Some.group.now) (texts c.next.new.self)
-    c.in_ok-push.ensures.items c.in_ok-clone.ensures.cases
+    c.in_ok-push.ensures.items c.in_ok-of.ensures.share
     (ap (option_map (row (Some k) f)) (sym c.in-Some-next.ensures)
-    ∙ ap (λ s. Some s) (same_turn (rc_str_bytes c.in-Some-next.client.now)
-    (rc_str_bytes c.in_ok-clone-3.field-0) k (rc_str_bytes c.in_ok-clone.field-0) f
-    c.in_ok-clone-2.field-0.value o (sym c.in_ok-clone-3.ensures.cases)
-    (sym c.in_ok-clone.ensures.cases)
-    (sym c.in_ok-clone-2.ensures.cases)))
+    ∙ ap (λ s. Some s) (sym c.in_ok-of.ensures.row))
     ∙ ap (λ es. turns_listed share c.loop-share.turns.items ++ turns_left A S N f share (texts es))
     (sym left)
     ∙ c.loop-share.invariant share
