@@ -1,39 +1,38 @@
 ghost use Rattle.std.specs.Prelude.{◌≡◌, ◌≢◌, ◌+◌, ◌<◌, ◌^◌, [], Some, None, IsTrue, IfOk, OnOk};
-ghost use Rattle.std.specs.Prelude.{OnErr, IfErr, IfSome, map, ◌⊎◌};
+ghost use Rattle.std.specs.Prelude.{OnErr, IfErr, IfSome, map};
 ghost use Rattle.std.specs.Option.{option_copied};
 ghost use Rattle.std.specs.Rc.{rc_str_bytes};
-ghost use Rattle.mq_world.specs.Refusals.{is_valid, takes_no_memory, client_conditions};
-ghost use Rattle.mq_world.specs.Refusals.{first_refusal, refusal};
+ghost use Rattle.mq_world.specs.Refusals.{is_valid, takes_no_memory, refusal};
 ghost use Rattle.mq_world.specs.Clock.{deadline_of};
-ghost use Rattle.mq_world.specs.Sessions.{user_of};
 ghost use Rattle.mq_world.specs.World as world;
 ghost use Rattle.mq_world.specs.World.{fresh_world, empty_world, within};
-ghost use Rattle.mq_router.specs.StandsFor.{StandsFor, AnswersFor, CountsFor, Refuses};
-ghost use Rattle.mq_router.specs.router.Effects.{Applied, CountsSteps, world_of, refused_by};
+ghost use Rattle.mq_router.specs.StandsFor.{StandsFor, AnswersFor, CountsFor};
+ghost use Rattle.mq_router.specs.router.Effects.{Applied, CountsSteps, world_of};
 ghost use Rattle.mq_router.specs.router.Effects.{copies_sent, steps_sent, steps_to};
 ghost use Rattle.mq_router.specs.router.Effects.{counts_now, copies_now, queued_now};
-ghost use Rattle.mq_router.specs.router.Effects.{members_now, sender_conditions};
+ghost use Rattle.mq_router.specs.router.Effects.{members_now};
 ghost use Rattle.mq_world.specs.Views.{limits_of, request_of, reply_of};
 ghost use Rattle.mq_world.specs.Views.{options_of};
-ghost use Rattle.mq_subscriptions.specs.SubFilters.{sub_filter_row, IsAskedBy};
+ghost use Rattle.mq_subscriptions.specs.SubFilters.{sub_filter_row};
 ghost use Rattle.mq_world.specs.Views.{copies_in};
 ghost use Rattle.mq_subscriptions.specs.Turns.{turns_in};
 ghost use Rattle.mq_router.specs.router.Views.{published_message};
 ghost use Rattle.mq_world.specs.Views.{message_of};
 ghost use Rattle.mq_sessions.specs.Views.{queue_item_of};
 
+mod checks;
 mod ended;
 mod started;
 
 use crate::delivery::{Deliveries, make_copies};
 use crate::replies::{published, reason_to_leave, with_reason};
-use crate::texts::{is_shared_no_local, parse_filter, parse_name, read_access};
+use crate::texts::read_access;
 use ended::end_sessions;
 use mq_acl::Acl;
 use mq_retained::{Receiver, Retained};
-use mq_sessions::{Client, Clock, Readers, Sessions, may_write};
+use mq_sessions::{Clock, Readers, Sessions};
 use mq_subscriptions::Subscriptions;
-use mq_topic::{SubFilter, TopicName};
+use mq_topic::SubFilter;
 use mq_tree::Steps;
 use mq_world::{
     Answer, Command, Delivery, Limits, Message, Outcome, Refusal, SubscriptionOptions,
@@ -182,20 +181,6 @@ impl Router {
         }
     }
 
-    // The client of a command other than connect, whose id has to be valid, and which has to be connected.
-    fn check_client(&self, client: &str) -> Result<Client<'_>, Refusal>
-        ensures refused { refused_by result ≡ first_refusal
-            (client_conditions self.now.sessions client.now) }
-        ensures same { IfOk result (λ found. rc_str_bytes found.id.now ≡ client.now) }
-        ensures user { IfOk result (λ found.
-            option_copied found.user ≡ user_of self.now.sessions client.now) }
-    {
-        if !is_client_id(client) {
-            return Err(Refusal::ClientId);
-        }
-        self.sessions.connected(client).ok_or(Refusal::NotConnected)
-    }
-
     fn connect(
         &mut self,
         client: &str,
@@ -269,28 +254,6 @@ impl Router {
             copies,
             outcome: Outcome::Reason(options.qos),
         })
-    }
-
-    // The client's id and the filter of a subscribe that is not refused.
-    fn check_subscribe(
-        &self,
-        client: &str,
-        text: &str,
-        options: SubscriptionOptions,
-    ) -> Result<(RcStr, SubFilter), Refusal>
-        ensures ok { IfOk result (λ asked. (rc_str_bytes asked.0 ≡ client.now)
-            × IsAskedBy text.now asked.1
-            × (refusal (world_of self.now)
-            (world.Subscribe client.now text.now (options_of options)) ≡ None)) }
-        ensures err { IfErr result (λ refusal. Refuses (world_of self.now)
-            (world.Subscribe client.now text.now (options_of options)) refusal) }
-    {
-        let id = self.check_client(client)?.id.clone()?;
-        let sub_filter = parse_filter(self.alloc, text)?;
-        if is_shared_no_local(&sub_filter, options.no_local) {
-            return Err(Refusal::SharedNoLocal);
-        }
-        Ok((id, sub_filter))
     }
 
     // The copies of retained messages that a subscribe sends.
@@ -372,23 +335,6 @@ impl Router {
             return Err(Refusal::RetainedFull);
         }
         self.deliver(&message, steps)
-    }
-
-    // The client's id and the topic name of a publish, by a client that may write there.
-    fn check_publish(&self, client: &str, topic: &str) -> Result<(RcStr, TopicName), Refusal>
-        ensures ok { IfOk result (λ sender. (rc_str_bytes sender.0 ≡ client.now)
-            × (sender.1 ≡ topic.now)
-            × (first_refusal (sender_conditions self.now client.now topic.now) ≡ None)) }
-        ensures err { IfErr result (λ refusal. (refusal ≡ Refusal.Memory)
-            ⊎ (first_refusal (sender_conditions self.now client.now topic.now) ≡ Some refusal)) }
-    {
-        let publisher = self.check_client(client)?;
-        let id = publisher.id.clone()?;
-        let name = parse_name(self.alloc, topic)?;
-        if !may_write(&self.access, client, publisher.user, &name) {
-            return Err(Refusal::NotAuthorized);
-        }
-        Ok((id, name))
     }
 
     // All copies are made before anything changes; then the message is stored, or nothing changes; the turns and the copies
