@@ -1,5 +1,5 @@
 #!/usr/bin/env python3
-"""Writes crates/mq_calls/src/tests/scripts.rt: two worked rows of tests/rows, since a test reads no files.
+"""Writes crates/mq_calls/src/tests/scripts.rt: two worked rows of tests/rows, since the gate gives a test no files.
 
 Their lines of more than 1,000 bytes are left out, and the others renumbered: the scripts are cut at each byte. Run from the
 repository's top, whenever one of the rows changes: dev/hostile_scripts.py; with the argument --check it writes nothing and

@@ -1,10 +1,10 @@
 #!/usr/bin/env bash
 # Refuses each growth in turn, by a preloaded malloc (tests/refused.c): the nth growth fails, for each n, until none is
-# met. First in the calls that mq_refused makes, without a script and over each worked row; then in the built program,
-# over some command lines. '-v' shows how many growths were refused in each trial.
+# met. First in the calls that tests of mq_calls make, without a script and over each worked row; then in the built
+# program, over some command lines. '-v' shows how many growths were refused in each trial.
 set -uo pipefail
 cd "$(dirname "$0")/.."
-refused=$PWD/crates/mq_refused/out/mq_refused
+tests=$PWD/crates/mq_calls/out/mq_calls_tests
 program=$PWD/crates/mqroute/out/mqroute
 verbose=${1-}
 passed=0
@@ -19,8 +19,8 @@ say() { # WHETHER_RIGHT TEXT
     fi
 }
 
-if [ ! -x "$refused" ] || [ ! -x "$program" ]; then
-    echo "refused: there is no $refused or no $program: run 'rt ci' first"
+if [ ! -x "$tests" ] || [ ! -x "$program" ]; then
+    echo "refused: there is no $tests or no $program: run 'rt ci' first"
     exit 1
 fi
 work=$(mktemp -d)
@@ -28,25 +28,26 @@ trap 'rm -rf "$work"' EXIT
 kit=$(dirname "$(dirname "$(readlink -f "$(command -v rt)")")")
 "$kit/toolchain/bin/clang" -O2 -shared -fPIC -nostdlib -fuse-ld=lld -o "$work/refused.so" tests/refused.c || exit 1
 
-# A line for each trial: its call, what it is about, and how many growths were refused or what was wrong.
-try_calls() { # NAME ARGUMENTS..
+# A line for each trial: its call, what it is about, and how many growths were refused. Where one goes wrong, its call
+# stands last, and what is wrong with it.
+try_calls() { # NAME TEST ARGUMENTS..
     local name=$1
     shift
-    LD_PRELOAD=$work/refused.so "$refused" "$@" > "$work/told"
+    LD_PRELOAD=$work/refused.so "$tests" "tests::refused::$1" "${@:2}" > "$work/told" 2>&1
     local status=$?
     [ "$verbose" = -v ] && sed "s|^|$name: |" "$work/told"
     cat "$work/told" >> "$work/all"
-    say "$status" "$name: status $status; $(grep -a WRONG "$work/told" | head -5 | paste -s -d ';')"
+    say "$status" "$name: status $status; $(tail -n 3 "$work/told" | paste -s -d ';')"
 }
 
-try_calls calls
+try_calls calls growths_of_calls
 for script in tests/rows/*.jsonl; do
     # Each command is tried over the whole script: one of a thousand lines would take minutes.
     [ "$(wc -l < "$script")" -lt 100 ] || continue
     row=${script%.jsonl}
     args=()
     [ -e "$row.args" ] && mapfile -t args < "$row.args"
-    try_calls "$row" "$row.out" ${args[@]+"${args[@]}"} "$script"
+    try_calls "$row" growths_of_a_row "$row.out" ${args[@]+"${args[@]}"} "$script"
 done
 
 # Each kind of call met a refusal somewhere, so that none is tried in vain.

@@ -16,10 +16,10 @@ import sys
 
 TOP = pathlib.Path(__file__).resolve().parent.parent
 
-# The crates that a router is made of, and those that may count what they like.
+# The crates that a router is made of, and the one of tests, which may count what it likes.
 ROUTER = ["mq_router", "mq_subscriptions", "mq_retained", "mq_sessions", "mq_ends", "mq_world", "mq_acl", "mq_tree",
           "mq_topic"]
-TESTS_AND_TOOLS = {"mq_calls", "mq_refused"}
+TESTS = "mq_calls"
 
 MADE_OF = {
     "Router":
@@ -93,7 +93,7 @@ def is_apply(path, headers):
 def steps_faults():
     found = 0
     for crate in crates():
-        if crate in TESTS_AND_TOOLS:
+        if crate == TESTS:
             continue
         for path, text in sources(crate):
             lines = text.split("\n")

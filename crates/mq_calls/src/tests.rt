@@ -3,6 +3,7 @@
 mod access;
 mod devices;
 mod example;
+mod refused;
 mod runs;
 mod scripts;
 mod streams;

@@ -3,5 +3,5 @@ use mq_example::sent;
 
 #[test]
 fn a_client_is_sent_what_it_publishes(rt: HostRuntime) {
-    assert_eq!(rt; sent(rt.alloc()), Ok(1));
+    assert!(rt; sent(rt.alloc()) == Ok(1));
 }

@@ -47,22 +47,19 @@ fn interrupted_reads(rt: HostRuntime) {
     let mut source = StdSource::new(Interrupted::new());
     let mut piece = [0; 4];
     let calls = (source.read(&mut piece), source.read(&mut piece));
-    assert_eq!(rt; calls, (Err(DeviceFault), Ok(4)));
+    assert!(rt; calls == (Err(DeviceFault), Ok(4)));
 }
 
 #[test]
 fn interrupted_writes(rt: HostRuntime) {
     let mut sink = StdSink::new(Interrupted::new());
     let calls = (sink.write(b"a"), sink.write(b"a"));
-    assert_eq!(rt; calls, (Err(DeviceFault), Ok(1)));
+    assert!(rt; calls == (Err(DeviceFault), Ok(1)));
 }
 
 #[test]
 fn interrupted_flushes(rt: HostRuntime) {
     let mut sink = StdSink::new(Interrupted::new());
     let flushed = sink.flush();
-    assert_eq!(rt;
-        (flushed, sink.into_inner().was_interrupted),
-        (Err(DeviceFault), true)
-    );
+    assert!(rt; flushed == Err(DeviceFault) && sink.into_inner().was_interrupted);
 }

@@ -1,5 +1,5 @@
-//! Topic names, topic filters and subscription texts: faults and clones.
-use mq_topic::{LevelText, SubFilter, TopicFault, TopicFilter, TopicName};
+//! Topic names and subscription texts: the faults of a text.
+use mq_topic::{SubFilter, TopicFault, TopicName};
 use std::alloc::Global;
 
 fn name_fault(alloc: Global, text: &str) -> Option<TopicFault> {
@@ -21,7 +21,10 @@ fn faults_of_names(rt: HostRuntime) {
     ];
     for (text, times, fault) in cases {
         let name = text.repeat(rt.alloc(), times).expect(&rt, "memory");
-        assert_eq!(rt; name_fault(rt.alloc(), name.as_str()), Some(fault));
+        assert!(rt;
+            name_fault(rt.alloc(), name.as_str()) == Some(fault),
+            "{text}"
+        );
     }
 }
 
@@ -37,21 +40,9 @@ fn faults_of_subscriptions(rt: HostRuntime) {
         ("sport+", TopicFault::Wildcard),
     ];
     for (text, fault) in cases {
-        assert_eq!(rt; subscription_fault(rt.alloc(), text), Some(fault), "{text}");
+        assert!(rt;
+            subscription_fault(rt.alloc(), text) == Some(fault),
+            "{text}"
+        );
     }
-}
-
-#[test]
-fn clones(rt: HostRuntime) {
-    let alloc = rt.alloc();
-    let name = TopicName::parse(alloc, "a//b").expect(&rt, "a name");
-    assert_eq!(rt; name.clone().expect(&rt, "memory").text(), "a//b");
-    let filter = TopicFilter::parse(alloc, "+/tennis/#").expect(&rt, "a filter");
-    assert_eq!(rt; filter.clone().expect(&rt, "memory").text(), "+/tennis/#");
-    let shared = SubFilter::parse(alloc, "$share/g/a/+").expect(&rt, "a shared filter");
-    let shared = shared.clone().expect(&rt, "memory");
-    assert_eq!(rt;
-        (shared.share.as_deref(), shared.filter.text()),
-        (Some("g"), "a/+")
-    );
 }

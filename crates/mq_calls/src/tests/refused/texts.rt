@@ -1,8 +1,8 @@
 //! The texts that are tried: those of the worked rows on parses, access lists and command lines, and keys of a tree.
 
-pub const NAMES: [&str; 4] = ["", "a+", "a\0", "/"];
+pub(crate) const NAMES: [&str; 4] = ["", "a+", "a\0", "/"];
 
-pub const FILTERS: [&str; 7] = [
+pub(crate) const FILTERS: [&str; 7] = [
     "#",
     "+",
     "+/tennis/#",
@@ -12,7 +12,7 @@ pub const FILTERS: [&str; 7] = [
     "a/#/b",
 ];
 
-pub const SUBSCRIPTIONS: [&str; 10] = [
+pub(crate) const SUBSCRIPTIONS: [&str; 10] = [
     "$share//t",
     "$share/g",
     "$share/g/",
@@ -26,24 +26,24 @@ pub const SUBSCRIPTIONS: [&str; 10] = [
 ];
 
 /// What stands before the filter in texts at the limits.
-pub const SHARE: &str = "$share/g/";
+pub(crate) const SHARE: &str = "$share/g/";
 
 /// How many bytes a text may have, and how many slashes.
-pub const MOST_BYTES: usize = 65_535;
+pub(crate) const MOST_BYTES: usize = 65_535;
 
-pub const MOST_SLASHES: usize = 199;
+pub(crate) const MOST_SLASHES: usize = 199;
 
-pub const KEYS: [&str; 8] = ["a/#", "a", "+", "#", "/x", "a/b", "a/b/c/d/e", "$x"];
+pub(crate) const KEYS: [&str; 8] = ["a/#", "a", "+", "#", "/x", "a/b", "a/b/c/d/e", "$x"];
 
 /// More keys, beside one another: so many that a map of the tree splits.
-pub const NEIGHBOURS: [&str; 16] = [
+pub(crate) const NEIGHBOURS: [&str; 16] = [
     "s/0", "s/1", "s/2", "s/3", "s/4", "s/5", "s/6", "s/7", "s/8", "s/9", "s/10", "s/11", "s/12",
     "s/13", "s/14", "s/15",
 ];
 
-pub const LOOKED_UP: [&str; 4] = ["a", "a/b", "$x", "/x"];
+pub(crate) const LOOKED_UP: [&str; 4] = ["a", "a/b", "$x", "/x"];
 
-pub const LISTS: [&str; 15] = [
+pub(crate) const LISTS: [&str; 15] = [
     "topic read a b",
     "# c\n\ntopic a b",
     "topic read",
@@ -61,7 +61,7 @@ pub const LISTS: [&str; 15] = [
     "topic read a/#\npattern deny a/%u\npattern read %u/#\nuser b\ntopic readwrite a/b c/#\n",
 ];
 
-pub const COMMAND_LINES: [&str; 6] = [
+pub(crate) const COMMAND_LINES: [&str; 6] = [
     "mqroute",
     "mqroute --acl-file f s",
     "mqroute -",

@@ -8,13 +8,13 @@ const ARM: usize = 33_554_432;
 /// The request for so many bytes is refused where a growth was.
 const MET: usize = 50_331_649;
 
-/// Has the nth growth from now on refused, and none for 0. It answers whether the allocator is there that does so.
-pub fn refuse(alloc: Global, nth: u32) -> bool {
-    is_refused(alloc, ARM + nth as usize)
+/// Has the nth growth from now on refused, and none for 0.
+pub(crate) fn refuse(alloc: Global, nth: u32) {
+    is_refused(alloc, ARM + nth as usize);
 }
 
 /// Whether a growth was refused since then. From now on none is.
-pub fn was_refused(alloc: Global) -> bool {
+pub(crate) fn was_refused(alloc: Global) -> bool {
     let was_met = is_refused(alloc, MET);
     refuse(alloc, 0);
     was_met
