@@ -1,5 +1,8 @@
-use Rattle.std.proofs.Common.{rules}
+use Rattle.std.proofs.Common.{length, ap, arith}
+use Rattle.std.specs.Map.{keys_of}
+use Rattle.mq_tree.specs.Entries.{capped}
+use Rattle.mq_tree.specs.Prefixes.{prefixes}
 use Rattle.mq_tree.proofs.tree.LevelTree.nodes.Goals as goal
 
 pub returns : goal.returns
-returns c = search rules
+returns g c = omega (arith, ap (λ es. capped (length (prefixes (keys_of es)))) c.self.view_is)
