@@ -2,7 +2,7 @@ use Rattle.std.proofs.Common.{◌∙◌, ◌++◌, sym, ap, map, List}
 use Rattle.std.proofs.lemmas.Simd.{map-map}
 use Rattle.mq_world.specs.World.{Message, Copy}
 use Rattle.mq_router.specs.router.Effects.{member_copy}
-use Rattle.mq_router.specs.delivery.Copies.{copies_by}
+use Rattle.mq_router.specs.delivery.Copies.{copies_by, queue_items_by}
 use Rattle.mq_subscriptions.specs.Matches.{match_views}
 use Rattle.mq_router.specs.delivery.Copies.{by_client}
 use Rattle.mq_world.specs.Views.{message_of}
@@ -22,3 +22,10 @@ returns-clause-copies c =
     ∙ ap (λ o. own (message_of o) ++ map (λ t. member_copy (message_of o) (turn_of t))
     c.args.served.items) c.in_ok-outgoing.ensures
     ∙ ap (λ l. own m ++ l) (sym (map-map (member_copy m) turn_of c.args.served.items))
+
+pub returns-clause-queued : goal.returns-clause-queued
+returns-clause-queued c =
+    c.in_ok-copies.ensures.queued
+    ∙ ap (λ o. queue_items_by c.args.limit c.args.readers.now.access.now
+    c.args.readers.now.sessions.now (message_of o) o.deadline
+    (by_client (match_views c.args.matches.now))) c.in_ok-outgoing.ensures

@@ -1,4 +1,4 @@
-use Rattle.std.proofs.Common.{◌≡◌, ◌∙◌, ◌++◌, [], sym, ap, map, List}
+use Rattle.std.proofs.Common.{◌≡◌, ◌∙◌, ◌++◌, [], sym, ap, subst, map, List}
 use Rattle.std.specs.List.{filter}
 use Rattle.std.proofs.lemmas.Result.{IfOk-weaker}
 use Rattle.mq_world.specs.World.{Subscription}
@@ -11,14 +11,25 @@ use Rattle.mq_router.specs.delivery.Copies.{gives_options}
 use Rattle.mq_router.specs.delivery.Summaries.{summary_for}
 use Rattle.mq_world.specs.Views.{message_of}
 use Rattle.mq_sessions.specs.Views.{queue_item_of}
+use Rattle.mq_subscriptions.specs.Filters.{AreAtFilters}
 use Rattle.mq_subscriptions.specs.Turns.{turns_in}
-use Rattle.mq_subscriptions.specs.Matches.{match_views, options_among}
+use Rattle.mq_subscriptions.specs.Matches.{match_views, options_among, AreByClient}
 use Rattle.mq_router.specs.delivery.Copies.{by_client}
 use Rattle.mq_router.proofs.ClientLemmas.{sorted-by_client, lookup-by_client, options-unshared}
 use Rattle.mq_router.proofs.UnsharedCopies.{unshared-gathered, unshared-queued, options-matching}
 use Rattle.mq_router.proofs.GroupLemmas.{members-matching}
 use Rattle.mq_router.proofs.NothingLemmas.{empty-is, no-copies, no-queued, no-members}
 use Rattle.mq_router.proofs.delivery.make_copies.Goals as goal
+
+pub members_served-requires : goal.members_served-requires
+members_served-requires c =
+    subst (λ found. AreAtFilters c.args.message.now.topic.now (map (λ a. a.now) found))
+    (sym c.as_slice-found.ensures.value) c.in_ok-candidates.ensures.order
+
+pub made_for-requires : goal.made_for-requires
+made_for-requires c =
+    subst (λ ms. AreByClient (match_views ms)) (sym c.as_slice.ensures.value)
+    c.in_ok-matches.ensures.sorted
 
 pub returns-then-is_empty-clause-served : goal.returns-then-is_empty-clause-served
 returns-then-is_empty-clause-served c =

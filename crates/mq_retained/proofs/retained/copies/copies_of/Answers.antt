@@ -1,9 +1,8 @@
-use Rattle.std.proofs.lemmas.Grind.{common_steps}
-use Rattle.std.proofs.Common.{◌≡◌, ◌∙◌, ◌<◌, ◌+◌, ◌++◌, ◌∷◌, [], ◌^◌, ap, sym, subst, map, take, arith}
+use Rattle.std.proofs.Common.{◌≡◌, ◌∙◌, ◌<◌, ◌+◌, ◌++◌, ◌∷◌, [], ◌^◌, ap, sym, subst, map, take}
 use Rattle.std.proofs.Common.{get_or, true, false}
 use Rattle.std.specs.List.{filter}
 use Rattle.std.specs.Option.{IfSome, option_copied}
-use Rattle.std.proofs.lemmas.List.{map_push}
+use Rattle.std.proofs.lemmas.List.{map_push, take_all}
 use Rattle.mq_retained.specs.Stored.{may_get, message_in}
 use Rattle.mq_world.specs.Retained.{retained_copy}
 use Rattle.mq_world.specs.Views.{copy_of}
@@ -53,4 +52,11 @@ loop-stored-preserved-then-not-may_get c =
     c.loop-stored-test.true fails)
 
 pub returns : goal.returns
-returns c = grind (arith, common_steps)
+returns c =
+    let r = c.args.receiver.now in
+    let s = subscription_for r in
+    let p = may_get r.access.now (option_copied r.user) s in
+    c.loop-stored.invariant
+    ∙ ap (λ found. map (retained_copy r.clock.moment s)
+    (filter p (map (λ v. message_in v.now) found)))
+    (take_all c.loop-stored.stored-index c.args.found.now c.loop-stored-test.false)

@@ -1,4 +1,4 @@
-use Rattle.std.proofs.Common.{◌≡◌, ◌∙◌, sym, ap, subst, map, Option, Err, string_bytes}
+use Rattle.std.proofs.Common.{◌≡◌, ◌∙◌, ◌+◌, ℕ, sym, ap, subst, map, Option, Err, string_bytes}
 use Rattle.std.proofs.lemmas.Result.{err_from_is_err_and}
 use Rattle.std.specs.Option.{option_map}
 use Rattle.mq_topic.specs.Texts.{share_of}
@@ -12,7 +12,7 @@ use Rattle.mq_subscriptions.specs.SubFilters.{sub_filter_row}
 use Rattle.mq_subscriptions.specs.Turns.{upsert}
 use Rattle.mq_subscriptions.proofs.InTurn.{same-is, same-then}
 use Rattle.mq_router.specs.StandsFor.{State}
-use Rattle.mq_router.specs.router.Effects.{Does, world_of, copies_sent}
+use Rattle.mq_router.specs.router.Effects.{Does, world_of, copies_sent, steps_sent}
 use Rattle.mq_router.specs.router.Views.{state_of}
 use Rattle.mq_router.proofs.RouterLemmas.{refused-applied, subscribe-does}
 use Rattle.mq_router.proofs.router.Router.subscribe.Goals as goal
@@ -64,3 +64,18 @@ returns-clause-applied c =
           ∙ ap (λ (x : Subscription). upsert x s.subscriptions) is));
       keys = λ old. c.in_ok-insert.ensures.keys;
     }))
+
+pub returns-clause-counted : goal.returns-clause-counted
+returns-clause-counted c =
+    let asked = c.in_ok-id.ensures.ok in
+    let steps : Subscription → ℕ = λ x. c.args.steps.now + steps_sent c.args.self.now x in
+    let named : Option Text → Text → Subscription = λ sh f. record {
+      client = c.args.client.now;
+      share = sh;
+      filter = f;
+      options = options_of c.args.options;
+    } in
+    c.in_ok-copies.ensures.count
+    ∙ ap (λ k. steps (sub_filter_row k c.in_ok-id.sub_filter c.args.options)) asked.0
+    ∙ ap (λ sh. steps (named sh c.in_ok-id.sub_filter.filter)) asked.1.0
+    ∙ ap (λ f. steps (named (share_of c.args.text.now) f)) asked.1.1

@@ -13,3 +13,9 @@ returns-clause-ok c =
     interval) c.args.sessions.now) c.in_ok-id.ensures.ok
     ∙ ap (λ u. with_row session_cmp (new_session c.args.client.now u interval) c.args.sessions.now)
     c.in_ok-user.ensures
+
+pub resumed_copies-requires : goal.resumed_copies-requires
+resumed_copies-requires c = c.requires
+
+pub returns-clause-resumed : goal.returns-clause-resumed
+returns-clause-resumed c = c.in_ok-resumed.ensures

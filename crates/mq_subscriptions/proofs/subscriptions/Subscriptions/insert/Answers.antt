@@ -1,10 +1,12 @@
-use Rattle.std.proofs.Common.{◌∙◌, ◌||◌, ◌&&◌, sym, ap, not, Bool, Option}
+use Rattle.std.proofs.Common.{◌∙◌, ◌||◌, ◌&&◌, sym, ap, subst, not, Bool, Option}
 use Rattle.std.specs.List.{list_any}
 use Rattle.std.specs.Rc.{rc_str_bytes}
 use Rattle.mq_topic.specs.Texts.{share_of}
 use Rattle.mq_world.specs.Lists.{Text}
 use Rattle.mq_world.specs.World.{Subscription, has_key}
+use Rattle.mq_world.specs.Turns.{SameInTurn}
 use Rattle.mq_subscriptions.specs.SubFilters.{sub_filter_row, has_sub_filter}
+use Rattle.mq_subscriptions.specs.Turns.{upsert}
 use Rattle.mq_subscriptions.specs.Filters.{SubscriptionsView, text_key, all_rows, is_listed}
 use Rattle.mq_subscriptions.proofs.AnyLemmas.{listed-joined, listed-again, listed-undone}
 use Rattle.mq_subscriptions.proofs.KeyLemmas.{kept-keys}
@@ -71,3 +73,17 @@ returns-then-contains-clause-keys c = kept-keys c.insert_in.new.tree c.insert_in
 
 pub returns-in-Ok-clause-keys : goal.returns-in-Ok-clause-keys
 returns-in-Ok-clause-keys c = kept-keys c.insert_in-2.new.tree c.insert_in-2.ensures.kept
+
+pub returns-then-contains-clause-ok : goal.returns-then-contains-clause-ok
+returns-then-contains-clause-ok c =
+    let client = rc_str_bytes c.args.client.now in
+    let x : Subscription = sub_filter_row client c.args.sub_filter.now c.args.options in
+    subst (λ (k : SubscriptionsView). SameInTurn (all_rows c.insert_in.new.tree)
+    (upsert x k.rows)) c.self.view_is c.in_ok-insert_in.ensures.ok
+
+pub returns-in-Ok-clause-ok : goal.returns-in-Ok-clause-ok
+returns-in-Ok-clause-ok c =
+    let client = rc_str_bytes c.args.client.now in
+    let x : Subscription = sub_filter_row client c.args.sub_filter.now c.args.options in
+    subst (λ (k : SubscriptionsView). SameInTurn (all_rows c.insert_in-2.new.tree)
+    (upsert x k.rows)) c.self.view_is c.in-Ok.ensures.ok

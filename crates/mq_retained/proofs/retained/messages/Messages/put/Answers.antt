@@ -1,4 +1,4 @@
-use Rattle.std.proofs.Common.{◌≡◌, ◌∙◌, ℕ, true, false, ap, sym, subst}
+use Rattle.std.proofs.Common.{◌≡◌, ◌∙◌, ℕ, true, false, ap, sym, subst, rules}
 use Rattle.std.specs.Prelude.{is_some}
 use Rattle.std.specs.BTreeMap.{insert_entry}
 use Rattle.std.specs.Map.{lookup}
@@ -30,3 +30,12 @@ invariant_of-self-else-is_none c =
     subst (λ (rest : Entries Stored). AreCounted c.self.inside.count rest)
     (sym c.in_ok-older.ensures.ok)
     (put-again c.self.inside.count k c.args.stored tree some c.self.invariant)
+
+pub returns-in_err-older-clause-err : goal.returns-in_err-older-clause-err
+returns-in_err-older-clause-err c = search rules
+
+pub returns-in_err-older-clause-absent : goal.returns-in_err-older-clause-absent
+returns-in_err-older-clause-absent c = search rules
+
+pub returns-clause-ok : goal.returns-clause-ok
+returns-clause-ok c = search rules

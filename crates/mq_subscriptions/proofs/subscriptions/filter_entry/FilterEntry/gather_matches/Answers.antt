@@ -1,4 +1,5 @@
-use Rattle.std.proofs.Common.{◌≡◌, ◌∙◌, ◌++◌, [], ap, subst}
+use Rattle.std.proofs.Common.{◌≡◌, ◌∙◌, ◌++◌, [], ap, subst, arith}
+use Rattle.std.proofs.lemmas.Grind.{common_steps}
 use Rattle.mq_subscriptions.specs.Filters.{At, unshared_rows}
 use Rattle.mq_subscriptions.specs.Views.{texts}
 use Rattle.mq_subscriptions.specs.Matches.{match_views}
@@ -18,3 +19,6 @@ loop-client-init c =
     ≡ unshared_matches m a.rows) c.self.view_is
     (matches-at m c.self.inside.filter.value (texts c.self.inside.unshared.entries)
     c.self.inside.groups))
+
+pub loop-client-preserved : goal.loop-client-preserved
+loop-client-preserved c = grind (arith, common_steps)
