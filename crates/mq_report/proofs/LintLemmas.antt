@@ -2,6 +2,7 @@
 use Rattle.std.proofs.Common.{◌≡◌, ◌≢◌, ◌⊎◌, ⊎_elim, ℕ, ◌+◌, ◌<◌, Bool, true, false, not, ◌||◌}
 use Rattle.std.proofs.Common.{◌==◌, cond, List, [], ◌∷◌, ◌++◌, length, drop, get_or, Option, Some}
 use Rattle.std.proofs.Common.{None, Result, Ok, Err, All, refl, ap, sym, ◌∙◌, subst, append-nil}
+use Rattle.std.proofs.Common.{append_assoc}
 use Rattle.std.specs.List.{list_any, slice_split, onto_first, filter_map, cons_option}
 use Rattle.std.specs.List.{enumerate_from}
 use Rattle.std.specs.Option.{option_to_list}
@@ -168,3 +169,18 @@ faults_from number (line ∷ all) =
     ∙ listed (fault_at number (entry_of line))
     (filter_map (λ numbered. fault_at numbered.0 (entry_of numbered.1))
     (enumerate_from (number + 1) all))
+
+-- ---- one line
+-- what is added for a line, one after the other, is all that is odd about it
+pub line_added : (number : ℕ) (line : List ℕ) (a b c d : List Remark)
+    (entry comment tab : Option RemarkKind) → b ≡ a ++ remark_on number entry
+    → c ≡ b ++ remark_on number comment → d ≡ c ++ remark_on number tab
+    → entry ≡ entry_kind (entry_of line)
+    → comment ≡ kind_if (is_indented_comment line) IndentedComment
+    → tab ≡ kind_if (is_tabbed line) Tab → d ≡ a ++ line_remarks number line
+line_added number line a b c d entry comment tab first second third e f g =
+    third
+    ∙ ap (λ l. l ++ remark_on number tab) (second ∙ ap (λ l. l ++ remark_on number comment) first
+    ∙ append_assoc a (remark_on number entry) (remark_on number comment))
+    ∙ append_assoc a (remark_on number entry ++ remark_on number comment) (remark_on number tab)
+    ∙ (λ i. a ++ ((remark_on number (e i) ++ remark_on number (f i)) ++ remark_on number (g i)))

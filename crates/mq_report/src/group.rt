@@ -63,8 +63,7 @@ fn add(alloc: Global, groups: &mut Vec<Group>, difference: Difference) -> Result
         })?;
         return Ok(());
     };
-    add_to(&mut groups[place], difference)?;
-    Ok(())
+    add_to(&mut groups[place], difference)
 }
 
 /// The differences in groups of those that are alike, in the order of the first of each.

@@ -82,8 +82,7 @@ fn add_line(
     let tab = kind_if(is_tabbed(bytes), RemarkKind::Tab);
     add(remarks, number, entry)?;
     add(remarks, number, comment)?;
-    add(remarks, number, tab)?;
-    Ok(())
+    add(remarks, number, tab)
 }
 
 /// What is odd about the lines of the access list with this text, in their order: each fault, and not the first alone;

@@ -48,10 +48,9 @@ fn pair_of(alloc: Global, row: &Row, other: &Row) -> Result<Vec<Row>, AllocError
     ensures { IfOk result (λ pair. row_views pair.items
         ≡ as_grant (row_view row.now) ∷ (as_grant (row_view other.now) ∷ [])) }
 {
-    let mut pair = Vec::new(alloc);
-    pair.push(as_grant(row)?)?;
-    pair.push(as_grant(other)?)?;
-    Ok(pair)
+    let row = as_grant(row)?;
+    let other = as_grant(other)?;
+    Ok(vec![in alloc; row, other]?)
 }
 
 // Whether the other row makes the row needless.

@@ -138,11 +138,11 @@ pub(crate) fn client_gains<'a>(
     ensures each { IfOk result (λ found.
         All (IsGainOf start (option_copied user.entry) old.now new.now) found.items) }
 {
-    let mut gains = Vec::new(alloc);
     if is_barren(old, new) {
-        return Ok(gains);
+        return Ok(Vec::new(alloc));
     }
     let clients = clients(alloc, fresh, user, old, new)?;
+    let mut gains = Vec::new(alloc);
     for client in &clients {
         if gains.len() >= most {
             return Ok(gains);

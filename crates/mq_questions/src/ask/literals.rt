@@ -51,9 +51,7 @@ pub(crate) fn has_mark(mark: &str, remainders: &[Remainder]) -> bool
 pub(crate) fn only(alloc: Global, text: &str) -> Result<Vec<&str>, AllocError>
     ensures { IfOk result (λ all. (l : List ℕ) → is_among l all.items ≡ bytes_eq l text.entry.now) }
 {
-    let mut all = Vec::new(alloc);
-    all.push(text)?;
-    Ok(all)
+    Ok(vec![in alloc; text]?)
 }
 
 impl<'a> Literals<'a> {
@@ -154,9 +152,7 @@ impl<'a> Literals<'a> {
         ensures { IfOk result (λ all. (l : List ℕ) → is_among l all.items
             ≡ (bytes_eq l first.now || (bytes_eq l second.now || is_named l self.now))) }
     {
-        let mut all = Vec::new(alloc);
-        all.push(first)?;
-        all.push(second)?;
+        let mut all = vec![in alloc; first, second]?;
         let mut levels = self.list(alloc)?;
         all.append(&mut levels)?;
         Ok(all)

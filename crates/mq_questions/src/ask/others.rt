@@ -142,8 +142,8 @@ fn other_gains<'a>(
     ensures each { IfOk result
         (λ found. All (IsOtherGain start old.now new.now named.now) found.items) }
 {
-    let mut others = Vec::new(alloc);
     let users = users(alloc, fresh, old, new)?;
+    let mut others = Vec::new(alloc);
     for user in &users {
         if named.names(user) {
             continue;

@@ -1,5 +1,6 @@
 use Rattle.std.proofs.Common.{◌≡◌, ◌++◌, ◌∷◌, [], false, Some, All, sym, ◌∙◌, subst, ap}
 use Rattle.std.specs.Prelude.{position}
+use Rattle.std.proofs.lemmas.Result.{on_ok_weaker}
 use Rattle.mq_report.specs.Groups.{is_alike, JoinsGroup, IsGathering}
 use Rattle.mq_report.specs.declared.group.Group.{Group}
 use Rattle.mq_report.proofs.GroupLemmas.{gathering_joined, gathering_begun}
@@ -16,7 +17,7 @@ returns-in_default c = λ all s.
     (gathering_begun all c.args.groups.now.items new c.new.ensures.items unlike s)
 
 pub returns : goal.returns
-returns c = λ all s.
+returns c = on_ok_weaker c.add_to.result (λ joined all s.
     let d = c.args.difference in
     let found : position (λ group. is_alike group.first d) c.args.groups.now.items
     ≡ Some c.in-Some.place =
@@ -24,5 +25,5 @@ returns c = λ all s.
     c.deref.ensures.value) in
     gathering_joined all c.args.groups.now.items c.in-Some.place c.index_mut.result.now
     c.add_to.new.group d found
-    (subst (λ g. JoinsGroup g d c.add_to.new.group) c.index_mut.ensures.value
-    c.in_ok-add_to.ensures) s
+    (subst (λ g. JoinsGroup g d c.add_to.new.group) c.index_mut.ensures.value joined) s)
+    c.add_to.ensures
