@@ -1,13 +1,14 @@
 -- The sessions that end, one by one, and their subscriptions.
 use Rattle.std.proofs.Common.{◌≡◌, ℕ, ◌<◌, Bool, true, false, true≢false, ◌&&◌, ◌||◌, cond, not}
-use Rattle.std.proofs.Common.{List, [], ◌∷◌, None, length, refl, sym, ◌∙◌, ap, arith}
+use Rattle.std.proofs.Common.{List, [], ◌∷◌, None, Some, length, refl, sym, ◌∙◌, ap, arith, ◌≢◌}
 use Rattle.std.specs.List.{filter, list_any}
 use Rattle.std.proofs.Math.Bool.{or-true}
 use Rattle.mq_world.specs.Lists.{Text, same_text}
 use Rattle.mq_world.specs.World.{Session, Subscription, has_id}
 use Rattle.mq_world.specs.Sessions.{has_ended, is_among, is_connected}
 use Rattle.mq_world.specs.Refusals.{client_conditions, first_refusal, is_client_id}
-use Rattle.mq_world.specs.declared.refusal.Refusal.TheVariants.{ClientId, NotConnected}
+use Rattle.mq_world.specs.declared.refusal.Refusal.{Refusal}
+use Rattle.mq_world.specs.declared.refusal.Refusal.TheVariants.{ClientId, Memory, NotConnected}
 use Rattle.mq_router.specs.router.Effects.{lasts, without}
 use Rattle.mq_world.proofs.BoolLemmas.{pick}
 use Rattle.mq_world.proofs.ListLemmas.{filter-kept, filter-none, filter-same, length-filter-most}
@@ -27,6 +28,18 @@ connected-tested sessions id =
           ≡ first_refusal ((false, ClientId) ∷ (not b, NotConnected) ∷ []) → b ≡ true)
           [ true ↦ λ h. refl | false ↦ λ h. cc ]
       | false ↦ λ h. cc
+    ]
+
+-- no client is refused for lack of memory
+pub client-memory : (sessions : List Session) (id : Text) (r : Refusal)
+    → Some r ≡ first_refusal (client_conditions sessions id) → r ≢ Memory
+client-memory sessions id r =
+    elim (is_client_id id) as (λ v. Some r ≡ first_refusal ((not v, ClientId)
+    ∷ (not (is_connected sessions id), NotConnected) ∷ []) → r ≢ Memory) [
+      | true ↦ elim (is_connected sessions id) as (λ b. Some r
+          ≡ first_refusal ((false, ClientId) ∷ (not b, NotConnected) ∷ []) → r ≢ Memory)
+          [ true ↦ λ h k. cc | false ↦ λ h k. cc ]
+      | false ↦ λ h k. cc
     ]
 
 -- ## One is taken

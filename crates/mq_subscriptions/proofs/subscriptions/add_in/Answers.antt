@@ -1,10 +1,10 @@
-use Rattle.std.proofs.Common.{◌≡◌, ◌∙◌, ap, refl, List, Option, string_bytes}
+use Rattle.std.proofs.Common.{◌≡◌, ◌∙◌, ap, refl, sym, subst, List, Option, string_bytes}
 use Rattle.std.specs.Option.{option_copied, option_map}
 use Rattle.std.specs.Rc.{rc_str_bytes}
 use Rattle.mq_world.specs.Lists.{Text}
 use Rattle.mq_world.specs.World.{Subscription}
 use Rattle.mq_subscriptions.specs.Turns.{upsert}
-use Rattle.mq_subscriptions.specs.Filters.{At, row}
+use Rattle.mq_subscriptions.specs.Filters.{At, AreEntries, row}
 use Rattle.mq_subscriptions.proofs.InTurn.{same-is, same-then}
 use Rattle.mq_subscriptions.proofs.TreeLemmas.{tree-added, tree-added_kept, joined-live}
 use Rattle.mq_subscriptions.proofs.subscriptions.add_in.Goals as goal
@@ -41,3 +41,7 @@ returns-clause-kept c =
     (joined-live (row (option_copied c.as_deref.result) start.filter
     (rc_str_bytes c.args.client, c.args.options)) one.rows start.rows
     c.in_ok-insert.ensures.ok)
+
+pub returns-in_err-put-clause-kept : goal.returns-in_err-put-clause-kept
+returns-in_err-put-clause-kept c =
+    subst AreEntries (sym c.in_err-put.ensures.err) c.requires.kept

@@ -1,8 +1,10 @@
-use Rattle.std.proofs.Common.{◌≡◌, ◌∙◌, sym, ap, subst, Err, None, not}
+use Rattle.std.proofs.Common.{◌≡◌, ◌∙◌, sym, ap, subst, Err, None, not, ◌≢◌}
+use Rattle.std.specs.Result.{IfErr}
 use Rattle.std.proofs.lemmas.Result.{err_from_is_err_and}
 use Rattle.mq_world.specs.World.{Disconnect}
 use Rattle.mq_world.specs.Refusals.{first_refusal, client_conditions}
 use Rattle.mq_world.specs.World.{has_id}
+use Rattle.mq_world.specs.declared.refusal.Refusal.TheVariants.{Memory}
 use Rattle.mq_sessions.specs.Near.{AllReached}
 use Rattle.mq_router.specs.router.Views.{state_of}
 use Rattle.mq_router.specs.StandsFor.{State}
@@ -11,7 +13,7 @@ use Rattle.mq_world.specs.Views.{reply_of}
 use Rattle.mq_subscriptions.proofs.InTurn.{same-is}
 use Rattle.mq_router.proofs.RouterLemmas.{refused-applied, disconnect-client, disconnect-leaves}
 use Rattle.mq_router.proofs.RouterLemmas.{disconnect-accepted, disconnect-does}
-use Rattle.mq_router.proofs.EndedLemmas.{connected-tested}
+use Rattle.mq_router.proofs.EndedLemmas.{client-memory, connected-tested}
 use Rattle.mq_sessions.proofs.ReachedLemmas.{reached-left, reached-filter}
 use Rattle.mq_router.proofs.router.Router.disconnect.Goals as goal
 
@@ -81,3 +83,10 @@ returns-clause-applied c =
       same = same-is _ _ c.remove_client.ensures.rows;
       keys = λ old. c.remove_client.ensures.keys;
     }))
+
+pub returns-in_err-check_client-clause-no_memory : goal.returns-in_err-check_client-clause-no_memory
+returns-in_err-check_client-clause-no_memory c =
+    let p = err_from_is_err_and c.from_residual.result c.from_residual.ensures.1 in
+    subst (λ r. IfErr r (λ e. e ≢ Memory)) (sym (p.1 ∙ ap (λ e. Err e) p.2))
+    (client-memory c.args.self.now.sessions c.args.client.now c.in_err-check_client.field-0.0
+    c.in_err-check_client.ensures.refused)

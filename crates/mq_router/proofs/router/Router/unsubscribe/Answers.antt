@@ -1,16 +1,19 @@
 use Rattle.std.proofs.Common.{◌≡◌, ◌∙◌, sym, ap, subst, refl, inr, Err, None, if◌then◌else◌}
+use Rattle.std.proofs.Common.{◌≢◌}
+use Rattle.std.specs.Result.{IfErr}
 use Rattle.std.proofs.lemmas.Result.{err_from_is_err_and}
 use Rattle.mq_world.specs.World.{Unsubscribe}
 use Rattle.mq_world.specs.Refusals.{first_refusal, client_conditions}
 use Rattle.mq_world.specs.Answers.{reason}
 use Rattle.mq_world.specs.Views.{reply_of}
-use Rattle.mq_world.specs.declared.refusal.Refusal.TheVariants.{TopicFilter}
+use Rattle.mq_world.specs.declared.refusal.Refusal.TheVariants.{Memory, TopicFilter}
 use Rattle.mq_router.specs.router.Effects.{Does}
 use Rattle.mq_router.specs.router.Views.{state_of}
 use Rattle.mq_router.specs.StandsFor.{State}
 use Rattle.mq_subscriptions.proofs.InTurn.{same-is}
 use Rattle.mq_router.proofs.RouterLemmas.{refused-applied, unsubscribe-client, unsubscribe-filter}
 use Rattle.mq_router.proofs.RouterLemmas.{unsubscribe-accepted, unsubscribe-does}
+use Rattle.mq_router.proofs.EndedLemmas.{client-memory}
 use Rattle.mq_router.proofs.router.Router.unsubscribe.Goals as goal
 
 pub returns-in_err-check_client-clause-applied : goal.returns-in_err-check_client-clause-applied
@@ -50,3 +53,10 @@ returns-clause-applied c =
       same = same-is _ _ c.remove-existed.ensures.rows;
       keys = λ old. c.remove-existed.ensures.keys;
     }))
+
+pub returns-in_err-check_client-clause-no_memory : goal.returns-in_err-check_client-clause-no_memory
+returns-in_err-check_client-clause-no_memory c =
+    let p = err_from_is_err_and c.from_residual.result c.from_residual.ensures.1 in
+    subst (λ r. IfErr r (λ e. e ≢ Memory)) (sym (p.1 ∙ ap (λ e. Err e) p.2))
+    (client-memory c.args.self.now.sessions c.args.client.now c.in_err-check_client.field-0.0
+    c.in_err-check_client.ensures.refused)

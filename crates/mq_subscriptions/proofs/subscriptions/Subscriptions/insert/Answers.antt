@@ -8,6 +8,7 @@ use Rattle.mq_world.specs.Turns.{SameInTurn}
 use Rattle.mq_subscriptions.specs.SubFilters.{sub_filter_row, has_sub_filter}
 use Rattle.mq_subscriptions.specs.Turns.{upsert}
 use Rattle.mq_subscriptions.specs.Filters.{SubscriptionsView, text_key, all_rows, is_listed}
+use Rattle.mq_subscriptions.specs.Filters.{AreListed}
 use Rattle.mq_subscriptions.proofs.AnyLemmas.{listed-joined, listed-again, listed-undone}
 use Rattle.mq_subscriptions.proofs.KeyLemmas.{kept-keys}
 use Rattle.mq_subscriptions.proofs.subscriptions.Subscriptions.insert.Goals as goal
@@ -87,3 +88,12 @@ returns-in-Ok-clause-ok c =
     let x : Subscription = sub_filter_row client c.args.sub_filter.now c.args.options in
     subst (λ (k : SubscriptionsView). SameInTurn (all_rows c.insert_in-2.new.tree)
     (upsert x k.rows)) c.self.view_is c.in-Ok.ensures.ok
+
+pub invariant_of-self : goal.invariant_of-self
+invariant_of-self c =
+    subst (λ tree. AreListed tree c.self.inside.lists) (sym c.in_err-insert_in.ensures.err)
+    c.self.invariant
+
+pub invariant_of-self-in_err-insert : goal.invariant_of-self-in_err-insert
+invariant_of-self-in_err-insert c =
+    subst (AreListed c.self.inside.tree) (sym c.in_err-insert.ensures.err) c.self.invariant

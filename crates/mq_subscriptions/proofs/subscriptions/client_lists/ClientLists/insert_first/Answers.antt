@@ -1,8 +1,8 @@
-use Rattle.std.proofs.Common.{◌≡◌, ◌∙◌, ◌||◌, ap, subst, None}
+use Rattle.std.proofs.Common.{◌≡◌, ◌∙◌, ◌||◌, ap, subst, sym, None}
 use Rattle.std.specs.Map.{lookup}
 use Rattle.std.specs.Rc.{rc_str_bytes}
 use Rattle.mq_subscriptions.specs.Filters.{FilterLists, is_text, text_key, has_filter_key}
-use Rattle.mq_subscriptions.specs.Filters.{is_in_list}
+use Rattle.mq_subscriptions.specs.Filters.{NoneEmpty, is_in_list}
 use Rattle.mq_subscriptions.specs.SubFilters.{ListsMore}
 use Rattle.mq_subscriptions.specs.Views.{texts}
 use Rattle.mq_subscriptions.proofs.ListedLemmas.{added-first, added-live}
@@ -29,5 +29,12 @@ invariant_of-self-2 c = record {
       c.insert-2.new.self.entries c.in_ok-insert-2.ensures.entries
       (added-live (text_key c.args.text.now) c.new-filters.result c.insert.new.self
       c.in_ok-insert.ensures.ok) c.self.invariant.live;
+  ordered = c.insert-2.ensures.ordered;
+}
+
+pub invariant_of-self : goal.invariant_of-self
+invariant_of-self c = record {
+  live = subst (λ es. NoneEmpty (texts es)) (sym c.in_err-insert-2.ensures.err)
+      c.self.invariant.live;
   ordered = c.insert-2.ensures.ordered;
 }

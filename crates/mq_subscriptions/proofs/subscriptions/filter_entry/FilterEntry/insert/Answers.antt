@@ -9,6 +9,7 @@ use Rattle.mq_subscriptions.specs.Turns.{upsert}
 use Rattle.mq_subscriptions.specs.Filters.{At, row, unshared_rows, group_rows}
 use Rattle.mq_subscriptions.specs.Views.{texts}
 use Rattle.mq_subscriptions.proofs.AtLemmas.{at-joined-unshared, at-joined-shared, unshared-joined}
+use Rattle.mq_subscriptions.proofs.AtLemmas.{is_here}
 use Rattle.mq_subscriptions.proofs.subscriptions.filter_entry.FilterEntry.insert.Goals as goal
 
 pub returns-in_ok-insert-in-None-clause-ok : goal.returns-in_ok-insert-in-None-clause-ok
@@ -40,3 +41,16 @@ returns-in-Some-clause-ok c =
     (λ e. at-joined-shared f client c.args.options c.in-Some.share.now
     (texts c.self.inside.unshared.entries) c.self.inside.groups c.insert-in-Some.new.self (e f))
     c.insert-in-Some.ensures.ok))
+
+pub returns-in_ok-insert-in-None-clause-here : goal.returns-in_ok-insert-in-None-clause-here
+returns-in_ok-insert-in-None-clause-here c =
+    is_here c.self.inside.filter.value (texts c.insert.new.self.entries) c.self.inside.groups _ refl
+
+pub returns-in_err-insert-in-None-clause-here : goal.returns-in_err-insert-in-None-clause-here
+returns-in_err-insert-in-None-clause-here c =
+    is_here c.self.inside.filter.value (texts c.insert.new.self.entries) c.self.inside.groups _ refl
+
+pub returns-in-Some-clause-here : goal.returns-in-Some-clause-here
+returns-in-Some-clause-here c =
+    is_here c.self.inside.filter.value (texts c.self.inside.unshared.entries)
+    c.insert-in-Some.new.self _ refl

@@ -1,4 +1,4 @@
-use Rattle.std.proofs.Common.{◌∙◌, ap}
+use Rattle.std.proofs.Common.{◌∙◌, ap, rules}
 use Rattle.mq_subscriptions.specs.Filters.{has_client}
 use Rattle.std.specs.Rc.{rc_str_bytes}
 use Rattle.mq_subscriptions.specs.Views.{texts}
@@ -13,3 +13,6 @@ returns-clause-ok c =
     c.len-count.ensures.unique
     ∙ ap (with_one (has_client (rc_str_bytes c.args.client))
     (rc_str_bytes c.args.client, c.args.options)) c.self.view_is
+
+pub returns-in_err-insert-clause-err : goal.returns-in_err-insert-clause-err
+returns-in_err-insert-clause-err c = search rules

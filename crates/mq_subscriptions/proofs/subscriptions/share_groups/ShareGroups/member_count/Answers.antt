@@ -1,6 +1,7 @@
 use Rattle.std.proofs.Common.{◌≡◌, ◌∙◌, ◌+◌, ℕ, length, sym, ap, arith}
 use Rattle.std.specs.List.{sum_by}
 use Rattle.std.specs.Map.{values_of}
+use Rattle.std.proofs.lemmas.List.Sums.{sum_by-cons}
 use Rattle.mq_tree.specs.Entries.{capped}
 use Rattle.mq_subscriptions.specs.Filters.{GroupList, group_rows}
 use Rattle.mq_subscriptions.proofs.CountLemmas.{group-number}
@@ -16,3 +17,15 @@ loop-group-init c =
           ∙ ap (λ (gs : GroupList). capped (length (group_rows f gs))) c.self.view_is,
       omega arith,
     )
+
+pub loop-group-preserved : goal.loop-group-preserved
+loop-group-preserved c =
+    let rest = ap (sum_by length) c.in-Some.ensures.steps in
+    let first = sum_by-cons length c.in-Some.group.now c.next.new.self in (
+      λ f. omega (arith, c.loop-group.invariant.0 f, rest, first),
+      omega arith,
+    )
+
+pub returns : goal.returns
+returns c = λ f.
+    omega (arith, c.loop-group.invariant.0 f, ap (sum_by length) c.in-None.ensures.steps.0)
