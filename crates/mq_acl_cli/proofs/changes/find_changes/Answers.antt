@@ -1,4 +1,5 @@
 use Rattle.std.proofs.Common.{rules, subst, sym}
+use Rattle.std.proofs.lemmas.Result.{IfOk-from_err}
 use Rattle.mq_acl_cli.specs.Answers.{AreRows}
 use Rattle.mq_acl_cli.proofs.changes.find_changes.Goals as goal
 
@@ -20,3 +21,17 @@ pub comparison_failure-requires-clause-new : goal.comparison_failure-requires-cl
 comparison_failure-requires-clause-new c =
     subst (AreRows c.args.new.text.now) (sym c.deref-in-Err-2.ensures.value)
     c.in_ok-new_rows.ensures.ok
+
+pub returns-in-Ok-clause-err : goal.returns-in-Ok-clause-err
+returns-in-Ok-clause-err c = tt
+
+pub returns-clause-ok : goal.returns-clause-ok
+returns-clause-ok c = tt
+
+pub returns-in_err-old_rows-clause-ok : goal.returns-in_err-old_rows-clause-ok
+returns-in_err-old_rows-clause-ok c =
+    IfOk-from_err c.from_residual.result _ c.from_residual.ensures.0
+
+pub returns-in_err-new_rows-clause-ok : goal.returns-in_err-new_rows-clause-ok
+returns-in_err-new_rows-clause-ok c =
+    IfOk-from_err c.from_residual-in_err-new_rows.result _ c.from_residual-in_err-new_rows.ensures.0

@@ -1,8 +1,12 @@
-use Rattle.std.proofs.Common.{◌∙◌, sym, subst, rules}
+use Rattle.std.proofs.Common.{◌∙◌, refl, sym, subst, Result, Ok, Err, IfErr}
 use Rattle.std.proofs.lemmas.Result.{IfOk-weaker}
 use Rattle.mq_acl_cli.specs.Answers.{HasDifference}
 use Rattle.mq_acl_cli.proofs.CompareLemmas.{compared}
 use Rattle.mq_acl_cli.proofs.compare.tell_changes.Goals as goal
+
+for_each : {T E : Type 0} (r : Result T E) (Q : E → Type 0) → ((e : E) → Q e) → IfErr r Q
+for_each (Ok x) Q h = tt
+for_each (Err e) Q h = h e
 
 pub returns-clause-ok : goal.returns-clause-ok
 returns-clause-ok g c =
@@ -13,4 +17,5 @@ returns-clause-ok g c =
     IfOk-weaker c.print_outcome.result _ _ (λ told e. rw e is) c.print_outcome.ensures.ok
 
 pub returns-in_err-changes-clause-unread : goal.returns-in_err-changes-clause-unread
-returns-in_err-changes-clause-unread g c = search rules
+returns-in_err-changes-clause-unread g c =
+    for_each c.from_residual.result _ (λ failure e. refl)

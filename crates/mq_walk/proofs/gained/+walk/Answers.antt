@@ -1,6 +1,7 @@
 use Rattle.std.proofs.Common.{◌≤◌, ℕ, List, [], ◌∷◌, length, sym, ◌∙◌, ap, ◌-◌, get_or, subst, Bor}
 use Rattle.std.proofs.Common.{arith, ◌≡◌}
 use Rattle.std.specs.List.{All}
+use Rattle.std.proofs.lemmas.Result.{IfOk-from_err}
 use Rattle.mq_walk.specs.Paths.{levels_of, all_levels}
 use Rattle.mq_walk.specs.Remainders.{marks_view, gains, GainsNothing, IsGain}
 use Rattle.mq_walk.specs.Names.{is_among, is_choice, is_name_level, fits_start}
@@ -186,3 +187,67 @@ returns-clause-each t c = c.loop-level.invariant.each
 
 pub returns-clause-few : goal.returns-clause-few
 returns-clause-few t c = c.loop-level.invariant.few
+
+pub returns-in_err-paths : goal.returns-in_err-paths
+returns-in_err-paths t c =
+    let r = c.from_residual in record {
+      none = IfOk-from_err r.result _ r.ensures.0;
+      each = IfOk-from_err r.result _ r.ensures.0;
+      few = IfOk-from_err r.result _ r.ensures.0;
+    }
+
+pub returns-in_err-old_branches : goal.returns-in_err-old_branches
+returns-in_err-old_branches t c =
+    let r = c.from_residual-in_err-old_branches in record {
+      none = IfOk-from_err r.result _ r.ensures.0;
+      each = IfOk-from_err r.result _ r.ensures.0;
+      few = IfOk-from_err r.result _ r.ensures.0;
+    }
+
+pub returns-in_err-new_branches : goal.returns-in_err-new_branches
+returns-in_err-new_branches t c =
+    let r = c.from_residual-in_err-new_branches in record {
+      none = IfOk-from_err r.result _ r.ensures.0;
+      each = IfOk-from_err r.result _ r.ensures.0;
+      few = IfOk-from_err r.result _ r.ensures.0;
+    }
+
+pub returns-in_err-levels : goal.returns-in_err-levels
+returns-in_err-levels t c =
+    let r = c.from_residual-in_err-levels in record {
+      none = IfOk-from_err r.result _ r.ensures.0;
+      each = IfOk-from_err r.result _ r.ensures.0;
+      few = IfOk-from_err r.result _ r.ensures.0;
+    }
+
+pub returns-in_err-old : goal.returns-in_err-old
+returns-in_err-old t c =
+    let r = c.from_residual-in_err-old in record {
+      none = IfOk-from_err r.result _ r.ensures.0;
+      each = IfOk-from_err r.result _ r.ensures.0;
+      few = IfOk-from_err r.result _ r.ensures.0;
+    }
+
+pub returns-in_err-new : goal.returns-in_err-new
+returns-in_err-new t c =
+    let r = c.from_residual-in_err-new in record {
+      none = IfOk-from_err r.result _ r.ensures.0;
+      each = IfOk-from_err r.result _ r.ensures.0;
+      few = IfOk-from_err r.result _ r.ensures.0;
+    }
+
+pub returns-in_err-behind : goal.returns-in_err-behind
+returns-in_err-behind t c =
+    let r = c.from_residual-in_err-behind in record {
+      none = IfOk-from_err r.result _ r.ensures.0;
+      each = IfOk-from_err r.result _ r.ensures.0;
+      few = IfOk-from_err r.result _ r.ensures.0;
+    }
+
+pub returns-in_err-add_longer : goal.returns-in_err-add_longer
+returns-in_err-add_longer t c =
+    let r = c.from_residual-in_err-add_longer in record {
+      none = IfOk-from_err r.result _ r.ensures.0;
+      each = IfOk-from_err r.result _ r.ensures.0;
+      few = IfOk-from_err r.result _ r.ensures.0;
+    }

@@ -2,6 +2,7 @@ use Rattle.std.proofs.Common.{ap, sym, ◌∙◌, subst, map, ◌++◌, ◌≡�
 use Rattle.std.specs.Map.Iter.{deref}
 use Rattle.std.proofs.lemmas.List.{map_push}
 use Rattle.std.proofs.lemmas.Map.Iter.{rest_so_far, rest_more, rest_all}
+use Rattle.std.proofs.lemmas.Result.{IfOk-from_err}
 use Rattle.mq_walk.proofs.LevelLemmas.{IsAddedTo, added_none, added_skip, added_push, added_all}
 use Rattle.mq_walk.proofs.LevelLemmas.{key_is_named}
 use Rattle.mq_walk.proofs.branches.Branches.add_levels.Goals as goal
@@ -64,3 +65,11 @@ returns-clause-named c =
 
 pub returns-clause-each : goal.returns-clause-each
 returns-clause-each c = c.loop-level.invariant.each
+
+pub returns-in_err-push : goal.returns-in_err-push
+returns-in_err-push c =
+    let r = c.from_residual in record {
+      kept = IfOk-from_err r.result _ r.ensures.0;
+      named = IfOk-from_err r.result _ r.ensures.0;
+      each = IfOk-from_err r.result _ r.ensures.0;
+    }
