@@ -1,7 +1,7 @@
 use Rattle.std.proofs.Common.{◌≡◌, ◌≤◌, ◌+◌, ◌++◌, ℕ, List, length, take, arith, length-append, rules}
 use Rattle.std.proofs.Common.{length-take-le}
 use Rattle.std.proofs.lemmas.Result.{err_from_is_err_and}
-use Rattle.std.proofs.KnownBytes.{Consumes-trans}
+use Rattle.std.proofs.KnownBytes.{Consumes-trans, Consumes-kept}
 use Rattle.mq_cli.proofs.acl_file.read_file.Goals as goal
 
 pub returns-then-n-limit-clause-err : goal.returns-then-n-limit-clause-err
@@ -35,3 +35,29 @@ returns-in_err-extend_from_slice-clause-err g c =
 
 pub returns-then-n-eq0-clause-ok : goal.returns-then-n-eq0-clause-ok
 returns-then-n-eq0-clause-ok g c = search rules
+
+pub reads-preserved : goal.reads-preserved
+reads-preserved g c =
+    let bytes : List ℕ = c.reads.bytes.items in
+    let n : ℕ = c.in-Ok.n in
+    let piece : List ℕ = c.read.new.buf in
+    let bound : n ≤ length piece = c.in-Ok.ensures.bound in
+    let count = c.reads.bytes.ok.0 in
+    let grown : length (bytes ++ take n piece) ≡ length bytes + n =
+    rw (length-append, length-take-le n piece) in
+    let items = c.in_ok-extend_from_slice.ensures.items in
+    record {
+      within = rw items (let fits = c.if-n-limit.false in let is = c.len.ensures in
+          let within = c.reads.invariant.within in omega arith);
+      reader = let counted = c.in-Ok.ensures.counted in omega arith;
+      given = rw items (Consumes-trans _ (g.R.Source.to_come c.reads.reader) _ bytes (take n piece)
+          c.reads.invariant.given c.in-Ok.ensures.bytes.0);
+    }
+
+pub returns-in-Err-clause-err : goal.returns-in-Err-clause-err
+returns-in-Err-clause-err g c = (
+  c.reads.bytes.items,
+  Consumes-kept _ (g.R.Source.to_come c.reads.reader) _ c.reads.bytes.items
+      c.reads.invariant.given c.in-Err.ensures.bytes,
+  let counted = c.in-Err.ensures.counted in omega arith,
+)

@@ -136,3 +136,41 @@ pub returns-clause-quiet : goal.returns-clause-quiet
 returns-clause-quiet g c = λ not_unread not_failed.
     absurd (told_two c.in-Err-run_options.failure c.report.result c.report.ensures.status not_unread
     not_failed)
+
+-- ## What every end says
+
+pub returns-in-Ok-run_options-clause-unread : goal.returns-in-Ok-run_options-clause-unread
+returns-in-Ok-run_options-clause-unread g c = 
+    λ file script. c.run_options.ensures.unread file
+    (ap script_file c.in-Ok.ensures.ok.script ∙ script)
+
+pub returns-clause-unread : goal.returns-clause-unread
+returns-clause-unread g c = 
+    λ file script. c.run_options.ensures.unread file
+    (ap script_file c.in-Ok.ensures.ok.script ∙ script)
+
+pub returns-in-Ok-run_options-clause-unbuffered : goal.returns-in-Ok-run_options-clause-unbuffered
+returns-in-Ok-run_options-clause-unbuffered g c = 
+    λ asked failed. c.run_options.ensures.unbuffered (c.in-Ok.ensures.ok.unbuffered.1 asked) failed
+
+pub returns-clause-unbuffered : goal.returns-clause-unbuffered
+returns-clause-unbuffered g c = 
+    λ asked failed. c.run_options.ensures.unbuffered (c.in-Ok.ensures.ok.unbuffered.1 asked) failed
+
+pub returns-in-Err-clause-unbuffered : goal.returns-in-Err-clause-unbuffered
+returns-in-Err-clause-unbuffered g c = λ _ failed. absurd (failed refl)
+
+pub returns-in-Err-clause-unread : goal.returns-in-Err-clause-unread
+returns-in-Err-clause-unread g c = λ _ _. refl
+
+pub returns-in-Ok-run_options-clause-usage : goal.returns-in-Ok-run_options-clause-usage
+returns-in-Ok-run_options-clause-usage g c = λ faulty. absurd (faulty c.in-Ok.ensures.no_fault)
+
+pub returns-clause-usage : goal.returns-clause-usage
+returns-clause-usage g c = λ faulty. absurd (faulty c.in-Ok.ensures.no_fault)
+
+pub returns-in-Ok-run_options-clause-flushed : goal.returns-in-Ok-run_options-clause-flushed
+returns-in-Ok-run_options-clause-flushed g c = λ _ _. c.in-Ok-run_options.ensures.flushed
+
+pub returns-in-Ok-run_options-clause-quiet : goal.returns-in-Ok-run_options-clause-quiet
+returns-in-Ok-run_options-clause-quiet g c = λ _ _. refl

@@ -46,3 +46,29 @@ returns-clause-ending g c = λ w s.
         writer = let written = read.1 in omega arith;
       },
     )
+
+-- ## What was handed on
+
+pub returns-clause-flushed : goal.returns-clause-flushed
+returns-clause-flushed g c = c.in_ok-finish.ensures.flushed
+
+pub returns-clause-unbuffered : goal.returns-clause-unbuffered
+returns-clause-unbuffered g c = λ _ failed. absurd (failed c.in_ok-read_lines.ensures.ok_count.0)
+
+pub returns-in_err-finish-clause-flushed : goal.returns-in_err-finish-clause-flushed
+returns-in_err-finish-clause-flushed g c =
+    let fault = err_from_is_err_and c.from_residual-in_err-finish.result
+    c.from_residual-in_err-finish.ensures.1 in
+    rw (fault.1) tt
+
+pub returns-in_err-finish-clause-unbuffered : goal.returns-in_err-finish-clause-unbuffered
+returns-in_err-finish-clause-unbuffered g c =
+    λ _ failed. absurd (failed c.in_ok-read_lines.ensures.ok_count.0)
+
+pub returns-in_err-read_lines-clause-flushed : goal.returns-in_err-read_lines-clause-flushed
+returns-in_err-read_lines-clause-flushed g c =
+    let fault = err_from_is_err_and c.from_residual.result c.from_residual.ensures.1 in
+    rw (fault.1) tt
+
+pub returns-in_err-read_lines-clause-unbuffered : goal.returns-in_err-read_lines-clause-unbuffered
+returns-in_err-read_lines-clause-unbuffered g c = c.in_err-read_lines.ensures.unbuffered

@@ -84,6 +84,10 @@ returns-in-Err-clause-err g c = λ w start.
       },
     )
 
+pub returns-in-Err-clause-unbuffered : goal.returns-in-Err-clause-unbuffered
+returns-in-Err-clause-unbuffered g c = λ unbuffered failed.
+    c.in_ok-before_read.ensures.flushed unbuffered
+
 pub returns-then-n-room-clause-err : goal.returns-then-n-room-clause-err
 unfolding TakesBytes
 returns-then-n-room-clause-err g c = λ w start.

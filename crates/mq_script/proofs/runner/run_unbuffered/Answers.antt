@@ -1,4 +1,4 @@
-use Rattle.std.proofs.Common.{rules}
+use Rattle.std.proofs.Common.{refl}
 use Rattle.mq_script.specs.Ending.{script_limit}
 use Rattle.mq_script.proofs.HeadlineLemmas.{EndsOver-honest}
 use Rattle.mq_script.proofs.runner.run_unbuffered.Goals as goal
@@ -16,4 +16,4 @@ unfolding script_limit
 returns-clause-ending g c = c.run_as.ensures.ending
 
 pub returns-clause-unbuffered : goal.returns-clause-unbuffered
-returns-clause-unbuffered c = search rules
+returns-clause-unbuffered g c = λ failed. c.run_as.ensures.unbuffered refl failed

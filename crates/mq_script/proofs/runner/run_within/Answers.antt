@@ -7,3 +7,6 @@ returns-clause-headline g c = λ w script before stands told taken small reads w
     EndsOver-honest c.args.limit w _ _ _ script before (c.run_as.ensures.ending w stands)
     (record { told = told; well = reads }) (record { told = taken; well = writes })
     (record { bytes = small; memory = memory })
+
+pub returns-clause-ending : goal.returns-clause-ending
+returns-clause-ending g c = c.run_as.ensures.ending

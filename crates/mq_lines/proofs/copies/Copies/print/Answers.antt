@@ -132,3 +132,64 @@ print_copy-requires-in_default-clause-follows c = λ follows. absurd (true≢fal
 
 pub returns-in_default-clause-kept : goal.returns-in_default-clause-kept
 returns-in_default-clause-kept c = grind (arith, common_steps)
+
+-- ## The text is what one copy prints
+
+pub returns-in-true-None-None-clause-ok : goal.returns-in-true-None-None-clause-ok
+returns-in-true-None-None-clause-ok c = c.print_copy.ensures.ok
+
+pub returns-in-true-None-None-clause-err : goal.returns-in-true-None-None-clause-err
+returns-in-true-None-None-clause-err c = c.print_copy.ensures.err
+
+pub returns-in-false-None-None-clause-ok : goal.returns-in-false-None-None-clause-ok
+returns-in-false-None-None-clause-ok c = c.print_copy-in-false-None-None.ensures.ok
+
+pub returns-in-false-None-None-clause-err : goal.returns-in-false-None-None-clause-err
+returns-in-false-None-None-clause-err c = c.print_copy-in-false-None-None.ensures.err
+
+pub returns-in-true-Some-None-clause-ok : goal.returns-in-true-Some-None-clause-ok
+returns-in-true-Some-None-clause-ok c = c.print_copy-in-true-Some-None.ensures.ok
+
+pub returns-in-true-Some-None-clause-err : goal.returns-in-true-Some-None-clause-err
+returns-in-true-Some-None-clause-err c = c.print_copy-in-true-Some-None.ensures.err
+
+pub returns-in-true-None-Some-clause-ok : goal.returns-in-true-None-Some-clause-ok
+returns-in-true-None-Some-clause-ok c = c.print_copy-in-true-None-Some.ensures.ok
+
+pub returns-in-true-None-Some-clause-err : goal.returns-in-true-None-Some-clause-err
+returns-in-true-None-Some-clause-err c = c.print_copy-in-true-None-Some.ensures.err
+
+pub returns-in_default-clause-ok : goal.returns-in_default-clause-ok
+returns-in_default-clause-ok c = c.print_copy-in_default.ensures.ok
+
+pub returns-in_default-clause-err : goal.returns-in_default-clause-err
+returns-in_default-clause-err c = c.print_copy-in_default.ensures.err
+
+pub invariant_of-self : goal.invariant_of-self
+invariant_of-self c =
+    let arm = c.in-true-None-None in
+    let same = parts_without_ids c.args.delivery.now false false (sym arm.ensures)
+    (ap is_some arm.is-1) (ap is_some arm.is-2) in
+    let self = c.args.self.now in
+    record {
+      plain_names = subst (λ (p : Parts). IsFor (copy_names p)
+          (members_view c.print_copy.new.kept.members.entries)) same c.print_copy.ensures.fits;
+      ids_names = self.ids_names;
+      expiry_names = self.expiry_names;
+      group_names = self.group_names;
+    }
+
+pub invariant_of-self-in-Some-1 : goal.invariant_of-self-in-Some-1
+invariant_of-self-in-Some-1 c =
+    let arm = c.in-true-None-Some in
+    let same = parts_without_ids c.args.delivery.now false true (sym arm.ensures)
+    (ap is_some arm.is-1) (ap is_some arm.is-2) in
+    let self = c.args.self.now in
+    let made = c.print_copy-in-true-None-Some in
+    record {
+      plain_names = self.plain_names;
+      ids_names = self.ids_names;
+      expiry_names = self.expiry_names;
+      group_names = subst (λ (p : Parts). IsFor (copy_names p)
+          (members_view made.new.kept.members.entries)) same made.ensures.fits;
+    }

@@ -1,5 +1,5 @@
 use Rattle.std.proofs.Common.{◌≡◌, ◌+◌, ◌++◌, ◌∷◌, [], ℕ, List, length, arith, refl, ap, ◌∙◌}
-use Rattle.std.proofs.Common.{length-append}
+use Rattle.std.proofs.Common.{length-append, length-take}
 use Rattle.std.proofs.lemmas.Result.{err_from_is_err_and}
 use Rattle.mq_lines.proofs.LongLemmas.{kept_number}
 use Rattle.mq_lines.proofs.PieceLemmas.{parted}
@@ -113,3 +113,11 @@ returns-in_err-keep_front-clause-lines g c =
 
 pub returns-clause-counted : goal.returns-clause-counted
 returns-clause-counted g c = omega arith
+
+pub returns-clause-lines : goal.returns-clause-lines
+returns-clause-lines g c =
+    let so_far = c.lines.invariant.lines in
+    omega (arith, simp (length-append, length-take) at (ap length c.in_ok-keep_front.ensures))
+
+pub invariant_of-self : goal.invariant_of-self
+invariant_of-self g c = record { refused = c.lines.self.refused }
