@@ -140,21 +140,21 @@ returns-clause-quiet g c = λ not_unread not_failed.
 -- ## What every end says
 
 pub returns-in-Ok-run_options-clause-unread : goal.returns-in-Ok-run_options-clause-unread
-returns-in-Ok-run_options-clause-unread g c = 
+returns-in-Ok-run_options-clause-unread g c =
     λ file script. c.run_options.ensures.unread file
     (ap script_file c.in-Ok.ensures.ok.script ∙ script)
 
 pub returns-clause-unread : goal.returns-clause-unread
-returns-clause-unread g c = 
+returns-clause-unread g c =
     λ file script. c.run_options.ensures.unread file
     (ap script_file c.in-Ok.ensures.ok.script ∙ script)
 
 pub returns-in-Ok-run_options-clause-unbuffered : goal.returns-in-Ok-run_options-clause-unbuffered
-returns-in-Ok-run_options-clause-unbuffered g c = 
+returns-in-Ok-run_options-clause-unbuffered g c =
     λ asked failed. c.run_options.ensures.unbuffered (c.in-Ok.ensures.ok.unbuffered.1 asked) failed
 
 pub returns-clause-unbuffered : goal.returns-clause-unbuffered
-returns-clause-unbuffered g c = 
+returns-clause-unbuffered g c =
     λ asked failed. c.run_options.ensures.unbuffered (c.in-Ok.ensures.ok.unbuffered.1 asked) failed
 
 pub returns-in-Err-clause-unbuffered : goal.returns-in-Err-clause-unbuffered
