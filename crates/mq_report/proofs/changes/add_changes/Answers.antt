@@ -15,7 +15,7 @@ returns-clause-adds c = adds_many c.args.lists.old.now c.args.lists.new.now c.ar
 pub returns-clause-told : goal.returns-clause-told
 returns-clause-told c = λ user asked client topic valid change.
     let p = is_told_of (row_views c.args.lists.old.now) (row_views c.args.lists.new.now)
-        c.args.question.way c.args.question.direction user in
+    c.args.question.way c.args.question.direction user in
     ap (list_any p) c.in_ok-append.ensures.items
     ∙ list_any-append p c.args.all.now.items c.in_ok-told.told.items
     ∙ or_right (list_any p c.args.all.now.items) (list_any p c.in_ok-told.told.items)
