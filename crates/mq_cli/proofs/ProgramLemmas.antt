@@ -9,8 +9,8 @@ use Rattle.mq_world.specs.World.{World, Limits, fresh_world, empty_world, within
 use Rattle.mq_cli.specs.declared.command_line.Options.{Options}
 use Rattle.mq_cli.specs.declared.command_line.UsageFault.{UsageFault}
 use Rattle.mq_cli.specs.declared.command_line.UsageFault.TheVariants.{Help, Usage, Memory}
-use Rattle.mq_cli.specs.declared.program.Failure.{Failure}
-use Rattle.mq_cli.specs.declared.program.Failure.TheVariants as failure
+use Rattle.mq_cli.specs.declared.failure.Failure.{Failure}
+use Rattle.mq_cli.specs.declared.failure.Failure.TheVariants as failure
 use Rattle.mq_cli.specs.CommandLine.{IsFaultOf, AreGiven, given}
 use Rattle.mq_script.specs.Ending.{AppendsSome}
 use Rattle.mq_script.specs.Output.{output}

@@ -13,8 +13,8 @@ use Rattle.mq_cli.specs.AclFile.{IsAnswerTo}
 use Rattle.mq_script.specs.Ending.{AppendsSome}
 use Rattle.mq_cli.specs.declared.command_line.UsageFault.{UsageFault}
 use Rattle.mq_cli.specs.declared.command_line.UsageFault.TheVariants.{Help, Usage, Memory}
-use Rattle.mq_cli.specs.declared.program.Failure.{Failure}
-use Rattle.mq_cli.specs.declared.program.Failure.TheVariants as failure
+use Rattle.mq_cli.specs.declared.failure.Failure.{Failure}
+use Rattle.mq_cli.specs.declared.failure.Failure.TheVariants as failure
 
 -- the file of the script; without one, or as `-`, the script is read from the input
 abbrev pub script_file : Option (List ℕ) → Option (List ℕ)

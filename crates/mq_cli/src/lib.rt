@@ -6,8 +6,10 @@
 
 mod acl_file;
 mod command_line;
+mod failure;
 mod program;
 
 pub use acl_file::{AclFileFault, read_acl};
 pub use command_line::{Options, UsageFault, arguments};
-pub use program::{UNREADABLE, start};
+pub use failure::UNREADABLE;
+pub use program::start;

@@ -1,10 +1,9 @@
 //! All of the program but its `main`.
-ghost use Rattle.std.specs.Prelude.{◌≡◌, ◌≢◌, ◌≤◌, ◌⊎◌, ◌↔◌, [], ℕ, List, Some, None, Ok};
+ghost use Rattle.std.specs.Prelude.{◌≡◌, ◌≢◌, ◌≤◌, ◌⊎◌, [], ℕ, List, Some, None, Ok};
 ghost use Rattle.std.specs.Prelude.{if◌then◌else◌};
 ghost use Rattle.std.specs.Prelude.{OnOk, OnErr, IfOk, IsOk, IfErr, IsTrue, is_ok, map, option_map};
 ghost use Rattle.std.specs.Prelude.{string_bytes, codes};
 ghost use Rattle.std.specs.Io.KnownBytes.{Appends};
-ghost use Rattle.std.specs.IoError.{error_kind};
 ghost use Rattle.clap.specs.Words.{fault_of};
 ghost use Rattle.mq_world.specs.World.{World, empty_world, within};
 ghost use Rattle.mq_world.specs.Views.{limits_of};
@@ -18,9 +17,10 @@ ghost use Rattle.mq_cli.specs.Program.{TellsUsage};
 ghost use Rattle.mq_cli.specs.Program.{BeginsWith, BeginsIn, IsScript, AnswersScript, AnswersAll};
 ghost use Rattle.mq_cli.specs.Program.{WritesFront};
 
-use crate::acl_file::{AclFileFault, read_acl};
+use crate::acl_file::read_acl;
 use crate::command_line::{Options, UsageFault, arguments};
-use mq_acl::{Acl, AclFault, AclKind};
+use crate::failure::{Failure, UNREADABLE};
+use mq_acl::Acl;
 use mq_router::Router;
 use mq_script::{
     RUN_FAILED, RunFault, Sink, Source, StdSource, Summary, exit_status, flush, run,
@@ -29,90 +29,7 @@ use mq_script::{
 use mq_world::Limits;
 use std::alloc::{AllocError, Global};
 use std::fs;
-use std::io::{self, ErrorKind};
 use std::rt::Files;
-use thiserror::Error;
-
-/// The exit status where the words are not understood, the script can't be opened, or the access list can't be read or
-/// understood.
-pub const UNREADABLE: u8 = 2;
-
-/// Why the program ends before its script does.
-#[derive(Clone, Copy, Debug, Error)]
-enum Failure<'a> {
-    #[error("cannot read access list {0}")]
-    AclRead(&'a str),
-    #[error("access list {0} is too long")]
-    AclTooLong(&'a str),
-    #[error("access list {0} is not UTF-8")]
-    AclUtf8(&'a str),
-    #[error("access list {file} line {line}: {kind:?}")]
-    AclLine {
-        file: &'a str,
-        line: u64,
-        kind: AclKind,
-    },
-    #[error("cannot open script {0}")]
-    Script(&'a str),
-    #[error("read fault")]
-    Read,
-    #[error("write fault")]
-    Write,
-    #[error("script too long")]
-    TooMuch,
-    #[error("out of memory")]
-    Memory,
-}
-
-impl Failure<'_> {
-    ghost use Rattle.std.specs.Prelude.{◌≡◌};
-    ghost use Rattle.mq_cli.specs.Program.{failure_status};
-
-    /// The exit status.
-    fn status(self) -> u8
-        ensures { result ≡ failure_status self.entry }
-    {
-        match self {
-            Failure::Read | Failure::Write | Failure::TooMuch | Failure::Memory => RUN_FAILED,
-            _ => UNREADABLE,
-        }
-    }
-}
-
-fn run_failure<'a>(fault: RunFault) -> Failure<'a>
-    ensures { failure_status result ≡ 3 }
-{
-    match fault {
-        RunFault::Read => Failure::Read,
-        RunFault::Write => Failure::Write,
-        RunFault::TooMuch => Failure::TooMuch,
-        RunFault::Memory => Failure::Memory,
-    }
-}
-
-fn acl_failure(file: &str, fault: AclFileFault) -> Failure<'_>
-    ensures { (failure_status result ≡ 3) ↔ (fault ≡ AclFileFault.Memory) }
-{
-    match fault {
-        AclFileFault::Read => Failure::AclRead(file),
-        AclFileFault::TooLong => Failure::AclTooLong(file),
-        AclFileFault::Utf8 => Failure::AclUtf8(file),
-        AclFileFault::Line(AclFault { line, kind }) => Failure::AclLine { file, line, kind },
-        AclFileFault::Memory => Failure::Memory,
-    }
-}
-
-/// Why a file can't be opened: there was no memory, or the failure that is given.
-fn open_failure<'a>(error: &io::Error, failure: Failure<'a>) -> Failure<'a>
-    ensures memory { error_kind error.now ≡ ErrorKind.OutOfMemory → result ≡ Failure.Memory }
-    ensures other { error_kind error.now ≢ ErrorKind.OutOfMemory → result ≡ failure.entry }
-    ensures told { (result ≡ failure.entry) ⊎ (result ≡ Failure.Memory) }
-{
-    match error.kind() {
-        ErrorKind::OutOfMemory => Failure::Memory,
-        _ => failure,
-    }
-}
 
 /// Opens a file; lack of memory is told apart.
 fn open<'a, R: Files>(
@@ -124,7 +41,7 @@ fn open<'a, R: Files>(
 {
     match fs::open(rt, file) {
         Ok(opened) => Ok(StdSource::new(opened)),
-        Err(error) => Err(open_failure(&error, failure)),
+        Err(error) => Err(failure.of_open(&error)),
     }
 }
 
@@ -135,7 +52,7 @@ fn acl_in<'a, R: Files>(rt: &R, alloc: Global, file: &'a str) -> Result<Acl, Fai
     let mut source = open(rt, file, Failure::AclRead(file))?;
     match read_acl(alloc, &mut source) {
         Ok(acl) => Ok(acl),
-        Err(fault) => Err(acl_failure(file, fault)),
+        Err(fault) => Err(Failure::of_acl(file, fault)),
     }
 }
 
@@ -218,7 +135,7 @@ fn run_source<'a, S: Source, W: Sink>(
 {
     match run_as_asked(alloc, router, source, out, unbuffered) {
         Ok(summary) => Ok(summary),
-        Err(fault) => Err(run_failure(fault)),
+        Err(fault) => Err(Failure::of_run(fault)),
     }
 }
 
@@ -361,7 +278,7 @@ fn report_usage<W: Sink, E: Sink>(alloc: Global, fault: UsageFault, out: &mut W,
     match fault {
         UsageFault::Help(text) => match print(out, text.as_str()) {
             Ok(()) => 0,
-            Err(fault) => report(alloc, run_failure(fault), err),
+            Err(fault) => report(alloc, Failure::of_run(fault), err),
         },
         UsageFault::Usage(text) => tell(Ok(text), UNREADABLE, err),
         UsageFault::Memory => report(alloc, Failure::Memory, err),
