@@ -73,7 +73,7 @@ class Pages(unittest.TestCase):
 
 
 # The programs, each with the source of the texts that it tells on standard error.
-TOLD = {"mqroute": "mq_cli/src/program.rt", "mqroute-acl": "mq_acl_cli/src/failure.rt"}
+TOLD = {"mqroute": "mq_cli/src/failure.rt", "mqroute-acl": "mq_acl_cli/src/failure.rt"}
 
 
 def diagnostics(program: str) -> list[str]:
