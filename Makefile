@@ -1,49 +1,72 @@
-# run: proves and builds mqroute and mqroute-acl with what they stand on, and runs each on a sample.
-# test: the gate: rules of the sources, every proof from nothing, the must-fail edits, the tests, then the worked rows and the
-# program as a user runs them, each growth of memory refused in turn, long scripts in little memory, a talk over a pipe and a terminal,
-# and access lists beside a test of every client, user and topic.
-# bench: measures the built program (bench/README.md).
-# install: puts the built program and the tools beside real brokers below PREFIX, with a man page each and completion;
+# all, or make alone: proves mqroute and mqroute-acl with what they stand on, side by side, builds them, and puts them and the
+# tools into bin/.
+# run: shows answers at once, with the programs of bin/ or without a proof. SCRIPT=mine.jsonl ACL=mine.acl: of one's own.
+# check: all that needs no proof, with the programs of bin/.
+# test: the gate: rules of the sources, every proof from nothing, the must-fail edits, the tests, then all of check, and each
+# growth of memory refused in turn.
+# package: a Debian package and an archive of the same files, in dist/, of the programs of bin/.
+# bench: measures the programs of bin/ (bench/README.md).
+# install: puts the programs of bin/ and the tools beside real brokers below PREFIX, with a man page each and completion;
 # uninstall takes them out again.
-.PHONY: run test bench install uninstall
+.PHONY: all run check test package bench install uninstall mended programs
 
 PREFIX ?= /usr/local
 INSTALLED = $(DESTDIR)$(PREFIX)
 
-# The programs beside real brokers, each installed as mqroute-NAME; they import what stands in tools/mqroute_tools.
+# The tools beside real brokers, each installed as mqroute-NAME; they import what stands in tools/mqroute_tools.
 TOOLS = log_to_script who_loses replay compare_log check search
-BUILT = crates/mqroute/out/mqroute crates/mqroute_acl/out/mqroute_acl
+TOOL_NAMES = $(subst _,-,$(TOOLS:%=mqroute-%))
 # The brokers beside mosquitto on which scripts differ.
 BROKERS = ejabberd rabbitmq
-TOOL_NAMES = $(subst _,-,$(TOOLS:%=mqroute-%))
 COMPLETIONS = $(INSTALLED)/share/bash-completion/completions
 
-run:
-	cd crates/mqroute && rt run < ../../tests/rows/first-look.jsonl
-	cd crates/mqroute_acl && rt run -- why ../../examples/access-list/current.acl press mill/energy
-	ln -sf ../../mqroute_acl/out/mqroute_acl crates/mqroute/out/mqroute-acl
+all: mended
+	dev/build.py
 
-test:
+run: mended
+	@dev/first_answers.py --acl "$(ACL)" $(if $(SCRIPT),"$(SCRIPT)")
+
+check: programs
 	tests/layers.py
 	tests/sources.py
-	rt ci
 	tests/rows.sh
+	tests/acl_rows.py
 	tests/program.py
-	tests/refused.sh
 	tests/memory.sh
 	tests/unbuffered.py
 	tests/acl.py
 	tests/readme.py
+	tests/package.sh
+	@if command -v flake8 > /dev/null; then flake8 --select F,E9 tests tools dev bench; else echo "there is no flake8: not run"; fi
 	python3 -m unittest discover -s tools/tests
 
-bench:
-	bench/run.sh
-	bench/acl.py crates/mqroute_acl/out/mqroute_acl
+test: mended
+	tests/layers.py
+	tests/sources.py
+	rt ci
+	$(MAKE) --no-print-directory programs
+	tests/refused.sh
+	$(MAKE) --no-print-directory check
 
-install:
-	@for built in $(BUILT); do [ -x $$built ] || { echo "there is no $$built: run 'make run' first"; exit 1; }; done
-	install -D -m 755 crates/mqroute/out/mqroute $(INSTALLED)/bin/mqroute
-	install -m 755 crates/mqroute_acl/out/mqroute_acl $(INSTALLED)/bin/mqroute-acl
+package: programs
+	dev/package.sh
+
+bench: programs
+	bench/run.sh
+	bench/acl.py bin/mqroute-acl
+
+# A clone whose bin/ was made by an older `make run` has a link in a crate's out/, at which the toolchain stops.
+mended:
+	@find crates -mindepth 3 -maxdepth 3 -path '*/out/*' -type l -delete
+
+# What is built, in bin/.
+programs: mended
+	@dev/build.py --link
+
+install: programs
+	@for built in bin/mqroute bin/mqroute-acl; do [ -x $$built ] || { echo "there is no $$built: run 'make' first"; exit 1; }; done
+	install -D -m 755 bin/mqroute $(INSTALLED)/bin/mqroute
+	install -m 755 bin/mqroute-acl $(INSTALLED)/bin/mqroute-acl
 	install -d $(INSTALLED)/share/man/man1
 	install -m 644 docs/mqroute.1 docs/mqroute-acl.1 $(TOOL_NAMES:%=docs/%.1) $(INSTALLED)/share/man/man1
 	install -D -m 644 docs/mqroute.bash-completion $(COMPLETIONS)/mqroute
@@ -64,10 +87,7 @@ install:
 	done
 
 uninstall:
-	for name in mqroute mqroute-acl; do \
-	    rm -f $(INSTALLED)/bin/$$name $(INSTALLED)/share/man/man1/$$name.1 $(COMPLETIONS)/$$name; \
-	done
-	for name in $(TOOL_NAMES); do \
+	for name in mqroute mqroute-acl $(TOOL_NAMES); do \
 	    rm -f $(INSTALLED)/bin/$$name $(INSTALLED)/share/man/man1/$$name.1 $(COMPLETIONS)/$$name; \
 	done
 	rm -rf $(INSTALLED)/lib/mqroute $(INSTALLED)/share/mqroute

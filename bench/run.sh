@@ -2,8 +2,8 @@
 # Measures the program that `rt ci` or `rt run` left (bench/README.md).
 set -euo pipefail
 cd "$(dirname "$0")/.."
-program=crates/mqroute/out/mqroute
-[ -x "$program" ] || { echo "there is no $program: run 'make run' first"; exit 1; }
+program=bin/mqroute
+[ -x "$program" ] || { echo "there is no $program: run 'make' first"; exit 1; }
 scratch=$(mktemp -d)
 trap 'rm -rf "$scratch"' EXIT
 TIMEFORMAT=%U

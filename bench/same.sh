@@ -3,8 +3,8 @@
 # examples, and the scripts that are measured: same.sh [YARDSTICK]
 set -euo pipefail
 cd "$(dirname "$0")/.."
-program=$PWD/crates/mqroute/out/mqroute
-[ -x "$program" ] || { echo "there is no $program: run 'make run' first"; exit 1; }
+program=$PWD/bin/mqroute
+[ -x "$program" ] || { echo "there is no $program: run 'make' first"; exit 1; }
 scratch=$(mktemp -d)
 trap 'rm -rf "$scratch"' EXIT
 yardstick=${1:-$(bench/yardstick.sh "$scratch")}

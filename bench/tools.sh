@@ -6,8 +6,8 @@
 set -eu
 cd "$(dirname "$0")/.."
 megabytes=${1:-500}
-program=$PWD/crates/mqroute/out/mqroute tools=$PWD/tools lists=$PWD/brokers/recorded
-[ -x "$program" ] || { echo "tools: there is no $program: run 'make run' first" >&2; exit 1; }
+program=$PWD/bin/mqroute tools=$PWD/tools lists=$PWD/brokers/recorded
+[ -x "$program" ] || { echo "tools: there is no $program: run 'make' first" >&2; exit 1; }
 work=${2:-}
 if [ -z "$work" ]; then
     work=$(mktemp -d)

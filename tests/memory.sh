@@ -3,8 +3,8 @@
 # what mqroute has answered when memory runs out is written.
 set -uo pipefail
 cd "$(dirname "$0")/.."
-program=$PWD/crates/mqroute/out/mqroute
-acl=$PWD/crates/mqroute_acl/out/mqroute_acl
+program=$PWD/bin/mqroute
+acl=$PWD/bin/mqroute-acl
 passed=0
 failed=0
 
@@ -22,7 +22,7 @@ say() { # WHETHER_RIGHT TEXT
 
 for built in "$program" "$acl"; do
     if [ ! -x "$built" ]; then
-        echo "memory: there is no $built: run 'rt ci' first"
+        echo "memory: there is no $built: run 'make' first"
         exit 1
     fi
 done

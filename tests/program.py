@@ -11,7 +11,7 @@ import tempfile
 import time
 
 TOP = pathlib.Path(__file__).resolve().parent.parent
-PROGRAM = TOP / "crates/mqroute/out/mqroute"
+PROGRAM = TOP / "bin/mqroute"
 NAMES = {1: "LineTooLong", 2: "BadJson", 3: "BadCommand", 4: "BadField", 8: "TopicName", 9: "TopicFilter", 11: "NotAuthorized", 12: "AclLine"}
 CONNECT = '{"do":"connect","client":"a"}'
 ANSWER = '{"line":1,"reason":0}\n'
@@ -223,7 +223,7 @@ def faults_of_prefixes():
 
 def main():
     if not PROGRAM.exists():
-        print(f"program: there is no {PROGRAM}: run 'rt ci' first")
+        print(f"program: there is no {PROGRAM}: run 'make' first")
         return 1
     with tempfile.TemporaryDirectory() as folder:
         os.chmod(folder, 0o755)

@@ -3,7 +3,9 @@
 
 A block of lines that begin with `$ ` is a session: what follows a command is what it prints. A block of objects with `do`
 is a script: the program accepts each of its lines. Without a jq the sessions that call it are left out, and it says so.
+With `--installed ROOT` README, files and programs are those of a package that is unpacked in ROOT.
 """
+import argparse
 import os
 import pathlib
 import re
@@ -13,64 +15,70 @@ import sys
 import tempfile
 
 TOP = pathlib.Path(__file__).resolve().parent.parent
-PROGRAM = TOP / "crates/mqroute/out/mqroute"
-ACL_PROGRAM = TOP / "crates/mqroute_acl/out/mqroute_acl"
 
 
-def blocks():
-    text = (TOP / "README.md").read_text(encoding="utf-8")
+def blocks(top):
+    text = (top / "README.md").read_text(encoding="utf-8")
     return re.findall(r"^```\n(.*?)^```$", text, re.S | re.M)
 
 
-def told(command, folder):
+def told(command, folder, path):
     """What one command after those before it prints, standard error too."""
-    around = os.environ | {"PATH": f"{folder}/bin:{os.environ['PATH']}"}
+    around = os.environ | {"PATH": path}
     return subprocess.run(["bash", "-c", command], cwd=folder, env=around, text=True, stdout=subprocess.PIPE,
                           stderr=subprocess.STDOUT).stdout
 
 
-def session_faults(block, folder):
+def session_faults(block, folder, path):
     """The commands that print something else. What changes the folder comes before each of those that follow."""
     before = ""
     for command, wanted in re.findall(r"^\$ (.*)\n((?:(?!\$ ).*\n)*)", block, re.M):
-        printed = told(before + command, folder)
+        printed = told(before + command, folder, path)
         if printed != wanted:
             yield f"{command}\n  prints {printed!r}"
         if command.startswith("cd "):
             before += command + "\n"
 
 
-def script_faults(block):
-    answered = subprocess.run([PROGRAM], input=block, text=True, capture_output=True)
+def script_faults(block, programs):
+    answered = subprocess.run([programs / "mqroute"], input=block, text=True, capture_output=True)
     if answered.returncode != 0:
         yield f"a script of {len(block.splitlines())} lines has status {answered.returncode}:\n{answered.stdout}"
 
 
-def main() -> int:
-    for program in (PROGRAM, ACL_PROGRAM):
-        if not program.exists():
-            print(f"readme: there is no {program}: run 'rt ci' first")
-            return 1
-    faults, sessions, scripts = [], 0, 0
+def block_faults(top, programs, path):
+    """What is wrong with each block that is run, in a copy of the files at the top."""
     with tempfile.TemporaryDirectory() as folder:
-        for name in ("examples", "brokers", "tools"):
-            shutil.copytree(TOP / name, pathlib.Path(folder, name))
-        pathlib.Path(folder, "bin").mkdir()
-        for name, program in (("mqroute", PROGRAM), ("mqroute-acl", ACL_PROGRAM)):
-            pathlib.Path(folder, "bin", name).symlink_to(program)
-        for block in blocks():
+        for name in ("examples", "brokers"):
+            shutil.copytree(top / name, pathlib.Path(folder, name))
+        for block in blocks(top):
             if block.startswith("$ ") and "jq " in block and shutil.which("jq") is None:
                 print("readme: there is no jq: its session was not run")
             elif block.startswith("$ "):
-                sessions += 1
-                faults += session_faults(block, folder)
+                yield "session", list(session_faults(block, folder, path))
             elif re.match(r'\{"do":', block):
-                scripts += 1
-                faults += script_faults(block)
+                yield "script", list(script_faults(block, programs))
+
+
+def main() -> int:
+    parser = argparse.ArgumentParser(description=__doc__.partition("\n")[0])
+    parser.add_argument("--installed", metavar="ROOT", help="a folder in which a package is unpacked")
+    root = parser.parse_args().installed
+    top = pathlib.Path(root).resolve() / "usr/share/doc/mqroute" if root else TOP
+    programs = pathlib.Path(root).resolve() / "usr/bin" if root else TOP / "bin"
+    for name in ("mqroute", "mqroute-acl"):
+        if not (programs / name).exists():
+            print(f"readme: there is no {programs / name}: run 'make' first")
+            return 1
+    # Beside an installed program stands the system alone: no toolchain.
+    path = f"{programs}:/usr/bin:/bin" if root else f"{programs}:{os.environ['PATH']}"
+    found = list(block_faults(top, programs, path))
+    faults = [fault for _, some in found for fault in some]
     for fault in faults:
         print(f"readme: {fault}")
-    print(f"readme: {sessions} sessions and {scripts} scripts, {len(faults)} faults")
-    return 1 if faults or not sessions or not scripts else 0
+    count = [sum(it == kind for it, _ in found) for kind in ("session", "script")]
+    print(f"readme: {count[0]} sessions and {count[1]} scripts, {len(faults)} faults")
+    return 1 if faults or not all(count) else 0
 
 
 sys.exit(main())

@@ -6,7 +6,7 @@
 # the arguments, one a line. An example is a folder of examples/ with a file `run` of lines `OUT STATUS ARGUMENTS..`.
 set -uo pipefail
 cd "$(dirname "$0")/.."
-program=$PWD/crates/mqroute/out/mqroute
+program=$PWD/bin/mqroute
 passed=0
 failed=0
 
@@ -25,7 +25,7 @@ dev/worked_scripts.py --check || exit 1
 dev/three_hundred.py --check || exit 1
 dev/plain_router.py --check || exit 1
 if [ ! -x "$program" ]; then
-    echo "rows: there is no $program: run 'rt ci' first"
+    echo "rows: there is no $program: run 'make' first"
     exit 1
 fi
 written=$(mktemp)

@@ -12,7 +12,7 @@ import subprocess
 import sys
 
 TOP = pathlib.Path(__file__).resolve().parent.parent
-PROGRAM = TOP / "crates/mqroute/out/mqroute"
+PROGRAM = TOP / "bin/mqroute"
 SECONDS = 20
 
 # What is sent, in turn, and what is to come back before anything else is sent.
@@ -56,7 +56,7 @@ def talk(arguments, sent, received):
 
 def main():
     if not PROGRAM.exists():
-        print(f"unbuffered: there is no {PROGRAM}: run 'rt ci' first")
+        print(f"unbuffered: there is no {PROGRAM}: run 'make' first")
         return 1
     faults = [*talk(["--unbuffered"], os.pipe(), os.pipe()), *talk([], os.pipe(), pty.openpty())]
     for fault in faults:

@@ -23,7 +23,7 @@ from mqroute_tools.output import Block, blocks_of
 
 Command = dict[str, Any]
 Answer = dict[str, Any]
-BUILT = Path(__file__).resolve().parents[1] / "crates/mqroute/out/mqroute"
+BUILT = Path(__file__).resolve().parents[1] / "bin/mqroute"
 INSTALLED = Path(__file__).resolve().parents[2] / "bin/mqroute"
 
 

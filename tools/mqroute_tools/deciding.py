@@ -15,7 +15,7 @@ from .causes import AFTER, BEFORE
 from .ending import Fault
 from .output import command_of
 
-BUILT = Path(__file__).resolve().parents[2] / "crates/mqroute_acl/out/mqroute_acl"
+BUILT = Path(__file__).resolve().parents[2] / "bin/mqroute-acl"
 INSTALLED = Path(__file__).resolve().parents[3] / "bin/mqroute-acl"
 NO_LINE = "no line allows it"
 Verdict = dict[str, Any]

@@ -10,7 +10,7 @@ import unittest.mock
 from pathlib import Path
 
 HERE = Path(__file__).parent.parent
-PROGRAM = Path(os.environ.get("MQROUTE", HERE.parent / "crates/mqroute/out/mqroute"))
+PROGRAM = Path(os.environ.get("MQROUTE", HERE.parent / "bin/mqroute"))
 
 ALL = "pattern readwrite #\n"
 NO_WRITING = ALL + "user meter\ntopic deny x\n"  # for meters

@@ -20,7 +20,7 @@ from mqroute_tools.writing import Writer  # noqa: E402
 
 HERE = Path(__file__).parent.parent
 TOOL = HERE / "log_to_script.py"
-PROGRAM = Path(os.environ.get("MQROUTE", HERE.parent / "crates/mqroute/out/mqroute"))
+PROGRAM = Path(os.environ.get("MQROUTE", HERE.parent / "bin/mqroute"))
 FOREVER = 4294967295
 
 

@@ -12,7 +12,7 @@ from pathlib import Path
 
 HERE = Path(__file__).parent.parent
 RECORDED = HERE.parent / "brokers/recorded"
-PROGRAM = Path(os.environ.get("MQROUTE", HERE.parent / "crates/mqroute/out/mqroute"))
+PROGRAM = Path(os.environ.get("MQROUTE", HERE.parent / "bin/mqroute"))
 BROWSER = shutil.which("chromium") or shutil.which("chromium-browser") or shutil.which("google-chrome")
 wants_browser = unittest.skipUnless(BROWSER, "there is no chromium")
 wants_program = unittest.skipUnless(PROGRAM.exists(), f"there is no {PROGRAM}")

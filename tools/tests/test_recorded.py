@@ -1,6 +1,6 @@
 """The recorded logs under the built mqroute, the broker's own lines against its copies, and the READMEs' numbers.
 
-The program is $MQROUTE, or the one that `make run` builds; without one the tests that want it are skipped.
+The program is $MQROUTE, or the one that `make` builds; without one the tests that want it are skipped.
 """
 import io
 import os
@@ -14,8 +14,8 @@ from pathlib import Path
 
 HERE = Path(__file__).parent.parent
 RECORDED = HERE.parent / "brokers/recorded"
-PROGRAM = Path(os.environ.get("MQROUTE", HERE.parent / "crates/mqroute/out/mqroute"))
-ACL_PROGRAM = HERE.parent / "crates/mqroute_acl/out/mqroute_acl"
+PROGRAM = Path(os.environ.get("MQROUTE", HERE.parent / "bin/mqroute"))
+ACL_PROGRAM = HERE.parent / "bin/mqroute-acl"
 SESSIONS = ["--session-expiry", "3600"]  # as record_clients.py asks for
 wants_program = unittest.skipUnless(PROGRAM.exists(), f"there is no {PROGRAM}")
 

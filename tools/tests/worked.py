@@ -8,7 +8,7 @@ from pathlib import Path
 
 HERE = Path(__file__).parent.parent
 TOP = HERE.parent
-PROGRAM = Path(os.environ.get("MQROUTE", TOP / "crates/mqroute/out/mqroute"))
+PROGRAM = Path(os.environ.get("MQROUTE", TOP / "bin/mqroute"))
 wants_program = unittest.skipUnless(PROGRAM.exists(), f"there is no {PROGRAM}")
 UNBUFFERED = PROGRAM.exists() and "--unbuffered" in subprocess.run([PROGRAM, "--help"], capture_output=True, text=True).stdout
 wants_unbuffered = unittest.skipUnless(UNBUFFERED, "the program has no --unbuffered")
