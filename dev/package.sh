@@ -1,0 +1,73 @@
+#!/usr/bin/env bash
+# Makes dist/mqroute_DATE.COMMIT_amd64.deb, and a .tar.gz of the same files, of what stands in bin/. DATE and COMMIT are the
+# last commit's, with a + behind them where files are changed. The same commit gives the same bytes.
+set -euo pipefail
+cd "$(dirname "$0")/.."
+umask 022
+
+commit=$(git rev-parse --short=7 HEAD)
+changed=$([ -z "$(git status --porcelain)" ] || echo +)
+SOURCE_DATE_EPOCH=$(git log -1 --format=%ct)
+export SOURCE_DATE_EPOCH
+version=$(date -u -d "@$SOURCE_DATE_EPOCH" +%Y%m%d).$commit$changed
+name=mqroute_${version}_amd64
+scratch=$(mktemp -d)
+trap 'rm -rf "$scratch"' EXIT
+root=$scratch/mqroute-$version
+usr=$root/usr
+doc=$usr/share/doc/mqroute
+
+make --no-print-directory -s install DESTDIR="$root" PREFIX=/usr
+
+# The README's sessions begin in a copy of this folder, as in a clone.
+install -d "$doc/docs" "$doc/brokers/recorded"
+cp -r README.md examples "$doc"
+cp -r docs/BROKERS.md docs/DEFINITIONS.md docs/PROVED.md docs/definitions "$doc/docs"
+cp brokers/recorded/plain.log brokers/recorded/plain.acl brokers/recorded/proposed.acl "$doc/brokers/recorded"
+find "$doc" -name __pycache__ -prune -exec rm -rf {} +
+
+# As Debian has it: no symbols, pages packed, the system's python3.
+strip "$usr/bin/mqroute" "$usr/bin/mqroute-acl"
+gzip -9n "$usr"/share/man/man1/*.1
+sed -i '1s,^#!/usr/bin/env python3$,#!/usr/bin/python3,' "$usr"/lib/mqroute/*.py
+printf 'mqroute (%s) unstable; urgency=medium\n\n  * Commit %s.\n\n -- %s  %s\n' "$version" "$commit" \
+    "$(git log -1 --format='%cn <%ce>')" "$(date -u -R -d "@$SOURCE_DATE_EPOCH")" | gzip -9n > "$doc/changelog.gz"
+
+# The tools are Python, and both programs do without it: so python3 is recommended.
+install -d "$usr/share/lintian/overrides"
+printf 'mqroute: %s\n' 'python3-script-but-no-python3-dep *' 'missing-dep-for-interpreter *' \
+    > "$usr/share/lintian/overrides/mqroute"
+
+chmod -R u=rwX,go=rX "$root"
+install -d dist
+tar --sort=name --mtime="@$SOURCE_DATE_EPOCH" --owner=0 --group=0 --numeric-owner --transform="s,/usr,," \
+    -C "$scratch" -cf - "mqroute-$version/usr" | gzip -9n > "dist/$name.tar.gz"
+
+# The least glibc that the programs ask for.
+libc=$(objdump -T "$usr/bin/mqroute" "$usr/bin/mqroute-acl" | grep -o 'GLIBC_[0-9.]*' | sort -Vu | tail -1)
+install -d "$root/DEBIAN"
+cat > "$root/DEBIAN/control" <<END
+Package: mqroute
+Version: $version
+Section: net
+Priority: optional
+Architecture: amd64
+Maintainer: $(git log -1 --format='%cn <%ce>')
+Installed-Size: $(du -sk --apparent-size "$usr" | cut -f 1)
+Depends: libc6 (>= ${libc#GLIBC_})
+Recommends: python3, jq
+Suggests: python3-paho-mqtt
+Description: shows which MQTT clients would receive what
+ mqroute runs a script of MQTT 5 commands (connect, subscribe, publish, set an
+ access list ..) offline and lists the copies that a broker would deliver.
+ mqroute-acl compares mosquitto access lists for every client, user and topic,
+ and names the lines that decide.
+ .
+ Tools make such a script of a mosquitto log, list who loses what under a new
+ access list, and compare a live broker with mqroute.
+END
+(cd "$root" && find usr -type f -print0 | sort -z | xargs -0 md5sum) > "$root/DEBIAN/md5sums"
+find "$root" -exec touch -h -d "@$SOURCE_DATE_EPOCH" {} +
+dpkg-deb --root-owner-group -Zgzip --build "$root" "dist/$name.deb" > /dev/null
+echo "dist/$name.deb"
+echo "dist/$name.tar.gz"

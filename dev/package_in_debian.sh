@@ -1,0 +1,19 @@
+#!/usr/bin/env bash
+# Installs the package of dist/ in a fresh root of a Debian release, where there is no toolchain, and runs the README's
+# sessions there. usage: package_in_debian.sh bookworm|trixie (as root, with debootstrap and Debian's mirror)
+set -euo pipefail
+cd "$(dirname "$0")/.."
+release=$1
+root=$(mktemp -d)
+trap 'rm -rf "$root"' EXIT
+debootstrap --variant=minbase "$release" "$root" > "$root.log" 2>&1 || { tail "$root.log"; exit 1; }
+rm "$root.log"
+cp dist/mqroute_*_amd64.deb tests/readme.py "$root/root"
+cp /etc/resolv.conf "$root/etc"
+inside() {
+    chroot "$root" env -i PATH=/usr/sbin:/usr/bin:/sbin:/bin HOME=/root LC_ALL=C.UTF-8 DEBIAN_FRONTEND=noninteractive "$@"
+}
+inside apt-get install -y -qq --no-install-recommends /root/mqroute_*_amd64.deb > "$root/root/log" 2>&1 || { tail "$root/root/log"; exit 1; }
+inside bash -c 'cd /usr/share/doc/mqroute/examples/new-access-list && mqroute --acl-file current.acl script.jsonl | tail -2'
+inside apt-get install -y -qq --no-install-recommends python3 jq > "$root/root/log" 2>&1 || { tail "$root/root/log"; exit 1; }
+inside python3 /root/readme.py --installed /
