@@ -11,7 +11,7 @@ import sys
 import tempfile
 
 TOP = pathlib.Path(__file__).resolve().parent.parent
-PROGRAM = TOP / "crates/mqroute_acl/out/mqroute_acl"
+PROGRAM = TOP / "bin/mqroute-acl"
 EXAMPLE = TOP / "examples/access-list"
 
 # The walk-through: arguments, status, and what is written.
@@ -250,6 +250,7 @@ LEVELS = ["a", "b", "", "$s", "c1", "u1"]
 USERS = [None, "u1", "u2", "zz"]
 CLIENTS = ["c1", "a", "u1", "q"]
 TOPICS = sorted({"/".join(levels) for count in (1, 2) for levels in itertools.product(LEVELS + ["x", "$x"], repeat=count)} - {""}
+                | {*CLIENTS, *(user for user in USERS if user)}
                 | {"/".join(levels) for levels in itertools.product(["a", "", "$s", "c1", "u1"], repeat=3)})
 
 
@@ -294,7 +295,19 @@ def faults_of_told(told, old, new):
             yield f"is decided by line {deny} or {grant}"
 
 
+def line_that_decides(rows, client, user, topic, access):
+    """The first line that denies, else the first that grants."""
+    deny, grant = deciding(rows, client, user, topic, access)
+    return grant if deny is None else deny
+
+
+def number_of(line):
+    return line and line["line"]
+
+
 def faults_of_compare(folder, old, new):
+    """Of each class of clients, access and way a difference is listed; and where no line has a mark, of each pair of lines
+    that decides."""
     done = run(["compare", "--json", "old.acl", "new.acl"], folder)
     told = [json.loads(line) for line in done.stdout.splitlines()]
     old_rows, new_rows = rows_of(old), rows_of(new)
@@ -303,17 +316,33 @@ def faults_of_compare(folder, old, new):
             yield f"{difference} {fault}"
     if done.returncode != (1 if told else 0) or done.stderr:
         yield f"status {done.returncode}: {done.stderr}"
-    kinds = {(d["user"], d["access"], d["change"]) for d in told}
     named = {row[2] for row in old_rows + new_rows} - {None}
-    others = {kind[1:] for kind in kinds if kind[0] is not None and kind[0] not in named}
+    by_lines = "%" not in old + new
+
+    def kind(user, access, change, *lines):
+        whom = user if user is None or user in named else "other users"
+        return (whom, access, change, *lines) if by_lines else (whom, access, change)
+
+    kinds = {kind(d["user"], d["access"], d["change"], number_of(d["old"]), number_of(d["new"])) for d in told}
     for user, client, topic in itertools.product(USERS, CLIENTS, TOPICS):
         by_old, by_new = accesses(old_rows, client, user, topic), accesses(new_rows, client, user, topic)
         for access in by_old ^ by_new:
-            change = "gained" if access in by_new else "lost"
-            is_told = (access, change) in others if user is not None and user not in named else (user, access, change) in kinds
-            if not is_told:
-                yield f"{user} {change} {access} {topic} as {client} and isn't told"
+            lines = [line_that_decides(rows, client, user, topic, access) for rows in (old_rows, new_rows)]
+            if kind(user, access, "gained" if access in by_new else "lost", *lines) not in kinds:
+                yield f"{user} differs in {access} {topic} as {client} by lines {lines}, which isn't listed"
                 return
+
+
+def faults_of_known_pairs(folder):
+    """Names that begin with `$` beside others; and as many differences as a list has lines."""
+    many = "".join(f"topic read a/{place}\n" for place in range(1000))
+    for old, new, count in (("topic read a\n", "topic read a\ntopic read b\ntopic read $SYS/#\n", 2), (many, "topic read b\n", 1001)):
+        pathlib.Path(folder, "old.acl").write_text(old)
+        pathlib.Path(folder, "new.acl").write_text(new)
+        yield from faults_of_compare(folder, old, new)
+        told = run(["compare", "old.acl", "new.acl"], folder).stdout.splitlines()[-1:]
+        if told != [f"{count} differences"]:
+            yield f"compare: {told}, not {count} differences"
 
 
 def faults_of_why(folder, chance, text):
@@ -468,12 +497,12 @@ def faults_of_random(folder, count):
 
 def main():
     if not PROGRAM.exists():
-        print(f"acl: there is no {PROGRAM}: run 'rt ci' first")
+        print(f"acl: there is no {PROGRAM}: run 'make' first")
         return 1
     count = int(sys.argv[1]) if len(sys.argv) > 1 else 300
     with tempfile.TemporaryDirectory() as folder:
         faults = [*faults_of_walk(), *faults_of_remarks(folder), *faults_of_refusals(folder), *faults_of_odd_scripts(folder),
-                  *faults_of_random(folder, count)]
+                  *faults_of_known_pairs(folder), *faults_of_random(folder, count)]
     for fault in faults:
         print(f"acl: {fault}")
     print(f"acl: {len(WALK)} examples, {len(FAULTY) + len(MISUSED)} refusals, {count} random pairs of lists, {len(faults)} faults")

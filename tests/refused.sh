@@ -1,11 +1,12 @@
 #!/usr/bin/env bash
 # Refuses each growth in turn, by a preloaded malloc (tests/refused.c): the nth growth fails, for each n, until none is
-# met. First in the calls that tests of mq_calls make, without a script and over each worked row; then in the built
-# program, over some command lines. '-v' shows how many growths were refused in each trial.
+# met. First in the calls that tests of mq_calls make, without a script and over each worked row; then in both built
+# programs, over some command lines. '-v' shows how many growths were refused in each trial.
 set -uo pipefail
 cd "$(dirname "$0")/.."
 tests=$PWD/crates/mq_calls/out/mq_calls_tests
-program=$PWD/crates/mqroute/out/mqroute
+program=$PWD/bin/mqroute
+acl=$PWD/bin/mqroute-acl
 verbose=${1-}
 passed=0
 failed=0
@@ -19,10 +20,12 @@ say() { # WHETHER_RIGHT TEXT
     fi
 }
 
-if [ ! -x "$tests" ] || [ ! -x "$program" ]; then
-    echo "refused: there is no $tests or no $program: run 'rt ci' first"
-    exit 1
-fi
+for built in "$tests" "$program" "$acl"; do
+    if [ ! -x "$built" ]; then
+        echo "refused: there is no $built: run 'rt ci', and then 'make programs'"
+        exit 1
+    fi
+done
 work=$(mktemp -d)
 trap 'rm -rf "$work"' EXIT
 kit=$(dirname "$(dirname "$(readlink -f "$(command -v rt)")")")
@@ -63,14 +66,14 @@ is_front() {
 }
 
 # Whether the program says that memory ran out, wherever that was.
-is_told() { # STATUS
-    [ "$1" = 3 ] && [ "$(cat "$work/err")" = "mqroute: out of memory" ]
+is_told() { # PROGRAM STATUS
+    [ "$2" = 3 ] && [ "$(cat "$work/err")" = "${1##*/}: out of memory" ]
 }
 
 # Where a growth of the program is refused, it says so, or does without and all is as it should be.
-try_program() { # INPUT ARGUMENTS..
-    local input=$1 nth=0 wrong= wanted status
-    shift
+try_program() { # PROGRAM INPUT ARGUMENTS..
+    local program=$1 input=$2 nth=0 wrong= wanted status
+    shift 2
     "$program" "$@" < "$input" > "$work/wanted" 2> "$work/wanted_err"
     wanted=$?
     while [ "$nth" -lt 10000 ]; do
@@ -81,21 +84,32 @@ try_program() { # INPUT ARGUMENTS..
         status=$?
         if [ "$status" = "$wanted" ] && cmp -s "$work/out" "$work/wanted" && cmp -s "$work/err" "$work/wanted_err"; then
             [ -e "$work/met" ] || break
-        elif [ ! -e "$work/met" ] || ! is_told "$status" || ! is_front; then
+        elif [ ! -e "$work/met" ] || ! is_told "$program" "$status" || ! is_front; then
             wrong="$wrong $nth"
         fi
     done
-    echo "mqroute $* < $input: $((nth - 1))" >> "$work/all"
+    echo "${program##*/} $* < $input: $((nth - 1))" >> "$work/all"
     [ "$verbose" = -v ] && tail -n 1 "$work/all"
     [ -z "$wrong" ] && [ "$nth" -gt 1 ] && [ "$nth" -lt 10000 ]
-    say $? "mqroute $* < $input: wrong where one of these growths is refused:$wrong"
+    say $? "${program##*/} $* < $input: wrong where one of these growths is refused:$wrong"
 }
 
-try_program tests/rows/first-look.jsonl
-try_program /dev/null --acl-file tests/rows/access-list-file.acl tests/rows/first-look.jsonl
-try_program /dev/null --help
-try_program /dev/null --unknown
-try_program /dev/null nowhere.jsonl
+try_program "$program" tests/rows/first-look.jsonl
+try_program "$program" /dev/null --acl-file tests/rows/access-list-file.acl tests/rows/first-look.jsonl
+try_program "$program" /dev/null --help
+try_program "$program" /dev/null --unknown
+try_program "$program" /dev/null nowhere.jsonl
+
+lists=tests/acl
+try_program "$acl" /dev/null compare "$lists/own.acl" "$lists/owned.acl"
+try_program "$acl" /dev/null compare --json "$lists/own.acl" "$lists/one.acl"
+try_program "$acl" /dev/null why "$lists/valid.acl" d1 hall/safe/set --user ann
+try_program "$acl" /dev/null lint "$lists/needless.acl"
+try_program "$acl" /dev/null reach "$lists/one.acl" d1 a/+ --user ann
+try_program "$acl" /dev/null reach "$lists/one.acl" --script "$lists/day.jsonl"
+try_program "$acl" /dev/null compare "$lists/own.acl" nowhere.acl
+try_program "$acl" /dev/null --help
+try_program "$acl" /dev/null melt
 
 # How many growths the program meets in a script of these lines.
 growths() { # LINE..
