@@ -1,14 +1,17 @@
 #!/usr/bin/env python3
-"""Two rules of the sources that no contract can see. It fails, and says where, if one doesn't hold.
+"""Rules of the sources that no contract can see. It fails, and says where, if one doesn't hold.
 
 A `Steps` counts what a look-up enters, and the contracts speak of the count that is handed in. A body that makes a count
 of its own walks as far as it likes, and no contract sees it. So `Steps::new` is called by `Router::apply` alone, outside
-tests and tools: there nobody asks for the count.
+tests: there nobody asks for the count. Elsewhere `Steps` stands as what is lent, `&mut Steps`, and nowhere else: an alias,
+a field or a result could hide one that is made. And the file that has it makes one in `new` alone (COUNTS).
 
 A contract of the router speaks of its model, which is made of the fields of its structs. A field that the model doesn't
 name may hold anything, and grow for ever, and each function is still proved. So MADE_OF has the fields of each struct and
 the variants of each enum that a router is made of: one that is not in it is refused, until somebody who has seen what
 the model says of it writes it down here.
+
+A crate's out/ is the toolchain's: it stops at a link there, and it may take away whatever else it finds.
 """
 import pathlib
 import re
@@ -74,6 +77,14 @@ def sources(crate):
 
 # Steps
 
+COUNTING = "mq_tree/src/tree/steps.rt"
+# What the file of `Steps` has besides its types: a count is made by these functions, and by no derived or other impl.
+COUNTS = [
+    "derive(Drop)", "impl Trail", "fn start() -> Trail", "fn after(before: Trail) -> Trail", "derive(Drop)",
+    "impl Model for Walk", "impl Walk", "fn start() -> Walk", "fn tick(&mut self)", "impl Drop for Steps", "fn drop(self)",
+    "impl Model for Steps", "impl Steps", "fn new() -> Steps", "fn tick(&mut self)",
+]
+
 
 def enclosing(lines, place):
     """The headers around a line: the nearest lines above it that begin further and further to the left."""
@@ -90,23 +101,37 @@ def is_apply(path, headers):
     return path.parts[1] == "mq_router" and re.search(r"(^| in )fn apply\(.* in impl Router \{$", where) is not None
 
 
+def other_forms(line):
+    """Whether `Steps` or `Walk` stands on the line other than lent: as `&mut Steps`, or imported by its own name."""
+    line = re.sub(r"&mut (Steps|Walk)\b(?!\s*(::|\{))|\b\w+::proofs::Walk::", "", line)
+    if re.match(r"\s*(pub(\([^)]*\))? )?use [\w:{} ,]*;$", line) and not re.search(r"\b(Steps|Walk) as\b", line):
+        return False
+    return re.search(r"\b(Steps|Walk)\b", line) is not None
+
+
 def steps_faults():
-    found = 0
+    made = 0
     for crate in crates():
-        if crate == TESTS:
-            continue
         for path, text in sources(crate):
             lines = text.split("\n")
             for place, line in enumerate(lines):
-                if re.search(r"\bSteps\s+as\b", line):
-                    yield f"{path}:{place + 1}: Steps has another name here, so that nobody sees where one is made"
-                for _ in re.findall(r"\bSteps\s*>?\s*::\s*new\b", line):
-                    headers = list(enclosing(lines, place))
-                    found += 1
-                    if not is_apply(path, headers):
-                        yield f"{path}:{place + 1}: a Steps of its own, in {headers[0]}: Router::apply alone makes one"
-    if found == 0:
-        yield "Router::apply makes no Steps any more: this rule has to be written anew"
+                if crate == TESTS or str(path).endswith(COUNTING) or not other_forms(line):
+                    continue
+                headers = list(enclosing(lines, place))
+                is_made = re.fullmatch(r"\s*let mut steps = Steps::new\(\);", line) and is_apply(path, headers)
+                made += bool(is_made)
+                if not is_made:
+                    yield f"{path}:{place + 1}: Steps may only be lent here, as &mut Steps: Router::apply alone makes one"
+    if made != 1:
+        yield f"Router::apply makes {made} Steps: this rule has to be written anew"
+
+
+def counting_faults():
+    text = (TOP / "crates" / COUNTING).read_text(encoding="utf-8")
+    text = UNREAD.sub("", text)
+    found = re.findall(r"\bderive\([^)]*\)|\bimpl\b[^{]*?(?= \{)|\bfn \w+\([^)]*\)(?: -> [^\n{]*?(?=\n| \{))?", text)
+    if found != COUNTS:
+        yield f"crates/{COUNTING}: COUNTS has its functions and impls: does another one make a count? {found}"
 
 
 # What a router is made of
@@ -186,8 +211,23 @@ def struct_faults():
             yield f"MADE_OF has {name}, and a router is not made of it any more"
 
 
+# What stands in out/
+
+# What the toolchain keeps there: its own work, what it builds, and what the last run wrote.
+KEPT = re.compile(r"rlib|incremental|verified|c|tests|{crate}(_tests)?(\.\w+)*|lib{crate}\.\w+|std(out|err|in)(\.\w+)*|.*\.(log|o|bc|ll)|\..*")
+
+
+def out_faults():
+    for path in sorted((TOP / "crates").glob("*/out/*")):
+        crate = path.parts[-3]
+        if path.is_symlink():
+            yield f"{path.relative_to(TOP)} is a link: `make run` and `make test` take it away"
+        elif not re.fullmatch(KEPT.pattern.replace("{crate}", crate), path.name):
+            yield f"{path.relative_to(TOP)} is not the toolchain's: out/ is no place for files of ours"
+
+
 def main():
-    faults = [*steps_faults(), *struct_faults()]
+    faults = [*steps_faults(), *counting_faults(), *struct_faults(), *out_faults()]
     for fault in faults:
         print(f"sources: {fault}")
     print(f"sources: {len(MADE_OF)} structs and enums of a router, {len(faults)} faults")
