@@ -1,8 +1,9 @@
 //! Runs over readers and writers that fail at each of their calls in turn, and scripts cut at each byte.
 use crate::tests::devices::{Page, Script, Spaces, Trouble};
 use crate::tests::scripts::{FIRST_LOOK, REFUSALS};
+use mq_cli::{RunFault, Summary, exit_status, run, run_within};
 use mq_router::Router;
-use mq_script::{RunFault, Summary, exit_status, run, run_unbuffered, run_within};
+use mq_script::run_unbuffered;
 use std::alloc::{AllocError, Global};
 use std::process::Abort;
 

@@ -1,5 +1,5 @@
 //! The wrappers of std's streams: each passes on one call, and a call that is interrupted isn't made again.
-use mq_script::{DeviceFault, Sink, Source, StdSink, StdSource};
+use mq_cli::{DeviceFault, Sink, Source, StdSink, StdSource};
 use std::io::{self, ErrorKind, Read, Write};
 
 /// A stream whose first call is interrupted; each later one gives or takes all that it may.

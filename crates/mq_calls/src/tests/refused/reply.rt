@@ -2,7 +2,7 @@
 use crate::tests::refused::growth::{refuse, was_refused};
 use crate::tests::refused::row::Line;
 use crate::tests::refused::trial::Trial;
-use mq_lines::{LineFault, print_answer, print_line_fault, print_refusal, read_line};
+use mq_cli::{LineFault, print_answer, print_line_fault, print_refusal, read_line};
 use mq_router::{Answer, Refusal, Router};
 use std::alloc::{AllocError, Global};
 use std::process::Abort;

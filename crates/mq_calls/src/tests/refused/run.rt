@@ -4,7 +4,7 @@ use crate::tests::refused::growth::{refuse, was_refused};
 use crate::tests::refused::row::Row;
 use crate::tests::refused::trial::Trial;
 use crate::tests::runs::{answers_to, line_feeds};
-use mq_script::{RunFault, run};
+use mq_cli::{RunFault, run};
 use std::process::Abort;
 
 impl<'a> Row<'a> {
