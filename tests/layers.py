@@ -1,7 +1,8 @@
 #!/usr/bin/env python3
 """Reads who names whom, among crates and among the modules of each, and fails on a name that looks up.
 
-A crate stands on those above it in crates.txt. Within a crate no modules name each other in a circle; and where ORDER has
+A crate stands on those above it in crates.txt, and on no chain of more than LONGEST: both programs are built no sooner than
+the crates of the longest chain, one after the other. Within a crate no modules name each other in a circle; and where ORDER has
 the crate, its lowest module or folder first, none names one that comes later.
 """
 import pathlib
@@ -10,9 +11,11 @@ import sys
 
 TOP = pathlib.Path(__file__).resolve().parent.parent
 
+# How many crates stand on each other at most, the program included.
+LONGEST = 8
+
 # The folders and files of a crate that has layers, from the lowest up.
 ORDER = {
-    "mq_sessions": ["clock", "sessions", "access"],
     "mq_router": ["texts", "replies", "delivery", "router"],
     "mq_script": ["devices", "outcome", "write", "answer", "progress", "runner"],
 }
@@ -33,6 +36,18 @@ def crate_faults():
             if need in ours and need not in seen:
                 yield f"crates.txt: {name} stands on {need}, which comes after it"
         seen.add(name)
+    chain = longest_chain()
+    if len(chain) > LONGEST:
+        yield f"crates.txt: a chain of {len(chain)} crates: {' '.join(chain)}"
+
+
+def longest_chain():
+    """Of the chains of crates that stand on each other a longest one, from below. That of tests alone doesn't count."""
+    chains = {}
+    for name, needs in towers():
+        below = max((chains.get(need, []) for need in needs), key=len, default=[])
+        chains[name] = [*below, name]
+    return max((chains[name] for name in ("mqroute", "mqroute_acl")), key=len)
 
 
 def modules(crate):
@@ -124,7 +139,8 @@ def main():
         faults += module_faults(crate)
     for fault in faults:
         print(f"layers: {fault}")
-    print(f"layers: {len(towers())} crates, {count} imports among modules, {len(faults)} upward")
+    print(f"layers: {len(towers())} crates, {count} imports among modules, {len(faults)} upward; the longest chain: "
+          f"{' '.join(longest_chain())}")
     return 1 if faults or count == 0 else 0
 
 

@@ -20,7 +20,7 @@ import sys
 TOP = pathlib.Path(__file__).resolve().parent.parent
 
 # The crates that a router is made of, and the one of tests, which may count what it likes.
-ROUTER = ["mq_router", "mq_subscriptions", "mq_retained", "mq_sessions", "mq_ends", "mq_world", "mq_acl", "mq_tree",
+ROUTER = ["mq_router", "mq_subscriptions", "mq_retained", "mq_sessions", "mq_world", "mq_acl", "mq_tree",
           "mq_topic"]
 TESTS = "mq_calls"
 

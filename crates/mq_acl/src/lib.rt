@@ -8,6 +8,7 @@ mod entry;
 mod fault;
 mod groups;
 mod read;
+mod rights;
 mod row;
 mod words;
 
@@ -16,4 +17,5 @@ pub use acl::Acl;
 pub use check::{applies, concerns, grants, is_deny};
 pub use fault::{AclFault, AclKind};
 pub use read::read_rows;
+pub use rights::{may_read, may_write};
 pub use row::{Owner, Row};

@@ -8,7 +8,8 @@ use Rattle.std.specs.List.{sum_by}
 use Rattle.std.proofs.lemmas.List.Sums.{sum_by-cons}
 use Rattle.std.proofs.lemmas.Map.Entries.{sum_by-insert_entry, sum_by-remove_entry}
 use Rattle.mq_topic.specs.Levels.{level_order}
-use Rattle.mq_tree.specs.Entries.{Entries, is_key, capped, AreInOrder}
+use Rattle.mq_tree.specs.Entries.{Entries, is_key, AreInOrder}
+use Rattle.mq_topic.specs.Prefixes.{capped}
 use Rattle.mq_retained.specs.Stored.{AreCounted}
 use Rattle.mq_world.proofs.OrderLemmas.{levels_total}
 use Rattle.mq_retained.proofs.RetainedLemmas.{put-ordered, take-ordered}

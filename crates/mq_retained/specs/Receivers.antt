@@ -4,7 +4,7 @@ use Rattle.std.specs.Option.{option_copied}
 use Rattle.std.specs.List.{filter}
 use Rattle.std.specs.Rc.{rc_str_bytes}
 use Rattle.mq_topic.specs.Levels.{levels}
-use Rattle.mq_tree.specs.Prefixes.{prefixes, met_by_filter}
+use Rattle.mq_topic.specs.Prefixes.{prefixes, met_by_filter}
 use Rattle.mq_world.specs.Lists.{Text}
 use Rattle.mq_world.specs.World.{Subscription, Retained, Copy}
 use Rattle.mq_world.specs.Retained.{retained_copy, retained_copies}

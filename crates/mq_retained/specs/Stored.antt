@@ -4,7 +4,8 @@ use Rattle.std.specs.Prelude.{string_bytes, Option, IfSome}
 use Rattle.std.specs.List.{AllByRecursion}
 use Rattle.std.specs.Rc.{rc_str_bytes}
 use Rattle.mq_topic.specs.Levels.{levels}
-use Rattle.mq_tree.specs.Entries.{Entries, AreInOrder, capped}
+use Rattle.mq_tree.specs.Entries.{Entries, AreInOrder}
+use Rattle.mq_topic.specs.Prefixes.{capped}
 use Rattle.mq_acl.specs.Rows.{AclRow}
 use Rattle.mq_acl.specs.Access.{allowed}
 use Rattle.mq_acl.specs.declared.access.Direction.TheVariants.{Reading}

@@ -2,8 +2,8 @@
 ghost use Rattle.std.specs.Prelude.{◌≡◌, ◌+◌, ◌<◌, ◌^◌, ℕ, [], length, not, OnOk, OnErr, IfOk};
 ghost use Rattle.std.specs.Prelude.{IfSome};
 ghost use Rattle.std.specs.List.{filter, list_any};
-ghost use Rattle.mq_tree.specs.Entries.{capped};
-ghost use Rattle.mq_tree.specs.Prefixes.{prefixes};
+ghost use Rattle.mq_topic.specs.Prefixes.{capped};
+ghost use Rattle.mq_topic.specs.Prefixes.{prefixes};
 ghost use Rattle.mq_world.specs.Clock.{deadline_of};
 ghost use Rattle.mq_world.specs.Lists.{with_row};
 ghost use Rattle.mq_world.specs.World.{retained_cmp};

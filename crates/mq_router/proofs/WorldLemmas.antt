@@ -40,8 +40,8 @@ use Rattle.mq_router.specs.router.Effects.{counts_now, steps_to, change_state, m
 use Rattle.mq_router.specs.router.Effects.{lasts}
 use Rattle.mq_subscriptions.specs.Turns.{next_in, next_members, all_turned}
 use Rattle.mq_world.specs.Views.{reply_of}
-use Rattle.mq_tree.specs.Entries.{capped}
-use Rattle.mq_tree.specs.Prefixes.{prefixes, met_by_name}
+use Rattle.mq_topic.specs.Prefixes.{capped}
+use Rattle.mq_topic.specs.Prefixes.{prefixes, met_by_name}
 use Rattle.mq_world.proofs.ListLemmas.{map-filter}
 use Rattle.mq_world.proofs.SameLemmas.{SameElements-map, length-SameElements, list_any-SameElements}
 use Rattle.mq_subscriptions.proofs.InTurn.{same-is, same-then, same-filter, joined-same}

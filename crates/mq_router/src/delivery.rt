@@ -1,7 +1,7 @@
 //! The copies of a message.
 ghost use Rattle.std.specs.Prelude.{◌≡◌, ◌+◌, IfOk, length, map, ◌++◌, OnOk, []};
 ghost use Rattle.mq_topic.specs.Levels.{levels};
-ghost use Rattle.mq_tree.specs.Prefixes.{prefixes, met_by_name};
+ghost use Rattle.mq_topic.specs.Prefixes.{prefixes, met_by_name};
 ghost use Rattle.mq_world.specs.Lists.{Text};
 ghost use Rattle.mq_world.specs.Views.{message_of, copy_of, copies_in};
 ghost use Rattle.mq_subscriptions.specs.Turns.{turn_of, turns_in, next_members};
@@ -13,13 +13,15 @@ ghost use Rattle.mq_subscriptions.specs.Matches.{AreByClient, rows_found, unshar
 ghost use Rattle.mq_router.specs.router.Effects.{message_copies, member_copy};
 
 pub(crate) mod outgoing;
+pub(crate) mod readers;
 pub(crate) mod summary;
 pub(crate) mod unshared;
 
 use crate::delivery::outgoing::Outgoing;
+use crate::delivery::readers::{Readers, TopicReaders};
 use crate::delivery::summary::Summary;
 use crate::delivery::unshared::{Unshared, unshared_copies};
-use mq_sessions::{QueuedCopy, Readers};
+use mq_sessions::QueuedCopy;
 use mq_subscriptions::{FilterEntry, Match, Subscriptions, Turn, sort_by_client, sort_by_share};
 use mq_tree::Steps;
 use mq_world::{Delivery, Message};
@@ -123,9 +125,13 @@ fn members_served(
         (rows_found (lent_values found.now))
         (message_of message.now)) }
 {
+    let test = TopicReaders {
+        readers,
+        name: message.topic,
+    };
     let mut served = Vec::new(alloc);
     for at in found {
-        at.gather_turns(readers, message.topic, &mut served)?;
+        at.gather_turns(&test, &mut served)?;
     }
     sort_by_share(&mut served)?;
     Ok(served)

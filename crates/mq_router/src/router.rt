@@ -24,18 +24,19 @@ mod checks;
 mod ended;
 mod started;
 
+use crate::delivery::readers::Readers;
 use crate::delivery::{Deliveries, make_copies};
 use crate::replies::{published, reason_to_leave, with_reason};
 use crate::texts::read_access;
 use ended::end_sessions;
 use mq_acl::Acl;
 use mq_retained::{Receiver, Retained};
-use mq_sessions::{Clock, Readers, Sessions};
+use mq_sessions::Sessions;
 use mq_subscriptions::Subscriptions;
 use mq_topic::SubFilter;
 use mq_tree::Steps;
 use mq_world::{
-    Answer, Command, Delivery, Limits, Message, Outcome, Refusal, SubscriptionOptions,
+    Answer, Clock, Command, Delivery, Limits, Message, Outcome, Refusal, SubscriptionOptions,
     is_client_id, is_user_name,
 };
 use started::start_session;

@@ -11,7 +11,7 @@ use borrow.Author.Tests.{eqb-true}
 use Rattle.std.proofs.lemmas.Bool.Decides.{nat_tests}
 use Rattle.std.proofs.lemmas.Bool.{and_parts, and_right}
 use Rattle.std.proofs.Math.Bool.{or-true, or-false, and-true}
-use Rattle.mq_ends.specs.Dues.{Due, Dues, first_of, same_due, is_in, AreWith, AreRest}
+use Rattle.mq_sessions.specs.Dues.{Due, Dues, first_of, same_due, is_in, AreWith, AreRest}
 use Rattle.mq_world.specs.Keys.{key_cmp}
 use Rattle.mq_world.specs.World.{Session, Connected, Away, has_id}
 use Rattle.mq_world.specs.Lists.{Text, same_text}
@@ -29,7 +29,7 @@ use Rattle.mq_sessions.specs.Ends.{end_of, ends_so, IsListed, AreListed, IsFirst
 use Rattle.mq_sessions.specs.Ends.{Entry, views_of}
 use Rattle.mq_sessions.specs.Views.{session_in, view_of}
 use Rattle.mq_sessions.specs.declared.sessions.session.Session as code
-use Rattle.mq_sessions.proofs.SessionLemmas.{apart, finds, finds-is}
+use Rattle.mq_world.proofs.TextKeys.{apart, finds, finds-is}
 use Rattle.mq_sessions.proofs.ReachedLemmas.{all_mapped}
 
 -- ## Tests

@@ -11,7 +11,7 @@ use Rattle.std.specs.declared.cmp.Ordering.{Ordering}
 use Rattle.std.specs.declared.cmp.Ordering.TheVariants.{Less, Equal, Greater}
 use Rattle.std.proofs.lemmas.Map.Text.{is_eq-slice_cmp}
 use Rattle.std.proofs.lemmas.Slice.Eq.{bytes_eq-Decides}
-use Rattle.mq_ends.specs.Dues.{Due, is_in}
+use Rattle.mq_sessions.specs.Dues.{Due, is_in}
 use Rattle.mq_world.specs.Keys.{Key, key_cmp}
 use Rattle.mq_world.specs.Lists.{Text}
 use Rattle.mq_world.specs.World as world
@@ -24,7 +24,8 @@ use Rattle.mq_sessions.specs.Views.{kept_id, presence_of, session_at, session_in
 use Rattle.mq_sessions.specs.declared.sessions.session.Presence.{Presence}
 use Rattle.mq_sessions.specs.declared.sessions.session.Presence.TheVariants.{Connected, Away}
 use Rattle.mq_sessions.specs.declared.sessions.session.Session as code
-use Rattle.mq_sessions.proofs.SessionLemmas.{finds, found-is}
+use Rattle.mq_sessions.proofs.SessionLemmas.{found-is}
+use Rattle.mq_world.proofs.TextKeys.{finds}
 
 key-same : (k y : Key) → key_cmp k y ≡ Equal → rc_str_bytes k ≡ rc_str_bytes y
 key-same k y h =

@@ -5,3 +5,4 @@ pub mod QueueLemmas
 pub mod EndLemmas
 pub mod TakenLemmas
 pub mod EntryLemmas
+mod HeapLemmas

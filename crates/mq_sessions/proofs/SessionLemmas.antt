@@ -21,24 +21,12 @@ use Rattle.mq_sessions.specs.Queue.{edit_session}
 use Rattle.mq_sessions.specs.Near.{AreReached, AllReached}
 use Rattle.mq_sessions.specs.Views.{session_at, session_in, waiting_of}
 use Rattle.mq_sessions.specs.declared.sessions.session.Session.{Session}
-use Rattle.mq_world.proofs.OrderLemmas.{equal_from}
+use Rattle.mq_world.proofs.TextKeys.{finds, finds-is, key-is, apart}
 use Rattle.mq_world.proofs.ListLemmas.{filter-same, map-filter, map-insert_entry}
 use Rattle.mq_world.proofs.ListLemmas.{remove_entry-filter, none_again}
 
 abbrev Entry : Type 0
 Entry = Key × Session
-
--- a look-up by bytes finds a key with these bytes
-abbrev pub finds : List ℕ → Key → Bool
-finds bs k = is_eq (slice_cmp nat_cmp bs (rc_str_bytes k))
-
--- to find a key by bytes is to compare its text with them
-pub finds-is : (bs : List ℕ) (k : Key) → finds bs k ≡ same_text (rc_str_bytes k) bs
-finds-is bs k = is_eq-slice_cmp bs (rc_str_bytes k) ∙ nat_list_eq_equiv.symm bs (rc_str_bytes k)
-
--- a key that bytes find has these bytes
-pub key-is : (bs : List ℕ) (k : Key) → finds bs k ≡ true → rc_str_bytes k ≡ bs
-key-is bs k h = (bytes_eq-Decides (rc_str_bytes k) bs).0 (sym (finds-is bs k) ∙ h)
 
 -- the session in the entry that a look-up finds
 pub found-is : (bs : List ℕ) (es : List Entry)
@@ -71,11 +59,6 @@ found-reached moment bs u (e ∷ es) l h =
           subst (λ (v : Session). AreReached moment (map waiting_of v.waiting)) same h.0)
       | false ↦ λ k. found-reached moment bs u es k h.1
     ]) l
-
--- bytes that find one key find none above it
-pub apart : (bs : List ℕ) (x y : Key) → finds bs x ≡ true → key_cmp x y ≡ Less → finds bs y ≡ false
-apart bs x y h less =
-    ap is_eq (nat_list_cmp_total.congr bs (rc_str_bytes x) (rc_str_bytes y) (equal_from _ h) ∙ less)
 
 -- to remove the entry that bytes find is to leave out the session of that client
 pub removed-is : (bs : List ℕ) (es : List Entry) → IsStrictlySortedBy key_cmp (keys_of es)

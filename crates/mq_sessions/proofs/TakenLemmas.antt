@@ -11,7 +11,7 @@ use Rattle.std.proofs.lemmas.Map.Text.{is_eq-slice_cmp}
 use Rattle.std.proofs.lemmas.Bool.{or_parts, and_parts}
 use Rattle.std.proofs.Math.Bool.{or-true}
 use borrow.Author.Tests.{eqb-true}
-use Rattle.mq_ends.specs.Dues.{Due, first_of, same_due, is_in, AreRest}
+use Rattle.mq_sessions.specs.Dues.{Due, first_of, same_due, is_in, AreRest}
 use Rattle.mq_world.specs.World.{Session, Connected, Away, has_id, session_cmp}
 use Rattle.mq_world.specs.Lists.{Text, same_text}
 use Rattle.mq_world.specs.Clock.{is_over}

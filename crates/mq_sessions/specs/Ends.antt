@@ -3,7 +3,7 @@ use Rattle.std.specs.Prelude.{◌≡◌, ℕ, ◌+◌, ◌≤◌, Bool, true, fa
 use Rattle.std.specs.Option.{IfSome, option_map_or}
 use Rattle.std.specs.List.{list_any, AllByRecursion}
 use Rattle.std.specs.Rc.{rc_str_bytes}
-use Rattle.mq_ends.specs.Dues.{Due, Dues, first_of, is_in, same_due}
+use Rattle.mq_sessions.specs.Dues.{Due, Dues, first_of, is_in, same_due}
 use Rattle.mq_world.specs.Keys.{Key}
 use Rattle.mq_world.specs.World.{Session, Connected, Away}
 use Rattle.mq_world.specs.Sessions.{connected}

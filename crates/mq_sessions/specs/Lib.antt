@@ -1,6 +1,7 @@
 pub mod Views
 pub mod Ways
 pub mod Queue
+pub mod Dues
 pub mod Ends
 pub mod Near
 pub mod Resumed

@@ -16,19 +16,19 @@ ghost use Rattle.mq_world.specs.Views.{copy_of};
 ghost use Rattle.mq_sessions.specs.Views.{session_in};
 
 mod disconnection;
+mod end_heap;
 mod ends;
 pub(crate) mod queue;
 pub(crate) mod queued;
 mod resume;
 pub(crate) mod session;
 
-use crate::clock::Clock;
 use crate::sessions::queued::QueuedCopy;
 use crate::sessions::session::Session;
 use disconnection::disconnect;
+use end_heap::Ends;
 use ends::{add_end, make_room, settle};
-use mq_ends::Ends;
-use mq_world::Delivery;
+use mq_world::{Clock, Delivery};
 use std::alloc::{AllocError, Global};
 use std::collections::BTreeMap;
 use std::marker::Model;

@@ -21,7 +21,7 @@ use Rattle.mq_world.proofs.OrderLemmas.{all_append}
 use Rattle.mq_world.proofs.ListLemmas.{map-filter, filter-same, is_some-lookup, list_any-map}
 use Rattle.mq_world.proofs.ListLemmas.{list_any-same}
 use Rattle.mq_world.proofs.ListLemmas.{remove_entry-filter as map_remove_entry-filter, any-append}
-use Rattle.mq_sessions.proofs.SessionLemmas.{finds, finds-is, apart}
+use Rattle.mq_world.proofs.TextKeys.{finds, finds-is, apart}
 use Rattle.mq_world.proofs.ListLemmas.{any-none}
 use Rattle.mq_subscriptions.proofs.InTurn.{joined-among, turned-among, removed-among, none_same}
 use Rattle.mq_subscriptions.proofs.InTurn.{Unlike, same-is, same-itself, unlike-share, unlike-own}

@@ -18,7 +18,7 @@ use Rattle.mq_subscriptions.specs.SubFilters.{ListsMore, ListsLess, ListsOthers}
 use Rattle.mq_subscriptions.specs.Views.{texts}
 use Rattle.mq_world.proofs.ListLemmas.{filter-same}
 use Rattle.mq_world.proofs.SameLemmas.{filter-filter}
-use Rattle.mq_sessions.proofs.SessionLemmas.{finds}
+use Rattle.mq_world.proofs.TextKeys.{finds}
 use Rattle.mq_world.proofs.BoolLemmas.{pick}
 use Rattle.mq_subscriptions.proofs.TextMaps.{is_text-is, lookup-texts, set_value-texts}
 use Rattle.mq_subscriptions.proofs.TextMaps.{remove_entry-texts, insert_entry-texts, ordered-texts}

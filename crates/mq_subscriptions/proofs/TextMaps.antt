@@ -16,7 +16,7 @@ use Rattle.mq_world.specs.Lists.{Text, same_text, text_cmp}
 use Rattle.mq_subscriptions.specs.Filters.{is_text, is_empty, NoneEmpty}
 use Rattle.mq_subscriptions.specs.Views.{texts}
 use Rattle.mq_world.proofs.OrderLemmas.{equal_from}
-use Rattle.mq_sessions.proofs.SessionLemmas.{finds}
+use Rattle.mq_world.proofs.TextKeys.{finds}
 
 -- the two ways to test whether texts are the same agree
 pub is_text-is : (bs k : Text) → is_text bs k ≡ same_text bs k

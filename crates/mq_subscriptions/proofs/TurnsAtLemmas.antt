@@ -9,11 +9,9 @@ use Rattle.std.specs.declared.cmp.Ordering.TheVariants.{Less}
 use Rattle.std.specs.Map.{keys_of}
 use Rattle.std.proofs.lemmas.List.{append-nil, map-append}
 use Rattle.std.proofs.lemmas.List.Elements.{filter-append}
-use Rattle.mq_acl.specs.Rows.{AclRow}
 use Rattle.mq_world.specs.Lists.{Text, same_text, text_cmp}
-use Rattle.mq_world.specs.World.{Session, Subscription, Group, is_in_group}
-use Rattle.mq_world.specs.Sessions.{is_reader}
-use Rattle.mq_subscriptions.specs.Turns.{next_in}
+use Rattle.mq_world.specs.World.{Subscription, Group, is_in_group}
+use Rattle.mq_subscriptions.specs.Turns.{next_by}
 use Rattle.mq_subscriptions.specs.Filters.{Member, row, unshared_rows, group_rows}
 use Rattle.mq_subscriptions.specs.Turns.{turn_of}
 use Rattle.mq_subscriptions.specs.Turns.{turns_listed}
@@ -23,41 +21,34 @@ use Rattle.mq_world.proofs.OrderLemmas.{same_text-is, same_text-itself}
 use Rattle.mq_subscriptions.specs.declared.subscriptions.turn.Turn.{Turn}
 use Rattle.mq_world.specs.declared.options.SubscriptionOptions.{SubscriptionOptions}
 
-abbrev pub able : Option (List AclRow) → List Session → Text → Text → Bool
-able access sessions name client = is_reader access sessions name client
+-- the first member of a group whose client passes
+abbrev pub turn_in : (Text → Bool) → Text → Text × List Member → Option Subscription
+turn_in passes f g = option_map (row (Some g.0) f) (find (λ m. passes m.0) g.1)
 
--- the first member of a group whose client may read
-abbrev pub turn_in : Option (List AclRow) → List Session → Text → Text → Text × List Member
-    → Option Subscription
-turn_in access sessions name f g =
-    option_map (row (Some g.0) f) (find (λ m. able access sessions name m.0) g.1)
-
-abbrev pub turn_for : Option (List AclRow) → List Session → Text → Text → Text → Text × List Member
-    → List Subscription
-turn_for access sessions name f share g = if same_text g.0 share then
-    turns_of (turn_in access sessions name f g) else []
+abbrev pub turn_for : (Text → Bool) → Text → Text → Text × List Member → List Subscription
+turn_for passes f share g = if same_text g.0 share then turns_of (turn_in passes f g) else []
 
 -- the members in turn of the groups of a share name
-abbrev pub turns_left : Option (List AclRow) → List Session → Text → Text → Text
-    → List (Text × List Member) → List Subscription
-turns_left access sessions name f share gs = flat_map (turn_for access sessions name f share) gs
+abbrev pub turns_left : (Text → Bool) → Text → Text → List (Text × List Member)
+    → List Subscription
+turns_left passes f share gs = flat_map (turn_for passes f share) gs
 
-module _ (access : Option (List AclRow)) (sessions : List Session) (name f share : Text) where
+module _ (passes : Text → Bool) (f share : Text) where
   abbrev here : Group
   here = record { share = share; filter = f }
 
   abbrev may : Subscription → Bool
-  may x = able access sessions name x.client
+  may x = passes x.client
 
   find-members : (k : Text) (ms : List Member)
       → find may (map (row (Some k) f) ms) ≡ option_map (row (Some k) f)
-      (find (λ m. able access sessions name m.0) ms)
+      (find (λ m. passes m.0) ms)
   find-members k [] = refl
   find-members k (m ∷ ms) =
-      elim (able access sessions name m.0)
+      elim (passes m.0)
       as (λ b. cond b (Some (row (Some k) f m)) (find may (map (row (Some k) f) ms))
       ≡ option_map (row (Some k) f)
-      (cond b (Some m) (find (λ m. able access sessions name m.0) ms))) [
+      (cond b (Some m) (find (λ m. passes m.0) ms))) [
         | true ↦ refl
         | false ↦ find-members k ms
       ]
@@ -92,11 +83,11 @@ module _ (access : Option (List AclRow)) (sessions : List Session) (name f share
       ∙ no_members gs h.1
 
   no_turns : (gs : List (Text × List Member)) → Away gs
-      → turns_left access sessions name f share gs ≡ []
+      → turns_left passes f share gs ≡ []
   no_turns [] h = refl
   no_turns (g ∷ gs) h =
-      ap (λ b. (if b then turns_of (turn_in access sessions name f g) else [])
-      ++ turns_left access sessions name f share gs) h.0 ∙ no_turns gs h.1
+      ap (λ b. (if b then turns_of (turn_in passes f g) else [])
+      ++ turns_left passes f share gs) h.0 ∙ no_turns gs h.1
 
   behind : (k : Text) → same_text k share ≡ true → (gs : List (Text × List Member))
       → AllByRecursion (λ y. text_cmp k y ≡ Less) (keys_of gs) → Away gs
@@ -118,20 +109,20 @@ module _ (access : Option (List AclRow)) (sessions : List Session) (name f share
 
   -- keys are apart: the turns of a share name are the one of its group
   pub turns-group : (gs : List (Text × List Member)) → IsStrictlySortedBy text_cmp (keys_of gs)
-      → turns_left access sessions name f share gs
+      → turns_left passes f share gs
       ≡ turns_of (find may (filter (is_in_group here) (group_rows f gs)))
   unfolding IsStrictlySortedBy
   turns-group [] s = refl
   turns-group (g ∷ gs) s =
       let mine : List Subscription = map (row (Some g.0) f) g.1 in
       let P : Bool → Type 0 = λ b. same_text g.0 share ≡ b
-      → (if b then turns_of (turn_in access sessions name f g) else [])
-      ++ turns_left access sessions name f share gs
+      → (if b then turns_of (turn_in passes f g) else [])
+      ++ turns_left passes f share gs
       ≡ turns_of (find may (filter (is_in_group here) (mine ++ group_rows f gs))) in
       (elim (same_text g.0 share) as P [
         | true ↦ λ t. (let away : Away gs = behind g.0 t gs s.0 in
-            ap (λ l. turns_of (turn_in access sessions name f g) ++ l) (no_turns gs away)
-            ∙ append-nil (turns_of (turn_in access sessions name f g))
+            ap (λ l. turns_of (turn_in passes f g) ++ l) (no_turns gs away)
+            ∙ append-nil (turns_of (turn_in passes f g))
             ∙ ap turns_of (sym (find-members g.0 g.1))
             ∙ ap (λ l. turns_of (find may l))
             (sym (filter-append (is_in_group here) mine (group_rows f gs)
@@ -147,8 +138,8 @@ module _ (access : Option (List AclRow)) (sessions : List Session) (name f share
 
   -- a subscription in its client's own name is in no group
   pub next-at : (ds : List Member) (gs : List (Text × List Member))
-      → next_in access sessions (group_rows f gs) name here
-      ≡ next_in access sessions (unshared_rows f ds ++ group_rows f gs) name here
+      → next_by passes (group_rows f gs) here
+      ≡ next_by passes (unshared_rows f ds ++ group_rows f gs) here
   next-at ds gs =
       ap (find may)
       (sym (filter-append (is_in_group here) (unshared_rows f ds) (group_rows f gs)
@@ -157,14 +148,14 @@ module _ (access : Option (List AclRow)) (sessions : List Session) (name f share
 -- ## One more
 
 -- with the turn of the next group added, the turns so far and those to come make the same list
-pub turns-more : (access : Option (List AclRow)) (sessions : List Session) (name f share : Text)
+pub turns-more : (passes : Text → Bool) (f share : Text)
     (old new : List Turn) (t : Turn) (g : Text × List Member) (gs : List (Text × List Member))
     → new ≡ old ++ t ∷ [] → rc_str_bytes t.share ≡ g.0
-    → turn_in access sessions name f g ≡ Some (turn_of t)
-    → turns_listed share new ++ turns_left access sessions name f share gs ≡ turns_listed share old
-    ++ turns_left access sessions name f share (g ∷ gs)
-turns-more access sessions name f share old new t g gs e named is =
-    let rest : List Subscription = turns_left access sessions name f share gs in
+    → turn_in passes f g ≡ Some (turn_of t)
+    → turns_listed share new ++ turns_left passes f share gs ≡ turns_listed share old
+    ++ turns_left passes f share (g ∷ gs)
+turns-more passes f share old new t g gs e named is =
+    let rest : List Subscription = turns_left passes f share gs in
     let here : Turn → Bool = λ x. same_text (rc_str_bytes x.share) share in
     let own : Bool → List Turn = λ b. if b then t ∷ [] else [] in
     ap (λ l. map turn_of l ++ rest) (ap (filter here) e ∙ filter-append here old (t ∷ [])

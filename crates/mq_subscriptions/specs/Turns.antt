@@ -36,11 +36,16 @@ all_turned (s ∷ ss) xs = all_turned ss (put_last (same_key s) xs)
 unfoldable pub groups_among : List Subscription → List Group
 groups_among subscriptions = in_order group_cmp (filter_map group_of subscriptions)
 
+-- of a group the first member whose client passes
+abbrev pub next_by : (Text → Bool) → List Subscription → Group → Option Subscription
+next_by passes subscriptions group =
+    find (λ s. passes s.client) (filter (is_in_group group) subscriptions)
+
 -- of a group the first member whose client is connected and may read the topic
 abbrev pub next_in : Option (List AclRow) → List Session → List Subscription → Text → Group
     → Option Subscription
 next_in access sessions subscriptions topic group =
-    find (λ s. is_reader access sessions topic s.client) (filter (is_in_group group) subscriptions)
+    next_by (is_reader access sessions topic) subscriptions group
 
 unfoldable pub next_members : Option (List AclRow) → List Session → List Subscription → Message
     → List Subscription
@@ -74,9 +79,7 @@ abbrev pub turns_listed : Text → List Turn → List Subscription
 turns_listed share turns = map turn_of (filter (λ t. same_text (rc_str_bytes t.share) share) turns)
 
 -- the member in turn of each group at a filter comes behind those of its share name
-abbrev pub GathersTurns : Option (List AclRow) → List Session → Text → Text → List Subscription
-    → List Turn → List Turn → Type 0
-GathersTurns access sessions topic f rows old new =
+abbrev pub GathersTurns : (Text → Bool) → Text → List Subscription → List Turn → List Turn → Type 0
+GathersTurns passes f rows old new =
     (share : Text) → turns_listed share new
-    ≡ turns_listed share old ++ turns_of
-    (next_in access sessions rows topic (record { share = share; filter = f }))
+    ≡ turns_listed share old ++ turns_of (next_by passes rows (record { share = share; filter = f }))

@@ -4,6 +4,7 @@
 mod subscriptions;
 
 pub use subscriptions::Subscriptions;
+pub use subscriptions::client_test::ClientTest;
 pub use subscriptions::filter_entry::FilterEntry;
 pub use subscriptions::matches::{Match, sort_by_client};
 pub use subscriptions::turn::{Turn, sort_by_share};

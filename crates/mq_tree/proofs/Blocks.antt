@@ -12,7 +12,7 @@ use Rattle.mq_topic.proofs.ByteLemmas.{text_itself}
 use Rattle.mq_tree.specs.Below.{tally}
 use Rattle.mq_tree.specs.Entries.{Entries}
 use Rattle.mq_tree.specs.Nodes.{Children, under, below, own, AreChildren}
-use Rattle.mq_tree.specs.Prefixes.{heads, is_prefix, prefixes, prefixes_after}
+use Rattle.mq_topic.specs.Prefixes.{heads, is_prefix, prefixes, prefixes_after}
 use Rattle.mq_tree.proofs.Children.{After, AreChildren-tail}
 use Rattle.mq_tree.proofs.Levels.{apart_from_less}
 

@@ -7,7 +7,8 @@ use Rattle.std.specs.List.{sum_by}
 use Rattle.std.specs.Map.{values_of}
 use Rattle.std.proofs.lemmas.Bool.Decides.{nat_tests}
 use Rattle.std.proofs.lemmas.List.Sums.{sum_by-cons, sum_by-append}
-use Rattle.mq_tree.specs.Entries.{Entries, capped}
+use Rattle.mq_tree.specs.Entries.{Entries}
+use Rattle.mq_topic.specs.Prefixes.{capped}
 use Rattle.mq_tree.specs.Nodes.{NodeView, Branches, Children, under, below, own, entries_of}
 use Rattle.mq_tree.specs.Nodes.{children_of, AreChildren}
 use Rattle.mq_tree.specs.Falls.{some_length}

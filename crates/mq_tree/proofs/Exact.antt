@@ -8,7 +8,7 @@ use Rattle.mq_topic.proofs.ByteLemmas.{text_itself}
 use Rattle.mq_tree.specs.Below.{values_at, tally}
 use Rattle.mq_tree.specs.Entries.{Entries}
 use Rattle.mq_tree.specs.Nodes.{NodeView, is_level, entries_of, AreChildren}
-use Rattle.mq_tree.specs.Prefixes.{prefixes}
+use Rattle.mq_topic.specs.Prefixes.{prefixes}
 use Rattle.mq_tree.proofs.Levelwise.{values_node, met_node}
 use Rattle.mq_tree.proofs.Picks.{given, one, picked}
 use Rattle.mq_tree.proofs.Names.{one_sorted}

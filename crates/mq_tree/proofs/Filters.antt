@@ -13,7 +13,7 @@ use Rattle.mq_tree.specs.Entries.{Entries}
 use Rattle.mq_tree.specs.Falls.{weight-append, weight-under, some_length}
 use Rattle.mq_tree.specs.Nodes.{NodeView, Children, under, below, own, entries_of, weight, NoneDead}
 use Rattle.mq_tree.specs.Nodes.{AreChildren}
-use Rattle.mq_tree.specs.Prefixes.{prefixes}
+use Rattle.mq_topic.specs.Prefixes.{prefixes}
 use Rattle.mq_tree.proofs.Blocks.{is_here, long_prefixes, prefixes_own, length-blocks}
 use Rattle.mq_tree.proofs.Levels.{not_same}
 use Rattle.mq_tree.proofs.Levelwise.{values_node, met_node, filter_each, filter_none}

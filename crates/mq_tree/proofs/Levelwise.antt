@@ -8,7 +8,7 @@ use Rattle.std.proofs.lemmas.List.Elements.{filter-append}
 use Rattle.mq_tree.specs.Below.{values_at, tally}
 use Rattle.mq_tree.specs.Entries.{Entries}
 use Rattle.mq_tree.specs.Nodes.{Children, under, below, own, AreChildren}
-use Rattle.mq_tree.specs.Prefixes.{prefixes}
+use Rattle.mq_topic.specs.Prefixes.{prefixes}
 use Rattle.mq_tree.proofs.Blocks.{block, prefixes_own}
 
 values_at-append : {V : Type 0} (p : List (List ℕ) → Bool) (xs ys : Entries V)

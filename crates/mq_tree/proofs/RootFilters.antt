@@ -10,7 +10,7 @@ use Rattle.mq_tree.specs.Below.{hash, plus, begins_with_dollar, matches_below, f
 use Rattle.mq_tree.specs.Below.{values_at, tally}
 use Rattle.mq_tree.specs.Entries.{Entries}
 use Rattle.mq_tree.specs.Nodes.{NodeView, entries_of, AreChildren}
-use Rattle.mq_tree.specs.Prefixes.{heads, prefixes, met_by_filter}
+use Rattle.mq_topic.specs.Prefixes.{heads, prefixes, met_by_filter}
 use Rattle.mq_tree.proofs.Blocks.{Long, long_prefixes}
 use Rattle.mq_tree.proofs.Levels.{not_same}
 use Rattle.mq_tree.proofs.Levelwise.{values_node, met_node}

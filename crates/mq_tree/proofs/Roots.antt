@@ -15,7 +15,7 @@ use Rattle.mq_topic.proofs.Walk.{levels_match_cons, levels_match_end}
 use Rattle.mq_tree.specs.Below.{hash, plus, begins_with_dollar, is_last_hash, matches_below, fronts}
 use Rattle.mq_tree.specs.Below.{meets_name, values_at}
 use Rattle.mq_tree.specs.Entries.{Entries}
-use Rattle.mq_tree.specs.Prefixes.{heads, prefixes, met_by_name}
+use Rattle.mq_topic.specs.Prefixes.{heads, prefixes, met_by_name}
 use Rattle.mq_tree.proofs.Blocks.{Long, long_prefixes}
 use Rattle.mq_tree.proofs.Levels.{not_same}
 use Rattle.mq_tree.proofs.Names.{any_map, not_last}

@@ -2,7 +2,7 @@
 use Rattle.std.proofs.Common.{◌≡◌, ℕ, List, [], ◌∷◌, length, refl}
 use Rattle.std.specs.Prelude.{codes}
 use Rattle.mq_topic.specs.Levels.{levels}
-use Rattle.mq_tree.specs.Prefixes.{prefixes, met_by_name, met_by_filter}
+use Rattle.mq_topic.specs.Prefixes.{prefixes, met_by_name, met_by_filter}
 
 -- how many nodes a look-up enters, where these keys are stored
 abbrev by_name : List ℕ → List (List (List ℕ)) → ℕ

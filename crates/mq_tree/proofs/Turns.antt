@@ -14,7 +14,7 @@ use Rattle.mq_tree.specs.Below.{hash, plus, matches_below, meets_name, values_at
 use Rattle.mq_tree.specs.Below.{in_order_of}
 use Rattle.mq_tree.specs.Entries.{Entries}
 use Rattle.mq_tree.specs.Nodes.{NodeView, Children, is_level, own, entries_of, AreChildren}
-use Rattle.mq_tree.specs.Prefixes.{prefixes}
+use Rattle.mq_topic.specs.Prefixes.{prefixes}
 use Rattle.mq_tree.proofs.Blocks.{is_here, Long, long_prefixes}
 use Rattle.mq_tree.proofs.Levels.{not_same}
 use Rattle.mq_tree.proofs.Levelwise.{values_node, met_node, filter_none}

@@ -10,7 +10,7 @@ use Rattle.std.specs.Str.{bytes_eq}
 use Rattle.mq_topic.specs.Matching.{level_matches}
 use Rattle.mq_tree.specs.Entries.{Entries}
 use Rattle.mq_tree.specs.Nodes.{Children}
-use Rattle.mq_tree.specs.Prefixes.{heads, prefixes}
+use Rattle.mq_topic.specs.Prefixes.{heads, prefixes}
 
 -- `#` and `+`
 abbrev pub hash : List ℕ

@@ -1,5 +1,5 @@
 -- A tree seen as the list of its entries, each a key and its value.
-use Rattle.std.specs.Prelude.{ℕ, Bool, List, min}
+use Rattle.std.specs.Prelude.{ℕ, Bool, List}
 use Rattle.std.specs.BTreeMap.{is_at}
 use Rattle.std.specs.Map.{keys_of}
 use Rattle.std.specs.List.Sorted.{IsStrictlySortedBy}
@@ -16,7 +16,3 @@ is_key key = is_at (level_order key)
 -- the keys stand in level order, each once
 abbrev pub AreInOrder : {V : Type 0} → Entries V → Type 0
 AreInOrder es = IsStrictlySortedBy level_order (keys_of es)
-
--- a number as a u64 gives it
-abbrev pub capped : ℕ → ℕ
-capped n = min n 18446744073709551615

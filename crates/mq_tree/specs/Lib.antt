@@ -4,5 +4,4 @@ pub mod Falls
 pub mod Lending
 pub mod LendingNode
 pub mod Nodes
-pub mod Prefixes
 pub mod Trails

@@ -1,5 +1,5 @@
 ghost use Rattle.std.specs.Prelude.{◌≡◌, ℕ};
-ghost use Rattle.mq_tree.specs.Entries.{capped};
+ghost use Rattle.mq_topic.specs.Prefixes.{capped};
 
 /// A value that holds some number of things.
 pub trait Counted {

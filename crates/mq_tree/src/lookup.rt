@@ -10,7 +10,7 @@ ghost use Rattle.mq_tree.specs.Below.{Adds, values_at, values_below, nodes_at, n
 ghost use Rattle.mq_tree.specs.Below.{suits_name, meets_name, matches_below, meets_filter};
 ghost use Rattle.mq_tree.specs.Below.{ArePlain, HashLast};
 ghost use Rattle.mq_tree.specs.Nodes.{entries_of, own, AreChildren};
-ghost use Rattle.mq_tree.specs.Prefixes.{prefixes, met_by_name, met_by_filter};
+ghost use Rattle.mq_topic.specs.Prefixes.{prefixes, met_by_name, met_by_filter};
 
 use crate::tree::node::Node;
 use crate::tree::steps::Walk;

@@ -7,8 +7,9 @@ ghost use Rattle.std.specs.Option.{option_copied, option_copied_mut};
 ghost use Rattle.mq_tree.specs.Lending.{LendsAt};
 ghost use Rattle.mq_topic.specs.Levels.{levels, level_order};
 ghost use Rattle.mq_topic.specs.Matching.{matches};
-ghost use Rattle.mq_tree.specs.Entries.{is_key, capped, AreInOrder};
-ghost use Rattle.mq_tree.specs.Prefixes.{prefixes, met_by_name, met_by_filter};
+ghost use Rattle.mq_tree.specs.Entries.{is_key, AreInOrder};
+ghost use Rattle.mq_topic.specs.Prefixes.{capped};
+ghost use Rattle.mq_topic.specs.Prefixes.{prefixes, met_by_name, met_by_filter};
 
 pub(crate) mod node;
 pub(crate) mod steps;

@@ -2,8 +2,8 @@
 use Rattle.std.specs.Prelude.{ℕ, ◌+◌, List, length, map, if◌then◌else◌}
 use Rattle.std.specs.List.{filter}
 use Rattle.mq_topic.specs.Levels.{levels, level_order}
-use Rattle.mq_tree.specs.Entries.{capped}
-use Rattle.mq_tree.specs.Prefixes.{prefixes, met_by_name, met_by_filter}
+use Rattle.mq_topic.specs.Prefixes.{capped}
+use Rattle.mq_topic.specs.Prefixes.{prefixes, met_by_name, met_by_filter}
 use Rattle.mq_world.specs.Lists.{in_order}
 use Rattle.mq_world.specs.World.{World, Subscription, Retained, Request, Connect, Disconnect}
 use Rattle.mq_world.specs.World.{Subscribe, Unsubscribe, Publish, SetAcl, Advance, Stat}

@@ -7,10 +7,9 @@ ghost use Rattle.mq_retained.specs.Stored.{message_in, may_get, AreNear};
 ghost use Rattle.mq_retained.specs.Receivers.{subscription_for, copies_among};
 
 use crate::retained::stored::Stored;
-use mq_acl::Acl;
-use mq_sessions::{Clock, may_read};
+use mq_acl::{Acl, may_read};
 use mq_topic::{LevelText, TopicFilter};
-use mq_world::{Delivery, SubscriptionOptions};
+use mq_world::{Clock, Delivery, SubscriptionOptions};
 use std::alloc::{AllocError, Global};
 use std::rc::RcStr;
 

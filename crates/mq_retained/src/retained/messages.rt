@@ -6,8 +6,9 @@ ghost use Rattle.std.specs.Map.{lookup, keys_of, values_of, remove_entry};
 ghost use Rattle.std.specs.Option.{option_copied};
 ghost use Rattle.mq_topic.specs.Levels.{levels, level_order};
 ghost use Rattle.mq_topic.specs.Matching.{matches};
-ghost use Rattle.mq_tree.specs.Entries.{is_key, capped, AreInOrder};
-ghost use Rattle.mq_tree.specs.Prefixes.{prefixes, met_by_filter};
+ghost use Rattle.mq_tree.specs.Entries.{is_key, AreInOrder};
+ghost use Rattle.mq_topic.specs.Prefixes.{capped};
+ghost use Rattle.mq_topic.specs.Prefixes.{prefixes, met_by_filter};
 
 use crate::retained::stored::Stored;
 use mq_topic::{TopicFilter, TopicName};

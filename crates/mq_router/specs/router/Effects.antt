@@ -4,8 +4,8 @@ use Rattle.std.specs.Prelude.{Some, None, Result, Ok, Err, MatchResult, if◌the
 use Rattle.std.specs.List.{filter, list_any}
 use Rattle.mq_topic.specs.Levels.{levels}
 use Rattle.mq_topic.specs.Texts.{is_name, share_of, filter_part}
-use Rattle.mq_tree.specs.Entries.{capped}
-use Rattle.mq_tree.specs.Prefixes.{prefixes, met_by_name}
+use Rattle.mq_topic.specs.Prefixes.{capped}
+use Rattle.mq_topic.specs.Prefixes.{prefixes, met_by_name}
 use Rattle.mq_acl.specs.Rows.{AclRow}
 use Rattle.mq_acl.specs.Access.{allowed}
 use Rattle.mq_acl.specs.declared.access.Direction.TheVariants.{Writing}

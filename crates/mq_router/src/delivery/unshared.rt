@@ -16,8 +16,9 @@ ghost use Rattle.mq_sessions.specs.Queue.{queue_item};
 ghost use Rattle.mq_sessions.specs.Views.{queue_item_of};
 
 use crate::delivery::outgoing::Outgoing;
+use crate::delivery::readers::Readers;
 use crate::delivery::summary::Summary;
-use mq_sessions::{QueuedCopy, Readers, Way, queued_copy};
+use mq_sessions::{QueuedCopy, Way, queued_copy};
 use mq_subscriptions::Match;
 use mq_world::Delivery;
 use std::alloc::{AllocError, Global};

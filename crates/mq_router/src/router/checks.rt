@@ -12,7 +12,8 @@ ghost use Rattle.mq_router.specs.router.Effects.{refused_by, sender_conditions, 
 
 use super::Router;
 use crate::texts::{is_shared_no_local, parse_filter, parse_name};
-use mq_sessions::{Client, may_write};
+use mq_acl::may_write;
+use mq_sessions::Client;
 use mq_topic::{SubFilter, TopicName};
 use mq_world::{Refusal, SubscriptionOptions, is_client_id};
 use std::rc::RcStr;

@@ -9,8 +9,8 @@ ghost use Rattle.mq_sessions.specs.Near.{AllReached};
 ghost use Rattle.mq_sessions.specs.Resumed.{copies_if_resumed};
 
 use crate::texts::copied;
-use mq_sessions::{Clock, Sessions};
-use mq_world::Delivery;
+use mq_sessions::Sessions;
+use mq_world::{Clock, Delivery};
 use std::alloc::{AllocError, Global};
 use std::rc::RcStr;
 

@@ -1,12 +1,12 @@
 //! The end of a client's connection.
 ghost use Rattle.std.specs.Prelude.{◌≡◌, ◌+◌, length, IfSome, IfNone, map, false, true, List};
 ghost use Rattle.std.specs.Rc.{rc_str_bytes};
-ghost use Rattle.mq_ends.specs.Dues.{Due, is_in};
+ghost use Rattle.mq_sessions.specs.Dues.{Due, is_in};
 ghost use Rattle.mq_world.specs.Sessions.{connected, is_connected, left_by};
 ghost use Rattle.mq_sessions.specs.Ends.{AreListed, KeepIds, views_of};
 
-use crate::clock::Clock;
 use crate::sessions::session::Session;
+use mq_world::Clock;
 use std::collections::BTreeMap;
 use std::rc::RcStr;
 

@@ -3,11 +3,11 @@
 ghost use Rattle.std.specs.Prelude.{◌≡◌, ◌+◌, ◌<◌, ◌≤◌, true, length, IfOk, OnOk, IfSome};
 ghost use Rattle.std.specs.List.{list_any};
 ghost use Rattle.std.specs.Rc.{rc_str_bytes};
-ghost use Rattle.mq_ends.specs.Dues.{Due, is_in};
+ghost use Rattle.mq_sessions.specs.Dues.{Due, is_in};
 ghost use Rattle.mq_sessions.specs.Ends.{AreListed, AreIndexed, IsFirstLive, ends_so, views_of};
 
+use crate::sessions::end_heap::Ends;
 use crate::sessions::session::Session;
-use mq_ends::Ends;
 use std::alloc::{AllocError, Global};
 use std::collections::BTreeMap;
 use std::rc::RcStr;

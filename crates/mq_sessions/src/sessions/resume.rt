@@ -7,9 +7,8 @@ ghost use Rattle.mq_sessions.specs.Near.{IsReached, AreReached};
 ghost use Rattle.mq_world.specs.Views.{copy_of};
 ghost use Rattle.mq_sessions.specs.Views.{waiting_of};
 
-use crate::clock::Clock;
 use crate::sessions::session::Waiting;
-use mq_world::Delivery;
+use mq_world::{Clock, Delivery};
 use std::alloc::{AllocError, Global};
 use std::collections::LinkedList;
 

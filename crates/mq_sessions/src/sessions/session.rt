@@ -11,8 +11,7 @@ ghost use Rattle.mq_sessions.specs.Queue.{queue_copies};
 ghost use Rattle.mq_sessions.specs.Ends.{end_of};
 ghost use Rattle.mq_sessions.specs.Views.{kept_id, view_of, waiting_of};
 
-use crate::clock::Clock;
-use mq_world::Delivery;
+use mq_world::{Clock, Delivery};
 use std::alloc::Global;
 use std::collections::LinkedList;
 use std::mem::replace;

@@ -15,11 +15,11 @@ ghost use Rattle.mq_subscriptions.specs.Turns.{GathersTurns};
 ghost use Rattle.mq_subscriptions.specs.Edits.{JoinsAt};
 ghost use Rattle.mq_world.specs.Lists.{same_text};
 
+use crate::subscriptions::client_test::ClientTest;
 use crate::subscriptions::matches::Match;
 use crate::subscriptions::share_groups::ShareGroups;
 use crate::subscriptions::turn::Turn;
-use mq_sessions::Readers;
-use mq_topic::{TopicFilter, TopicName};
+use mq_topic::TopicFilter;
 use mq_tree::Counted;
 use mq_world::{Message, SubscriptionOptions};
 use std::alloc::{AllocError, Global};
@@ -166,17 +166,15 @@ impl FilterEntry {
     }
 
     /// Adds the member of each group that is served.
-    pub fn gather_turns(
+    pub fn gather_turns<T: ClientTest>(
         &self,
-        readers: &Readers,
-        name: &TopicName,
+        test: &T,
         turns: &mut Vec<Turn>,
     ) -> Result<(), AllocError>
-        ensures { OnOk result (GathersTurns readers.now.access.now readers.now.sessions.now name.now
-            self.now.filter self.now.rows
+        ensures { OnOk result (GathersTurns (T.passes test.now) self.now.filter self.now.rows
             turns.old.items turns.new.items) }
     {
-        self.groups.gather_turns(&self.filter, readers, name, turns)
+        self.groups.gather_turns(&self.filter, test, turns)
     }
 }
 

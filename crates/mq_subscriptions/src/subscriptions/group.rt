@@ -3,13 +3,11 @@ ghost use Rattle.std.specs.Prelude.{◌≡◌, [], length, not, OnOk, OnErr};
 ghost use Rattle.std.specs.Option.{option_map};
 ghost use Rattle.std.specs.Rc.{rc_str_bytes};
 ghost use Rattle.std.specs.List.{filter, find, list_any};
-ghost use Rattle.mq_world.specs.Sessions.{is_reader};
 ghost use Rattle.mq_subscriptions.specs.Filters.{has_client, is_empty};
 ghost use Rattle.mq_subscriptions.specs.Turns.{with_one, put_last};
 
+use crate::subscriptions::client_test::ClientTest;
 use indexmap::IndexMap;
-use mq_sessions::Readers;
-use mq_topic::TopicName;
 use mq_world::SubscriptionOptions;
 use std::alloc::{AllocError, Global};
 use std::marker::Model;
@@ -93,18 +91,13 @@ impl Group {
         }
     }
 
-    /// The first member whose client is connected and may read the topic.
-    pub(crate) fn next(
-        &self,
-        readers: &Readers,
-        name: &TopicName,
-    ) -> Option<(&RcStr, SubscriptionOptions)>
+    /// The first member whose client passes.
+    pub(crate) fn next<T: ClientTest>(&self, test: &T) -> Option<(&RcStr, SubscriptionOptions)>
         ensures { option_map (λ m. (rc_str_bytes m.0.now, m.1)) result
-            ≡ find (λ m. is_reader readers.now.access.now readers.now.sessions.now name.now m.0)
-            self.now }
+            ≡ find (λ m. T.passes test.now m.0) self.now }
     {
         for (client, options) in &self.members {
-            if readers.is_reader(client.as_str(), name) {
+            if test.passes(client.as_str()) {
                 return Some((client, *options));
             }
         }

@@ -3,17 +3,17 @@ ghost use Rattle.std.specs.Prelude.{◌≡◌, [], length, Some, None, OnOk, OnE
 ghost use Rattle.std.specs.List.{list_any};
 ghost use Rattle.std.specs.Map.{lookup};
 ghost use Rattle.std.specs.Rc.{rc_str_bytes};
-ghost use Rattle.mq_tree.specs.Entries.{capped};
+ghost use Rattle.mq_topic.specs.Prefixes.{capped};
 ghost use Rattle.mq_world.specs.Lists.{Text};
 ghost use Rattle.mq_world.specs.World.{has_key};
 ghost use Rattle.mq_subscriptions.specs.Edits.{GroupJoins, GroupLeaves, GroupTurns};
 ghost use Rattle.mq_subscriptions.specs.Filters.{group_rows, is_empty, is_text};
 ghost use Rattle.mq_subscriptions.specs.Turns.{GathersTurns};
 
+use crate::subscriptions::client_test::ClientTest;
 use crate::subscriptions::group::Group;
 use crate::subscriptions::turn::Turn;
-use mq_sessions::Readers;
-use mq_topic::{TopicFilter, TopicName};
+use mq_topic::TopicFilter;
 use mq_world::SubscriptionOptions;
 use std::alloc::{AllocError, Global};
 use std::collections::BTreeMap;
@@ -139,19 +139,17 @@ impl ShareGroups {
     }
 
     /// Adds the member of each group that is served.
-    pub(crate) fn gather_turns(
+    pub(crate) fn gather_turns<T: ClientTest>(
         &self,
         filter: &Rc<TopicFilter>,
-        readers: &Readers,
-        name: &TopicName,
+        test: &T,
         turns: &mut Vec<Turn>,
     ) -> Result<(), AllocError>
-        ensures { OnOk result (GathersTurns readers.now.access.now readers.now.sessions.now name.now
-            filter.now.value (group_rows filter.now.value self.now)
-            turns.old.items turns.new.items) }
+        ensures { OnOk result (GathersTurns (T.passes test.now) filter.now.value
+            (group_rows filter.now.value self.now) turns.old.items turns.new.items) }
     {
         for (share, group) in &self.by_share {
-            if let Some((client, options)) = group.next(readers, name) {
+            if let Some((client, options)) = group.next(test) {
                 turns.push(Turn::of(share, filter, client, options)?)?;
             }
         }

@@ -5,7 +5,7 @@ use Rattle.std.specs.List.{flat_map}
 use Rattle.std.proofs.lemmas.Map.Iter.{rest_more, rest_all}
 use Rattle.mq_tree.specs.Below.{tally}
 use Rattle.mq_tree.specs.Nodes.{own, entries_of, weight}
-use Rattle.mq_tree.specs.Prefixes.{prefixes}
+use Rattle.mq_topic.specs.Prefixes.{prefixes}
 use Rattle.mq_tree.proofs.Turns.{found_turn}
 use Rattle.mq_tree.proofs.Filters.{all_values, all_met, first_weighs_less}
 use Rattle.mq_tree.proofs.lookup.+all.Goals as goal

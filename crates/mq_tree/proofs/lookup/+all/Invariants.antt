@@ -3,7 +3,7 @@ use Rattle.std.specs.Map.{values_of, keys_of}
 use Rattle.std.specs.List.{flat_map}
 use Rattle.mq_tree.specs.Below.{tally}
 use Rattle.mq_tree.specs.Nodes.{entries_of, below, weight, NoneDead}
-use Rattle.mq_tree.specs.Prefixes.{prefixes}
+use Rattle.mq_topic.specs.Prefixes.{prefixes}
 use Rattle.mq_tree.proofs.lookup.+all.Given as goal
 
 abbrev pub decreases-all : goal.decreases-all

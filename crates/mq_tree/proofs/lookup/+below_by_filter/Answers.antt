@@ -7,7 +7,7 @@ use Rattle.std.proofs.lemmas.Map.Iter.{rest_more, rest_all}
 use Rattle.mq_topic.specs.Levels.{levels_left}
 use Rattle.mq_tree.specs.Below.{hash, plus, matches_below, meets_filter, values_at, nodes_at, tally}
 use Rattle.mq_tree.specs.Nodes.{entries_of}
-use Rattle.mq_tree.specs.Prefixes.{prefixes}
+use Rattle.mq_topic.specs.Prefixes.{prefixes}
 use Rattle.mq_tree.proofs.Turns.{found_turn, text_is, text_is_not, text_is_same, text_differs}
 use Rattle.mq_tree.proofs.Filters.{end_found, end_met, hash_ends, hash_found, hash_met, exact_step}
 use Rattle.mq_tree.proofs.Filters.{exact_met_step, not_key, plus_found, plus_met, rest_hash_last}

@@ -3,7 +3,7 @@ use Rattle.std.specs.Map.{keys_of}
 use Rattle.std.specs.List.{filter, flat_map}
 use Rattle.mq_topic.specs.Levels.{levels_left}
 use Rattle.mq_tree.specs.Below.{HashLast, matches_below, meets_filter, values_at, tally}
-use Rattle.mq_tree.specs.Prefixes.{prefixes}
+use Rattle.mq_topic.specs.Prefixes.{prefixes}
 use Rattle.mq_tree.proofs.lookup.+below_by_filter.Given as goal
 
 abbrev pub decreases-below_by_filter : goal.decreases-below_by_filter

@@ -6,7 +6,7 @@ use Rattle.std.specs.Map.{keys_of}
 use Rattle.mq_topic.specs.Levels.{levels_left}
 use Rattle.mq_tree.specs.Below.{hash, matches_below, meets_name, values_at, tally}
 use Rattle.mq_tree.specs.Nodes.{entries_of}
-use Rattle.mq_tree.specs.Prefixes.{prefixes}
+use Rattle.mq_topic.specs.Prefixes.{prefixes}
 use Rattle.mq_tree.proofs.Picks.{gather, one}
 use Rattle.mq_tree.proofs.Turns.{found_at, met_at, found_hash, found_other, met_hash, met_other}
 use Rattle.mq_tree.proofs.Turns.{found_all, met_all, turn, all_given, found_turn, text_is}

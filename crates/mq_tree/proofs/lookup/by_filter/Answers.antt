@@ -6,7 +6,7 @@ use Rattle.mq_topic.specs.Levels.{levels, levels_left}
 use Rattle.mq_topic.specs.Matching.{matches}
 use Rattle.mq_tree.specs.Below.{hash, plus, matches_below, meets_filter, values_at}
 use Rattle.mq_tree.specs.Nodes.{entries_of}
-use Rattle.mq_tree.specs.Prefixes.{heads, prefixes, met_by_filter}
+use Rattle.mq_topic.specs.Prefixes.{heads, prefixes, met_by_filter}
 use Rattle.mq_tree.proofs.Turns.{text_is, text_is_not}
 use Rattle.mq_tree.proofs.Filters.{hash_ends}
 use Rattle.mq_tree.proofs.RootFilters.{hash_step, hash_met_step, plus_step, plus_met_step}

@@ -6,7 +6,7 @@ use Rattle.mq_topic.specs.Levels.{levels_left}
 use Rattle.mq_topic.specs.Matching.{matches}
 use Rattle.mq_tree.specs.Below.{matches_below, meets_name, values_at}
 use Rattle.mq_tree.specs.Nodes.{entries_of}
-use Rattle.mq_tree.specs.Prefixes.{heads, prefixes, met_by_name}
+use Rattle.mq_topic.specs.Prefixes.{heads, prefixes, met_by_name}
 use Rattle.mq_tree.proofs.Exact.{found_some, found_none, met_some, met_none}
 use Rattle.mq_tree.proofs.Roots.{shown_found, shown_met, hidden_step, hidden_met_step}
 use Rattle.mq_tree.proofs.Roots.{no_key_matches}

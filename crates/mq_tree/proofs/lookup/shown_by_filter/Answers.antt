@@ -8,7 +8,7 @@ use Rattle.mq_tree.specs.Below.{begins_with_dollar, plain_children, matches_belo
 use Rattle.mq_tree.specs.Below.{values_at, nodes_at, tally}
 use Rattle.mq_tree.specs.Entries.{Entries}
 use Rattle.mq_tree.specs.Nodes.{Children}
-use Rattle.mq_tree.specs.Prefixes.{prefixes}
+use Rattle.mq_topic.specs.Prefixes.{prefixes}
 use Rattle.mq_tree.proofs.Turns.{found_turn}
 use Rattle.mq_tree.proofs.lookup.shown_by_filter.Goals as goal
 

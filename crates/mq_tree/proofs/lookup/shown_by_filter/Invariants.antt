@@ -5,7 +5,7 @@ use Rattle.std.specs.List.{filter, flat_map}
 use Rattle.mq_topic.specs.Levels.{levels_left}
 use Rattle.mq_tree.specs.Below.{HashLast, matches_below, meets_filter, values_at, tally}
 use Rattle.mq_tree.specs.Below.{begins_with_dollar}
-use Rattle.mq_tree.specs.Prefixes.{prefixes}
+use Rattle.mq_topic.specs.Prefixes.{prefixes}
 use Rattle.mq_tree.proofs.lookup.shown_by_filter.Given as goal
 
 abbrev pub invariant-loop-child : goal.invariant-loop-child

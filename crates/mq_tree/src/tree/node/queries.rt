@@ -3,9 +3,10 @@ ghost use Rattle.std.specs.Map.{lookup, keys_of};
 ghost use Rattle.std.specs.Option.{option_copied};
 ghost use Rattle.std.specs.List.{sum_by};
 ghost use Rattle.mq_topic.specs.Levels.{levels_left};
-ghost use Rattle.mq_tree.specs.Entries.{is_key, capped};
+ghost use Rattle.mq_tree.specs.Entries.{is_key};
+ghost use Rattle.mq_topic.specs.Prefixes.{capped};
 ghost use Rattle.mq_tree.specs.Nodes.{own, entries_of};
-ghost use Rattle.mq_tree.specs.Prefixes.{prefixes};
+ghost use Rattle.mq_topic.specs.Prefixes.{prefixes};
 
 use super::Node;
 use crate::counted::Counted;

@@ -3,7 +3,7 @@ use Rattle.std.specs.List.{filter}
 use Rattle.std.specs.Option.{option_copied}
 use Rattle.std.proofs.lemmas.Simd.{map-map}
 use Rattle.mq_topic.specs.Levels.{levels}
-use Rattle.mq_tree.specs.Prefixes.{prefixes, met_by_filter}
+use Rattle.mq_topic.specs.Prefixes.{prefixes, met_by_filter}
 use Rattle.mq_world.specs.World.{Retained}
 use Rattle.mq_world.specs.Counts.{topics_of}
 use Rattle.mq_world.specs.Copies.{filter_matches}

@@ -4,7 +4,8 @@ use Rattle.std.specs.Option.{option_map, option_map_or, option_and_then}
 use Rattle.mq_world.specs.Sessions.{is_present, is_connected, user_of}
 use Rattle.mq_world.specs.World.{Session}
 use Rattle.mq_sessions.specs.Views.{session_at}
-use Rattle.mq_sessions.proofs.SessionLemmas.{found-is, key-is}
+use Rattle.mq_sessions.proofs.SessionLemmas.{found-is}
+use Rattle.mq_world.proofs.TextKeys.{key-is}
 use Rattle.mq_sessions.proofs.sessions.Sessions.connected.Goals as goal
 
 pub returns-in-None-clause-connected : goal.returns-in-None-clause-connected

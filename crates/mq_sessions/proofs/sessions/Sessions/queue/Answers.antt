@@ -6,7 +6,8 @@ use Rattle.mq_sessions.specs.Views.{session_in, sessions_of, queue_item_of, view
 use Rattle.mq_sessions.proofs.EndLemmas.{indexed-queued}
 use Rattle.mq_sessions.proofs.EntryLemmas.{ids-edited}
 use Rattle.mq_sessions.proofs.QueueLemmas.{queued-id}
-use Rattle.mq_sessions.proofs.SessionLemmas.{edited-is, finds, nobody-edited}
+use Rattle.mq_sessions.proofs.SessionLemmas.{edited-is, nobody-edited}
+use Rattle.mq_world.proofs.TextKeys.{finds}
 use Rattle.mq_sessions.proofs.sessions.Sessions.queue.Goals as goal
 
 pub invariant_of-self-2 : goal.invariant_of-self-2

@@ -7,7 +7,8 @@ use Rattle.mq_sessions.specs.Ends.{AreListed, IsListed, KeepIds}
 use Rattle.mq_sessions.specs.Views.{session_in, sessions_of}
 use Rattle.mq_sessions.proofs.EndLemmas.{connected-fewer}
 use Rattle.mq_sessions.proofs.EntryLemmas.{ids-removed}
-use Rattle.mq_sessions.proofs.SessionLemmas.{finds, removed-is}
+use Rattle.mq_sessions.proofs.SessionLemmas.{removed-is}
+use Rattle.mq_world.proofs.TextKeys.{finds}
 use Rattle.mq_sessions.proofs.sessions.Sessions.remove.Goals as goal
 
 pub settle-requires : goal.settle-requires

@@ -7,7 +7,8 @@ use Rattle.mq_world.specs.Sessions.{connected, has_ended, is_among}
 use Rattle.mq_sessions.specs.Ends.{AreListed, KeepIds}
 use Rattle.mq_sessions.specs.Views.{session_in, sessions_of}
 use Rattle.mq_sessions.proofs.EntryLemmas.{ids-removed}
-use Rattle.mq_sessions.proofs.SessionLemmas.{finds, removed-is, sorted-is}
+use Rattle.mq_sessions.proofs.SessionLemmas.{removed-is, sorted-is}
+use Rattle.mq_world.proofs.TextKeys.{finds}
 use Rattle.mq_sessions.proofs.EndLemmas.{connected-fewer}
 use Rattle.mq_sessions.proofs.TakenLemmas.{any-is, taken-ended, taken-listed, taken-only, taken-shorter}
 use Rattle.mq_sessions.proofs.sessions.Sessions.take_ended.Goals as goal

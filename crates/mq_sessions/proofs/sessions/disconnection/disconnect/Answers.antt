@@ -7,7 +7,8 @@ use Rattle.mq_world.specs.World.{Session, Away}
 use Rattle.mq_world.specs.Sessions.{connected, is_present, session_end}
 use Rattle.mq_sessions.specs.Ends.{AreListed, KeepIds, views_of}
 use Rattle.mq_sessions.specs.Views.{kept_id, session_at, session_in}
-use Rattle.mq_sessions.proofs.SessionLemmas.{edited-is, finds, found-is}
+use Rattle.mq_sessions.proofs.SessionLemmas.{edited-is, found-is}
+use Rattle.mq_world.proofs.TextKeys.{finds}
 use Rattle.mq_sessions.proofs.EntryLemmas.{absent-kept, connected-found, connected-left, ids-edited}
 use Rattle.mq_sessions.proofs.EntryLemmas.{ids-left, listed-left, present-kept}
 use Rattle.mq_sessions.proofs.sessions.disconnection.disconnect.Goals as goal

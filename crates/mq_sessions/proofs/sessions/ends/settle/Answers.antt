@@ -1,6 +1,6 @@
 use Rattle.std.proofs.Common.{sym, ◌∙◌, arith}
 use Rattle.std.specs.Rc.{rc_str_bytes}
-use Rattle.mq_ends.specs.Dues.{Due}
+use Rattle.mq_sessions.specs.Dues.{Due}
 use Rattle.mq_sessions.proofs.EndLemmas.{listed-rest, shorter}
 use Rattle.mq_sessions.proofs.sessions.ends.settle.Goals as goal
 

@@ -1,5 +1,5 @@
 use Rattle.std.proofs.Common.{length, sym, ap, ◌∙◌}
-use Rattle.mq_tree.specs.Entries.{capped}
+use Rattle.mq_topic.specs.Prefixes.{capped}
 use Rattle.mq_subscriptions.specs.Filters.{SubscriptionsView}
 use Rattle.mq_subscriptions.proofs.CountLemmas.{all-number}
 use Rattle.mq_subscriptions.proofs.subscriptions.Subscriptions.len.Goals as goal

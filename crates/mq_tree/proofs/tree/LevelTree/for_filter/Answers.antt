@@ -5,7 +5,7 @@ use Rattle.mq_topic.specs.Matching.{matches}
 use Rattle.mq_tree.specs.Below.{values_at}
 use Rattle.mq_tree.specs.Entries.{Entries, AreInOrder}
 use Rattle.mq_tree.specs.Nodes.{entries_of}
-use Rattle.mq_tree.specs.Prefixes.{prefixes, met_by_filter}
+use Rattle.mq_topic.specs.Prefixes.{prefixes, met_by_filter}
 use Rattle.mq_tree.proofs.Texts.{filter_hash_last}
 use Rattle.mq_tree.proofs.tree.LevelTree.for_filter.Goals as goal
 

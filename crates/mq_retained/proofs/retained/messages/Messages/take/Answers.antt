@@ -2,7 +2,8 @@ use Rattle.std.proofs.Common.{◌≡◌, ◌+◌, ◌∙◌, true, false, length
 use Rattle.std.specs.Prelude.{is_some}
 use Rattle.std.specs.Map.{lookup}
 use Rattle.mq_topic.specs.Levels.{levels}
-use Rattle.mq_tree.specs.Entries.{Entries, is_key, capped, AreInOrder}
+use Rattle.mq_tree.specs.Entries.{Entries, is_key, AreInOrder}
+use Rattle.mq_topic.specs.Prefixes.{capped}
 use Rattle.mq_retained.specs.Stored.{AreCounted}
 use Rattle.mq_retained.proofs.MessageCounts.{taken-fewer, none-taken}
 use Rattle.mq_retained.proofs.RetainedLemmas.{take-ordered}

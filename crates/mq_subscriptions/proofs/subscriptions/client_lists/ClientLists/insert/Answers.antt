@@ -9,7 +9,7 @@ use Rattle.mq_world.specs.Keys.{Key}
 use Rattle.mq_subscriptions.specs.Filters.{FilterKey, FilterLists, NoneEmpty, is_text, text_key}
 use Rattle.mq_subscriptions.specs.SubFilters.{ListsMore}
 use Rattle.mq_subscriptions.specs.Views.{texts}
-use Rattle.mq_sessions.proofs.SessionLemmas.{finds}
+use Rattle.mq_world.proofs.TextKeys.{finds}
 use Rattle.mq_subscriptions.proofs.Outcomes.{by_outcome}
 use Rattle.mq_subscriptions.proofs.TextMaps.{lookup-texts, live-set}
 use Rattle.mq_subscriptions.proofs.ListedLemmas.{added-there, added-live}

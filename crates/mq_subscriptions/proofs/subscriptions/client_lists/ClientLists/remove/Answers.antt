@@ -1,7 +1,7 @@
 use Rattle.std.proofs.Common.{◌∙◌, sym, ap, subst}
 use Rattle.std.specs.Option.{option_copied_mut}
 use Rattle.std.specs.Map.{remove_entry}
-use Rattle.mq_sessions.proofs.SessionLemmas.{finds}
+use Rattle.mq_world.proofs.TextKeys.{finds}
 use Rattle.mq_subscriptions.specs.Filters.{FilterLists, text_key, is_listed}
 use Rattle.mq_subscriptions.specs.SubFilters.{ListsLess}
 use Rattle.mq_subscriptions.specs.Views.{texts}

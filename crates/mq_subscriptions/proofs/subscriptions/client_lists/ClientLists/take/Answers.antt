@@ -1,6 +1,6 @@
 use Rattle.std.proofs.Common.{◌∙◌, sym, ap, subst}
 use Rattle.std.specs.Map.{lookup}
-use Rattle.mq_sessions.proofs.SessionLemmas.{finds}
+use Rattle.mq_world.proofs.TextKeys.{finds}
 use Rattle.mq_subscriptions.specs.Filters.{FilterLists, is_text}
 use Rattle.mq_subscriptions.specs.SubFilters.{ListsOthers}
 use Rattle.mq_subscriptions.specs.Views.{texts}

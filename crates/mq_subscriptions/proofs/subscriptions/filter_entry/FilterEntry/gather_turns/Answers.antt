@@ -8,15 +8,13 @@ use Rattle.mq_subscriptions.proofs.TurnsAtLemmas.{next-at}
 use Rattle.mq_subscriptions.proofs.subscriptions.filter_entry.FilterEntry.gather_turns.Goals as goal
 
 pub returns : goal.returns
-returns c =
-    let A = c.args.readers.now.access.now in
-    let S = c.args.readers.now.sessions.now in
-    let N = c.args.name.now in
+returns g c =
+    let P = g.T.ClientTest.passes c.args.test.now in
     let old = c.args.turns.now.items in
     let new = c.gather_turns.new.turns.items in
-    subst (λ (a : At). OnOk c.gather_turns.result (GathersTurns A S N a.filter a.rows old new))
+    subst (λ (a : At). OnOk c.gather_turns.result (GathersTurns P a.filter a.rows old new))
     c.self.view_is
     (on_ok_weaker c.gather_turns.result (λ h share. h share
     ∙ ap (λ o. turns_listed share old ++ turns_of o)
-    (next-at A S N c.self.inside.filter.value share (texts c.self.inside.unshared.entries)
+    (next-at P c.self.inside.filter.value share (texts c.self.inside.unshared.entries)
     c.self.inside.groups)) c.gather_turns.ensures)

@@ -6,7 +6,7 @@ use Rattle.std.specs.Option.{option_copied_mut}
 use Rattle.std.proofs.lemmas.Result.{on_ok_weaker, on_err_weaker}
 use Rattle.std.proofs.lemmas.Map.Steps.{set_value_same}
 use Rattle.mq_world.specs.Keys.{Key}
-use Rattle.mq_sessions.proofs.SessionLemmas.{finds}
+use Rattle.mq_world.proofs.TextKeys.{finds}
 use Rattle.mq_subscriptions.specs.Edits.{GroupJoins}
 use Rattle.mq_subscriptions.specs.Filters.{Member, GroupList, NoneEmpty, is_text, has_client}
 use Rattle.mq_subscriptions.specs.Filters.{is_empty}

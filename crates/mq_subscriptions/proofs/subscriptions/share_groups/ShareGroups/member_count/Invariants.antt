@@ -1,6 +1,6 @@
 use Rattle.std.proofs.Common.{◌≡◌, ◌+◌, ◌≤◌, length}
 use Rattle.std.specs.List.{sum_by}
-use Rattle.mq_tree.specs.Entries.{capped}
+use Rattle.mq_topic.specs.Prefixes.{capped}
 use Rattle.mq_world.specs.Lists.{Text}
 use Rattle.mq_subscriptions.specs.Filters.{group_rows}
 use Rattle.mq_subscriptions.proofs.subscriptions.share_groups.ShareGroups.member_count.Given as goal

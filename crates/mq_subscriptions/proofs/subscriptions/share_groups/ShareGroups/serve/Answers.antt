@@ -3,7 +3,7 @@ use Rattle.std.specs.Option.{option_copied_mut}
 use Rattle.mq_subscriptions.specs.Edits.{GroupTurns}
 use Rattle.mq_subscriptions.specs.Filters.{GroupList, group_rows, has_client, is_empty}
 use Rattle.mq_subscriptions.specs.Views.{texts}
-use Rattle.mq_sessions.proofs.SessionLemmas.{finds}
+use Rattle.mq_world.proofs.TextKeys.{finds}
 use Rattle.mq_subscriptions.proofs.InTurn.{same-is, same-then}
 use Rattle.mq_subscriptions.proofs.TextMaps.{live-set}
 use Rattle.mq_subscriptions.proofs.AtLemmas.{group-turned, group-absent_turned}

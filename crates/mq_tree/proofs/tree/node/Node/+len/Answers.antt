@@ -6,7 +6,7 @@ use Rattle.std.specs.Map.{values_of}
 use Rattle.std.specs.Option.{option_copied}
 use Rattle.std.proofs.lemmas.List.Sums.{sum_by-cons}
 use Rattle.std.proofs.lemmas.Map.Iter.{rest_more, rest_all}
-use Rattle.mq_tree.specs.Entries.{capped}
+use Rattle.mq_topic.specs.Prefixes.{capped}
 use Rattle.mq_tree.specs.Nodes.{entries_of, weight}
 use Rattle.mq_tree.proofs.Counts.{length-own}
 use Rattle.mq_tree.proofs.Filters.{all_weigh_less, first_weighs_less}

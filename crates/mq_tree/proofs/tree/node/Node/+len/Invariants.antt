@@ -1,7 +1,7 @@
 use Rattle.std.proofs.Common.{◌≡◌, ◌+◌, ◌≤◌, length}
 use Rattle.std.specs.List.{sum_by}
 use Rattle.std.specs.Map.{values_of}
-use Rattle.mq_tree.specs.Entries.{capped}
+use Rattle.mq_topic.specs.Prefixes.{capped}
 use Rattle.mq_tree.specs.Nodes.{entries_of, below, weight, NoneDead}
 use Rattle.mq_tree.proofs.tree.node.Node.+len.Given as goal
 

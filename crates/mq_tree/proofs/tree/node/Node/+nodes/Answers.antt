@@ -3,7 +3,7 @@ use Rattle.std.specs.Map.{keys_of}
 use Rattle.std.proofs.lemmas.Map.Iter.{rest_more, rest_all}
 use Rattle.mq_tree.specs.Below.{tally}
 use Rattle.mq_tree.specs.Nodes.{entries_of, weight}
-use Rattle.mq_tree.specs.Prefixes.{prefixes}
+use Rattle.mq_topic.specs.Prefixes.{prefixes}
 use Rattle.mq_tree.proofs.Filters.{all_met, all_weigh_less, first_weighs_less}
 use Rattle.mq_tree.proofs.tree.node.Node.+nodes.Goals as goal
 

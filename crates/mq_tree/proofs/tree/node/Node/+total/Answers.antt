@@ -3,7 +3,7 @@ use Rattle.std.specs.List.{sum_by}
 use Rattle.std.specs.Map.{values_of}
 use Rattle.std.proofs.lemmas.List.Sums.{sum_by-cons}
 use Rattle.std.proofs.lemmas.Map.Iter.{rest_more, rest_all}
-use Rattle.mq_tree.specs.Entries.{capped}
+use Rattle.mq_topic.specs.Prefixes.{capped}
 use Rattle.mq_tree.specs.Nodes.{NodeView, own, entries_of, weight}
 use Rattle.mq_tree.proofs.Counts.{held, held-node}
 use Rattle.mq_tree.proofs.Filters.{all_weigh_less, first_weighs_less}

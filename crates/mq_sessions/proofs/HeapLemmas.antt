@@ -13,7 +13,7 @@ use Rattle.std.specs.declared.rc.RcStr.{RcStr}
 use Rattle.std.proofs.lemmas.List.Sorted.{list_any-IsPermutation, IsPermutation-map}
 use Rattle.std.proofs.lemmas.List.Sorted.{length_permutation}
 use Rattle.std.proofs.lemmas.Bool.Decides.{nat_tests}
-use Rattle.mq_ends.specs.Dues.{Due, due_of, entry_cmp, AreWith, AreRest}
+use Rattle.mq_sessions.specs.Dues.{Due, due_of, entry_cmp, AreWith, AreRest}
 
 abbrev Item : Type 0
 Item = Reverse ℕ × RcStr Global

@@ -1,6 +1,6 @@
 use Rattle.std.proofs.Common.{arith}
 use Rattle.std.proofs.lemmas.Grind.{common_steps}
-use Rattle.mq_ends.proofs.Ends.first.Goals as goal
+use Rattle.mq_sessions.proofs.sessions.end_heap.Ends.first.Goals as goal
 
 pub returns : goal.returns
 returns c = grind (arith, common_steps)

@@ -1,6 +1,6 @@
 use Rattle.std.proofs.Common.{arith, refl}
-use Rattle.mq_ends.proofs.HeapLemmas.{until-first}
-use Rattle.mq_ends.proofs.Ends.any_until.Goals as goal
+use Rattle.mq_sessions.proofs.HeapLemmas.{until-first}
+use Rattle.mq_sessions.proofs.sessions.end_heap.Ends.any_until.Goals as goal
 
 pub returns-in-Some-clause-all : goal.returns-in-Some-clause-all
 returns-in-Some-clause-all c =

@@ -1,7 +1,7 @@
 use Rattle.std.proofs.lemmas.Grind.{common_steps}
 use Rattle.std.proofs.Common.{arith}
-use Rattle.mq_ends.proofs.HeapLemmas.{popped}
-use Rattle.mq_ends.proofs.Ends.pop.Goals as goal
+use Rattle.mq_sessions.proofs.HeapLemmas.{popped}
+use Rattle.mq_sessions.proofs.sessions.end_heap.Ends.pop.Goals as goal
 
 pub returns-clause-entries : goal.returns-clause-entries
 returns-clause-entries c =

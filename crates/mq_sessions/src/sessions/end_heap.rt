@@ -2,13 +2,11 @@
 //!
 //! `with_room` makes all room, and no other call takes memory. An end that is added or taken out costs a number of steps
 //! that is logarithmic in how many there are.
-#![tactic(auto)]
-
 ghost use Rattle.std.specs.Prelude.{◌≡◌, ◌+◌, ◌<◌, ◌≤◌, nat_le, false, [], length, IfOk, IsTrue};
 ghost use Rattle.std.specs.Option.{option_map, option_map_or};
 ghost use Rattle.std.specs.List.{list_any};
 ghost use Rattle.std.specs.Rc.{rc_str_bytes};
-ghost use Rattle.mq_ends.specs.Dues.{first_of, AreWith, AreRest};
+ghost use Rattle.mq_sessions.specs.Dues.{first_of, AreWith, AreRest};
 
 use std::alloc::{AllocError, Global};
 use std::cmp::Reverse;
@@ -18,15 +16,15 @@ use std::rc::RcStr;
 
 /// Ends, in seconds, with clients, each as often as it was added and not taken out.
 #[derive(Drop)]
-pub struct Ends {
+pub(crate) struct Ends {
     heap: BinaryHeap<(Reverse<u64>, RcStr)>,
 }
 
 impl Model for Ends {
     ghost use Rattle.std.specs.Prelude.{◌≡◌, map, length};
     ghost use Rattle.std.specs.BinaryHeap.{heap_items, heap_len, heap_capacity, IsHeap};
-    ghost use Rattle.mq_ends.specs.Dues.{Dues, due_of};
-    ghost use Rattle.mq_ends.specs.Dues.{entry_cmp};
+    ghost use Rattle.mq_sessions.specs.Dues.{Dues, due_of};
+    ghost use Rattle.mq_sessions.specs.Dues.{entry_cmp};
 
     ghost Value = { Dues };
 

@@ -1,5 +1,5 @@
-use Rattle.mq_ends.proofs.HeapLemmas.{pushed}
-use Rattle.mq_ends.proofs.Ends.add.Goals as goal
+use Rattle.mq_sessions.proofs.HeapLemmas.{pushed}
+use Rattle.mq_sessions.proofs.sessions.end_heap.Ends.add.Goals as goal
 
 pub returns-clause-entries : goal.returns-clause-entries
 returns-clause-entries c =

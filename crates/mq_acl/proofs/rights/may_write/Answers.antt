@@ -1,6 +1,6 @@
 use Rattle.std.proofs.Common.{rules}
 use Rattle.mq_acl.specs.Access.{allowed}
-use Rattle.mq_sessions.proofs.access.may_write.Goals as goal
+use Rattle.mq_acl.proofs.rights.may_write.Goals as goal
 
 pub returns-in-Some : goal.returns-in-Some
 unfolding allowed

@@ -1,5 +1,5 @@
--- The nodes of a tree, each named by the prefix of keys that leads to it, and which of them a look-up enters.
-use Rattle.std.specs.Prelude.{ℕ, Bool, true, false, not, ◌&&◌, List, [], ◌∷◌, ◌++◌, map}
+-- The prefixes of lists of levels, how many there are, and which of them match.
+use Rattle.std.specs.Prelude.{ℕ, Bool, true, false, not, ◌&&◌, List, [], ◌∷◌, ◌++◌, map, min}
 use Rattle.std.specs.List.{filter, list_any}
 use Rattle.std.specs.Str.{bytes_eq}
 use Rattle.mq_topic.specs.Matching.{matches}
@@ -31,3 +31,7 @@ met_by_name name ps = filter (λ p. list_any (λ n. matches p n) (heads name)) p
 -- the prefixes that a nonempty prefix of the filter matches
 abbrev pub met_by_filter : List (List ℕ) → List (List (List ℕ)) → List (List (List ℕ))
 met_by_filter topic_filter ps = filter (λ p. list_any (λ g. matches g p) (heads topic_filter)) ps
+
+-- a number as a u64 gives it
+abbrev pub capped : ℕ → ℕ
+capped n = min n 18446744073709551615
