@@ -5,6 +5,9 @@ usage: compare_log.py [OPTIONS] LOG.. OUTPUT   (OUTPUT: what mqroute wrote for w
 One line for each client and topic that differ; copies that the broker sent again are not counted. Exit status: 0 none differs;
 1 some do; 2 usage, a file, or an output that isn't of this log.
 """
+if __name__ == "__main__":
+    from mqroute_tools import interrupt
+    interrupt.handle(interrupt.stop)
 import argparse
 import sys
 from collections import Counter, defaultdict
@@ -15,7 +18,8 @@ from typing import BinaryIO
 from mqroute_tools import ending
 from mqroute_tools import mosquitto_log as log
 from mqroute_tools.conversion import placed_commands
-from mqroute_tools.ending import Fault
+from mqroute_tools.ending import Fault, counted
+from mqroute_tools.files import STDIN, keep_apart
 from mqroute_tools.inference import Beginning
 from mqroute_tools.output import Block, Key, blocks, by_key, misfit, read_json
 from mqroute_tools.sessions import Command
@@ -223,17 +227,23 @@ def arguments() -> argparse.Namespace:
     parser.add_argument("log", nargs="+", help="as for log_to_script.py, as are the options")
     parser.add_argument("output", help="what mqroute wrote for the script that log_to_script.py makes of the logs with the same options")
     add_options(parser)
-    return parser.parse_args()
+    options = parser.parse_args()
+    if [*options.log, options.output, options.begin].count(STDIN) > 1:
+        parser.error("standard input can be read once")
+    return options
 
 
 def main() -> int:
     options = arguments()
-    logs = Logs(options.log, not options.no_inference)
+    keep_apart([*options.log, options.output, options.begin])
+    logs = Logs(options.log, not options.no_inference, options.time_format)
     found = compare(writer(Watcher, options, logs), logs, options.output)
     lines = found.lines()
     for line in lines:
         print(line)
-    ending.tell(f"the broker sent {found.sent} copies and refused {found.refused} publishes; {len(lines)} differences")
+    refused = counted(found.refused, "publishes")
+    ending.tell(f"the broker sent {counted(found.sent, 'copies')} and refused {refused}; "
+                f"{counted(len(lines), 'differences')}")
     return 1 if lines else 0
 
 

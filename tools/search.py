@@ -8,9 +8,13 @@ are made and removed. What its CONNACK doesn't offer isn't asked for. Difference
 FOLDER, show are passed over.
 Exit status: 0 nothing new was found; 1 something was; 2 usage, a file, the broker.
 """
+if __name__ == "__main__":
+    from mqroute_tools import interrupt
+    interrupt.handle(interrupt.stop)
 import argparse
 import json
 import random
+import re
 import sys
 import time
 from collections.abc import Iterator
@@ -20,8 +24,10 @@ from typing import Protocol
 from mqroute import Oracle, OracleFault
 from mqroute_tools import ending
 from mqroute_tools.commands import faults
-from mqroute_tools.ending import Fault
+from mqroute_tools.ending import Fault, counted, in_words
+from mqroute_tools.files import at, whole
 from mqroute_tools.kinds import Difference, Kind, kind
+from mqroute_tools.numbers import amount, port, whole_number
 from mqroute_tools.output import Block
 from mqroute_tools.random_scripts import ACCESS, PARTS, Command, Maker, Use, fresh
 from mqroute_tools.shrinking import connected, shrink
@@ -88,7 +94,7 @@ class Search:
             found = self.broker.run(marked, blocks)
         except OSError as fault:
             text = "\n".join(map(as_json, script))
-            raise Fault(f"the broker is gone ({fault}) in this script, or after the one before:\n{text}") from fault
+            raise Fault(f"the broker is gone ({in_words(fault)}) in this script, or after the one before:\n{text}") from fault
         return [one._replace(texts=[text.replace(mark, "") for text in one.texts]) for one in found]
 
     def is_known(self, found: Kind) -> bool:
@@ -156,7 +162,7 @@ def known_scripts(folder: Path) -> Iterator[Script]:
             continue
         with open(name, "rb") as lines:
             for number, fault in faults(lines):
-                raise Fault(f"{name} line {number}: {fault}")
+                raise Fault(f"{at(str(name), number)}: {fault}")
         script = [json.loads(line) for line in name.read_text("utf-8").split("\n") if line.strip()]
         if all(command["do"] != "acl" for command in script):
             yield [command for command in script if command["do"] != "advance"]
@@ -174,12 +180,20 @@ def learn(search: Search, folders: list[Path]) -> int:
     return len(search.known)
 
 
+def saved(folder: Path | None) -> int:
+    """The greatest number of a find that an earlier search saved there."""
+    names = [file.name for file in folder.iterdir()] if folder else []
+    found = (re.fullmatch(r"find-(\d+)\.(?:jsonl|out|diff)", name) for name in names)
+    return max((int(name[1]) for name in found if name), default=0)
+
+
 def show(find: Find, number: int, folder: Path | None) -> None:
     print(f"find {number}: {find.kind.what}, with {', '.join(sorted(find.kind.uses))}")
     print("\n".join([*find.lines(), "", *find.told(), ""]), flush=True)
     if folder:
         for end, lines in ((".jsonl", find.lines()), (".out", find.output()), (".diff", find.told())):
-            (folder / f"find-{number}{end}").write_text("".join(line + "\n" for line in lines), encoding="utf-8")
+            with whole(str(folder / f"find-{number}{end}")) as out:
+                out.writelines((line + "\n").encode("utf-8") for line in lines)
 
 
 def parts(text: str) -> list[str]:
@@ -192,35 +206,52 @@ def parts(text: str) -> list[str]:
 
 def arguments() -> argparse.Namespace:
     parser = argparse.ArgumentParser(description="Searches for differences between a live MQTT 5 broker, which may be tried with anything, and mqroute.")
-    parser.add_argument("--host", default="127.0.0.1"), parser.add_argument("--port", type=int, default=1883)
+    parser.add_argument("--host", default="127.0.0.1")
+    parser.add_argument("--port", type=port, default=1883)
     parser.add_argument("--username", metavar="NAME", help="user name of all clients")
     parser.add_argument("--password", metavar="TEXT", help="password of all clients")
     parser.add_argument("--on-acl", metavar="COMMAND", help="try access lists too: what the shell does to let the broker read the one in the file $MQROUTE_ACL, "
                         "as by: cp \"$MQROUTE_ACL\" /tmp/acl && kill -HUP 123")
-    parser.add_argument("--minutes", type=float, default=10, metavar="N", help="how long to search (default 10)")
-    parser.add_argument("--seed", type=int, default=1, metavar="N", help="of the random scripts (default 1)")
+    parser.add_argument("--minutes", type=amount, default=10, metavar="N",
+                        help="how long to search (default 10)")
+    parser.add_argument("--seed", type=whole_number(0), default=1, metavar="N",
+                        help="of the random scripts (default 1)")
     parser.add_argument("--without", type=parts, action="extend", default=[], metavar="PART,..",
                         help=f"leave these out of the scripts: {', '.join((*PARTS, ACCESS))}")
     parser.add_argument("--known", type=Path, action="append", default=[], metavar="FOLDER",
                         help="pass over what the scripts NAME.jsonl in it show, too")
     parser.add_argument("--save", type=Path, metavar="FOLDER", help="write each find there as find-N.jsonl, .out and .diff")
-    parser.add_argument("--patience", type=float, default=5, metavar="SECONDS", help="how long to wait for an acknowledgement (default 5)")
-    parser.add_argument("--settle", type=float, default=0, metavar="SECONDS",
+    parser.add_argument("--patience", type=amount, default=5, metavar="SECONDS",
+                        help="how long to wait for an acknowledgement (default 5)")
+    parser.add_argument("--settle", type=amount, default=0, metavar="SECONDS",
                         help="wait after each line, for brokers that acknowledge before they route (default 0)")
     return parser.parse_args()
 
 
+def sums(search: Search, finds: int, seconds: float) -> str:
+    runs, kinds = counted(search.runs, "runs"), "kind" if finds == 1 else "kinds"
+    return (f"{counted(search.scripts, 'scripts')}, {runs} in {seconds:.0f} s; "
+            f"{finds} new {kinds} of differences; {search.passing} not seen again")
+
+
 def searched(search: Search, options: argparse.Namespace) -> int:
     """How many kinds are found, each shown."""
-    start = time.monotonic()
-    known = learn(search, [*KNOWN, *options.known])
-    ending.tell(f"{known} kinds of differences are known of this broker ({search.runs} runs)")
-    maker = Maker(random.Random(options.seed), search.broker.use.without(options.without))
-    number = 0
-    for number, find in enumerate(search.finds(maker), 1):
-        show(find, number, options.save)
-    ending.tell(f"{search.scripts} scripts, {search.runs} runs in {time.monotonic() - start:.0f} s; {number} new kinds of differences; "
-                f"{search.passing} not seen again")
+    start, before, number = time.monotonic(), saved(options.save), 0
+    heads: list[str] = []
+    try:
+        known = learn(search, [*KNOWN, *options.known])
+        are = "is" if known == 1 else "are"
+        ending.tell(f"{counted(known, 'kinds of differences')} {are} known of this broker "
+                    f"({counted(search.runs, 'runs')})")
+        maker = Maker(random.Random(options.seed), search.broker.use.without(options.without))
+        for number, find in enumerate(search.finds(maker), 1):
+            show(find, before + number, options.save)
+            heads.append(f"find {before + number}: {find.kind.what}")
+    except KeyboardInterrupt:
+        for text in [*heads, sums(search, number, time.monotonic() - start)]:
+            ending.tell(text)
+        raise
+    ending.tell(sums(search, number, time.monotonic() - start))
     return number
 
 

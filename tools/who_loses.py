@@ -4,6 +4,9 @@
 usage: who_loses.py [--by user] [--why] [--depth N] [--acl-before FILE --acl-after FILE] [--json] [--html FILE] SCRIPT BEFORE AFTER
 Exit status: 0 nothing changes; 1 something does; 2 usage, a file, or outputs that aren't of this script.
 """
+if __name__ == "__main__":
+    from mqroute_tools import interrupt
+    interrupt.handle(interrupt.stop)
 import argparse
 import json
 import sys
@@ -15,8 +18,11 @@ from typing import Any
 from mqroute_tools import ending
 from mqroute_tools import page
 from mqroute_tools.because import Grouped, difference
+from mqroute_tools.commands import Seen
 from mqroute_tools.deciding import Lists, add_deciding, in_words
-from mqroute_tools.ending import Fault
+from mqroute_tools.ending import Fault, counted
+from mqroute_tools.files import STDIN, at, keep_apart, open_input
+from mqroute_tools.numbers import whole_number
 from mqroute_tools.output import Block, blocks, by_key, command_of, is_blank, misfit
 from mqroute_tools.rows import Reasons, Row, all_causes, because_of, by_user_table, copies_of, refused_of, row_order
 from mqroute_tools.tables import shown, table, user_shown
@@ -141,33 +147,48 @@ class Run:
 
 def compare(losses: Losses, script: str, before: str, after: str) -> None:
     runs = [Run(before), Run(after)]
-    with open(script, "rb") as commands:
-        for number, text in enumerate(commands, 1):
-            here = [run.take(number) for run in runs]
-            if is_blank(text):
-                for run in (r for r, block in zip(runs, here) if block):
-                    raise Fault(f"line {number} of {script} is blank, and {run.name} has an answer to it: it is the output of another script")
-                continue
-            if None in here:
-                raise unanswered(script, number, [run.name for run, block in zip(runs, here) if block is None])
-            why = losses.add(text, *here)
-            if why:
-                raise Fault(f"line {number} of {script}: an output is of another script: {why}")
+    seen = Seen(script)
+    with open_input(script) as commands:
+        try:
+            for number, text in enumerate(commands, 1):
+                seen.add(text)
+                why = compare_line(losses, text, runs, number)
+                if why:
+                    raise Fault(f"{at(script, number)}: {why}")
+        except Fault:
+            seen.refuse(commands)
+            raise
+    seen.refuse()
     for run in runs:
         if run.head:
             raise Fault(f"{run.name} has answers to lines that {script} doesn't have")
 
 
-def unanswered(script: str, number: int, names: list[str]) -> Fault:
-    where = "answered in neither output" if len(names) == 2 else f"not answered in {names[0]}"
-    return Fault(f"line {number} of {script} is {where}: a run failed or is cut short" + (", or is of another script" if len(names) == 1 else ""))
+def compare_line(losses: Losses, text: bytes, runs: list[Run], number: int) -> str:
+    """Counts one line of the script. Says why, if the outputs can't be of this script."""
+    here = [run.take(number) for run in runs]
+    if is_blank(text):
+        names = [run.name for run, block in zip(runs, here) if block]
+        other = "has an answer to it: it is the output of another script"
+        return f"blank, and {names[0]} {other}" if names else ""
+    if None in here:
+        return unanswered([run.name for run, block in zip(runs, here) if block is None])
+    why = losses.add(text, *here)
+    return f"an output is of another script: {why}" if why else ""
+
+
+def unanswered(names: list[str]) -> str:
+    if len(names) == 2:
+        return "answered in neither output: a run failed or is cut short"
+    return f"not answered in {names[0]}: a run failed or is cut short, or is of another script"
 
 
 # -- showing
 
 def why(newly: Counter[str], no_longer: Counter[str]) -> str:
     parts = [f"{name} {count}" for name, count in sorted(newly.items())]
-    return ", ".join(parts + [f"no longer {name} {count}" for name, count in sorted(no_longer.items())])
+    parts += [f"no longer {name} {count}" for name, count in sorted(no_longer.items())]
+    return ", ".join(parts)
 
 
 def report(found: dict[str, Any]) -> str:
@@ -179,9 +200,14 @@ def report(found: dict[str, Any]) -> str:
         parts.append("Copies\n" + (by_user_table(copies, shown) if found.get("by") == "user" else copies_table(copies)))
     if refusals:
         parts.append("Refused\n" + refused_table(refusals))
-    parts.append("In all {before} copies before and {after} after: {lost} lost, {gained} gained, {changed} changed. "
-                 "{refused_before} lines refused before, {refused_after} after.".format(**found["totals"]))
+    parts.append(sums(found["totals"]))
     return "\n\n".join(parts) + "\n"
+
+
+def sums(totals: dict[str, int]) -> str:
+    copies, lines = counted(totals["before"], "copies"), counted(totals["refused_before"], "lines")
+    return ("In all {copies} before and {after} after: {lost} lost, {gained} gained, {changed} changed. "
+            "{lines} refused before, {refused_after} after.").format(copies=copies, lines=lines, **totals)
 
 
 def copies_table(copies: list[dict[str, Any]]) -> str:
@@ -210,18 +236,16 @@ def findings(losses: Losses) -> dict[str, Any]:
     if not reasons:
         return {"copies": [entry(*c) for c in copies], "refused": [entry(*r) for r in refusals], "totals": losses.totals()}
     rows = [copies_of(reasons, key, vars(value)) for key, value in copies]
+    lines = [refused_of(reasons, key, vars(value)) for key, value in refusals]
     return {"by": "user" if reasons.by_user else "client", "copies": rows, "causes": all_causes(rows),
-            "refused": [refused_of(reasons, key, vars(value)) for key, value in refusals], "totals": losses.totals()}
+            "refused": lines, "totals": losses.totals()}
 
 
 def arguments() -> argparse.Namespace:
-    def positive(text: str) -> int:
-        if not text.isdigit() or int(text) == 0:
-            raise argparse.ArgumentTypeError("want a whole number from 1")
-        return int(text)
     parser = argparse.ArgumentParser(description="Tells who loses what between two outputs of mqroute for one script.")
     parser.add_argument("script"), parser.add_argument("before"), parser.add_argument("after")
-    parser.add_argument("--depth", type=positive, metavar="N", help="gather topics by their first N levels")
+    parser.add_argument("--depth", type=whole_number(1), metavar="N",
+                        help="gather topics by their first N levels")
     parser.add_argument("--by", choices=["client", "user"], help="gather rows by user name, with causes (client without it; with --html user)")
     parser.add_argument("--why", action="store_true", help="the causes by client, too")
     parser.add_argument("--acl-before", metavar="FILE", help="with --acl-after: the lines of both lists that decide (by mqroute-acl why), with the causes")
@@ -231,6 +255,12 @@ def arguments() -> argparse.Namespace:
     options = parser.parse_args()
     if (options.acl_before is None) != (options.acl_after is None):
         parser.error("--acl-before and --acl-after go together")
+    read = [options.script, options.before, options.after, options.acl_before, options.acl_after]
+    if read.count(STDIN) > 1:
+        parser.error("standard input can be read once")
+    if options.script == STDIN and options.html is not None:
+        parser.error("--html reads the script twice: give it as a file")
+    keep_apart(read, {"--html": options.html})
     return options
 
 
@@ -243,7 +273,8 @@ def main() -> int:
     compare(losses, options.script, options.before, options.after)
     found = findings(losses)
     if options.acl_before is not None:
-        add_deciding(found, options.script, Lists(options.acl_before, options.acl_after), losses.reasons.because.story.users)
+        users = losses.reasons.because.story.users
+        add_deciding(found, options.script, Lists(options.acl_before, options.acl_after), users)
     if options.html is not None:
         page.write(options.html, found, options.script, options.before, options.after)
     text = json.dumps(found, ensure_ascii=False, indent=1) + "\n" if options.json else report(found)

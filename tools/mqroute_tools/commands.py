@@ -4,11 +4,14 @@ import json
 from collections.abc import Iterable, Iterator
 from typing import Any, NamedTuple
 
-from .output import is_blank
+from .looks import HEAD, LOG, wrong
+from .output import command_of, is_blank
 from .strict_json import NoJson, read
 
 LINE_LIMIT = 1_048_576  # bytes
 LONGEST_SHOWN = 60
+NO_COMMAND = "no line is a command"
+HINTS = {LOG: "see mqroute-log-to-script", "JSON": "a script has one command on each line"}
 SECONDS = 4_294_967_295
 
 
@@ -105,3 +108,25 @@ def faults(lines: Iterable[bytes]) -> Iterator[tuple[int, str]]:
     for number, line in enumerate(lines, 1):
         for fault in line_faults(line.removesuffix(b"\n")):
             yield number, fault
+
+
+class Seen:
+    """Whether a file that is read as a script has a command, maybe with a fault in its fields."""
+
+    def __init__(self, name: str) -> None:
+        self.name, self.head, self.has_command = name, b"", False
+
+    def add(self, line: bytes) -> None:
+        if not self.has_command:
+            command = command_of(line) or {}
+            self.has_command = isinstance(command.get("do"), str) and command["do"] in COMMANDS
+            self.head += line[:HEAD] if len(self.head) < HEAD else b""
+
+    def refuse(self, rest: Iterable[bytes] = ()) -> None:
+        """Raises Fault where no line is a command; `rest` are those that weren't read yet."""
+        for line in rest:
+            if self.has_command:
+                return
+            self.add(line)
+        if not self.has_command:
+            raise wrong(self.name, self.head, NO_COMMAND, HINTS)

@@ -113,7 +113,8 @@ class Connection:
                     self.client.socket().setsockopt(socket.IPPROTO_TCP, getattr(socket, option), 1)
 
     def write(self) -> None:
-        while self.client.want_write():
+        """What a connection that is gone still had to write is never written."""
+        while self.client.socket() and self.client.want_write():
             self.client.loop_write()
 
     def publish(self, command: Command) -> int:

@@ -3,7 +3,7 @@ import argparse
 from collections.abc import Iterator
 
 from .agreement import Command
-from .ending import Fault
+from .ending import Fault, in_words
 from .kinds import Difference, apart
 from .live import Offer
 from .output import Block
@@ -39,7 +39,7 @@ class LiveBroker:
             if options.on_acl:
                 replay.set_access(None)
         except (OSError, Closed) as fault:
-            raise Fault(f"no broker at {options.host} port {options.port}: {fault}") from fault
+            raise Fault(f"no broker at {options.host} port {options.port}: {in_words(fault)}") from fault
         finally:
             replay.end()
         self.use = offered(self.offer, options.on_acl is not None)

@@ -1,40 +1,19 @@
 """What the lines of a mosquitto 2.0 log say (log_type all), one event a line."""
-import gzip
 import re
-import sys
-import zlib
 from collections.abc import Container, Iterator
-from typing import BinaryIO, cast
-
-from .ending import Fault
+from typing import BinaryIO
 
 LINE_MAX = 65_536  # far over what mosquitto writes: it cuts its lines at 1,000 bytes
 CUT_AT = 999
 
-GZIP = b"\x1f\x8b"  # how such a file begins
-
-
-def open_log(name: str | None) -> BinaryIO:
-    """A log, packed or not; without a name standard input."""
-    plain = open(name, "rb") if name else sys.stdin.buffer
-    if plain.peek(2)[:2] != GZIP:
-        return plain
-    if name is None:
-        return cast(BinaryIO, gzip.open(plain))
-    plain.close()
-    return cast(BinaryIO, gzip.open(name))
-
 
 def raw_lines(stream: BinaryIO) -> Iterator[bytes]:
     """The lines without their ends; of one that is far too long only the beginning."""
-    try:
-        while piece := stream.readline(LINE_MAX):
-            rest = piece
-            while not rest.endswith(b"\n") and len(rest) == LINE_MAX:
-                rest = stream.readline(LINE_MAX)
-            yield piece.rstrip(b"\r\n")
-    except (EOFError, zlib.error) as fault:
-        raise Fault(f"a packed log is damaged: {fault}") from fault
+    while piece := stream.readline(LINE_MAX):
+        rest = piece
+        while not rest.endswith(b"\n") and len(rest) == LINE_MAX:
+            rest = stream.readline(LINE_MAX)
+        yield piece.rstrip(b"\r\n")
 
 
 # The client id is free text, and so may look like any other part of a line. Each form below is read with its

@@ -6,6 +6,8 @@ from collections.abc import Iterable, Iterator
 from typing import Any, NamedTuple
 
 from .ending import Fault
+from .files import at, open_text
+from .looks import HEAD, kind
 
 Key = tuple[str, str]  # client and topic
 COPY = '{"client":'  # mqroute prints names in ascending order: a copy alone begins so
@@ -14,6 +16,7 @@ TEXT = r'[^"\\\x00-\x1f]*'  # a text of JSON without escapes
 PLAIN = re.compile(rf'\{{"client":"({TEXT})"(?:,"expiry":\d+)?(?:,"filter":"{TEXT}")?(?:,"ids":\[[\d,]*\])?,"line":\d+,"payload":"{TEXT}",'
                    rf'"qos":[012],"retain":(?:true|false)(?:,"share":"{TEXT}")?,"topic":"({TEXT})"\}}\n')
 REASONS = {"publish": (0, 16), "unsubscribe": (0, 17)}  # of other commands 0, and of a subscribe its QoS
+SHOWN = 60  # characters of a line
 read_json = json.JSONDecoder().decode
 
 
@@ -35,7 +38,7 @@ class Block(NamedTuple):
 
 def blocks(name: str) -> Iterator[Block]:
     """The answers in the output that a file has, in order."""
-    with open(name, encoding="utf-8", newline="\n") as stream:
+    with open_text(name) as stream:
         yield from blocks_of(stream, name)
 
 
@@ -51,12 +54,20 @@ def blocks_of(lines: Iterable[str], name: str) -> Iterator[Block]:
             yield closed(text, copies)
             copies = []
     except UnicodeDecodeError as fault:
-        raise Fault(f"{name} is no output of mqroute: it is not UTF-8") from fault
+        raise Fault(f"{name}: no output of mqroute: it is not UTF-8") from fault
     except (ValueError, KeyError, TypeError, RecursionError) as fault:
-        what = "is no output of mqroute" if text.endswith("\n") else "is cut short"
-        raise Fault(f"{name} {what}: line {number} is no answer") from fault
+        raise Fault(f"{at(name, number)}: {no_answer(text, number)}") from fault
     if copies or not text.endswith("\n"):
-        raise Fault(f"{name} is cut short: copies without a closing line, or a line without its end")
+        raise Fault(f"{at(name, number)}: cut short: copies without a closing line, "
+                    "or a line without its end")
+
+
+def no_answer(text: str, number: int) -> str:
+    """What is wrong with a line of an output, that is its first of all or a later one."""
+    if not text.endswith("\n"):
+        return "cut short: no answer of mqroute"
+    what = kind(text[:HEAD].encode("utf-8", "replace")) if number == 1 else ""
+    return "no answer of mqroute" + (f": looks like {what}" if what else "")
 
 
 def closed(text: str, copies: list[str]) -> Block:
@@ -84,7 +95,8 @@ def key_of(text: str, name: str) -> Key:
         copy = read_json(text)
         return copy["client"], copy["topic"]
     except (ValueError, KeyError, TypeError, RecursionError) as fault:
-        raise Fault(f"{name} is no output of mqroute: a line that begins like a copy is none") from fault
+        why = f"begins like a copy and is none: {text[:SHOWN].rstrip()}"
+        raise Fault(f"{name}: no output of mqroute: {why}") from fault
 
 
 def command_of(text: bytes) -> dict[str, Any] | None:

@@ -3,6 +3,7 @@ from collections.abc import Iterator
 from typing import Any
 
 from .deciding import line_of
+from .files import open_input, whole
 from .picture import picture
 from .safe import escaped, marked, visible
 from .style import STYLE
@@ -14,8 +15,8 @@ POLICY = "default-src 'none'; style-src 'unsafe-inline'; base-uri 'none'; form-a
 def write(name: str, found: dict[str, Any], script: str, before: str, after: str) -> None:
     texts = lines_of(script, {number for row in (*found["refused"], *causes(found)) for at in row["lines"]
                               for number in (at["line"], at.get("publish", 0))})
-    with open(name, "w", encoding="utf-8", newline="\n") as out:
-        out.writelines(parts(found, texts, script, before, after))
+    with whole(name) as out:
+        out.writelines(part.encode("utf-8") for part in parts(found, texts, script, before, after))
 
 
 def causes(found: dict[str, Any]) -> list[dict[str, Any]]:
@@ -25,7 +26,7 @@ def causes(found: dict[str, Any]) -> list[dict[str, Any]]:
 def lines_of(script: str, wanted: set[int]) -> dict[int, str]:
     """The texts of some lines of the script. None if it was a pipe, which can't be read again."""
     found = {}
-    with open(script, "rb") as stream:
+    with open_input(script) as stream:
         for number, line in enumerate(stream, 1):
             if number in wanted:
                 text = line.rstrip(b"\r\n").decode("utf-8", "backslashreplace")
@@ -93,7 +94,8 @@ def copies(found: dict[str, Any], texts: dict[int, str]) -> Iterator[str]:
         for cause in row["causes"]:
             values = first_cells(row, cause.get("clients")) | {
                 "what": f"<i class='{cause['what']}'>{cause['what']}</i>", "copies": cause["copies"],
-                "because": f"<bdi>{escaped(cause['because'])}</bdi>", "first-line": cause["lines"][0]["line"]}
+                "because": f"<bdi>{escaped(cause['because'])}</bdi>",
+                "first-line": cause["lines"][0]["line"]}
             yield f"<details>{cells(kind, values)}{decided(cause)}{script_lines(cause['lines'], cause['copies'], 'copies', texts)}</details>\n"
     yield "</section>\n"
 
@@ -104,7 +106,9 @@ def refused(found: dict[str, Any], texts: dict[int, str]) -> Iterator[str]:
     for row in found["refused"]:
         reasons = [f"{name} {count}" for name, count in sorted(row["newly"].items())]
         reasons += [f"no longer {name} {count}" for name, count in sorted(row["no_longer"].items())]
-        values = first_cells(row, row.get("clients")) | {"before": row["before"], "after": row["after"], "why": escaped(", ".join(reasons))}
+        values = first_cells(row, row.get("clients")) | {
+            "before": row["before"], "after": row["after"],
+            "why": escaped(", ".join(reasons))}
         yield f"<details>{cells(kind, values)}{decided(row)}{script_lines(row['lines'], row['lines_in_all'], 'lines', texts)}</details>\n"
     yield "</section>\n"
 

@@ -3,12 +3,17 @@ import argparse
 import json
 import tempfile
 from collections.abc import Iterator
-from typing import BinaryIO, TypeVar
+from typing import IO, BinaryIO, TypeVar
 
 from . import mosquitto_log as log
 from .conversion import Converter
 from .ending import Fault
+from .files import STDIN, at, open_input, plain_file
 from .inference import Beginning, beginning
+from .looks import HEAD, LOG, OF_MOSQUITTO, kind, wrong
+from .numbers import whole_number
+from .order import LogFile, in_order
+from .output import is_blank
 from .sessions import FOREVER, NONE, Command
 from .state import State
 
@@ -25,6 +30,8 @@ class Writer(Converter):
         self.state: State | None = None  # that the commands lead to, if it is wanted
         self.topics: set[str] = set(begins.state.retained)  # that the script publishes
         self.explained = [0, 0, 0]
+        self.logs: Logs | None = None
+        self.is_log = False  # whether a line of mosquitto's was read
         self.know(begins.state, begins.inferred)
         self.tell_before()
 
@@ -50,6 +57,15 @@ class Writer(Converter):
         if self.state:
             for _, each in self.commands[written:]:
                 self.state.follow(each, routed)
+
+    def known(self, text: str) -> bool:
+        self.is_log = self.is_log or OF_MOSQUITTO.match(text) is not None
+        return super().known(text)
+
+    def finish(self) -> None:
+        super().finish()
+        if self.logs and not self.is_log:
+            raise self.logs.wrong()
 
     def expiry(self, place: int, client: str, clean: bool, protocol: int) -> int:
         """As the next CONNACK tells it: whether the session was there."""
@@ -87,46 +103,81 @@ Kind = TypeVar("Kind", bound=Writer)
 
 def add_options(parser: argparse.ArgumentParser) -> None:
     parser.add_argument("--time-format", metavar="FORMAT", help="log_timestamp_format as in mosquitto.conf (seconds, ISO and none are found without)")
-    parser.add_argument("--session-expiry", metavar="SECONDS", type=int,
+    parser.add_argument("--session-expiry", metavar="SECONDS", type=whole_number(0, FOREVER),
                         help="Session Expiry Interval of MQTT 5 clients that connect without Clean Start; without it the next CONNACK tells")
     parser.add_argument("--no-inference", action="store_true", help="nothing of before the log but what --begin has")
     parser.add_argument("--begin", metavar="FILE", help="a script to begin with, such as what --state wrote for the log before this one")
 
 
 class Logs:
-    """Log files, or standard input, of which a copy is kept if it is read twice."""
+    """Log files, and `-` for standard input, in the order of their times.
 
-    def __init__(self, names: list[str], twice: bool = True) -> None:
-        self.names: list[str | None] = list(names) or [None]
-        self.copy = tempfile.NamedTemporaryFile(prefix="mqroute-") if twice and not names else None
-        if self.copy:
-            with log.open_log(None) as stream:
-                while piece := stream.read(PIECE):
-                    self.copy.write(piece)
-            self.copy.flush()
-            self.names = [self.copy.name]
+    What can't be read twice is copied where it is to be.
+    """
 
-    def streams(self) -> Iterator[BinaryIO]:
-        return map(log.open_log, self.names)
+    def __init__(self, names: list[str], twice: bool = True, form: str | None = None) -> None:
+        self.copies: list[IO[bytes]] = []
+        self.starts: list[tuple[int, str]] = []  # how many lines were read before each file
+        self.head, self.headed = b"", ""  # how the first file begins that isn't empty, and its name
+        self.files = [LogFile(self.copy(name) if twice and not plain_file(name) else name, name)
+                      for name in names or [STDIN]]
+        if len(self.files) > 1 and all(plain_file(file.path) for file in self.files):
+            self.files = in_order(self.files, form)
+
+    def copy(self, name: str) -> str:
+        copy = tempfile.NamedTemporaryFile(prefix="mqroute-")
+        self.copies.append(copy)
+        with open_input(name) as stream:
+            while piece := stream.read(PIECE):
+                copy.write(piece)
+        copy.flush()
+        return copy.name
+
+    def streams(self, reader: Converter | None = None) -> Iterator[BinaryIO]:
+        """The files, opened; with who reads them, so that `where` can tell."""
+        for path, name in self.files:
+            stream = open_input(path)
+            if not self.head:
+                self.head, self.headed = stream.peek(HEAD)[:HEAD], name
+            if reader:
+                self.starts.append((reader.place, name))
+            yield stream
+
+    def where(self, place: int) -> str:
+        """The file and line of what was read as this line."""
+        starts = (start for start in reversed(self.starts) if start[0] < place)
+        before, name = next(starts, self.starts[0])
+        return at(name, place - before)
+
+    def wrong(self) -> Fault:
+        """That no line is one of mosquitto's."""
+        hints = {LOG: "give --time-format for what its lines begin with"}
+        return wrong(self.headed, self.head, "no line is read as mosquitto's", hints)
 
 
 def read_state(name: str | None) -> State:
     state = State()
-    if name:
-        with open(name, "rb") as stream:
-            for number, line in enumerate(stream, 1):
-                try:
-                    state.follow(json.loads(line))
-                except (ValueError, KeyError, TypeError) as fault:
-                    raise Fault(f"line {number} of {name} is no command") from fault
+    if name is None:
+        return state
+    with open_input(name) as stream:
+        for number, line in enumerate(stream, 1):
+            if is_blank(line):
+                continue
+            try:
+                state.follow(json.loads(line))
+            except (ValueError, KeyError, TypeError, AttributeError) as fault:
+                seems = f": looks like {kind(line)}" if kind(line) else ""
+                raise Fault(f"{at(name, number)}: no command of a script{seems}") from fault
     return state
 
 
-def writer(kind: type[Kind], options: argparse.Namespace, logs: Logs, follow: bool = False) -> Kind:
+def writer(wanted: type[Kind], options: argparse.Namespace, logs: Logs,
+           follow: bool = False) -> Kind:
     """What reads the logs a second time."""
     state = read_state(options.begin)
     begins = Beginning(state) if options.no_inference else beginning(logs.streams(), options.time_format, state)
-    found = kind(options.session_expiry, options.time_format, begins)
+    found = wanted(options.session_expiry, options.time_format, begins)
+    found.logs = logs
     found.start_with(follow)
     return found
 

@@ -15,7 +15,10 @@ PATIENCE = 10  # seconds
 FILES = ("new list.acl", "other.acl", "notes/of (today).log", "a'b.jsonl")
 
 
-@unittest.skipUnless(BASH and b"readline" in Path(BASH).read_bytes(), "there is no bash with readline")
+HAS_READLINE = BASH is not None and b"readline" in Path(BASH).read_bytes()
+
+
+@unittest.skipUnless(HAS_READLINE, "there is no bash with readline")
 class Tab(unittest.TestCase):
     """Each command writes its words to a file, a line each; a line break ends what is typed."""
 
@@ -63,8 +66,8 @@ class Tab(unittest.TestCase):
                                     ("mqroute-tools", "mqroute-check"),
                                     ("mqroute-tools", "mqroute-who-loses --acl-before")):
             more = command.split()[1:]
-            for typed, name in (("ne\t", FILES[0]), ("new\\ li\t", FILES[0]), ('"new l\t', FILES[0]),
-                                ("no\tof\t", FILES[2]), ("a\t", FILES[3])):
+            for typed, name in (("ne\t", FILES[0]), ("new\\ li\t", FILES[0]),
+                                ('"new l\t', FILES[0]), ("no\tof\t", FILES[2]), ("a\t", FILES[3])):
                 with self.subTest(command, typed=typed):
                     self.assertEqual(self.words(completion, f"{command} {typed}"), [*more, name])
 
@@ -74,10 +77,12 @@ class Tab(unittest.TestCase):
         self.assertEqual(self.words(tools, "mqroute-who-loses --by=cl\t"), ["--by=client"])
         self.assertEqual(self.words(tools, "mqroute-who-loses --depth ne\t"), ["--depth", "ne"])
         self.assertEqual(self.words(tools, "mqroute-search --port=ne\t"), ["--port=ne"])
-        self.assertEqual(self.words(tools, "mqroute-log-to-script --sta\tne\t"), ["--state", FILES[0]])
+        self.assertEqual(self.words(tools, "mqroute-log-to-script --sta\tne\t"),
+                         ["--state", FILES[0]])
         self.assertEqual(self.words("mqroute", "mqroute --max-queued ne\t"), ["--max-queued", "ne"])
         self.assertEqual(self.words("mqroute-acl", "mqroute-acl rea\t"), ["reach"])
-        self.assertEqual(self.words("mqroute-acl", "mqroute-acl why --user ne\t"), ["why", "--user", "ne"])
+        self.assertEqual(self.words("mqroute-acl", "mqroute-acl why --user ne\t"),
+                         ["why", "--user", "ne"])
 
 
 if __name__ == "__main__":

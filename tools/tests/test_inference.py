@@ -237,7 +237,7 @@ class Told(unittest.TestCase):
             Path(folder, "log").write_text("".join(lines[len(lines) // 2:]), encoding="utf-8")
             _, script, told = self.run_tool(f"{folder}/log")
             self.assertIn("the broker sent 454 copies: the script explains 359 by subscriptions in the log and 95 by inferred ones, and doesn't explain 0\n", told)
-            self.assertIn("1 of them have no user name in the log, and so none in the script\n    ops\n", told)
+            self.assertIn("1 of them has no user name in the log, and so none in the script\n    ops\n", told)
             script = script.replace('"connect","client":"ops"}', '"connect","client":"ops","user":"ops"}')
             output = subprocess.run([PROGRAM, "--acl-file", HERE.parent / "brokers/recorded/plain.acl"], input=script.encode(), capture_output=True).stdout
             Path(folder, "output").write_bytes(output)
@@ -305,7 +305,7 @@ class States(unittest.TestCase):
         with tempfile.TemporaryDirectory() as folder:
             Path(folder, "state").write_text("{}\n")
             done = subprocess.run([sys.executable, TOOL, "--begin", "state"], cwd=folder, input="", capture_output=True, text=True)
-            self.assertEqual((done.returncode, done.stderr), (2, "log_to_script: line 1 of state is no command\n"))
+            self.assertEqual((done.returncode, done.stderr), (2, "log_to_script: state:1: no command of a script: looks like JSON\n"))
 
 
 class Filters(unittest.TestCase):

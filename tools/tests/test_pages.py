@@ -14,9 +14,9 @@ from worked import HERE, TOP
 BUILT = [TOP / f"crates/{name}/out/{name}" for name in ("mqroute", "mqroute_acl")]  # which make install wants
 TOOLS = ("log_to_script", "who_loses", "replay", "compare_log", "check", "search")
 SECTIONS = ["NAME", "SYNOPSIS", "DESCRIPTION", "OPTIONS", "EXIT STATUS", "EXAMPLE", "SEE ALSO"]
-# What a tool imports before it reads its arguments; --help wants no broker.
-PAHO = {"mqtt/__init__.py": "", "mqtt/client.py": "class Client: ...\nclass MQTTMessage: ...\nMQTTv5 = 5\n", "mqtt/packettypes.py": "class PacketTypes: ...\n",
-        "mqtt/properties.py": "class Properties: ...\n", "mqtt/subscribeoptions.py": "class SubscribeOptions: ...\n", "__init__.py": ""}
+PROGRAMS = ("mqroute", "mqroute-acl")
+# What each page has under SEE ALSO at least.
+SEE_ALSO = {name: set(PROGRAMS) - {name} for name in PROGRAMS} | {"mqroute-who-loses": set(PROGRAMS)}
 
 
 def installed_name(tool: str) -> str:
@@ -38,11 +38,9 @@ def options_of(tool: str) -> set[str]:
 
 
 def help_of(tool: str) -> str:
+    """Without python3-paho-mqtt, which no --help wants."""
     with tempfile.TemporaryDirectory() as folder:
-        for name, text in PAHO.items():
-            file = Path(folder, "paho", name)
-            file.parent.mkdir(parents=True, exist_ok=True)
-            file.write_text(text)
+        Path(folder, "paho.py").write_text("raise ImportError")
         done = subprocess.run([sys.executable, HERE / f"{tool}.py", "--help"], capture_output=True, text=True, env=os.environ | {"PYTHONPATH": folder})
     assert done.returncode == 0, done.stderr
     return done.stdout
@@ -65,11 +63,24 @@ class Pages(unittest.TestCase):
 
     @unittest.skipUnless(shutil.which("man"), "there is no man")
     def test_man_takes_them(self):
-        for tool in TOOLS:
-            done = subprocess.run(["man", "--warnings", "-l", f"docs/{installed_name(tool)}.1"], cwd=TOP, capture_output=True, text=True,
+        for name in (*PROGRAMS, *map(installed_name, TOOLS)):
+            done = subprocess.run(["man", "--warnings", "-l", f"docs/{name}.1"], cwd=TOP, capture_output=True, text=True,
                                   env=os.environ | {"MANWIDTH": "80", "LC_ALL": "C.UTF-8"})
             self.assertEqual((done.returncode, done.stderr), (0, ""))
-            self.assertIn(installed_name(tool), done.stdout)
+            self.assertIn(name, done.stdout)
+
+    def test_see_also(self):
+        """The programs name each other and all tools, and each page those of ours that its text speaks of; all in order."""
+        tools = {installed_name(tool) for tool in TOOLS}
+        for name in (*PROGRAMS, *tools):
+            with self.subTest(name):
+                text, _, see = (TOP / f"docs/{name}.1").read_text("utf-8").replace("\\-", "-").partition('.SH "SEE ALSO"\n')
+                named = re.findall(r"^\.BR (\S+) \(\d\),?$", see, re.M)
+                spoken_of = {other for other in tools | set(PROGRAMS) if re.search(rf"^\.BR {other} \(1\)", text, re.M)}
+                wanted = spoken_of | SEE_ALSO.get(name, {"mqroute"}) | (tools if name in PROGRAMS else set())
+                self.assertLessEqual(wanted - {name}, set(named))
+                ours = [one for one in named if one.startswith("mqroute-")]
+                self.assertEqual(ours, sorted(ours))
 
 
 # The programs, each with the source of the texts that it tells on standard error.

@@ -1,6 +1,7 @@
 """What is compared with a live broker; and a run on one, where mosquitto and paho are there."""
 import json
 import os
+import pty
 import shutil
 import socket
 import subprocess
@@ -100,8 +101,7 @@ class WithoutPaho(unittest.TestCase):
             self.assertEqual((done.returncode, done.stderr), (2, "replay: wants the package python3-paho-mqtt\n"))
 
 
-@unittest.skipUnless(PAHO, "there is no python3-paho-mqtt")
-class Runs(unittest.TestCase):
+class OnABroker(unittest.TestCase):
     CONF = "listener {port} 127.0.0.1\nallow_anonymous true\nuser {user}\npersistence false\nsys_interval 0\nlog_dest none\nacl_file {folder}/acl\n"
 
     def setUp(self):
@@ -128,10 +128,13 @@ class Runs(unittest.TestCase):
             time.sleep(0.05)
         raise AssertionError("the broker doesn't start")
 
-    def run_script(self, script: list, output: list, *words: str) -> tuple[int, str, str]:
+    def write_files(self, script: list, output: list) -> None:
         for name, lines in (("script", script), ("output", output)):
             texts = (line if isinstance(line, str) else json.dumps(line, separators=(",", ":")) for line in lines)
             Path(self.folder.name, name).write_text("".join(text + "\n" for text in texts))
+
+    def run_script(self, script: list, output: list, *words: str) -> tuple[int, str, str]:
+        self.write_files(script, output)
         done = subprocess.run([PAHO, HERE / "replay.py", "--port", str(self.port), *words, "script", "output"],
                               cwd=self.folder.name, capture_output=True, text=True, timeout=60)
         return done.returncode, done.stdout, done.stderr
@@ -143,6 +146,9 @@ class Runs(unittest.TestCase):
     def done(self, *reasons: int) -> list[dict]:
         return [{"line": n, "reason": r} for n, r in enumerate(reasons, 1)]
 
+
+@unittest.skipUnless(PAHO, "there is no python3-paho-mqtt")
+class Runs(OnABroker):
     def test_outputs_that_are_not_of_the_script(self):
         script = [self.CONNECT, "", self.PUBLISH]
         for output in ([], self.done(0), [{"line": 1, "reason": 0}, {"line": 3, "reason": 17}], self.done(0, 0, 0),
@@ -166,14 +172,37 @@ class Runs(unittest.TestCase):
         status, out, _ = self.run_script([self.CONNECT, self.PUBLISH], self.done(0, 0))
         self.assertEqual((status, out.splitlines()[1:]), (1, ["   reason: mqroute 0, broker 16"]))
 
+    def test_progress_on_a_terminal(self):
+        """Which line is run, on standard error; it is gone where something is printed, and at the end."""
+        self.start()
+        self.write_files([self.CONNECT, {"do": "advance", "seconds": 1}, self.PUBLISH], self.done(0, 0, 0))
+        ours, theirs = pty.openpty()
+        done = subprocess.run([PAHO, HERE / "replay.py", "--port", str(self.port), "script", "output"], cwd=self.folder.name,
+                              stdout=subprocess.PIPE, stderr=theirs, text=True, timeout=60)
+        os.close(theirs)
+        told = os.read(ours, 4096).decode()
+        os.close(ours)
+        clear = "\r\x1b[K"
+        self.assertEqual((done.returncode, done.stdout.splitlines()[1]), (1, "   reason: mqroute 0, broker 16"))
+        self.assertEqual(told, f"{clear}line 1 of 3{clear}line 3 of 3{clear}{clear}")
+
+    def test_no_broker(self):
+        status, out, told = self.run_script([self.CONNECT], self.done(0))
+        self.assertEqual((status, out, told), (2, "", f"replay: script:1: the broker at 127.0.0.1 port {self.port}: Connection refused\n"))
+
+    def test_a_script_without_a_command(self):
+        status, out, told = self.run_script(["no json"], ['{"code":2,"line":1,"refused":"BadJson"}'])
+        self.assertEqual((status, out, told), (2, "", "replay: script: no line is a command: its first line: no json\n"))
+
     def test_access_lists(self):
         pid = self.start()
         script = [self.CONNECT, self.SUBSCRIBE, {"do": "acl", "text": "topic read #"}, self.PUBLISH, {"do": "acl"}, self.PUBLISH]
         output = [*self.done(0, 1, 0), {"code": 11, "line": 4, "refused": "NotAuthorized"}, {"line": 5, "reason": 0}, self.GOT | {"line": 6}, {"line": 6, "reason": 0}]
         command = f'cp "$MQROUTE_ACL" "{self.folder.name}/acl" && kill -HUP {pid}'
         self.assertEqual(self.run_script(script, output, "--on-acl", command), (0, "", ""))
-        self.assertEqual(self.run_script(script, output)[0], 2)
-        self.assertEqual(self.run_script(script, output, "--on-acl", "false")[0], 2)
+        for words, said in (((), "sets an access list: give --on-acl, a command that lets the broker read one"),
+                            (("--on-acl", "false"), "the command of --on-acl ended with status 1")):
+            self.assertEqual(self.run_script(script, output, *words), (2, "", f"replay: script:3: {said}\n"))
 
     def test_user_and_password(self):
         names = f"{self.folder.name}/passwords"
@@ -241,11 +270,23 @@ class Runs(unittest.TestCase):
         done = subprocess.run([PAHO, "-c", code], cwd=HERE, capture_output=True, text=True)
         self.assertEqual((done.returncode, done.stderr), (0, ""))
 
+    def test_what_a_connection_that_is_gone_had_to_write(self):
+        """As after Ctrl-C in the middle of a packet: it isn't waited for."""
+        code = """if True:
+            from types import SimpleNamespace
+            from mqroute_tools.live import Connection
+            gone = Connection.__new__(Connection)
+            gone.client = SimpleNamespace(want_write=lambda: True, loop_write=lambda: None, socket=lambda: None)
+            gone.write()
+        """
+        done = subprocess.run([PAHO, "-c", code], cwd=HERE, capture_output=True, text=True, timeout=20)
+        self.assertEqual((done.returncode, done.stderr), (0, ""))
+
     def test_what_is_not_offered(self):
         self.start("max_qos 1\nretain_available false\n")
         script = [self.CONNECT, self.SUBSCRIBE, self.PUBLISH | {"qos": 2}, self.PUBLISH | {"retain": True}, self.PUBLISH]
         output = [*self.done(0, 1), self.GOT, {"line": 3, "reason": 0}, self.GOT | {"line": 4}, {"line": 4, "reason": 0}, self.GOT | {"line": 5}, {"line": 5, "reason": 0}]
-        told = "".join(f"replay: the broker doesn't offer {what}: 1 lines left out\n" for what in ("QoS over 1", "retained messages"))
+        told = "".join(f"replay: the broker doesn't offer {what}: 1 line left out\n" for what in ("QoS over 1", "retained messages"))
         self.assertEqual(self.run_script(script, output), (0, "", told))
 
 

@@ -151,7 +151,7 @@ class Known(unittest.TestCase):
             (folder / "sets-a-list.jsonl").write_text(as_lines([{"do": "acl"}]))
             self.assertEqual(list(known_scripts(folder)), [[A | {"user": "differs"}, X], [A | {"user": "plain"}, X]])
             (folder / "bad.jsonl").write_text("{")
-            with self.assertRaisesRegex(Fault, "bad.jsonl line 1: no JSON"):
+            with self.assertRaisesRegex(Fault, "bad.jsonl:1: no JSON"):
                 list(known_scripts(folder))
 
     def test_no_folder(self):

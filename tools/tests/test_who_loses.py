@@ -93,18 +93,18 @@ In all 4 copies before and 3 after: 2 lost, 1 gained, 1 changed. 0 lines refused
         self.assertEqual(self.run_tool(script, before, after), (2, "", f"who_loses: {told}\n"))
 
     def test_lines_without_an_answer(self):
-        neither = "line {} of script is answered in neither output: a run failed or is cut short"
+        neither = "script:{}: answered in neither output: a run failed or is cut short"
         self.refuses(self.SCRIPT, [], [], neither.format(1))
         self.refuses(self.SCRIPT, self.BEFORE[:3], self.AFTER[:2], neither.format(3))
         self.refuses(self.SCRIPT, self.BEFORE[:5], self.AFTER[:3], neither.format(4))
-        alone = "line 3 of script is not answered in {}: a run failed or is cut short, or is of another script"
+        alone = "script:3: not answered in {}: a run failed or is cut short, or is of another script"
         self.refuses(self.SCRIPT, self.BEFORE[:3], self.AFTER, alone.format("before"))
         self.refuses(self.SCRIPT, self.BEFORE, self.AFTER[:2], alone.format("after"))
-        self.assertEqual(self.run_tool([" \t\r"], [], []), (0, "", ""))
-        self.refuses([" \t\r"], [], [accepted(1)], "line 1 of script is blank, and after has an answer to it: it is the output of another script")
+        self.assertEqual(self.run_tool([" \t\r", publish("p", "x")], [accepted(2)], [accepted(2)]), (0, "", ""))
+        self.refuses([" \t\r", publish("p", "x")], [], [accepted(1)], "script:1: blank, and after has an answer to it: it is the output of another script")
 
     def test_answers_that_the_command_cannot_have(self):
-        other = "line 1 of script: an output is of another script: "
+        other = "script:1: an output is of another script: "
         connect, leave = ('{"do":"%s","client":"a"}' % do for do in ("connect", "unsubscribe"))
         asks = '{"do":"subscribe","client":"a","filter":"x","qos":1}'
         for command, answer, why in (
@@ -119,19 +119,21 @@ In all 4 copies before and 3 after: 2 lost, 1 gained, 1 changed. 0 lines refused
             self.refuses([command], [refused(1)], answer, other + why)
         for command, answer in ((publish("p", "x"), accepted(1, 16)), (leave, accepted(1, 17)), (asks, accepted(1, 1)), (connect, accepted(1)),
                                 ('{"do":"stat"}', '{"line":1,"nodes":1,"retained":1,"subscriptions":1}'), ("no json", refused(1, "BadJson"))):
-            self.assertEqual(self.run_tool([command], [answer], [answer]), (0, "", ""))
+            answers = [answer, accepted(2)]
+            self.assertEqual(self.run_tool([command, connect], answers, answers), (0, "", ""))
 
     def test_files_that_are_no_outputs(self):
         with tempfile.TemporaryDirectory() as folder:
-            for content, told in ((b"\x7fELF\x02\xff\x80" * 9000, "is no output of mqroute: it is not UTF-8"),
-                                  (b"\x7fELF\x02\n" * 9000, "is no output of mqroute: line 1 is no answer"),
-                                  (b'{"line":1,"reason":0}\n{"line":2,"rea', "is cut short: line 2 is no answer"),
-                                  (b'{"line":1,"reason":0}', "is cut short: copies without a closing line, or a line without its end"),
-                                  (b'{"client":"a"', "is cut short: copies without a closing line, or a line without its end")):
+            for content, told in ((b"\x7fELF\x02\xff\x80" * 9000, "file: no output of mqroute: it is not UTF-8"),
+                                  (b"\x7fELF\x02\n" * 9000, "file:1: no answer of mqroute"),
+                                  (publish("p", "x").encode() + b"\n", "file:1: no answer of mqroute: looks like a script"),
+                                  (b'{"line":1,"reason":0}\n{"line":2,"rea', "file:2: cut short: no answer of mqroute"),
+                                  (b'{"line":1,"reason":0}', "file:1: cut short: copies without a closing line, or a line without its end"),
+                                  (b'{"client":"a"', "file:1: cut short: copies without a closing line, or a line without its end")):
                 Path(folder, "file").write_bytes(content)
                 Path(folder, "script").write_text(publish("p", "x") + "\n")
                 done = subprocess.run([sys.executable, TOOL, "script", "file", "file"], capture_output=True, text=True, cwd=folder)
-                self.assertEqual((done.returncode, done.stdout, done.stderr), (2, "", f"who_loses: file {told}\n"))
+                self.assertEqual((done.returncode, done.stdout, done.stderr), (2, "", f"who_loses: {told}\n"))
 
     @unittest.skipUnless(Path("/dev/full").exists(), "there is no /dev/full")
     def test_a_full_device(self):
@@ -140,7 +142,7 @@ In all 4 copies before and 3 after: 2 lost, 1 gained, 1 changed. 0 lines refused
                 Path(folder, name).write_text(text + "\n")
             for words in ([], ["--json"]):
                 done = subprocess.run([sys.executable, TOOL, *words, "script", "before", "after"], stdout=full, stderr=subprocess.PIPE, text=True, cwd=folder)
-                self.assertEqual((done.returncode, done.stderr), (2, "who_loses: [Errno 28] No space left on device\n"))
+                self.assertEqual((done.returncode, done.stderr), (2, "who_loses: No space left on device\n"))
 
     def test_a_missing_file(self):
         done = subprocess.run([sys.executable, TOOL, "/nowhere", "/nowhere", "/nowhere"], capture_output=True, text=True)
