@@ -19,7 +19,7 @@ from mqroute_tools import ending
 from mqroute_tools import page
 from mqroute_tools.because import Grouped, difference
 from mqroute_tools.commands import Seen
-from mqroute_tools.deciding import Lists, add_deciding, in_words
+from mqroute_tools.deciding import Lists, in_words
 from mqroute_tools.ending import Fault, counted
 from mqroute_tools.files import STDIN, at, keep_apart, open_input
 from mqroute_tools.numbers import whole_number
@@ -92,9 +92,9 @@ class Losses:
             entry = self.refusals[subject]
             entry.before += was is not None
             entry.after += now is not None
+            if self.reasons:
+                self.reasons.refused(subject, line, command, was, now)
             if was != now:
-                if self.reasons:
-                    self.reasons.refused(subject, line, command)
                 entry.newly.update([now] if now else [])
                 entry.no_longer.update([was] if was else [])
 
@@ -185,10 +185,13 @@ def unanswered(names: list[str]) -> str:
 
 # -- showing
 
+IN_BOTH = "refused in both"
+
+
 def why(newly: Counter[str], no_longer: Counter[str]) -> str:
     parts = [f"{name} {count}" for name, count in sorted(newly.items())]
     parts += [f"no longer {name} {count}" for name, count in sorted(no_longer.items())]
-    return ", ".join(parts)
+    return ", ".join(parts) or IN_BOTH
 
 
 def report(found: dict[str, Any]) -> str:
@@ -236,7 +239,7 @@ def findings(losses: Losses) -> dict[str, Any]:
     if not reasons:
         return {"copies": [entry(*c) for c in copies], "refused": [entry(*r) for r in refusals], "totals": losses.totals()}
     rows = [copies_of(reasons, key, vars(value)) for key, value in copies]
-    lines = [refused_of(reasons, key, vars(value)) for key, value in refusals]
+    lines = [row for key, value in refusals for row in refused_of(reasons, key, vars(value))]
     return {"by": "user" if reasons.by_user else "client", "copies": rows, "causes": all_causes(rows),
             "refused": lines, "totals": losses.totals()}
 
@@ -268,13 +271,13 @@ def main() -> int:
     options = arguments()
     by_user = options.by == "user" or (options.html is not None and options.by is None)
     losses = Losses(options.depth)
-    if by_user or options.why or options.html is not None or options.acl_before is not None:
-        losses.reasons = Reasons(by_user, losses.gathered)
+    lists = None if options.acl_before is None else Lists(options.acl_before, options.acl_after)
+    if by_user or options.why or options.html is not None or lists:
+        losses.reasons = Reasons(by_user, losses.gathered, lists)
     compare(losses, options.script, options.before, options.after)
     found = findings(losses)
-    if options.acl_before is not None:
-        users = losses.reasons.because.story.users
-        add_deciding(found, options.script, Lists(options.acl_before, options.acl_after), users)
+    if lists:
+        lists.refuse()
     if options.html is not None:
         page.write(options.html, found, options.script, options.before, options.after)
     text = json.dumps(found, ensure_ascii=False, indent=1) + "\n" if options.json else report(found)

@@ -7,18 +7,30 @@ import json
 import os
 import shutil
 import subprocess
-from functools import lru_cache
+import tempfile
 from pathlib import Path
-from typing import Any
+from typing import Any, NamedTuple
 
-from .causes import AFTER, BEFORE
+from .causes import AFTER, BEFORE, Cause
 from .ending import Fault
-from .output import command_of
+from .files import STDIN, open_input, plain_file
+from .tables import shown, user_shown
 
 BUILT = Path(__file__).resolve().parents[2] / "bin/mqroute-acl"
 INSTALLED = Path(__file__).resolve().parents[3] / "bin/mqroute-acl"
 NO_LINE = "no line allows it"
+RUNS = (("before", BEFORE), ("after", AFTER))
+CLIENT_MARK = b"%c"
 Verdict = dict[str, Any]
+Decided = dict[str, Verdict]  # before and after
+
+
+class Question(NamedTuple):
+    """May this client, under this user name, read or write the topic?"""
+    client: str
+    user: str | None
+    topic: str
+    access: str
 
 
 def program() -> str:
@@ -28,27 +40,77 @@ def program() -> str:
     return next((str(file) for file in (BUILT, INSTALLED) if os.access(file, os.X_OK)), None) or shutil.which("mqroute-acl") or "mqroute-acl"
 
 
-class Lists:
-    """The list before and the list after."""
+class AccessList:
+    """One list. It is asked once for each user name and topic, and client if it has a `%c`."""
 
-    def __init__(self, before: str, after: str) -> None:
-        self.names, self.program = (before, after), program()
-        self.verdict = lru_cache(None)(self.verdict)
+    def __init__(self, name: str) -> None:
+        self.name, self.path, self.program = name, name, program()
+        with open_input(name) as stream:
+            text = stream.read()
+        if name == STDIN or not plain_file(name):  # the program reads it each time
+            self.copy = tempfile.NamedTemporaryFile(prefix="mqroute-")
+            self.copy.write(text)
+            self.copy.flush()
+            self.path = self.copy.name
+        self.by_client = CLIENT_MARK in text
+        self.known: dict[tuple[str | None, str | None, str], dict[str, Verdict]] = {}
 
-    def verdict(self, run: int, client: str, user: str | None, topic: str, access: str) -> Verdict:
-        """Whether this client may read (or write) the topic in that run, with the lines that deny it and that grant it."""
-        words = [self.program, "why", self.names[run], client, topic, "--json"] + ([f"--user={user}"] if user is not None else [])
+    def verdict(self, asked: Question) -> Verdict:
+        """Whether the list allows it, with the lines that deny it and that grant it."""
+        key = asked.client if self.by_client else None, asked.user, asked.topic
+        if key not in self.known:
+            self.known[key] = self.ask(asked)
+        return self.known[key][asked.access]
+
+    def ask(self, asked: Question) -> dict[str, Verdict]:
+        """For both kinds of access."""
+        user = [] if asked.user is None else [f"--user={asked.user}"]
+        words = [self.program, "why", "--json", *user, "--", self.path, asked.client, asked.topic]
         try:
             done = subprocess.run(words, capture_output=True)
         except OSError as fault:
             raise Fault(f"cannot run {self.program}: {fault.strerror}") from fault
         if done.returncode:
-            raise Fault(done.stderr.decode("utf-8", "replace").strip() or f"{self.program} ended with status {done.returncode}")
+            said = done.stderr.decode("utf-8", "replace").strip().replace(self.path, self.name)
+            raise Fault(said or f"{self.program} ended with status {done.returncode}")
         told = [json.loads(line) for line in done.stdout.decode("utf-8").splitlines()]
-        return next(one for one in told if one["access"] == access)
+        for line in (one[kind] for one in told for kind in ("deny", "grant") if one[kind]):
+            line["file"] = self.name
+        return {one["access"]: one for one in told}
 
-    def decides(self, client: str, user: str | None, topic: str, access: str) -> dict[str, Verdict]:
-        return {name: self.verdict(run, client, user, topic, access) for name, run in (("before", BEFORE), ("after", AFTER))}
+
+class Lists:
+    """The list before and the list after, and where they contradict the outputs."""
+
+    def __init__(self, before: str, after: str) -> None:
+        self.lists = AccessList(before), AccessList(after)
+        self.contradiction = ""  # the first
+        self.fit_swapped = True  # as far as was asked
+
+    def decides(self, asked: Question, allowed: tuple[bool, bool], line: int) -> Decided:
+        """The verdicts of both. `allowed` is what the outputs show of the runs, at this line."""
+        found = {name: self.lists[run].verdict(asked) for name, run in RUNS}
+        said = tuple(found[name]["allowed"] for name, _ in RUNS)
+        if said != allowed and not self.contradiction:
+            run = next(run for _, run in RUNS if said[run] != allowed[run])
+            name, when = self.lists[run].name, RUNS[run][0]
+            self.contradiction = contradiction(name, asked, said[run], when, line)
+        self.fit_swapped &= said[::-1] == allowed
+        return found
+
+    def refuse(self) -> None:
+        """Raises Fault where they are not the lists of these outputs."""
+        if self.contradiction:
+            swapped = " swapped?" if self.fit_swapped else ""
+            raise Fault(f"the lists don't fit the outputs:{swapped} {self.contradiction}")
+
+
+def contradiction(name: str, asked: Question, says: bool, run: str, line: int) -> str:
+    user = "without a user name" if asked.user is None else f"user {user_shown(asked.user)}"
+    may, shows = ("lets", "may not") if says else ("doesn't let", "may")
+    what = f"{shown(asked.client)} ({user}) {asked.access} {shown(asked.topic)}"
+    return (f"line {line} of the script: {name} {may} {what}, and the output {run} shows that it "
+            f"{shows}")
 
 
 def line_of(verdict: Verdict) -> str:
@@ -57,50 +119,17 @@ def line_of(verdict: Verdict) -> str:
     return f"{line['line']}: {line['text'].strip()}" if line else NO_LINE
 
 
-def in_words(decided: dict[str, Verdict]) -> str:
+def in_words(decided: Decided) -> str:
     return f"{line_of(decided['before'])} -> {line_of(decided['after'])}"
 
 
-class Script:
-    """Some lines of a script, and the line that sets an access list first."""
-
-    def __init__(self, name: str, wanted: set[int]) -> None:
-        self.commands: dict[int, dict[str, Any]] = {}
-        self.first_list: int | None = None
-        with open(name, "rb") as stream:
-            for number, text in enumerate(stream, 1):
-                if number in wanted or b'"acl"' in text:
-                    command = command_of(text) or {}
-                    self.commands[number] = command
-                    if command.get("do") == "acl" and self.first_list is None:
-                        self.first_list = number
-
-    def is_under_first_list(self, line: int) -> bool:
-        return self.first_list is None or line < self.first_list
+def pair(decided: Decided | None) -> tuple[int, ...]:
+    """The numbers of the lines that decide: 0 for no line; empty where nothing was asked."""
+    lines = [decided[name]["deny"] or decided[name]["grant"] for name, _ in RUNS] if decided else []
+    return tuple(line["line"] if line else 0 for line in lines)
 
 
-def add_deciding(found: dict[str, Any], script: str, lists: Lists, users: dict[str, str | None]) -> None:
-    """Adds `decided` to the causes, and to the rows of refused lines, that are about access. `users`: by client."""
-    causes = [cause for row in found["copies"] for cause in row["causes"]]
-    rows = [row for row in found["refused"] if "NotAuthorized" in {*row["newly"], *row["no_longer"]}]
-    told = Script(script, {number for one in (*causes, *rows) for at in one["lines"][:1] for number in (at["line"], at.get("publish", 0))})
-    for one in (*causes, *rows):
-        asked = question(one, told, users) if one["lines"] else None
-        if asked:
-            one["decided"] = lists.decides(*asked)
-
-
-def question(one: dict[str, Any], script: Script, users: dict[str, str | None]) -> tuple[str, str | None, str, str] | None:
-    """The client, user name, topic and access that the first line of a cause, or of a refused row, is about."""
-    at = one["lines"][0]
-    line = at.get("publish", at["line"])
-    if not script.is_under_first_list(max(line, at["line"])):
-        return None
-    if one.get("cause") == "reader":
-        return at["client"], users.get(at["client"]), at["topic"], "read"
-    if one.get("refused", "NotAuthorized") != "NotAuthorized" or one.get("cause", "publisher") not in ("publisher", "retained"):
-        return None
-    command = script.commands.get(line, {})
-    if command.get("do") != "publish":
-        return None
-    return command["client"], users.get(command["client"]), command["topic"], "write"
+def allowed(what: str, cause: Cause) -> tuple[bool, bool]:
+    """What a copy that is lost or gained shows of both runs: who might read or write there."""
+    before = what == "lost" if cause.kind == "reader" else cause.newly
+    return before, not before

@@ -2,7 +2,7 @@
 from collections.abc import Iterator
 from typing import Any
 
-from .deciding import line_of
+from .deciding import in_words, line_of
 from .files import open_input, whole
 from .picture import picture
 from .safe import escaped, marked, visible
@@ -94,7 +94,7 @@ def copies(found: dict[str, Any], texts: dict[int, str]) -> Iterator[str]:
         for cause in row["causes"]:
             values = first_cells(row, cause.get("clients")) | {
                 "what": f"<i class='{cause['what']}'>{cause['what']}</i>", "copies": cause["copies"],
-                "because": f"<bdi>{escaped(cause['because'])}</bdi>",
+                "because": f"<bdi>{escaped(cause['because'])}</bdi>{by(cause)}",
                 "first-line": cause["lines"][0]["line"]}
             yield f"<details>{cells(kind, values)}{decided(cause)}{script_lines(cause['lines'], cause['copies'], 'copies', texts)}</details>\n"
     yield "</section>\n"
@@ -108,9 +108,16 @@ def refused(found: dict[str, Any], texts: dict[int, str]) -> Iterator[str]:
         reasons += [f"no longer {name} {count}" for name, count in sorted(row["no_longer"].items())]
         values = first_cells(row, row.get("clients")) | {
             "before": row["before"], "after": row["after"],
-            "why": escaped(", ".join(reasons))}
+            "why": escaped(", ".join(reasons) or "refused in both") + by(row)}
         yield f"<details>{cells(kind, values)}{decided(row)}{script_lines(row['lines'], row['lines_in_all'], 'lines', texts)}</details>\n"
     yield "</section>\n"
+
+
+def by(one: dict[str, Any]) -> str:
+    """The same in a row that isn't opened."""
+    if "decided" not in one:
+        return ""
+    return f"<small><bdi>{escaped(in_words(one['decided']))}</bdi></small>"
 
 
 def decided(one: dict[str, Any]) -> str:

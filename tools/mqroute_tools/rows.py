@@ -1,16 +1,19 @@
 """The rows of a comparison with their causes: gathered by client or by user name, for tables, JSON and the page."""
 from collections import Counter, defaultdict
-from collections.abc import Callable
+from collections.abc import Callable, Iterable
+from dataclasses import dataclass, field
 from typing import Any
 
 from .because import WHAT, Because, Grouped
 from .causes import Cause, Names, Tally, words
-from .deciding import in_words
+from .deciding import Decided, Lists, Question, allowed, in_words, pair
 from .output import Block
 from .tables import table, user_shown
 
 Row = tuple[str | None, str]  # client or user name, and topic
-Why = tuple[str, Cause]  # lost, gained or changed
+Why = tuple[str, Cause, Question | None]  # lost, gained or changed
+DENIED = "NotAuthorized"
+BY_ACCESS = {None, DENIED, "RetainedFull"}  # answers that show whether the publisher may write
 
 
 def row_order(item: tuple[Row, Any]) -> tuple[bool, str, str]:
@@ -18,14 +21,35 @@ def row_order(item: tuple[Row, Any]) -> tuple[bool, str, str]:
     return who is not None, who or "", topic
 
 
-class Reasons:
-    """The causes of what differs, and the first lines of the script for each."""
+@dataclass
+class Refused:
+    """Lines of one row that are refused. `newly` and `no_longer` count by the refusal's name."""
+    tally: Tally = field(default_factory=Tally)
+    newly: Counter[str] = field(default_factory=Counter)
+    no_longer: Counter[str] = field(default_factory=Counter)
+    decided: Decided | None = None
 
-    def __init__(self, by_user: bool, gathered: Callable[[str], str]) -> None:
-        self.by_user, self.gathered = by_user, gathered
+    def add(self, other: "Refused") -> None:
+        self.tally.merge(other.tally)
+        self.newly.update(other.newly)
+        self.no_longer.update(other.no_longer)
+
+
+class Reasons:
+    """The causes of what differs, and the first lines of the script for each.
+
+    With `lists` the lines of these that decide, too.
+    """
+
+    def __init__(self, by_user: bool, gathered: Callable[[str], str],
+                 lists: Lists | None = None) -> None:
+        self.by_user, self.gathered, self.lists = by_user, gathered, lists
         self.because, self.names = Because(), Names()
         self.copies: defaultdict[Row, defaultdict[Why, Tally]] = defaultdict(lambda: defaultdict(Tally))
-        self.refusals: defaultdict[Row, Tally] = defaultdict(Tally)
+        self.refusals: defaultdict[Row, defaultdict[Question | None, Refused]] = defaultdict(
+            lambda: defaultdict(Refused))
+        self.in_both: defaultdict[Row, Tally] = defaultdict(Tally)  # lines that both runs refused
+        self.publishers: dict[int, str] = {}  # of the lines that one run alone refused
 
     def who(self, client: str) -> str | None:
         return self.because.user(client) if self.by_user else client
@@ -39,18 +63,68 @@ class Reasons:
         for (client, topic), found in self.because.differing(command, blocks, was, now).items():
             row = self.copies[self.who(client), self.gathered(topic)]
             for what, cause, publish in found:
-                row[what, cause].add(number, publish, client, topic, self.names)
+                asked = self.question(command, (client, topic), cause, publish)
+                row[what, cause, asked].add(number, publish, client, topic, self.names)
 
-    def refused(self, row: Row, line: int, command: dict[str, Any]) -> None:
+    def question(self, command: dict[str, Any], key: tuple[str, str], cause: Cause,
+                 publish: int) -> Question | None:
+        """What is to be asked of the lists about a copy, where its cause is one of access."""
+        if self.lists is None or self.because.story.lists:
+            return None
+        client, topic = key
+        if cause.kind in ("reader", "waited"):  # what waited was sent to the user of before
+            waited = command.get("do") == "connect"
+            user = self.because.story.former if waited else self.because.user(client)
+            return Question(client, user, topic, "read")
+        if cause.kind in ("publisher", "retained") and cause.refused == DENIED:
+            publisher = self.publishers.get(publish) if publish else str(command.get("client"))
+            return None if publisher is None else Question(publisher, cause.user, topic, "write")
+        return None
+
+    def refused(self, row: Row, line: int, command: dict[str, Any], was: str | None,
+                now: str | None) -> None:
+        """A line that is refused in one run, or in both."""
+        client = str(command.get("client", ""))
         topic = str(command.get("topic", command.get("filter", "")))
-        self.refusals[row].add(line, 0, str(command.get("client", "")), topic, self.names)
+        if was == now:
+            if self.lists:
+                self.in_both[row].add(line, 0, client, topic, self.names)
+            return
+        asked = None
+        if self.lists and command.get("do") == "publish":
+            self.publishers[line] = client
+            if {DENIED} < {was, now} <= BY_ACCESS and not self.because.story.lists:
+                asked = Question(client, self.because.user(client), topic, "write")
+        entry = self.refusals[row][asked]
+        entry.tally.add(line, 0, client, topic, self.names)
+        entry.newly.update([now] if now else [])
+        entry.no_longer.update([was] if was else [])
 
-    def of(self, row: Row) -> list[tuple[str, Cause, Tally]]:
-        """What differs in a row, by cause."""
-        known: defaultdict[Why, Tally] = defaultdict(Tally)
-        for (what, cause), tally in self.copies[row].items():
-            known[what, self.because.queues.resolved(cause)].merge(tally)
-        return sorted(((*why, tally) for why, tally in known.items()), key=lambda c: (WHAT.index(c[0]), -c[2].count, str(c[1])))
+    def of(self, row: Row) -> list[tuple[str, Cause, Decided | None, Tally]]:
+        """What differs in a row, by cause and by the lines that decide it."""
+        known: dict[tuple[str, Cause, tuple[int, ...]], tuple[Decided | None, Tally]] = {}
+        for (what, cause, asked), tally in self.copies[row].items():
+            cause = self.because.queues.resolved(cause)
+            decided = None
+            if self.lists and asked and cause.kind in ("reader", "publisher", "retained"):
+                decided = self.lists.decides(asked, allowed(what, cause), tally.places[0])
+            known.setdefault((what, cause, pair(decided)), (decided, Tally()))[1].merge(tally)
+        def order(one: tuple[tuple, tuple[Decided | None, Tally]]) -> tuple:
+            (what, cause, lines), (_, tally) = one
+            return WHAT.index(what), -tally.count, str(cause), lines
+        rows = sorted(known.items(), key=order)
+        return [(what, cause, *found) for (what, cause, _), found in rows]
+
+    def refused_of(self, row: Row) -> list[Refused]:
+        """The lines of a row that one run alone refused, by the lines that decide it."""
+        known: dict[tuple[int, ...], Refused] = {}
+        for asked, entry in self.refusals[row].items():
+            decided = None
+            if self.lists and asked:
+                may = DENIED not in entry.no_longer
+                decided = self.lists.decides(asked, (may, not may), entry.tally.places[0])
+            known.setdefault(pair(decided), Refused(decided=decided)).add(entry)
+        return [known[key] for key in sorted(known, key=lambda key: (-known[key].tally.count, key))]
 
     def lines(self, tally: Tally) -> list[dict[str, Any]]:
         text = self.names.texts
@@ -69,16 +143,35 @@ def cause_entry(cause: Cause, what: str) -> dict[str, Any]:
 
 def copies_of(reasons: Reasons, row: Row, counts: dict[str, int]) -> dict[str, Any]:
     causes, clients = [], set()
-    for what, cause, tally in reasons.of(row):
+    for what, cause, decided, tally in reasons.of(row):
         entry = {"what": what, "copies": tally.count} | ({"clients": len(tally.clients)} if reasons.by_user else {})
-        causes.append(entry | cause_entry(cause, what) | {"lines": reasons.lines(tally)})
+        entry |= cause_entry(cause, what) | {"lines": reasons.lines(tally)} | by_lines(decided)
+        causes.append(entry)
         clients |= tally.clients
     return named(reasons, row, len(clients)) | counts | {"causes": causes}
 
 
-def refused_of(reasons: Reasons, row: Row, counts: dict[str, Any]) -> dict[str, Any]:
-    tally = reasons.refusals[row]
-    return named(reasons, row, len(tally.clients)) | counts | {"lines_in_all": tally.count, "lines": reasons.lines(tally)}
+def by_lines(decided: Decided | None) -> dict[str, Any]:
+    return {"decided": decided} if decided else {}
+
+
+def refused_of(reasons: Reasons, row: Row, counts: dict[str, Any]) -> Iterable[dict[str, Any]]:
+    """One row; where several pairs of lines decide, one for each, and one for what both refused."""
+    found = reasons.refused_of(row)
+    for one in found:
+        own = counts if len(found) == 1 else {
+            "before": one.no_longer.total(), "after": one.newly.total(),
+            "newly": one.newly, "no_longer": one.no_longer}
+        yield refused_row(reasons, row, own, one.tally) | by_lines(one.decided)
+    if len(found) > 1 and row in reasons.in_both:
+        both = reasons.in_both[row]
+        own = {"before": both.count, "after": both.count, "newly": {}, "no_longer": {}}
+        yield refused_row(reasons, row, own, both)
+
+
+def refused_row(reasons: Reasons, row: Row, counts: dict[str, Any], tally: Tally) -> dict[str, Any]:
+    lines = {"lines_in_all": tally.count, "lines": reasons.lines(tally)}
+    return named(reasons, row, len(tally.clients)) | counts | lines
 
 
 def named(reasons: Reasons, row: Row, clients: int) -> dict[str, Any]:

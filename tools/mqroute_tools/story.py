@@ -111,13 +111,15 @@ class Story:
         self.now, self.lists, self.expiring = 0, 0, 0
         self.sessions: dict[str, Found] = {}  # clients one of whose commands one run alone refused
         self.clocks_differ = False
-        self.renamed = False  # the client that connects has another user name than before
+        self.renamed = False  # the client that connects has another user name than before,
+        self.former: str | None = None  # which was this one
 
     def begin(self, command: dict[str, Any], before: Block, after: Block) -> None:
         """The user name, which counts at the connect itself."""
         if command.get("do") == "connect" and not (before.refused and after.refused):
             client, user = str(command.get("client")), command.get("user")
-            self.renamed = self.users.get(client) != user
+            self.former = self.users.get(client)
+            self.renamed = self.former != user
             self.users[client] = user
 
     def end(self, number: int, command: dict[str, Any], before: Block, after: Block) -> None:

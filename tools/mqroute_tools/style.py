@@ -33,6 +33,7 @@ summary .who::before { content: "▸ "; color: var(--dim) } details[open] > summ
 .refused-client { grid-template-columns: 1.3fr 2fr 4.8rem 4.8rem 3fr }
 ol { margin: .4rem 0 .6rem; padding-left: 2.6rem } li { margin: .45rem 0; overflow-wrap: anywhere }
 code { font: 13px ui-monospace, "DejaVu Sans Mono", monospace; background: var(--soft); padding: 0 .25rem }
+summary small { display: block; color: var(--dim) }
 details > .note { padding-left: 1.3rem }
 @media (max-width: 720px) {
   .head { display: none }

@@ -250,26 +250,39 @@ class Sessions(unittest.TestCase):
         self.assertIn("r       x           1      0     1       0        0  connect refused (ClientId) 1\n", done.stdout)
 
 
+@unittest.skipUnless(PROGRAM.exists(), f"there is no {PROGRAM}")
 class Deciding(Compared):
     """The lines of both lists, by a program that stands for mqroute-acl."""
     ASKED = '''#!/usr/bin/env python3
 import json, sys
-why, file, client, topic, flag, *user = sys.argv[1:]
-assert (why, flag) == ("why", "--json"), sys.argv
-lines = [line for line in open(file).read().splitlines() if "deny" in line and line.endswith(" " + topic)]
+why, flag, *user, end, file, client, topic = sys.argv[1:]
+assert (why, flag, end) == ("why", "--json", "--"), sys.argv
+open(sys.argv[0] + ".asked", "a").write(f"{file} {client} {user} {topic}\\n")
+lists, name = {}, None
+for number, line in enumerate(open(file).read().splitlines(), 1):
+    name = line[5:] if line.startswith("user ") else name
+    if line.startswith("topic deny "):
+        lists.setdefault((name, line.split()[-1]), {"file": file, "line": number, "text": f"{line}  "})
 for access in ("read", "write"):
     grant = {"file": file, "line": 1, "text": "pattern readwrite #"}
-    deny = {"file": file, "line": 3, "text": f"{lines[0]}  "} if lines and user and user[0] in ("--user=ops", "--user=meter") else None
+    deny = lists.get((user[0].removeprefix("--user="), topic)) if user else None
     print(json.dumps({"access": access, "allowed": not deny, "deny": deny, "grant": grant}))
 '''
 
-    def told(self, script: list[dict], after: str, *words: str) -> subprocess.CompletedProcess:
-        with tempfile.NamedTemporaryFile("w", suffix=".py", delete=False) as program:
-            program.write(self.ASKED)
-        self.addCleanup(os.unlink, program.name)
-        os.chmod(program.name, 0o755)
-        with unittest.mock.patch.dict(os.environ, MQROUTE_ACL_PROGRAM=program.name):
-            return self.compared(script, ALL, after, "--acl-before", "before.acl", "--acl-after", "after.acl", *words)
+    LISTS = ("--acl-before", "before.acl", "--acl-after", "after.acl")
+    SWAPPED = ("--acl-before", "after.acl", "--acl-after", "before.acl")
+
+    def told(self, script: list[dict], after: str, *words: str, lists=LISTS, before: str = ALL, **more) -> subprocess.CompletedProcess:
+        folder = tempfile.TemporaryDirectory()
+        self.addCleanup(folder.cleanup)
+        program = Path(folder.name, "why")
+        program.write_text(self.ASKED)
+        program.chmod(0o755)
+        with unittest.mock.patch.dict(os.environ, MQROUTE_ACL_PROGRAM=str(program)):
+            done = self.compared(script, before, after, *lists, *words, **more)
+        asked = Path(f"{program}.asked")
+        self.asked = asked.read_text().splitlines() if asked.exists() else []
+        return done
 
     def test_readers_and_publishers(self):
         script = [P, R, subscribe("r"), publish("p")]
@@ -287,6 +300,83 @@ for access in ("read", "write"):
             self.told([P, R, subscribe("r"), publish("p")], NO_READING, "--html", f"{folder}/page")
             page = Path(folder, "page").read_text("utf-8")
         self.assertIn("<div>before: <code><bdi>1: pattern readwrite #</bdi></code></div><div>after: <code><bdi>3: topic deny x</bdi></code></div>", page)
+
+    TWO = ALL + "user ops\ntopic deny x/1\ntopic deny x/2\n"
+    THREE = [P, R, connect("r2", "ops"), subscribe("r", "#"), subscribe("r2", "#"),
+             *(publish("p", f"x/{n}") for n in (1, 2, 1))]  # six copies
+
+    def test_each_pair_of_lines(self):
+        """Each has a row with its own number of copies, and each topic is asked for once."""
+        done = self.told(self.THREE, self.TWO, "--by", "user", "--depth", "1")
+        grant = "1: pattern readwrite #"
+        rows = [line.split("may no longer read")[0].split() + [line.split("  ")[-1]] for line in done.stdout.splitlines() if line.startswith("ops")]
+        self.assertEqual(rows, [["ops", "2", "x/#", "lost", "4", f"{grant} -> 3: topic deny x/1"],
+                                ["ops", "2", "x/#", "lost", "2", f"{grant} -> 4: topic deny x/2"]])
+        self.assertEqual(len(self.asked), len(set(self.asked)))
+        self.assertEqual(len(self.asked), 4)
+        [row] = json.loads(self.told(self.THREE, self.TWO, "--by", "user", "--depth", "1", "--json").stdout)["copies"]
+        self.assertEqual([(c["copies"], c["decided"]["after"]["deny"]["line"], [at["line"] for at in c["lines"]]) for c in row["causes"]],
+                         [(4, 3, [6, 6, 8, 8]), (2, 4, [7, 7])])
+        self.assertEqual((row["lost"], row["clients"]), (6, 2))
+        self.assertIn(f"may no longer read 2 ({grant} -> 3: topic deny x/1), may no longer read 1 ({grant} -> 4: topic deny x/2)",
+                      self.told(self.THREE, self.TWO, "--depth", "1").stdout)
+
+    def test_each_pair_of_lines_on_the_page(self):
+        with tempfile.TemporaryDirectory() as folder:
+            self.told(self.THREE, self.TWO, "--depth", "1", "--html", f"{folder}/page")
+            page = Path(folder, "page").read_text("utf-8")
+        for number in ("3: topic deny x/1", "4: topic deny x/2"):
+            self.assertEqual(page.count(f"<small><bdi>1: pattern readwrite # -&gt; {number}</bdi></small>"), 1)
+
+    def test_refused_by_several_pairs(self):
+        """And a row for the lines that both runs refuse. All of the row's lines are in one of them."""
+        denied = ALL + "user meter\ntopic deny x/0\n"
+        script = [P, *(publish("p", f"x/{n}") for n in (0, 1, 2, 0, 1))]
+        done = self.told(script, denied + "topic deny x/1\ntopic deny x/2\n", "--by", "user", "--depth", "1", before=denied)
+        grant = "1: pattern readwrite #"
+        self.assertEqual(done.stdout.partition("Refused\n")[2].partition("\n\n")[0], f"""\
+user   clients  topic  before  after  why              decided by
+meter        1  x/#         0      2  NotAuthorized 2  {grant} -> 4: topic deny x/1
+meter        1  x/#         0      1  NotAuthorized 1  {grant} -> 5: topic deny x/2
+meter        1  x/#         2      2  refused in both""")
+
+    def test_the_user_of_that_time(self):
+        """Whoever the client is later; and what waited was for the user who left."""
+        later = connect("r", "boss", kept=True)
+        waited = [*AWAY, publish("p", qos=1), publish("p", "y", qos=1), later]
+        for script in ([P, R, subscribe("r"), publish("p"), connect("r", "boss")], waited):
+            done = self.told(script, NO_READING, "--why")
+            self.assertIn("may no longer read 1 (1: pattern readwrite # -> 3: topic deny x)", done.stdout, done.stderr)
+
+    def contradicts(self, done: subprocess.CompletedProcess, said: str) -> None:
+        self.assertEqual((done.returncode, done.stdout, done.stderr), (2, "", f"who_loses: the lists don't fit the outputs: {said}\n"))
+
+    def test_lists_that_do_not_fit(self):
+        script = [P, R, subscribe("r"), publish("p")]
+        swapped = "swapped? line 4 of the script: after.acl doesn't let {} x, and the output before shows that it may"
+        self.contradicts(self.told(script, NO_READING, lists=self.SWAPPED), swapped.format("r (user ops) read"))
+        self.contradicts(self.told(script, NO_WRITING, lists=self.SWAPPED), swapped.format("p (user meter) write"))
+        before = ("--acl-before", "before.acl", "--acl-after", "before.acl")
+        self.contradicts(self.told(script, NO_READING, lists=before),
+                         "line 4 of the script: before.acl lets r (user ops) read x, and the output after shows that it may not")
+
+    def test_what_is_no_contradiction(self):
+        """Of a list of the script's own, of full queues and turns the lists say nothing, whichever they are."""
+        own = [*AWAY, publish("p", qos=1), publish("p", "y", qos=1), {"do": "acl", "text": ALL}, BACK]
+        queue = [*AWAY, publish("p", qos=1), publish("p", qos=1), publish("p", qos=1), BACK]
+        full = ["--max-retained", "1"], ["--max-retained", "0"]
+        for lists in (self.LISTS, self.SWAPPED):
+            self.assertEqual(self.told(own, NO_READING, lists=lists).returncode, 1)
+            self.assertEqual(self.asked, [])
+            done = self.told(queue, NO_READING, lists=lists, before=NO_READING, options=([], ["--max-queued", "1"]))
+            self.assertEqual((done.returncode, done.stderr), (0, ""))
+            done = self.told(queue, ALL, lists=lists, options=([], ["--max-queued", "1"]))
+            self.assertIn("queue full 2", done.stdout)
+            done = self.told([P, R, publish("p", retain=True), subscribe("r")], NO_READING, lists=lists, before=NO_READING, options=full)
+            self.assertIn("RetainedFull 1", done.stdout)
+        group = [subscribe(client, "$share/g/x") for client in ("a", "b")]
+        turns = [P, connect("q"), connect("a"), connect("b"), *group, publish("p"), publish("q"), publish("q")]
+        self.assertEqual(self.told(turns, NO_WRITING).stdout.count("another member's turn 2"), 2)
 
     def test_not_under_another_list(self):
         done = self.told([P, R, {"do": "acl", "text": NO_READING}, subscribe("r"), publish("p")], NO_WRITING, "--why")
