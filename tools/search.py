@@ -94,7 +94,8 @@ class Search:
             found = self.broker.run(marked, blocks)
         except OSError as fault:
             text = "\n".join(map(as_json, script))
-            raise Fault(f"the broker is gone ({in_words(fault)}) in this script, or after the one before:\n{text}") from fault
+            raise Fault(f"the broker is gone ({in_words(fault)}) in this script, "
+                        f"or after the one before:\n{text}") from fault
         return [one._replace(texts=[text.replace(mark, "") for text in one.texts]) for one in found]
 
     def is_known(self, found: Kind) -> bool:

@@ -209,8 +209,9 @@ def report(found: dict[str, Any]) -> str:
 
 def sums(totals: dict[str, int]) -> str:
     copies, lines = counted(totals["before"], "copies"), counted(totals["refused_before"], "lines")
-    return ("In all {copies} before and {after} after: {lost} lost, {gained} gained, {changed} changed. "
-            "{lines} refused before, {refused_after} after.").format(copies=copies, lines=lines, **totals)
+    return ("In all {copies} before and {after} after: {lost} lost, {gained} gained, "
+            "{changed} changed. {lines} refused before, {refused_after} after."
+            ).format(copies=copies, lines=lines, **totals)
 
 
 def copies_table(copies: list[dict[str, Any]]) -> str:

@@ -39,7 +39,8 @@ class LiveBroker:
             if options.on_acl:
                 replay.set_access(None)
         except (OSError, Closed) as fault:
-            raise Fault(f"no broker at {options.host} port {options.port}: {in_words(fault)}") from fault
+            why = in_words(fault)
+            raise Fault(f"no broker at {options.host} port {options.port}: {why}") from fault
         finally:
             replay.end()
         self.use = offered(self.offer, options.on_acl is not None)

@@ -262,7 +262,8 @@ lists, name = {}, None
 for number, line in enumerate(open(file).read().splitlines(), 1):
     name = line[5:] if line.startswith("user ") else name
     if line.startswith("topic deny "):
-        lists.setdefault((name, line.split()[-1]), {"file": file, "line": number, "text": f"{line}  "})
+        told = {"file": file, "line": number, "text": f"{line}  "}
+        lists.setdefault((name, line.split()[-1]), told)
 for access in ("read", "write"):
     grant = {"file": file, "line": 1, "text": "pattern readwrite #"}
     deny = lists.get((user[0].removeprefix("--user="), topic)) if user else None
@@ -272,7 +273,8 @@ for access in ("read", "write"):
     LISTS = ("--acl-before", "before.acl", "--acl-after", "after.acl")
     SWAPPED = ("--acl-before", "after.acl", "--acl-after", "before.acl")
 
-    def told(self, script: list[dict], after: str, *words: str, lists=LISTS, before: str = ALL, **more) -> subprocess.CompletedProcess:
+    def told(self, script: list[dict], after: str, *words: str, lists=LISTS, before: str = ALL,
+             **more) -> subprocess.CompletedProcess:
         folder = tempfile.TemporaryDirectory()
         self.addCleanup(folder.cleanup)
         program = Path(folder.name, "why")
@@ -309,16 +311,21 @@ for access in ("read", "write"):
         """Each has a row with its own number of copies, and each topic is asked for once."""
         done = self.told(self.THREE, self.TWO, "--by", "user", "--depth", "1")
         grant = "1: pattern readwrite #"
-        rows = [line.split("may no longer read")[0].split() + [line.split("  ")[-1]] for line in done.stdout.splitlines() if line.startswith("ops")]
+        rows = [line.split("may no longer read")[0].split() + [line.split("  ")[-1]]
+                for line in done.stdout.splitlines() if line.startswith("ops")]
         self.assertEqual(rows, [["ops", "2", "x/#", "lost", "4", f"{grant} -> 3: topic deny x/1"],
                                 ["ops", "2", "x/#", "lost", "2", f"{grant} -> 4: topic deny x/2"]])
         self.assertEqual(len(self.asked), len(set(self.asked)))
         self.assertEqual(len(self.asked), 4)
-        [row] = json.loads(self.told(self.THREE, self.TWO, "--by", "user", "--depth", "1", "--json").stdout)["copies"]
-        self.assertEqual([(c["copies"], c["decided"]["after"]["deny"]["line"], [at["line"] for at in c["lines"]]) for c in row["causes"]],
-                         [(4, 3, [6, 6, 8, 8]), (2, 4, [7, 7])])
+        done = self.told(self.THREE, self.TWO, "--by", "user", "--depth", "1", "--json")
+        [row] = json.loads(done.stdout)["copies"]
+        denied = [cause["decided"]["after"]["deny"]["line"] for cause in row["causes"]]
+        lines = [[at["line"] for at in cause["lines"]] for cause in row["causes"]]
+        self.assertEqual((denied, lines), ([3, 4], [[6, 6, 8, 8], [7, 7]]))
+        self.assertEqual([cause["copies"] for cause in row["causes"]], [4, 2])
         self.assertEqual((row["lost"], row["clients"]), (6, 2))
-        self.assertIn(f"may no longer read 2 ({grant} -> 3: topic deny x/1), may no longer read 1 ({grant} -> 4: topic deny x/2)",
+        self.assertIn(f"may no longer read 2 ({grant} -> 3: topic deny x/1), "
+                      f"may no longer read 1 ({grant} -> 4: topic deny x/2)",
                       self.told(self.THREE, self.TWO, "--depth", "1").stdout)
 
     def test_each_pair_of_lines_on_the_page(self):
@@ -326,13 +333,15 @@ for access in ("read", "write"):
             self.told(self.THREE, self.TWO, "--depth", "1", "--html", f"{folder}/page")
             page = Path(folder, "page").read_text("utf-8")
         for number in ("3: topic deny x/1", "4: topic deny x/2"):
-            self.assertEqual(page.count(f"<small><bdi>1: pattern readwrite # -&gt; {number}</bdi></small>"), 1)
+            cell = f"<small><bdi>1: pattern readwrite # -&gt; {number}</bdi></small>"
+            self.assertEqual(page.count(cell), 1)
 
     def test_refused_by_several_pairs(self):
-        """And a row for the lines that both runs refuse. All of the row's lines are in one of them."""
+        """And a row for the lines that both runs refuse, so that each line is in one row."""
         denied = ALL + "user meter\ntopic deny x/0\n"
         script = [P, *(publish("p", f"x/{n}") for n in (0, 1, 2, 0, 1))]
-        done = self.told(script, denied + "topic deny x/1\ntopic deny x/2\n", "--by", "user", "--depth", "1", before=denied)
+        after = denied + "topic deny x/1\ntopic deny x/2\n"
+        done = self.told(script, after, "--by", "user", "--depth", "1", before=denied)
         grant = "1: pattern readwrite #"
         self.assertEqual(done.stdout.partition("Refused\n")[2].partition("\n\n")[0], f"""\
 user   clients  topic  before  after  why              decided by
@@ -346,36 +355,45 @@ meter        1  x/#         2      2  refused in both""")
         waited = [*AWAY, publish("p", qos=1), publish("p", "y", qos=1), later]
         for script in ([P, R, subscribe("r"), publish("p"), connect("r", "boss")], waited):
             done = self.told(script, NO_READING, "--why")
-            self.assertIn("may no longer read 1 (1: pattern readwrite # -> 3: topic deny x)", done.stdout, done.stderr)
+            self.assertIn("may no longer read 1 (1: pattern readwrite # -> 3: topic deny x)",
+                          done.stdout, done.stderr)
 
     def contradicts(self, done: subprocess.CompletedProcess, said: str) -> None:
-        self.assertEqual((done.returncode, done.stdout, done.stderr), (2, "", f"who_loses: the lists don't fit the outputs: {said}\n"))
+        said = f"who_loses: the lists don't fit the outputs: {said}\n"
+        self.assertEqual((done.returncode, done.stdout, done.stderr), (2, "", said))
 
     def test_lists_that_do_not_fit(self):
         script = [P, R, subscribe("r"), publish("p")]
-        swapped = "swapped? line 4 of the script: after.acl doesn't let {} x, and the output before shows that it may"
-        self.contradicts(self.told(script, NO_READING, lists=self.SWAPPED), swapped.format("r (user ops) read"))
-        self.contradicts(self.told(script, NO_WRITING, lists=self.SWAPPED), swapped.format("p (user meter) write"))
+        swapped = ("swapped? line 4 of the script: after.acl doesn't let {} x, "
+                   "and the output before shows that it may").format
+        done = self.told(script, NO_READING, lists=self.SWAPPED)
+        self.contradicts(done, swapped("r (user ops) read"))
+        done = self.told(script, NO_WRITING, lists=self.SWAPPED)
+        self.contradicts(done, swapped("p (user meter) write"))
         before = ("--acl-before", "before.acl", "--acl-after", "before.acl")
         self.contradicts(self.told(script, NO_READING, lists=before),
-                         "line 4 of the script: before.acl lets r (user ops) read x, and the output after shows that it may not")
+                         "line 4 of the script: before.acl lets r (user ops) read x, "
+                         "and the output after shows that it may not")
 
     def test_what_is_no_contradiction(self):
-        """Of a list of the script's own, of full queues and turns the lists say nothing, whichever they are."""
-        own = [*AWAY, publish("p", qos=1), publish("p", "y", qos=1), {"do": "acl", "text": ALL}, BACK]
+        """Of a list of the script's own, of full queues and turns no list says anything."""
+        own = [*AWAY, publish("p", qos=1), publish("p", "y", qos=1), {"do": "acl", "text": ALL}]
+        own.append(BACK)
         queue = [*AWAY, publish("p", qos=1), publish("p", qos=1), publish("p", qos=1), BACK]
         full = ["--max-retained", "1"], ["--max-retained", "0"]
         for lists in (self.LISTS, self.SWAPPED):
             self.assertEqual(self.told(own, NO_READING, lists=lists).returncode, 1)
             self.assertEqual(self.asked, [])
-            done = self.told(queue, NO_READING, lists=lists, before=NO_READING, options=([], ["--max-queued", "1"]))
+            few = {"lists": lists, "options": ([], ["--max-queued", "1"])}
+            done = self.told(queue, NO_READING, before=NO_READING, **few)
             self.assertEqual((done.returncode, done.stderr), (0, ""))
-            done = self.told(queue, ALL, lists=lists, options=([], ["--max-queued", "1"]))
-            self.assertIn("queue full 2", done.stdout)
-            done = self.told([P, R, publish("p", retain=True), subscribe("r")], NO_READING, lists=lists, before=NO_READING, options=full)
+            self.assertIn("queue full 2", self.told(queue, ALL, **few).stdout)
+            store = [P, R, publish("p", retain=True), subscribe("r")]
+            done = self.told(store, NO_READING, lists=lists, before=NO_READING, options=full)
             self.assertIn("RetainedFull 1", done.stdout)
         group = [subscribe(client, "$share/g/x") for client in ("a", "b")]
-        turns = [P, connect("q"), connect("a"), connect("b"), *group, publish("p"), publish("q"), publish("q")]
+        turns = [P, connect("q"), connect("a"), connect("b"), *group,
+                 publish("p"), publish("q"), publish("q")]
         self.assertEqual(self.told(turns, NO_WRITING).stdout.count("another member's turn 2"), 2)
 
     def test_not_under_another_list(self):

@@ -173,26 +173,31 @@ class Runs(OnABroker):
         self.assertEqual((status, out.splitlines()[1:]), (1, ["   reason: mqroute 0, broker 16"]))
 
     def test_progress_on_a_terminal(self):
-        """Which line is run, on standard error; it is gone where something is printed, and at the end."""
+        """Which line is run; it is gone where something is printed, and at the end."""
         self.start()
-        self.write_files([self.CONNECT, {"do": "advance", "seconds": 1}, self.PUBLISH], self.done(0, 0, 0))
+        wait = {"do": "advance", "seconds": 1}
+        self.write_files([self.CONNECT, wait, self.PUBLISH], self.done(0, 0, 0))
         ours, theirs = pty.openpty()
-        done = subprocess.run([PAHO, HERE / "replay.py", "--port", str(self.port), "script", "output"], cwd=self.folder.name,
-                              stdout=subprocess.PIPE, stderr=theirs, text=True, timeout=60)
+        words = [HERE / "replay.py", "--port", str(self.port), "script", "output"]
+        done = subprocess.run([PAHO, *words], cwd=self.folder.name, stdout=subprocess.PIPE,
+                              stderr=theirs, text=True, timeout=60)
         os.close(theirs)
         told = os.read(ours, 4096).decode()
         os.close(ours)
         clear = "\r\x1b[K"
-        self.assertEqual((done.returncode, done.stdout.splitlines()[1]), (1, "   reason: mqroute 0, broker 16"))
+        self.assertEqual(done.returncode, 1)
+        self.assertEqual(done.stdout.splitlines()[1], "   reason: mqroute 0, broker 16")
         self.assertEqual(told, f"{clear}line 1 of 3{clear}line 3 of 3{clear}{clear}")
 
     def test_no_broker(self):
         status, out, told = self.run_script([self.CONNECT], self.done(0))
-        self.assertEqual((status, out, told), (2, "", f"replay: script:1: the broker at 127.0.0.1 port {self.port}: Connection refused\n"))
+        said = f"the broker at 127.0.0.1 port {self.port}: Connection refused"
+        self.assertEqual((status, out, told), (2, "", f"replay: script:1: {said}\n"))
 
     def test_a_script_without_a_command(self):
-        status, out, told = self.run_script(["no json"], ['{"code":2,"line":1,"refused":"BadJson"}'])
-        self.assertEqual((status, out, told), (2, "", "replay: script: no line is a command: its first line: no json\n"))
+        found = self.run_script(["no json"], ['{"code":2,"line":1,"refused":"BadJson"}'])
+        said = "replay: script: no line is a command: its first line: no json\n"
+        self.assertEqual(found, (2, "", said))
 
     def test_access_lists(self):
         pid = self.start()
@@ -200,9 +205,11 @@ class Runs(OnABroker):
         output = [*self.done(0, 1, 0), {"code": 11, "line": 4, "refused": "NotAuthorized"}, {"line": 5, "reason": 0}, self.GOT | {"line": 6}, {"line": 6, "reason": 0}]
         command = f'cp "$MQROUTE_ACL" "{self.folder.name}/acl" && kill -HUP {pid}'
         self.assertEqual(self.run_script(script, output, "--on-acl", command), (0, "", ""))
-        for words, said in (((), "sets an access list: give --on-acl, a command that lets the broker read one"),
+        wanted = "sets an access list: give --on-acl, a command that lets the broker read one"
+        for words, said in (((), wanted),
                             (("--on-acl", "false"), "the command of --on-acl ended with status 1")):
-            self.assertEqual(self.run_script(script, output, *words), (2, "", f"replay: script:3: {said}\n"))
+            found = self.run_script(script, output, *words)
+            self.assertEqual(found, (2, "", f"replay: script:3: {said}\n"))
 
     def test_user_and_password(self):
         names = f"{self.folder.name}/passwords"
@@ -276,10 +283,12 @@ class Runs(OnABroker):
             from types import SimpleNamespace
             from mqroute_tools.live import Connection
             gone = Connection.__new__(Connection)
-            gone.client = SimpleNamespace(want_write=lambda: True, loop_write=lambda: None, socket=lambda: None)
+            gone.client = SimpleNamespace(want_write=lambda: True, socket=lambda: None,
+                                          loop_write=lambda: None)
             gone.write()
         """
-        done = subprocess.run([PAHO, "-c", code], cwd=HERE, capture_output=True, text=True, timeout=20)
+        done = subprocess.run([PAHO, "-c", code], cwd=HERE, capture_output=True, text=True,
+                              timeout=20)
         self.assertEqual((done.returncode, done.stderr), (0, ""))
 
     def test_what_is_not_offered(self):
