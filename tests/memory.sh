@@ -1,6 +1,6 @@
 #!/usr/bin/env bash
-# Runs long scripts through the built programs in a small address space: what they take doesn't grow with the script, and
-# what mqroute has answered when memory runs out is written.
+# Runs long scripts and long lists through the built programs in a small address space: what they take doesn't grow with
+# the script, and little with the list; what mqroute has answered when memory runs out is written.
 set -uo pipefail
 cd "$(dirname "$0")/.."
 program=$PWD/bin/mqroute
@@ -110,6 +110,28 @@ told=$( (ulimit -v "$room" && exec "$acl" reach "$work/list" --script "$work/scr
 status=$?
 [ "$status" = 0 ] && [ "$told" = "0 of $subscribes subscriptions in vain" ]
 say $? "reach on $subscribes subscribes in $room KiB: wanted status 0 and none in vain, got status $status: $told"
+
+# Lists of a hundred users with fifty lines each, one with a line more.
+for user in $(seq 100); do
+    echo "user u$user"
+    seq -f "topic readwrite plant/hall-%.0f/u$user/#" 50
+done > "$work/list"
+{ cat "$work/list"; echo "pattern read plant/#"; } > "$work/longer"
+head -n 1000 "$work/list" > "$work/shorter"
+
+asks() { # STATUS LAST_LINE ARGUMENTS..: of mqroute-acl on these lists
+    local last
+    last=$( (ulimit -v "$room" && cd "$work" && exec "$acl" "${@:3}") 2>&1)
+    local status=$?
+    last=$(tail -n 1 <<< "$last")
+    [ "$status" = "$1" ] && [ "$last" = "$2" ]
+    say $? "mqroute-acl ${*:3} in $room KiB: wanted status $1 and the last line '$2', got status $status: $last"
+}
+
+asks 1 "1 difference" compare list longer
+asks 0 "may write: list:56  topic readwrite plant/hall-4/u2/#" why list c plant/hall-4/u2/x --user u2
+asks 0 "plant/hall-7/u9" reach list c "plant/hall-7/+/#" --user u9
+asks 0 "" lint shorter
 
 echo "$passed passed, $failed failed"
 [ "$failed" = 0 ] && [ "$passed" != 0 ]
