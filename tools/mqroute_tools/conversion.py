@@ -47,6 +47,8 @@ class Converter(Clients):
             return
         time, text = self.stamps.split(line)
         self.part(text)
+        if not text.startswith("Sending PUBLISH to "):
+            self.ended = None
         if time is not None:
             if self.time is not None and time < self.time:
                 self.notes.add("times went back: the script's clock stands still there", f"line {self.place}: {line}")
@@ -130,11 +132,18 @@ class Converter(Clients):
 
     def copied(self, sent: log.Publish) -> None:
         """The broker sent a copy."""
+        if self.of_own_will(sent):
+            return
         if sent.client not in self.connected:
             self.was_before(sent.client)
         if sent.topic.startswith("$SYS/") and sent.topic not in self.sys_topics:
             self.notes.add("copies of topics under $SYS/, which the broker publishes itself, are not in the script",
                            f"line {self.place}: {sent.client} {sent.topic}")
+
+    def of_own_will(self, sent: log.Publish) -> bool:
+        """Whether the copy stands right behind the end of its client's connection: so the broker logs
+        those of the client's own will."""
+        return sent.client == self.ended and sent.client not in self.connected
 
     def received(self, text: str) -> bool:
         kind, _, client = text.partition(" from ")
@@ -143,9 +152,7 @@ class Converter(Clients):
             self.packet = (kind.lower(), client, self.place)
         elif kind == "DISCONNECT":
             if client in self.connected:
-                self.connected[client].leaves = True
-                if self.silent:
-                    self.end(client, willed=True)
+                self.disconnecting(client)
         elif kind == "PUBREL":
             found = log.RELEASE.match(client)
             session = found and self.connected.get(found[1])
@@ -156,6 +163,15 @@ class Converter(Clients):
         else:
             return kind in ("PINGREQ", "PUBACK", "PUBREC", "PUBCOMP", "AUTH", "SUBACK", "UNSUBACK") or text.startswith("CONNACK on connection ")
         return True
+
+    def disconnecting(self, client: str) -> None:
+        """Over websockets the connection ends here for all others."""
+        session = self.connected[client]
+        session.leaves = True
+        if self.silent:
+            self.end(client, willed=True)
+        elif session.websocket:
+            self.leave(client)
 
     def publish(self, text: str, routed: bool) -> bool:
         found = log.read_publish(text, self.connected)
@@ -168,6 +184,9 @@ class Converter(Clients):
         if found.topic.startswith("$SYS/"):
             self.sys_topics.add(found.topic)
         if routed and found.qos == 2:
+            reused = session.unreleased.pop(found.packet, command)
+            if reused != command:
+                self.never_released(reused)
             session.unreleased[found.packet] = command
         else:
             self.emit(self.place, command, routed)
@@ -274,7 +293,7 @@ class Converter(Clients):
         if expired:
             self.expire(expired[1])
             return True
-        named = log.ended_clients(text, self.connected)
+        named = log.ended_clients(text, self.connected, self.closing)
         if len(named) > 1:
             self.doubt(text)
         if named:
@@ -282,11 +301,13 @@ class Converter(Clients):
         return bool(named) or taken is not None
 
     def closed(self, client: str) -> None:
-        session = self.connected.get(client)
-        if session and session.leaves and session.will and client not in self.closing:
+        session, departed = self.connected.get(client), client in self.departed
+        willed = bool(session and session.leaves and session.will)
+        waits = departed or (willed and client not in self.closing)
+        if waits:
             self.part("")
             self.parting = (client, self.place)
-        else:
+        if departed or not waits:
             super().closed(client)
 
     def part(self, text: str) -> None:
@@ -297,13 +318,17 @@ class Converter(Clients):
         if self.parting is None:
             return
         (client, place), self.parting = self.parting, None
-        session = self.connected[client]
+        departed = self.departed.pop(client, None)
+        session = departed or self.connected[client]
         sent = log.read_publish(text[19:], self.connected) if text.startswith("Sending PUBLISH to ") else None
         copy = publish(client, sent.topic, sent.size, 0, False) if sent else {}
         if sent and all(copy.get(name) == session.will.get(name) for name in ("topic", "payload")):
             session.leaves = False
         here, self.place = self.place, place
-        self.end(client, willed=True)
+        if departed is None:
+            self.end(client, willed=True)
+        elif not departed.leaves:
+            self.departed_will(client, departed)
         self.place = here
 
     def end(self, client: str, willed: bool) -> None:

@@ -45,6 +45,8 @@ PUBLISH_END = re.compile(r"', \.\.\. \((\d+) bytes\)\)$")
 CONNECTED = re.compile(r" \(p(\d+), c([01]), k\d+(?:, u'(.*)')?\)\.$")
 CONNACK = re.compile(r"(.*) \(([01]), (\d+)\)$")
 RELEASE = re.compile(r"(.*) \(Mid: (\d+)\)$")
+ACKNOWLEDGED = re.compile(r"PUB(?:ACK|COMP) from (.*) \(Mid: (\d+), RC:\d+\)$")
+RELEASED = re.compile(r"PUBREL to (.*) \(m(\d+)\)$")
 FILTER = re.compile(r"(.*) \(QoS ([0-2])\)$")
 WILL = re.compile(r"Will message specified \((\d+) bytes\) \(r([01]), q([0-2])\)\.$")
 ENDS = tuple(re.compile(p) for p in (
@@ -65,7 +67,8 @@ PASSED_OVER = (
     "Opening ", "Saving in-memory database to ", "mosquitto version ", "Invalid subscription string from ",
     "Empty subscription string from ", "Invalid unsubscription string from ", "Empty unsubscription string from ",
     "Warning: ", "Note: ", "To fix this, use ", "Client <unknown> ", "Client connection from ", "OpenSSL Error",
-    "ACL denying access to client with dangerous ", "Connecting bridge ", "Received CONNACK on connection ",
+    "ACL denying access to client with dangerous ", "Reused message ID ", "Connecting bridge ",
+    "Received CONNACK on connection ",
 )
 # Lines that concern the script and give no command.
 TOLD = (
@@ -106,7 +109,7 @@ def read_publish(text: str, known: Container[str]) -> Publish | None:
     return Publish(text[:head.start()], head, text[head.end():end.start()], int(end[1]), readings)
 
 
-def ended_clients(text: str, known: Container[str]) -> list[str]:
+def ended_clients(text: str, *known: Container[str]) -> list[str]:
     """The clients, one but for the oddest ids, whose connection this line may end; none if it is of another kind."""
     named = [found[1] for found in (p.match(text) for p in ENDS) if found]
-    return [n for n in named if n in known] or named
+    return [n for n in named if any(n in those for those in known)] or named

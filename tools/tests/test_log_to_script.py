@@ -118,7 +118,7 @@ class Leaving(Case):
         """Its copies come at once. The line has no reason; others' copies after it, or later ones, aren't of the will."""
         ends = "Received DISCONNECT from a\nClient a disconnected.\n"
         copy, gone = published("b", "last/words", size=3, word="Sending").replace("from", "to"), {"do": "disconnect", "client": "a"}
-        before = arrival("b") + arrival("a", will=self.WILL)
+        before = arrival("b") + "New connection from 127.0.0.1:50000 on port 1883.\n" + arrival("a", will=self.WILL)
         for after, wanted in ((copy, [self.SENT, gone]), (copy + "Client b disconnected.\n", [self.SENT, gone, {"do": "disconnect", "client": "b"}]),
                               (copy.replace("(3", "(4"), [gone]), (copy.replace("words", "word"), [gone]), ("", [gone]),
                               ("Received PINGREQ from b\n" + copy, [gone]), (arrival("a") + copy, [gone])):
