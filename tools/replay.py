@@ -10,43 +10,73 @@ Exit status: 0 nothing differs; 1 something does; 2 usage, a file, an output tha
 import argparse
 import json
 import sys
-from collections.abc import Iterator
+from collections.abc import Iterable, Iterator
 
+from mqroute import Oracle
 from mqroute_tools import ending
 from mqroute_tools.agreement import Command
 from mqroute_tools.ending import Fault
 from mqroute_tools.live_run import Closed, Replay
+from mqroute_tools.offered import answers, fitted_script, read_list
 from mqroute_tools.output import Block, blocks, by_key, is_blank, misfit
+from mqroute_tools.progress import Progress
 from mqroute_tools.wills import Wills
 
 
-def runnable(script: str, output: str) -> Iterator[tuple[int, Command, Block]]:
+Line = tuple[int, Command, Block]
+
+
+def runnable(script: Iterable[bytes], given: Iterator[Block],
+             names: tuple[str, str]) -> Iterator[Line]:
     """The lines that can be sent, with their answers: all but those refused as no MQTT command can be."""
-    answers = blocks(output)
-    with open(script, "rb") as stream:
-        for number, line in enumerate(stream, 1):
-            if is_blank(line):
-                continue
-            block = next(answers, None)
-            if block is None or block.line != number:
-                raise Fault(f"line {number} of {script} is not answered in {output}: it is cut short, or is of another script")
-            if block.refused and block.refused != "NotAuthorized":
-                continue
-            command = json.loads(line)
-            why = misfit(command, block, by_key(block.copies, output))
-            if why:
-                raise Fault(f"{output} is of another script: line {number} is answered with {why}")
-            yield number, command, block
-    if next(answers, None):
-        raise Fault(f"{output} has answers to lines that {script} doesn't have")
+    name, output = names
+    for number, line in enumerate(script, 1):
+        if is_blank(line):
+            continue
+        block = next(given, None)
+        if block is None or block.line != number:
+            raise Fault(f"line {number} of {name} is not answered in {output}: "
+                        "it is cut short, or is of another script")
+        if block.refused and block.refused != "NotAuthorized":
+            continue
+        command = json.loads(line)
+        why = misfit(command, block, by_key(block.copies, output))
+        if why:
+            raise Fault(f"{output} is of another script: line {number} is answered with {why}")
+        yield number, command, block
+    if next(given, None):
+        raise Fault(f"{output} has answers to lines that {name} doesn't have")
 
 
-def differences(replay: Replay, script: str, output: str) -> Iterator[list[str]]:
+def offered(replay: Replay, script: list[bytes], lines: list[Line]) -> list[Line]:
+    """The lines as this broker can run them. Where its CONNACK lacks something mqroute answers anew."""
+    options = replay.options
+    fitted, told = fitted_script(script, {number for number, _, _ in lines}, replay.offer)
+    if not told:
+        return lines
+    acl = read_list(options.acl_file) if options.acl_file else None
+    with Oracle(acl, options.max_retained, options.max_queued) as oracle:
+        if answers(oracle.words, b"".join(script)) != list(blocks(options.output)):
+            lacking = ", ".join(what.partition(": ")[0] for what in told)
+            raise Fault(f"{lacking}: mqroute has to run again, and wrote {options.output} with other "
+                        "options. Give its --acl-file, --max-retained and --max-queued")
+        again = answers(oracle.words, b"".join(fitted))
+    replay.told += told
+    return list(runnable(fitted, iter(again), (options.script, "mqroute's answer")))
+
+
+def differences(replay: Replay, progress: Progress) -> Iterator[list[str]]:
     """For each line that differs, the texts to print."""
-    lines = list(runnable(script, output))  # a fault is told before the broker is asked anything
-    if replay.options.wills:
-        replay.wills = Wills(lines)
-    for number, command, block in lines:
+    options = replay.options
+    with open(options.script, "rb") as stream:
+        script = stream.readlines()
+    names = (options.script, options.output)
+    lines = list(runnable(script, blocks(options.output), names))  # faults come before the broker
+    replay.wills = Wills(lines if options.wills else ())
+    at, fits = 0, False
+    while at < len(lines):
+        number, command, block = lines[at]
+        progress.at(number, len(script))
         head = f"line {number}: {json.dumps(command, ensure_ascii=False)}"
         try:
             found = replay.answer(number, command, block)
@@ -55,6 +85,12 @@ def differences(replay: Replay, script: str, output: str) -> Iterator[list[str]]
             return
         if found:
             yield [head, *found]
+        if command["do"] == "connect" and not fits:
+            fits = True
+            rest = [line for line in offered(replay, script, lines) if line[0] > number]
+            lines = lines[:at + 1] + rest
+            replay.wills = Wills(lines if options.wills else ())
+        at += 1
 
 
 def arguments() -> argparse.Namespace:
@@ -65,6 +101,10 @@ def arguments() -> argparse.Namespace:
     parser.add_argument("--password", metavar="TEXT", help="password of all clients")
     parser.add_argument("--on-acl", metavar="COMMAND", help="what the shell does for an `acl` line: it lets the broker read the access list in the file "
                         "$MQROUTE_ACL, as by: cp \"$MQROUTE_ACL\" /tmp/acl && kill -HUP 123")
+    parser.add_argument("--acl-file", metavar="FILE", help="the access list with which mqroute wrote "
+                        "OUTPUT: it runs again where the broker doesn't offer all that the script asks for")
+    parser.add_argument("--max-retained", type=int, metavar="N", help="the limit with which it did")
+    parser.add_argument("--max-queued", type=int, metavar="N", help="the limit with which it did")
     parser.add_argument("--wills", action="store_true", help="run as a will what a client publishes with the payload `will` and then disconnects: it goes with "
                         "the CONNECT, and the connection ends without a DISCONNECT")
     parser.add_argument("--patience", type=float, default=5, metavar="SECONDS", help="how long to wait for an acknowledgement (default 5)")
@@ -75,18 +115,20 @@ def arguments() -> argparse.Namespace:
 
 def main() -> int:
     options = arguments()
-    replay = Replay(options)
+    replay, progress = Replay(options), Progress()
     status = 0
     try:
-        for texts in differences(replay, options.script, options.output):
+        for texts in differences(replay, progress):
+            progress.clear()
             print("\n".join(texts))
             status = 1
     except (ValueError, KeyError) as fault:
         raise Fault(repr(fault)) from fault
     finally:
+        progress.clear()
         replay.end()
-    for what, count in replay.left_out.items():
-        ending.tell(f"the broker doesn't offer {what}: {count} lines left out")
+    for what, count in replay.told.items():
+        ending.tell(what.format(count))
     return status
 
 
