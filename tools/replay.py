@@ -49,7 +49,7 @@ def runnable(script: Iterable[bytes], given: Iterator[Block],
 
 
 def offered(replay: Replay, script: list[bytes], lines: list[Line]) -> list[Line]:
-    """The lines as this broker can run them. Where its CONNACK lacks something mqroute answers anew."""
+    """The lines as this broker can run them. Where it lacks something mqroute answers anew."""
     options = replay.options
     fitted, told = fitted_script(script, {number for number, _, _ in lines}, replay.offer)
     if not told:
@@ -58,8 +58,8 @@ def offered(replay: Replay, script: list[bytes], lines: list[Line]) -> list[Line
     with Oracle(acl, options.max_retained, options.max_queued) as oracle:
         if answers(oracle.words, b"".join(script)) != list(blocks(options.output)):
             lacking = ", ".join(what.partition(": ")[0] for what in told)
-            raise Fault(f"{lacking}: mqroute has to run again, and wrote {options.output} with other "
-                        "options. Give its --acl-file, --max-retained and --max-queued")
+            raise Fault(f"{lacking}: mqroute has to run again, and wrote {options.output} "
+                        "with other options. Give its --acl-file, --max-retained and --max-queued")
         again = answers(oracle.words, b"".join(fitted))
     replay.told += told
     return list(runnable(fitted, iter(again), (options.script, "mqroute's answer")))
@@ -101,8 +101,9 @@ def arguments() -> argparse.Namespace:
     parser.add_argument("--password", metavar="TEXT", help="password of all clients")
     parser.add_argument("--on-acl", metavar="COMMAND", help="what the shell does for an `acl` line: it lets the broker read the access list in the file "
                         "$MQROUTE_ACL, as by: cp \"$MQROUTE_ACL\" /tmp/acl && kill -HUP 123")
-    parser.add_argument("--acl-file", metavar="FILE", help="the access list with which mqroute wrote "
-                        "OUTPUT: it runs again where the broker doesn't offer all that the script asks for")
+    parser.add_argument("--acl-file", metavar="FILE",
+                        help="the access list with which mqroute wrote OUTPUT: it runs again where "
+                        "the broker doesn't offer all that the script asks for")
     parser.add_argument("--max-retained", type=int, metavar="N", help="the limit with which it did")
     parser.add_argument("--max-queued", type=int, metavar="N", help="the limit with which it did")
     parser.add_argument("--wills", action="store_true", help="run as a will what a client publishes with the payload `will` and then disconnects: it goes with "

@@ -58,7 +58,7 @@ class Joined:
 
 
 def joined(copies: Iterable[Copy]) -> dict[Key, dict[str, Joined]]:
-    """By client and topic, then by payload: two messages may differ in RETAIN and in their interval."""
+    """By client and topic, then by payload: two messages may differ in RETAIN and interval."""
     found: defaultdict[Key, defaultdict[str, Joined]] = defaultdict(lambda: defaultdict(Joined))
     for copy in copies:
         found[copy.client, copy.topic][copy.payload].add(copy)
@@ -76,14 +76,15 @@ Pair = tuple[Key, Joined | None, Joined | None]
 
 
 def pairs(ours: list[Copy], theirs: list[Copy]) -> Iterator[Pair]:
-    """What to compare: payload by payload where both sides have the same, else all of a topic at once."""
+    """What to compare: payload by payload where both sides have the same, else all of a topic."""
     want, got = joined(ours), joined(theirs)
     for key in sorted(want.keys() | got.keys()):
         mine, other = want.get(key, {}), got.get(key, {})
         if mine.keys() == other.keys():
             yield from ((key, mine[payload], other[payload]) for payload in sorted(mine))
         else:
-            here, there = ([c for c in side if (c.client, c.topic) == key] for side in (ours, theirs))
+            here = [copy for copy in ours if (copy.client, copy.topic) == key]
+            there = [copy for copy in theirs if (copy.client, copy.topic) == key]
             yield key, together(here) if here else None, together(there) if there else None
 
 

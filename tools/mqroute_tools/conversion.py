@@ -30,6 +30,7 @@ class Converter(Clients):
         self.arrival: Arrival | None = None
         self.packet: tuple[str, str, int] | None = None  # subscribe or unsubscribe, client, place
         self.asked: tuple[str, int] | None = None  # filter and QoS, until the broker has granted it
+        self.latest: tuple[str, int, int] | None = None  # the last PUBLISH: client, identifier, QoS
         self.addresses: dict[str, None] = {}  # that connected over TCP: the broker has no such line of a websocket
         self.sys_topics: set[str] = set()  # below $SYS/, that clients publish
         self.parting: tuple[str, int] | None = None  # who sent DISCONNECT and has a will, and where the broker told the end
@@ -141,8 +142,8 @@ class Converter(Clients):
                            f"line {self.place}: {sent.client} {sent.topic}")
 
     def of_own_will(self, sent: log.Publish) -> bool:
-        """Whether the copy stands right behind the end of its client's connection: so the broker logs
-        those of the client's own will."""
+        """Whether the copy stands right behind the end of its client's connection: so the broker
+        logs those of the client's own will."""
         return sent.client == self.ended and sent.client not in self.connected
 
     def received(self, text: str) -> bool:
@@ -181,16 +182,24 @@ class Converter(Clients):
             self.doubt(text)
         command = publish(found.client, found.topic, found.size, found.qos, bool(found.retain))
         session = self.session(found.client)
+        self.latest = (found.client, found.packet, found.qos)
         if found.topic.startswith("$SYS/"):
             self.sys_topics.add(found.topic)
         if routed and found.qos == 2:
-            reused = session.unreleased.pop(found.packet, command)
-            if reused != command:
-                self.never_released(reused)
+            if session.unreleased.get(found.packet, command) != command:
+                self.forget(found.client, found.packet)
+            session.renamed.discard(found.packet)
             session.unreleased[found.packet] = command
         else:
             self.emit(self.place, command, routed)
         return True
+
+    def forget(self, client: str, packet: int) -> None:
+        """The client uses a packet identifier again: the broker drops what it has of QoS 2 under it."""
+        session = self.connected.get(client)
+        dropped = session.unreleased.pop(packet, None) if session else None
+        if dropped:
+            self.never_released(dropped)
 
     # -- subscribing: `<tab>FILTER (QoS N)`, then `CLIENT GRANTED FILTER`
 
@@ -288,6 +297,11 @@ class Converter(Clients):
             return True
         if text.startswith("mosquitto version ") and text.endswith(" starting"):
             self.start()
+            return True
+        reused = log.REUSED.match(text)
+        if reused:
+            if self.latest != (reused[2], int(reused[1]), 2):  # that one is new
+                self.forget(reused[2], int(reused[1]))
             return True
         expired = log.EXPIRED.match(text)
         if expired:

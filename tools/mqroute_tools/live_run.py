@@ -152,8 +152,8 @@ class Replay:
         found = [copy for connection in self.live.values() for copy in connection.copies()]
         ours = [c for c in found if not c.topic.startswith("$SYS/") or c.topic in self.sys_topics]
         if len(ours) < len(found):
-            what = "{} copies of topics under $SYS/, which the broker publishes itself, are left out"
-            self.told[what] += len(found) - len(ours)
+            what = "copies of topics under $SYS/, which the broker publishes itself, are left out"
+            self.told["{} " + what] += len(found) - len(ours)
         return ours
 
     def end(self) -> None:

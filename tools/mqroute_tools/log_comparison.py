@@ -66,7 +66,9 @@ class Comparison:
                 line.kind = self.kind(step, key)
                 if line.kind == DIFFERENT and client in again and not line.theirs:
                     line.kind = TESTED_AGAIN
-            waits = client in step.flying and client not in drained
+                if line.kind == DIFFERENT and step.renamed:
+                    line.kind = TESTED_AGAIN
+            waits = (client in step.flying or client in self.renamed) and client not in drained
             owed = (client in cut or waits) and self.owe(step, line, client in again, client in cut)
             if line.kind or owed:
                 self.found.append(line)
@@ -154,17 +156,22 @@ class Comparison:
         if owed:
             owed.line.theirs.append(copy)
             owed.line.last = event.place
-            self.name(self.backlog.passed(owed), drained=True)
+            if not self.by_group(client, topic):
+                self.name(self.backlog.passed(owed), drained=True)
             return None
         if resumes:
             return "" if step.mqroute.copies.get(key) else event.apart
         if self.own_wills[key] > 0 or event.apart:
             self.own_wills[key] -= 1
             return OWN_WILL
-        groups = (name for name in self.sessions.filters[client] if name.startswith("$share/"))
-        if any(matches(plain_filter(name), topic) for name in groups):
+        if self.by_group(client, topic):
             return RETAINED_FOR_GROUP if copy.retain else MEMBERS_TURN
         return ""
+
+    def by_group(self, client: str, topic: str) -> bool:
+        """Whether a shared subscription of the client may have brought a copy."""
+        groups = (name for name in self.sessions.filters[client] if name.startswith("$share/"))
+        return any(matches(plain_filter(name), topic) for name in groups)
 
     # -- what it may still send
 

@@ -33,6 +33,7 @@ class Step:
     mqroute: Side = field(default_factory=Side)
     shared: dict[str, list[str]] = field(default_factory=dict)  # who resumes: filters of its groups
     old_protocol: set[str] = field(default_factory=set)  # receivers that speak MQTT 3
+    renamed: bool = False  # its publish was received under another user name
     flying: dict[str, bool] = field(default_factory=dict)  # in flight: as many as may be?
 
 
@@ -46,6 +47,7 @@ class Watcher(Writer):
         self.acknowledged = self.behind = ""  # who acknowledges in this line, and in the one before
         self.sent_to = self.was_sent_to = ""  # to whom this line sends, and the one before did
         self.denied: log.Publish | None = None  # by the last line
+        self.renamed = False  # what this line releases was received under another user name
         self.resumed: tuple[str, list[str]] | None = None
         self.old_protocol: set[str] = set()
 
@@ -65,6 +67,9 @@ class Watcher(Writer):
             self.acknowledged = found[1]
             if self.flight.acknowledge(found[1], int(found[2])):
                 self.events.append(Event(self.place, found[1]))
+        release = log.RELEASE.match(text[12:]) if text.startswith("PUBREL from ") else None
+        if release and release[1] in self.connected:
+            self.renamed = int(release[2]) in self.connected[release[1]].renamed
         return super().received(text)
 
     def sending(self, text: str) -> bool:
@@ -140,6 +145,8 @@ def steps(watcher: Watcher, streams: Iterable[BinaryIO]) -> Iterator[Step]:
             if command["do"] == "publish":
                 step.broker.refused[watcher.denied.client, watcher.denied.topic] += 1
                 watcher.denied = None
+        if watcher.renamed and command["do"] == "publish":
+            step.renamed, watcher.renamed = True, False
         if watcher.resumed:
             if command["do"] == "connect":
                 step.shared[watcher.resumed[0]] = watcher.resumed[1]

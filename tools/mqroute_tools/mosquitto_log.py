@@ -67,7 +67,7 @@ PASSED_OVER = (
     "Opening ", "Saving in-memory database to ", "mosquitto version ", "Invalid subscription string from ",
     "Empty subscription string from ", "Invalid unsubscription string from ", "Empty unsubscription string from ",
     "Warning: ", "Note: ", "To fix this, use ", "Client <unknown> ", "Client connection from ", "OpenSSL Error",
-    "ACL denying access to client with dangerous ", "Reused message ID ", "Connecting bridge ",
+    "ACL denying access to client with dangerous ", "Connecting bridge ",
     "Received CONNACK on connection ",
 )
 # Lines that concern the script and give no command.
@@ -79,6 +79,7 @@ TOLD = (
 )
 LOCAL_SUBSCRIBE = re.compile(r"Bridge (.*) doing local SUBSCRIBE on topic (.*)$")
 BRIDGE_SENDS = re.compile(r"Bridge (.*) sending (?:CONNECT|SUBSCRIBE|UNSUBSCRIBE)(?: \(.*\))?$")
+REUSED = re.compile(r"Reused message ID (\d+) from (.*) detected\. Clearing from storage\.$")
 EXPIRED = re.compile(r"Expiring client (.*) due to timeout\.$")
 TAKEN_OVER = re.compile(r"Client (.*) already connected, closing old connection\.$")
 

@@ -14,7 +14,7 @@ LEFT_OUT = "left out"
 
 
 def fitting(command: Command, offer: Offer) -> tuple[Command | None, list[tuple[str, str]]]:
-    """What is sent in place of a command, None for nothing; what isn't offered, and what was done."""
+    """What is sent in place of a command, None for nothing; what isn't offered, what was done."""
     did, name = [], str(command.get("filter", ""))
     if name.startswith("$share/") and not offer.shared:
         return None, [("shared subscriptions", LEFT_OUT)]
@@ -32,9 +32,10 @@ def fitting(command: Command, offer: Offer) -> tuple[Command | None, list[tuple[
     return command, did
 
 
-def fitted_script(lines: Iterable[bytes], sent: set[int], offer: Offer) -> tuple[list[bytes], Counter[str]]:
-    """The script that the broker can run, each line under its old number; what was done, and to how many.
-    `sent` are the lines that go to the broker at all: the others stay."""
+def fitted_script(lines: Iterable[bytes], sent: set[int],
+                  offer: Offer) -> tuple[list[bytes], Counter[str]]:
+    """The script that the broker can run, each line under its old number; what was done, and to
+    how many. `sent` are the lines that go to the broker at all: the others stay."""
     told: Counter[str] = Counter()
     result = []
     for number, line in enumerate(lines, 1):

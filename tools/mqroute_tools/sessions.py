@@ -15,8 +15,9 @@ REASONS = 10_000  # of which each client's last ones are remembered
 
 class Session:
     """A client's state that later lines need."""
-    __slots__ = ("will", "leaves", "unreleased", "kept", "user", "filters", "inferred", "reasons", "taken", "websocket", "bridge", "before",
-                 "asked", "expiry", "arrived", "unsure")
+    __slots__ = ("will", "leaves", "unreleased", "kept", "user", "filters", "inferred", "reasons",
+                 "taken", "websocket", "bridge", "before", "asked", "expiry", "arrived", "unsure",
+                 "renamed")
 
     def __init__(self, will: Command | None = None, kept: bool = False, user: str | None = None) -> None:
         self.will = will
@@ -35,6 +36,7 @@ class Session:
         self.expiry = 0
         self.arrived = False  # in this log, which so tells whether it came by a websocket
         self.unsure = False  # took over from one that didn't
+        self.renamed: set[int] = set()  # of `unreleased`: received under another user name
 
     def add(self, name: str) -> None:
         self.filters.add(name)
@@ -50,6 +52,7 @@ class Session:
         """What a resumed session has of the older connection."""
         self.unreleased, self.filters, self.inferred = old.unreleased, old.filters, old.inferred
         self.asked = old.asked
+        self.renamed = old.renamed if self.user == old.user else set(old.unreleased)
 
     def reason(self, topic: str) -> int:
         """What explains a copy of the topic."""
@@ -84,7 +87,7 @@ class Clients:
         self.connected: dict[str, Session] = {}
         self.away: dict[str, Session] = {}
         self.closing: dict[str, int] = {}  # websockets whose end is yet to be logged
-        self.departed: dict[str, Session] = {}  # that sent DISCONNECT over websockets, and have a will
+        self.departed: dict[str, Session] = {}  # websockets with a will that sent DISCONNECT
         self.ended: str | None = None  # whose end the lines tell, as long as only copies follow
         self.seen_before: set[str] = set()
         self.notes = Notes()
@@ -136,7 +139,8 @@ class Clients:
         if arrival.will:
             arrival.will["client"] = client
         session = self.connected[client] = Session(arrival.will, expiry > 0, user)
-        session.websocket, session.bridge, session.expiry = arrival.websocket, arrival.bridge, expiry
+        session.websocket, session.bridge = arrival.websocket, arrival.bridge
+        session.expiry = expiry
         session.arrived, session.unsure = True, bool(old and old.taken and not old.arrived)
         if old and resumed:
             session.take_over(old)
@@ -187,8 +191,8 @@ class Clients:
         self.emit(self.place, {"do": "disconnect", "client": client})
 
     def leave(self, client: str) -> None:
-        """A websocket's DISCONNECT: it is sent nothing from here on. The broker logs the end of the connection, and
-        publishes a will that the DISCONNECT asked for, later."""
+        """A websocket's DISCONNECT: it is sent nothing from here on. The broker logs the end of the
+        connection, and publishes a will that the DISCONNECT asked for, later."""
         session = self.connected[client]
         if session.will:
             self.departed[client], session.asked = session, session.will
@@ -208,7 +212,7 @@ class Clients:
         self.ended = client
 
     def closed(self, client: str) -> None:
-        """A line tells that a connection of the client has ended: a websocket's, or the client's own."""
+        """A line tells that a connection of the client has ended: a websocket's, or its own."""
         if self.closing.get(client):
             self.closing[client] -= 1
             if not self.closing[client]:
@@ -236,5 +240,6 @@ class Clients:
             self.never_released(command)
 
     def never_released(self, command: Command) -> None:
-        self.notes.add("QoS 2 publishes were never released by their sender: neither the broker nor the script routes them",
+        self.notes.add("QoS 2 publishes were never released by their sender: "
+                       "neither the broker nor the script routes them",
                        f"line {self.place}: {command['client']} {command['topic']}")

@@ -77,8 +77,8 @@ class State:
                 yield from self.client_commands(name, client)
 
     def at_end(self) -> Iterator[Command]:
-        """What the next log begins with. Sessions of which two logs don't tell whether they are kept are
-        given up; of a client that is connected the next CONNACK will tell."""
+        """What the next log begins with. Sessions of which two logs don't tell whether they are kept
+        are given up; of a client that is connected the next CONNACK will tell."""
         for name, client in list(self.clients.items()):
             if client.expiry == UNTOLD and client.connected:
                 client.expiry = 0

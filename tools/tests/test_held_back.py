@@ -111,7 +111,7 @@ class Others(unittest.TestCase):
         self.assertEqual(kinds(text.replace("u'guest'", "u'ops'"), output), ["different"])
 
     def test_own_wills_at_a_takeover(self):
-        """QoS 0, 1, and 2 by a group. In the script the client connects anew before, and gets none."""
+        """QoS 0, 1, and 2 by a group. In the script the client connects anew, and gets none."""
         one = (0, 2, 0, 16, 0, 0)
         self.assertEqual(kinds(log("takeover"), answers(*one * 3)), ["own will at a takeover"] * 3)
         sent = "to a1 (d0, q1, r0, m1, 'last/a'"
@@ -153,7 +153,8 @@ class Conversion(unittest.TestCase):
         commands = written(text)[0]
         did = [(c["do"], c["client"]) for c in commands[-6:]]
         wanted = "disconnect", "publish", "connect", "publish", "disconnect", "connect"
-        self.assertEqual(did, [(do, "phone/1" if at == 1 else "desk, (a)") for at, do in enumerate(wanted)])
+        clients = ["phone/1" if at == 1 else "desk, (a)" for at in range(len(wanted))]
+        self.assertEqual(did, list(zip(wanted, clients)))
 
     def test_an_end_after_the_return(self):
         """The line of a websocket's end may stand behind its client's next connection."""
@@ -184,8 +185,8 @@ class FromLogToLog(unittest.TestCase):
         return commands
 
     def test_a_session_that_goes_on(self):
-        """One client is connected at the end of the first log, and one has left. The second log tells
-        that both sessions were kept."""
+        """One client is connected at the end of the first log, and one has left. The second log
+        tells that both sessions were kept."""
         first, second = self.halves("Received PUBLISH from p (d0, q0, r0, m0, 'f/1/t'")
         commands = self.check(second, self.state_of(first), "f/+/t", "g/#")
         came = [c.get("clean") for c in commands if c["do"] == "connect"]
@@ -205,6 +206,25 @@ class FromLogToLog(unittest.TestCase):
         found = written(text, begin)[1]
         list(found.state.at_end())
         return found.state
+
+    TAKEN = """Client phone/2 already connected, closing old connection.
+New client connected from 127.0.0.1:32981 as phone/2 (p5, c1, k60, u'plant man').
+No will message specified.
+Sending CONNACK to phone/2 (0, 0)
+Client phone/2 closed its connection.
+"""
+    GOES_ON = ("Received SUBSCRIBE from phone/2\n\tcmd/+ (QoS 0)\nphone/2 0 cmd/+\n"
+               "Sending SUBACK to phone/2\n")
+
+    def test_the_end_of_a_websocket_of_before(self):
+        """It is logged behind the connection that took over, whose client goes on. Where it doesn't
+        the end is its own."""
+        for after, last in ((self.GOES_ON, "subscribe"), ("", "disconnect")):
+            state = State()
+            state.follow({"do": "connect", "client": "phone/2"})
+            commands, found = written(self.TAKEN + after, state)
+            self.assertEqual([c["do"] for c in commands], ["connect", "connect", last])
+            self.assertEqual(found.notes.counts, {})
 
     def test_a_session_that_begins_anew(self):
         first, second = self.halves("Received PUBLISH from p (d0, q0, r0, m0, 'f/1/t'")
