@@ -47,7 +47,8 @@ class Comparison:
         self.found: list[Line] = []
         self.refusals: list[str] = []
         self.sent = self.refused = 0
-        self.own_wills: Counter[Key] = Counter()  # how many of the broker's copies may still wait
+        # how many of the broker's copies of an own will may still wait, by client, topic and size
+        self.own_wills: Counter[tuple[str, str, int]] = Counter()
         self.sessions = Sessions()
         self.users: dict[str, str | None] = {}  # of clients that have a session
         self.renamed: set[str] = set()  # who resumed a session with another user name
@@ -61,7 +62,7 @@ class Comparison:
             client = key[0]
             line = Line(step.place, key, broker.copies[key], mqroute.copies[key])
             if line.ours and own_will(step, key):
-                self.own_wills[key] = self.spread(step, key)
+                self.own_wills[*key, line.ours[0].size] = self.spread(step, key)
             if line.differs():
                 line.kind = self.kind(step, key)
                 if line.kind == DIFFERENT and client in again and not line.theirs:
@@ -159,14 +160,24 @@ class Comparison:
             if not self.by_group(client, topic):
                 self.name(self.backlog.passed(owed), drained=True)
             return None
+        if resumes and self.is_due(step, key, copy.size):
+            return ""
+        if self.own_wills[*key, copy.size] > 0:
+            self.own_wills[*key, copy.size] -= 1
+            return OWN_WILL
         if resumes:
             return "" if step.mqroute.copies.get(key) else event.apart
-        if self.own_wills[key] > 0 or event.apart:
-            self.own_wills[key] -= 1
+        if event.apart:
             return OWN_WILL
         if self.by_group(client, topic):
             return RETAINED_FOR_GROUP if copy.retain else MEMBERS_TURN
         return ""
+
+    def is_due(self, step: Step, key: Key, size: int) -> bool:
+        """Whether mqroute has more copies of this size at the step than the broker has sent yet."""
+        ours, theirs = (sum(copy.size == size for copy in side.copies.get(key, []))
+                        for side in (step.mqroute, step.broker))
+        return theirs < ours * self.spread(step, key)
 
     def by_group(self, client: str, topic: str) -> bool:
         """Whether a shared subscription of the client may have brought a copy."""
@@ -218,10 +229,6 @@ class Comparison:
         found = kind(step, key)
         broker, mqroute = step.broker.copies.get(key), step.mqroute.copies.get(key)
         if found == DIFFERENT and mqroute and not broker and own_will(step, key):
-            return OWN_WILL
-        comes = any(c["do"] == "connect" and c["client"] == key[0] for c in step.commands)
-        if found == DIFFERENT and broker and self.own_wills[key] > 0 and comes:
-            self.own_wills[key] -= len(broker)
             return OWN_WILL
         return found
 

@@ -73,10 +73,12 @@ class Watcher(Writer):
         return super().received(text)
 
     def sending(self, text: str) -> bool:
-        found = log.RELEASED.match(text)
+        found = log.ANSWERED.match(text)
+        if found and found[1] == "PUBREL":
+            self.flight.add(found[2], int(found[3]))
         if found:
-            self.flight.add(found[1], int(found[2]))
-        if text.startswith("SUBACK to "):
+            self.sent_to = found[2]
+        elif text.startswith("SUBACK to "):
             self.sent_to = text[10:]
         return super().sending(text)
 
