@@ -1,6 +1,7 @@
 #!/bin/sh
 # Runs every script of brokers/differences on a real mosquitto on loopback: differences.sh [PORT [NAME..]]
-# (each_script.sh says what is compared). Without names also: the broker doesn't start with any of refused-*.acl.
+# (each_script.sh says what is compared). Without names also: the broker starts with each of taken-*.acl, and doesn't
+# with any of refused-*.acl.
 # Wants mosquitto and python3-paho-mqtt.
 set -eu
 . "$(dirname "$0")/each_script.sh"
@@ -8,7 +9,7 @@ cd "$(dirname "$0")/../brokers/differences"
 listening=${1:-18872}
 [ $# -gt 0 ] && shift
 lists=
-[ $# -gt 0 ] || { set -- *.jsonl; lists=$(echo refused-*.acl); }
+[ $# -gt 0 ] || { set -- *.jsonl; lists=$(echo refused-*.acl taken-*.acl); }
 
 begin() {
     printf 'listener %s 127.0.0.1\nallow_anonymous true\nuser %s\npersistence false\nsys_interval 0\nlog_dest none\n' "$listening" "$(id -un)" > "$work/conf"
@@ -19,15 +20,19 @@ begin() {
     if [ -f "$1.conf" ]; then cat "$1.conf" >> "$work/conf"; fi
     "${MOSQUITTO:-/usr/sbin/mosquitto}" -c "$work/conf" 2> /dev/null &
     broker=$!
+    # For scripts that set an access list.
+    printf '#!/bin/sh\ncp "$MQROUTE_ACL" "%s/acl"\nkill -HUP %s\n' "$work" "$broker" > "$work/on-acl"
+    chmod 755 "$work/on-acl"
     sleep 0.3
 }
 
-compare_each "$listening" "" "$@"
+compare_each "$listening" "--on-acl $work/on-acl" "$@"
 for list in $lists; do
+    case $list in refused-*) wanted=3 ;; *) wanted=124 ;; esac  # 124: it runs until it is ended
     cp "$list" "$work/acl"
     printf 'listener %s 127.0.0.1\nuser %s\nlog_dest none\nacl_file %s\n' "$listening" "$(id -un)" "$work/acl" > "$work/conf"
     refused=0
     timeout 2 "${MOSQUITTO:-/usr/sbin/mosquitto}" -c "$work/conf" 2> /dev/null || refused=$?
-    [ $refused -eq 3 ] || { echo "$list: mosquitto ended with $refused and not with 3"; status=1; }
+    [ $refused -eq "$wanted" ] || { echo "$list: mosquitto ended with $refused and not with $wanted"; status=1; }
 done
 exit $status

@@ -61,7 +61,7 @@ def main() -> int:
     sys.stdout.buffer.flush()
     if found.state:
         with whole(options.state) as file:
-            file.writelines(text_of(command).encode("utf-8") + b"\n" for command in found.state.commands())
+            file.writelines(text_of(command).encode("utf-8") + b"\n" for command in found.state.at_end())
     tell(found, written)
     return 1 if found.notes.counts or found.explained[NONE] else 0
 

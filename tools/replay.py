@@ -14,93 +14,116 @@ import argparse
 import json
 import re
 import sys
-import time
-from collections.abc import Iterator
+from collections.abc import Iterable, Iterator
 from typing import TYPE_CHECKING
 
+from mqroute import Oracle
 from mqroute_tools import ending
 from mqroute_tools.agreement import Command
 from mqroute_tools.commands import Seen, line_faults
 from mqroute_tools.ending import Fault, counted, in_words
 from mqroute_tools.files import STDIN, at, keep_apart, open_input
-from mqroute_tools.numbers import amount, port
+from mqroute_tools.numbers import amount, port, whole_number
 from mqroute_tools.output import Block, blocks, by_key, is_blank, misfit
+from mqroute_tools.progress import Progress
 from mqroute_tools.wills import Wills
 
 if TYPE_CHECKING:
     from mqroute_tools.live_run import Replay  # wants paho
 
+Line = tuple[int, Command, Block]
 LINE = re.compile(r"\Aline (\d+):? ")  # how a fault of a live run begins
-PAUSE = 0.5  # seconds between two words of how far it is
 
 
-def runnable(script: str, output: str) -> Iterator[tuple[int, Command, Block]]:
+def runnable(script: Iterable[bytes], given: Iterator[Block],
+             names: tuple[str, str]) -> Iterator[Line]:
     """The lines that can be sent, with their answers: all but those refused as no MQTT command can be."""
-    answers, seen = blocks(output), Seen(script)
-    with open_input(script) as stream:
-        for number, line in enumerate(stream, 1):
-            seen.add(line)
-            if is_blank(line):
-                continue
-            block, place = next(answers, None), at(script, number)
-            if block is None or block.line != number:
-                seen.refuse(stream)
-                raise Fault(f"{place}: not answered in {output}: it is cut short, "
-                            "or is of another script")
-            if block.refused and block.refused != "NotAuthorized":
-                continue
-            faults = line_faults(line.removesuffix(b"\n"))
-            if faults:
-                seen.refuse(stream)
-                raise Fault(f"{place}: {faults[0]}: {output} accepts it: it is of another script")
-            command = json.loads(line)
-            why = misfit(command, block, by_key(block.copies, output))
-            if why:
-                raise Fault(f"{place}: {output} is of another script: it answers with {why}")
-            yield number, command, block
+    name, output = names
+    lines, seen = iter(script), Seen(name)
+    for number, line in enumerate(lines, 1):
+        seen.add(line)
+        if is_blank(line):
+            continue
+        block, place = next(given, None), at(name, number)
+        if block is None or block.line != number:
+            seen.refuse(lines)
+            raise Fault(f"{place}: not answered in {output}: it is cut short, "
+                        "or is of another script")
+        if block.refused and block.refused != "NotAuthorized":
+            continue
+        faults = line_faults(line.removesuffix(b"\n"))
+        if faults:
+            seen.refuse(lines)
+            raise Fault(f"{place}: {faults[0]}: {output} accepts it: it is of another script")
+        command = json.loads(line)
+        why = misfit(command, block, by_key(block.copies, output))
+        if why:
+            raise Fault(f"{place}: {output} is of another script: it answers with {why}")
+        yield number, command, block
     seen.refuse()
-    if next(answers, None):
-        raise Fault(f"{output} has answers to lines that {script} doesn't have")
+    if next(given, None):
+        raise Fault(f"{output} has answers to lines that {name} doesn't have")
 
 
-class Progress:
-    """How far it is, on standard error where that is a terminal."""
+def offered(replay: "Replay", script: list[bytes], given: list[Block],
+            lines: list[Line]) -> list[Line]:
+    """The lines as this broker can run them. Where it lacks something mqroute answers anew."""
+    from mqroute_tools.offered import answers, fitted_script, read_list
+    options = replay.options
+    fitted, told = fitted_script(script, {number for number, _, _ in lines}, replay.offer)
+    if not told:
+        return lines
+    acl = read_list(options.acl_file) if options.acl_file else None
+    with Oracle(acl, options.max_retained, options.max_queued) as oracle:
+        if answers(oracle.words, b"".join(script)) != given:
+            lacking = ", ".join(what.partition(": ")[0] for what in told)
+            raise Fault(f"{lacking}: mqroute has to run again, and wrote {options.output} "
+                        "with other options. Give its --acl-file, --max-retained and --max-queued")
+        again = answers(oracle.words, b"".join(fitted))
+    replay.told += told
+    return list(runnable(fitted, iter(again), (options.script, "mqroute's answer")))
 
-    def __init__(self, last: int) -> None:
-        self.last, self.shown_at = last, 0.0
-        self.shows = sys.stderr.isatty()
 
-    def at(self, line: int) -> None:
-        if self.shows and time.monotonic() > self.shown_at + PAUSE:
-            self.shown_at = time.monotonic()
-            print(f"\r\x1b[Kline {line} of {self.last}", end="", file=sys.stderr, flush=True)
+def answer(replay: "Replay", line: Line) -> list[str]:
+    """What differs at one line. A fault names the line."""
+    script, number = replay.options.script, line[0]
+    try:
+        return replay.answer(*line)
+    except Fault as fault:
+        text = LINE.sub(lambda found: f"{at(script, int(found[1]))}: ", str(fault))
+        raise Fault(text) from fault
+    except OSError as fault:
+        broker = f"the broker at {replay.options.host} port {replay.options.port}"
+        raise Fault(f"{at(script, number)}: {broker}: {in_words(fault)}") from fault
 
-    def clear(self) -> None:
-        if self.shows:
-            print("\r\x1b[K", end="", file=sys.stderr, flush=True)
 
-
-def differences(replay: "Replay", lines: list[tuple[int, Command, Block]],
-                progress: Progress) -> Iterator[list[str]]:
+def differences(replay: "Replay", progress: Progress) -> Iterator[list[str]]:
     """For each line that differs, the texts to print."""
     from mqroute_tools.live_run import Closed
-    script = replay.options.script
-    for number, command, block in lines:
-        progress.at(number)
+    options = replay.options
+    with open_input(options.script) as stream:
+        script = stream.readlines()
+    given = list(blocks(options.output))
+    lines = list(runnable(script, iter(given), (options.script, options.output)))  # faults first
+    replay.wills = Wills(lines if options.wills else ())
+    place, fits = 0, False
+    while place < len(lines):
+        number, command, _ = line = lines[place]
+        progress.at(number, len(script))
         head = f"line {number}: {json.dumps(command, ensure_ascii=False)}"
         try:
-            found = replay.answer(number, command, block)
+            found = answer(replay, line)
         except Closed as fault:
             yield [head, f"   {fault}"]
             return
-        except Fault as fault:
-            text = LINE.sub(lambda line: f"{at(script, int(line[1]))}: ", str(fault))
-            raise Fault(text) from fault
-        except OSError as fault:
-            broker = f"the broker at {replay.options.host} port {replay.options.port}"
-            raise Fault(f"{at(script, number)}: {broker}: {in_words(fault)}") from fault
         if found:
             yield [head, *found]
+        if command["do"] == "connect" and not fits:
+            fits = True
+            rest = [it for it in offered(replay, script, given, lines) if it[0] > number]
+            lines = lines[:place + 1] + rest
+            replay.wills = Wills(lines if options.wills else ())
+        place += 1
 
 
 def arguments() -> argparse.Namespace:
@@ -112,6 +135,13 @@ def arguments() -> argparse.Namespace:
     parser.add_argument("--password", metavar="TEXT", help="password of all clients")
     parser.add_argument("--on-acl", metavar="COMMAND", help="what the shell does for an `acl` line: it lets the broker read the access list in the file "
                         "$MQROUTE_ACL, as by: cp \"$MQROUTE_ACL\" /tmp/acl && kill -HUP 123")
+    parser.add_argument("--acl-file", metavar="FILE",
+                        help="the access list with which mqroute wrote OUTPUT: it runs again where "
+                        "the broker doesn't offer all that the script asks for")
+    parser.add_argument("--max-retained", type=whole_number(0), metavar="N",
+                        help="the limit with which it did")
+    parser.add_argument("--max-queued", type=whole_number(0), metavar="N",
+                        help="the limit with which it did")
     parser.add_argument("--wills", action="store_true", help="run as a will what a client publishes with the payload `will` and then disconnects: it goes with "
                         "the CONNECT, and the connection ends without a DISCONNECT")
     parser.add_argument("--patience", type=amount, default=5, metavar="SECONDS",
@@ -124,39 +154,42 @@ def arguments() -> argparse.Namespace:
     return options
 
 
-def compared(replay: "Replay", lines: list[tuple[int, Command, Block]]) -> int:
+def compared(replay: "Replay") -> int:
     """How many lines differ, each shown."""
-    number, progress = 0, Progress(lines[-1][0] if lines else 0)
+    number, progress = 0, Progress()
     try:
-        for number, texts in enumerate(differences(replay, lines, progress), 1):
+        for number, texts in enumerate(differences(replay, progress), 1):
             progress.clear()
             print("\n".join(texts), flush=True)
     except KeyboardInterrupt:
         progress.clear()
         differ = "line differs" if number == 1 else "lines differ"
-        ending.tell(f"at line {replay.line} of {progress.last}: {number} {differ} so far")
+        ending.tell(f"at line {replay.line} of {progress.of}: {number} {differ} so far")
         raise
     finally:
         progress.clear()
     return number
 
 
+def numbered(text: str, number: int) -> str:
+    """`{} lines sent` with the number: `1 line sent`."""
+    before, _, things = text.partition("{} ")
+    return before + counted(number, things)
+
+
 def main() -> int:
     options = arguments()
-    keep_apart([options.script, options.output])
+    keep_apart([options.script, options.output, options.acl_file])
     from mqroute_tools.live_run import Replay
     replay = Replay(options)
-    lines = list(runnable(options.script, options.output))  # faults of these first, then the broker
-    if options.wills:
-        replay.wills = Wills(lines)
     try:
-        status = 1 if compared(replay, lines) else 0
+        status = 1 if compared(replay) else 0
     except (ValueError, KeyError) as fault:
         raise Fault(repr(fault)) from fault
     finally:
         replay.end()
-    for what, count in replay.left_out.items():
-        ending.tell(f"the broker doesn't offer {what}: {counted(count, 'lines')} left out")
+    for what, count in replay.told.items():
+        ending.tell(numbered(what, count))
     return status
 
 

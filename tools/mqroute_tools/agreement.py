@@ -1,7 +1,7 @@
 """What a broker's answer to one line of a script has in common with mqroute's."""
 import json
 from collections import defaultdict
-from collections.abc import Iterable
+from collections.abc import Iterable, Iterator
 from dataclasses import dataclass, field
 from typing import Any, NamedTuple
 
@@ -28,7 +28,7 @@ class Copy(NamedTuple):
 
 @dataclass
 class Joined:
-    """All that one client got of one topic for one line."""
+    """All that one client got of one topic, or of one message of it, for one line."""
     qos: int = 0
     retain: bool = False
     ids: list[int] = field(default_factory=list)
@@ -57,11 +57,35 @@ class Joined:
         return ", ".join(parts)
 
 
-def joined(copies: Iterable[Copy]) -> dict[Key, Joined]:
-    found: defaultdict[Key, Joined] = defaultdict(Joined)
+def joined(copies: Iterable[Copy]) -> dict[Key, dict[str, Joined]]:
+    """By client and topic, then by payload: two messages may differ in RETAIN and interval."""
+    found: defaultdict[Key, defaultdict[str, Joined]] = defaultdict(lambda: defaultdict(Joined))
     for copy in copies:
-        found[copy.client, copy.topic].add(copy)
+        found[copy.client, copy.topic][copy.payload].add(copy)
     return found
+
+
+def together(messages: Iterable[Copy]) -> Joined:
+    whole = Joined()
+    for copy in messages:
+        whole.add(copy)
+    return whole
+
+
+Pair = tuple[Key, Joined | None, Joined | None]
+
+
+def pairs(ours: list[Copy], theirs: list[Copy]) -> Iterator[Pair]:
+    """What to compare: payload by payload where both sides have the same, else all of a topic."""
+    want, got = joined(ours), joined(theirs)
+    for key in sorted(want.keys() | got.keys()):
+        mine, other = want.get(key, {}), got.get(key, {})
+        if mine.keys() == other.keys():
+            yield from ((key, mine[payload], other[payload]) for payload in sorted(mine))
+        else:
+            here = [copy for copy in ours if (copy.client, copy.topic) == key]
+            there = [copy for copy in theirs if (copy.client, copy.topic) == key]
+            yield key, together(here) if here else None, together(there) if there else None
 
 
 def copies_of(block: Block) -> list[Copy]:
@@ -122,9 +146,8 @@ def plural(count: int) -> str:
 
 def different_copies(ours: list[Copy], theirs: list[Copy], sessions: Sessions) -> list[str]:
     """What differs of the copies, as texts to print. A broker may send one for each subscription, joined here."""
-    want, got, found = joined(ours), joined(theirs), []
-    for key in sorted(want.keys() | got.keys()):
-        mine, other = want.get(key), got.get(key)
+    found: list[str] = []
+    for key, mine, other in pairs(ours, theirs):
         if mine is None or other is None or not mine.agrees(other):
             found += [f"   {key[0]} {key[1]}", f"      mqroute: {mine or 'nothing'}", f"      broker:  {other or 'nothing'}"]
         elif not mine.count <= other.count <= mine.count * sessions.spread(*key):

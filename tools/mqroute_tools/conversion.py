@@ -1,11 +1,10 @@
 """From the lines of a mosquitto log to the commands of a script."""
-import re
 from collections.abc import Iterable, Iterator
 from itertools import chain, islice
 from typing import BinaryIO
 
 from . import mosquitto_log as log
-from .sessions import FOREVER, Arrival, Clients, Command
+from .sessions import Arrival, Clients, Command
 from .stamps import LOOKED_AT, Stamps
 
 ADDRESSES = 1_000  # new connections that are remembered until they say who they are
@@ -30,6 +29,7 @@ class Converter(Clients):
         self.arrival: Arrival | None = None
         self.packet: tuple[str, str, int] | None = None  # subscribe or unsubscribe, client, place
         self.asked: tuple[str, int] | None = None  # filter and QoS, until the broker has granted it
+        self.latest: tuple[str, int, int] | None = None  # the last PUBLISH: client, identifier, QoS
         self.addresses: dict[str, None] = {}  # that connected over TCP: the broker has no such line of a websocket
         self.sys_topics: set[str] = set()  # below $SYS/, that clients publish
         self.parting: tuple[str, int] | None = None  # who sent DISCONNECT and has a will, and where the broker told the end
@@ -47,6 +47,8 @@ class Converter(Clients):
             return
         time, text = self.stamps.split(line)
         self.part(text)
+        if not text.startswith("Sending PUBLISH to "):
+            self.ended = None
         if time is not None:
             if self.time is not None and time < self.time:
                 self.notes.add("times went back: the script's clock stands still there", f"line {self.place}: {line}")
@@ -130,11 +132,18 @@ class Converter(Clients):
 
     def copied(self, sent: log.Publish) -> None:
         """The broker sent a copy."""
+        if self.of_own_will(sent):
+            return
         if sent.client not in self.connected:
             self.was_before(sent.client)
         if sent.topic.startswith("$SYS/") and sent.topic not in self.sys_topics:
             self.notes.add("copies of topics under $SYS/, which the broker publishes itself, are not in the script",
                            f"line {self.place}: {sent.client} {sent.topic}")
+
+    def of_own_will(self, sent: log.Publish) -> bool:
+        """Whether the copy stands right behind the end of its client's connection: so the broker
+        logs those of the client's own will."""
+        return sent.client == self.ended and sent.client not in self.connected
 
     def received(self, text: str) -> bool:
         kind, _, client = text.partition(" from ")
@@ -143,9 +152,7 @@ class Converter(Clients):
             self.packet = (kind.lower(), client, self.place)
         elif kind == "DISCONNECT":
             if client in self.connected:
-                self.connected[client].leaves = True
-                if self.silent:
-                    self.end(client, willed=True)
+                self.disconnecting(client)
         elif kind == "PUBREL":
             found = log.RELEASE.match(client)
             session = found and self.connected.get(found[1])
@@ -157,6 +164,15 @@ class Converter(Clients):
             return kind in ("PINGREQ", "PUBACK", "PUBREC", "PUBCOMP", "AUTH", "SUBACK", "UNSUBACK") or text.startswith("CONNACK on connection ")
         return True
 
+    def disconnecting(self, client: str) -> None:
+        """Over websockets the connection ends here for all others."""
+        session = self.connected[client]
+        session.leaves = True
+        if self.silent:
+            self.end(client, willed=True)
+        elif session.websocket:
+            self.leave(client)
+
     def publish(self, text: str, routed: bool) -> bool:
         found = log.read_publish(text, self.connected)
         if found is None:
@@ -165,13 +181,24 @@ class Converter(Clients):
             self.doubt(text)
         command = publish(found.client, found.topic, found.size, found.qos, bool(found.retain))
         session = self.session(found.client)
+        self.latest = (found.client, found.packet, found.qos)
         if found.topic.startswith("$SYS/"):
             self.sys_topics.add(found.topic)
         if routed and found.qos == 2:
+            if session.unreleased.get(found.packet, command) != command:
+                self.forget(found.client, found.packet)
+            session.renamed.discard(found.packet)
             session.unreleased[found.packet] = command
         else:
             self.emit(self.place, command, routed)
         return True
+
+    def forget(self, client: str, packet: int) -> None:
+        """The client uses a packet identifier again: the broker drops what it has of QoS 2 under it."""
+        session = self.connected.get(client)
+        dropped = session.unreleased.pop(packet, None) if session else None
+        if dropped:
+            self.never_released(dropped)
 
     # -- subscribing: `<tab>FILTER (QoS N)`, then `CLIENT GRANTED FILTER`
 
@@ -270,11 +297,16 @@ class Converter(Clients):
         if text.startswith("mosquitto version ") and text.endswith(" starting"):
             self.start()
             return True
+        reused = log.REUSED.match(text)
+        if reused:
+            if self.latest != (reused[2], int(reused[1]), 2):  # that one is new
+                self.forget(reused[2], int(reused[1]))
+            return True
         expired = log.EXPIRED.match(text)
         if expired:
             self.expire(expired[1])
             return True
-        named = log.ended_clients(text, self.connected)
+        named = log.ended_clients(text, self.connected, self.closing)
         if len(named) > 1:
             self.doubt(text)
         if named:
@@ -282,11 +314,13 @@ class Converter(Clients):
         return bool(named) or taken is not None
 
     def closed(self, client: str) -> None:
-        session = self.connected.get(client)
-        if session and session.leaves and session.will and client not in self.closing:
+        session, departed = self.connected.get(client), client in self.departed
+        willed = bool(session and session.leaves and session.will)
+        waits = departed or (willed and client not in self.closing)
+        if waits:
             self.part("")
             self.parting = (client, self.place)
-        else:
+        if departed or not waits:
             super().closed(client)
 
     def part(self, text: str) -> None:
@@ -297,13 +331,17 @@ class Converter(Clients):
         if self.parting is None:
             return
         (client, place), self.parting = self.parting, None
-        session = self.connected[client]
+        departed = self.departed.pop(client, None)
+        session = departed or self.connected[client]
         sent = log.read_publish(text[19:], self.connected) if text.startswith("Sending PUBLISH to ") else None
         copy = publish(client, sent.topic, sent.size, 0, False) if sent else {}
         if sent and all(copy.get(name) == session.will.get(name) for name in ("topic", "payload")):
             session.leaves = False
         here, self.place = self.place, place
-        self.end(client, willed=True)
+        if departed is None:
+            self.end(client, willed=True)
+        elif not departed.leaves:
+            self.departed_will(client, departed)
         self.place = here
 
     def end(self, client: str, willed: bool) -> None:

@@ -8,7 +8,7 @@ from . import mosquitto_log as log
 from .conversion import Converter, placed_commands, publish
 from .evidence import Evidence, Inferred, Published
 from .sessions import FOREVER, NONE, Arrival, Command, Session
-from .state import Client, State
+from .state import UNTOLD, Client, State
 
 ALIKE = 100  # topics that are looked at for a publisher
 
@@ -22,6 +22,7 @@ class Beginning:
     kept: set[int] = field(default_factory=set)  # lines of connects whose session was resumed later
     ended: set[int] = field(default_factory=set)  # lines of connects whose session was not there later
     nameless: set[str] = field(default_factory=set)  # clients whose user name the log doesn't have
+    earlier: set[int] = field(default_factory=set)  # lines that end a connection taken over
 
 
 class Observer(Converter):
@@ -39,6 +40,10 @@ class Observer(Converter):
         self.kept_before: set[str] = set()
         self.ended_at: dict[tuple[str, str], int] = {}  # by client and filter, the line of the UNSUBSCRIBE of another filter
         self.know(begin)
+        self.doubtful: dict[str, tuple[int, Session]] = {}  # ends, perhaps of an older connection
+        self.begun = set(begin.clients)  # whose session is the one that the script begins with
+        for session in self.connected.values():
+            session.kept = True  # where the state has no interval the next CONNACK tells
 
     def emit(self, place: int, command: Command, routed: bool | None = True) -> None:
         """The script isn't written here."""
@@ -63,6 +68,11 @@ class Observer(Converter):
         return session
 
     def session(self, client: str) -> Session:
+        """Where a client goes on after an end, a websocket had ended that it had taken over."""
+        if client not in self.connected and client in self.doubtful:
+            place, self.connected[client] = self.doubtful.pop(client)
+            self.away.pop(client, None)
+            self.result.earlier.add(place)
         if client not in self.connected:
             self.connected[client] = self.away.pop(client, None) or self.older(client, away=False)
         return self.connected[client]
@@ -70,6 +80,10 @@ class Observer(Converter):
     def connect(self, arrival: Arrival, client: str, user: str | None, clean: bool, protocol: int, present: bool) -> None:
         if present and client not in self.connected and client not in self.away:
             self.away[client] = self.older(client, away=True)
+        if present and client in self.begun and self.begin.clients[client].expiry in (0, UNTOLD):
+            self.begin.clients[client].expiry = FOREVER
+        self.begun.discard(client)
+        self.doubtful.pop(client, None)
         last = self.connects.pop(client, None)
         if last is not None and (present or not clean):
             (self.result.kept if present else self.result.ended).add(last)
@@ -88,13 +102,19 @@ class Observer(Converter):
                 self.connected[client].before = self.connected[client].kept = True
 
     def end(self, client: str, willed: bool) -> None:
-        if self.connected[client].before:
+        session = self.connected[client]
+        if session.unsure:
+            session.unsure = False
+            self.doubtful[client] = (self.place, session)
+        if session.before:
             self.evidence[client].leave(self.published.count)
         super().end(client, willed)
 
     # -- what shows
 
     def copied(self, sent: log.Publish) -> None:
+        if self.of_own_will(sent):
+            return
         session = self.session(sent.client)
         if sent.dup or sent.topic.startswith("$SYS/"):
             return

@@ -95,6 +95,8 @@ def of_publish(command: Command) -> set[str]:
     uses = {"publish"} | ({"retain"} if command.get("retain") else set()) | ({"publish qos"} if command.get("qos") else set())
     if command["topic"].startswith("$"):
         uses.add("$SYS topic" if command["topic"].startswith("$SYS") else "$ topic")
+    if not command["topic"].isprintable():
+        uses.add("control character")
     if "expiry" in command:
         uses.add("expiry" if command["expiry"] else "expiry 0")
     if command.get("payload") == PAYLOAD:

@@ -31,7 +31,8 @@ class Replay:
         self.live: dict[str, Connection] = {}
         self.sessions = Sessions()
         self.offer = Offer()
-        self.left_out: Counter[str] = Counter()
+        self.told: Counter[str] = Counter()  # what to say at the end, with {} for the number
+        self.sys_topics: set[str] = set()  # under $SYS/, that the script publishes
         self.wills = Wills()
         self.line = 0
 
@@ -133,10 +134,8 @@ class Replay:
         self.line = number
         if number in self.wills.published:
             return []
-        lacking = self.offer.lacks(command)
-        if lacking:
-            self.left_out[lacking] += 1
-            return []
+        if command["do"] == "publish" and command["topic"].startswith("$SYS/"):
+            self.sys_topics.add(command["topic"])
         present = self.sessions.present(command) if command["do"] == "connect" else False
         said = self.do(command)
         self.quiet()
@@ -144,10 +143,18 @@ class Replay:
             self.sessions.follow(command)
         if number in self.wills.due:
             block = self.wills.due[number].block
-        theirs: list[Copy] = [copy for connection in self.live.values() for copy in connection.copies()]
-        ours = [copy for copy in copies_of(block) if self.offer.shared or not copy.shared]
+        theirs, ours = self.received(), copies_of(block)
         return (different_copies(ours, theirs, self.sessions) + (different_order(ours, theirs) if command["do"] == "connect" else [])
                 + different_reasons(command, block, said, present, self.offer.greatest_qos))
+
+    def received(self) -> list[Copy]:
+        """What has come, but for the topics that the broker publishes itself."""
+        found = [copy for connection in self.live.values() for copy in connection.copies()]
+        ours = [c for c in found if not c.topic.startswith("$SYS/") or c.topic in self.sys_topics]
+        if len(ours) < len(found):
+            what = "copies of topics under $SYS/, which the broker publishes itself, are left out"
+            self.told["{} " + what] += len(found) - len(ours)
+        return ours
 
     def end(self) -> None:
         for connection in self.live.values():

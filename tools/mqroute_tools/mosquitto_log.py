@@ -24,6 +24,8 @@ PUBLISH_END = re.compile(r"', \.\.\. \((\d+) bytes\)\)$")
 CONNECTED = re.compile(r" \(p(\d+), c([01]), k\d+(?:, u'(.*)')?\)\.$")
 CONNACK = re.compile(r"(.*) \(([01]), (\d+)\)$")
 RELEASE = re.compile(r"(.*) \(Mid: (\d+)\)$")
+ACKNOWLEDGED = re.compile(r"PUB(?:ACK|COMP) from (.*) \(Mid: (\d+), RC:\d+\)$")
+ANSWERED = re.compile(r"(PUB(?:ACK|REC|REL|COMP)) to (.*) \(m(\d+)(?:, rc\d+)?\)$")
 FILTER = re.compile(r"(.*) \(QoS ([0-2])\)$")
 WILL = re.compile(r"Will message specified \((\d+) bytes\) \(r([01]), q([0-2])\)\.$")
 ENDS = tuple(re.compile(p) for p in (
@@ -44,7 +46,8 @@ PASSED_OVER = (
     "Opening ", "Saving in-memory database to ", "mosquitto version ", "Invalid subscription string from ",
     "Empty subscription string from ", "Invalid unsubscription string from ", "Empty unsubscription string from ",
     "Warning: ", "Note: ", "To fix this, use ", "Client <unknown> ", "Client connection from ", "OpenSSL Error",
-    "ACL denying access to client with dangerous ", "Connecting bridge ", "Received CONNACK on connection ",
+    "ACL denying access to client with dangerous ", "Connecting bridge ",
+    "Received CONNACK on connection ",
 )
 # Lines that concern the script and give no command.
 TOLD = (
@@ -55,6 +58,7 @@ TOLD = (
 )
 LOCAL_SUBSCRIBE = re.compile(r"Bridge (.*) doing local SUBSCRIBE on topic (.*)$")
 BRIDGE_SENDS = re.compile(r"Bridge (.*) sending (?:CONNECT|SUBSCRIBE|UNSUBSCRIBE)(?: \(.*\))?$")
+REUSED = re.compile(r"Reused message ID (\d+) from (.*) detected\. Clearing from storage\.$")
 EXPIRED = re.compile(r"Expiring client (.*) due to timeout\.$")
 TAKEN_OVER = re.compile(r"Client (.*) already connected, closing old connection\.$")
 
@@ -85,7 +89,7 @@ def read_publish(text: str, known: Container[str]) -> Publish | None:
     return Publish(text[:head.start()], head, text[head.end():end.start()], int(end[1]), readings)
 
 
-def ended_clients(text: str, known: Container[str]) -> list[str]:
+def ended_clients(text: str, *known: Container[str]) -> list[str]:
     """The clients, one but for the oddest ids, whose connection this line may end; none if it is of another kind."""
     named = [found[1] for found in (p.match(text) for p in ENDS) if found]
-    return [n for n in named if n in known] or named
+    return [n for n in named if any(n in those for those in known)] or named

@@ -15,7 +15,9 @@ REASONS = 10_000  # of which each client's last ones are remembered
 
 class Session:
     """A client's state that later lines need."""
-    __slots__ = ("will", "leaves", "unreleased", "kept", "user", "filters", "inferred", "reasons", "taken", "websocket", "bridge", "before")
+    __slots__ = ("will", "leaves", "unreleased", "kept", "user", "filters", "inferred", "reasons",
+                 "taken", "websocket", "bridge", "before", "asked", "expiry", "arrived", "unsure",
+                 "renamed")
 
     def __init__(self, will: Command | None = None, kept: bool = False, user: str | None = None) -> None:
         self.will = will
@@ -30,6 +32,11 @@ class Session:
         self.websocket = False
         self.bridge = False
         self.before = False  # older than the log
+        self.asked: Command | None = None  # a will that the last DISCONNECT may have asked for
+        self.expiry = 0
+        self.arrived = False  # in this log, which so tells whether it came by a websocket
+        self.unsure = False  # took over from one that didn't
+        self.renamed: set[int] = set()  # of `unreleased`: received under another user name
 
     def add(self, name: str) -> None:
         self.filters.add(name)
@@ -44,6 +51,8 @@ class Session:
     def take_over(self, old: "Session") -> None:
         """What a resumed session has of the older connection."""
         self.unreleased, self.filters, self.inferred = old.unreleased, old.filters, old.inferred
+        self.asked = old.asked
+        self.renamed = old.renamed if self.user == old.user else set(old.unreleased)
 
     def reason(self, topic: str) -> int:
         """What explains a copy of the topic."""
@@ -77,7 +86,9 @@ class Clients:
         self.commands: list[tuple[int, Command]] = []
         self.connected: dict[str, Session] = {}
         self.away: dict[str, Session] = {}
-        self.closing: dict[str, int] = {}  # websockets that were taken over, and whose end the broker is yet to log
+        self.closing: dict[str, int] = {}  # websockets whose end is yet to be logged
+        self.departed: dict[str, Session] = {}  # websockets with a will that sent DISCONNECT
+        self.ended: str | None = None  # whose end the lines tell, as long as only copies follow
         self.seen_before: set[str] = set()
         self.notes = Notes()
 
@@ -129,6 +140,8 @@ class Clients:
             arrival.will["client"] = client
         session = self.connected[client] = Session(arrival.will, expiry > 0, user)
         session.websocket, session.bridge = arrival.websocket, arrival.bridge
+        session.expiry = expiry
+        session.arrived, session.unsure = True, bool(old and old.taken and not old.arrived)
         if old and resumed:
             session.take_over(old)
         elif old:
@@ -153,14 +166,21 @@ class Clients:
     def publish_will(self, place: int, client: str, session: Session, ends: bool) -> None:
         """No client gets its own will: where the session ends, a new one without subscriptions publishes it."""
         will, session.will = session.will, None
-        if will and not session.leaves:
+        if session.leaves:
+            session.asked = will
+        elif will:
             if ends and any(matches(plain_filter(name), will["topic"]) for name in session.filters | session.inferred):
-                self.emit(place, connect_command(client, session.user))
+                self.come_for_will(place, connect_command(client, session.user))
             self.emit(place, will, None)
+
+    def come_for_will(self, place: int, command: Command) -> None:
+        """A connect that the broker never saw."""
+        self.emit(place, command)
 
     def end(self, client: str, willed: bool) -> None:
         """The connection has ended."""
         session = self.connected.pop(client)
+        self.ended = client
         if willed:
             self.publish_will(self.place, client, session, not session.kept)
         session.leaves = False
@@ -170,8 +190,29 @@ class Clients:
             self.unrouted(session)
         self.emit(self.place, {"do": "disconnect", "client": client})
 
+    def leave(self, client: str) -> None:
+        """A websocket's DISCONNECT: it is sent nothing from here on. The broker logs the end of the
+        connection, and publishes a will that the DISCONNECT asked for, later."""
+        session = self.connected[client]
+        if session.will:
+            self.departed[client], session.asked = session, session.will
+        self.closing[client] = self.closing.get(client, 0) + 1
+        self.end(client, willed=False)
+        session.leaves = True  # until a copy shows that its will was asked for
+
+    def departed_will(self, client: str, session: Session) -> None:
+        """Of a client that is gone, or that has come back meanwhile."""
+        came_back = client in self.connected
+        if not came_back:
+            kept = {"clean": False, "session_expiry": session.expiry} if session.kept else {}
+            self.come_for_will(self.place, connect_command(client, session.user) | kept)
+        self.emit(self.place, session.will, None)
+        if not came_back:
+            self.emit(self.place, {"do": "disconnect", "client": client})
+        self.ended = client
+
     def closed(self, client: str) -> None:
-        """A line tells that a connection of the client has ended: a websocket that was taken over, or the client's own."""
+        """A line tells that a connection of the client has ended: a websocket's, or its own."""
         if self.closing.get(client):
             self.closing[client] -= 1
             if not self.closing[client]:
@@ -190,10 +231,15 @@ class Clients:
     def start(self) -> None:
         """The broker starts: nobody is connected."""
         self.closing.clear()
+        self.departed.clear()
         for client in list(self.connected):
             self.end(client, willed=False)
 
     def unrouted(self, session: Session) -> None:
         for command in session.unreleased.values():
-            self.notes.add("QoS 2 publishes were never released by their sender: neither the broker nor the script routes them",
-                           f"line {self.place}: {command['client']} {command['topic']}")
+            self.never_released(command)
+
+    def never_released(self, command: Command) -> None:
+        self.notes.add("QoS 2 publishes were never released by their sender: "
+                       "neither the broker nor the script routes them",
+                       f"line {self.place}: {command['client']} {command['topic']}")

@@ -5,6 +5,7 @@ from typing import Any
 
 Command = dict[str, Any]
 FOREVER = 4_294_967_295
+UNTOLD = FOREVER - 1  # of a session of MQTT 5 of which the log doesn't tell whether it is kept
 WITHOUT_RETAINED = 2  # Retain Handling: nothing is sent at the subscribe
 
 
@@ -19,6 +20,7 @@ class Client:
     connected: bool = True
     ends: int | None = None  # when the session of a client that is away is over
     subscriptions: dict[str, Command] = field(default_factory=dict)  # by filter
+    older: bool = False  # than the log: nothing of it happened in this one
 
 
 class State:
@@ -38,8 +40,9 @@ class State:
         elif client is None:
             return
         elif do == "disconnect":
-            client.connected, client.ends = False, None if client.expiry == FOREVER else self.now + client.expiry
-            if not client.expiry:
+            client.connected = False
+            client.ends = None if client.expiry >= UNTOLD else self.now + client.expiry
+            if not client.expiry or (client.expiry == UNTOLD and not client.subscriptions):
                 del self.clients[name]
         elif do == "subscribe":
             client.subscriptions[command["filter"]] = command
@@ -72,6 +75,16 @@ class State:
         for name, client in self.clients.items():
             if client.connected or self.lasts(client):
                 yield from self.client_commands(name, client)
+
+    def at_end(self) -> Iterator[Command]:
+        """What the next log begins with. Sessions of which two logs don't tell whether they are kept
+        are given up; of a client that is connected the next CONNACK will tell."""
+        for name, client in list(self.clients.items()):
+            if client.expiry == UNTOLD and client.connected:
+                client.expiry = 0
+            elif client.expiry == UNTOLD and client.older:
+                del self.clients[name]
+        return self.commands()
 
     def client_commands(self, name: str, client: Client) -> Iterator[Command]:
         left = client.expiry if client.connected or client.ends is None else client.ends - self.now

@@ -15,7 +15,7 @@ from .numbers import whole_number
 from .order import LogFile, in_order
 from .output import is_blank
 from .sessions import FOREVER, NONE, Command
-from .state import State
+from .state import UNTOLD, State
 
 PIECE = 1 << 20
 
@@ -28,6 +28,8 @@ class Writer(Converter):
         self.given = session_expiry is not None
         self.begins = begins
         self.state: State | None = None  # that the commands lead to, if it is wanted
+        self.untold = False  # whether the session that begins is kept
+        self.for_will = False
         self.topics: set[str] = set(begins.state.retained)  # that the script publishes
         self.explained = [0, 0, 0]
         self.logs: Logs | None = None
@@ -48,6 +50,8 @@ class Writer(Converter):
             self.state = State()
         for command in self.begins.state.commands():
             self.emit(0, command)
+        for client in self.state.clients.values() if self.state else ():
+            client.older = True
 
     def emit(self, place: int, command: Command, routed: bool | None = True) -> None:
         written = len(self.commands)
@@ -56,7 +60,20 @@ class Writer(Converter):
             self.topics.add(command["topic"])
         if self.state:
             for _, each in self.commands[written:]:
-                self.state.follow(each, routed)
+                self.follow(each, routed)
+
+    def follow(self, command: Command, routed: bool | None) -> None:
+        if command["do"] == "connect":
+            if self.for_will and command["client"] in self.state.clients:
+                return
+            command = command | ({"session_expiry": UNTOLD} if self.untold else {})
+        self.state.follow(command, routed)
+
+    def come_for_will(self, place: int, command: Command) -> None:
+        """The state keeps what the session has: it may be there when the client returns."""
+        self.for_will = True
+        super().come_for_will(place, command)
+        self.for_will = False
 
     def known(self, text: str) -> bool:
         self.is_log = self.is_log or OF_MOSQUITTO.match(text) is not None
@@ -69,14 +86,20 @@ class Writer(Converter):
 
     def expiry(self, place: int, client: str, clean: bool, protocol: int) -> int:
         """As the next CONNACK tells it: whether the session was there."""
+        self.untold = False
         if protocol < 5 or self.given:
             return super().expiry(place, client, clean, protocol)
         if place in self.begins.kept:
             return FOREVER
+        self.untold = place not in self.begins.ended
         if not clean and place not in self.begins.ended:
             self.notes.add("MQTT 5 sessions may be kept after their connection, and no later CONNACK tells: they are not (--session-expiry)",
                            f"line {place}: {client}")
         return 0
+
+    def closed(self, client: str) -> None:
+        if self.place not in self.begins.earlier:
+            super().closed(client)
 
     def taken_over(self, client: str) -> None:
         """The copies of the will, if there is to be one, stand before the line that tells whether there is."""
@@ -88,7 +111,7 @@ class Writer(Converter):
     def copied(self, sent: log.Publish) -> None:
         super().copied(sent)
         session = self.connected.get(sent.client)
-        if not sent.dup and not sent.topic.startswith("$SYS/"):
+        if not (sent.dup or sent.topic.startswith("$SYS/") or self.of_own_will(sent)):
             known = session is not None and sent.topic in self.topics
             self.explained[session.reason(sent.topic) if session and known else NONE] += 1
 

@@ -31,6 +31,7 @@ class Fields(unittest.TestCase):
         """Their kinds, ranges, and which may be left out."""
         text = (TOP / "docs/definitions/lines-and-runs.md").read_text("utf-8")
         found: dict[str, dict[str, Field]] = {}
+        command: dict[str, Field] = {}
         for do, fields, kind, absent in rows(text, "| `do` | Field | Kind and range | If absent |\n"):
             command = found.setdefault(NAME.findall(do)[0], {}) if do else command
             command.update({name: told(kind, absent) for name in NAME.findall(fields)})

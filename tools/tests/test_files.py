@@ -1,6 +1,5 @@
 """Files of the tools: none read and written, whole ones, `-`, packed ones, the order of logs."""
 import gzip
-import json
 import os
 import subprocess
 import sys

@@ -9,7 +9,7 @@ from pathlib import Path
 
 sys.path[:0] = [str(Path(__file__).parent), str(Path(__file__).parent.parent)]
 from mqroute_tools.conversion import Converter, placed_commands  # noqa: E402
-from test_log_to_script import Case, arrival, convert, published, subscribing  # noqa: E402
+from test_log_to_script import arrival, convert, published, subscribing  # noqa: E402
 
 TOOL = Path(__file__).parent.parent / "log_to_script.py"
 TAKEN = "Client a already connected, closing old connection.\n"

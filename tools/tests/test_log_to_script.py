@@ -118,7 +118,8 @@ class Leaving(Case):
         """Its copies come at once. The line has no reason; others' copies after it, or later ones, aren't of the will."""
         ends = "Received DISCONNECT from a\nClient a disconnected.\n"
         copy, gone = published("b", "last/words", size=3, word="Sending").replace("from", "to"), {"do": "disconnect", "client": "a"}
-        before = arrival("b") + arrival("a", will=self.WILL)
+        tcp = "New connection from 127.0.0.1:50000 on port 1883.\n"
+        before = arrival("b") + tcp + arrival("a", will=self.WILL)
         for after, wanted in ((copy, [self.SENT, gone]), (copy + "Client b disconnected.\n", [self.SENT, gone, {"do": "disconnect", "client": "b"}]),
                               (copy.replace("(3", "(4"), [gone]), (copy.replace("words", "word"), [gone]), ("", [gone]),
                               ("Received PINGREQ from b\n" + copy, [gone]), (arrival("a") + copy, [gone])):
@@ -174,6 +175,13 @@ class Publishing(Case):
         self.gives(arrival("a") + published("a", "x", "d0, q2, r0, m1") + "Client a disconnected.\n" + "Received PUBREL from a (Mid: 1)\n",
                    [{"do": "disconnect", "client": "a"}], notes=1)
         self.gives(arrival("a") + published("a", "x", "d0, q2, r0, m1") + arrival("a"), [], notes=1)
+
+    def test_a_packet_identifier_that_is_used_again(self):
+        """The broker drops what it has of QoS 2 under it: the PUBREL releases nothing."""
+        for qos in (1, 2):
+            text = (arrival("a") + published("a", "x", "d0, q2, r0, m4") + published("a", "y", f"d0, q{qos}, r0, m4")
+                    + "Reused message ID 4 from a detected. Clearing from storage.\nReceived PUBREL from a (Mid: 4)\n")
+            self.gives(text, [{"do": "publish", "client": "a", "topic": "y", "payload": "2 bytes", "qos": qos}], notes=1)
 
     def test_denied(self):
         self.gives(arrival("a") + published("a", "x", "d0, q2, r0, m1", word="Denied"),

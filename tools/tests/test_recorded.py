@@ -111,8 +111,9 @@ class Scripts(unittest.TestCase):
         for script in (HERE.parent / folder).glob("*.jsonl"):
             differs = script.with_suffix(".diff").stat().st_size > 0
             self.assertIn(f"`{script.stem}`", table if differs else table + agreement)
-        for refused in (HERE.parent / folder).glob("refused-*.acl"):
-            self.assertIn(f"`{refused.stem}`", table)
+        for name in (HERE.parent / folder).glob("*-*.acl"):
+            if name.stem.startswith(("refused-", "taken-")):
+                self.assertIn(f"`{name.stem}`", table)
 
     @wants_program
     def test_lists_that_the_broker_refuses(self):
@@ -121,6 +122,15 @@ class Scripts(unittest.TestCase):
         self.assertGreater(len(lists), 3)
         for name in lists:
             self.assertEqual(mqroute(b'{"do":"connect","client":"a"}\n', "--acl-file", name), b'{"line":1,"reason":0}\n')
+
+    @wants_program
+    def test_lists_that_the_broker_takes(self):
+        """mqroute refuses each."""
+        lists = sorted((HERE.parent / "brokers/differences").glob("taken-*.acl"))
+        self.assertGreater(len(lists), 2)
+        for name in lists:
+            done = subprocess.run([PROGRAM, "--acl-file", name], input=b"", capture_output=True)
+            self.assertEqual((done.returncode, done.stdout), (2, b""), name)
 
 
 class Readme(unittest.TestCase):

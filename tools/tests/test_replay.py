@@ -1,7 +1,7 @@
 """What is compared with a live broker; and a run on one, where mosquitto and paho are there."""
+import io
 import json
 import os
-import pty
 import shutil
 import socket
 import subprocess
@@ -9,13 +9,16 @@ import sys
 import tempfile
 import time
 import unittest
+import unittest.mock
 from pathlib import Path
 
 HERE = Path(__file__).parent.parent
 sys.path.insert(0, str(HERE))
 from mqroute_tools.agreement import Acknowledged, Copy, Sessions, different_copies, different_order, different_reasons  # noqa: E402
 from mqroute_tools.output import Block  # noqa: E402
+from mqroute_tools.progress import Progress  # noqa: E402
 
+PROGRAM = Path(os.environ.get("MQROUTE", HERE.parent / "crates/mqroute/out/mqroute"))
 PYTHON = "/usr/bin/python3"  # which has Debian's python3-paho-mqtt
 MOSQUITTO = os.environ.get("MOSQUITTO") or shutil.which("mosquitto") or "/usr/sbin/mosquitto"
 
@@ -46,6 +49,17 @@ class Copies(unittest.TestCase):
             self.assertEqual(len(self.differ([COPY], [COPY._replace(**more)])), 3, more)
         self.assertEqual(self.differ([COPY], [])[2], "      broker:  nothing")
         self.assertEqual(self.differ([], [COPY])[1], "      mqroute: nothing")
+
+    def test_two_messages(self):
+        """Each by itself, if their payloads differ."""
+        first, second = COPY, COPY._replace(payload="q", retain=False, expiry=500)
+        self.assertEqual(self.differ([first, second], [second, first]), [])
+        for more in ({"expiry": 400}, {"expiry": None}, {"retain": True}, {"qos": 0}, {"ids": [3]}):
+            for ours in ([first, second], [second, first]):
+                theirs = [copy._replace(**more) if copy == second else copy for copy in ours]
+                texts = self.differ(ours, theirs)
+                self.assertEqual(len(texts), 3, more)
+                self.assertTrue('"q"' in texts[1] and '"p"' not in texts[1], texts)
 
     def test_how_many(self):
         """One copy for each subscription that matches, and no more."""
@@ -91,6 +105,22 @@ class Reasons(unittest.TestCase):
                                  (again | {"session_expiry": 0}, False), (leave, False), (again, True), (again | {"clean": True, "session_expiry": 0}, False)):
             sessions.follow(command)
             self.assertEqual(sessions.present(again), present, command)
+
+
+class OnATerminal(unittest.TestCase):
+    def test_progress(self):
+        """Shown on a terminal alone, and gone before anything else is written."""
+        for is_terminal, wanted in ((True, "line 3 of 9\r           \r"), (False, "")):
+            shown = io.StringIO()
+            shown.isatty = lambda: is_terminal
+            with unittest.mock.patch("sys.stderr", shown):
+                progress = Progress()
+                progress.at(2, 9)
+                progress.next = 0
+                progress.at(3, 9)
+                progress.clear()
+                progress.clear()
+            self.assertEqual(shown.getvalue(), wanted)
 
 
 class WithoutPaho(unittest.TestCase):
@@ -172,23 +202,6 @@ class Runs(OnABroker):
         status, out, _ = self.run_script([self.CONNECT, self.PUBLISH], self.done(0, 0))
         self.assertEqual((status, out.splitlines()[1:]), (1, ["   reason: mqroute 0, broker 16"]))
 
-    def test_progress_on_a_terminal(self):
-        """Which line is run; it is gone where something is printed, and at the end."""
-        self.start()
-        wait = {"do": "advance", "seconds": 1}
-        self.write_files([self.CONNECT, wait, self.PUBLISH], self.done(0, 0, 0))
-        ours, theirs = pty.openpty()
-        words = [HERE / "replay.py", "--port", str(self.port), "script", "output"]
-        done = subprocess.run([PAHO, *words], cwd=self.folder.name, stdout=subprocess.PIPE,
-                              stderr=theirs, text=True, timeout=60)
-        os.close(theirs)
-        told = os.read(ours, 4096).decode()
-        os.close(ours)
-        clear = "\r\x1b[K"
-        self.assertEqual(done.returncode, 1)
-        self.assertEqual(done.stdout.splitlines()[1], "   reason: mqroute 0, broker 16")
-        self.assertEqual(told, f"{clear}line 1 of 3{clear}line 3 of 3{clear}{clear}")
-
     def test_no_broker(self):
         status, out, told = self.run_script([self.CONNECT], self.done(0))
         said = f"the broker at 127.0.0.1 port {self.port}: Connection refused"
@@ -269,6 +282,15 @@ class Runs(OnABroker):
             from types import SimpleNamespace
             from mqroute_tools.live import Offer
             poor = Offer(SimpleNamespace(SharedSubscriptionAvailable=0, WildcardSubscriptionAvailable=0, SubscriptionIdentifierAvailable=0))
+            from mqroute_tools.offered import fitted_script
+            lines = [b'{"do":"subscribe","client":"a","filter":"$share/g/x"}\\n', b"\\n",
+                     b'{"do":"subscribe","client":"a","filter":"x","id":1}\\n',
+                     b'{"do":"unsubscribe","client":"a","filter":"x/+"}\\n', b'{"do":"stat"}\\n']
+            fitted, told = fitted_script(lines, {1, 3, 4}, poor)
+            without = b'{"do": "subscribe", "client": "a", "filter": "x"}\\n'
+            assert fitted == [b"\\n", b"\\n", without, b"\\n", lines[4]], fitted
+            assert sorted(told.values()) == [1, 1, 1], told
+            assert fitted_script(lines, {1, 3, 4}, Offer()) == (lines, {})
             for command, wanted in (({"filter": "$share/g/x"}, "shared subscriptions"), ({"filter": "x/+"}, "wildcards in filters"),
                                     ({"filter": "x", "id": 1}, "subscription identifiers"), ({"filter": "x"}, "")):
                 command["do"] = "subscribe"
@@ -295,8 +317,34 @@ class Runs(OnABroker):
         self.start("max_qos 1\nretain_available false\n")
         script = [self.CONNECT, self.SUBSCRIBE, self.PUBLISH | {"qos": 2}, self.PUBLISH | {"retain": True}, self.PUBLISH]
         output = [*self.done(0, 1), self.GOT, {"line": 3, "reason": 0}, self.GOT | {"line": 4}, {"line": 4, "reason": 0}, self.GOT | {"line": 5}, {"line": 5, "reason": 0}]
-        told = "".join(f"replay: the broker doesn't offer {what}: 1 line left out\n" for what in ("QoS over 1", "retained messages"))
+        told = ("replay: the broker doesn't offer QoS over 1: 1 line sent with QoS 1\n"
+                "replay: the broker doesn't offer retained messages: 1 line sent without RETAIN\n")
         self.assertEqual(self.run_script(script, output), (0, "", told))
+
+    @unittest.skipUnless(PROGRAM.exists(), f"there is no {PROGRAM}")
+    def test_what_follows_from_it(self):
+        """mqroute answers what was sent: nothing is retained, and the last message comes with QoS 1."""
+        access = "pattern readwrite #\npattern deny secret\n"
+        self.start("max_qos 1\nretain_available false\n", access=access)
+        kept = {"do": "publish", "client": "a", "topic": "x", "payload": "p", "retain": True}
+        denied = {"do": "publish", "client": "a", "topic": "secret"}
+        script = ["", self.CONNECT, kept, kept | {"topic": "+"}, denied, self.SUBSCRIBE | {"qos": 2},
+                  self.PUBLISH | {"qos": 2}]
+        text = "".join((json.dumps(line) if line else "") + "\n" for line in script)
+        acl = Path(self.folder.name, "acl")
+        done = subprocess.run([PROGRAM, "--acl-file", acl], input=text, capture_output=True, text=True)
+        output = done.stdout.splitlines()
+        self.assertEqual(sum('"retain":true' in line for line in output), 1)
+        status, out, told = self.run_script(script, output, "--acl-file", "acl")
+        self.assertEqual((status, out), (0, ""), told)
+        status, out, told = self.run_script(script, output)
+        self.assertEqual((status, out, "--acl-file" in told), (2, "", True))
+
+    def test_topics_of_the_broker(self):
+        self.start("sys_interval 1\n", access="topic read $SYS/#\n")
+        script = [self.CONNECT, self.SUBSCRIBE | {"filter": "$SYS/broker/version"}]
+        told = "replay: 1 copy of topics under $SYS/, which the broker publishes itself, are left out\n"
+        self.assertEqual(self.run_script(script, self.done(0, 1)), (0, "", told))
 
 
 if __name__ == "__main__":

@@ -1,0 +1,26 @@
+"""How far a long run is, on standard error where that is a terminal."""
+import sys
+import time
+
+EVERY = 0.5  # seconds
+
+
+class Progress:
+    def __init__(self) -> None:
+        self.shown = sys.stderr.isatty()
+        self.next = time.monotonic() + EVERY
+        self.width = 0
+        self.of = 0
+
+    def at(self, line: int, of: int) -> None:
+        self.of = of
+        if self.shown and time.monotonic() >= self.next:
+            text = f"line {line} of {of}"
+            self.next, self.width = time.monotonic() + EVERY, len(text)
+            print(text, end="\r", file=sys.stderr, flush=True)
+
+    def clear(self) -> None:
+        """Before something else is written to the terminal."""
+        if self.width:
+            print(" " * self.width, end="\r", file=sys.stderr, flush=True)
+            self.width = 0
