@@ -8,12 +8,16 @@ root=$(mktemp -d)
 trap 'rm -rf "$root"' EXIT
 debootstrap --variant=minbase "$release" "$root" > "$root.log" 2>&1 || { tail "$root.log"; exit 1; }
 rm "$root.log"
-cp dist/mqroute_*_amd64.deb tests/readme.py "$root/root"
+cp dist/mqroute_*_amd64.deb "$root/root/mqroute.deb"
+cp tests/readme.py "$root/root"
 cp /etc/resolv.conf "$root/etc"
 inside() {
     chroot "$root" env -i PATH=/usr/sbin:/usr/bin:/sbin:/bin HOME=/root LC_ALL=C.UTF-8 DEBIAN_FRONTEND=noninteractive "$@"
 }
-inside apt-get install -y -qq --no-install-recommends /root/mqroute_*_amd64.deb > "$root/root/log" 2>&1 || { tail "$root/root/log"; exit 1; }
+install() { # PACKAGE..
+    inside apt-get install -y -qq --no-install-recommends "$@" > "$root/root/log" 2>&1 || { tail "$root/root/log"; exit 1; }
+}
+install /root/mqroute.deb
 inside bash -c 'cd /usr/share/doc/mqroute/examples/new-access-list && mqroute --acl-file current.acl script.jsonl | tail -2'
-inside apt-get install -y -qq --no-install-recommends python3 jq > "$root/root/log" 2>&1 || { tail "$root/root/log"; exit 1; }
+install python3 jq
 inside python3 /root/readme.py --installed /

@@ -107,14 +107,21 @@ topic read c/d
 
 # Lists that are refused: their text, and what is told of the first faulty line.
 FAULTY = [
-    ("topic rw a\n", 'line 1: "rw" is no access: read, write, readwrite or deny'),
-    ("\ntopics read a\n", 'line 2: "topics" is no keyword: topic, pattern or user'),
-    ("topic read\n\ntopic\n", "line 3: the topic is missing"),
-    ("topic read a/#/b\n", 'line 1: "a/#/b" is no topic filter'),
-    ("user\n", "line 1: the user name is missing"),
-    ("pattern read a%c/b\n", 'line 1: %c or %u is no whole level of "a%c/b"'),
-    ("topic read a\ntopic read " + "b" * 301 + "\n", "line 2: a level or a user name of more than 300 bytes"),
+    ("topic rw a\n", '1: "rw" is no access: read, write, readwrite or deny'),
+    ("\ntopics read a\n", '2: "topics" is no keyword: topic, pattern or user'),
+    ("topic read\n\ntopic\n", "3: the topic is missing"),
+    ("topic read a/#/b\n", '1: "a/#/b" is no topic filter'),
+    ("user\n", "1: the user name is missing"),
+    ("pattern read a%c/b\n", '1: %c or %u is no whole level of "a%c/b"'),
+    ("topic read a\ntopic read " + "b" * 301 + "\n", "2: a level or a user name of more than 300 bytes"),
 ]
+
+# Lists that are no UTF-8, and the line of the first byte that makes them none.
+NO_TEXTS = [(b"topic read \xe9\n", 1), (b"topic read \xc3\xa9\n\ntopic read \xc3\n", 3), (b"# \xf0\x9f\x98\x80\n\xff\n\xfe\n", 2),
+            (b"user a\n\xe2\x82", 2)]
+
+NO_FILE, A_FOLDER = "No such file or directory (os error 2)", "Is a directory (os error 21)"
+TWICE = "error: standard input can be only one of the files: - stands more than once"
 
 # Words that are not understood, and a part of what is told.
 MISUSED = [
@@ -125,23 +132,30 @@ MISUSED = [
     (["reach", "current.acl", "c", "a/#/b"], '"a/#/b" is no topic filter'),
     (["reach", "current.acl", "c", "$share/g"], '"$share/g" is no topic filter'),
     (["reach", "current.acl", "c" * 301, "a"], "a client id, a user name or a level of more than 300 bytes"),
-    (["why", "nowhere.acl", "c", "a"], "cannot read access list nowhere.acl"),
-    (["compare", "current.acl", "."], "cannot read access list ."),
+    (["why", "nowhere.acl", "c", "a"], f"mqroute-acl: nowhere.acl: {NO_FILE}\n"),
+    (["compare", "current.acl", "."], f"mqroute-acl: .: {A_FOLDER}\n"),
+    (["compare", "current.acl/a", "current.acl"], "mqroute-acl: current.acl/a: Not a directory (os error 20)\n"),
+    (["lint"], "<FILE>..."),
+    (["lint", "proposed.acl", "nowhere.acl", "current.acl"], f"mqroute-acl: nowhere.acl: {NO_FILE}\n"),
+    (["compare", "-", "-"], TWICE),
+    (["lint", "-", "current.acl", "-"], TWICE),
+    (["reach", "-", "--script", "-"], TWICE),
     (["reach", "current.acl"], "either CLIENT and FILTER, or --script SCRIPT"),
     (["reach", "current.acl", "c"], "either CLIENT and FILTER, or --script SCRIPT"),
     (["reach", "current.acl", "c", "a", "--script", "day.jsonl"], "either CLIENT and FILTER, or --script SCRIPT"),
     (["reach", "current.acl", "c", "--script", "day.jsonl"], "either CLIENT and FILTER, or --script SCRIPT"),
     (["reach", "current.acl", "--script", "day.jsonl", "--user", "u"], "either CLIENT and FILTER, or --script SCRIPT"),
     (["reach", "--script", "day.jsonl"], "<FILE>"),
-    (["reach", "nowhere.acl", "--script", "day.jsonl"], "cannot read access list nowhere.acl"),
-    (["reach", "current.acl", "--script", "nowhere.jsonl"], "cannot read script nowhere.jsonl"),
-    (["reach", "current.acl", "--script", "-"], "cannot read script -"),
-    (["reach", "current.acl", "--script", "."], "cannot read script ."),
+    (["reach", "nowhere.acl", "--script", "day.jsonl"], f"mqroute-acl: nowhere.acl: {NO_FILE}\n"),
+    (["reach", "current.acl", "--script", "nowhere.jsonl"], f"mqroute-acl: nowhere.jsonl: {NO_FILE}\n"),
+    (["reach", "current.acl", "--script", "."], f"mqroute-acl: .: {A_FOLDER}\n"),
+    (["reach", "current.acl", "--script", "proposed.acl"], "mqroute-acl: proposed.acl: no line of 15 is a command\n"),
+    (["reach", "current.acl", "--script", "-"], "mqroute-acl: -: no line of 0 is a command\n"),
 ]
 
 
-def run(words, folder=EXAMPLE):
-    return subprocess.run([PROGRAM, *words], cwd=folder, capture_output=True, text=True, timeout=60)
+def run(words, folder=EXAMPLE, given=""):
+    return subprocess.run([PROGRAM, *words], cwd=folder, input=given, capture_output=True, text=True, timeout=60)
 
 
 def faults_of_walk():
@@ -149,6 +163,39 @@ def faults_of_walk():
         done = run(words)
         if (done.returncode, done.stdout, done.stderr) != (status, wanted, ""):
             yield f"{' '.join(words)}: status {done.returncode}\n{done.stdout}{done.stderr}"
+
+
+def faults_of_input():
+    """Each example answers the same where one of its files is standard input, but for the file's name and the columns."""
+    for words, status, wanted in WALK:
+        for place in (n for n, word in enumerate(words) if word.endswith((".acl", ".jsonl"))):
+            name = words[place].removeprefix("--script=")
+            asked = [*words[:place], words[place].replace(name, "-"), *words[place + 1:]]
+            done = run(asked, given=(EXAMPLE / name).read_text())
+            if (done.returncode, done.stdout.split(), done.stderr) != (status, wanted.replace(name, "-").split(), ""):
+                yield f"{' '.join(asked)}: status {done.returncode}\n{done.stdout}{done.stderr}"
+
+
+def faults_of_several(folder):
+    """Of several files each is remarked on, in their order, and none where one of them can't be read."""
+    files = {"a.acl": REMARKED, "b.acl": "topic read a\n", "-": "topic\n"}
+    for name in ("a.acl", "b.acl"):
+        pathlib.Path(folder, name).write_text(files[name])
+    missing = "-:1: the topic is missing\n"
+    cases = [(["b.acl"], 0, ""), (["b.acl", "b.acl"], 0, ""), (["a.acl", "-"], 1, REMARKS + missing), (["-", "a.acl"], 1, missing + REMARKS),
+             (["b.acl", "a.acl", "b.acl"], 1, REMARKS), (["a.acl", "b.acl"], 1, REMARKS)]
+    for names, status, wanted in cases:
+        done = run(["lint", *names], folder, files["-"])
+        if (done.returncode, done.stdout, done.stderr) != (status, wanted, ""):
+            yield f"lint {' '.join(names)}: status {done.returncode}:\n{done.stdout}{done.stderr}"
+    for names in (["a.acl", "c.acl"], ["c.acl", "a.acl"]):
+        done = run(["lint", *names], folder)
+        if (done.returncode, done.stdout, done.stderr) != (2, "", f"mqroute-acl: c.acl: {NO_FILE}\n"):
+            yield f"lint {' '.join(names)}: status {done.returncode}:\n{done.stdout}{done.stderr}"
+    pathlib.Path(folder, "-").write_text("\ntopic\n")
+    done = run(["lint", "./-"], folder)
+    if (done.returncode, done.stdout, done.stderr) != (1, "./-:2: the topic is missing\n", ""):
+        yield f"lint ./-: status {done.returncode}:\n{done.stdout}{done.stderr}"
 
 
 def faults_of_remarks(folder):
@@ -172,12 +219,13 @@ def faults_of_refusals(folder):
             if len(text) > 300 and words[0] == "why":
                 continue
             done = run(words, folder)
-            if (done.returncode, done.stdout, done.stderr) != (2, "", f"mqroute-acl: access list a.acl {told}\n"):
+            if (done.returncode, done.stdout, done.stderr) != (2, "", f"a.acl:{told}\n"):
                 yield f"{' '.join(words)} of {text[:40]!r}: status {done.returncode}: {done.stdout}{done.stderr}"
-    pathlib.Path(folder, "latin.acl").write_bytes(b"topic read \xe9\n")
-    done = run(["compare", "latin.acl", "latin.acl"], folder)
-    if (done.returncode, done.stderr) != (2, "mqroute-acl: access list latin.acl is not UTF-8\n"):
-        yield f"not UTF-8: status {done.returncode}: {done.stderr}"
+    for text, line in NO_TEXTS:
+        pathlib.Path(folder, "latin.acl").write_bytes(text)
+        done = run(["compare", "latin.acl", "latin.acl"], folder)
+        if (done.returncode, done.stderr) != (2, f"latin.acl:{line}: not UTF-8\n"):
+            yield f"{text}: status {done.returncode}: {done.stderr}"
     for words, told in MISUSED:
         done = run(words)
         if done.returncode != 2 or done.stdout or told not in done.stderr:
@@ -427,6 +475,12 @@ def random_script(chance):
     return [line if isinstance(line, str) else json.dumps(line) for line in lines], subscriptions, faulty
 
 
+def no_command(name, script):
+    """What is told of a script without a command."""
+    lines = script.count("\n") + (script[-1:] not in ("", "\n"))
+    return f"mqroute-acl: {name}: no line of {lines} is a command\n"
+
+
 def faults_of_script(folder, chance, text):
     rows = rows_of(text)
     lines, subscriptions, faulty = random_script(chance)
@@ -434,6 +488,10 @@ def faults_of_script(folder, chance, text):
     pathlib.Path(folder, "s.jsonl").write_text(script)
     vain = [each for each in subscriptions if not is_reached(rows, *each[1:])]
     done = run(["reach", "--json", "old.acl", "--script", "s.jsonl"], folder)
+    if all(line in ("", *FAULTY_LINES) for line in lines):
+        if (done.returncode, done.stdout, done.stderr) != (2, "", no_command("s.jsonl", script)):
+            yield f"reach --script: status {done.returncode}: {done.stdout}{done.stderr}\n{script}"
+        return
     *told, counts = [json.loads(line) for line in done.stdout.splitlines()] or [None]
     wanted = {"in_vain": len(vain), "subscriptions": len(subscriptions), "no_commands": len(faulty),
               "first_no_command": faulty[0] if faulty else None}
@@ -449,7 +507,10 @@ def faults_of_odd_scripts(folder):
     pathlib.Path(folder, "a.acl").write_text("topic read a\ntopic read b/" + "c" * 300 + "\n")
     cases = [
         (ODD_SCRIPT, 0, "0 of 3 subscriptions in vain\n", ""),
-        ("", 0, "0 of 0 subscriptions in vain\n", ""),
+        ('{"do":"stat"}', 0, "0 of 0 subscriptions in vain\n", ""),
+        ("", 2, "", "mqroute-acl: s.jsonl: no line of 0 is a command\n"),
+        ("\n\n \n", 2, "", "mqroute-acl: s.jsonl: no line of 3 is a command\n"),
+        ("topic read a\n\n# b\nuser c", 2, "", "mqroute-acl: s.jsonl: no line of 4 is a command\n"),
         ('{"do":"connect","client":"c","user":"\u00fc"}\n{"do":"subscribe","client":"c","filter":"b"}', 1,
          "s.jsonl:2  c  user \u00fc  b\n1 of 1 subscriptions in vain\n", ""),
         ('\nx\n{"do":"connect","client":"c"}\n' + " " * 1_048_577 + '\n{"do":"subscribe","client":"c","filter":"b"}', 1,
@@ -457,13 +518,25 @@ def faults_of_odd_scripts(folder):
         (" " * 1_048_576 + '\n{"do":"connect","client":"c"}\n{"do":"subscribe","client":"c","filter":"a"}\nx', 0,
          "s.jsonl:4 is no command\n0 of 1 subscriptions in vain\n", ""),
         ('{"do":"connect","client":"c"}\n{"do":"subscribe","client":"c","filter":"' + "b" * 301 + '"}', 2, "",
-         "mqroute-acl: script s.jsonl line 2: a client id, a user name or a level of more than 300 bytes\n"),
+         "s.jsonl:2: a client id, a user name or a level of more than 300 bytes\n"),
     ]
     for script, status, told, failed in cases:
         pathlib.Path(folder, "s.jsonl").write_text(script, encoding="utf-8")
         done = run(["reach", "a.acl", "--script", "s.jsonl"], folder)
         if (done.returncode, done.stdout, done.stderr) != (status, told, failed):
             yield f"reach --script of {script[:60]!r}: status {done.returncode}: {done.stdout}{done.stderr}"
+
+
+def faults_of_logs(folder):
+    """Logs of mosquitto are no scripts."""
+    pathlib.Path(folder, "a.acl").write_text("topic read a\n")
+    logs = [path.read_text(encoding="utf-8") for path in sorted((TOP / "brokers/recorded").glob("*.log"))]
+    for text in [*logs, "2026-11-27T10:00:00: mosquitto version 2.0.11 starting\n", "2026-11-27 10:00:00"]:
+        pathlib.Path(folder, "s.log").write_text(text, encoding="utf-8")
+        done = run(["reach", "a.acl", "--script", "s.log"], folder)
+        told = no_command("s.log", text).rstrip() + "; it looks like a log: see mqroute-log-to-script(1)\n"
+        if (done.returncode, done.stdout, done.stderr) != (2, "", told):
+            yield f"reach --script of {text[:60]!r}: status {done.returncode}: {done.stdout}{done.stderr}"
 
 
 def faults_of_needless(folder, lines):
@@ -501,7 +574,8 @@ def main():
         return 1
     count = int(sys.argv[1]) if len(sys.argv) > 1 else 300
     with tempfile.TemporaryDirectory() as folder:
-        faults = [*faults_of_walk(), *faults_of_remarks(folder), *faults_of_refusals(folder), *faults_of_odd_scripts(folder),
+        faults = [*faults_of_walk(), *faults_of_input(), *faults_of_remarks(folder), *faults_of_several(folder),
+                  *faults_of_refusals(folder), *faults_of_odd_scripts(folder), *faults_of_logs(folder),
                   *faults_of_known_pairs(folder), *faults_of_random(folder, count)]
     for fault in faults:
         print(f"acl: {fault}")

@@ -1,3 +1,4 @@
+pub mod FilesLemmas
 pub mod ListFileLemmas
 pub mod CompareLemmas
 pub mod LintLemmas

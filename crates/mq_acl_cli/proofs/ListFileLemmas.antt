@@ -1,8 +1,8 @@
 -- The front of a file, and the whole of it.
 use Rattle.std.proofs.Common.{◌≡◌, ◌∙◌, ◌≤◌, ◌<◌, ◌+◌, ◌++◌, ℕ, List, [], length, take, min, Option}
-use Rattle.std.proofs.Common.{Some, None, IfSome, IsUtf8, option_map, arith, ap, subst}
+use Rattle.std.proofs.Common.{Some, None, IfSome, IsUtf8, option_map, arith, ap, refl, subst}
 use Rattle.std.proofs.lemmas.List.{length-take, take_all}
-use Rattle.mq_acl_cli.specs.ListFile.{file_limit, IsFaultIn}
+use Rattle.mq_acl_cli.specs.ListFile.{bad_line, file_limit, IsFaultIn}
 use Rattle.mq_acl_cli.specs.declared.list_file.FileFault.TheVariants.{TooLong, Utf8}
 
 -- what is read of a limited reader is the front of the reader's bytes
@@ -43,11 +43,18 @@ too_long None front is over = tt
 too_long (Some xs) front is over =
     let count = shorter xs front 16777217 is in omega arith
 
--- where what was read is within the limit and isn't UTF-8, the file isn't either
+-- where what was read is within the limit and isn't UTF-8, the file isn't either, from the same line on
 pub not_utf8 : (known : Option (List ℕ)) (front : List ℕ)
     → IfSome known (λ xs. front ≡ take 16777217 xs)
-    → length front ≤ 16777216 → ¬ IsUtf8 front → IfSome known (IsFaultIn Utf8)
+    → length front ≤ 16777216 → ¬ IsUtf8 front → IfSome known (IsFaultIn (Utf8 (bad_line front)))
 not_utf8 None front is within bad = tt
 not_utf8 (Some xs) front is within bad =
     let all = whole xs front 16777216 16777217 (omega arith) is within in
-    subst (λ (t : List ℕ). ¬ IsUtf8 t) all.0 bad
+    subst (λ (t : List ℕ). (¬ IsUtf8 t) × (bad_line front ≡ bad_line t)) all.0 (bad, refl)
+
+-- the text alone
+pub text_only : (known : Option (List ℕ)) (text : List ℕ)
+    → IfSome known (λ bytes. (text ≡ bytes) × (length bytes ≤ file_limit))
+    → IfSome known (λ bytes. text ≡ bytes)
+text_only None text is = tt
+text_only (Some bytes) text is = is.0

@@ -1,14 +1,15 @@
 -- The command line of the program, in the words of `clap`.
-use Rattle.std.specs.Prelude.{◌≡◌, ◌≢◌, ◌⊎◌, true, false, if◌then◌else◌, List, [], ◌∷◌, Option}
-use Rattle.std.specs.Prelude.{Some, None, option_and_then, codes, map}
+use Rattle.std.specs.Prelude.{◌≡◌, ◌≢◌, ◌⊎◌, ◌≤◌, ◌<◌, true, false, if◌then◌else◌, List, [], ◌∷◌}
+use Rattle.std.specs.Prelude.{Option, Some, None, option_and_then, option_map, codes, map, ⊤}
 use Rattle.std.specs.Option.{option_copied}
 use Rattle.std.specs.Str.{bytes_eq}
 use Rattle.clap.specs.Words.{App, Row, Rule, Text, Kinds, IsAmong, new_app, new_rule, with_rule}
 use Rattle.clap.specs.Words.{with_subcommand}
-use Rattle.clap.specs.Words.{first_of, one_of, subcommand_of}
-use Rattle.clap.specs.declared.builder.action.ArgAction.TheVariants.{SetTrue}
+use Rattle.clap.specs.Words.{all_of, first_of, one_of, subcommand_of}
+use Rattle.clap.specs.declared.builder.action.ArgAction.TheVariants.{Append, SetTrue}
 use Rattle.clap.specs.declared.error.ErrorKind.{ErrorKind}
 use Rattle.clap.specs.declared.error.ErrorKind.TheVariants.{DisplayHelp}
+use Rattle.mq_acl_cli.specs.Files.{input_count}
 use Rattle.mq_acl_cli.specs.declared.command_line.Argument.{Argument}
 use Rattle.mq_acl_cli.specs.declared.command_line.ArgumentKind.{ArgumentKind}
 use Rattle.mq_acl_cli.specs.declared.command_line.ArgumentKind.TheVariants as takes
@@ -24,6 +25,10 @@ use Rattle.mq_acl_cli.specs.declared.request.Question.TheVariants as asks
 abbrev pub argument : Text → Rule
 argument name = record (new_rule name) { value_names = 1; required = true }
 
+-- one that has to be there, and may be there several times
+abbrev pub arguments : Text → Rule
+arguments name = record (argument name) { action = Some Append }
+
 -- one that may be left out
 abbrev pub optional_argument : Text → Rule
 optional_argument name = record (new_rule name) { value_names = 1 }
@@ -38,6 +43,7 @@ flag name = record (new_rule name) { long = Some name; action = Some SetTrue }
 
 abbrev pub rule_of_kind : Text → ArgumentKind → Rule
 rule_of_kind name takes.Required = argument name
+rule_of_kind name takes.Several = arguments name
 rule_of_kind name takes.Optional = optional_argument name
 rule_of_kind name (takes.Option value) = option name
 rule_of_kind name takes.Flag = flag name
@@ -84,9 +90,9 @@ why =
     (argument (codes "FILE") ∷ json_flag ∷ argument (codes "CLIENT") ∷ argument (codes "TOPIC")
     ∷ user_option ∷ [])
 
--- `lint FILE [--json]`
+-- `lint FILE.. [--json]`
 abbrev pub lint : App
-lint = with_rules (new_app (codes "lint")) (argument (codes "FILE") ∷ json_flag ∷ [])
+lint = with_rules (new_app (codes "lint")) (arguments (codes "FILE") ∷ json_flag ∷ [])
 
 -- `reach FILE [CLIENT] [FILTER] [--user NAME] [--script SCRIPT] [--json]`
 abbrev pub reach : App
@@ -114,7 +120,7 @@ pub record ClientAsked : Type 0 where
 pub data Asked : Type 0 where
   Compare : (old new : Text) → Asked
   Why : (file : Text) (client : ClientAsked) (topic : Text) → Asked
-  Lint : (file : Text) → Asked
+  Lint : (files : List Text) → Asked
   Reach : (file : Text) (client : ClientAsked) (filter : Text) → Asked
   ReachAll : (file script : Text) → Asked
 
@@ -122,9 +128,8 @@ abbrev pub compare_asked : (old new : Option Text) → Option Asked
 compare_asked (Some old) (Some new) = Some (Compare old new)
 compare_asked old new = None
 
-abbrev pub lint_asked : (file : Option Text) → Option Asked
-lint_asked (Some file) = Some (Lint file)
-lint_asked None = None
+abbrev pub lint_asked : (files : Option (List Text)) → Option Asked
+lint_asked files = option_map Lint files
 
 abbrev pub why_asked : (file id user topic : Option Text) → Option Asked
 why_asked (Some file) (Some id) user (Some topic) =
@@ -161,7 +166,7 @@ asked name rows =
     if bytes_eq name (codes "compare")
     then compare_asked (first_of (codes "OLD") rows) (first_of (codes "NEW") rows)
     else (if bytes_eq name (codes "why") then why_asked_by rows
-    else (if bytes_eq name (codes "lint") then lint_asked (first_of (codes "FILE") rows)
+    else (if bytes_eq name (codes "lint") then lint_asked (all_of (codes "FILE") rows)
     else (if bytes_eq name (codes "reach") then reach_asked_by rows
     else None)))
 
@@ -175,7 +180,7 @@ client_view client = record { id = client.id.now; user = option_copied client.us
 abbrev pub question_view : Question → Asked
 question_view (asks.Compare old new) = Compare old.now new.now
 question_view (asks.Why file client topic) = Why file.now (client_view client) topic.now
-question_view (asks.Lint file) = Lint file.now
+question_view (asks.Lint files) = Lint (map (λ file. file.now) files.items)
 question_view (asks.Reach file client filter) = Reach file.now (client_view client) filter.now
 question_view (asks.ReachAll file script) = ReachAll file.now script.now
 
@@ -192,14 +197,41 @@ pub record IsAskedBy (subcommand : Option (Text × List Row)) (request : Request
   pub no_json : one_of (codes "json") (values_of subcommand) ≡ Some (codes "false")
       → request.json ≡ false
 
--- the request is what the words ask
-abbrev pub AreGiven : List Text → Request → Type 0
-AreGiven words request = IsAskedBy (subcommand_of mqroute_acl words) request
+-- the request is what a subcommand with its values asks, and where there is none it asks nothing
+abbrev pub GivesAsked : Option (Text × List Row) → Option Request → Type 0
+GivesAsked subcommand (Some request) = IsAskedBy subcommand request
+GivesAsked subcommand None = asked_by subcommand ≡ None
 
--- why the words are refused, unless memory ran out: they have a fault of some kind, or ask nothing
+-- the files that a question is about
+abbrev pub files_of : Asked → List Text
+files_of (Compare old new) = old ∷ new ∷ []
+files_of (Why file client topic) = file ∷ []
+files_of (Lint files) = files
+files_of (Reach file client filter) = file ∷ []
+files_of (ReachAll file script) = file ∷ script ∷ []
+
+-- no more than one of them is standard input
+abbrev pub ReadsInputOnce : Asked → Type 0
+ReadsInputOnce question = input_count (files_of question) ≤ 1
+
+-- the request is what a subcommand with its values asks, and can be answered
+pub record IsGivenBy (subcommand : Option (Text × List Row)) (request : Request) : Type 0 where
+  pub asked : IsAskedBy subcommand request
+  pub once : ReadsInputOnce (question_view request.question)
+
+-- and so it is of these words
+abbrev pub AreGiven : List Text → Request → Type 0
+AreGiven words request = IsGivenBy (subcommand_of mqroute_acl words) request
+
+-- nothing is asked, or standard input would be read twice
+abbrev pub CanNotBeAsked : Option Asked → Type 0
+CanNotBeAsked None = ⊤
+CanNotBeAsked (Some question) = 1 < input_count (files_of question)
+
+-- why the words are refused, unless memory ran out: they have a fault of some kind, or what they ask can't be asked
 abbrev pub IsFaultOf : List Text → Kinds → UsageFault → Type 0
 IsFaultOf words kinds (Help text) = IsAmong DisplayHelp kinds
 IsFaultOf words kinds (Usage text) =
     ((k : ErrorKind) × (k ≢ DisplayHelp) × IsAmong k kinds)
-    ⊎ (asked_by (subcommand_of mqroute_acl words) ≡ None)
+    ⊎ CanNotBeAsked (asked_by (subcommand_of mqroute_acl words))
 IsFaultOf words kinds Memory = Unit {0}

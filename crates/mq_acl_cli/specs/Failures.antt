@@ -1,7 +1,6 @@
 -- Why nothing is answered about lists.
-use Rattle.std.specs.Prelude.{◌≡◌, ◌⊎◌, ◌<◌, ℕ, List, false, true, length, ⊤, Option, Some, Err}
-use Rattle.std.specs.Prelude.{IfSome}
-use Rattle.std.specs.Io.KnownBytes.{Consumes}
+use Rattle.std.specs.Prelude.{◌≡◌, ◌⊎◌, ◌<◌, ◌++◌, ℕ, List, [], false, true, length, ⊤, Option, Some}
+use Rattle.std.specs.Prelude.{Err, IfSome}
 use Rattle.mq_topic.specs.Texts.{filter_part, is_name, is_subscription}
 use Rattle.mq_acl.specs.Rows.{rows_of}
 use Rattle.mq_acl.specs.declared.fault.AclFault.{AclFault}
@@ -11,7 +10,7 @@ use Rattle.mq_questions.specs.Limits.{has_short_levels, is_short, is_short_user,
 use Rattle.mq_lines.specs.Lines.{all_lines}
 use Rattle.mq_reach.specs.Faults.{has_long_at}
 use Rattle.mq_reach.specs.Script.{script_limit}
-use Rattle.mq_reach.specs.Subscriptions.{subscriptions}
+use Rattle.mq_reach.specs.Subscriptions.{commands_of, subscriptions}
 use Rattle.mq_acl_cli.specs.Answers.{AreRows}
 use Rattle.mq_acl_cli.specs.declared.failure.Failure.{Failure}
 use Rattle.mq_acl_cli.specs.declared.failure.Failure.TheVariants as failure
@@ -48,12 +47,20 @@ IsWordFailure client user subscription failure.LongWord =
     ⊎ (has_short_levels (filter_part subscription) ≡ false)
 IsWordFailure client user subscription other = ⊥
 
--- what is told of the script with this name is so of the bytes that were read
-abbrev pub IsScriptFailure : (name : List ℕ) → (before after : Option (List ℕ)) → Failure → Type 0
-IsScriptFailure name before after (failure.Script file) = file.now ≡ name
-IsScriptFailure name before after (failure.LongScript file) =
-    (file.now ≡ name) × IfSome before (λ bytes. script_limit < length bytes)
-IsScriptFailure name before after (failure.LongSubscription file line) =
-    (file.now ≡ name) × ((given : List ℕ) × Consumes before after given
+-- of a script that a reader gave to its end no line is a command, and it has so many
+abbrev pub HasNoCommand : (known : Option (List ℕ)) → (lines : ℕ) → Type 0
+HasNoCommand known lines = (script : List ℕ) × IfSome known (λ bytes. script ≡ bytes)
+    × (commands_of (all_lines script) ≡ []) × (lines ≡ length (all_lines script))
+
+-- what is told of the script with this name is so of the bytes that its reader has, where they are known
+abbrev pub IsScriptFailure : (name : List ℕ) → (known : Option (List ℕ)) → Failure → Type 0
+IsScriptFailure name known (failure.Read file error) = file.now ≡ name
+IsScriptFailure name known (failure.LongScript file) =
+    (file.now ≡ name) × IfSome known (λ bytes. script_limit < length bytes)
+IsScriptFailure name known (failure.LongSubscription file line) =
+    (file.now ≡ name) × ((given rest : List ℕ) × IfSome known (λ bytes. bytes ≡ given ++ rest)
     × (has_long_at line (subscriptions (all_lines given)) ≡ true))
-IsScriptFailure name before after other = ⊥
+IsScriptFailure name known (failure.NoCommand file lines) =
+    (file.now ≡ name) × HasNoCommand known lines
+IsScriptFailure name known (failure.Log file lines) = (file.now ≡ name) × HasNoCommand known lines
+IsScriptFailure name known other = ⊥

@@ -1,4 +1,5 @@
 pub mod CommandLine
+pub mod Files
 pub mod ListFile
 pub mod Statuses
 pub mod Answers

@@ -1,5 +1,5 @@
 -- What is odd or needless in a list.
-use Rattle.std.specs.Prelude.{◌≡◌, ◌≢◌, ◌⊎◌, ◌<◌, ℕ, List, [], length, All}
+use Rattle.std.specs.Prelude.{◌≡◌, ◌≢◌, ◌⊎◌, ◌<◌, ℕ, List, [], length, All, Any, Option}
 use Rattle.mq_acl.specs.Views.{row_views}
 use Rattle.mq_acl.specs.declared.row.Row.{Row}
 use Rattle.mq_questions.specs.Differ.{Differ, without}
@@ -7,6 +7,7 @@ use Rattle.mq_report.specs.Needless.{AreRest, IsNeedlessLine}
 use Rattle.mq_report.specs.Remarks.{remarks_of}
 use Rattle.mq_report.specs.declared.remark.Remark.{Remark}
 use Rattle.mq_acl_cli.specs.Answers.{AreRows}
+use Rattle.mq_acl_cli.specs.Files.{IsTextOf}
 use Rattle.mq_acl_cli.specs.declared.outcome.Outcome.{Outcome}
 use Rattle.mq_acl_cli.specs.declared.outcome.Outcome.TheVariants.{Clear, Remark as Told}
 use Rattle.mq_acl_cli.specs.declared.remarks.Remarks.{Remarks}
@@ -43,3 +44,12 @@ pub record HasNeedless (text : List ℕ) : Type 0 where
 abbrev pub IsLinted : List ℕ → Outcome → Type 0
 IsLinted text Clear = IsClean text
 IsLinted text Told = (remarks_of text ≢ []) ⊎ HasNeedless text
+
+-- and so is it of the text of a file
+abbrev pub IsLintedFile : (input : Option (List ℕ)) → (file : List ℕ) → Outcome → Type 0
+IsLintedFile input file outcome = (text : List ℕ) × IsTextOf input file text × IsLinted text outcome
+
+-- nothing is told of any of the files, or something of some of them
+abbrev pub AreLinted : (input : Option (List ℕ)) → (files : List (List ℕ)) → Outcome → Type 0
+AreLinted input files Clear = All (λ file. IsLintedFile input file Clear) files
+AreLinted input files Told = Any (λ file. IsLintedFile input file Told) files

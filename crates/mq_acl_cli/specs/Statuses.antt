@@ -9,17 +9,23 @@ abbrev pub outcome_status : Outcome → ℕ
 outcome_status Clear = 0
 outcome_status Remark = 1
 
+-- what both come to
+abbrev pub worse : Outcome → Outcome → Outcome
+worse Clear other = other
+worse Remark other = Remark
+
 abbrev pub failure_status : Failure → ℕ
 failure_status failure.Write = 3
 failure_status failure.Memory = 3
-failure_status (failure.Read file) = 2
+failure_status (failure.Read file error) = 2
 failure_status (failure.TooLong file) = 2
-failure_status (failure.Utf8 file) = 2
+failure_status (failure.Utf8 file line) = 2
 failure_status (failure.Line file line words) = 2
 failure_status (failure.Long file line) = 2
 failure_status failure.LongWord = 2
 failure_status (failure.Topic text) = 2
 failure_status (failure.Filter text) = 2
-failure_status (failure.Script file) = 2
 failure_status (failure.LongScript file) = 2
 failure_status (failure.LongSubscription file line) = 2
+failure_status (failure.NoCommand file lines) = 2
+failure_status (failure.Log file lines) = 2

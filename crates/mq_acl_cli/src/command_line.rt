@@ -6,23 +6,32 @@ ghost use Rattle.clap.specs.Words.{subcommand_rows_of, new_app, FailsBy, HasKind
 ghost use Rattle.clap.specs.declared.builder.command.Command.TheViews.{out-Command as fields_of};
 ghost use Rattle.mq_acl_cli.specs.CommandLine.{mqroute_acl, app_for, rule_for};
 ghost use Rattle.mq_acl_cli.specs.CommandLine.{wanting, with_apps};
-ghost use Rattle.mq_acl_cli.specs.CommandLine.{AreGiven, IsAskedBy, IsFaultOf};
+ghost use Rattle.mq_acl_cli.specs.CommandLine.{asked_by, AreGiven, CanNotBeAsked, IsGivenBy};
+ghost use Rattle.mq_acl_cli.specs.CommandLine.{IsFaultOf};
 
 use crate::help::{
-    ABOUT, AFTER_HELP, CLIENT_HELP, COMPARE_ABOUT, COMPARE_AFTER_HELP, FILE_HELP, FILTER_HELP,
-    JSON_HELP, LINT_ABOUT, LINT_AFTER_HELP, NEW_HELP, OLD_HELP, REACH_ABOUT, REACH_AFTER_HELP,
-    SCRIPT_HELP, SUBSCRIBER_HELP, TOPIC_HELP, USER_HELP, WHY_ABOUT, WHY_AFTER_HELP,
+    ABOUT, AFTER_HELP, CLIENT_HELP, COMPARE_ABOUT, COMPARE_AFTER_HELP, FILE_HELP, FILES_HELP,
+    FILTER_HELP, JSON_HELP, LINT_ABOUT, LINT_AFTER_HELP, NEW_HELP, OLD_HELP, REACH_ABOUT,
+    REACH_AFTER_HELP, SCRIPT_HELP, SUBSCRIBER_HELP, TOPIC_HELP, USER_HELP, WHY_ABOUT,
+    WHY_AFTER_HELP,
 };
 use crate::request::{Request, request_in};
 use clap::error::ErrorKind;
 use clap::{Arg, ArgAction, ArgMatches, Command, Error};
 use std::alloc::{AllocError, Global};
 
-// Said of words that ask nothing and that `clap` takes all the same: of `reach` alone are there such.
+// Said of words that ask nothing and that `clap` takes all the same, which `reach` alone has.
 const NO_QUESTION: &str = "\
 error: reach takes either CLIENT and FILTER, or --script SCRIPT without --user
 
 For more information, try 'mqroute-acl reach --help'.
+";
+
+// Said of words that name standard input more than once.
+const INPUT_TWICE: &str = "\
+error: standard input can be only one of the files: - stands more than once
+
+For more information, try 'mqroute-acl --help'.
 ";
 
 /// Why the command line asks for nothing.
@@ -55,6 +64,8 @@ struct Argument<'a>(&'a str, ArgumentKind<'a>, &'a str);
 enum ArgumentKind<'a> {
     // One that has to be there.
     Required,
+    // One that has to be there, and may be there several times.
+    Several,
     // One that may be left out.
     Optional,
     // `--NAME VALUE`
@@ -72,6 +83,10 @@ impl<'a> Argument<'a> {
         let arg = Arg::new(alloc, name).help(help);
         match kind {
             ArgumentKind::Required => arg.value_name(name).required(true),
+            ArgumentKind::Several => arg
+                .value_name(name)
+                .required(true)
+                .action(ArgAction::Append),
             ArgumentKind::Optional => arg.value_name(name),
             ArgumentKind::Option(value) => arg.long(name).value_name(value),
             ArgumentKind::Flag => arg.long(name).action(ArgAction::SetTrue),
@@ -136,13 +151,13 @@ const WHY: Subcommand<'static> = Subcommand {
     ],
 };
 
-// `lint FILE [--json]`
+// `lint FILE.. [--json]`
 const LINT: Subcommand<'static> = Subcommand {
     name: "lint",
     about: LINT_ABOUT,
     after_help: LINT_AFTER_HELP,
     arguments: &[
-        Argument("FILE", ArgumentKind::Required, FILE_HELP),
+        Argument("FILE", ArgumentKind::Several, FILES_HELP),
         Argument("json", ArgumentKind::Flag, JSON_HELP),
     ],
 };
@@ -194,18 +209,32 @@ fn matches_in<'a>(alloc: Global, words: &'a [String]) -> Result<ArgMatches<'a>, 
     command.try_get_matches_from(words)
 }
 
+// Tells why what is asked can't be asked.
+fn usage_of(alloc: Global, text: &str) -> UsageFault
+    ensures { (words : List Text) → (kinds : Kinds)
+        → CanNotBeAsked (asked_by (subcommand_of mqroute_acl words))
+        → IsFaultOf words kinds result }
+{
+    match String::from_str(alloc, text) {
+        Ok(text) => UsageFault::Usage(text),
+        Err(_) => UsageFault::Memory,
+    }
+}
+
 // What the values that `clap` took ask.
 fn asked<'a>(alloc: Global, matches: &ArgMatches<'a>) -> Result<Request<'a>, UsageFault>
-    ensures ok { IfOk result (IsAskedBy (subcommand_rows_of matches.now)) }
+    ensures ok { IfOk result (IsGivenBy (subcommand_rows_of matches.now)) }
     ensures err { IfErr result (λ fault. (words : List Text) → (kinds : Kinds)
         → subcommand_rows_of matches.now ≡ subcommand_of mqroute_acl words
         → IsFaultOf words kinds fault) }
 {
-    if let Some(request) = request_in(matches) {
-        return Ok(request);
+    let Some(request) = request_in(alloc, matches)? else {
+        return Err(usage_of(alloc, NO_QUESTION));
+    };
+    if request.question.input_count() > 1 {
+        return Err(usage_of(alloc, INPUT_TWICE));
     }
-    let text = String::from_str(alloc, NO_QUESTION)?;
-    Err(UsageFault::Usage(text))
+    Ok(request)
 }
 
 // Why `clap` refused the words.

@@ -1,4 +1,4 @@
-ghost use Rattle.std.specs.Prelude.{◌≡◌};
+ghost use Rattle.std.specs.Prelude.{◌≡◌, ◌⊎◌};
 ghost use Rattle.mq_acl_cli.specs.Statuses.{failure_status};
 
 use crate::list_file::FileFault;
@@ -12,57 +12,69 @@ pub const UNREADABLE: u8 = 2;
 /// The exit status where a write failed or memory ran out.
 pub const FAILED: u8 = 3;
 
-/// Why the program answers nothing.
+/// Why the program answers nothing, as it is told: behind the line that has the fault, or behind the program's name.
 #[derive(Debug, Drop, Error)]
 pub enum Failure<'a> {
-    /// The file can't be opened or read.
-    #[error("cannot read access list {0}")]
-    Read(&'a str),
-    /// The file has more than 16,777,216 bytes.
-    #[error("access list {0} is too long")]
+    /// The file of a list or of a script can't be opened or read.
+    #[error("mqroute-acl: {0}: {1}")]
+    Read(&'a str, io::Error),
+    /// The file of a list has more than 16,777,216 bytes.
+    #[error("mqroute-acl: {0}: more than 16,777,216 bytes")]
     TooLong(&'a str),
-    /// The file is no text.
-    #[error("access list {0} is not UTF-8")]
-    Utf8(&'a str),
-    /// A line of the file has a fault.
-    #[error("access list {file} line {line}: {words}")]
+    /// A line of a list has a byte that makes it no text.
+    #[error("{file}:{line}: not UTF-8")]
+    Utf8 {
+        file: &'a str,
+        line: u64,
+    },
+    /// A line of a list has a fault.
+    #[error("{file}:{line}: {words}")]
     Line {
         file: &'a str,
         line: u64,
         words: String,
     },
     /// A level or the user name of a line has over 300 bytes.
-    #[error("access list {file} line {line}: a level or a user name of more than 300 bytes")]
+    #[error("{file}:{line}: a level or a user name of more than 300 bytes")]
     Long {
         file: &'a str,
         line: u64,
     },
     /// The client id, the user name or a level of the filter has over 300 bytes.
-    #[error("a client id, a user name or a level of more than 300 bytes")]
+    #[error("mqroute-acl: a client id, a user name or a level of more than 300 bytes")]
     LongWord,
     /// What is to be a topic is no topic name.
-    #[error("{0:?} is no topic name")]
+    #[error("mqroute-acl: {0:?} is no topic name")]
     Topic(&'a str),
     /// What is to be a filter is no topic filter.
-    #[error("{0:?} is no topic filter")]
+    #[error("mqroute-acl: {0:?} is no topic filter")]
     Filter(&'a str),
-    /// The script can't be opened or read.
-    #[error("cannot read script {0}")]
-    Script(&'a str),
     /// The script has more than 4,294,967,296 bytes.
-    #[error("script {0} is too long")]
+    #[error("mqroute-acl: {0}: more than 4,294,967,296 bytes")]
     LongScript(&'a str),
     /// The client id, the user name or a level of the filter of a subscription of the script has over 300 bytes.
-    #[error("script {file} line {line}: a client id, a user name or a level of more than 300 bytes")]
+    #[error("{file}:{line}: a client id, a user name or a level of more than 300 bytes")]
     LongSubscription {
         file: &'a str,
         line: u64,
     },
+    /// No line of a script is a command.
+    #[error("mqroute-acl: {file}: no line of {lines} is a command")]
+    NoCommand {
+        file: &'a str,
+        lines: u64,
+    },
+    /// No line of a script is a command, and it begins as a log does.
+    #[error("mqroute-acl: {file}: no line of {lines} is a command; it looks like a log: see mqroute-log-to-script(1)")]
+    Log {
+        file: &'a str,
+        lines: u64,
+    },
     /// A write failed.
-    #[error("write fault")]
+    #[error("mqroute-acl: write fault")]
     Write,
     /// There was no memory.
-    #[error("out of memory")]
+    #[error("mqroute-acl: out of memory")]
     Memory,
 }
 
@@ -88,29 +100,23 @@ impl<'a> Failure<'a> {
         }
     }
 
-    /// Why a file gives no text.
+    /// Why the file of a list gives no text.
     pub(crate) fn of_file(file: &'a str, fault: FileFault) -> Failure<'a> {
         match fault {
-            FileFault::Read => Failure::Read(file),
+            FileFault::Read(error) => Failure::Read(file, error),
             FileFault::TooLong => Failure::TooLong(file),
-            FileFault::Utf8 => Failure::Utf8(file),
+            FileFault::Utf8(line) => Failure::Utf8 { file, line },
             FileFault::Memory => Failure::Memory,
         }
     }
 
-    /// Why a file can't be opened.
-    pub(crate) fn of_open(file: &'a str, error: io::Error) -> Failure<'a> {
+    /// Why a file can't be opened or read.
+    pub(crate) fn of_io(file: &'a str, error: io::Error) -> Failure<'a>
+        ensures { (result ≡ Failure.Memory) ⊎ (result ≡ Failure.Read file.entry error) }
+    {
         match error.kind() {
             ErrorKind::OutOfMemory => Failure::Memory,
-            _ => Failure::Read(file),
-        }
-    }
-
-    /// Why a script can't be opened.
-    pub(crate) fn of_script(script: &'a str, error: io::Error) -> Failure<'a> {
-        match error.kind() {
-            ErrorKind::OutOfMemory => Failure::Memory,
-            _ => Failure::Script(script),
+            _ => Failure::Read(file, error),
         }
     }
 }

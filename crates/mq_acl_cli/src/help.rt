@@ -6,23 +6,26 @@ pub(crate) const ABOUT: &str =
 pub(crate) const AFTER_HELP: &str = "\
 An access list is a file in the form of mosquitto.conf(5)'s acl_file. What is
 answered holds for every client id, every user name or none, and every topic.
+A file - is standard input.
 
 Exit status:
   0  both lists allow the same, no line is remarked on, each subscription can
      be sent a topic, or why was answered
   1  the lists differ, a line is remarked on, or a subscription is in vain
   2  the arguments aren't understood, an access list can't be opened, read or
-     understood, or a script can't be opened or read
+     understood, or a script can't be opened or read or has no command
   3  a write failed, or memory ran out
 
 Example:
   mqroute-acl compare current.acl proposed.acl";
 
-pub(crate) const OLD_HELP: &str = "The access list that is in force";
+pub(crate) const OLD_HELP: &str = "The access list that is in force, or - for standard input";
 
-pub(crate) const NEW_HELP: &str = "The access list to compare with it";
+pub(crate) const NEW_HELP: &str = "The access list to compare with it, or -";
 
-pub(crate) const FILE_HELP: &str = "The access list";
+pub(crate) const FILE_HELP: &str = "The access list, or - for standard input";
+
+pub(crate) const FILES_HELP: &str = "The access lists; one of them may be - for standard input";
 
 pub(crate) const CLIENT_HELP: &str = "The client id";
 
@@ -64,6 +67,9 @@ With --json one object tells of reading and one of writing, each with
 pub(crate) const LINT_ABOUT: &str = "Tells lines that have a fault, are odd or are needless";
 
 pub(crate) const LINT_AFTER_HELP: &str = "\
+The remarks on each file stand in the order of the files. Where one of them
+can't be read, nothing is written.
+
 With --json each remark is an object with
   file, line, text  the line
   kind              fault, no mark, indented comment, tab or needless
@@ -71,7 +77,8 @@ With --json each remark is an object with
 
 pub(crate) const SUBSCRIBER_HELP: &str = "The client id of the subscriber";
 
-pub(crate) const SCRIPT_HELP: &str = "Ask about all subscriptions of this script";
+pub(crate) const SCRIPT_HELP: &str =
+    "Ask about all subscriptions of this script, or of standard input (-)";
 
 pub(crate) const REACH_ABOUT: &str =
     "Tells whether a subscription, or each of a script, is in vain";
@@ -84,7 +91,8 @@ With --script SCRIPT, in place of CLIENT and FILTER, those subscriptions of the
 script are told that can be sent nothing: line, client, user name and filter. A
 client's user name is that of its last connect; a subscribe of a client that
 isn't connected is none. Lines acl of the script say nothing here. Lines that
-are no commands are passed over, and told.
+are no commands are passed over, and told; a script without a command is
+refused.
 
 With --json the answer is an object with
   filter  the subscription

@@ -1,5 +1,5 @@
 ghost use Rattle.std.specs.Prelude.{◌≡◌};
-ghost use Rattle.mq_acl_cli.specs.Statuses.{outcome_status};
+ghost use Rattle.mq_acl_cli.specs.Statuses.{outcome_status, worse};
 
 /// What a question that was answered comes to.
 #[derive(Clone, Copy, Drop, PartialEq, Eq)]
@@ -18,6 +18,16 @@ impl Outcome {
         match self {
             Outcome::Clear => 0,
             Outcome::Remark => 1,
+        }
+    }
+
+    /// What both of two answers come to: nothing is to be remarked only where nothing is in either.
+    pub(crate) fn and(self, other: Outcome) -> Outcome
+        ensures { result ≡ worse self other }
+    {
+        match self {
+            Outcome::Clear => other,
+            Outcome::Remark => Outcome::Remark,
         }
     }
 }

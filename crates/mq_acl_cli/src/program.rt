@@ -1,20 +1,21 @@
 //! All of the program but its `main`.
-ghost use Rattle.std.specs.Prelude.{◌≡◌, ◌≢◌, ◌≤◌, ◌⊎◌, ℕ, List, [], IfOk, IfErr, OnOk, map};
+ghost use Rattle.std.specs.Prelude.{◌≡◌, ◌≢◌, ◌≤◌, ◌⊎◌, ◌∷◌, ℕ, List, [], IfOk, IfErr, map};
 ghost use Rattle.std.specs.Prelude.{string_bytes, if◌then◌else◌, is_ok};
 ghost use Rattle.std.specs.Option.{option_copied};
 ghost use Rattle.clap.specs.Words.{fault_of, subcommand_of};
 ghost use Rattle.mq_acl_cli.specs.Answers.{IsCompared, IsReached};
-ghost use Rattle.mq_acl_cli.specs.Lint.{IsLinted};
+ghost use Rattle.mq_acl_cli.specs.Files.{IsTextOf, input_count};
 ghost use Rattle.mq_acl_cli.specs.Script.{AreTold};
 ghost use Rattle.mq_acl_cli.specs.CommandLine.{mqroute_acl, asked_by, question_view, IsFaultOf};
+ghost use Rattle.mq_acl_cli.specs.CommandLine.{ReadsInputOnce};
 ghost use Rattle.mq_acl_cli.specs.Program.{IsAnswer, IsAnswered, TellsUsage};
 ghost use Rattle.mq_acl_cli.specs.Statuses.{failure_status, outcome_status};
 
 use crate::command_line::{UsageFault, arguments};
 use crate::compare::tell_changes;
 use crate::failure::{FAILED, Failure, UNREADABLE};
-use crate::lint::tell_remarks;
-use crate::list_file::read_text;
+use crate::files::{is_input, text_of};
+use crate::lint::answer_lint;
 use crate::outcome::Outcome;
 use crate::print::print;
 use crate::reach::tell_reach;
@@ -24,33 +25,25 @@ use crate::why::tell_why;
 use mq_acl_words::ListText;
 use std::alloc::{AllocError, Global};
 use std::fs;
-use std::io::Write;
+use std::io::{Read, Write};
 use std::rt::Files;
 
-/// The text of the file of an access list.
-fn text_of<'a, R: Files>(rt: &R, alloc: Global, file: &'a str) -> Result<String, Failure<'a>> {
-    let opened = match fs::open(rt, file) {
-        Ok(opened) => opened,
-        Err(error) => return Err(Failure::of_open(file, error)),
-    };
-    match read_text(alloc, opened) {
-        Ok(text) => Ok(text),
-        Err(fault) => Err(Failure::of_file(file, fault)),
-    }
-}
-
-fn answer_compare<'a, R: Files, W: Write>(
+fn answer_compare<'a, R: Files, I: Read, W: Write>(
     rt: &R,
     alloc: Global,
     files: (&'a str, &'a str),
     json: bool,
+    input: &mut I,
     out: &mut W,
 ) -> Result<Outcome, Failure<'a>>
-    ensures ok { IfOk result (λ outcome. (old new : List ℕ) × IsCompared old new outcome) }
+    requires { input_count (files.0.now ∷ files.1.now ∷ []) ≤ 1 }
+    ensures ok { IfOk result (λ outcome. (old new : List ℕ)
+        × IsTextOf (I.remaining input.old) files.entry.0.now old
+        × IsTextOf (I.remaining input.old) files.entry.1.now new × IsCompared old new outcome) }
     ensures unread { IfErr result (λ failure. failure_status failure ≡ 2 → out.new ≡ out.old) }
 {
-    let old_text = text_of(rt, alloc, files.0)?;
-    let new_text = text_of(rt, alloc, files.1)?;
+    let old_text = text_of(rt, alloc, files.0, input)?;
+    let new_text = text_of(rt, alloc, files.1, input)?;
     let old = ListText {
         file: files.0,
         text: old_text.as_str(),
@@ -62,115 +55,129 @@ fn answer_compare<'a, R: Files, W: Write>(
     tell_changes(alloc, old, new, json, out)
 }
 
-fn answer_why<'a, R: Files, W: Write>(
+/// Of a client and a topic.
+fn answer_why<'a, R: Files, I: Read, W: Write>(
     rt: &R,
     alloc: Global,
     file: &'a str,
-    client: Client<'a>,
-    topic: &'a str,
+    about: (Client<'a>, &'a str),
     json: bool,
+    input: &mut I,
     out: &mut W,
 ) -> Result<Outcome, Failure<'a>>
     ensures ok { IfOk result (λ outcome. outcome ≡ Outcome.Clear) }
     ensures unread { IfErr result (λ failure. failure_status failure ≡ 2 → out.new ≡ out.old) }
 {
-    let text = text_of(rt, alloc, file)?;
+    let text = text_of(rt, alloc, file, input)?;
     let list = ListText {
         file,
         text: text.as_str(),
     };
-    tell_why(alloc, list, client, topic, json, out)?;
+    tell_why(alloc, list, about.0, about.1, json, out)?;
     Ok(Outcome::Clear)
 }
 
-fn answer_lint<'a, R: Files, W: Write>(
+/// Of a client and its subscription.
+fn answer_reach<'a, R: Files, I: Read, W: Write>(
     rt: &R,
     alloc: Global,
     file: &'a str,
+    about: (Client<'a>, &'a str),
     json: bool,
+    input: &mut I,
     out: &mut W,
 ) -> Result<Outcome, Failure<'a>>
-    ensures ok { IfOk result (λ outcome. (text : List ℕ) × IsLinted text outcome) }
+    ensures ok { IfOk result (λ outcome. (text : List ℕ)
+        × IsTextOf (I.remaining input.old) file.entry.now text
+        × IsReached text about.entry.0.id.now (option_copied about.entry.0.user)
+        about.entry.1.now outcome) }
     ensures unread { IfErr result (λ failure. failure_status failure ≡ 2 → out.new ≡ out.old) }
 {
-    let text = text_of(rt, alloc, file)?;
+    let text = text_of(rt, alloc, file, input)?;
     let list = ListText {
         file,
         text: text.as_str(),
     };
-    tell_remarks(alloc, list, json, out)
+    tell_reach(alloc, list, about.0, about.1, json, out)
 }
 
-fn answer_reach<'a, R: Files, W: Write>(
+/// Of the script in a file.
+fn answer_script<'a, R: Files, I: Read, W: Write>(
     rt: &R,
     alloc: Global,
-    file: &'a str,
-    client: Client<'a>,
-    filter: &'a str,
+    list: ListText<'a, '_>,
+    script: &'a str,
     json: bool,
+    input: &mut I,
     out: &mut W,
 ) -> Result<Outcome, Failure<'a>>
-    ensures ok { IfOk result (λ outcome. (text : List ℕ) × IsReached text client.entry.id.now
-        (option_copied client.entry.user) filter.entry.now outcome) }
+    ensures ok { IfOk result (λ outcome. (lines : List ℕ)
+        × IsTextOf (I.remaining input.old) script.entry.now lines
+        × AreTold list.entry.text.now lines outcome) }
     ensures unread { IfErr result (λ failure. failure_status failure ≡ 2 → out.new ≡ out.old) }
 {
-    let text = text_of(rt, alloc, file)?;
-    let list = ListText {
-        file,
-        text: text.as_str(),
-    };
-    tell_reach(alloc, list, client, filter, json, out)
+    if is_input(script) {
+        return tell_subscriptions(alloc, list, script, &mut *input, json, out);
+    }
+    match fs::open(rt, script) {
+        Ok(opened) => tell_subscriptions(alloc, list, script, opened, json, out),
+        Err(error) => Err(Failure::of_io(script, error)),
+    }
 }
 
-fn answer_reach_all<'a, R: Files, W: Write>(
+/// Of all subscriptions of a script.
+fn answer_reach_all<'a, R: Files, I: Read, W: Write>(
     rt: &R,
     alloc: Global,
     file: &'a str,
     script: &'a str,
     json: bool,
+    input: &mut I,
     out: &mut W,
 ) -> Result<Outcome, Failure<'a>>
-    ensures ok { IfOk result (λ outcome. (text lines : List ℕ) × AreTold text lines outcome) }
+    requires { input_count (file.now ∷ script.now ∷ []) ≤ 1 }
+    ensures ok { IfOk result (λ outcome. (text lines : List ℕ)
+        × IsTextOf (I.remaining input.old) file.entry.now text
+        × IsTextOf (I.remaining input.old) script.entry.now lines × AreTold text lines outcome) }
     ensures unread { IfErr result (λ failure. failure_status failure ≡ 2 → out.new ≡ out.old) }
 {
-    let text = text_of(rt, alloc, file)?;
+    let text = text_of(rt, alloc, file, input)?;
     let list = ListText {
         file,
         text: text.as_str(),
     };
-    let mut opened = match fs::open(rt, script) {
-        Ok(opened) => opened,
-        Err(error) => return Err(Failure::of_script(script, error)),
-    };
-    tell_subscriptions(alloc, list, script, &mut opened, json, out)
+    answer_script(rt, alloc, list, script, json, input, out)
 }
 
 /// Answers what is asked for.
-fn answer<'a, R: Files, W: Write>(
+fn answer<'a, R: Files, I: Read, W: Write>(
     rt: &R,
     alloc: Global,
     request: Request<'a>,
+    input: &mut I,
     out: &mut W,
 ) -> Result<Outcome, Failure<'a>>
-    ensures ok { IfOk result (IsAnswer (question_view request.entry.question)) }
+    requires { ReadsInputOnce (question_view request.question) }
+    ensures ok { IfOk result (IsAnswer (I.remaining input.old)
+        (question_view request.entry.question)) }
     ensures unread { IfErr result (λ failure. failure_status failure ≡ 2 → out.new ≡ out.old) }
 {
     let json = request.json;
     match request.question {
-        Question::Compare { old, new } => answer_compare(rt, alloc, (old, new), json, out),
+        Question::Compare { old, new } => answer_compare(rt, alloc, (old, new), json, input, out),
         Question::Why {
             file,
             client,
             topic,
-        } => answer_why(rt, alloc, file, client, topic, json, out),
-        Question::Lint { file } => answer_lint(rt, alloc, file, json, out),
+        } => answer_why(rt, alloc, file, (client, topic), json, input, out),
+        Question::Lint { files } => answer_lint(rt, alloc, files.as_slice(), json, input, out),
         Question::Reach {
             file,
             client,
             filter,
-        } => answer_reach(rt, alloc, file, client, filter, json, out),
+        } => answer_reach(rt, alloc, file, (client, filter), json, input, out),
         Question::ReachAll { file, script } => {
-            answer_reach_all(rt, alloc, file, script, json, out)
+            answer_reach_all(rt, alloc, file, script, json, input, out)
         }
     }
 }
@@ -192,7 +199,7 @@ fn tell<E: Write>(text: Result<String, AllocError>, status: u8, err: &mut E) -> 
 fn report<E: Write>(alloc: Global, failure: Failure<'_>, err: &mut E) -> u8
     ensures { (result ≡ failure_status failure.entry) ⊎ (result ≡ 3) }
 {
-    let text = format!(in alloc; "mqroute-acl: {failure}\n");
+    let text = format!(in alloc; "{failure}\n");
     tell(text, failure.status(), err)
 }
 
@@ -217,22 +224,25 @@ fn report_usage<W: Write, E: Write>(
     }
 }
 
-/// Runs the program: `words` are its name and its arguments, answers go to `out`, and a line on `err` says what failed.
-/// Answers the exit status: 0 where nothing is to be remarked or help was asked for, 1 where something is, 2 where the
-/// words are not understood, or a file can't be opened, read or understood, and 3 where a write failed or memory ran out,
-/// even if only for the line on `err`.
-pub fn start<R: Files, W: Write, E: Write>(
+/// Runs the program: `words` are its name and its arguments, `input` is read for the file `-`, answers go to `out`, and a
+/// line on `err` says what failed. Answers the exit status: 0 where nothing is to be remarked or help was asked for, 1
+/// where something is, 2 where the words are not understood, or a file can't be opened, read or understood, and 3 where a
+/// write failed or memory ran out, even if only for the line on `err`.
+pub fn start<R: Files, I: Read, W: Write, E: Write>(
     rt: &R,
     alloc: Global,
     words: &[String],
+    input: &mut I,
     out: &mut W,
     err: &mut E,
 ) -> u8
     ensures bound { result ≤ 3 }
 
-    // Of words that are understood, a status of 0 or 1 says what is true of some texts, which are those of the files.
+    // Of words that are understood, a status of 0 or 1 says what is true of texts that the files may have: of standard
+    // input, where it tells its bytes, that is what it holds. They name it once at most.
     ensures answered { let given = map string_bytes words.now in fault_of mqroute_acl given ≡ []
-        → result ≢ 2 → result ≢ 3 → IsAnswered (asked_by (subcommand_of mqroute_acl given)) result }
+        → result ≢ 2 → result ≢ 3 → IsAnswered (I.remaining input.old)
+        (asked_by (subcommand_of mqroute_acl given)) result }
 
     // Of words that are not understood a fault that they have is told, or that memory ran out.
     ensures usage { let given = map string_bytes words.now in fault_of mqroute_acl given ≢ []
@@ -247,7 +257,7 @@ pub fn start<R: Files, W: Write, E: Write>(
         Ok(request) => request,
         Err(fault) => return report_usage(alloc, fault, out, err),
     };
-    match answer(rt, alloc, request, out) {
+    match answer(rt, alloc, request, input, out) {
         Ok(outcome) => outcome.status(),
         Err(failure) => report(alloc, failure, err),
     }

@@ -1,12 +1,15 @@
 //! What the command line asks for.
-ghost use Rattle.std.specs.Prelude.{◌≡◌, Some, None, IfSome, IfNone, codes, option_map};
+ghost use Rattle.std.specs.Prelude.{◌≡◌, Some, IfOk, codes, option_map};
 ghost use Rattle.std.specs.Option.{option_copied};
-ghost use Rattle.clap.specs.Words.{first_of, rows_of, found_of, subcommand_rows_of};
-ghost use Rattle.mq_acl_cli.specs.CommandLine.{question_view, asked, asked_by, IsAskedBy};
+ghost use Rattle.clap.specs.Words.{all_of, first_of, rows_of, found_of, subcommand_rows_of};
+ghost use Rattle.mq_acl_cli.specs.CommandLine.{question_view, asked, files_of, GivesAsked};
 ghost use Rattle.mq_acl_cli.specs.CommandLine.{all_asked, compare_asked, lint_asked, one_asked};
 ghost use Rattle.mq_acl_cli.specs.CommandLine.{reach_asked_by, why_asked_by};
+ghost use Rattle.mq_acl_cli.specs.Files.{input_count};
 
+use crate::files::inputs_among;
 use clap::ArgMatches;
+use std::alloc::{AllocError, Global};
 
 /// A client.
 #[derive(Clone, Copy, Drop)]
@@ -18,7 +21,7 @@ pub struct Client<'a> {
 }
 
 /// A question to access lists, each in a file.
-#[derive(Clone, Copy, Drop)]
+#[derive(Drop)]
 pub enum Question<'a> {
     /// What one list allows and the other doesn't.
     Compare {
@@ -33,7 +36,7 @@ pub enum Question<'a> {
     },
     /// Which lines have a fault or change nothing.
     Lint {
-        file: &'a str,
+        files: Vec<&'a str>,
     },
     /// Whether a subscription of a client can be sent anything.
     Reach {
@@ -53,8 +56,23 @@ pub enum Question<'a> {
     },
 }
 
+impl Question<'_> {
+    /// How many of its files are standard input.
+    pub(crate) fn input_count(&self) -> usize
+        ensures { result ≡ input_count (files_of (question_view self.now)) }
+    {
+        match self {
+            Question::Compare { old, new } => inputs_among(&[*old, *new]),
+            Question::Why { file, .. } => inputs_among(&[*file]),
+            Question::Lint { files } => inputs_among(files.as_slice()),
+            Question::Reach { file, .. } => inputs_among(&[*file]),
+            Question::ReachAll { file, script } => inputs_among(&[*file, *script]),
+        }
+    }
+}
+
 /// What the command line asks for.
-#[derive(Clone, Copy, Drop)]
+#[derive(Drop)]
 pub struct Request<'a> {
     /// The question.
     pub question: Question<'a>,
@@ -98,13 +116,16 @@ fn why_in<'a>(matches: &ArgMatches<'a>) -> Option<Question<'a>>
     }
 }
 
-fn lint_in<'a>(matches: &ArgMatches<'a>) -> Option<Question<'a>>
-    ensures { option_map question_view result
-        ≡ lint_asked (first_of (codes "FILE") (rows_of (found_of matches.now))) }
+fn lint_in<'a>(alloc: Global, matches: &ArgMatches<'a>) -> Result<Option<Question<'a>>, AllocError>
+    ensures { IfOk result (λ question. option_map question_view question
+        ≡ lint_asked (all_of (codes "FILE") (rows_of (found_of matches.now)))) }
 {
-    match value(matches, "FILE") {
-        Some(file) => Some(Question::Lint { file }),
-        None => None,
+    match matches.get_strs("FILE") {
+        Some(files) => {
+            let files = Vec::from_slice(alloc, files)?;
+            Ok(Some(Question::Lint { files }))
+        }
+        None => Ok(None),
     }
 }
 
@@ -159,37 +180,47 @@ fn reach_in<'a>(matches: &ArgMatches<'a>) -> Option<Question<'a>>
     }
 }
 
-fn question_in<'a>(name: &str, matches: &ArgMatches<'a>) -> Option<Question<'a>>
-    ensures { option_map question_view result ≡ asked name.now (rows_of (found_of matches.now)) }
+fn question_in<'a>(
+    alloc: Global,
+    name: &str,
+    matches: &ArgMatches<'a>,
+) -> Result<Option<Question<'a>>, AllocError>
+    ensures { IfOk result (λ question. option_map question_view question
+        ≡ asked name.now (rows_of (found_of matches.now))) }
 {
     match name {
-        "compare" => compare_in(matches),
-        "why" => why_in(matches),
-        "lint" => lint_in(matches),
-        "reach" => reach_in(matches),
-        _ => None,
+        "compare" => Ok(compare_in(matches)),
+        "why" => Ok(why_in(matches)),
+        "lint" => lint_in(alloc, matches),
+        "reach" => Ok(reach_in(matches)),
+        _ => Ok(None),
     }
 }
 
 // The same, with whether JSON is asked for.
-fn request_of<'a>(name: &str, matches: &ArgMatches<'a>) -> Option<Request<'a>>
-    ensures some { IfSome result (IsAskedBy (Some (name.now, rows_of (found_of matches.now)))) }
-    ensures none { IfNone result (asked name.now (rows_of (found_of matches.now)) ≡ None) }
+fn request_of<'a>(
+    alloc: Global,
+    name: &str,
+    matches: &ArgMatches<'a>,
+) -> Result<Option<Request<'a>>, AllocError>
+    ensures { IfOk result (GivesAsked (Some (name.now, rows_of (found_of matches.now)))) }
 {
     let json = matches.get_flag("json");
-    match question_in(name, matches) {
-        Some(question) => Some(Request { question, json }),
-        None => None,
+    match question_in(alloc, name, matches)? {
+        Some(question) => Ok(Some(Request { question, json })),
+        None => Ok(None),
     }
 }
 
 /// What is asked for by the values of a command line, if anything is.
-pub(crate) fn request_in<'a>(matches: &ArgMatches<'a>) -> Option<Request<'a>>
-    ensures some { IfSome result (IsAskedBy (subcommand_rows_of matches.now)) }
-    ensures none { IfNone result (asked_by (subcommand_rows_of matches.now) ≡ None) }
+pub(crate) fn request_in<'a>(
+    alloc: Global,
+    matches: &ArgMatches<'a>,
+) -> Result<Option<Request<'a>>, AllocError>
+    ensures { IfOk result (GivesAsked (subcommand_rows_of matches.now)) }
 {
     match matches.subcommand() {
-        Some((name, values)) => request_of(name, values),
-        None => None,
+        Some((name, values)) => request_of(alloc, name, values),
+        None => Ok(None),
     }
 }

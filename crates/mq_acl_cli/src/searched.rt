@@ -1,6 +1,5 @@
 //! The subscriptions of a script that are in vain.
-ghost use Rattle.std.specs.Prelude.{◌≡◌, ◌≢◌, ◌⊎◌, [], ℕ, List, Option, IfOk, IfErr};
-ghost use Rattle.std.specs.Io.KnownBytes.{Consumes, IsAtEnd};
+ghost use Rattle.std.specs.Prelude.{◌≡◌, ◌≢◌, ◌⊎◌, ◌<◌, [], ℕ, List, Option, IfOk, IfErr, IfSome};
 ghost use Rattle.mq_reach.specs.Faults.{IsScriptFault};
 ghost use Rattle.mq_acl_cli.specs.Answers.{AreRows};
 ghost use Rattle.mq_acl_cli.specs.Failures.{IsListFailure, IsScriptFailure};
@@ -9,25 +8,27 @@ ghost use Rattle.mq_acl_cli.specs.Script.{FindsVain};
 use crate::failure::Failure;
 use crate::list::rows_in;
 use crate::outcome::Outcome;
+use crate::watched::Watched;
 use mq_acl::Row;
 use mq_acl_words::ListText;
 use mq_reach::{Findings, ScriptFault, SearchFault, find_vain};
 use std::alloc::Global;
-use std::io::Read;
+use std::io::{self, Read};
 
 fn script_failure<'a>(
     list: ListText<'a, '_>,
     rows: &[Row],
     script: &'a str,
     fault: ScriptFault,
+    error: io::Error,
 ) -> Failure<'a>
     requires { AreRows list.text.now rows.now }
-    ensures { (before after : Option (List ℕ)) → IsScriptFault rows.now before after fault
+    ensures { (known after : Option (List ℕ)) → IsScriptFault rows.now known after fault
         → IsListFailure list.entry result
-        ⊎ IsScriptFailure script.entry.now before after result }
+        ⊎ IsScriptFailure script.entry.now known result }
 {
     match fault {
-        ScriptFault::Read => Failure::Script(script),
+        ScriptFault::Read => Failure::of_io(script, error),
         ScriptFault::TooLong => Failure::LongScript(script),
         ScriptFault::Search(SearchFault::Memory) => Failure::Memory,
         ScriptFault::Search(SearchFault::Row(line)) => Failure::Long {
@@ -40,24 +41,52 @@ fn script_failure<'a>(
     }
 }
 
-/// The subscriptions of the script that this reader gives, with this name, that are in vain under the list.
-pub fn find_subscriptions<'a, R: Read>(
+// The findings, unless no line of the script is a command.
+fn unless_no_command<'a>(
+    findings: Findings,
+    script: &'a str,
+    is_log: bool,
+) -> Result<Findings, Failure<'a>>
+    ensures ok { IfOk result (λ kept. (kept ≡ findings) × (0 < findings.counts.commands)) }
+    ensures err { IfErr result (λ failure. (findings.counts.commands ≡ 0)
+        × ((failure ≡ Failure.NoCommand script.entry findings.counts.lines)
+        ⊎ (failure ≡ Failure.Log script.entry findings.counts.lines))) }
+{
+    if findings.counts.commands > 0 {
+        return Ok(findings);
+    }
+    let lines = findings.counts.lines;
+    if is_log {
+        return Err(Failure::Log {
+            file: script,
+            lines,
+        });
+    }
+    Err(Failure::NoCommand {
+        file: script,
+        lines,
+    })
+}
+
+/// The subscriptions of the script that this reader gives, with this name, that are in vain under the list. A script of
+/// which no line is a command is a failure: it is another file than was meant.
+pub fn find_subscriptions<'a, R: Read + Drop>(
     alloc: Global,
     list: ListText<'a, '_>,
     script: &'a str,
-    reader: &mut R,
+    reader: R,
 ) -> Result<Findings, Failure<'a>>
     ensures ok { IfOk result (λ findings. (given : List ℕ)
-        × Consumes (R.remaining reader.old) (R.remaining reader.new) given
-        × IsAtEnd (R.remaining reader.new) × FindsVain list.entry.text.now given findings) }
+        × IfSome (R.remaining reader) (λ bytes. given ≡ bytes)
+        × FindsVain list.entry.text.now given findings) }
     ensures err { IfErr result (λ failure. IsListFailure list.entry failure
-        ⊎ IsScriptFailure script.entry.now (R.remaining reader.old)
-        (R.remaining reader.new) failure) }
+        ⊎ IsScriptFailure script.entry.now (R.remaining reader) failure) }
 {
     let rows = rows_in(alloc, list)?;
-    match find_vain(alloc, &rows, reader) {
-        Ok(findings) => Ok(findings),
-        Err(fault) => Err(script_failure(list, &rows, script, fault)),
+    let mut watched = Watched::new(reader);
+    match find_vain(alloc, &rows, &mut watched) {
+        Ok(findings) => unless_no_command(findings, script, watched.is_log()),
+        Err(fault) => Err(script_failure(list, &rows, script, fault, watched.error)),
     }
 }
 

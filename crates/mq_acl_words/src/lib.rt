@@ -18,6 +18,6 @@ pub use changes::changes_text;
 pub use explanation::explanation_text;
 pub use faults::fault_words;
 pub use list::ListText;
-pub use remarks::remarks_text;
+pub use remarks::add_remarks;
 pub use subscriptions::subscriptions_text;
 pub use topic::topic_text;

@@ -94,16 +94,15 @@ fn add_all(
     Ok(())
 }
 
-/// The remarks on the lines of a list, one a line; needless lines come last.
-pub fn remarks_text(
+/// Adds the remarks on the lines of a list, one a line; needless lines come last.
+pub fn add_remarks(
     alloc: Global,
+    text: &mut String,
     list: ListText<'_, '_>,
     odd: &[Remark],
     needless: &[Remark],
     json: bool,
-) -> Result<String, AllocError> {
-    let mut text = String::new(alloc);
-    add_all(alloc, &mut text, list, odd, json)?;
-    add_all(alloc, &mut text, list, needless, json)?;
-    Ok(text)
+) -> Result<(), AllocError> {
+    add_all(alloc, text, list, odd, json)?;
+    add_all(alloc, text, list, needless, json)
 }

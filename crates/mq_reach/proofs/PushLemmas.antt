@@ -96,12 +96,17 @@ connection-more : (id : Text) (xs : List Request) (o : Option Request)
 connection-more id xs None = ap (connection id) (append-nil xs)
 connection-more id xs (Some y) = connection-push id xs y
 
+-- one more line adds its command, if it has one
+pub commands_of-push : (xs : List (List ℕ)) (y : List ℕ)
+    → commands_of (xs ++ y ∷ []) ≡ commands_of xs ++ cons_option (command_in (reading y)) []
+commands_of-push xs y = filter_map-append (λ line. command_in (reading line)) xs (y ∷ [])
+
 -- how a client is connected after one more line: as its command says, or as before
 pub connection-line : (id : Text) (xs : List (List ℕ)) (y : List ℕ)
     → connection id (commands_of (xs ++ y ∷ [])) ≡ connection_then id (command_in (reading y))
     (connection id (commands_of xs))
 connection-line id xs y =
-    ap (connection id) (filter_map-append (λ line. command_in (reading line)) xs (y ∷ []))
+    ap (connection id) (commands_of-push xs y)
     ∙ connection-more id (commands_of xs) (command_in (reading y))
 
 -- what a command subscribes to depends on how clients are connected

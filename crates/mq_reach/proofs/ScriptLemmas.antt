@@ -7,11 +7,9 @@ use Rattle.std.specs.Io.KnownBytes.{Consumes}
 use Rattle.std.specs.List.{cons_option}
 use Rattle.std.specs.Option.{option_and_then, option_to_list}
 use Rattle.std.proofs.lemmas.List.{take_all}
-use Rattle.std.proofs.lemmas.List.Elements.{filter_map-append}
 use Rattle.mq_acl.specs.Rows.{AclRow}
 use Rattle.mq_lines.specs.Lines.{all_lines, command_in, kept, last_piece, piece_line, pieces}
 use Rattle.mq_lines.specs.Lines.{whole_lines}
-use Rattle.mq_lines.specs.Reading.{reading}
 use Rattle.mq_lines.proofs.LongLemmas.{kept_more, no_piece, reading-kept, some_piece}
 use Rattle.mq_lines.proofs.PieceLemmas.{whole_lines-feed, last_piece-feed, whole_lines-text}
 use Rattle.mq_lines.proofs.PieceLemmas.{last_piece-text}
@@ -22,7 +20,7 @@ use Rattle.mq_reach.specs.Subscriptions.{subscription_by, subscriptions}
 use Rattle.mq_reach.specs.Vain.{AreVain}
 use Rattle.mq_reach.specs.declared.reading.Reading.{Reading}
 use Rattle.mq_reach.specs.declared.search.Search.{Search}
-use Rattle.mq_reach.proofs.PushLemmas.{faulty_lines-push, subscriptions-push}
+use Rattle.mq_reach.proofs.PushLemmas.{commands_of-push, faulty_lines-push, subscriptions-push}
 
 -- a reading that takes no bytes stays as it is
 pub TakesBytes-none : (rows : List AclRow) (r : Reading) → TakesBytes rows r r []
@@ -42,9 +40,9 @@ TakesBytes-then rows p q r xs ys s t = λ given holds.
 commands-kept : (lines : List (List ℕ)) (p : List ℕ)
     → commands_of (lines ++ take kept p ∷ []) ≡ commands_of (lines ++ p ∷ [])
 commands-kept lines p =
-    filter_map-append (λ line. command_in (reading line)) lines (take kept p ∷ [])
+    commands_of-push lines (take kept p)
     ∙ ap (λ said. commands_of lines ++ cons_option (command_in said) []) (reading-kept p)
-    ∙ sym (filter_map-append (λ line. command_in (reading line)) lines (p ∷ []))
+    ∙ sym (commands_of-push lines p)
 
 -- a last line subscribes to the same if only what is kept of it is read
 pub subscriptions-kept : (lines : List (List ℕ)) (p : List ℕ)
@@ -76,6 +74,7 @@ IsSearched-kept rows lines p s is = record {
       (subscriptions-kept lines p) is.vain;
   counts = record {
     lines = is.counts.lines ∙ length-kept lines p;
+    commands = is.counts.commands ∙ ap length (commands-kept lines p);
     subscribed = is.counts.subscribed ∙ ap length (subscriptions-kept lines p);
     faulty = is.counts.faulty ∙ ap length (faulty-kept lines p);
     first_faulty = is.counts.first_faulty ∙ ap (λ l. slice_get l 0) (faulty-kept lines p);

@@ -2,6 +2,7 @@
 use Rattle.std.proofs.Common.{◌≡◌, ℕ, ◌+◌, List, [], ◌∷◌, ◌++◌, length, Option, Some, None, Result}
 use Rattle.std.proofs.Common.{Ok, Err, refl, sym, ap, subst, ◌∙◌, append-nil, arith, length-append}
 use Rattle.std.specs.Prelude.{slice_get}
+use Rattle.std.specs.List.{cons_option}
 use Rattle.std.specs.Option.{option_and_then, option_or, option_to_list}
 use Rattle.mq_acl.specs.Rows.{AclRow}
 use Rattle.mq_world.specs.Lists.{Text}
@@ -20,12 +21,15 @@ use Rattle.mq_reach.specs.declared.counts.LineKind.{LineKind}
 use Rattle.mq_reach.specs.declared.counts.LineKind.TheVariants as kinds
 use Rattle.mq_reach.specs.declared.search.Search.{Search}
 use Rattle.mq_reach.specs.declared.subscription.Subscription as declared
-use Rattle.mq_reach.proofs.PushLemmas.{AreVain-push, connection-line, faulty_lines-push, first-push}
+use Rattle.mq_reach.proofs.PushLemmas.{AreVain-push, commands_of-push, connection-line}
+use Rattle.mq_reach.proofs.PushLemmas.{faulty_lines-push, first-push}
 use Rattle.mq_reach.proofs.PushLemmas.{made-same, subscriptions-push}
 
--- these are the numbers of lines, of subscriptions and of faulty lines
-record Counts_are (n : ℕ) (made : List Subscription) (faulty : List ℕ) (c : Counts) : Type 0 where
+-- these are the numbers of lines, of commands, of subscriptions and of faulty lines
+record Counts_are (n : ℕ) (said : List Request) (made : List Subscription) (faulty : List ℕ)
+    (c : Counts) : Type 0 where
   lines : c.lines ≡ n
+  commands : c.commands ≡ length said
   subscriptions : c.subscriptions ≡ length made
   faulty_count : c.faulty ≡ length faulty
   first_faulty : c.first_faulty ≡ slice_get faulty 0
@@ -37,19 +41,21 @@ one_longer n xs x e = simp length-append (omega arith)
 same_length : {X : Type 0} (n : ℕ) (xs : List X) → n ≡ length xs → n ≡ length (xs ++ [])
 same_length n xs e = rw (append-nil xs) e
 
-counted_command : (command : Option Request) (made : Option Subscription) (n : ℕ)
-    (all : List Subscription) (faulty : List ℕ) (c : Counts)
-    → Counts_are n all faulty c
-    → Counts_are (n + 1) (all ++ option_to_list made) (faulty ++ [])
-    (counted c (kind_of made (Ok command)))
-counted_command command None n all faulty c are = record {
+counted_command : (command : Request) (made : Option Subscription) (n : ℕ)
+    (said : List Request) (all : List Subscription) (faulty : List ℕ) (c : Counts)
+    → Counts_are n said all faulty c
+    → Counts_are (n + 1) (said ++ command ∷ []) (all ++ option_to_list made) (faulty ++ [])
+    (counted c (kind_of made (Ok (Some command))))
+counted_command command None n said all faulty c are = record {
   lines = ap (λ (k : ℕ). k + 1) are.lines;
+  commands = one_longer c.commands said command are.commands;
   subscriptions = same_length c.subscriptions all are.subscriptions;
   faulty_count = same_length c.faulty faulty are.faulty_count;
   first_faulty = rw (append-nil faulty) are.first_faulty;
 }
-counted_command command (Some s) n all faulty c are = record {
+counted_command command (Some s) n said all faulty c are = record {
   lines = ap (λ (k : ℕ). k + 1) are.lines;
+  commands = one_longer c.commands said command are.commands;
   subscriptions = one_longer c.subscriptions all s are.subscriptions;
   faulty_count = same_length c.faulty faulty are.faulty_count;
   first_faulty = rw (append-nil faulty) are.first_faulty;
@@ -57,14 +63,24 @@ counted_command command (Some s) n all faulty c are = record {
 
 counted_line : (said : Result (Option Request) LineFault)
     (make : Option Request → Option Subscription) → make None ≡ None
-    → (n : ℕ) (all : List Subscription) (faulty : List ℕ) (c : Counts) → Counts_are n all faulty c
-    → Counts_are (n + 1) (all ++ option_to_list (make (command_in said)))
+    → (n : ℕ) (before : List Request) (all : List Subscription) (faulty : List ℕ) (c : Counts)
+    → Counts_are n before all faulty c
+    → Counts_are (n + 1) (before ++ cons_option (command_in said) [])
+    (all ++ option_to_list (make (command_in said)))
     (faulty ++ option_to_list (fault_at (n + 1) said))
     (counted c (kind_of (make (command_in said)) said))
-counted_line (Ok command) make none n all faulty c are =
-    counted_command command (make command) n all faulty c are
-counted_line (Err fault) make none n all faulty c are = record {
+counted_line (Ok (Some command)) make none n before all faulty c are =
+    counted_command command (make (Some command)) n before all faulty c are
+counted_line (Ok None) make none n before all faulty c are = record {
   lines = ap (λ (k : ℕ). k + 1) are.lines;
+  commands = same_length c.commands before are.commands;
+  subscriptions = rw none (same_length c.subscriptions all are.subscriptions);
+  faulty_count = same_length c.faulty faulty are.faulty_count;
+  first_faulty = rw (append-nil faulty) are.first_faulty;
+}
+counted_line (Err fault) make none n before all faulty c are = record {
+  lines = ap (λ (k : ℕ). k + 1) are.lines;
+  commands = same_length c.commands before are.commands;
   subscriptions = rw none (same_length c.subscriptions all are.subscriptions);
   faulty_count = one_longer c.faulty faulty (n + 1) are.faulty_count;
   first_faulty =
@@ -88,15 +104,16 @@ counts-push : (rows : List AclRow) (lines : List (List ℕ)) (line : List ℕ) (
     → IsSearched rows lines old → Applies rows (reading line) old new kind
     → AreCounted (lines ++ line ∷ []) (counted new.counts kind)
 counts-push rows lines line old new kind is applies =
-    let before : Counts_are (length lines) (subscriptions lines) (faulty_lines lines) old.counts =
-    record {
+    let before : Counts_are (length lines) (commands_of lines) (subscriptions lines)
+    (faulty_lines lines) old.counts = record {
       lines = is.counts.lines;
+      commands = is.counts.commands;
       subscriptions = is.counts.subscribed;
       faulty_count = is.counts.faulty;
       first_faulty = is.counts.first_faulty;
     } in
-    let after = counted_line (reading line) (made_by old) refl (length lines) (subscriptions lines)
-    (faulty_lines lines) old.counts before in
+    let after = counted_line (reading line) (made_by old) refl (length lines) (commands_of lines)
+    (subscriptions lines) (faulty_lines lines) old.counts before in
     let same : counted new.counts kind ≡ counted old.counts
     (kind_of (made_by old (command_in (reading line))) (reading line)) =
     ap (λ (c : Counts). counted c kind) applies.counts ∙ ap (counted old.counts) applies.kind in
@@ -108,6 +125,8 @@ counts-push rows lines line old new kind is applies =
     record {
       lines = ap (λ (c : Counts). c.lines) same ∙ after.lines
           ∙ sym (length-append lines (line ∷ []));
+      commands = ap (λ (c : Counts). c.commands) same ∙ after.commands
+          ∙ sym (ap length (commands_of-push lines line));
       subscribed = ap (λ (c : Counts). c.subscriptions) same ∙ after.subscriptions
           ∙ sym (ap length made);
       faulty = ap (λ (c : Counts). c.faulty) same ∙ after.faulty_count
@@ -154,12 +173,12 @@ pub Applies-none : (rows : List AclRow) (client filter : Text) (options : Subscr
     (old : Search)
     → subscription_by (old.counts.lines + 1) (user_at old.clients)
     (Subscribe client filter options) ≡ None
-    → Applies rows (Ok (Some (Subscribe client filter options))) old old kinds.Other
+    → Applies rows (Ok (Some (Subscribe client filter options))) old old kinds.Command
 Applies-none rows client filter options old e = record {
   clients = λ id. refl;
   told = subst (λ made. Tells rows made (subscription_views old.vain.items)
       (subscription_views old.vain.items)) (sym e) refl;
-  kind = subst (λ made. kinds.Other ≡ kind_of made (Ok (Some (Subscribe client filter options))))
+  kind = subst (λ made. kinds.Command ≡ kind_of made (Ok (Some (Subscribe client filter options))))
       (sym e) refl;
   counts = refl;
 }

@@ -30,9 +30,11 @@ subscription_view s = record {
 abbrev pub subscription_views : List Subscription → List spec.Subscription
 subscription_views all = map subscription_view all
 
--- the lines are counted: all, those that make subscriptions, and those that are no commands, with the first of these
+-- the lines are counted: all, the commands, those that make subscriptions, and those that are no commands, with the
+-- first of these
 pub record AreCounted (all : List (List ℕ)) (c : Counts) : Type 0 where
   pub lines : c.lines ≡ length all
+  pub commands : c.commands ≡ length (commands_of all)
   pub subscribed : c.subscriptions ≡ length (subscriptions all)
   pub faulty : c.faulty ≡ length (faulty_lines all)
   pub first_faulty : c.first_faulty ≡ slice_get (faulty_lines all) 0
@@ -70,8 +72,9 @@ Tells rows (Some s) old new =
 
 abbrev pub kind_of : Option spec.Subscription → Result (Option Request) LineFault → LineKind
 kind_of made (Err fault) = kinds.NoCommand
-kind_of (Some s) (Ok command) = kinds.Subscription
-kind_of None (Ok command) = kinds.Other
+kind_of made (Ok None) = kinds.Blank
+kind_of (Some s) (Ok (Some command)) = kinds.Subscription
+kind_of None (Ok (Some command)) = kinds.Command
 
 -- what the next line says is taken in, but isn't counted yet
 pub record Applies (rows : List AclRow) (said : Result (Option Request) LineFault)

@@ -7,7 +7,9 @@ ghost use Rattle.mq_reach.specs.Counts.{counted};
 pub struct Counts {
     /// All lines, blank ones too.
     pub lines: u64,
-    /// Those that make a subscription, or replace one.
+    /// Those that are commands.
+    pub commands: u64,
+    /// Those of them that make a subscription, or replace one.
     pub subscriptions: u64,
     /// Those that are no commands, and not blank.
     pub faulty: u64,
@@ -19,17 +21,25 @@ pub struct Counts {
 #[derive(Clone, Copy, PartialEq, Eq)]
 pub(crate) enum LineKind {
     Subscription,
+    /// Another command.
+    Command,
     NoCommand,
-    Other,
+    Blank,
 }
 
 impl Counts {
     pub(crate) fn new() -> Counts
-        ensures { result
-            ≡ record { lines = 0; subscriptions = 0; faulty = 0; first_faulty = None } }
+        ensures { result ≡ record {
+          lines = 0;
+          commands = 0;
+          subscriptions = 0;
+          faulty = 0;
+          first_faulty = None;
+        } }
     {
         Counts {
             lines: 0,
+            commands: 0,
             subscriptions: 0,
             faulty: 0,
             first_faulty: None,
@@ -39,6 +49,7 @@ impl Counts {
     /// One line more.
     pub(crate) fn with_line(self, kind: LineKind) -> Counts
         requires lines { self.lines + 1 < 2 ^ 64 }
+        requires commands { self.commands ≤ self.lines }
         requires subscriptions { self.subscriptions ≤ self.lines }
         requires faulty { self.faulty ≤ self.lines }
         ensures { result ≡ counted self kind }
@@ -47,7 +58,13 @@ impl Counts {
         match kind {
             LineKind::Subscription => Counts {
                 lines,
+                commands: self.commands + 1,
                 subscriptions: self.subscriptions + 1,
+                ..self
+            },
+            LineKind::Command => Counts {
+                lines,
+                commands: self.commands + 1,
                 ..self
             },
             LineKind::NoCommand => Counts {
@@ -56,7 +73,7 @@ impl Counts {
                 first_faulty: self.first_faulty.or(Some(lines)),
                 ..self
             },
-            LineKind::Other => Counts { lines, ..self },
+            LineKind::Blank => Counts { lines, ..self },
         }
     }
 }

@@ -35,6 +35,7 @@ pub(crate) struct Search {
     clients: Clients,
     vain: Vec<Subscription>,
     pub counts: Counts,
+    ghost commands: { counts.commands ≤ counts.lines },
     ghost subscriptions: { counts.subscriptions ≤ counts.lines },
     ghost faulty: { counts.faulty ≤ counts.lines },
 }
@@ -118,7 +119,7 @@ impl Search {
             (Some (Subscribe (string_bytes client) (string_bytes filter) options))))) }
     {
         let Some(subscription) = self.subscription(client, filter, no_local)? else {
-            return Ok(LineKind::Other);
+            return Ok(LineKind::Command);
         };
         if !is_vain(alloc, list, &subscription)? {
             return Ok(LineKind::Subscription);
@@ -144,11 +145,11 @@ impl Search {
         match command {
             Command::Connect { client, user, .. } => {
                 self.clients.connect(client, user)?;
-                Ok(LineKind::Other)
+                Ok(LineKind::Command)
             }
             Command::Disconnect { client } => {
                 self.clients.disconnect(client.as_str());
-                Ok(LineKind::Other)
+                Ok(LineKind::Command)
             }
             Command::Subscribe {
                 client,
@@ -156,7 +157,7 @@ impl Search {
                 no_local,
                 ..
             } => self.subscribe(alloc, list, client, filter, no_local),
-            _ => Ok(LineKind::Other),
+            _ => Ok(LineKind::Command),
         }
     }
 
@@ -168,7 +169,7 @@ impl Search {
             (option_to_list (made_by self.old (command_in (reading line.now))))) }
     {
         match read_line(alloc, line) {
-            Ok(None) => Ok(LineKind::Other),
+            Ok(None) => Ok(LineKind::Blank),
             Ok(Some(command)) => self.apply(alloc, list, command),
             Err(LineFault::Memory) => Err(SearchFault::Memory),
             Err(_) => Ok(LineKind::NoCommand),

@@ -28,9 +28,10 @@ fn words(rt: &HostRuntime) -> io::Result<Vec<String>> {
 }
 
 fn run(rt: &HostRuntime, words: &[String]) -> u8 {
+    let mut input = rt.stdin();
     let mut out = rt.stdout();
     let mut err = rt.stderr();
-    start(rt, rt.alloc(), words, &mut out, &mut err)
+    start(rt, rt.alloc(), words, &mut input, &mut out, &mut err)
 }
 
 // Tells why the program fails, and answers its status. A failed write on standard error is passed over.

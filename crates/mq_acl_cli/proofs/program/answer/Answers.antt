@@ -13,7 +13,9 @@ pub returns-in-Why-clause-unread : goal.returns-in-Why-clause-unread
 returns-in-Why-clause-unread g c = c.answer_why.ensures.unread
 
 pub returns-in-Lint-clause-ok : goal.returns-in-Lint-clause-ok
-returns-in-Lint-clause-ok g c = rw c.in-Lint.is c.answer_lint.ensures.ok
+returns-in-Lint-clause-ok g c =
+    rw c.in-Lint.is
+    (rw (rw c.in-Lint.is at c.as_slice.ensures.value) at c.answer_lint.ensures.ok)
 
 pub returns-in-Lint-clause-unread : goal.returns-in-Lint-clause-unread
 returns-in-Lint-clause-unread g c = c.answer_lint.ensures.unread

@@ -5,7 +5,8 @@ pub returns-in-Ok-answer-clause-answered : goal.returns-in-Ok-answer-clause-answ
 returns-in-Ok-answer-clause-answered g c = λ none read written. (
   question_view c.in-Ok.request.question,
   c.in-Ok-answer.outcome,
-  c.in-Ok.ensures.ok.question,
+  c.in-Ok.ensures.ok.asked.question,
+  c.in-Ok.ensures.ok.once,
   c.in-Ok-answer.ensures.ok,
   c.status.ensures,
 )
