@@ -213,8 +213,8 @@ def struct_faults():
 
 # What stands in out/
 
-# What the toolchain keeps there: its own work, what it builds, and what the last run wrote.
-KEPT = re.compile(r"rlib|incremental|verified|c|tests|{crate}(_tests)?(\.\w+)*|lib{crate}\.\w+|std(out|err|in)(\.\w+)*|.*\.(log|o|bc|ll)|\..*")
+# What the toolchain keeps there: its work, what it builds, and what a program's run wrote.
+KEPT = r"rlib|incremental|c|{crate}(_tests)?(\.[\w-]+)*|lib{crate}\.\w+|std(in|out|err)(\.[\w-]+)*"
 
 
 def out_faults():
@@ -222,7 +222,7 @@ def out_faults():
         crate = path.parts[-3]
         if path.is_symlink():
             yield f"{path.relative_to(TOP)} is a link: `make run` and `make test` take it away"
-        elif not re.fullmatch(KEPT.pattern.replace("{crate}", crate), path.name):
+        elif not re.fullmatch(KEPT.replace("{crate}", crate), path.name):
             yield f"{path.relative_to(TOP)} is not the toolchain's: out/ is no place for files of ours"
 
 
