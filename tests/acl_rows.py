@@ -1,6 +1,7 @@
 #!/usr/bin/env python3
-"""Runs the commands of tests/acl/*.rows in a copy of that folder, and compares what they print, byte for byte, and their
-statuses. What each must print was worked out from the definitions (docs/definitions/access-lists.md).
+"""Runs the commands of tests/acl/*.rows in a copy of that folder, and compares what they print,
+byte for byte, and their statuses. What each must print was worked out from the definitions
+(docs/definitions/access-lists.md).
 """
 import os
 import pathlib
@@ -18,8 +19,9 @@ ROW = re.compile(r"^\$ (.*)\n((?:(?!\$ |status \d).*\n)*)status (\d+)$", re.M)
 def faults_of(path, folder):
     around = os.environ | {"PATH": f"{PROGRAM.parent}:{os.environ['PATH']}"}
     for command, wanted, status in ROW.findall(path.read_text(encoding="utf-8")):
-        done = subprocess.run(["bash", "-c", command], cwd=folder, env=around, timeout=60,
-                              stdin=subprocess.DEVNULL, stdout=subprocess.PIPE, stderr=subprocess.STDOUT)
+        done = subprocess.run(
+            ["bash", "-c", command], cwd=folder, env=around, timeout=60,
+            stdin=subprocess.DEVNULL, stdout=subprocess.PIPE, stderr=subprocess.STDOUT)
         printed = done.stdout.decode("utf-8", errors="replace")
         right = (printed, done.returncode) == (wanted, int(status))
         yield None if right else f"{path.name}: {command}: status {done.returncode}\n{printed}"

@@ -1,7 +1,9 @@
 #!/usr/bin/env python3
-"""Talks to the built program over a pipe and over a terminal: it writes the answers to a line before it waits for another.
+"""Talks to the built program over a pipe and over a terminal: it writes the answers to a line
+before it waits for another.
 
-With --unbuffered each command is sent once the answers to those before it have come; so they are on a terminal without it.
+With --unbuffered each command is sent once the answers to those before it have come; so they are on
+a terminal without it.
 """
 import json
 import os
@@ -21,7 +23,8 @@ PIECES = [
     ('{"do":"subscribe","client":"a","filter":"t"}\n', ['{"line":2,"reason":0}']),
     ('{"do":"pub', []),
     ('lish","client":"a","topic":"t"}\n\n{"do":"fly"}\n{"do":',
-     ['{"client":"a","line":3,"payload":"","qos":0,"retain":false,"topic":"t"}', '{"line":3,"reason":0}',
+     ['{"client":"a","line":3,"payload":"","qos":0,"retain":false,"topic":"t"}',
+      '{"line":3,"reason":0}',
       '{"code":3,"line":5,"refused":"BadCommand"}']),
     ('"stat"}\n', ['{"line":6,"nodes":1,"retained":0,"subscriptions":1}']),
 ]

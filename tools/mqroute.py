@@ -4,9 +4,11 @@
         oracle.answers({"do": "connect", "client": "a"})
         [*copies, end] = oracle.answers({"do": "publish", "client": "a", "topic": "x"})
 
-`answers` takes one command after another, and gives what each is answered with: its copies, and last the closing line or the
-refusal. `run` takes a whole script, from a world of its own, and gives such a list for each of its commands.
-The program is `program`, or $MQROUTE, or the one that stands in the same clone or installation, or `mqroute` on the PATH.
+`answers` takes one command after another, and gives what each is answered with: its copies, and
+last the closing line or the refusal. `run` takes a whole script, from a world of its own, and gives
+such a list for each of its commands.
+The program is `program`, or $MQROUTE, or the one that stands in the same clone or installation, or
+`mqroute` on the PATH.
 """
 import io
 import json
@@ -45,7 +47,8 @@ class Conversation:
     """A program that runs: a line in, its answers out."""
 
     def __init__(self, words: list[str]) -> None:
-        self.program = subprocess.Popen([*words, "--unbuffered"], stdin=subprocess.PIPE, stdout=subprocess.PIPE, stderr=subprocess.PIPE)
+        self.program = subprocess.Popen([*words, "--unbuffered"], stdin=subprocess.PIPE,
+                                        stdout=subprocess.PIPE, stderr=subprocess.PIPE)
         self.output = io.TextIOWrapper(self.program.stdout, "utf-8", newline="\n")
         self.blocks: Iterator[Block] = blocks_of(self.output, "the answer")
 
@@ -55,7 +58,8 @@ class Conversation:
             self.program.stdin.flush()
             return next(self.blocks)
         except (OSError, Fault, StopIteration) as fault:
-            raise OracleFault(self.end() or f"mqroute ended with status {self.program.returncode}") from fault
+            raise OracleFault(
+                self.end() or f"mqroute ended with status {self.program.returncode}") from fault
 
     def end(self) -> str:
         """Lets the program end; what it said on standard error, once."""
@@ -73,12 +77,15 @@ class Conversation:
 
 
 class Oracle:
-    """Answers commands one by one, in a world that lasts until `close`; and whole scripts, each in a world of its own.
+    """Answers commands one by one, in a world that lasts until `close`; and whole scripts, each in
+    a world of its own.
 
-    `acl` is the text of an access list; without one everything is allowed. The limits are those of the program's options.
+    `acl` is the text of an access list; without one everything is allowed. The limits are those of
+    the program's options.
     """
 
-    def __init__(self, acl: str | None = None, max_retained: int | None = None, max_queued: int | None = None, program: str | None = None) -> None:
+    def __init__(self, acl: str | None = None, max_retained: int | None = None,
+                 max_queued: int | None = None, program: str | None = None) -> None:
         self.words = [program or found_program()]
         for name, limit in (("--max-retained", max_retained), ("--max-queued", max_queued)):
             if limit is not None:
@@ -105,9 +112,11 @@ class Oracle:
             self.folder.cleanup()
 
     def answers(self, command: Command) -> list[Answer]:
-        """The answers to a command after those before it: its copies, then the closing line or the refusal.
+        """The answers to a command after those before it: its copies, then the closing line or the
+        refusal.
 
-        Their line is the number of commands so far. After OracleFault nothing more is answered before `close`.
+        Their line is the number of commands so far. After OracleFault nothing more is answered
+        before `close`.
         """
         if self.conversation is None:
             try:
@@ -128,8 +137,10 @@ class Oracle:
         except OSError as fault:
             raise OracleFault(f"cannot run {self.words[0]}: {fault.strerror}") from fault
         if done.returncode not in (0, 1):
-            raise OracleFault(done.stderr.decode("utf-8", "replace").strip() or f"mqroute ended with status {done.returncode}")
+            raise OracleFault(done.stderr.decode("utf-8", "replace").strip()
+                              or f"mqroute ended with status {done.returncode}")
         try:
-            return list(blocks_of(io.StringIO(done.stdout.decode("utf-8"), newline="\n"), "the answer"))
+            return list(
+                blocks_of(io.StringIO(done.stdout.decode("utf-8"), newline="\n"), "the answer"))
         except (Fault, UnicodeDecodeError) as fault:
             raise OracleFault(str(fault)) from fault

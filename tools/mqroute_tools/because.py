@@ -1,4 +1,5 @@
-"""The cause of each copy that only one of two runs of a script has, or that differs between them."""
+"""The cause of each copy that only one of two runs of a script has, or that
+differs between them."""
 from collections import Counter
 from collections.abc import Callable, Iterable, Mapping
 from typing import Any
@@ -61,7 +62,8 @@ class Because:
                     self.story.rights.learn(client, topic, (True, True))
         self.story.end(before.line, command, before, after)
 
-    def differing(self, command: dict[str, Any], blocks: tuple[Block, Block], was: Grouped, now: Grouped) -> dict[Key, list[Found]]:
+    def differing(self, command: dict[str, Any], blocks: tuple[Block, Block], was: Grouped,
+                  now: Grouped) -> dict[Key, list[Found]]:
         """What is lost, gained and changed of each client and topic, copy by copy."""
         told: dict[Key, list[Found]] = {}
         refused = self.story.refusal(command, *blocks)
@@ -93,11 +95,15 @@ class Because:
             return lambda key, old, new: waited.of(key[1])
         return None
 
-    def live(self, key: Key, old: list[str], new: list[str], shared: list[set[Slot]]) -> list[Found]:
-        """Of a publish that both runs accepted. Where the other run has a copy of the group, another member got it."""
-        gone, come = [sorted(map(slot, texts), key=lambda s: s is None) for texts in (rest(old, new), rest(new, old))]
+    def live(self, key: Key, old: list[str], new: list[str],
+             shared: list[set[Slot]]) -> list[Found]:
+        """Of a publish that both runs accepted. Where the other run has a copy of the
+        group, another member got it."""
+        gone, come = [sorted(map(slot, texts), key=lambda s: s is None)
+                      for texts in (rest(old, new), rest(new, old))]
         pairs = min(len(gone), len(come))
-        found = [Found("changed", TURN if a and b and a != b else UNKNOWN) for a, b in zip(gone, come)]
+        found = [Found("changed", TURN if a and b and a != b else UNKNOWN)
+                 for a, b in zip(gone, come)]
         for what, left, other in (("lost", gone[pairs:], AFTER), ("gained", come[pairs:], BEFORE)):
             for one in left:
                 found.append(Found(what, TURN if one and one in shared[other] else READER))
@@ -105,7 +111,8 @@ class Because:
                     self.story.rights.learn(*key, (what == "lost", what == "gained"))
         return found
 
-    def retained(self, command: dict[str, Any], key: Key, counts: tuple[int, int, int]) -> list[Found]:
+    def retained(self, command: dict[str, Any], key: Key,
+                 counts: tuple[int, int, int]) -> list[Found]:
         """Of a retained message at a subscribe."""
         runs, cause, line = self.story.retained(key[1])
         if self.story.clocks_differ or sum(counts) != 1:
@@ -116,7 +123,8 @@ class Because:
         if not runs[has]:
             return []
         other = runs[lacks]
-        if other and not self.story.over(other.deadline) and not (command.get("no_local") and other.client == key[0]):
+        if (other and not self.story.over(other.deadline)
+                and not (command.get("no_local") and other.client == key[0])):
             return [Found(what, READER, other.line)]  # it is retained, and was not sent
         return [Found(what, cause._replace(kind="retained"), line)] if cause else []
 

@@ -1,7 +1,9 @@
 """Which lines of two access lists decide what differs, as `mqroute-acl why` tells it.
 
-The lists are those that were in force when the script began: nothing is told of lines after one that sets another.
-The program is $MQROUTE_ACL_PROGRAM, or the one that stands in the same clone or installation, or `mqroute-acl` on the PATH.
+The lists are those that were in force when the script began: nothing is told of lines after one
+that sets another.
+The program is $MQROUTE_ACL_PROGRAM, or the one that stands in the same clone or installation, or
+`mqroute-acl` on the PATH.
 """
 import json
 import os
@@ -37,7 +39,10 @@ def program() -> str:
     named = os.environ.get("MQROUTE_ACL_PROGRAM")
     if named:
         return named
-    return next((str(file) for file in (BUILT, INSTALLED) if os.access(file, os.X_OK)), None) or shutil.which("mqroute-acl") or "mqroute-acl"
+    for built in (BUILT, INSTALLED):
+        if os.access(built, os.X_OK):
+            return str(built)
+    return shutil.which("mqroute-acl") or "mqroute-acl"
 
 
 class AccessList:

@@ -102,8 +102,8 @@ class Backlog:
         self.owed.setdefault(owed.key[0], []).append(owed)
 
     def take(self, event: Event) -> Owed | None:
-        """What a late copy is of: the oldest with room for its size and RETAIN flag. One with RETAIN may
-        also be of a live message, as it was published."""
+        """What a late copy is of: the oldest with room for its size and RETAIN flag. One with
+        RETAIN may also be of a live message, as it was published."""
         sent = event.copy
         here = [owed for owed in self.owed.get(event.client, ()) if owed.key[1] == sent.topic]
         for retain in range(sent.retain, -1, -1):

@@ -93,21 +93,25 @@ class Comparison:
         for command in commands:
             client = command.get("client", "")
             if command["do"] == "connect":
-                user, before = command.get("user"), self.users.get(client)
-                if not self.sessions.present(command):
+                if self.sessions.present(command):
+                    resumes.add(client)
+                    again |= self.resume(client, command.get("user"))
+                else:
                     self.settle([client], drained=False)
                     self.renamed.discard(client)
-                else:
-                    resumes.add(client)
-                    if user != before:
-                        again.add(client)
-                        self.renamed.add(client)
-                        self.backlog.other_user(client)
-                self.users[client] = user
+                self.users[client] = command.get("user")
             self.sessions.follow(command)
             if command["do"] == "disconnect" and not self.sessions.has(client):
                 self.users.pop(client, None)
         return resumes, again
+
+    def resume(self, client: str, user: str | None) -> set[str]:
+        """The client, if it has another user name now: what waits for it is tested again."""
+        if user == self.users.get(client):
+            return set()
+        self.renamed.add(client)
+        self.backlog.other_user(client)
+        return {client}
 
     # -- what the broker sent
 

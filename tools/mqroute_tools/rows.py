@@ -1,4 +1,5 @@
-"""The rows of a comparison with their causes: gathered by client or by user name, for tables, JSON and the page."""
+"""The rows of a comparison with their causes: gathered by client or by user name, for
+tables, JSON and the page."""
 from collections import Counter, defaultdict
 from collections.abc import Callable, Iterable
 from dataclasses import dataclass, field
@@ -45,7 +46,8 @@ class Reasons:
                  lists: Lists | None = None) -> None:
         self.by_user, self.gathered, self.lists = by_user, gathered, lists
         self.because, self.names = Because(), Names()
-        self.copies: defaultdict[Row, defaultdict[Why, Tally]] = defaultdict(lambda: defaultdict(Tally))
+        self.copies: defaultdict[Row, defaultdict[Why, Tally]] = defaultdict(
+            lambda: defaultdict(Tally))
         self.refusals: defaultdict[Row, defaultdict[Question | None, Refused]] = defaultdict(
             lambda: defaultdict(Refused))
         self.in_both: defaultdict[Row, Tally] = defaultdict(Tally)  # lines that both runs refused
@@ -54,8 +56,10 @@ class Reasons:
     def who(self, client: str) -> str | None:
         return self.because.user(client) if self.by_user else client
 
-    def take(self, command: dict[str, Any], blocks: tuple[Block, Block], was: Grouped, now: Grouped) -> None:
-        """One line of the script. What it leaves behind is for `end`, when the line has been counted."""
+    def take(self, command: dict[str, Any], blocks: tuple[Block, Block], was: Grouped,
+             now: Grouped) -> None:
+        """One line of the script. What it leaves behind is for `end`, when the
+        line has been counted."""
         self.because.begin(command, *blocks)
         if was is now:
             return
@@ -109,9 +113,11 @@ class Reasons:
             if self.lists and asked and cause.kind in ("reader", "publisher", "retained"):
                 decided = self.lists.decides(asked, allowed(what, cause), tally.places[0])
             known.setdefault((what, cause, pair(decided)), (decided, Tally()))[1].merge(tally)
+
         def order(one: tuple[tuple, tuple[Decided | None, Tally]]) -> tuple:
             (what, cause, lines), (_, tally) = one
             return WHAT.index(what), -tally.count, str(cause), lines
+
         rows = sorted(known.items(), key=order)
         return [(what, cause, *found) for (what, cause, _), found in rows]
 
@@ -128,13 +134,15 @@ class Reasons:
 
     def lines(self, tally: Tally) -> list[dict[str, Any]]:
         text = self.names.texts
-        return [{"line": line, "client": text[client], "topic": text[topic]} | ({"publish": publish} if publish else {})
+        return [{"line": line, "client": text[client], "topic": text[topic]}
+                | ({"publish": publish} if publish else {})
                 for line, publish, client, topic in tally.quads()]
 
 
 def cause_entry(cause: Cause, what: str) -> dict[str, Any]:
     """A cause for JSON: `because` in words, and what they are made of."""
-    found: dict[str, Any] = {"cause": cause.kind, "because": words(cause, what, user_shown(cause.user))}
+    found: dict[str, Any] = {
+        "cause": cause.kind, "because": words(cause, what, user_shown(cause.user))}
     if cause.refused:
         found |= {"refused": cause.refused, "newly": cause.newly}
         found |= {"command": cause.did} if cause.kind == "session" else {"publisher": cause.user}
@@ -144,7 +152,8 @@ def cause_entry(cause: Cause, what: str) -> dict[str, Any]:
 def copies_of(reasons: Reasons, row: Row, counts: dict[str, int]) -> dict[str, Any]:
     causes, clients = [], set()
     for what, cause, decided, tally in reasons.of(row):
-        entry = {"what": what, "copies": tally.count} | ({"clients": len(tally.clients)} if reasons.by_user else {})
+        entry = {"what": what, "copies": tally.count} | (
+            {"clients": len(tally.clients)} if reasons.by_user else {})
         entry |= cause_entry(cause, what) | {"lines": reasons.lines(tally)} | by_lines(decided)
         causes.append(entry)
         clients |= tally.clients
@@ -175,7 +184,8 @@ def refused_row(reasons: Reasons, row: Row, counts: dict[str, Any], tally: Tally
 
 
 def named(reasons: Reasons, row: Row, clients: int) -> dict[str, Any]:
-    return {"user": row[0], "topic": row[1], "clients": clients} if reasons.by_user else {"client": row[0], "topic": row[1]}
+    return ({"user": row[0], "topic": row[1], "clients": clients} if reasons.by_user
+            else {"client": row[0], "topic": row[1]})
 
 
 def all_causes(copies: list[dict[str, Any]]) -> list[dict[str, Any]]:
@@ -184,23 +194,27 @@ def all_causes(copies: list[dict[str, Any]]) -> list[dict[str, Any]]:
     for cause in (c for row in copies for c in row["causes"]):
         sums[cause["because"], cause["cause"]][cause["what"]] += cause["copies"]
     ordered = sorted(sums.items(), key=lambda s: (-s[1].total(), s[0]))
-    return [{"because": words_of, "cause": kind} | {what: sums[words_of, kind][what] for what in WHAT} for (words_of, kind), _ in ordered]
+    return [
+        {"because": words_of, "cause": kind} | {what: sums[words_of, kind][what] for what in WHAT}
+        for (words_of, kind), _ in ordered]
 
 
 def because_of(row: dict[str, Any]) -> str:
     """The causes of a row, in one cell."""
     sums: Counter[tuple[str, str]] = Counter()
     for cause in row["causes"]:
-        sums[cause["because"], f" ({in_words(cause['decided'])})" if "decided" in cause else ""] += cause["copies"]
+        lines = f" ({in_words(cause['decided'])})" if "decided" in cause else ""
+        sums[cause["because"], lines] += cause["copies"]
     return ", ".join(f"{because} {count}{decided}" for (because, decided), count in sums.items())
 
 
 def by_user_table(copies: list[dict[str, Any]], shown: Callable[[str], str]) -> str:
-    rows = [[user_shown(row["user"]), str(cause["clients"]), shown(row["topic"]), cause["what"], str(cause["copies"]),
-             cause["because"], str(cause["lines"][0]["line"])] for row in copies for cause in row["causes"]]
+    rows = [[user_shown(row["user"]), str(cause["clients"]), shown(row["topic"]), cause["what"],
+             str(cause["copies"]), cause["because"], str(cause["lines"][0]["line"])]
+            for row in copies for cause in row["causes"]]
     causes = [cause for row in copies for cause in row["causes"]]
     decided = ["decided by"] if any("decided" in cause for cause in causes) else []
     for cause, row in zip(causes, rows if decided else []):
         row.append(shown(in_words(cause["decided"])) if "decided" in cause else "")
-    return table(["user", "clients", "topic", "what", "copies", "because", "first line", *decided], rows)
-
+    return table(
+        ["user", "clients", "topic", "what", "copies", "because", "first line", *decided], rows)

@@ -1,4 +1,5 @@
-"""Names of other people's on a page: what they hold is text, and neither markup nor a direction of writing."""
+"""Names of other people's on a page: what they hold is text, and neither markup
+nor a direction of writing."""
 import html
 from typing import Any
 
@@ -6,7 +7,8 @@ from .tables import shown, user_shown
 
 
 def visible(text: str) -> str:
-    """A client id or topic for a page. Characters that aren't seen, or that turn text round, are told by their numbers."""
+    """A client id or topic for a page. Characters that aren't seen, or that turn text round,
+    are told by their numbers."""
     return escaped(shown(text))
 
 

@@ -63,7 +63,8 @@ class TopicTree:
                     nodes.append(child)
 
     def alike(self, topic: str) -> Iterator[str]:
-        """The topic itself if it is here, then those whose levels begin like its most, and so on; some of them again."""
+        """The topic itself if it is here, then those whose levels begin like its most, and
+        so on; some of them again."""
         path = [self.root]
         for level in topic.split("/"):
             if level not in path[-1]:
