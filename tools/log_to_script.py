@@ -42,7 +42,7 @@ def arguments() -> argparse.Namespace:
     return options
 
 
-def tell(found: Writer, written: int) -> None:
+def tell(found: Writer, logs: Logs, written: int) -> None:
     others = f" ({found.stamps.others} of other programs)" if found.stamps.others else ""
     ending.tell(f"{counted(found.place, 'lines read')}{others}, "
                 f"{counted(written, 'commands written')}")
@@ -51,7 +51,7 @@ def tell(found: Writer, written: int) -> None:
         copies = counted(seen + inferred + none, "copies")
         ending.tell(f"the broker sent {copies}: the script explains {seen} by subscriptions in "
                     f"the log and {inferred} by inferred ones, and doesn't explain {none}")
-    found.notes.write(sys.stderr, found.logs.where)
+    found.notes.write(sys.stderr, logs.where)
 
 
 def main() -> int:
@@ -68,7 +68,7 @@ def main() -> int:
         with whole(options.state) as file:
             file.writelines(
                 text_of(command).encode("utf-8") + b"\n" for command in found.state.at_end())
-    tell(found, written)
+    tell(found, logs, written)
     return 1 if found.notes.counts or found.explained[NONE] else 0
 
 

@@ -18,13 +18,10 @@ import subprocess
 import tempfile
 from collections.abc import Iterable, Iterator
 from pathlib import Path
-from typing import Any
 
 from mqroute_tools.ending import Fault
-from mqroute_tools.output import Block, blocks_of
+from mqroute_tools.output import Answer, Block, Command, blocks_of
 
-Command = dict[str, Any]
-Answer = dict[str, Any]
 BUILT = Path(__file__).resolve().parents[1] / "bin/mqroute"
 INSTALLED = Path(__file__).resolve().parents[2] / "bin/mqroute"
 
@@ -49,13 +46,16 @@ class Conversation:
     def __init__(self, words: list[str]) -> None:
         self.program = subprocess.Popen([*words, "--unbuffered"], stdin=subprocess.PIPE,
                                         stdout=subprocess.PIPE, stderr=subprocess.PIPE)
-        self.output = io.TextIOWrapper(self.program.stdout, "utf-8", newline="\n")
+        given, written, told = self.program.stdin, self.program.stdout, self.program.stderr
+        assert given and written and told, "each is a pipe"
+        self.input, self.told = given, told
+        self.output = io.TextIOWrapper(written, "utf-8", newline="\n")
         self.blocks: Iterator[Block] = blocks_of(self.output, "the answer")
 
     def block(self, line: str) -> Block:
         try:
-            self.program.stdin.write(line.encode())
-            self.program.stdin.flush()
+            self.input.write(line.encode())
+            self.input.flush()
             return next(self.blocks)
         except (OSError, Fault, StopIteration) as fault:
             raise OracleFault(
@@ -66,11 +66,11 @@ class Conversation:
         if self.output.closed:
             return ""
         try:
-            self.program.stdin.close()
+            self.input.close()
         except OSError:
             pass  # the program has ended before it read all
         self.output.close()
-        with self.program.stderr as stream:
+        with self.told as stream:
             told = stream.read().decode("utf-8", "replace").strip()
         self.program.wait()
         return told

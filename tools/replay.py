@@ -21,12 +21,11 @@ from typing import TYPE_CHECKING
 
 from mqroute import Oracle
 from mqroute_tools import ending
-from mqroute_tools.agreement import Command
 from mqroute_tools.commands import Seen, line_faults
 from mqroute_tools.ending import Fault, counted, in_words
 from mqroute_tools.files import STDIN, at, keep_apart, open_input
 from mqroute_tools.numbers import amount, port, whole_number
-from mqroute_tools.output import Block, blocks, by_key, is_blank, misfit
+from mqroute_tools.output import Block, Command, blocks, by_key, is_blank, misfit
 from mqroute_tools.progress import Progress
 from mqroute_tools.wills import Wills
 

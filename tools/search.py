@@ -30,8 +30,8 @@ from mqroute_tools.ending import Fault, counted, in_words
 from mqroute_tools.files import at, whole
 from mqroute_tools.kinds import Difference, Kind, kind
 from mqroute_tools.numbers import amount, port, whole_number
-from mqroute_tools.output import Block
-from mqroute_tools.random_scripts import ACCESS, PARTS, Command, Maker, Use, fresh
+from mqroute_tools.output import Block, Command
+from mqroute_tools.random_scripts import ACCESS, PARTS, Maker, Use, fresh
 from mqroute_tools.shrinking import connected, shrink
 
 HERE = Path(__file__).resolve().parent
@@ -79,7 +79,7 @@ class Find:
         return [text for texts in found.values() for text in texts]
 
 
-def as_json(value: dict) -> str:
+def as_json(value: Command) -> str:
     return json.dumps(value, separators=(",", ":"), ensure_ascii=False)
 
 
@@ -129,7 +129,7 @@ class Search:
     def find(self, script: Script, difference: Difference, but: list[Kind]) -> Find | None:
         """The difference in its smallest script, if it is of no kind that is known;
         from then on its kind is."""
-        small = self.smallest(script, difference, but)
+        small = self.smallest(script, difference, but) or []
         for _ in range(TRIES if small else 0):
             differences = self.run(small)
             for one in differences:

@@ -13,9 +13,8 @@ import argparse
 import json
 import sys
 from collections import Counter, defaultdict
-from dataclasses import dataclass, field
-from functools import lru_cache
-from typing import Any, BinaryIO
+from functools import lru_cache, partial
+from typing import BinaryIO
 
 from mqroute_tools import ending
 from mqroute_tools import page
@@ -24,32 +23,18 @@ from mqroute_tools.commands import Seen
 from mqroute_tools.deciding import Lists, in_words
 from mqroute_tools.ending import Fault, counted
 from mqroute_tools.files import STDIN, at, keep_apart, open_input
+from mqroute_tools.findings import Copies, CopiesRow, Findings, RefusedRow, Refusals, Subject
 from mqroute_tools.numbers import whole_number
-from mqroute_tools.output import Block, blocks, by_key, command_of, is_blank, misfit
+from mqroute_tools.output import Block, Command, blocks, by_key, command_of, is_blank, misfit
 from mqroute_tools.rows import (
     Reasons, Row, all_causes, because_of, by_user_table, copies_of, refused_of, row_order)
 from mqroute_tools.tables import shown, table, user_shown
 
 
-@dataclass
-class Copies:
-    """The copies of one client and topic. `changed` are those with another QoS, RETAIN
-    flag, payload or the like."""
-    before: int = 0
-    after: int = 0
-    lost: int = 0
-    gained: int = 0
-    changed: int = 0
-
-
-@dataclass
-class Refusals:
-    """The lines of one client and topic that are refused. `newly` and `no_longer`
-    count by the refusal's name."""
-    before: int = 0
-    after: int = 0
-    newly: Counter[str] = field(default_factory=Counter)
-    no_longer: Counter[str] = field(default_factory=Counter)
+def gathered(depth: int | None, topic: str) -> str:
+    """The topic, or the filter that stands for all topics with the same first levels."""
+    levels = topic.split("/", depth) if depth else []
+    return "/".join(levels[:-1]) + "/#" if depth and len(levels) > depth else topic
 
 
 class Losses:
@@ -57,16 +42,10 @@ class Losses:
     it by user name and topic."""
 
     def __init__(self, depth: int | None) -> None:
-        self.depth = depth
-        self.gathered = lru_cache(1 << 14)(self.gathered)
+        self.gathered = lru_cache(1 << 14)(partial(gathered, depth))
         self.reasons: Reasons | None = None
         self.copies: defaultdict[Row, Copies] = defaultdict(Copies)
         self.refusals: defaultdict[Row, Refusals] = defaultdict(Refusals)
-
-    def gathered(self, topic: str) -> str:
-        """The topic, or the filter that stands for all topics with the same first levels."""
-        levels = topic.split("/", self.depth) if self.depth else []
-        return "/".join(levels[:-1]) + "/#" if self.depth and len(levels) > self.depth else topic
 
     def add(self, text: bytes, before: Block, after: Block) -> str | bool:
         """Counts what one line of the script was answered in both runs. Says why, if an
@@ -83,7 +62,7 @@ class Losses:
             self.count(command or {}, (before, after), was, now)
         return False
 
-    def count(self, command: dict[str, Any], blocks: tuple[Block, Block], was: Grouped,
+    def count(self, command: Command, blocks: tuple[Block, Block], was: Grouped,
               now: Grouped) -> None:
         if self.reasons:
             self.reasons.take(command, blocks, was, now)
@@ -95,7 +74,7 @@ class Losses:
     def who(self, client: str) -> str | None:
         return self.reasons.who(client) if self.reasons else client
 
-    def add_refusals(self, command: dict[str, Any], line: int, was: str | None,
+    def add_refusals(self, command: Command, line: int, was: str | None,
                      now: str | None) -> None:
         if was or now:
             subject = self.subject(command)
@@ -120,7 +99,7 @@ class Losses:
                 entry.gained += gained
                 entry.changed += changed
 
-    def subject(self, command: dict[str, Any]) -> Row:
+    def subject(self, command: Command) -> Row:
         """Whom a refusal concerns: the client, and the topic or filter, or
         what the command does."""
         try:
@@ -188,13 +167,14 @@ def compare_lines(losses: Losses, script: str, commands: BinaryIO, runs: list[Ru
 def compare_line(losses: Losses, text: bytes, runs: list[Run], number: int) -> str:
     """Counts one line of the script. Says why, if the outputs can't be of this script."""
     here = [run.take(number) for run in runs]
+    before, after = here
     if is_blank(text):
         names = [run.name for run, block in zip(runs, here) if block]
         other = "has an answer to it: it is the output of another script"
         return f"blank, and {names[0]} {other}" if names else ""
-    if None in here:
+    if before is None or after is None:
         return unanswered([run.name for run, block in zip(runs, here) if block is None])
-    why = losses.add(text, *here)
+    why = losses.add(text, before, after)
     return f"an output is of another script: {why}" if why else ""
 
 
@@ -215,18 +195,17 @@ def why(newly: Counter[str], no_longer: Counter[str]) -> str:
     return ", ".join(parts) or IN_BOTH
 
 
-def report(found: dict[str, Any]) -> str:
-    copies, refusals = found["copies"], found["refused"]
-    if not (copies or refusals):
+def report(found: Findings) -> str:
+    if not (found.copies or found.refused):
         return ""
     parts = []
-    if copies:
-        by_user = found.get("by") == "user"
-        parts.append("Copies\n" + (by_user_table(copies, shown) if by_user else
-                                   copies_table(copies)))
-    if refusals:
-        parts.append("Refused\n" + refused_table(refusals))
-    parts.append(sums(found["totals"]))
+    if found.copies:
+        by_user = found.by == "user"
+        shown_copies = by_user_table(found.copies, shown) if by_user else copies_table(found.copies)
+        parts.append("Copies\n" + shown_copies)
+    if found.refused:
+        parts.append("Refused\n" + refused_table(found.refused))
+    parts.append(sums(found.totals))
     return "\n\n".join(parts) + "\n"
 
 
@@ -237,38 +216,47 @@ def sums(totals: dict[str, int]) -> str:
             ).format(copies=copies, lines=lines, **totals)
 
 
-def copies_table(copies: list[dict[str, Any]]) -> str:
-    head = ["before", "after", "lost", "gained", "changed"]
-    rows = [[shown(c["client"]), shown(c["topic"]), *(str(c[name]) for name in head)]
-            + ([because_of(c)] if "causes" in c else []) for c in copies]
-    return table(["client", "topic", *head] + (["because"] if "causes" in copies[0] else []), rows)
+def copies_table(copies: list[CopiesRow]) -> str:
+    head = ["client", "topic", "before", "after", "lost", "gained", "changed"]
+    rows = [[shown(row.subject.name or ""), shown(row.subject.topic),
+             *map(str, vars(row.copies).values())] for row in copies]
+    if copies[0].causes is not None:
+        head.append("because")
+        for row, cells in zip(copies, rows):
+            cells.append(because_of(row.causes or []))
+    return table(head, rows)
 
 
-def refused_table(refusals: list[dict[str, Any]]) -> str:
-    head = ["user", "clients", "topic"] if "user" in refusals[0] else ["client", "topic"]
-    rows = []
-    for r in refusals:
-        names = [user_shown(r["user"]), str(r["clients"])] if "user" in r else [shown(r["client"])]
-        rows.append([*names, shown(r["topic"]), str(r["before"]), str(r["after"]),
-                     why(r["newly"], r["no_longer"])])
-    decided = ["decided by"] if any("decided" in r for r in refusals) else []
-    for r, row in zip(refusals, rows if decided else []):
-        row.append(shown(in_words(r["decided"])) if "decided" in r else "")
-    return table([*head, "before", "after", "why", *decided], rows)
+def refused_table(refused: list[RefusedRow]) -> str:
+    head = ["user", "clients", "topic"] if refused[0].subject.by_user() else ["client", "topic"]
+    head += ["before", "after", "why"]
+    rows = [refused_cells(row.subject, row.refusals) for row in refused]
+    if any(row.decided for row in refused):
+        head.append("decided by")
+        for row, cells in zip(refused, rows):
+            cells.append(shown(in_words(row.decided)) if row.decided else "")
+    return table(head, rows)
 
 
-def findings(losses: Losses) -> dict[str, Any]:
-    """All that is told, as JSON has it."""
-    def entry(key: Row, value: Copies | Refusals) -> dict[str, Any]:
-        return {"client": key[0], "topic": key[1], **vars(value)}
+def refused_cells(subject: Subject, counts: Refusals) -> list[str]:
+    names = [shown(subject.name or "")]
+    if subject.by_user():
+        names = [user_shown(subject.name), str(subject.clients)]
+    return [*names, shown(subject.topic), str(counts.before), str(counts.after),
+            why(counts.newly, counts.no_longer)]
+
+
+def findings(losses: Losses) -> Findings:
+    """All that is told."""
     copies, refusals, reasons = losses.changed_copies(), losses.changed_refusals(), losses.reasons
     if not reasons:
-        return {"copies": [entry(*c) for c in copies], "refused": [entry(*r) for r in refusals],
-                "totals": losses.totals()}
-    rows = [copies_of(reasons, key, vars(value)) for key, value in copies]
-    lines = [row for key, value in refusals for row in refused_of(reasons, key, vars(value))]
-    return {"by": "user" if reasons.by_user else "client", "copies": rows,
-            "causes": all_causes(rows), "refused": lines, "totals": losses.totals()}
+        return Findings(None, [CopiesRow(Subject(*key), value, None) for key, value in copies], [],
+                        [RefusedRow(Subject(*key), value) for key, value in refusals],
+                        losses.totals())
+    rows = [copies_of(reasons, key, value) for key, value in copies]
+    lines = [row for key, value in refusals for row in refused_of(reasons, key, value)]
+    return Findings("user" if reasons.by_user else "client", rows, all_causes(rows), lines,
+                    losses.totals())
 
 
 def arguments() -> argparse.Namespace:
@@ -314,9 +302,12 @@ def main() -> int:
         lists.refuse()
     if options.html is not None:
         page.write(options.html, found, options.script, options.before, options.after)
-    text = json.dumps(found, ensure_ascii=False, indent=1) + "\n" if options.json else report(found)
+    if options.json:
+        text = json.dumps(found.json(), ensure_ascii=False, indent=1) + "\n"
+    else:
+        text = report(found)
     sys.stdout.buffer.write(text.encode("utf-8"))
-    return 1 if found["copies"] or found["refused"] else 0
+    return 1 if found.copies or found.refused else 0
 
 
 if __name__ == "__main__":

@@ -1,14 +1,13 @@
 """What a broker's answer to one line of a script has in common with mqroute's."""
 import json
 from collections import defaultdict
-from collections.abc import Iterable, Iterator
+from collections.abc import Iterable, Iterator, Mapping
 from dataclasses import dataclass, field
-from typing import Any, NamedTuple
+from typing import NamedTuple
 
-from .output import Block, Key, read_json
+from .output import Block, Command, Key, read_json
 from .topics import matches
 
-Command = dict[str, Any]
 EXPIRY_SLACK = 2  # seconds
 NOT_AUTHORIZED = 135  # the reason code of what mqroute refuses as NotAuthorized
 NO_SUBSCRIBERS = 16  # which a broker may leave at 0 (3.4.2.1)
@@ -45,9 +44,10 @@ class Joined:
         self.count += 1
 
     def agrees(self, other: "Joined") -> bool:
-        if (self.expiry is None) != (other.expiry is None):
-            return False
-        near = self.expiry is None or abs(self.expiry - other.expiry) <= EXPIRY_SLACK
+        if self.expiry is None or other.expiry is None:
+            near = self.expiry == other.expiry
+        else:
+            near = abs(self.expiry - other.expiry) <= EXPIRY_SLACK
         mine = (self.qos, self.retain, self.ids, self.payloads)
         return near and mine == (other.qos, other.retain, other.ids, other.payloads)
 
@@ -59,7 +59,7 @@ class Joined:
         return ", ".join(parts)
 
 
-def joined(copies: Iterable[Copy]) -> dict[Key, dict[str, Joined]]:
+def joined(copies: Iterable[Copy]) -> Mapping[Key, Mapping[str, Joined]]:
     """By client and topic, then by payload: two messages may differ in RETAIN and interval."""
     found: defaultdict[Key, defaultdict[str, Joined]] = defaultdict(lambda: defaultdict(Joined))
     for copy in copies:
@@ -108,7 +108,10 @@ class Sessions:
     def has(self, client: str) -> bool:
         if client in self.live:
             return self.live[client] > 0
-        return client in self.away and (self.away[client] is None or self.now < self.away[client])
+        if client not in self.away:
+            return False
+        ends = self.away[client]
+        return ends is None or self.now < ends
 
     def present(self, command: Command) -> bool:
         """What CONNACK has to say: whether the connect resumes a session."""

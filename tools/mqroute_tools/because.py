@@ -2,10 +2,9 @@
 differs between them."""
 from collections import Counter
 from collections.abc import Callable, Iterable, Mapping
-from typing import Any
 
 from .causes import AFTER, BEFORE, READER, TURN, UNKNOWN, Found, Queues
-from .output import Block, Key, read_json
+from .output import Block, Command, Key, read_json
 from .story import Story
 from .waited import Waited
 
@@ -46,10 +45,10 @@ class Because:
     def user(self, client: str) -> str | None:
         return self.story.users.get(client)
 
-    def begin(self, command: dict[str, Any], before: Block, after: Block) -> None:
+    def begin(self, command: Command, before: Block, after: Block) -> None:
         self.story.begin(command, before, after)
 
-    def end(self, command: dict[str, Any], before: Block, after: Block, was: Grouped) -> None:
+    def end(self, command: Command, before: Block, after: Block, was: Grouped) -> None:
         do = command.get("do")
         for run, block in enumerate((before, after)):
             if do == "connect":
@@ -62,7 +61,7 @@ class Because:
                     self.story.rights.learn(client, topic, (True, True))
         self.story.end(before.line, command, before, after)
 
-    def differing(self, command: dict[str, Any], blocks: tuple[Block, Block], was: Grouped,
+    def differing(self, command: Command, blocks: tuple[Block, Block], was: Grouped,
                   now: Grouped) -> dict[Key, list[Found]]:
         """What is lost, gained and changed of each client and topic, copy by copy."""
         told: dict[Key, list[Found]] = {}
@@ -82,7 +81,7 @@ class Because:
                 told[key] = found if agrees else everything(counts, Found("", UNKNOWN))
         return told
 
-    def teller(self, command: dict[str, Any], blocks: tuple[Block, Block]) -> Teller | None:
+    def teller(self, command: Command, blocks: tuple[Block, Block]) -> Teller | None:
         """What tells the causes, where both runs accepted the line."""
         do = command.get("do")
         if do == "publish":
@@ -111,7 +110,7 @@ class Because:
                     self.story.rights.learn(*key, (what == "lost", what == "gained"))
         return found
 
-    def retained(self, command: dict[str, Any], key: Key,
+    def retained(self, command: Command, key: Key,
                  counts: tuple[int, int, int]) -> list[Found]:
         """Of a retained message at a subscribe."""
         runs, cause, line = self.story.retained(key[1])

@@ -5,7 +5,7 @@ from collections.abc import Iterable, Iterator
 from typing import Any, NamedTuple
 
 from .looks import HEAD, LOG, wrong
-from .output import command_of, is_blank
+from .output import Command, command_of, is_blank
 from .strict_json import NoJson, read
 
 LINE_LIMIT = 1_048_576  # bytes
@@ -62,7 +62,7 @@ def value_fault(field: Field, value: Any) -> str:
     return "" if field.low <= value <= field.high else f"not from {field.low:,} to {field.high:,}"
 
 
-def field_faults(do: str, command: dict[str, Any]) -> Iterator[str]:
+def field_faults(do: str, command: Command) -> Iterator[str]:
     fields = COMMANDS[do]
     unknown = [name for name in command if name not in fields and name != "do"]
     absent = [name for name in fields if name not in command]

@@ -4,7 +4,8 @@ from itertools import chain, islice
 from typing import BinaryIO
 
 from . import mosquitto_log as log
-from .sessions import Arrival, Clients, Command
+from .output import Command
+from .sessions import Arrival, Clients
 from .stamps import LOOKED_AT, Stamps
 
 ADDRESSES = 1_000  # new connections that are remembered until they say who they are
@@ -164,15 +165,21 @@ class Converter(Clients):
             if client in self.connected:
                 self.disconnecting(client)
         elif kind == "PUBREL":
-            found = log.RELEASE.match(client)
-            session = found and self.connected.get(found[1])
-            command = session.unreleased.pop(int(found[2]), None) if session else None
-            if command:
-                self.emit(self.place, command)
-            return found is not None
+            return self.released(client)
         else:
             return (kind in ("PINGREQ", "PUBACK", "PUBREC", "PUBCOMP", "AUTH", "SUBACK", "UNSUBACK")
                     or text.startswith("CONNACK on connection "))
+        return True
+
+    def released(self, text: str) -> bool:
+        """The sender of a publish of QoS 2 releases it: so it is routed."""
+        found = log.RELEASE.match(text)
+        if found is None:
+            return False
+        session = self.connected.get(found[1])
+        command = session.unreleased.pop(int(found[2]), None) if session else None
+        if command:
+            self.emit(self.place, command)
         return True
 
     def disconnecting(self, client: str) -> None:
@@ -358,8 +365,9 @@ class Converter(Clients):
         session = departed or self.connected[client]
         sent = (log.read_publish(text[19:], self.connected)
                 if text.startswith("Sending PUBLISH to ") else None)
+        will = session.will or {}
         copy = publish(client, sent.topic, sent.size, 0, False) if sent else {}
-        if sent and all(copy.get(name) == session.will.get(name) for name in ("topic", "payload")):
+        if sent and all(copy.get(name) == will.get(name) for name in ("topic", "payload")):
             session.leaves = False
         here, self.place = self.place, place
         if departed is None:

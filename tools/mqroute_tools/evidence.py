@@ -5,9 +5,10 @@ from bisect import bisect_left
 from collections import Counter
 from collections.abc import Iterable, Iterator
 from itertools import chain
-from typing import Any, NamedTuple
+from typing import NamedTuple
 
 from .mosquitto_log import Publish
+from .output import Command
 from .topics import TopicTree, matches
 
 SEVERAL = 3  # topics that a filter with wildcards has to stand for
@@ -116,7 +117,7 @@ class Evidence:
         if len(self.words) < MOST_WORDS and not name.startswith("$share/"):
             self.words[name] = None
 
-    def add(self, copy: Publish, times: int, live: dict[str, Any] | None, explained: bool,
+    def add(self, copy: Publish, times: int, live: Command | None, explained: bool,
             counted: bool) -> None:
         """A copy, of a topic that was published so many times; `live` is the publish that has just
         been routed, if it is of that."""

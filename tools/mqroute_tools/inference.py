@@ -7,8 +7,9 @@ from typing import BinaryIO
 from . import mosquitto_log as log
 from .conversion import Converter, placed_commands, publish
 from .evidence import Evidence, Inferred, Published
-from .sessions import FOREVER, NONE, Arrival, Command, Session
-from .state import UNTOLD, Client, State
+from .output import Command
+from .sessions import NONE, Arrival, Session
+from .state import FOREVER, UNTOLD, Client, State
 
 ALIKE = 100  # topics that are looked at for a publisher
 
@@ -79,7 +80,8 @@ class Observer(Converter):
             self.away.pop(client, None)
             self.result.earlier.add(place)
         if client not in self.connected:
-            self.connected[client] = self.away.pop(client, None) or self.older(client, away=False)
+            away = self.away.pop(client, None)
+            self.connected[client] = away or self.older(client, away=False)
         return self.connected[client]
 
     def connect(self, arrival: Arrival, client: str, user: str | None, clean: bool, protocol: int,

@@ -2,11 +2,11 @@
 and what the script uses."""
 import re
 from collections.abc import Iterator
-from typing import Any, NamedTuple
+from typing import NamedTuple
 
+from .output import Command
 from .wills import PAYLOAD
 
-Command = dict[str, Any]
 OURS, THEIRS = "      mqroute: ", "      broker:  "
 NOBODY = "   reason: mqroute 0, broker 16"
 PART = re.compile(r'(qos|retain|payload|ids|expiry) (\[[^]]*\]|"[^"]*"(?:, "[^"]*")*|[^,]+)')

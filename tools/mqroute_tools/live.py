@@ -16,7 +16,8 @@ except ImportError:
     tell("wants the package python3-paho-mqtt")
     sys.exit(FAILED)
 
-from .agreement import Acknowledged, Command, Copy
+from .agreement import Acknowledged, Copy
+from .output import Command
 
 KEEP_ALIVE = 3600
 
@@ -126,9 +127,10 @@ class Connection:
 
     def publish(self, command: Command) -> int:
         properties = message_properties(command, PacketTypes.PUBLISH)
-        return self.client.publish(
+        sent = self.client.publish(
             command["topic"], command.get("payload", ""), command.get("qos", 0),
-            command.get("retain", False), properties).mid
+            command.get("retain", False), properties)
+        return int(sent.mid)
 
     def drop(self) -> None:
         """Ends the connection without a DISCONNECT."""
@@ -140,7 +142,8 @@ class Connection:
             properties.SubscriptionIdentifier = command["id"]
         options = SubscribeOptions(command.get("qos", 0), command.get("no_local", False),
                                    command.get("rap", False), command.get("handling", 0))
-        return self.client.subscribe(command["filter"], options=options, properties=properties)[1]
+        _, mid = self.client.subscribe(command["filter"], options=options, properties=properties)
+        return int(mid)
 
     def copies(self) -> list[Copy]:
         """What has come since the last line, in its order."""

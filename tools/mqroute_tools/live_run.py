@@ -9,11 +9,11 @@ import time
 from collections import Counter
 from collections.abc import Callable
 
-from .agreement import (Acknowledged, Command, Copy, Sessions, copies_of, different_copies,
-                        different_order, different_reasons)
+from .agreement import (Acknowledged, Copy, Sessions, copies_of, different_copies, different_order,
+                        different_reasons)
 from .ending import Fault
 from .live import Connection, Offer
-from .output import Block
+from .output import Block, Command
 from .wills import Wills
 
 # nobody subscribes to it; its UNSUBACK tells that all that was sent before has come

@@ -2,11 +2,10 @@
 import argparse
 from collections.abc import Iterator
 
-from .agreement import Command
 from .ending import Fault, in_words
 from .kinds import Difference, apart
 from .live import Offer
-from .output import Block
+from .output import Block, Command
 from .random_scripts import ACCESS, PARTS, Use
 from .wills import Wills
 from .live_run import Closed, Replay
@@ -56,7 +55,8 @@ class LiveBroker:
     def run(self, script: list[Command], blocks: list[Block]) -> list[Difference]:
         """What differs; afterwards the broker has forgotten the script's
         sessions and retained messages."""
-        replay, found, lines = self.session(), [], list(sent(script, blocks))
+        replay, lines = self.session(), list(sent(script, blocks))
+        found: list[Difference] = []
         replay.wills = Wills(lines)
         try:
             for number, command, block in lines:

@@ -8,8 +8,7 @@ from .held_back import Backlog, Event, Owed
 from .log_kinds import (BROKERS_TOPIC, CUT_OFF, DIFFERENT, HELD_BACK, LOGGED_WILL, MEMBERS_TURN,
                         OWN_WILL, RETAINED_FOR_GROUP, TESTED_AGAIN, Copy, joined, kind, own_will)
 from .log_steps import Step
-from .output import Key
-from .sessions import Command
+from .output import Command, Key
 from .topics import matches, plain_filter
 
 
@@ -129,7 +128,7 @@ class Comparison:
             self.sent += 1
             sent, key = event.copy, (event.client, event.copy.topic)
             copy = Copy(sent.qos, sent.retain, size=sent.size)
-            found = self.kind_of(event, step, resumes, copy)
+            found = self.kind_of(event, key, step, resumes, copy)
             if found is not None:
                 (apart[found, key] if found else step.broker.copies[key]).append(copy)
         self.set_apart(step, apart)
@@ -144,24 +143,24 @@ class Comparison:
             else:
                 self.found.append(Line(step.place, key, copies, [], found))
 
-    def kind_of(self, event: Event, step: Step, resumes: set[str], copy: Copy) -> str | None:
+    def kind_of(self, event: Event, key: Key, step: Step, resumes: set[str],
+                copy: Copy) -> str | None:
         """The kind of a copy that mqroute hasn't; None: of an earlier step, empty: of this one."""
         if event.apart not in ("", OWN_WILL):
             return event.apart
         if event.released or event.client in resumes:
-            return self.late(event, step, copy, event.client in resumes)
+            return self.late(event, key, step, copy, event.client in resumes)
         if copy.qos:
             self.settle([event.client], drained=True)  # what is held back would have gone first
         return ""
 
-    def late(self, event: Event, step: Step, copy: Copy, resumes: bool) -> str | None:
+    def late(self, event: Event, key: Key, step: Step, copy: Copy, resumes: bool) -> str | None:
         """The same of a copy that was released, or sent to a client that comes back."""
-        client, topic = key = event.client, event.copy.topic
-        owed = self.backlog.take(event)
+        owed = self.backlog.take(key, copy.size, copy.retain)
         if owed:
             owed.line.theirs.append(copy)
             owed.line.last = event.place
-            if not self.by_group(client, topic):
+            if not self.by_group(*key):
                 self.name(self.backlog.passed(owed), drained=True)
             return None
         if resumes and self.is_due(step, key, copy.size):
@@ -173,7 +172,7 @@ class Comparison:
             return "" if step.mqroute.copies.get(key) else event.apart
         if event.apart:
             return OWN_WILL
-        if self.by_group(client, topic):
+        if self.by_group(*key):
             return RETAINED_FOR_GROUP if copy.retain else MEMBERS_TURN
         return ""
 

@@ -9,6 +9,8 @@ from .ending import Fault
 from .files import at, open_text
 from .looks import HEAD, kind
 
+Command = dict[str, Any]  # a line of a script, as JSON has it
+Answer = dict[str, Any]  # and one of an output
 Key = tuple[str, str]  # client and topic
 COPY = '{"client":'  # mqroute prints names in ascending order: a copy alone begins so
 ACCEPTED = re.compile(r'\{"line":(\d+),"reason":(\d+)\}$')
@@ -36,7 +38,7 @@ class Block(NamedTuple):
         """The lines that were written."""
         return [*self.copies, self.end]
 
-    def answers(self) -> list[dict[str, Any]]:
+    def answers(self) -> list[Answer]:
         return [read_json(text) for text in self.texts()]
 
 
@@ -91,7 +93,7 @@ def by_key(copies: list[str], name: str = "the output") -> defaultdict[Key, list
     match = PLAIN.fullmatch
     for text in copies:
         plain = match(text)
-        found[plain.group(1, 2) if plain else key_of(text, name)].append(text)
+        found[(plain[1], plain[2]) if plain else key_of(text, name)].append(text)
     return found
 
 
@@ -104,7 +106,7 @@ def key_of(text: str, name: str) -> Key:
         raise Fault(f"{name}: no output of mqroute: {why}") from fault
 
 
-def command_of(text: bytes) -> dict[str, Any] | None:
+def command_of(text: bytes) -> Command | None:
     """The command on a line of a script, if Python can read it as one."""
     try:
         value = json.loads(text)
@@ -117,7 +119,7 @@ def is_blank(text: bytes) -> bool:
     return not text.strip(b" \t\r\n")
 
 
-def misfit(command: dict[str, Any] | None, block: Block, keys: Iterable[Key]) -> str:
+def misfit(command: Command | None, block: Block, keys: Iterable[Key]) -> str:
     """Why mqroute can't have answered this to the command: its output is of another
     script. Empty where it can."""
     if command is None or block.refused:

@@ -1,11 +1,11 @@
 """Random scripts of few names, in which much comes together; and what of MQTT they may use."""
 import random
 from collections.abc import Callable, Iterable
-from typing import Any, NamedTuple
+from typing import NamedTuple
 
+from .output import Command
 from .wills import PAYLOAD
 
-Command = dict[str, Any]
 CLIENTS = "abc"
 TOPICS = ["x", "x", "x/y", "x/y", "y", "/", "x/", "x/y/z"]
 FILTERS = ["x", "x/y", "x/y", "#", "x/#", "+/y", "+", "x/+", "+/+", "/#", "+/#", "y"]
@@ -55,8 +55,8 @@ class Maker:
                 levels = name.split("/")
                 levels[self.chance.randrange(len(levels))] = "%c"
                 name = "/".join(levels) if "#" not in levels[:-1] else name
-            access = self.chance.choice([["read"], ["write"], ["readwrite"], ["deny"], []])
-            lines.append(" ".join([keyword, *access, name]))
+            access = self.chance.choice(["read ", "write ", "readwrite ", "deny ", ""])
+            lines.append(f"{keyword} {access}{name}")
         return {"do": "acl", "text": "".join(line + "\n" for line in lines)}
 
     def choose(self) -> None:

@@ -3,7 +3,8 @@ import re
 from collections.abc import Mapping
 
 from .notes import Notes
-from .state import FOREVER, Command, State, connect_command
+from .output import Command
+from .state import FOREVER, State, connect_command
 from .topics import matches, plain_filter
 
 MQTT_3_1 = 1  # as the log has it: 1 is 3.1, 2 is 3.1.1, 5 is 5
@@ -110,7 +111,8 @@ class Clients:
         found = self.connected.get(client)
         if found is None:
             self.was_before(client)
-            found = self.connected[client] = self.away.pop(client, None) or Session()
+            away = self.away.pop(client, None)
+            found = self.connected[client] = away or Session()
             self.emit(self.place, {"do": "connect", "client": client})
         return found
 
@@ -134,7 +136,9 @@ class Clients:
     def connect(self, arrival: Arrival, client: str, user: str | None, clean: bool, protocol: int,
                 present: bool) -> None:
         command = connect_command(client, user)
-        old = self.connected.pop(client, None) or self.away.pop(client, None)
+        old = self.connected.pop(client, None)
+        if old is None:
+            old = self.away.pop(client, None)
         # in the script; the broker may have lost it, as by a new start
         had_one = old is not None and old.kept
         # whose CONNACK doesn't tell
@@ -220,7 +224,8 @@ class Clients:
         if not came_back:
             kept = {"clean": False, "session_expiry": session.expiry} if session.kept else {}
             self.come_for_will(self.place, connect_command(client, session.user) | kept)
-        self.emit(self.place, session.will, None)
+        if session.will:
+            self.emit(self.place, session.will, None)
         if not came_back:
             self.emit(self.place, {"do": "disconnect", "client": client})
         self.ended = client

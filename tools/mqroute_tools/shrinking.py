@@ -2,17 +2,16 @@
 names and fields made simpler."""
 import json
 from collections.abc import Callable, Iterator
-from typing import Any
 
+from .output import Command
 from .random_scripts import with_names
 
-Command = dict[str, Any]
 Script = list[Command]
 Test = Callable[[Script], bool]
 OPTIONAL = {"connect": ("session_expiry", "clean"),
             "subscribe": ("handling", "id", "rap", "no_local", "qos"),
             "publish": ("expiry", "qos", "retain")}
-SIMPLEST: dict[str, list[Any]] = {
+SIMPLEST: dict[str, list[str | int]] = {
     "filter": ["x", "$x", "#", "+", "x/#", "$share/g/x", "$share/g/$x"],
     "topic": ["x", "$x"], "qos": [1], "payload": ["1"], "id": [1], "handling": [1]}
 PLAIN_NAMES = {"x", "$x", "x/y"}

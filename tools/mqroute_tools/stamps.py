@@ -106,9 +106,9 @@ class Stamps:
             day = DAYS_BEFORE[MONTHS.index(found[1])] + int(found[2])
         except ValueError:
             return None
-        time = ((self.years * 365 + day) * 24 + hours) * 3600 + minutes * 60 + seconds
-        if self.prefix_time is not None and time < self.prefix_time - HALF_A_YEAR:
+        passed = ((self.years * 365 + day) * 24 + hours) * 3600 + minutes * 60 + seconds
+        if self.prefix_time is not None and passed < self.prefix_time - HALF_A_YEAR:
             self.years += 1
-            time += 365 * 86_400
-        self.prefix_time = time
-        return time
+            passed += 365 * 86_400
+        self.prefix_time = passed
+        return passed

@@ -2,9 +2,9 @@
 subscriptions, retained messages."""
 from collections.abc import Iterator
 from dataclasses import dataclass, field
-from typing import Any
 
-Command = dict[str, Any]
+from .output import Command
+
 FOREVER = 4_294_967_295
 UNTOLD = FOREVER - 1  # of a session of MQTT 5 of which the log doesn't tell whether it is kept
 WITHOUT_RETAINED = 2  # Retain Handling: nothing is sent at the subscribe

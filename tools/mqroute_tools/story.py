@@ -6,10 +6,10 @@ differ are the rights, what is retained, what waits for clients that are away, a
 in a group.
 """
 from array import array
-from typing import Any, NamedTuple
+from typing import NamedTuple
 
 from .causes import Cause, Found
-from .output import Block
+from .output import Block, Command
 
 # so many rights are remembered; without one a cause is less often known, and never wrong
 RIGHTS = 200_000
@@ -120,7 +120,7 @@ class Story:
         self.renamed = False  # the client that connects has another user name than before,
         self.former: str | None = None  # which was this one
 
-    def begin(self, command: dict[str, Any], before: Block, after: Block) -> None:
+    def begin(self, command: Command, before: Block, after: Block) -> None:
         """The user name, which counts at the connect itself."""
         if command.get("do") == "connect" and not (before.refused and after.refused):
             client, user = str(command.get("client")), command.get("user")
@@ -128,16 +128,16 @@ class Story:
             self.renamed = self.former != user
             self.users[client] = user
 
-    def end(self, number: int, command: dict[str, Any], before: Block, after: Block) -> None:
+    def end(self, number: int, command: Command, before: Block, after: Block) -> None:
         """What the line leaves behind."""
         do, client = command.get("do"), str(command.get("client"))
         if before.refused and after.refused:
             return
+        cause = self.refusal(command, before, after)
         if do == "publish":
-            self.published(number, command, self.refusal(command, before, after))
-        elif before.refused or after.refused:
-            self.sessions.setdefault(
-                client, Found("", self.refusal(command, before, after), number))
+            self.published(number, command, cause)
+        elif cause:
+            self.sessions.setdefault(client, Found("", cause, number))
             self.clocks_differ |= do == "advance"
         elif do == "connect":
             self.connected(client, command)
@@ -149,7 +149,7 @@ class Story:
             self.lists += 1
             self.rights.clear()
 
-    def refusal(self, command: dict[str, Any], before: Block, after: Block) -> Cause | None:
+    def refusal(self, command: Command, before: Block, after: Block) -> Cause | None:
         """Why one run alone accepted the line."""
         name = after.refused or before.refused
         if not name:
@@ -159,14 +159,14 @@ class Story:
                 "publisher", name, bool(after.refused), self.users.get(str(command.get("client"))))
         return Cause("session", name, bool(after.refused), did=str(command.get("do")))
 
-    def connected(self, client: str, command: dict[str, Any]) -> None:
+    def connected(self, client: str, command: Command) -> None:
         (self.kept.add if command.get("session_expiry", 0) else self.kept.discard)(client)
         if self.renamed:
             self.rights.forget(client)
         if self.left.pop(client, None) and not self.left:
             self.log.clear()
 
-    def published(self, number: int, command: dict[str, Any], cause: Cause | None) -> None:
+    def published(self, number: int, command: Command, cause: Cause | None) -> None:
         expiry, payload = command.get("expiry"), command.get("payload", "")
         topic = str(command.get("topic"))
         deadline = None if expiry is None else self.now + expiry

@@ -25,23 +25,26 @@ class Waited:
             for copy in map(read_json, block.copies):
                 self.payloads[run][copy["topic"]].append(hash(copy["payload"]))
         self.origins: dict[str, tuple[list[Entry], list[Entry]] | None] = {}
+        self.expiring = 0  # publishes with an expiry while the client was away
         if self.left:
             topics = sorted(self.payloads[BEFORE].keys() | self.payloads[AFTER].keys())
-            self.origins = {topic: self.origin(topic) for topic in topics}
+            self.origins = {topic: self.origin(topic, self.left) for topic in topics}
+            self.expiring = story.expiring - self.left.expiring
         self.newest = [self.newest_in(run) for run in (BEFORE, AFTER)]
 
     def steady(self) -> bool:
         """No access list was set while the client was away, so that its rights stayed."""
         return self.left is not None and self.left.lists == self.story.lists
 
-    def origin(self, topic: str) -> tuple[list[Entry], list[Entry]] | None:
+    def origin(self, topic: str, left: Left) -> tuple[list[Entry], list[Entry]] | None:
         """The publishes that the copies of a topic are of, in each run; None
         where that can't be told."""
-        sent = [e for e in self.story.log.since(topic, self.left.line)
+        sent = [e for e in self.story.log.since(topic, left.line)
                 if not self.story.over(e.deadline)]
-        both = [self.placed([e for e in sent if e.accepted(run)], self.payloads[run][topic])
-                for run in (BEFORE, AFTER)]
-        return None if None in both else (both[0], both[1])
+        before, after = (
+            self.placed([e for e in sent if e.accepted(run)], self.payloads[run][topic])
+            for run in (BEFORE, AFTER))
+        return None if before is None or after is None else (before, after)
 
     def placed(self, sent: list[Entry], payloads: list[int]) -> list[Entry] | None:
         """The publishes that came of those that were sent, by what they say: the first that
@@ -75,7 +78,7 @@ class Waited:
             return entry.cause
         if entry.line < self.newest[run]:
             return READER  # a later copy found room
-        most = self.counts[run] + self.story.expiring - self.left.expiring
+        most = self.counts[run] + self.expiring
         may = None
         if self.steady():
             may = (True if self.payloads[run][topic]

@@ -8,8 +8,8 @@ without a DISCONNECT.
 from collections.abc import Iterable
 from typing import NamedTuple
 
-from .agreement import Command, copies_of
-from .output import Block
+from .agreement import copies_of
+from .output import Block, Command
 
 PAYLOAD = "will"
 

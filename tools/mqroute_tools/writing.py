@@ -13,9 +13,9 @@ from .inference import Beginning, beginning
 from .looks import HEAD, LOG, OF_MOSQUITTO, kind, wrong
 from .numbers import whole_number
 from .order import LogFile, in_order
-from .output import is_blank
-from .sessions import FOREVER, NONE, Command
-from .state import UNTOLD, State
+from .output import Command, is_blank
+from .sessions import NONE
+from .state import FOREVER, UNTOLD, State
 
 PIECE = 1 << 20
 
@@ -62,14 +62,14 @@ class Writer(Converter):
             self.topics.add(command["topic"])
         if self.state:
             for _, each in self.commands[written:]:
-                self.follow(each, routed)
+                self.follow(self.state, each, routed)
 
-    def follow(self, command: Command, routed: bool | None) -> None:
+    def follow(self, state: State, command: Command, routed: bool | None) -> None:
         if command["do"] == "connect":
-            if self.for_will and command["client"] in self.state.clients:
+            if self.for_will and command["client"] in state.clients:
                 return
             command = command | ({"session_expiry": UNTOLD} if self.untold else {})
-        self.state.follow(command, routed)
+        state.follow(command, routed)
 
     def come_for_will(self, place: int, command: Command) -> None:
         """The state keeps what the session has: it may be there when the client returns."""
