@@ -15,8 +15,8 @@ import tempfile
 TOP = pathlib.Path(__file__).resolve().parent.parent
 PROGRAM = TOP / "bin/mqroute"
 EXAMPLE = TOP / "examples/new-access-list"
-UNPROVED = "This run is unproved: mqroute is compiled as it stands, which takes a minute or two. " \
-    "`make` builds the proved program."
+UNPROVED = ("This run is unproved: mqroute is compiled as it stands, which takes a minute or two. "
+            "`make` builds the proved program.")
 OLD = "The sources are newer than bin/mqroute: `make` builds it anew."
 
 

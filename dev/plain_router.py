@@ -22,10 +22,9 @@ LONGEST_TEXT = 65_535
 MOST_LEVELS = 200
 DEEPEST = 127
 
-CODES = {name: code
-         for code, name in enumerate("LineTooLong BadJson BadCommand BadField ClientId UserName "
-                                     "NotConnected TopicName TopicFilter SharedNoLocal"
-                                     " NotAuthorized AclLine ClockTooFar RetainedFull".split(), 1)}
+NAMES = ("LineTooLong BadJson BadCommand BadField ClientId UserName NotConnected TopicName "
+         "TopicFilter SharedNoLocal NotAuthorized AclLine ClockTooFar RetainedFull").split()
+CODES = {name: code for code, name in enumerate(NAMES, 1)}
 
 
 class Refused(Exception):
@@ -372,8 +371,9 @@ class World:
         else:
             older.options = options
         copies = [self.retained_copy(client, options, message)
-                  for message in sorted(self.retained, key=lambda it: level_order(it.topic)) if asks
-                  and matches(wanted, message.topic) and self.may_read(client, message.topic)
+                  for message in sorted(self.retained, key=lambda it: level_order(it.topic))
+                  if asks and matches(wanted, message.topic)
+                  and self.may_read(client, message.topic)
                   and not (options["no_local"] and message.publisher == client)]
         return copies, {"reason": options["qos"]}
 
@@ -461,14 +461,15 @@ class World:
         refuse_if(self.moment + seconds > LAST_MOMENT, "ClockTooFar")
         self.moment += seconds
         self.retained = [it for it in self.retained if not is_over(it.deadline, self.moment)]
-        for session in [
-                it for it in self.sessions if not it.is_connected and is_over(it.end, self.moment)]:
+        over = [it for it in self.sessions
+                if not it.is_connected and is_over(it.end, self.moment)]
+        for session in over:
             self.end(session)
         return [], {"reason": 0}
 
     def stat(self):
-        nodes = prefixes(it.wanted for it in self.subscriptions), prefixes(
-            it.topic for it in self.retained)
+        nodes = (prefixes(it.wanted for it in self.subscriptions),
+                 prefixes(it.topic for it in self.retained))
         return [], {"nodes": min(U64, sum(map(len, nodes))), "retained": len(self.retained),
                     "subscriptions": len(self.subscriptions)}
 
@@ -536,14 +537,14 @@ def cases(top):
     for path in sorted(top.glob("examples/*/run")):
         for line in path.read_text().splitlines():
             out, status, *words = line.split()
-            yield f"{path.parent.name} {out}", words, b"", path.parent, (
-                (path.parent / out).read_bytes(), int(status))
+            wanted = (path.parent / out).read_bytes(), int(status)
+            yield f"{path.parent.name} {out}", words, b"", path.parent, wanted
 
 
 def check():
+    top = pathlib.Path(__file__).resolve().parent.parent
     found = [(name, run(words, script, folder) == wanted)
-             for name, words, script, folder, wanted in cases(
-                 pathlib.Path(__file__).resolve().parent.parent)]
+             for name, words, script, folder, wanted in cases(top)]
     wrong = [name for name, is_right in found if not is_right]
     for name in wrong:
         print(f"plain_router: {name} wants something else")

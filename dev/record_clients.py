@@ -14,18 +14,17 @@ PAUSE = 0.05
 # client id, user name, protocol
 CLIENTS = [
     ("meter-17", None, mqtt.MQTTv5), ("meter-18", None, mqtt.MQTTv311),
-    ("wall display", None, mqtt.MQTTv5),
-    ("o'neil \"b\"", "ops", mqtt.MQTTv5), ("zähler (1, 2)", "ops", mqtt.MQTTv311),
-    ("dash, board [3]", "plant manager", mqtt.MQTTv5),
+    ("wall display", None, mqtt.MQTTv5), ("o'neil \"b\"", "ops", mqtt.MQTTv5),
+    ("zähler (1, 2)", "ops", mqtt.MQTTv311), ("dash, board [3]", "plant manager", mqtt.MQTTv5),
     ("old", "plant manager", mqtt.MQTTv31), ("ops", "ops", mqtt.MQTTv5),
 ]
 TOPICS = [f"plant/hall-{h}/{what}" for h in (1, 2, 3) for what in ("energy", "heat", "door")] + [
     "plant/hall 1/o'gate, \"north\"", "alarm/fire", "alarm/größe/名", "secret/plan",
-    "own/meter-17/state", "own/ops/state",
-    "users/ops/mail", "users/plant manager/mail", "plant//", "/", "lone"]
+    "own/meter-17/state", "own/ops/state", "users/ops/mail", "users/plant manager/mail", "plant//",
+    "/", "lone"]
 FILTERS = ["plant/#", "plant/+/energy", "plant/hall-1/+", "+/+/door", "#", "alarm/#",
-           "alarm/größe/+", "secret/#", "own/+/state",
-           "users/#", "plant/hall 1/o'gate, \"north\"", "plant/hall-2/heat", "+", "/+", "plant//"]
+           "alarm/größe/+", "secret/#", "own/+/state", "users/#", "plant/hall 1/o'gate, \"north\"",
+           "plant/hall-2/heat", "+", "/+", "plant//"]
 GROUPS = ["$share/shift a/plant/#", "$share/shift a/alarm/+", "$share/b/plant/+/energy"]
 
 

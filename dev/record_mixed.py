@@ -14,12 +14,10 @@ STEPS = 700
 PAUSE = 0.06
 # client id, user name, protocol, whether its session is kept
 PAGES = [("page/1", None, mqtt.MQTTv5, False), ("page 2", "guest", mqtt.MQTTv311, False),
-         ("kiosk", "shop", mqtt.MQTTv5, True),
-         ("phone (anna)", "anna", mqtt.MQTTv5, True), ("phone (bo)", "bo", mqtt.MQTTv311, True),
-         ("tablet", "shop", mqtt.MQTTv311, False)]
+         ("kiosk", "shop", mqtt.MQTTv5, True), ("phone (anna)", "anna", mqtt.MQTTv5, True),
+         ("phone (bo)", "bo", mqtt.MQTTv311, True), ("tablet", "shop", mqtt.MQTTv311, False)]
 TOPICS = ["shop/till/1", "shop/till/2", "shop/stock/bread", "shop/stock/milk", "shop/door", "news",
-          "news/", "chat/anna/bo", "chat/bo/anna",
-          "till/kiosk/paper", "will/page", "staff/rota"]
+          "news/", "chat/anna/bo", "chat/bo/anna", "till/kiosk/paper", "will/page", "staff/rota"]
 FILTERS = ["shop/#", "shop/+/bread", "shop/till/+", "news", "news/#", "chat/anna/+", "chat/+/anna",
            "chat/#", "+/+", "#", "will/#", "staff/#"]
 MACHINES = [["-i", "printer", "-u", "shop", "-c", "-q", "1", "-t", "shop/till/#"],

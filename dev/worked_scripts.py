@@ -195,15 +195,15 @@ def row(path):
         requests.append(request(json.loads(line)))
         wanted.append(answered(outs[number]))
     name = path.stem.replace("-", "_")
-    script = f"\nabbrev {name}-script : List Request\n{name}-script =\n    " + "\n    ∷ ".join(
-        requests + ["[]"]) + "\n"
+    asked = "\n    ∷ ".join([*requests, "[]"])
+    script = f"\nabbrev {name}-script : List Request\n{name}-script =\n    {asked}\n"
+    given = "\n    ∷ ".join([*wanted, "[])"])
     equation = (
-        f"\n{name} : answers {start_of(path)} {name}-script\n    ≡ ("
-        + "\n    ∷ ".join(wanted + ["[])"]) + "\n"
+        f"\n{name} : answers {start_of(path)} {name}-script\n    ≡ ({given}\n"
         "unfolding fresh_world refusal answer after next with_row allowed unshared_copies "
         "groups_of served_rows\n"
-        + "    retained_after retained_copies resumed_copies begins_to_wait filters_of counts"
-        + f"\n{name} = refl\n")
+        "    retained_after retained_copies resumed_copies begins_to_wait filters_of counts\n"
+        f"{name} = refl\n")
     if path.stem not in STEPS:
         return script + equation
     counts = STEPS[path.stem]
@@ -211,11 +211,10 @@ def row(path):
     return script + equation + (
         f"\n-- the steps of line{'s'[:len(counts) - 1]} {', '.join(str(line) for line in counts)}\n"
         f"{name}-steps : counted_at {places} {start_of(path)} {name}-script ≡ "
-        f"{listed([str(n) for n in counts.values()])}"
-        + "\n"
+        f"{listed([str(n) for n in counts.values()])}\n"
         "unfolding fresh_world refusal answer after next with_row allowed groups_of served_rows "
         "retained_after\n"
-        + f"    filters_of steps\n{name}-steps = refl\n")
+        f"    filters_of steps\n{name}-steps = refl\n")
 
 
 # A row that begins with an access list has a twin that sets it.

@@ -391,9 +391,9 @@ class Filters(unittest.TestCase):
     def test_matches(self):
         for name, topic, wanted in (
                 ("a", "a", 1), ("a", "b", 0), ("+", "a", 1), ("+", "a/b", 0), ("a/#", "a", 1),
-                ("a/#", "a/b/c", 1), ("a/#", "b", 0), ("#", "a/b", 1),
-                ("#", "$x", 0), ("+/a", "$x/a", 0), ("$x/#", "$x/a", 1), ("a/+", "a/", 1),
-                ("+/+", "/", 1), ("+", "", 1), ("a/+/#", "a", 0)):
+                ("a/#", "a/b/c", 1), ("a/#", "b", 0), ("#", "a/b", 1), ("#", "$x", 0),
+                ("+/a", "$x/a", 0), ("$x/#", "$x/a", 1), ("a/+", "a/", 1), ("+/+", "/", 1),
+                ("+", "", 1), ("a/+/#", "a", 0)):
             self.assertEqual(matches(name, topic), bool(wanted), (name, topic))
             tree = TopicTree()
             for each in (topic, "zz/top", "$zz"):

@@ -285,9 +285,9 @@ class Times(Case):
 
 class Hostile(Case):
     NAMES = ["a b", "o'neil \"b\"", "名, (p5, c1, k60)", "x (d0, q0, r0, m0, 'y'", "x disconnected.",
-             "x disconnected: y", "x from y",
-             "x (p5, c1, k60, u'z')", "Sending PUBLISH to q (d0, q0, r0, m0, 'x', ... (2 bytes))",
-             "x, q1', ... (9 bytes))", "x already connected, closing old connection.",
+             "x disconnected: y", "x from y", "x (p5, c1, k60, u'z')",
+             "Sending PUBLISH to q (d0, q0, r0, m0, 'x', ... (2 bytes))", "x, q1', ... (9 bytes))",
+             "x already connected, closing old connection.",
              "New client connected from 1.2.3.4:5 as q (p5, c1, k60).", "x 1", "1795358535:",
              "x (QoS 1)", "x (Mid: 3)", "\\n{}", "<unknown>", "x\u2028y"]
 
