@@ -11,6 +11,8 @@ import subprocess
 import sys
 import tempfile
 
+from faults import is_absent, status_of
+
 TOP = pathlib.Path(__file__).resolve().parent.parent
 PROGRAM = TOP / "bin/mqroute-acl"
 EXAMPLE = TOP / "examples/access-list"
@@ -545,8 +547,8 @@ def faults_of_script(folder, chance, text):
     if done.returncode != (1 if vain else 0) or done.stderr or counts != wanted:
         yield (f"reach --script: status {done.returncode}, {counts}, not {wanted}: {done.stderr}\n"
                f"{script}")
-    if [(each["line"], each["client"], each["user"], each["filter"]) for each in told] != vain or \
-            any(each["file"] != "s.jsonl" for each in told):
+    found = [(each["line"], each["client"], each["user"], each["filter"]) for each in told]
+    if found != vain or any(each["file"] != "s.jsonl" for each in told):
         yield f"reach --script: {told}, not {vain}\n{script}"
 
 
@@ -631,21 +633,17 @@ def faults_of_random(folder, count):
 
 
 def main():
-    if not PROGRAM.exists():
-        print(f"acl: there is no {PROGRAM}: run 'make' first")
+    if is_absent("acl", PROGRAM):
         return 1
     count = int(sys.argv[1]) if len(sys.argv) > 1 else 300
     with tempfile.TemporaryDirectory() as folder:
-        faults = [
-            *faults_of_walk(), *faults_of_input(), *faults_of_remarks(folder),
-            *faults_of_several(folder),
-            *faults_of_refusals(folder), *faults_of_odd_scripts(folder), *faults_of_logs(folder),
-            *faults_of_known_pairs(folder), *faults_of_random(folder, count)]
-    for fault in faults:
-        print(f"acl: {fault}")
-    print(f"acl: {len(WALK)} examples, {len(FAULTY) + len(MISUSED)} refusals, {count} random pairs "
-          f"of lists, {len(faults)} faults")
-    return 1 if faults else 0
+        faults = [*faults_of_walk(), *faults_of_input(), *faults_of_remarks(folder),
+                  *faults_of_several(folder), *faults_of_refusals(folder),
+                  *faults_of_odd_scripts(folder), *faults_of_logs(folder),
+                  *faults_of_known_pairs(folder), *faults_of_random(folder, count)]
+    sums = (f"{len(WALK)} examples, {len(FAULTY) + len(MISUSED)} refusals, {count} random pairs of "
+            f"lists, {len(faults)} faults")
+    return status_of("acl", faults, sums)
 
 
 if __name__ == "__main__":

@@ -11,6 +11,8 @@ import subprocess
 import sys
 import tempfile
 
+from faults import is_absent, status_of
+
 TOP = pathlib.Path(__file__).resolve().parent.parent
 PROGRAM = TOP / "bin/mqroute-acl"
 ROW = re.compile(r"^\$ (.*)\n((?:(?!\$ |status \d).*\n)*)status (\d+)$", re.M)
@@ -28,18 +30,15 @@ def faults_of(path, folder):
 
 
 def main():
-    if not PROGRAM.exists():
-        print(f"acl_rows: there is no {PROGRAM}: run 'make' first")
+    if is_absent("acl_rows", PROGRAM):
         return 1
     with tempfile.TemporaryDirectory() as name:
         folder = pathlib.Path(name, "acl")
         shutil.copytree(TOP / "tests/acl", folder)
         found = [it for path in sorted(folder.glob("*.rows")) for it in faults_of(path, folder)]
     faults = [it for it in found if it]
-    for fault in faults:
-        print(f"acl_rows: {fault}")
-    print(f"acl_rows: {len(found)} rows, {len(faults)} faults")
-    return 1 if faults or not found else 0
+    sums = f"{len(found)} rows, {len(faults)} faults"
+    return status_of("acl_rows", faults, sums) or int(not found)
 
 
 sys.exit(main())

@@ -11,6 +11,8 @@ import pathlib
 import re
 import sys
 
+from faults import status_of
+
 TOP = pathlib.Path(__file__).resolve().parent.parent
 
 # How many crates stand on each other at most, the program included.
@@ -143,11 +145,9 @@ def main():
     for crate, _ in towers():
         count += sum(1 for _ in edges(crate))
         faults += module_faults(crate)
-    for fault in faults:
-        print(f"layers: {fault}")
-    print(f"layers: {len(towers())} crates, {count} imports among modules, {len(faults)} upward; "
-          f"the longest chain: {' '.join(longest_chain())}")
-    return 1 if faults or count == 0 else 0
+    sums = (f"{len(towers())} crates, {count} imports among modules, {len(faults)} upward; "
+            f"the longest chain: {' '.join(longest_chain())}")
+    return status_of("layers", faults, sums) or int(count == 0)
 
 
 if __name__ == "__main__":

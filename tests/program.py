@@ -10,6 +10,8 @@ import sys
 import tempfile
 import time
 
+from faults import is_absent, status_of
+
 TOP = pathlib.Path(__file__).resolve().parent.parent
 PROGRAM = TOP / "bin/mqroute"
 NAMES = {1: "LineTooLong", 2: "BadJson", 3: "BadCommand", 4: "BadField", 8: "TopicName",
@@ -44,14 +46,12 @@ MISUSED = ["--bad", "a b", "--acl-file", "--max-retained x", "--max-retained 429
 # Lines that are refused, with their code.
 LINES = [
     ("[]", 3), ("{}", 3), ('{"do":7}', 3), ('{"do":"fly"}', 3), ("[" * 127 + "]" * 127, 3),
-    ("[" * 128 + "]" * 128, 2),
-    (b'{"do":"connect","client":"\xff"}', 2),
+    ("[" * 128 + "]" * 128, 2), (b'{"do":"connect","client":"\xff"}', 2),
     (b'{"do":"publish","client":"a","topic":"t","payload":"\xff"}', 2),
     ('{"do":"stat","client":"a"}', 4), ('{"do":"advance"}', 4),
     ('{"do":"advance","seconds":1.0}', 4), ('{"do":"advance","seconds":1e0}', 4),
     ('{"do":"advance","seconds":18446744073709551616}', 4), ('{"do":"connect"}', 4),
-    ('{"do":"connect","client":null}', 4),
-    ('{"do":"connect","client":"a","extra":1}', 4),
+    ('{"do":"connect","client":null}', 4), ('{"do":"connect","client":"a","extra":1}', 4),
     ('{"do":"publish","client":"a","topic":"t","retain":1}', 4),
     ('{"do":"publish","client":"a","topic":"t","expiry":4294967296}', 4),
     ('{"do":"subscribe","client":"a","filter":"t","handling":3}', 4),
@@ -61,8 +61,8 @@ LINES = [
     ('{"do":"subscribe","client":"a","filter":"t","id":0}', 4),
     ('{"do":"subscribe","client":"a","filter":"t","id":268435456}', 4),
     ('{"do":"subscribe","client":"a","filter":"t","no_local":1}', 4),
-    *((CONNECT[:length], 2) for length in range(1, len(CONNECT))),
-    (CONNECT.ljust(1_048_577), 1), (CONNECT.ljust(1_100_000), 1), (" " * 1_048_577, 1),
+    *((CONNECT[:length], 2) for length in range(1, len(CONNECT))), (CONNECT.ljust(1_048_577), 1),
+    (CONNECT.ljust(1_100_000), 1), (" " * 1_048_577, 1),
 ]
 # Lines that are commands, or blank.
 COMMANDS = [CONNECT + "\r", CONNECT.ljust(1_048_576)]
@@ -72,22 +72,20 @@ BLANK = ["", " ", "\r", " \t\r"]
 TOPICS = [("a" * 65_535, None), ("a" * 65_536, 8), ("/" * 199, None), ("/" * 200, 8), ("", 8),
           ("a+", 8), ("a\0", 8), ("/", None), ("$SYS/x", None)]
 FILTERS = [("#", None), ("+", None), ("+/tennis/#", None), ("sport/+/player1", None), ("/", None),
-           ("sport+", 9), ("sport/tennis#", 9), ("a/#/b", 9),
-           ("$share//t", 9), ("$share/g", 9), ("$share/g/", 9), ("$share/+/t", 9),
-           ("$share/g/a#", 9), ("$share", None), ("$sharex/g", None),
-           ("$share/g/" + "/" * 199, None), ("$share/g/" + "/" * 200, 9),
+           ("sport+", 9), ("sport/tennis#", 9), ("a/#/b", 9), ("$share//t", 9), ("$share/g", 9),
+           ("$share/g/", 9), ("$share/+/t", 9), ("$share/g/a#", 9), ("$share", None),
+           ("$sharex/g", None), ("$share/g/" + "/" * 199, None), ("$share/g/" + "/" * 200, 9),
            ("$share/g/" + "a" * 65_526, None), ("$share/g/" + "a" * 65_527, 9)]
 # A filter, a topic, and whether it matches.
 MATCHES = [("sport/+", "sport", False), ("sport/#", "sport", True), ("sport/#", "sport/a/b", True),
-           ("+/+", "/finance", True), ("/+", "/finance", True),
-           ("+", "/finance", False), ("#", "$SYS/x", False), ("+/x", "$SYS/x", False),
-           ("$SYS/+", "$SYS/x", True), ("a/+", "a/$x", True)]
+           ("+/+", "/finance", True), ("/+", "/finance", True), ("+", "/finance", False),
+           ("#", "$SYS/x", False), ("+/x", "$SYS/x", False), ("$SYS/+", "$SYS/x", True),
+           ("a/+", "a/$x", True)]
 
 # An access list that has a fault, with its line; or none.
 LISTS = [("allow a", 1), ("\ufefftopic a", 1), ("topic a b", 1), ("topic", 1), ("topic read a+", 1),
-         ("user", 1), ("pattern read x%u", 1),
-         ("pattern read +%u", 1), ("# c\n\ntopic a b", 3), ("topic read\r\npattern read x%u", 2),
-         ("", None), ("topic read x%u", None),
+         ("user", 1), ("pattern read x%u", 1), ("pattern read +%u", 1), ("# c\n\ntopic a b", 3),
+         ("topic read\r\npattern read x%u", 2), ("", None), ("topic read x%u", None),
          ("topic read a b", None), ("topic read", None)]
 # Deny and grant rows of both kinds, with %u as a first and as a last level; and a list in its usual
 # form.
@@ -98,21 +96,17 @@ USUAL = ("# anonymous clients\ntopic read $SYS/#\n\nuser roger\ntopic foo/bar\n\
 # A list, a client, its user name, a topic, and whether it may be read and written.
 ACCESS = [
     (MIXED, "b", "b", "b/x", True, True), (MIXED, "n", None, "a/b", True, True),
-    (MIXED, "b", "b", "a/b", False, False),
-    (MIXED, "b", "b", "a/c", True, True), (MIXED, "p", "+", "b/x", False, True),
-    (MIXED, "s", "$SYS", "$SYS/x", False, True),
+    (MIXED, "b", "b", "a/b", False, False), (MIXED, "b", "b", "a/c", True, True),
+    (MIXED, "p", "+", "b/x", False, True), (MIXED, "s", "$SYS", "$SYS/x", False, True),
     (MIXED, "w", None, "$SYS/x", False, True), (MIXED, "w", None, "$x/y", False, False),
-    (MIXED, "w", None, "q", False, False),
-    (USUAL, "c1", "roger", "foo/bar", True, True),
+    (MIXED, "w", None, "q", False, False), (USUAL, "c1", "roger", "foo/bar", True, True),
     (USUAL, "c1", "roger", "$SYS/broker/connection/c1/state", False, True),
     (USUAL, "c1", "roger", "$SYS/broker/connection/c2/state", False, False),
-    (USUAL, "c1", "roger", "$SYS/x", False, False),
-    (USUAL, "c1", None, "$SYS/x", True, False),
+    (USUAL, "c1", "roger", "$SYS/x", False, False), (USUAL, "c1", None, "$SYS/x", True, False),
     ("user a b\ntopic x", "c", "a b", "x", True, True),
     ("user a b\ntopic x", "c", "a", "x", False, False),
     (" \ttopic \t readwrite \t a  b \t\r ", "c", None, "a  b", True, True),
-    ("pattern %c/#", "a", None, "a", True, True),
-    ("pattern %c/#", "a", None, "a/z", True, True),
+    ("pattern %c/#", "a", None, "a", True, True), ("pattern %c/#", "a", None, "a/z", True, True),
     ("pattern %c/#", "a/b", None, "a/b", False, False),
     ("pattern %c/#", "$c", None, "$c/z", False, False),
 ]
@@ -278,20 +272,16 @@ def faults_of_prefixes():
 
 
 def main():
-    if not PROGRAM.exists():
-        print(f"program: there is no {PROGRAM}: run 'make' first")
+    if is_absent("program", PROGRAM):
         return 1
     with tempfile.TemporaryDirectory() as folder:
         os.chmod(folder, 0o755)
         faults = [
             *faults_of_arguments(folder), *faults_of_devices(folder), *faults_of_pieces(folder),
             *faults_of_lines(), *faults_of_topics(), *faults_of_access(), *faults_of_prefixes()]
-    for fault in faults:
-        print(f"program: {fault}")
-    tried = len(CASES) + len(MISUSED) + 8 + len(LINES) + len(COMMANDS) + len(BLANK) + 1 + len(
-        TOPICS) + len(FILTERS) + len(MATCHES) + len(LISTS) + len(ACCESS) + 2
-    print(f"program: {tried - len(faults)} passed, {len(faults)} failed")
-    return 1 if faults else 0
+    tables = (CASES, MISUSED, LINES, COMMANDS, BLANK, TOPICS, FILTERS, MATCHES, LISTS, ACCESS)
+    tried = sum(map(len, tables)) + 11  # which no table has
+    return status_of("program", faults, f"{tried - len(faults)} passed, {len(faults)} failed")
 
 
 if __name__ == "__main__":

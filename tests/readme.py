@@ -16,6 +16,8 @@ import subprocess
 import sys
 import tempfile
 
+from faults import is_absent, status_of
+
 TOP = pathlib.Path(__file__).resolve().parent.parent
 
 
@@ -72,19 +74,15 @@ def main() -> int:
     root = parser.parse_args().installed
     top = pathlib.Path(root).resolve() / "usr/share/doc/mqroute" if root else TOP
     programs = pathlib.Path(root).resolve() / "usr/bin" if root else TOP / "bin"
-    for name in ("mqroute", "mqroute-acl"):
-        if not (programs / name).exists():
-            print(f"readme: there is no {programs / name}: run 'make' first")
-            return 1
+    if any(is_absent("readme", programs / name) for name in ("mqroute", "mqroute-acl")):
+        return 1
     # Beside an installed program stands the system alone: no toolchain.
     path = f"{programs}:/usr/bin:/bin" if root else f"{programs}:{os.environ['PATH']}"
     found = list(block_faults(top, programs, path))
     faults = [fault for _, some in found for fault in some]
-    for fault in faults:
-        print(f"readme: {fault}")
     count = [sum(it == kind for it, _ in found) for kind in ("session", "script")]
-    print(f"readme: {count[0]} sessions and {count[1]} scripts, {len(faults)} faults")
-    return 1 if faults or not all(count) else 0
+    sums = f"{count[0]} sessions and {count[1]} scripts, {len(faults)} faults"
+    return status_of("readme", faults, sums) or int(not all(count))
 
 
 sys.exit(main())

@@ -20,6 +20,8 @@ import pathlib
 import re
 import sys
 
+from faults import status_of
+
 TOP = pathlib.Path(__file__).resolve().parent.parent
 
 # The crates that a router is made of, and the one of tests, which may count what it likes.
@@ -260,10 +262,8 @@ def out_faults():
 
 def main():
     faults = [*steps_faults(), *counting_faults(), *struct_faults(), *out_faults()]
-    for fault in faults:
-        print(f"sources: {fault}")
-    print(f"sources: {len(MADE_OF)} structs and enums of a router, {len(faults)} faults")
-    return 1 if faults else 0
+    sums = f"{len(MADE_OF)} structs and enums of a router, {len(faults)} faults"
+    return status_of("sources", faults, sums)
 
 
 sys.exit(main())

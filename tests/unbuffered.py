@@ -13,6 +13,8 @@ import select
 import subprocess
 import sys
 
+from faults import is_absent, status_of
+
 TOP = pathlib.Path(__file__).resolve().parent.parent
 PROGRAM = TOP / "bin/mqroute"
 SECONDS = 20
@@ -58,14 +60,10 @@ def talk(arguments, sent, received):
 
 
 def main():
-    if not PROGRAM.exists():
-        print(f"unbuffered: there is no {PROGRAM}: run 'make' first")
+    if is_absent("unbuffered", PROGRAM):
         return 1
     faults = [*talk(["--unbuffered"], os.pipe(), os.pipe()), *talk([], os.pipe(), pty.openpty())]
-    for fault in faults:
-        print(f"unbuffered: {fault}")
-    print(f"unbuffered: {2 * len(PIECES)} pieces sent, {len(faults)} faults")
-    return 1 if faults else 0
+    return status_of("unbuffered", faults, f"{2 * len(PIECES)} pieces sent, {len(faults)} faults")
 
 
 if __name__ == "__main__":

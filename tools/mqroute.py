@@ -12,13 +12,12 @@ The program is `program`, or $MQROUTE, or the one that stands in the same clone 
 """
 import io
 import json
-import os
-import shutil
 import subprocess
 import tempfile
 from collections.abc import Iterable, Iterator
 from pathlib import Path
 
+from mqroute_tools import files
 from mqroute_tools.ending import Fault
 from mqroute_tools.output import Answer, Block, Command, blocks_of
 
@@ -31,13 +30,7 @@ class OracleFault(Exception):
 
 
 def found_program() -> str:
-    named = os.environ.get("MQROUTE")
-    if named:
-        return named
-    for built in (BUILT, INSTALLED):
-        if os.access(built, os.X_OK):
-            return str(built)
-    return shutil.which("mqroute") or "mqroute"
+    return files.program("MQROUTE", (BUILT, INSTALLED), "mqroute")
 
 
 class Conversation:

@@ -24,7 +24,7 @@ from mqroute_tools import ending
 from mqroute_tools.commands import Seen, line_faults
 from mqroute_tools.ending import Fault, counted, in_words
 from mqroute_tools.files import STDIN, at, keep_apart, open_input
-from mqroute_tools.numbers import amount, port, whole_number
+from mqroute_tools.numbers import add_waiting, port, whole_number
 from mqroute_tools.output import Block, Command, blocks, by_key, is_blank, misfit
 from mqroute_tools.progress import Progress
 from mqroute_tools.wills import Wills
@@ -153,11 +153,7 @@ def arguments() -> argparse.Namespace:
                         help="run as a will what a client publishes with the payload `will` and "
                         "then disconnects: it goes with the CONNECT, and the connection ends "
                         "without a DISCONNECT")
-    parser.add_argument("--patience", type=amount, default=5, metavar="SECONDS",
-                        help="how long to wait for an acknowledgement (default 5)")
-    parser.add_argument(
-        "--settle", type=amount, default=0, metavar="SECONDS",
-        help="wait after each line, for brokers that acknowledge before they route (default 0)")
+    add_waiting(parser)
     options = parser.parse_args()
     if options.script == options.output == STDIN:
         parser.error("standard input can be read once")

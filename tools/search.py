@@ -29,7 +29,7 @@ from mqroute_tools.commands import faults
 from mqroute_tools.ending import Fault, counted, in_words
 from mqroute_tools.files import at, whole
 from mqroute_tools.kinds import Difference, Kind, kind
-from mqroute_tools.numbers import amount, port, whole_number
+from mqroute_tools.numbers import add_waiting, amount, port, whole_number
 from mqroute_tools.output import Block, Command
 from mqroute_tools.random_scripts import ACCESS, PARTS, Maker, Use, fresh
 from mqroute_tools.shrinking import connected, shrink
@@ -241,11 +241,7 @@ def arguments() -> argparse.Namespace:
                         help="pass over what the scripts NAME.jsonl in it show, too")
     parser.add_argument("--save", type=Path, metavar="FOLDER",
                         help="write each find there as find-N.jsonl, .out and .diff")
-    parser.add_argument("--patience", type=amount, default=5, metavar="SECONDS",
-                        help="how long to wait for an acknowledgement (default 5)")
-    parser.add_argument(
-        "--settle", type=amount, default=0, metavar="SECONDS",
-        help="wait after each line, for brokers that acknowledge before they route (default 0)")
+    add_waiting(parser)
     return parser.parse_args()
 
 

@@ -6,8 +6,6 @@ The program is $MQROUTE_ACL_PROGRAM, or the one that stands in the same clone or
 `mqroute-acl` on the PATH.
 """
 import json
-import os
-import shutil
 import subprocess
 import tempfile
 from pathlib import Path
@@ -15,7 +13,7 @@ from typing import NamedTuple, TypedDict
 
 from .causes import AFTER, BEFORE, Cause
 from .ending import Fault
-from .files import STDIN, open_input, plain_file
+from .files import STDIN, open_input, plain_file, program
 from .tables import shown, user_shown
 
 BUILT = Path(__file__).resolve().parents[2] / "bin/mqroute-acl"
@@ -53,21 +51,12 @@ class Question(NamedTuple):
     access: str
 
 
-def program() -> str:
-    named = os.environ.get("MQROUTE_ACL_PROGRAM")
-    if named:
-        return named
-    for built in (BUILT, INSTALLED):
-        if os.access(built, os.X_OK):
-            return str(built)
-    return shutil.which("mqroute-acl") or "mqroute-acl"
-
-
 class AccessList:
     """One list. It is asked once for each user name and topic, and client if it has a `%c`."""
 
     def __init__(self, name: str) -> None:
-        self.name, self.path, self.program = name, name, program()
+        self.name, self.path = name, name
+        self.program = program("MQROUTE_ACL_PROGRAM", (BUILT, INSTALLED), "mqroute-acl")
         with open_input(name) as stream:
             text = stream.read()
         if name == STDIN or not plain_file(name):  # the program reads it each time

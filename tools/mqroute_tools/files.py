@@ -3,11 +3,13 @@ import errno
 import gzip
 import io
 import os
+import shutil
 import stat
 import sys
 import zlib
 from collections.abc import Iterable, Iterator, Mapping
 from contextlib import contextmanager
+from pathlib import Path
 from typing import TYPE_CHECKING, BinaryIO, TextIO, cast
 
 from .ending import Fault
@@ -60,6 +62,16 @@ def open_text(name: str) -> TextIO:
 def at(name: str, line: int) -> str:
     """The place of a line, as editors take it."""
     return f"{name}:{line}"
+
+
+def program(variable: str, built: Iterable[Path], name: str) -> str:
+    """The program that an environment variable names, or the first of those built that is there,
+    or the one of this name on the PATH."""
+    named = os.environ.get(variable)
+    if named:
+        return named
+    found = (str(path) for path in built if os.access(path, os.X_OK))
+    return next(found, "") or shutil.which(name) or name
 
 
 # -- not the same file

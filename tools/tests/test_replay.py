@@ -3,33 +3,23 @@ import io
 import json
 import os
 import shutil
-import socket
 import subprocess
 import sys
 import tempfile
-import time
 import unittest
 import unittest.mock
 from pathlib import Path
 
-HERE = Path(__file__).parent.parent
+import mosquitto
+from mosquitto import PAHO, wants_paho
+from worked import HERE, PROGRAM, wants_program
+
 sys.path.insert(0, str(HERE))
 from mqroute_tools.agreement import (  # noqa: E402
     Acknowledged, Copy, Sessions, different_copies, different_order, different_reasons)
 from mqroute_tools.output import Block  # noqa: E402
 from mqroute_tools.progress import Progress  # noqa: E402
 
-PROGRAM = Path(os.environ.get("MQROUTE", HERE.parent / "crates/mqroute/out/mqroute"))
-PYTHON = "/usr/bin/python3"  # which has Debian's python3-paho-mqtt
-MOSQUITTO = os.environ.get("MOSQUITTO") or shutil.which("mosquitto") or "/usr/sbin/mosquitto"
-
-
-def has_paho(python: str) -> bool:
-    return Path(python).exists() and subprocess.run(
-        [python, "-c", "import paho.mqtt.client"], capture_output=True).returncode == 0
-
-
-PAHO = next((p for p in (sys.executable, PYTHON) if has_paho(p)), None)
 COPY = Copy("b", "x", 1, True, "p", [3, 7], 9)
 
 
@@ -158,27 +148,15 @@ class OnABroker(unittest.TestCase):
         self.folder = tempfile.TemporaryDirectory()
         self.addCleanup(self.folder.cleanup)
         os.chmod(self.folder.name, 0o755)
-        with socket.socket() as free:
-            free.bind(("127.0.0.1", 0))
-            self.port = free.getsockname()[1]
+        self.port = mosquitto.free_port()
 
     def start(self, more: str = "", access: str = "pattern readwrite #\n") -> int:
-        if not Path(MOSQUITTO).exists():
-            self.skipTest("there is no mosquitto")
         folder = self.folder.name
         Path(folder, "acl").write_text(access)
         Path(folder, "conf").write_text(
             self.CONF.format(port=self.port, folder=folder, user=subprocess.getoutput("id -un"))
             + more)
-        broker = subprocess.Popen([MOSQUITTO, "-c", f"{folder}/conf"], stderr=subprocess.DEVNULL)
-        self.addCleanup(broker.wait)
-        self.addCleanup(broker.kill)
-        for _ in range(100):
-            with socket.socket() as probe:
-                if probe.connect_ex(("127.0.0.1", self.port)) == 0:
-                    return broker.pid
-            time.sleep(0.05)
-        raise AssertionError("the broker doesn't start")
+        return mosquitto.start(self, Path(folder, "conf"), self.port)
 
     def write_files(self, script: list, output: list) -> None:
         for name, lines in (("script", script), ("output", output)):
@@ -202,7 +180,7 @@ class OnABroker(unittest.TestCase):
         return [{"line": n, "reason": r} for n, r in enumerate(reasons, 1)]
 
 
-@unittest.skipUnless(PAHO, "there is no python3-paho-mqtt")
+@wants_paho
 class Runs(OnABroker):
     def test_outputs_that_are_not_of_the_script(self):
         script = [self.CONNECT, "", self.PUBLISH]
@@ -384,7 +362,7 @@ class Runs(OnABroker):
                 "replay: the broker doesn't offer retained messages: 1 line sent without RETAIN\n")
         self.assertEqual(self.run_script(script, output), (0, "", told))
 
-    @unittest.skipUnless(PROGRAM.exists(), f"there is no {PROGRAM}")
+    @wants_program
     def test_what_follows_from_it(self):
         """mqroute answers what was sent: nothing is retained, and the last
         message comes with QoS 1."""

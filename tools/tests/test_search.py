@@ -3,16 +3,15 @@ mosquitto, where there is one."""
 import json
 import os
 import random
-import shutil
-import socket
 import subprocess
 import sys
 import tempfile
-import time
 import unittest
 import unittest.mock
 from pathlib import Path
 
+import mosquitto
+from mosquitto import PAHO, wants_paho
 from worked import HERE, PROGRAM, wants_program
 
 sys.path.insert(0, str(HERE))
@@ -26,16 +25,6 @@ from mqroute import Oracle  # noqa: E402
 from mqroute_tools.random_scripts import Maker, Use  # noqa: E402
 from search import Search, known_scripts, learn  # noqa: E402
 
-PYTHON = "/usr/bin/python3"  # which has Debian's python3-paho-mqtt
-MOSQUITTO = os.environ.get("MOSQUITTO") or shutil.which("mosquitto") or "/usr/sbin/mosquitto"
-
-
-def has_paho(python: str) -> bool:
-    return Path(python).exists() and subprocess.run(
-        [python, "-c", "import paho.mqtt.client"], capture_output=True).returncode == 0
-
-
-PAHO = next((p for p in (sys.executable, PYTHON) if has_paho(p)), None)
 A = {"do": "connect", "client": "a"}
 X = {"do": "subscribe", "client": "a", "filter": "x"}
 PUBLISH = {"do": "publish", "client": "a", "topic": "x", "payload": "1"}
@@ -179,31 +168,20 @@ class Known(unittest.TestCase):
             learn(None, [Path("/nowhere")])
 
 
-@unittest.skipUnless(PAHO, "there is no python3-paho-mqtt")
+@wants_paho
 @wants_program
 class Live(unittest.TestCase):
     """On a mosquitto of its own."""
 
     def start(self) -> int:
-        if not Path(MOSQUITTO).exists():
-            self.skipTest("there is no mosquitto")
         folder = tempfile.TemporaryDirectory()
         self.addCleanup(folder.cleanup)
-        with socket.socket() as free:
-            free.bind(("127.0.0.1", 0))
-            port = free.getsockname()[1]
+        port = mosquitto.free_port()
         conf = Path(folder.name, "conf")
         conf.write_text(f"listener {port} 127.0.0.1\nallow_anonymous true\npersistence false\n"
                         "sys_interval 0\nlog_dest none\nmax_qos 1\n")
-        broker = subprocess.Popen([MOSQUITTO, "-c", conf], stderr=subprocess.DEVNULL)
-        self.addCleanup(broker.wait)
-        self.addCleanup(broker.kill)
-        for _ in range(100):
-            with socket.socket() as probe:
-                if probe.connect_ex(("127.0.0.1", port)) == 0:
-                    return port
-            time.sleep(0.05)
-        raise AssertionError("the broker doesn't start")
+        mosquitto.start(self, conf, port)
+        return port
 
     def run_tool(self, *words: str) -> tuple[int, str, str]:
         done = subprocess.run([PAHO, HERE / "search.py", *words], capture_output=True, text=True,
