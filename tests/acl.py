@@ -408,8 +408,8 @@ def faults_of_compare(folder, old, new):
     kinds = {kind(d["user"], d["access"], d["change"], number_of(d["old"]), number_of(d["new"]))
              for d in told}
     for user, client, topic in itertools.product(USERS, CLIENTS, TOPICS):
-        by_old, by_new = accesses(old_rows, client, user, topic), accesses(
-            new_rows, client, user, topic)
+        by_old = accesses(old_rows, client, user, topic)
+        by_new = accesses(new_rows, client, user, topic)
         for access in by_old ^ by_new:
             lines = [line_that_decides(rows, client, user, topic, access)
                      for rows in (old_rows, new_rows)]
@@ -436,8 +436,8 @@ def faults_of_known_pairs(folder):
 def faults_of_why(folder, chance, text):
     rows = rows_of(text)
     client, user, topic = chance.choice(CLIENTS), chance.choice(USERS), chance.choice(TOPICS)
-    words = ["why", "--json", "old.acl"] + ([] if user is None else [f"--user={user}"]) + [
-        "--", client, topic]
+    words = (["why", "--json", "old.acl"] + ([] if user is None else [f"--user={user}"])
+             + ["--", client, topic])
     done = run(words, folder)
     told = [json.loads(line) for line in done.stdout.splitlines()]
     if done.returncode != 0 or [each["access"] for each in told] != ["read", "write"]:
@@ -465,11 +465,11 @@ def filter_matches(text, topic):
 
 def faults_of_reach(folder, chance, text):
     rows = rows_of(text)
-    client, user, wanted = chance.choice(CLIENTS), chance.choice(USERS), random_filter(
-        chance, False)
+    client, user = chance.choice(CLIENTS), chance.choice(USERS)
+    wanted = random_filter(chance, False)
     share = chance.choice(["", "", "$share/g/"])
-    words = ["reach", "--json", "old.acl"] + ([] if user is None else [f"--user={user}"]) + [
-        "--", client, share + wanted]
+    words = (["reach", "--json", "old.acl"] + ([] if user is None else [f"--user={user}"])
+             + ["--", client, share + wanted])
     done = run(words, folder)
     told = json.loads(done.stdout)
     if told["filter"] != share + wanted or done.returncode != (1 if told["topic"] is None else 0):

@@ -215,8 +215,8 @@ def faults_of_lines():
 
 
 def faults_of_topics():
-    lines = [text_of(do="publish", client="a", topic=topic) for topic, _ in TOPICS] + [
-        text_of(do="subscribe", client="a", filter=text) for text, _ in FILTERS]
+    lines = ([text_of(do="publish", client="a", topic=topic) for topic, _ in TOPICS]
+             + [text_of(do="subscribe", client="a", filter=text) for text, _ in FILTERS])
     for (text, code), answer in zip(TOPICS + FILTERS, answers([CONNECT, *lines])[1:]):
         if refused(answer) != refusal(code):
             yield f"{text[:60]!r} ({len(text)} characters) is answered {answer}"

@@ -79,8 +79,8 @@ def random_line(chance: random.Random) -> bytes:
     line = b"{" + b",".join(name + space + b":" + value for name, value in parts) + b"}" + space
     if chance.random() < 0.1:
         at = chance.randrange(len(line))
-        line = line[:at] + chance.choice(
-            [b"", b'"', b"\\", b"}", b"[", b",", b"\xff", b" "]) + line[at + chance.randrange(2):]
+        line = (line[:at] + chance.choice([b"", b'"', b"\\", b"}", b"[", b",", b"\xff", b" "])
+                + line[at + chance.randrange(2):])
     return line
 
 

@@ -47,8 +47,8 @@ class Fields(unittest.TestCase):
         for do, required, optional in rows(
                 text, "| `do` | Fields | Fields that may be left out, with their defaults |\n"):
             left_out = dict(re.findall(r"`(\w+)`: ([^;]+)", optional))
-            found[NAME.findall(do)[0]] = {name: True for name in NAME.findall(required)} | {
-                name: False for name in left_out}
+            found[NAME.findall(do)[0]] = ({name: True for name in NAME.findall(required)}
+                                          | {name: False for name in left_out})
             for name, default in left_out.items():
                 wanted = defaults[name]
                 self.assertTrue(

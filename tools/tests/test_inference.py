@@ -37,8 +37,8 @@ def leaving(client: str, name: str) -> str:
 
 def routed(topic: str, *receivers: str, qos: int = 1, copy: int = 0) -> str:
     release = "Received PUBREL from p (Mid: 1)\n" if qos == 2 else ""
-    return published("p", topic, f"d0, q{qos}, r0, m1") + release + "".join(
-        sent(r, topic, copy) for r in receivers)
+    return (published("p", topic, f"d0, q{qos}, r0, m1") + release
+            + "".join(sent(r, topic, copy) for r in receivers))
 
 
 def written(text: str, expiry: int | None = None,
@@ -122,8 +122,8 @@ class Rule(Case):
             [c["filter"] for c in written(text)[0] if c["do"] == "unsubscribe"], ["x/#"])
 
     def test_the_end_of_the_session(self):
-        text = routed("x", "b") + "Client b disconnected.\n" + routed("x") + arrival("b") + routed(
-            "x")
+        text = (routed("x", "b") + "Client b disconnected.\n" + routed("x") + arrival("b")
+                + routed("x"))
         self.filters(text, "x")
         self.filters(routed("x", "b") + arrival("b") + routed("x"), "x")
 
@@ -168,8 +168,8 @@ class Rule(Case):
 
 class Sessions(Case):
     def test_a_session_that_was_away(self):
-        text = arrival("b", "p2, c0, k60, u'me'", present=1) + sent("b", "x", 1) + routed(
-            "x", "b", copy=1)
+        text = (arrival("b", "p2, c0, k60, u'me'", present=1) + sent("b", "x", 1)
+                + routed("x", "b", copy=1))
         self.assertEqual(before(text), [
             {"do": "connect", "client": "b", "user": "me", "session_expiry": FOREVER},
             {"do": "subscribe", "client": "b", "filter": "x", "qos": 1, "handling": 2},
@@ -200,8 +200,8 @@ class Sessions(Case):
         self.assertEqual(expiries(come(0, 0) + leave + come(0, 1), expiry=9), ([9, 9], 0))
 
     def test_expiry_of_a_session_of_before(self):
-        text = routed("x", "b") + "Client b disconnected.\n" + arrival(
-            "b", "p5, c0, k60", present=1) + routed("x", "b")
+        text = (routed("x", "b") + "Client b disconnected.\n"
+                + arrival("b", "p5, c0, k60", present=1) + routed("x", "b"))
         self.assertEqual(
             [c.get("session_expiry") for c in before(text) if c["do"] == "connect"], [FOREVER])
         self.filters(text, "x")
@@ -210,8 +210,8 @@ class Sessions(Case):
 class Retained(Case):
     def test_one_that_nobody_published(self):
         log = arrival("q", "p5, c1, k60, u'me'") + published("q", "x/1") + arrival("b")
-        text = log + "Received SUBSCRIBE from b\n\tx/# (QoS 1)\nb 1 x/#\n" + sent(
-            "b", "x/1", 1, 1) + sent("b", "x/2", 0, 1) + "Sending SUBACK to b\n"
+        text = (log + "Received SUBSCRIBE from b\n\tx/# (QoS 1)\nb 1 x/#\n" + sent("b", "x/1", 1, 1)
+                + sent("b", "x/2", 0, 1) + "Sending SUBACK to b\n")
         self.assertEqual(before(text), [
             {"do": "connect", "client": "q", "user": "me"},
             {"do": "publish", "client": "q", "topic": "x/1", "payload": "2 bytes", "qos": 1,
@@ -224,25 +224,25 @@ class Retained(Case):
         """One that publishes the topic, or one that is most like it, and rather
         one with a known user name."""
         def by(log: str, topic: str) -> str:
-            asked = arrival("b") + "Received SUBSCRIBE from b\n\t# (QoS 1)\nb 1 #\n" + sent(
-                "b", topic, 0, 1) + "Sending SUBACK to b\n"
+            asked = (arrival("b") + "Received SUBSCRIBE from b\n\t# (QoS 1)\nb 1 #\n"
+                     + sent("b", topic, 0, 1) + "Sending SUBACK to b\n")
             return next(c["client"] for c in before(log + asked) if c["do"] == "publish")
-        log = arrival("q") + arrival("r") + published("r", "z") + published(
-            "q", "x/1/a") + published("r", "x/2/b")
+        log = (arrival("q") + arrival("r") + published("r", "z") + published("q", "x/1/a")
+               + published("r", "x/2/b"))
         self.assertEqual([by(log, topic) for topic in ("z", "x/1/a", "x/1/c", "x/2/c", "x/2/b")],
                          ["r", "q", "q", "r", "r"])
         self.assertEqual(by(published("n", "x") + arrival("q") + published("q", "x"), "x"), "q")
         self.assertEqual(by(published("n", "x"), "x"), "n")
 
     def test_one_that_the_log_has(self):
-        text = arrival("b") + published("p", "x", "d0, q0, r1, m0") + subscribing(
-            "b", ("x", 0)) + sent("b", "x", retain=1)
+        text = (arrival("b") + published("p", "x", "d0, q0, r1, m0") + subscribing("b", ("x", 0))
+                + sent("b", "x", retain=1))
         self.assertEqual([c for c in before(text) if c["do"] == "publish"], [])
 
 
 class Told(unittest.TestCase):
-    LOG = routed("x", "b") + routed("y") + subscribing("b", ("y", 0)) + routed("y", "b") + routed(
-        "z", "b") + routed("z")
+    LOG = (routed("x", "b") + routed("y") + subscribing("b", ("y", 0)) + routed("y", "b")
+           + routed("z", "b") + routed("z"))
 
     def test_what_explains_the_copies(self):
         found = written(self.LOG)[1].explained
@@ -250,10 +250,10 @@ class Told(unittest.TestCase):
 
     def test_a_will_at_a_takeover(self):
         """Its copies stand before the new connection's lines."""
-        text = arrival("b") + subscribing("b", ("last", 0)) + arrival(
-            "a", will="Will message specified (3 bytes) (r0, q0).\n\tlast")
-        taken = "Client a already connected, closing old connection.\n" + sent(
-            "b", "last") + arrival("a")
+        text = (arrival("b") + subscribing("b", ("last", 0))
+                + arrival("a", will="Will message specified (3 bytes) (r0, q0).\n\tlast"))
+        taken = ("Client a already connected, closing old connection.\n" + sent("b", "last")
+                 + arrival("a"))
         self.assertEqual(written(text + taken)[1].explained, [1, 0, 0])
 
     def run_tool(self, *words: str, log: str = LOG) -> tuple[int, str, str]:
@@ -347,8 +347,8 @@ class States(unittest.TestCase):
         self.assertEqual(self.state_after(*commands), commands)
 
     def test_denied_publishes(self):
-        text = arrival("a") + published("a", "x", "d0, q0, r1, m0", word="Denied") + published(
-            "a", "y", "d0, q0, r1, m0")
+        text = (arrival("a") + published("a", "x", "d0, q0, r1, m0", word="Denied")
+                + published("a", "y", "d0, q0, r1, m0"))
         state = written(text)[1].state
         self.assertEqual(list(state.retained), ["y"])
 

@@ -62,8 +62,8 @@ class Websockets(unittest.TestCase):
 
     def test_the_older_one_ended(self):
         publish = {"do": "publish", "client": "a", "topic": "x", "payload": "2 bytes"}
-        text = arrival("a", will=WILL) + TAKEN + arrival("a", will=WILL) + CLOSED + published(
-            "a", "x")
+        text = (arrival("a", will=WILL) + TAKEN + arrival("a", will=WILL) + CLOSED
+                + published("a", "x"))
         self.assertEqual(convert(text), ([CONNECT, SENT, CONNECT, publish], {}))
         self.assertEqual(only(text + CLOSED), [CONNECT, SENT, CONNECT, publish, SENT, LEAVE])
         twice = TAKEN + arrival("a")
@@ -82,8 +82,8 @@ class Websockets(unittest.TestCase):
 
 class Bridges(unittest.TestCase):
     def test_a_bridge_that_connects(self):
-        text = arrival("a").replace("New client", "New bridge") + subscribing(
-            "a", ("last/#", 0), ("$share/g/x", 1))
+        text = (arrival("a").replace("New client", "New bridge")
+                + subscribing("a", ("last/#", 0), ("$share/g/x", 1)))
         self.assertEqual(convert(text), ([
             CONNECT, ALL | {"no_local": True, "rap": True},
             {"do": "subscribe", "client": "a", "filter": "$share/g/x", "qos": 1, "rap": True}], {}))
@@ -190,8 +190,8 @@ class Beginnings(unittest.TestCase):
 
     def test_lines_of_other_programs(self):
         prefix = "Nov 24 18:40:00 host "
-        text = f"{prefix}systemd[1]: Started Mosquitto.\n" + self.stamped(
-            prefix + "mosquitto[123]: ") + f"{prefix}kernel: x\n"
+        text = (f"{prefix}systemd[1]: Started Mosquitto.\n"
+                + self.stamped(prefix + "mosquitto[123]: ") + f"{prefix}kernel: x\n")
         self.assertEqual(convert(text), (self.WANTED, {}))
 
     def test_tabs_as_rsyslog_writes_them(self):

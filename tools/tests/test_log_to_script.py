@@ -66,14 +66,14 @@ class Coming(Case):
 
     def test_resumed_session_that_the_script_has(self):
         connect = {"do": "connect", "client": "b", "clean": False, "session_expiry": 4294967295}
-        text = arrival("b", "p2, c0, k60") + "Client b disconnected.\n" + arrival(
-            "b", "p2, c0, k60", present=1)
+        text = (arrival("b", "p2, c0, k60") + "Client b disconnected.\n"
+                + arrival("b", "p2, c0, k60", present=1))
         self.gives(text, [connect, {"do": "disconnect", "client": "b"}, connect])
 
     def test_session_that_the_broker_lost(self):
         connect = {"do": "connect", "client": "b", "clean": False, "session_expiry": 4294967295}
-        text = arrival("b", "p2, c0, k60") + "mosquitto version 2.0.11 starting\n" + arrival(
-            "b", "p2, c0, k60")
+        text = (arrival("b", "p2, c0, k60") + "mosquitto version 2.0.11 starting\n"
+                + arrival("b", "p2, c0, k60"))
         self.gives(text, [connect, {"do": "disconnect", "client": "b"},
                           {"do": "connect", "client": "b", "session_expiry": 4294967295}])
 
@@ -345,8 +345,8 @@ class Memory(Case):
     def test_nothing_is_kept_of_those_who_left(self):
         converter = Converter()
         for i in range(1000):
-            text = arrival(f"c{i}") + published(
-                f"c{i}", f"t/{i}", "d0, q2, r0, m1") + f"Client c{i} disconnected.\n"
+            text = (arrival(f"c{i}") + published(f"c{i}", f"t/{i}", "d0, q2, r0, m1")
+                    + f"Client c{i} disconnected.\n")
             for _ in placed_commands(converter, [io.BytesIO(text.encode())]):
                 pass
         self.assertEqual(

@@ -104,8 +104,8 @@ class OneByOne(unittest.TestCase):
 
     def test_as_a_whole_script(self):
         """With an access list and limits, and answers larger than a pipe holds."""
-        script = [{"do": "connect", "client": f"c{n}"} for n in range(300)] + [
-            {"do": "subscribe", "client": f"c{n}", "filter": "x/#"} for n in range(300)]
+        script = ([{"do": "connect", "client": f"c{n}"} for n in range(300)]
+                  + [{"do": "subscribe", "client": f"c{n}", "filter": "x/#"} for n in range(300)])
         script += [
             {"do": "publish", "client": "c0", "topic": topic, "payload": "é" * size, "retain": True}
             for topic, size in (("x/1", 1000), ("y", 1), ("x/2", 200_000 // 300), ("x/3", 1))]

@@ -305,8 +305,8 @@ class Runs(OnABroker):
     def test_denied_publishes(self):
         self.start(access="topic read #\n")
         script = [self.CONNECT] + [self.PUBLISH | {"qos": q} for q in (0, 1, 2)]
-        output = [{"line": 1, "reason": 0}] + [
-            {"code": 11, "line": n, "refused": "NotAuthorized"} for n in (2, 3, 4)]
+        output = ([{"line": 1, "reason": 0}]
+                  + [{"code": 11, "line": n, "refused": "NotAuthorized"} for n in (2, 3, 4)])
         self.assertEqual(self.run_script(script, output), (0, "", ""))
         status, out, _ = self.run_script(script, self.done(0, 16, 16, 16))
         self.assertEqual((status, out.count("   reason: mqroute 16, broker 135\n")), (1, 2))
