@@ -37,7 +37,7 @@ check: programs
 	tests/acl.py
 	tests/readme.py
 	tests/package.sh
-	@if command -v flake8 > /dev/null; then flake8 --select F,E9 tests tools dev bench; else echo "there is no flake8: not run"; fi
+	tests/linted.sh
 	python3 -m unittest discover -s tools/tests
 
 test: mended

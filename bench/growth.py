@@ -1,6 +1,7 @@
 #!/usr/bin/env python3
-"""Tells what one more command costs beside few and beside many things that it has nothing to do with, and the bytes of
-each such thing: growth.py MANY PROGRAM [YARDSTICK]. Instructions need valgrind; without it the bytes alone are told."""
+"""Tells what one more command costs beside few and beside many things that it has nothing to do
+with, and the bytes of each such thing: growth.py MANY PROGRAM [YARDSTICK]. Instructions need
+valgrind; without it the bytes alone are told."""
 import json
 import shutil
 import sys
@@ -15,7 +16,8 @@ FOREVER = 4_294_967_295
 
 
 def line(do, client="client-0", **fields):
-    return (json.dumps({"do": do, "client": client, **fields}, separators=(",", ":")) + "\n").encode()
+    return (
+        json.dumps({"do": do, "client": client, **fields}, separators=(",", ":")) + "\n").encode()
 
 
 def subscriptions(n):
@@ -33,7 +35,8 @@ def sessions_away(n):
 
 
 def retained_messages(n):
-    return (line("publish", topic=f"other/{i // 10}/{i % 10}", payload="on", retain=True, expiry=1_000_000 + i) for i in range(n))
+    return (line("publish", topic=f"other/{i // 10}/{i % 10}", payload="on", retain=True,
+                 expiry=1_000_000 + i) for i in range(n))
 
 
 def groups(n):
@@ -114,10 +117,13 @@ def measured(program, things, n, counted):
 def main():
     many = int(sys.argv[1])
     programs = sys.argv[2:]
-    print(f"Instructions of one command beside {FEW} and {many:,} things (few, many, ratio), and bytes of each thing:")
-    print("| Things | Program | publish to 5 | subscribe, 10 retained | connect, 1 waiting | advance, 2 ends | bytes |")
+    print(f"Instructions of one command beside {FEW} and {many:,} things (few, many, ratio), and "
+          "bytes of each thing:")
+    print("| Things | Program | publish to 5 | subscribe, 10 retained | connect, 1 waiting | "
+          "advance, 2 ends | bytes |")
     print("|---|---|---|---|---|---|---|")
-    for things in (subscriptions, sessions_connected, sessions_away, retained_messages, groups, waiting_copies, users_of_a_list):
+    for things in (subscriptions, sessions_connected, sessions_away, retained_messages, groups,
+                   waiting_copies, users_of_a_list):
         most = many if things is not users_of_a_list else min(many, MOST_USERS)
         name = things.__name__.replace("_", " ") + ("" if most == many else f" ({most:,})")
         for program in programs:
@@ -129,7 +135,8 @@ def main():
             _, least = measured(program, things, FEW, False)
             _, peak = measured(program, things, most, False)
             each = (peak - least) / (most - FEW)
-            print("|", " | ".join([name, program.rpartition("/")[2], *(cells or ["-"] * 4), f"{each:,.0f}"]), "|", flush=True)
+            print("|", " | ".join([name, program.rpartition("/")[2], *(cells or ["-"] * 4),
+                                   f"{each:,.0f}"]), "|", flush=True)
 
 
 main()

@@ -1,6 +1,6 @@
 #!/usr/bin/env python3
-"""Counts instructions a command: instructions.py PROGRAM [YARDSTICK]. Each row is a script and how many of its lines come
-first, uncounted: what they set up stands then, and buffers are made."""
+"""Counts instructions a command: instructions.py PROGRAM [YARDSTICK]. Each row is a script and how
+many of its lines come first, uncounted: what they set up stands then, and buffers are made."""
 import subprocess
 import sys
 import tempfile
@@ -11,21 +11,29 @@ from program import Program
 ROWS = [
     ("a publish that nobody receives", "scripts.py big 200000", 50, None),
     ("a publish to 5 subscribers of one filter", "scripts.py others 0 1020", 31, None),
-    ("a publish to 5 subscribers of three filters with identifiers", "scripts.py overlapping 1020", 40, None),
+    ("a publish to 5 subscribers of three filters with identifiers", "scripts.py overlapping 1020",
+     40, None),
     ("a publish to a group", "scripts.py groups 10 1030", 63, None),
-    ("a subscribe that is sent 10 of 1,000 retained messages", "scripts.py retained 1000 600", 1_101, None),
-    ("a line of 10,000 retained topics, 1,000 subscribers, 1,000 advances", "scripts.py lasting 10000 1000", 0, None),
-    ("a line of 100 clients for which 1,000 copies wait, and that come back", "scripts.py resuming 100 100", 0, None),
-    ("a publish under an access list of 10,000 lines of one user", "scripts.py rules 10000 60", 12, "scripts.py list 10000"),
-    ("a publish to 5 subscribers, 10 users of ten lines each", "scripts.py users 220", 30, "scripts.py userlist 10"),
-    ("a publish to 5 subscribers, 10,000 users of ten lines each", "scripts.py users 220", 30, "scripts.py userlist 10000"),
+    ("a subscribe that is sent 10 of 1,000 retained messages", "scripts.py retained 1000 600",
+     1_101, None),
+    ("a line of 10,000 retained topics, 1,000 subscribers, 1,000 advances",
+     "scripts.py lasting 10000 1000", 0, None),
+    ("a line of 100 clients for which 1,000 copies wait, and that come back",
+     "scripts.py resuming 100 100", 0, None),
+    ("a publish under an access list of 10,000 lines of one user", "scripts.py rules 10000 60", 12,
+     "scripts.py list 10000"),
+    ("a publish to 5 subscribers, 10 users of ten lines each", "scripts.py users 220", 30,
+     "scripts.py userlist 10"),
+    ("a publish to 5 subscribers, 10,000 users of ten lines each", "scripts.py users 220", 30,
+     "scripts.py userlist 10000"),
     ("a publish of a plant's day", "plant.py day 1000 100 1000", 101_250, "plant.py list 100"),
 ]
 
 
 def written(script):
     name, *arguments = script.split()
-    return subprocess.run([sys.executable, f"{sys.path[0]}/{name}", *arguments], check=True, stdout=subprocess.PIPE).stdout
+    return subprocess.run([sys.executable, f"{sys.path[0]}/{name}", *arguments], check=True,
+                          stdout=subprocess.PIPE).stdout
 
 
 def counted(program, lines, first, rows):
@@ -45,8 +53,10 @@ def main():
             if rows:
                 file.write(written(rows))
                 file.flush()
-            counts = [counted(program, lines, first, file.name if rows else None) for program in programs]
-        told = "".join(f", the yardstick {count:,}: ratio {counts[0] / count:.2f}" for count in counts[1:])
+            counts = [
+                counted(program, lines, first, file.name if rows else None) for program in programs]
+        told = "".join(
+            f", the yardstick {count:,}: ratio {counts[0] / count:.2f}" for count in counts[1:])
         print(f"{label}: {counts[0]:,}{told}", flush=True)
 
 

@@ -1,6 +1,7 @@
 #!/usr/bin/env python3
-"""Writes a plant's day on standard output, the same each time: plant.py day CLIENTS SUBSCRIPTIONS PUBLISHES, each client
-with so many subscriptions, and 50 groups of four; or plant.py list USERS, the access list of its users."""
+"""Writes a plant's day on standard output, the same each time: plant.py day CLIENTS SUBSCRIPTIONS
+PUBLISHES, each client with so many subscriptions, and 50 groups of four; or plant.py list USERS,
+the access list of its users."""
 import json
 import random
 import sys
@@ -40,7 +41,8 @@ def topic_filter(chance):
 
 def payload(chance, number):
     fields = {"ts": 1_700_000_000 + number, "value": round(chance.uniform(0, 100), 2),
-              "unit": chance.choice(["°C", "%", "ppm", "kWh"]), "quality": chance.choice(["good", "uncertain", "bad"]),
+              "unit": chance.choice(["°C", "%", "ppm", "kWh"]),
+              "quality": chance.choice(["good", "uncertain", "bad"]),
               "source": {"device": f"dev-{chance.randrange(2000)}", "fw": "2.4.1"}}
     if chance.random() < 0.5:
         fields["note"] = 'line one\nline "two" of C:\\data\\log ' + "x" * chance.randrange(60)
@@ -52,24 +54,28 @@ def payload(chance, number):
 def day(clients, subscriptions, publishes):
     chance = random.Random(7)
     for i in range(clients):
-        line(do="connect", client=f"client-{i:04}", user=f"user-{i % USERS}", clean=False, session_expiry=86_400)
+        line(do="connect", client=f"client-{i:04}", user=f"user-{i % USERS}", clean=False,
+             session_expiry=86_400)
         for _ in range(subscriptions):
             wanted, qos = topic_filter(chance), chance.randrange(3)
             options = {"id": chance.randrange(1, 1000)} if chance.random() < 0.1 else {}
             line(do="subscribe", client=f"client-{i:04}", filter=wanted, qos=qos, **options)
     for group in range(GROUPS):
         for member in range(4):
+            wanted = f"building-{group % BUILDINGS}/floor-{group % FLOORS}/#"
             line(do="subscribe", client=f"client-{(group * 17 + member) % clients:04}", qos=1,
-                 filter=f"$share/crew-{group}/building-{group % BUILDINGS}/floor-{group % FLOORS}/#")
+                 filter=f"$share/crew-{group}/{wanted}")
     for i in range(publishes):
         client, levels, text = chance.randrange(clients), topic(chance), payload(chance, i)
         qos = chance.choice([0, 0, 1, 1, 2])
         options = {"retain": True} if chance.random() < 0.1 else {}
-        line(do="publish", client=f"client-{client:04}", topic="/".join(levels), payload=text, qos=qos, **options)
+        line(do="publish", client=f"client-{client:04}", topic="/".join(levels), payload=text,
+             qos=qos, **options)
 
 
 def access_list(users):
-    print("pattern readwrite clients/%c/#\npattern read users/%u/+/state\npattern readwrite plant/#")
+    print(
+        "pattern readwrite clients/%c/#\npattern read users/%u/+/state\npattern readwrite plant/#")
     for user in range(users):
         print(f"user user-{user}\ntopic readwrite +/+/+/#")
         print(f"topic deny building-{user % BUILDINGS}/floor-{user % FLOORS}/room-3/door/#")

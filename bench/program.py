@@ -9,20 +9,23 @@ import tempfile
 import termios
 import time
 
-# glibc clears and copies what is long by one instruction, which callgrind counts as one for each byte: the 16 KiB that
-# are cleared for each line would be half of all that is counted. With these it does so by vectors, as what is short.
+# glibc clears and copies what is long by one instruction, which callgrind counts as one for each
+# byte: the 16 KiB that are cleared for each line would be half of all that is counted. With these
+# it does so by vectors, as what is short.
 TUNABLES = "glibc.cpu.x86_rep_stosb_threshold=100000000:glibc.cpu.x86_rep_movsb_threshold=100000000"
 
 
 class Program:
-    """With `counted` it runs under callgrind, which counts instructions only while `count` gives it a piece: neither the
-    start of the program nor what came before is in the number."""
+    """With `counted` it runs under callgrind, which counts instructions only while `count` gives it
+    a piece: neither the start of the program nor what came before is in the number."""
 
     def __init__(self, command, counted=False):
         self.folder = tempfile.TemporaryDirectory()
-        under = ["valgrind", "-q", "--tool=callgrind", "--instr-atstart=no", f"--callgrind-out-file={self.folder.name}/counts"]
-        self.process = subprocess.Popen((under if counted else []) + command, stdin=subprocess.PIPE, stdout=subprocess.DEVNULL,
-                                        env=dict(os.environ, GLIBC_TUNABLES=TUNABLES))
+        under = ["valgrind", "-q", "--tool=callgrind", "--instr-atstart=no",
+                 f"--callgrind-out-file={self.folder.name}/counts"]
+        self.process = subprocess.Popen(
+            (under if counted else []) + command, stdin=subprocess.PIPE, stdout=subprocess.DEVNULL,
+            env=dict(os.environ, GLIBC_TUNABLES=TUNABLES))
 
     def give(self, lines):
         """Returns when the program waits for more."""
@@ -35,7 +38,8 @@ class Program:
     def waits(self):
         for _ in range(2):
             time.sleep(0.05)
-            unread, = struct.unpack("i", fcntl.ioctl(self.process.stdin, termios.FIONREAD, bytes(4)))
+            unread, = struct.unpack(
+                "i", fcntl.ioctl(self.process.stdin, termios.FIONREAD, bytes(4)))
             with open(f"/proc/{self.process.pid}/stat") as stat:
                 state = stat.read().rpartition(")")[2].split()[0]
             if unread or state != "S":
@@ -48,12 +52,14 @@ class Program:
         self.give(lines)
         self.control("-d")
         self.control("-i", "off")
-        newest = max(glob.glob(f"{self.folder.name}/counts.*"), key=lambda name: int(name.rpartition(".")[2]))
+        newest = max(glob.glob(f"{self.folder.name}/counts.*"),
+                     key=lambda name: int(name.rpartition(".")[2]))
         with open(newest) as counts:
             return int(re.search(r"^totals: (\d+)", counts.read(), re.MULTILINE)[1])
 
     def control(self, *what):
-        subprocess.run(["callgrind_control", *what, str(self.process.pid)], check=True, stdout=subprocess.DEVNULL,
+        subprocess.run(["callgrind_control", *what, str(self.process.pid)], check=True,
+                       stdout=subprocess.DEVNULL,
                        stderr=subprocess.DEVNULL)
 
     def peak(self):

@@ -3,19 +3,23 @@
 
 five                          100,000 publishes to 5 subscribers of one filter
 big BYTES                     publishes that nobody receives, until the script has BYTES bytes
-rules LINES PUBLISHES         PUBLISHES publishes for an access list of LINES lines, as `list` writes it
+rules LINES PUBLISHES         PUBLISHES publishes for an access list of LINES lines, as `list`
+                              writes it
 list LINES                    that access list
 users PUBLISHES               publishes to 5 subscribers for the access list that `userlist` writes
 userlist USERS                an access list of ten lines each for USERS users
-others OTHERS PUBLISHES       publishes to 5 subscribers beside OTHERS subscriptions that don't match
+others OTHERS PUBLISHES       publishes to 5 subscribers beside OTHERS subscriptions that
+                              don't match
 overlapping PUBLISHES         publishes to 5 subscribers, each by three filters with identifiers
 groups GROUPS PUBLISHES       publishes to one of GROUPS shared subscriptions
 leaving FILTERS LEAVES        a client that subscribes to FILTERS filters and leaves LEAVES of them
 retained TOPICS SUBSCRIBES    subscribes of which each is sent 10 of TOPICS retained messages
-expiring TOPICS ADVANCES      advances of which each ends 10 retained messages, beside TOPICS that stay
-lasting TOPICS CLIENTS        CLIENTS clients that are each sent 10 of TOPICS retained messages, and as many advances,
-                              which end all those messages
-sessions AWAY PUBLISHES       publishes to 5 subscribers, of which two are away, beside AWAY clients that are away
+expiring TOPICS ADVANCES      advances of which each ends 10 retained messages, beside TOPICS that
+                              stay
+lasting TOPICS CLIENTS        CLIENTS clients that are each sent 10 of TOPICS retained messages, and
+                              as many advances, which end all those messages
+sessions AWAY PUBLISHES       publishes to 5 subscribers, of which two are away, beside AWAY clients
+                              that are away
 resuming AWAY RESUMES         clients of AWAY, for each of which 1,000 copies wait, that come back
 """
 import json
@@ -44,13 +48,15 @@ def others(count, publishes):
     for i in range(count):
         line(do="subscribe", client="other", filter=f"other/{i % 1000}/{i}/state")
     for i in range(publishes):
-        line(do="publish", client="client-0", topic=f"site/{i % 100}/temperature", payload=f"v={i}", qos=1)
+        line(do="publish", client="client-0", topic=f"site/{i % 100}/temperature", payload=f"v={i}",
+             qos=1)
 
 
 def big(size):
     line(do="connect", client="client")
-    text = json.dumps({"do": "publish", "client": "client", "topic": "site/7/temperature", "payload": "x" * 100},
-                      separators=(",", ":")) + "\n"
+    text = json.dumps(
+        {"do": "publish", "client": "client", "topic": "site/7/temperature", "payload": "x" * 100},
+        separators=(",", ":")) + "\n"
     for _ in range(size // len(text)):
         write(text)
 
@@ -73,7 +79,8 @@ def users(publishes):
         line(do="connect", client=f"client-{i}", user=f"user-{i}")
         line(do="subscribe", client=f"client-{i}", filter="site/+/temperature", qos=1)
     for i in range(publishes):
-        line(do="publish", client="client-0", topic=f"site/{i % 100}/temperature", payload=f"v={i}", qos=1)
+        line(do="publish", client="client-0", topic=f"site/{i % 100}/temperature", payload=f"v={i}",
+             qos=1)
 
 
 def user_list(users):
@@ -89,7 +96,8 @@ def overlapping(publishes):
         for id, filter in enumerate(["site/+/temperature", "site/#", "+/+/temperature"], 1):
             line(do="subscribe", client=f"client-{i}", filter=filter, qos=1, id=id)
     for i in range(publishes):
-        line(do="publish", client="client-0", topic=f"site/{i % 100}/temperature", payload=f"v={i}", qos=1)
+        line(do="publish", client="client-0", topic=f"site/{i % 100}/temperature", payload=f"v={i}",
+             qos=1)
 
 
 def groups(count, publishes):
@@ -113,7 +121,8 @@ def leaving(count, leaves):
 def retained(topics, subscribes):
     line(do="connect", client="client")
     for i in range(topics):
-        line(do="publish", client="client", topic=f"area/{i // 10}/{i % 10}", payload="on", retain=True)
+        line(do="publish", client="client", topic=f"area/{i // 10}/{i % 10}", payload="on",
+             retain=True)
     for i in range(subscribes):
         line(do="subscribe", client="client", filter=f"area/{i % 100}/+")
 
@@ -121,9 +130,11 @@ def retained(topics, subscribes):
 def expiring(topics, advances):
     line(do="connect", client="client")
     for i in range(topics):
-        line(do="publish", client="client", topic=f"stays/{i}", payload="on", retain=True, expiry=1_000_000 + i)
+        line(do="publish", client="client", topic=f"stays/{i}", payload="on", retain=True,
+             expiry=1_000_000 + i)
     for i in range(100_000):
-        line(do="publish", client="client", topic=f"goes/{i}", payload="on", retain=True, expiry=1 + i // 10)
+        line(do="publish", client="client", topic=f"goes/{i}", payload="on", retain=True,
+             expiry=1 + i // 10)
     for _ in range(advances):
         line(do="advance", seconds=1)
 
@@ -131,7 +142,8 @@ def expiring(topics, advances):
 def lasting(topics, clients):
     line(do="connect", client="sensor")
     for i in range(topics):
-        line(do="publish", client="sensor", topic=f"area/{i // 10}/{i % 10}", payload="on", retain=True, expiry=1 + i % clients)
+        line(do="publish", client="sensor", topic=f"area/{i // 10}/{i % 10}", payload="on",
+             retain=True, expiry=1 + i % clients)
     for i in range(clients):
         line(do="connect", client=f"client-{i}")
         line(do="subscribe", client=f"client-{i}", filter=f"area/{i % (topics // 10)}/+")
@@ -150,7 +162,8 @@ def sessions(away, publishes):
         line(do="subscribe", client=f"away-{i}", filter=f"other/{i % 1000}/{i}/state", qos=1)
         line(do="disconnect", client=f"away-{i}")
     for i in range(publishes):
-        line(do="publish", client="client-0", topic=f"site/{i % 100}/temperature", payload=f"v={i}", qos=1)
+        line(do="publish", client="client-0", topic=f"site/{i % 100}/temperature", payload=f"v={i}",
+             qos=1)
 
 
 def resuming(away, resumes):

@@ -1,9 +1,11 @@
 #!/usr/bin/env python3
-"""Proves and builds mqroute and mqroute-acl with the crates below them, side by side, and links both and the tools into bin/.
+"""Proves and builds mqroute and mqroute-acl with the crates below them, side by side, and links
+both and the tools into bin/.
 
-As many crates are at work at once as there are processors and memory for; the one with the longest chain above it comes
-first. A line a crate shows how far it is, and how long is left where an earlier run on this machine tells. A crate that
-fails ends the run, with the end of its log. Run again, it goes on where it was.
+As many crates are at work at once as there are processors and memory for; the one with the longest
+chain above it comes first. A line a crate shows how far it is, and how long is left where an
+earlier run on this machine tells. A crate that fails ends the run, with the end of its log. Run
+again, it goes on where it was.
 """
 import argparse
 import json
@@ -33,7 +35,8 @@ def towers():
         if name in stands_on and name not in wanted:
             wanted.add(name)
             left += stands_on[name]
-    return {name: [it for it in below if it in wanted] for name, below in stands_on.items() if name in wanted}
+    return {name: [it for it in below if it in wanted]
+            for name, below in stands_on.items() if name in wanted}
 
 
 def times_file():
@@ -54,12 +57,14 @@ def write_times(times):
         times_file().parent.mkdir(parents=True, exist_ok=True)
         times_file().write_text(json.dumps(times, indent=1), encoding="utf-8")
     except OSError as error:
-        print(f"build: {times_file()}: {error.strerror}: the next run can't say how long is left", file=sys.stderr)
+        print(f"build: {times_file()}: {error.strerror}: the next run can't say how long is left",
+              file=sys.stderr)
 
 
 def size(crate):
     """The bytes of a crate's sources and proofs: what its proof takes is roughly as much."""
-    files = [*(TOP / "crates" / crate).glob("src/**/*.rt"), *(TOP / "crates" / crate).glob("*s/**/*.antt")]
+    files = [*(TOP / "crates" / crate).glob("src/**/*.rt"),
+             *(TOP / "crates" / crate).glob("*s/**/*.antt")]
     return sum(path.stat().st_size for path in files)
 
 
@@ -97,22 +102,26 @@ class Build:
         self.began = time.monotonic()
 
     def ready(self):
-        waiting = [name for name in self.crates if name not in self.done and name not in self.running]
+        waiting = [
+            name for name in self.crates if name not in self.done and name not in self.running]
         can = [name for name in waiting if all(it in self.done for it in self.crates[name])]
         return sorted(can, key=self.heights.get, reverse=True)
 
     def start(self, name, jobs):
-        """Proves one crate in a process group of its own; a program is built by asking it for its help."""
+        """Proves one crate in a process group of its own; a program is built
+        by asking it for its help."""
         program = name in PROGRAMS.values()
         words = ["run"] if program else ["lib"]
         words += ["--jobs", str(jobs)] + (["--", "--help"] if program else [])
         (BIN / "log").mkdir(parents=True, exist_ok=True)
         with open(BIN / "log" / name, "wb") as log:
-            process = subprocess.Popen(["rt", *words], cwd=TOP / "crates" / name, stdin=subprocess.DEVNULL,
-                                       stdout=log, stderr=subprocess.STDOUT, start_new_session=True)
+            process = subprocess.Popen(
+                ["rt", *words], cwd=TOP / "crates" / name, stdin=subprocess.DEVNULL,
+                stdout=log, stderr=subprocess.STDOUT, start_new_session=True)
         self.running[name] = process, jobs
         self.free -= jobs
-        threading.Thread(target=self.wait_for, args=(name, process, jobs, time.monotonic()), daemon=True).start()
+        threading.Thread(
+            target=self.wait_for, args=(name, process, jobs, time.monotonic()), daemon=True).start()
 
     def wait_for(self, name, process, jobs, began):
         status = process.wait()
@@ -133,7 +142,8 @@ class Build:
         print(f"{len(self.done):2} of {len(self.crates)}  {name:16} {took:>9}{more}", flush=True)
 
     def left(self):
-        """The seconds of the dearest chain that is left, by the last run here; 0 where that isn't known."""
+        """The seconds of the dearest chain that is left, by the last run here;
+        0 where that isn't known."""
         left = [name for name in self.crates if name not in self.done]
         if any(name not in self.known for name in left):
             return 0
@@ -141,7 +151,8 @@ class Build:
         return max(heights(rest, self.known).values(), default=0)
 
     def fill(self):
-        """Starts what can be started: the crates that are ready share the processors that are free."""
+        """Starts what can be started: the crates that are ready share the
+        processors that are free."""
         ready = self.ready()
         while ready and self.free > 0:
             self.start(ready[0], max(1, min(MOST_JOBS, -(-self.free // len(ready)))))
@@ -162,8 +173,10 @@ class Build:
                 pass
 
     def remember(self):
-        """Keeps what each crate took. A crate that was proved before takes moments, which says nothing of the next time."""
-        proved = {name: took for name, took in self.done.items() if took > self.known.get(name, 0) / 4}
+        """Keeps what each crate took. A crate that was proved before takes moments, which says
+        nothing of the next time."""
+        proved = {
+            name: took for name, took in self.done.items() if took > self.known.get(name, 0) / 4}
         write_times(self.known | {name: round(took, 1) for name, took in proved.items()})
 
 
@@ -194,16 +207,19 @@ def build(at_once):
     if not proved:
         log = (BIN / "log" / work.failed).read_text(encoding="utf-8", errors="replace").splitlines()
         print("\n".join(log[-30:]), file=sys.stderr)
-        print(f"build: {work.failed} failed: all of its log is in bin/log/{work.failed}", file=sys.stderr)
+        print(f"build: {work.failed} failed: all of its log is in bin/log/{work.failed}",
+              file=sys.stderr)
         return 1
     link_programs()
-    print(f"bin/mqroute and bin/mqroute-acl are proved and built: {(time.monotonic() - work.began) / 60:.1f} min")
+    print("bin/mqroute and bin/mqroute-acl are proved and built: "
+          f"{(time.monotonic() - work.began) / 60:.1f} min")
     return 0
 
 
 def main():
-    parser = argparse.ArgumentParser(description=__doc__.partition("\n")[0])
-    parser.add_argument("--at-once", type=int, default=slots(), help="how many jobs of the prover run at once (%(default)s)")
+    parser = argparse.ArgumentParser(description=__doc__.partition("\n\n")[0])
+    parser.add_argument("--at-once", type=int, default=slots(),
+                        help="how many jobs of the prover run at once (%(default)s)")
     parser.add_argument("--link", action="store_true", help="only link into bin/ what is built")
     asked = parser.parse_args()
     if asked.link:

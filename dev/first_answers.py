@@ -1,8 +1,8 @@
 #!/usr/bin/env python3
 """Shows answers at once: of examples/new-access-list, or of a script of one's own.
 
-Where bin/mqroute is built it runs that. Else the toolchain compiles mqroute without any proof (`rt try`), and a line on
-standard error says so.
+Where bin/mqroute is built it runs that. Else the toolchain compiles mqroute without any proof (`rt
+try`), and a line on standard error says so.
 """
 import argparse
 import pathlib
@@ -15,8 +15,8 @@ import tempfile
 TOP = pathlib.Path(__file__).resolve().parent.parent
 PROGRAM = TOP / "bin/mqroute"
 EXAMPLE = TOP / "examples/new-access-list"
-UNPROVED = "This run is unproved: mqroute is compiled as it stands, which takes a minute or two. " \
-    "`make` builds the proved program."
+UNPROVED = ("This run is unproved: mqroute is compiled as it stands, which takes a minute or two. "
+            "`make` builds the proved program.")
 OLD = "The sources are newer than bin/mqroute: `make` builds it anew."
 
 
@@ -39,7 +39,8 @@ def built_answers(cases):
 
 
 def lay_out(cases, folder):
-    """Writes the cases as `rt try --cases` wants them; answers the options that name the access lists."""
+    """Writes the cases as `rt try --cases` wants them; answers the options
+    that name the access lists."""
     options = []
     for number, (script, access_list) in enumerate(cases):
         shutil.copyfile(script, folder / f"{number}")
@@ -81,7 +82,8 @@ def tried_answers(cases):
     for number in range(len(cases)):
         if number not in statuses:
             sys.stderr.write((done.stdout[:2000] + done.stderr).decode(errors="replace"))
-            fail("rt try gave no answer (of more than 1 MiB it gives none: `make` builds the program)")
+            fail("rt try gave no answer (of more than 1 MiB it gives none: `make` builds the "
+                 "program)")
         yield parts.get(number, b""), statuses[number]
 
 
@@ -101,7 +103,8 @@ def show_example():
         for access_list, (text, status) in zip(lists, answers([(script, it) for it in lists])):
             if status > 1:
                 return status
-            print(f"{script.relative_to(TOP)} under {access_list.name}:\n{text.decode()}", flush=True)
+            print(
+                f"{script.relative_to(TOP)} under {access_list.name}:\n{text.decode()}", flush=True)
             outputs.append(pathlib.Path(name, access_list.stem))
             outputs[-1].write_bytes(text)
         print("Who loses what (tools/who_loses.py):", flush=True)
@@ -120,7 +123,8 @@ def show(script, access_list):
 
 def main():
     parser = argparse.ArgumentParser(description=__doc__.partition("\n")[0])
-    parser.add_argument("script", nargs="?", default="", help="the script (the example, under both of its lists)")
+    parser.add_argument(
+        "script", nargs="?", default="", help="the script (the example, under both of its lists)")
     parser.add_argument("--acl", default="", help="the access list (none: all is allowed)")
     asked = parser.parse_args()
     if asked.acl and not asked.script:

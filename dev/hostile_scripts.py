@@ -1,9 +1,10 @@
 #!/usr/bin/env python3
-"""Writes crates/mq_calls/src/tests/scripts.rt: two worked rows of tests/rows, since the gate gives a test no files.
+"""Writes crates/mq_calls/src/tests/scripts.rt: two worked rows of tests/rows, since the gate gives
+a test no files.
 
-Their lines of more than 1,000 bytes are left out, and the others renumbered: the scripts are cut at each byte. Run from the
-repository's top, whenever one of the rows changes: dev/hostile_scripts.py; with the argument --check it writes nothing and
-fails where the file is out of date.
+Their lines of more than 1,000 bytes are left out, and the others renumbered: the scripts are cut at
+each byte. Run from the repository's top, whenever one of the rows changes: dev/hostile_scripts.py;
+with the argument --check it writes nothing and fails where the file is out of date.
 """
 import pathlib
 import re
@@ -46,5 +47,6 @@ def row(name):
 
 text = HEAD + "".join(map(row, NAMES))
 if "--check" in sys.argv:
-    sys.exit(0 if MADE.read_text() == text else f"{MADE} is not what dev/hostile_scripts.py makes of {ROWS}")
+    sys.exit(0 if MADE.read_text() == text
+             else f"{MADE} is not what dev/hostile_scripts.py makes of {ROWS}")
 MADE.write_text(text)

@@ -1,8 +1,10 @@
 #!/usr/bin/env python3
-"""Answers a script as mqroute does, by another reading: README.md and docs/DEFINITIONS.md put into Python's lists.
+"""Answers a script as mqroute does, by another reading: README.md and docs/DEFINITIONS.md put into
+Python's lists.
 
-It has no tree, no index and no queue of turns: each command looks at every row of every list, so it is slow, and its
-answers owe nothing to mqroute's code. What tests/rows wants is written by it where it is too long to be written by hand.
+It has no tree, no index and no queue of turns: each command looks at every row of every list, so it
+is slow, and its answers owe nothing to mqroute's code. What tests/rows wants is written by it where
+it is too long to be written by hand.
 
     dev/plain_router.py [--acl-file FILE] [--max-retained N] [--max-queued N] [SCRIPT]
     dev/plain_router.py --check      answers each row of tests/rows and each example, and compares
@@ -20,9 +22,9 @@ LONGEST_TEXT = 65_535
 MOST_LEVELS = 200
 DEEPEST = 127
 
-CODES = {name: code for code, name in enumerate(
-    "LineTooLong BadJson BadCommand BadField ClientId UserName NotConnected TopicName TopicFilter SharedNoLocal"
-    " NotAuthorized AclLine ClockTooFar RetainedFull".split(), 1)}
+NAMES = ("LineTooLong BadJson BadCommand BadField ClientId UserName NotConnected TopicName "
+         "TopicFilter SharedNoLocal NotAuthorized AclLine ClockTooFar RetainedFull").split()
+CODES = {name: code for code, name in enumerate(NAMES, 1)}
 
 
 class Refused(Exception):
@@ -49,7 +51,8 @@ def level_order(text):
 
 
 def fits(text):
-    return 1 <= len(text.encode()) <= LONGEST_TEXT and "\0" not in text and len(levels(text)) <= MOST_LEVELS
+    return (1 <= len(text.encode()) <= LONGEST_TEXT and "\0" not in text
+            and len(levels(text)) <= MOST_LEVELS)
 
 
 def is_name(text):
@@ -70,7 +73,8 @@ def subscription(text):
         return None, text
     share, slash, wanted = text[len("$share/"):].partition("/")
     is_share = share != "" and "+" not in share and "#" not in share and "\0" not in share
-    refuse_if(not (is_share and slash and is_filter(wanted) and len(text.encode()) <= LONGEST_TEXT), "TopicFilter")
+    refuse_if(not (is_share and slash and is_filter(wanted) and len(text.encode()) <= LONGEST_TEXT),
+              "TopicFilter")
     return share, wanted
 
 
@@ -147,7 +151,8 @@ def rows_of(text):
         marked = [level for level in levels(topic) if "%c" in level or "%u" in level]
         if keyword == "pattern" and any(level not in ("%c", "%u") for level in marked):
             return number, "Pattern"
-        rows.append(Row(ALL if keyword == "pattern" else who, access == "deny", ACCESS[access], topic))
+        rows.append(
+            Row(ALL if keyword == "pattern" else who, access == "deny", ACCESS[access], topic))
     return rows
 
 
@@ -164,15 +169,18 @@ TEXT, FLAG = "text", "flag"
 FIELDS = {
     "connect": {"client": TEXT, "user": TEXT, "clean": FLAG, "session_expiry": (0, U32)},
     "disconnect": {"client": TEXT},
-    "subscribe": {"client": TEXT, "filter": TEXT, "qos": (0, 2), "no_local": FLAG, "rap": FLAG, "handling": (0, 2),
+    "subscribe": {"client": TEXT, "filter": TEXT, "qos": (0, 2), "no_local": FLAG, "rap": FLAG,
+                  "handling": (0, 2),
                   "id": (1, 268_435_455)},
     "unsubscribe": {"client": TEXT, "filter": TEXT},
-    "publish": {"client": TEXT, "topic": TEXT, "payload": TEXT, "qos": (0, 2), "retain": FLAG, "expiry": (0, U32)},
+    "publish": {"client": TEXT, "topic": TEXT, "payload": TEXT, "qos": (0, 2), "retain": FLAG,
+                "expiry": (0, U32)},
     "acl": {"text": TEXT},
     "advance": {"seconds": (0, U64)},
     "stat": {},
 }
-ABSENT = {"clean": True, "session_expiry": 0, "qos": 0, "no_local": False, "rap": False, "handling": 0, "payload": "",
+ABSENT = {"clean": True, "session_expiry": 0, "qos": 0, "no_local": False, "rap": False,
+          "handling": 0, "payload": "",
           "retain": False}
 NEEDED = {"client", "filter", "topic", "seconds"}
 
@@ -193,7 +201,8 @@ def depth(text):
 
 
 def number(text):
-    """A whole number from 0 to 2^64 - 1; any other is a float, and one beyond the floats is no JSON."""
+    """A whole number from 0 to 2^64 - 1; any other is a float, and one beyond
+    the floats is no JSON."""
     if text.isdigit() and len(text) <= 20 and int(text) <= U64:
         return int(text)
     value = float(text)
@@ -235,7 +244,8 @@ def reading(line):
     do = value.pop("do", None)
     refuse_if(not isinstance(do, str) or do not in FIELDS, "BadCommand")
     kinds = FIELDS[do]
-    refuse_if(not all(name in kinds and is_kind(it, kinds[name]) for name, it in value.items()), "BadField")
+    refuse_if(not all(name in kinds and is_kind(it, kinds[name]) for name, it in value.items()),
+              "BadField")
     refuse_if(any(name in NEEDED and name not in value for name in kinds), "BadField")
     return do, {name: value.get(name, ABSENT.get(name)) for name in kinds}
 
@@ -327,7 +337,8 @@ class World:
 
     def connect(self, client, user, clean, session_expiry):
         self.check_client(client)
-        refuse_if(user is not None and (len(user.encode()) > LONGEST_TEXT or "\0" in user), "UserName")
+        refuse_if(
+            user is not None and (len(user.encode()) > LONGEST_TEXT or "\0" in user), "UserName")
         older = self.session(client)
         if older is not None and older.is_connected:
             self.leave(older)
@@ -353,14 +364,16 @@ class World:
         refuse_if(share is not None and options["no_local"], "SharedNoLocal")
         key = client, share, wanted
         older = next((it for it in self.subscriptions if it.key() == key), None)
-        asks = share is None and (options["handling"] == 0 or options["handling"] == 1 and older is None)
+        asks = (share is None
+                and (options["handling"] == 0 or options["handling"] == 1 and older is None))
         if older is None:
             self.subscriptions.append(Subscription(client, share, wanted, options, self.accepted))
         else:
             older.options = options
         copies = [self.retained_copy(client, options, message)
                   for message in sorted(self.retained, key=lambda it: level_order(it.topic))
-                  if asks and matches(wanted, message.topic) and self.may_read(client, message.topic)
+                  if asks and matches(wanted, message.topic)
+                  and self.may_read(client, message.topic)
                   and not (options["no_local"] and message.publisher == client)]
         return copies, {"reason": options["qos"]}
 
@@ -387,18 +400,21 @@ class World:
         is_new = len(others) == len(self.retained)
         is_full = self.max_retained is not None and len(self.retained) >= self.max_retained
         refuse_if(stores and is_new and is_full, "RetainedFull")
-        message = {"topic": topic, "payload": payload, "qos": qos, "retain": retain, "expiry": expiry}
+        message = {
+            "topic": topic, "payload": payload, "qos": qos, "retain": retain, "expiry": expiry}
         deadline = None if expiry is None else self.moment + expiry
         found = [it for it in self.subscriptions if matches(it.wanted, topic)]
         unshared = self.unshared_copies(client, message, found)
         shared = self.group_copies(message, found)
         begins = False
         for session, copy in unshared:
-            if not session.is_connected and copy["qos"] > 0 and len(session.waiting) < self.max_queued:
+            if (not session.is_connected and copy["qos"] > 0
+                    and len(session.waiting) < self.max_queued):
                 session.waiting.append((copy, deadline))
                 begins = True
         if retain:
-            self.retained = others + ([Message(topic, payload, qos, client, deadline)] if stores else [])
+            self.retained = (
+                others + ([Message(topic, payload, qos, client, deadline)] if stores else []))
         copies = [copy for session, copy in unshared if session.is_connected] + shared
         return copies, {"reason": 0 if copies or begins else 16}
 
@@ -423,10 +439,12 @@ class World:
         for share, wanted in sorted(groups, key=lambda it: (it[0].encode(), level_order(it[1]))):
             members = [it for it in found if (it.share, it.wanted) == (share, wanted)]
             in_turn = sorted(members, key=lambda it: it.stamp)
-            served = next((it for it in in_turn if self.may_be_served(it.client, message["topic"])), None)
+            served = next(
+                (it for it in in_turn if self.may_be_served(it.client, message["topic"])), None)
             if served is not None:
                 served.stamp = self.accepted
-                copies.append(dict(self.copy(served.client, message, [served.options]), share=share, filter=wanted))
+                copies.append(dict(self.copy(served.client, message, [served.options]), share=share,
+                                   filter=wanted))
         return copies
 
     def may_be_served(self, client, topic):
@@ -443,12 +461,15 @@ class World:
         refuse_if(self.moment + seconds > LAST_MOMENT, "ClockTooFar")
         self.moment += seconds
         self.retained = [it for it in self.retained if not is_over(it.deadline, self.moment)]
-        for session in [it for it in self.sessions if not it.is_connected and is_over(it.end, self.moment)]:
+        over = [it for it in self.sessions
+                if not it.is_connected and is_over(it.end, self.moment)]
+        for session in over:
             self.end(session)
         return [], {"reason": 0}
 
     def stat(self):
-        nodes = prefixes(it.wanted for it in self.subscriptions), prefixes(it.topic for it in self.retained)
+        nodes = (prefixes(it.wanted for it in self.subscriptions),
+                 prefixes(it.topic for it in self.retained))
         return [], {"nodes": min(U64, sum(map(len, nodes))), "retained": len(self.retained),
                     "subscriptions": len(self.subscriptions)}
 
@@ -457,9 +478,11 @@ class World:
 
 
 def printed(line, values):
-    left_out = {name for name in values if values[name] is None or name == "ids" and values[name] == []}
+    left_out = {
+        name for name in values if values[name] is None or name == "ids" and values[name] == []}
     kept = {name: it for name, it in values.items() if name not in left_out} | {"line": line}
-    return json.dumps(kept, ensure_ascii=False, sort_keys=True, separators=(",", ":")).encode() + b"\n"
+    return json.dumps(
+        kept, ensure_ascii=False, sort_keys=True, separators=(",", ":")).encode() + b"\n"
 
 
 def answered(world, line, number):
@@ -471,7 +494,8 @@ def answered(world, line, number):
         copies, closing = world.apply(*command)
         return b"".join(printed(number, values) for values in copies + [closing]), False
     except Refused as it:
-        return printed(number, {"acl_line": it.acl_line, "code": CODES[it.name], "refused": it.name}), True
+        return printed(
+            number, {"acl_line": it.acl_line, "code": CODES[it.name], "refused": it.name}), True
 
 
 def output(world, script):
@@ -503,7 +527,8 @@ def run(words, script, folder="."):
 
 
 def cases(top):
-    """A name, the words, the script, the folder, and what is wanted, of each row and each example."""
+    """A name, the words, the script, the folder, and what is wanted, of each
+    row and each example."""
     for path in sorted(top.glob("tests/rows/*.jsonl")):
         args = path.with_suffix(".args")
         words = args.read_text().splitlines() if args.exists() else []
@@ -512,12 +537,14 @@ def cases(top):
     for path in sorted(top.glob("examples/*/run")):
         for line in path.read_text().splitlines():
             out, status, *words = line.split()
-            yield f"{path.parent.name} {out}", words, b"", path.parent, ((path.parent / out).read_bytes(), int(status))
+            wanted = (path.parent / out).read_bytes(), int(status)
+            yield f"{path.parent.name} {out}", words, b"", path.parent, wanted
 
 
 def check():
+    top = pathlib.Path(__file__).resolve().parent.parent
     found = [(name, run(words, script, folder) == wanted)
-             for name, words, script, folder, wanted in cases(pathlib.Path(__file__).resolve().parent.parent)]
+             for name, words, script, folder, wanted in cases(top)]
     wrong = [name for name, is_right in found if not is_right]
     for name in wrong:
         print(f"plain_router: {name} wants something else")

@@ -1,5 +1,6 @@
 #!/usr/bin/python3
-"""The clients of record.sh: a plant's displays, meters and people, at random, for about a minute."""
+"""The clients of record.sh: a plant's displays, meters and people, at random,
+for about a minute."""
 import random
 import sys
 import time
@@ -12,15 +13,18 @@ STEPS = 900
 PAUSE = 0.05
 # client id, user name, protocol
 CLIENTS = [
-    ("meter-17", None, mqtt.MQTTv5), ("meter-18", None, mqtt.MQTTv311), ("wall display", None, mqtt.MQTTv5),
-    ("o'neil \"b\"", "ops", mqtt.MQTTv5), ("zähler (1, 2)", "ops", mqtt.MQTTv311), ("dash, board [3]", "plant manager", mqtt.MQTTv5),
+    ("meter-17", None, mqtt.MQTTv5), ("meter-18", None, mqtt.MQTTv311),
+    ("wall display", None, mqtt.MQTTv5), ("o'neil \"b\"", "ops", mqtt.MQTTv5),
+    ("zähler (1, 2)", "ops", mqtt.MQTTv311), ("dash, board [3]", "plant manager", mqtt.MQTTv5),
     ("old", "plant manager", mqtt.MQTTv31), ("ops", "ops", mqtt.MQTTv5),
 ]
 TOPICS = [f"plant/hall-{h}/{what}" for h in (1, 2, 3) for what in ("energy", "heat", "door")] + [
-    "plant/hall 1/o'gate, \"north\"", "alarm/fire", "alarm/größe/名", "secret/plan", "own/meter-17/state", "own/ops/state",
-    "users/ops/mail", "users/plant manager/mail", "plant//", "/", "lone"]
-FILTERS = ["plant/#", "plant/+/energy", "plant/hall-1/+", "+/+/door", "#", "alarm/#", "alarm/größe/+", "secret/#", "own/+/state",
-           "users/#", "plant/hall 1/o'gate, \"north\"", "plant/hall-2/heat", "+", "/+", "plant//"]
+    "plant/hall 1/o'gate, \"north\"", "alarm/fire", "alarm/größe/名", "secret/plan",
+    "own/meter-17/state", "own/ops/state", "users/ops/mail", "users/plant manager/mail", "plant//",
+    "/", "lone"]
+FILTERS = ["plant/#", "plant/+/energy", "plant/hall-1/+", "+/+/door", "#", "alarm/#",
+           "alarm/größe/+", "secret/#", "own/+/state", "users/#", "plant/hall 1/o'gate, \"north\"",
+           "plant/hall-2/heat", "+", "/+", "plant//"]
 GROUPS = ["$share/shift a/plant/#", "$share/shift a/alarm/+", "$share/b/plant/+/energy"]
 
 
@@ -33,7 +37,8 @@ class Person:
 
     def come(self, will: bool = False) -> None:
         old, five = self.client, self.protocol == mqtt.MQTTv5
-        client = Client(self.name, protocol=self.protocol, **({} if five else {"clean_session": not self.kept}))
+        client = Client(
+            self.name, protocol=self.protocol, **({} if five else {"clean_session": not self.kept}))
         if self.user:
             client.username_pw_set(self.user, "")
         if will:
@@ -71,7 +76,9 @@ class Person:
             self.client.subscribe([(f, dice.randint(0, 2)) for f in asked])
             return
         plain = {f: dice.random() < 0.9 for f in asked}
-        self.client.subscribe([(f, SubscribeOptions(dice.randint(0, 2), retainAsPublished=not plain[f])) for f in asked])
+        self.client.subscribe(
+            [(f, SubscribeOptions(dice.randint(0, 2), retainAsPublished=not plain[f]))
+             for f in asked])
 
 
 def step(person: Person, dice: random.Random, filters: list[str]) -> None:
@@ -89,7 +96,8 @@ def step(person: Person, dice: random.Random, filters: list[str]) -> None:
     elif roll < 0.17:
         person.client.unsubscribe(dice.choice(filters))
     else:
-        person.client.publish(dice.choice(TOPICS), "x" * dice.choice([0, 2, 5, 300]), dice.randint(0, 2), dice.random() < 0.3)
+        person.client.publish(dice.choice(TOPICS), "x" * dice.choice([0, 2, 5, 300]),
+                              dice.randint(0, 2), dice.random() < 0.3)
 
 
 def main() -> None:

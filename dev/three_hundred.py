@@ -1,10 +1,12 @@
 #!/usr/bin/env python3
-"""Writes tests/rows/three-hundred.*: a row with three hundred of everything at once, since the other rows have a few.
+"""Writes tests/rows/three-hundred.*: a row with three hundred of everything at once, since the
+other rows have a few.
 
-Three hundred clients are members of one group; one client has three hundred filters that match one topic, and a hundred
-and fifty have one filter; three hundred messages are retained, a third of them for ever; the access lists have three
-hundred lines. The answers are those of dev/plain_router.py. Run from the repository's top; with the argument --check
-it writes nothing and fails where the row is not what it makes.
+Three hundred clients are members of one group; one client has three hundred filters that match one
+topic, and a hundred and fifty have one filter; three hundred messages are retained, a third of them
+for ever; the access lists have three hundred lines. The answers are those of dev/plain_router.py.
+Run from the repository's top; with the argument --check it writes nothing and fails where the row
+is not what it makes.
 """
 import itertools
 import json
@@ -53,9 +55,10 @@ FIRST_LIST = "\n".join(
     ["topic readwrite job/#", "topic readwrite plant/#", "pattern read plant/#"]
     + [f"user u{i:03}\ntopic read job/#" for i in range(1, N, 2)])
 
-# To clients without a user name jobs with an odd number are denied, though the last line but one grants all of them.
-SECOND_LIST = "\n".join(
-    [f"topic {'deny' if i % 2 else 'read'} job/{i:03}" for i in range(N)] + ["topic read job/#", "pattern read plant/#"])
+# To clients without a user name jobs with an odd number are denied, though the last line but one
+# grants all of them.
+SECOND_LIST = "\n".join([f"topic {'deny' if i % 2 else 'read'} job/{i:03}" for i in range(N)]
+                        + ["topic read job/#", "pattern read plant/#"])
 
 
 def begin():
@@ -67,13 +70,16 @@ def begin():
     for i in map(lambda i: scattered(i, 11), range(N)):
         yield line("subscribe", client=client(i), filter="$share/g/job/#", qos=i % 3, id=i + 1)
     for i in map(lambda i: scattered(i, 13), range(N)):
-        yield line("subscribe", client=client(0), filter=FILTERS[i], qos=i % 3, rap=i == 0, id=i % 250 + 1)
+        yield line(
+            "subscribe", client=client(0), filter=FILTERS[i], qos=i % 3, rap=i == 0, id=i % 250 + 1)
     for i in range(N // 2, N):
-        yield line("subscribe", client=client(i), filter="plant/+/line/#", qos=i % 3, rap=i % 7 == 0)
+        yield line(
+            "subscribe", client=client(i), filter="plant/+/line/#", qos=i % 3, rap=i % 7 == 0)
     yield line("stat")
 
 
-# Each job goes to the next member, and the last one to the first member again. They come out of order.
+# Each job goes to the next member, and the last one to the first member again. They come out of
+# order.
 def jobs():
     for i in map(lambda i: scattered(i, 17), range(N)):
         expiry = [{}, {"expiry": 50}, {"expiry": 100 + i}][i % 3]

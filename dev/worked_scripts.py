@@ -1,11 +1,13 @@
 #!/usr/bin/env python3
-"""Writes crates/mq_world/proofs/WorkedScripts.antt: the worked rows of tests/rows as equations over the definitions.
+"""Writes crates/mq_world/proofs/WorkedScripts.antt: the worked rows of tests/rows as equations over
+the definitions.
 
-Each row's commands are put to the definitions (refusal, answer, next) from the world that nobody has used, and must give
-what the row's file .out says; for some lines the counted steps are computed too. The checker computes both sides, so this
-is a test of the definitions by the rows, with no code of the router in between. Run from the repository's top, whenever a
-row joins: dev/worked_scripts.py; with the argument --check it writes nothing and fails where the equations are out of
-date.
+Each row's commands are put to the definitions (refusal, answer, next) from the world that nobody
+has used, and must give what the row's file .out says; for some lines the counted steps are computed
+too. The checker computes both sides, so this is a test of the definitions by the rows, with no code
+of the router in between. Run from the repository's top, whenever a row joins:
+dev/worked_scripts.py; with the argument --check it writes nothing and fails where the equations are
+out of date.
 """
 import json
 import pathlib
@@ -29,13 +31,17 @@ STEPS = {
     "clock-limit": {2: 0},
 }
 
-HEADER = """-- The worked rows of tests/rows, computed from the definitions alone. Made by dev/worked_scripts.py.
-use Rattle.std.specs.Prelude.{◌≡◌, ℕ, Bool, true, false, List, [], ◌∷◌, map, Option, Some, None, is_some, Result, Ok, Err, codes, slice_index_or, if◌then◌else◌}
+HEADER = """\
+-- The worked rows of tests/rows, computed from the definitions alone. \
+Made by dev/worked_scripts.py.
+use Rattle.std.specs.Prelude.{◌≡◌, ℕ, Bool, true, false, List, [], ◌∷◌, map, Option, Some, None, \
+is_some, Result, Ok, Err, codes, slice_index_or, if◌then◌else◌}
 use Rattle.std.proofs.Common.{refl}
 use Rattle.std.specs.Option.{option_map_or}
 use Rattle.mq_acl.specs.Access.{allowed}
 use Rattle.mq_world.specs.Lists.{Text, with_row}
-use Rattle.mq_world.specs.World.{World, Request, Connect, Disconnect, Subscribe, Unsubscribe, Publish, SetAcl, Advance, Stat, Group, Copy, Reply, fresh_world, empty_world, within}
+use Rattle.mq_world.specs.World.{World, Request, Connect, Disconnect, Subscribe, Unsubscribe, \
+Publish, SetAcl, Advance, Stat, Group, Copy, Reply, fresh_world, empty_world, within}
 use Rattle.mq_world.specs.Refusals.{refusal}
 use Rattle.mq_world.specs.Copies.{unshared_copies}
 use Rattle.mq_world.specs.Groups.{groups_of, served_rows}
@@ -45,14 +51,16 @@ use Rattle.mq_world.specs.Counts.{filters_of, counts, steps}
 use Rattle.mq_world.specs.Answers.{answer}
 use Rattle.mq_world.specs.After.{after, next}
 use Rattle.mq_world.specs.declared.refusal.Refusal.{Refusal}
-use Rattle.mq_world.specs.declared.refusal.Refusal.TheVariants.{ClientId, UserName, NotConnected, TopicName, TopicFilter, SharedNoLocal, NotAuthorized, RetainedFull, AclLine, ClockTooFar}
+use Rattle.mq_world.specs.declared.refusal.Refusal.TheVariants.{ClientId, UserName, NotConnected, \
+TopicName, TopicFilter, SharedNoLocal, NotAuthorized, RetainedFull, AclLine, ClockTooFar}
 use Rattle.mq_world.specs.declared.answer.Outcome.TheVariants.{Reason, Counts}
 
 -- what each command is answered
 abbrev answers : World → List Request → List (Result Reply Refusal)
 answers w [] = []
 answers w (request ∷ requests) =
-    option_map_or (λ r. Err r) (refusal w request) (Ok (answer w request)) ∷ answers (next w request) requests
+    option_map_or (λ r. Err r) (refusal w request) (Ok (answer w request)) ∷ answers (next w \
+request) requests
 
 -- the steps that each command counts: none where it is refused
 abbrev counted : World → List Request → List ℕ
@@ -68,21 +76,24 @@ abbrev ok : List Copy → ℕ → Result Reply Refusal
 ok copies n = Ok (record { copies = copies; outcome = Reason n })
 
 abbrev counted_reply : ℕ → ℕ → ℕ → Result Reply Refusal
-counted_reply nodes retained subscriptions = Ok (record { copies = []; outcome = Counts nodes retained subscriptions })
+counted_reply nodes retained subscriptions = Ok (record { copies = []; \
+outcome = Counts nodes retained subscriptions })
 
 abbrev connect : Text → Option Text → Request
 connect client user = Connect client user true 0
 
 abbrev publish : Text → Text → Text → ℕ → Bool → Option ℕ → Request
 publish client topic payload qos retain expiry =
-    Publish (record { publisher = client; topic = topic; payload = payload; qos = qos; retain = retain; expiry = expiry })
+    Publish (record { publisher = client; topic = topic; payload = payload; qos = qos; \
+retain = retain; expiry = expiry })
 
 abbrev message : Text → Text → Text → ℕ → Request
 message client topic payload qos = publish client topic payload qos false None
 
 abbrev subscribe : Text → Text → ℕ → Request
 subscribe client text qos =
-    Subscribe client text (record { qos = qos; no_local = false; retain_as_published = false; handling = 0; identifier = None })
+    Subscribe client text (record { qos = qos; no_local = false; retain_as_published = false; \
+handling = 0; identifier = None })
 
 abbrev group : Text → Text → Option Group
 group share filter = Some (record { share = share; filter = filter })
@@ -128,7 +139,8 @@ def request(c):
     if do == "stat":
         return "Stat"
     if do == "publish":
-        start = f"{text(c['client'])} {text(c['topic'])} {text(c.get('payload', ''))} {c.get('qos', 0)}"
+        start = (f"{text(c['client'])} {text(c['topic'])} {text(c.get('payload', ''))} "
+                 f"{c.get('qos', 0)}")
         if set(c) <= {"do", "client", "topic", "payload", "qos"}:
             return f"message {start}"
         return f"publish {start} {flag(c.get('retain', False))} {maybe(c.get('expiry'), str)}"
@@ -136,22 +148,24 @@ def request(c):
     start = f"{text(c['client'])} {text(c['filter'])}"
     if set(c) <= {"do", "client", "filter", "qos"}:
         return f"subscribe {start} {c.get('qos', 0)}"
-    return (f"Subscribe {start} (record {{ qos = {c.get('qos', 0)}; no_local = {flag(c.get('no_local', False))}; "
-            f"retain_as_published = {flag(c.get('rap', False))}; handling = {c.get('handling', 0)}; "
-            f"identifier = {maybe(c.get('id'), str)} }})")
+    return (f"Subscribe {start} (record {{ qos = {c.get('qos', 0)}; no_local = "
+            f"{flag(c.get('no_local', False))}; retain_as_published = {flag(c.get('rap', False))}; "
+            f"handling = {c.get('handling', 0)}; identifier = {maybe(c.get('id'), str)} }})")
 
 
 def copy(c):
     group = f"group {text(c['share'])} {text(c['filter'])}" if "share" in c else "None"
-    return (f"record {{ client = {text(c['client'])}; topic = {text(c['topic'])}; payload = {text(c['payload'])}; "
-            f"qos = {c['qos']}; retain = {flag(c['retain'])}; expiry = {maybe(c.get('expiry'), str)}; "
-            f"identifiers = {listed([str(n) for n in c.get('ids', [])])}; group = {group} }}")
+    return (f"record {{ client = {text(c['client'])}; topic = {text(c['topic'])}; payload = "
+            f"{text(c['payload'])}; qos = {c['qos']}; retain = {flag(c['retain'])}; expiry = "
+            f"{maybe(c.get('expiry'), str)}; identifiers = "
+            f"{listed([str(n) for n in c.get('ids', [])])}; group = {group} }}")
 
 
 def answered(lines):
     last = lines[-1]
     if "refused" in last:
-        return f"Err (AclLine {last['acl_line']})" if last["refused"] == "AclLine" else f"Err {last['refused']}"
+        return (f"Err (AclLine {last['acl_line']})" if last["refused"] == "AclLine"
+                else f"Err {last['refused']}")
     if "nodes" in last:
         return f"counted_reply {last['nodes']} {last['retained']} {last['subscriptions']}"
     return f"ok {listed([copy(c) for c in lines[:-1]])} {last['reason']}"
@@ -164,7 +178,8 @@ def start_of(path):
     words = path.with_suffix(".args").read_text().split()
     value = dict(zip(words[::2], words[1::2]))
     retained = maybe(value.get("--max-retained"), str)
-    return f"(within (record {{ retained = {retained}; queued = {value.get('--max-queued', 1000)} }}) empty_world)"
+    return (f"(within (record {{ retained = {retained}; queued = {value.get('--max-queued', 1000)} "
+            f"}}) empty_world)")
 
 
 def row(path):
@@ -180,24 +195,33 @@ def row(path):
         requests.append(request(json.loads(line)))
         wanted.append(answered(outs[number]))
     name = path.stem.replace("-", "_")
-    script = f"\nabbrev {name}-script : List Request\n{name}-script =\n    " + "\n    ∷ ".join(requests + ["[]"]) + "\n"
-    equation = (f"\n{name} : answers {start_of(path)} {name}-script\n    ≡ (" + "\n    ∷ ".join(wanted + ["[])"])
-                + "\nunfolding fresh_world refusal answer after next with_row allowed unshared_copies groups_of served_rows\n"
-                + "    retained_after retained_copies resumed_copies begins_to_wait filters_of counts" + f"\n{name} = refl\n")
+    asked = "\n    ∷ ".join([*requests, "[]"])
+    script = f"\nabbrev {name}-script : List Request\n{name}-script =\n    {asked}\n"
+    given = "\n    ∷ ".join([*wanted, "[])"])
+    equation = (
+        f"\n{name} : answers {start_of(path)} {name}-script\n    ≡ ({given}\n"
+        "unfolding fresh_world refusal answer after next with_row allowed unshared_copies "
+        "groups_of served_rows\n"
+        "    retained_after retained_copies resumed_copies begins_to_wait filters_of counts\n"
+        f"{name} = refl\n")
     if path.stem not in STEPS:
         return script + equation
     counts = STEPS[path.stem]
     places = listed([str(place[line]) for line in counts])
     return script + equation + (
         f"\n-- the steps of line{'s'[:len(counts) - 1]} {', '.join(str(line) for line in counts)}\n"
-        f"{name}-steps : counted_at {places} {start_of(path)} {name}-script ≡ {listed([str(n) for n in counts.values()])}"
-        + "\nunfolding fresh_world refusal answer after next with_row allowed groups_of served_rows retained_after\n"
-        + f"    filters_of steps\n{name}-steps = refl\n")
+        f"{name}-steps : counted_at {places} {start_of(path)} {name}-script ≡ "
+        f"{listed([str(n) for n in counts.values()])}\n"
+        "unfolding fresh_world refusal answer after next with_row allowed groups_of served_rows "
+        "retained_after\n"
+        f"    filters_of steps\n{name}-steps = refl\n")
 
 
 # A row that begins with an access list has a twin that sets it.
-scripts = [path for path in sorted(ROWS.glob("*.jsonl")) if not path.with_suffix(".acl").exists() and path.stem not in LEFT_OUT]
+scripts = [path for path in sorted(ROWS.glob("*.jsonl")) if not path.with_suffix(".acl").exists()
+           and path.stem not in LEFT_OUT]
 made = HEADER + "".join(row(path) for path in scripts)
 if "--check" in sys.argv:
-    sys.exit(0 if OUT.read_text() == made else f"{OUT} is not what dev/worked_scripts.py makes of {ROWS}")
+    sys.exit(0 if OUT.read_text() == made
+             else f"{OUT} is not what dev/worked_scripts.py makes of {ROWS}")
 OUT.write_text(made)

@@ -1,6 +1,7 @@
 #!/usr/bin/env python3
-"""Runs the built mqroute-acl on the example of examples/access-list and on faulty lists, and compares what it writes and its
-statuses; then on random small lists, beside a check of every client, user and topic of few levels.
+"""Runs the built mqroute-acl on the example of examples/access-list and on faulty lists, and
+compares what it writes and its statuses; then on random small lists, beside a check of every
+client, user and topic of few levels.
 """
 import itertools
 import json
@@ -9,6 +10,8 @@ import random
 import subprocess
 import sys
 import tempfile
+
+from faults import is_absent, status_of
 
 TOP = pathlib.Path(__file__).resolve().parent.parent
 PROGRAM = TOP / "bin/mqroute-acl"
@@ -28,7 +31,8 @@ user plc                             may now write       mill/x/x/state  x: any 
     proposed.acl:10  topic write mill/+/+/state
 3 differences
 """),
-    (["compare", "current.acl", "current.acl"], 0, "both lists allow the same to every client, user and topic\n"),
+    (["compare", "current.acl", "current.acl"], 0,
+     "both lists allow the same to every client, user and topic\n"),
     (["why", "current.acl", "screen", "mill/energy/east"], 0, """\
 may read: current.acl:4  topic read mill/energy/#
 may not write: no line allows it
@@ -39,18 +43,22 @@ may not write: current.acl:13  topic deny mill/+/+/secret
     would be allowed by current.acl:11  topic write mill/line1/#
 """),
     (["why", "--json", "current.acl", "press", "mill/line1/press/secret", "--user=plc"], 0, """\
-{"access":"read","allowed":false,"deny":{"file":"current.acl","line":13,"text":"topic deny mill/+/+/secret"},"grant":null}
-{"access":"write","allowed":false,"deny":{"file":"current.acl","line":13,"text":"topic deny mill/+/+/secret"},\
+{"access":"read","allowed":false,\
+"deny":{"file":"current.acl","line":13,"text":"topic deny mill/+/+/secret"},"grant":null}
+{"access":"write","allowed":false,\
+"deny":{"file":"current.acl","line":13,"text":"topic deny mill/+/+/secret"},\
 "grant":{"file":"current.acl","line":11,"text":"topic write mill/line1/#"}}
 """),
     (["lint", "current.acl"], 0, ""),
-    (["lint", "proposed.acl"], 1, "proposed.acl:15: a pattern line without %c and %u is for all clients alike\n"),
+    (["lint", "proposed.acl"], 1,
+     "proposed.acl:15: a pattern line without %c and %u is for all clients alike\n"),
     (["lint", "--json", "proposed.acl"], 1, """\
 {"file":"proposed.acl","kind":"no mark","line":15,"text":"pattern read mill/notes",\
 "words":"a pattern line without %c and %u is for all clients alike"}
 """),
     (["reach", "current.acl", "screen", "mill/+/east"], 0, "mill/energy/east\n"),
-    (["reach", "current.acl", "press", "mill/line1/#", "--user", "plc"], 1, "a subscription to mill/line1/# can be sent nothing\n"),
+    (["reach", "current.acl", "press", "mill/line1/#", "--user", "plc"], 1,
+     "a subscription to mill/line1/# can be sent nothing\n"),
     (["reach", "--json", "current.acl", "press", "$share/g/mill/orders/+", "--user=plc"], 0,
      '{"filter":"$share/g/mill/orders/+","topic":"mill/orders/press"}\n'),
     (["reach", "current.acl", "--script", "day.jsonl"], 1, """\
@@ -65,7 +73,8 @@ day.jsonl:11  wall   no user name  mill/line1/press/state
 """),
 ]
 
-# A script of which little is in vain or no command: its lines, and what is told under a list that grants `a`.
+# A script of which little is in vain or no command: its lines, and what is told under a list that
+# grants `a`.
 ODD_SCRIPT = """\
 {"do":"subscribe","client":"c","filter":"b"}
 
@@ -80,7 +89,8 @@ ODD_SCRIPT = """\
 {"do":"connect","client":"","user":"u"}
 {"do":"subscribe","client":"","filter":"a"}
 """
-FAULTY_LINES = ["x", '{"do":"melt"}', '{"do":"connect"}', '{"do":"stat","extra":1}', "[]", '{"do":"subscribe","client":"c1"}']
+FAULTY_LINES = ["x", '{"do":"melt"}', '{"do":"connect"}', '{"do":"stat","extra":1}', "[]",
+                '{"do":"subscribe","client":"c1"}']
 
 # What is told of lines by lint: their text, and what is told.
 REMARKED = """\
@@ -113,11 +123,13 @@ FAULTY = [
     ("topic read a/#/b\n", '1: "a/#/b" is no topic filter'),
     ("user\n", "1: the user name is missing"),
     ("pattern read a%c/b\n", '1: %c or %u is no whole level of "a%c/b"'),
-    ("topic read a\ntopic read " + "b" * 301 + "\n", "2: a level or a user name of more than 300 bytes"),
+    ("topic read a\ntopic read " + "b" * 301 + "\n",
+     "2: a level or a user name of more than 300 bytes"),
 ]
 
 # Lists that are no UTF-8, and the line of the first byte that makes them none.
-NO_TEXTS = [(b"topic read \xe9\n", 1), (b"topic read \xc3\xa9\n\ntopic read \xc3\n", 3), (b"# \xf0\x9f\x98\x80\n\xff\n\xfe\n", 2),
+NO_TEXTS = [(b"topic read \xe9\n", 1), (b"topic read \xc3\xa9\n\ntopic read \xc3\n", 3),
+            (b"# \xf0\x9f\x98\x80\n\xff\n\xfe\n", 2),
             (b"user a\n\xe2\x82", 2)]
 
 NO_FILE, A_FOLDER = "No such file or directory (os error 2)", "Is a directory (os error 21)"
@@ -131,31 +143,40 @@ MISUSED = [
     (["why", "current.acl", "c", "a/#"], '"a/#" is no topic name'),
     (["reach", "current.acl", "c", "a/#/b"], '"a/#/b" is no topic filter'),
     (["reach", "current.acl", "c", "$share/g"], '"$share/g" is no topic filter'),
-    (["reach", "current.acl", "c" * 301, "a"], "a client id, a user name or a level of more than 300 bytes"),
+    (["reach", "current.acl", "c" * 301, "a"],
+     "a client id, a user name or a level of more than 300 bytes"),
     (["why", "nowhere.acl", "c", "a"], f"mqroute-acl: nowhere.acl: {NO_FILE}\n"),
     (["compare", "current.acl", "."], f"mqroute-acl: .: {A_FOLDER}\n"),
-    (["compare", "current.acl/a", "current.acl"], "mqroute-acl: current.acl/a: Not a directory (os error 20)\n"),
+    (["compare", "current.acl/a", "current.acl"],
+     "mqroute-acl: current.acl/a: Not a directory (os error 20)\n"),
     (["lint"], "<FILE>..."),
-    (["lint", "proposed.acl", "nowhere.acl", "current.acl"], f"mqroute-acl: nowhere.acl: {NO_FILE}\n"),
+    (["lint", "proposed.acl", "nowhere.acl", "current.acl"],
+     f"mqroute-acl: nowhere.acl: {NO_FILE}\n"),
     (["compare", "-", "-"], TWICE),
     (["lint", "-", "current.acl", "-"], TWICE),
     (["reach", "-", "--script", "-"], TWICE),
     (["reach", "current.acl"], "either CLIENT and FILTER, or --script SCRIPT"),
     (["reach", "current.acl", "c"], "either CLIENT and FILTER, or --script SCRIPT"),
-    (["reach", "current.acl", "c", "a", "--script", "day.jsonl"], "either CLIENT and FILTER, or --script SCRIPT"),
-    (["reach", "current.acl", "c", "--script", "day.jsonl"], "either CLIENT and FILTER, or --script SCRIPT"),
-    (["reach", "current.acl", "--script", "day.jsonl", "--user", "u"], "either CLIENT and FILTER, or --script SCRIPT"),
+    (["reach", "current.acl", "c", "a", "--script", "day.jsonl"],
+     "either CLIENT and FILTER, or --script SCRIPT"),
+    (["reach", "current.acl", "c", "--script", "day.jsonl"],
+     "either CLIENT and FILTER, or --script SCRIPT"),
+    (["reach", "current.acl", "--script", "day.jsonl", "--user", "u"],
+     "either CLIENT and FILTER, or --script SCRIPT"),
     (["reach", "--script", "day.jsonl"], "<FILE>"),
     (["reach", "nowhere.acl", "--script", "day.jsonl"], f"mqroute-acl: nowhere.acl: {NO_FILE}\n"),
-    (["reach", "current.acl", "--script", "nowhere.jsonl"], f"mqroute-acl: nowhere.jsonl: {NO_FILE}\n"),
+    (["reach", "current.acl", "--script", "nowhere.jsonl"],
+     f"mqroute-acl: nowhere.jsonl: {NO_FILE}\n"),
     (["reach", "current.acl", "--script", "."], f"mqroute-acl: .: {A_FOLDER}\n"),
-    (["reach", "current.acl", "--script", "proposed.acl"], "mqroute-acl: proposed.acl: no line of 15 is a command\n"),
+    (["reach", "current.acl", "--script", "proposed.acl"],
+     "mqroute-acl: proposed.acl: no line of 15 is a command\n"),
     (["reach", "current.acl", "--script", "-"], "mqroute-acl: -: no line of 0 is a command\n"),
 ]
 
 
 def run(words, folder=EXAMPLE, given=""):
-    return subprocess.run([PROGRAM, *words], cwd=folder, input=given, capture_output=True, text=True, timeout=60)
+    return subprocess.run(
+        [PROGRAM, *words], cwd=folder, input=given, capture_output=True, text=True, timeout=60)
 
 
 def faults_of_walk():
@@ -166,23 +187,27 @@ def faults_of_walk():
 
 
 def faults_of_input():
-    """Each example answers the same where one of its files is standard input, but for the file's name and the columns."""
+    """Each example answers the same where one of its files is standard input, but for the
+    file's name and the columns."""
     for words, status, wanted in WALK:
         for place in (n for n, word in enumerate(words) if word.endswith((".acl", ".jsonl"))):
             name = words[place].removeprefix("--script=")
             asked = [*words[:place], words[place].replace(name, "-"), *words[place + 1:]]
             done = run(asked, given=(EXAMPLE / name).read_text())
-            if (done.returncode, done.stdout.split(), done.stderr) != (status, wanted.replace(name, "-").split(), ""):
+            if (done.returncode, done.stdout.split(), done.stderr) != (
+                    status, wanted.replace(name, "-").split(), ""):
                 yield f"{' '.join(asked)}: status {done.returncode}\n{done.stdout}{done.stderr}"
 
 
 def faults_of_several(folder):
-    """Of several files each is remarked on, in their order, and none where one of them can't be read."""
+    """Of several files each is remarked on, in their order, and none where one
+    of them can't be read."""
     files = {"a.acl": REMARKED, "b.acl": "topic read a\n", "-": "topic\n"}
     for name in ("a.acl", "b.acl"):
         pathlib.Path(folder, name).write_text(files[name])
     missing = "-:1: the topic is missing\n"
-    cases = [(["b.acl"], 0, ""), (["b.acl", "b.acl"], 0, ""), (["a.acl", "-"], 1, REMARKS + missing), (["-", "a.acl"], 1, missing + REMARKS),
+    cases = [(["b.acl"], 0, ""), (["b.acl", "b.acl"], 0, ""),
+             (["a.acl", "-"], 1, REMARKS + missing), (["-", "a.acl"], 1, missing + REMARKS),
              (["b.acl", "a.acl", "b.acl"], 1, REMARKS), (["a.acl", "b.acl"], 1, REMARKS)]
     for names, status, wanted in cases:
         done = run(["lint", *names], folder, files["-"])
@@ -190,7 +215,8 @@ def faults_of_several(folder):
             yield f"lint {' '.join(names)}: status {done.returncode}:\n{done.stdout}{done.stderr}"
     for names in (["a.acl", "c.acl"], ["c.acl", "a.acl"]):
         done = run(["lint", *names], folder)
-        if (done.returncode, done.stdout, done.stderr) != (2, "", f"mqroute-acl: c.acl: {NO_FILE}\n"):
+        if (done.returncode, done.stdout, done.stderr) != (
+                2, "", f"mqroute-acl: c.acl: {NO_FILE}\n"):
             yield f"lint {' '.join(names)}: status {done.returncode}:\n{done.stdout}{done.stderr}"
     pathlib.Path(folder, "-").write_text("\ntopic\n")
     done = run(["lint", "./-"], folder)
@@ -207,7 +233,8 @@ def faults_of_remarks(folder):
     done = run(["lint", "--json", "a.acl"], folder)
     told = [(each["line"], each["words"]) for each in map(json.loads, done.stdout.splitlines())]
     needless = "needless: without it the list allows the same"
-    wanted = [(2, needless + ", because of line 1"), (4, needless + ", because of line 3"), (5, needless + ", because of line 3")]
+    wanted = [(2, needless + ", because of line 1"), (4, needless + ", because of line 3"),
+              (5, needless + ", because of line 3")]
     if (done.returncode, [each for each in told if each[0] in (2, 4, 5)]) != (1, wanted):
         yield f"lint: status {done.returncode}: {told}"
 
@@ -220,7 +247,8 @@ def faults_of_refusals(folder):
                 continue
             done = run(words, folder)
             if (done.returncode, done.stdout, done.stderr) != (2, "", f"a.acl:{told}\n"):
-                yield f"{' '.join(words)} of {text[:40]!r}: status {done.returncode}: {done.stdout}{done.stderr}"
+                yield (f"{' '.join(words)} of {text[:40]!r}: status {done.returncode}: "
+                       f"{done.stdout}{done.stderr}")
     for text, line in NO_TEXTS:
         pathlib.Path(folder, "latin.acl").write_bytes(text)
         done = run(["compare", "latin.acl", "latin.acl"], folder)
@@ -236,7 +264,8 @@ def faults_of_refusals(folder):
             yield f"{' '.join(words)}: status {done.returncode}: {done.stderr}"
 
 
-# What a list allows, as plainly as it can be said (mosquitto.conf(5), `acl_file`; docs/DECISIONS.md has our own rules).
+# What a list allows, as plainly as it can be said (mosquitto.conf(5), `acl_file`; docs/DECISIONS.md
+# has our own rules).
 
 
 def rows_of(text):
@@ -269,7 +298,8 @@ def covers(row, client, user, levels):
     if wanted[-1] == "#":
         wanted = wanted[:-1]
         levels = levels[:len(wanted)]
-    return len(wanted) == len(levels) and all(level_fits(w, l, is_pattern, client, user) for w, l in zip(wanted, levels))
+    return (len(wanted) == len(levels)
+            and all(level_fits(w, l, is_pattern, client, user) for w, l in zip(wanted, levels)))
 
 
 def deciding(rows, client, user, topic, access):
@@ -297,13 +327,16 @@ def accesses(rows, client, user, topic):
 LEVELS = ["a", "b", "", "$s", "c1", "u1"]
 USERS = [None, "u1", "u2", "zz"]
 CLIENTS = ["c1", "a", "u1", "q"]
-TOPICS = sorted({"/".join(levels) for count in (1, 2) for levels in itertools.product(LEVELS + ["x", "$x"], repeat=count)} - {""}
-                | {*CLIENTS, *(user for user in USERS if user)}
-                | {"/".join(levels) for levels in itertools.product(["a", "", "$s", "c1", "u1"], repeat=3)})
+TOPICS = sorted(
+    {"/".join(levels) for count in (1, 2)
+     for levels in itertools.product(LEVELS + ["x", "$x"], repeat=count)} - {""}
+    | {*CLIENTS, *(user for user in USERS if user)}
+    | {"/".join(levels) for levels in itertools.product(["a", "", "$s", "c1", "u1"], repeat=3)})
 
 
 def random_filter(chance, is_pattern):
-    levels = [chance.choice(LEVELS + ["+", "+"] + (["%c", "%u"] if is_pattern else [])) for _ in range(chance.randint(1, 3))]
+    levels = [chance.choice(LEVELS + ["+", "+"] + (["%c", "%u"] if is_pattern else []))
+              for _ in range(chance.randint(1, 3))]
     if chance.random() < 0.35:
         levels[-1] = "#"
     return "/".join(levels) or "a"
@@ -316,7 +349,8 @@ def random_list(chance):
             lines.append("user " + chance.choice(["u1", "u2", "a"]))
         is_pattern = chance.random() < 0.4
         access = chance.choice(["read", "write", "readwrite", "deny"])
-        lines.append(f"{'pattern' if is_pattern else 'topic'} {access} {random_filter(chance, is_pattern)}")
+        lines.append(
+            f"{'pattern' if is_pattern else 'topic'} {access} {random_filter(chance, is_pattern)}")
     return lines
 
 
@@ -354,8 +388,8 @@ def number_of(line):
 
 
 def faults_of_compare(folder, old, new):
-    """Of each class of clients, access and way a difference is listed; and where no line has a mark, of each pair of lines
-    that decides."""
+    """Of each class of clients, access and way a difference is listed; and where no line has a
+    mark, of each pair of lines that decides."""
     done = run(["compare", "--json", "old.acl", "new.acl"], folder)
     told = [json.loads(line) for line in done.stdout.splitlines()]
     old_rows, new_rows = rows_of(old), rows_of(new)
@@ -371,20 +405,26 @@ def faults_of_compare(folder, old, new):
         whom = user if user is None or user in named else "other users"
         return (whom, access, change, *lines) if by_lines else (whom, access, change)
 
-    kinds = {kind(d["user"], d["access"], d["change"], number_of(d["old"]), number_of(d["new"])) for d in told}
+    kinds = {kind(d["user"], d["access"], d["change"], number_of(d["old"]), number_of(d["new"]))
+             for d in told}
     for user, client, topic in itertools.product(USERS, CLIENTS, TOPICS):
-        by_old, by_new = accesses(old_rows, client, user, topic), accesses(new_rows, client, user, topic)
+        by_old = accesses(old_rows, client, user, topic)
+        by_new = accesses(new_rows, client, user, topic)
         for access in by_old ^ by_new:
-            lines = [line_that_decides(rows, client, user, topic, access) for rows in (old_rows, new_rows)]
+            lines = [line_that_decides(rows, client, user, topic, access)
+                     for rows in (old_rows, new_rows)]
             if kind(user, access, "gained" if access in by_new else "lost", *lines) not in kinds:
-                yield f"{user} differs in {access} {topic} as {client} by lines {lines}, which isn't listed"
+                yield (f"{user} differs in {access} {topic} as {client} by lines {lines}, which "
+                       "isn't listed")
                 return
 
 
 def faults_of_known_pairs(folder):
     """Names that begin with `$` beside others; and as many differences as a list has lines."""
     many = "".join(f"topic read a/{place}\n" for place in range(1000))
-    for old, new, count in (("topic read a\n", "topic read a\ntopic read b\ntopic read $SYS/#\n", 2), (many, "topic read b\n", 1001)):
+    for old, new, count in (
+            ("topic read a\n", "topic read a\ntopic read b\ntopic read $SYS/#\n", 2),
+            (many, "topic read b\n", 1001)):
         pathlib.Path(folder, "old.acl").write_text(old)
         pathlib.Path(folder, "new.acl").write_text(new)
         yield from faults_of_compare(folder, old, new)
@@ -396,7 +436,8 @@ def faults_of_known_pairs(folder):
 def faults_of_why(folder, chance, text):
     rows = rows_of(text)
     client, user, topic = chance.choice(CLIENTS), chance.choice(USERS), chance.choice(TOPICS)
-    words = ["why", "--json", "old.acl"] + ([] if user is None else [f"--user={user}"]) + ["--", client, topic]
+    words = (["why", "--json", "old.acl"] + ([] if user is None else [f"--user={user}"])
+             + ["--", client, topic])
     done = run(words, folder)
     told = [json.loads(line) for line in done.stdout.splitlines()]
     if done.returncode != 0 or [each["access"] for each in told] != ["read", "write"]:
@@ -404,7 +445,8 @@ def faults_of_why(folder, chance, text):
         return
     for each in told:
         deny, grant = deciding(rows, client, user, topic, each["access"])
-        if ((each["deny"] and each["deny"]["line"]), (each["grant"] and each["grant"]["line"])) != (deny, grant):
+        if ((each["deny"] and each["deny"]["line"]), (each["grant"] and each["grant"]["line"])) != (
+                deny, grant):
             yield f"{words}: {each}, not {deny} and {grant}"
         if each["allowed"] != allowed(rows, client, user, topic, each["access"]):
             yield f"{words}: {each}"
@@ -423,9 +465,11 @@ def filter_matches(text, topic):
 
 def faults_of_reach(folder, chance, text):
     rows = rows_of(text)
-    client, user, wanted = chance.choice(CLIENTS), chance.choice(USERS), random_filter(chance, False)
+    client, user = chance.choice(CLIENTS), chance.choice(USERS)
+    wanted = random_filter(chance, False)
     share = chance.choice(["", "", "$share/g/"])
-    words = ["reach", "--json", "old.acl"] + ([] if user is None else [f"--user={user}"]) + ["--", client, share + wanted]
+    words = (["reach", "--json", "old.acl"] + ([] if user is None else [f"--user={user}"])
+             + ["--", client, share + wanted])
     done = run(words, folder)
     told = json.loads(done.stdout)
     if told["filter"] != share + wanted or done.returncode != (1 if told["topic"] is None else 0):
@@ -437,7 +481,8 @@ def faults_of_reach(folder, chance, text):
             return
 
 
-# Topics with all that small lists and filters tell apart: no row has more than three levels, %c and %u are names.
+# Topics with all that small lists and filters tell apart: no row has more than three levels, %c and
+# %u are names.
 NAMES = sorted({*LEVELS, *CLIENTS, *(user for user in USERS if user), "x", "$x"})
 DEEP = ["/".join(levels) for levels in itertools.product(NAMES, repeat=3)]
 DEEP += [topic + "/x" for topic in DEEP]
@@ -451,14 +496,16 @@ def is_reached(rows, client, user, text):
 
 
 def random_script(chance):
-    """The lines of a script, its subscriptions, each with its line, client, user and filter, and its faulty lines."""
+    """The lines of a script, its subscriptions, each with its line, client, user and
+    filter, and its faulty lines."""
     lines, users, subscriptions, faulty = [], {}, [], []
     for number in range(1, chance.randint(2, 14)):
         client, user = chance.choice(CLIENTS), chance.choice(USERS)
         kind = chance.random()
         if kind < 0.35:
             users[client] = user
-            lines.append({"do": "connect", "client": client} | ({} if user is None else {"user": user}))
+            lines.append(
+                {"do": "connect", "client": client} | ({} if user is None else {"user": user}))
         elif kind < 0.45:
             users.pop(client, None)
             lines.append({"do": "disconnect", "client": client})
@@ -468,11 +515,13 @@ def random_script(chance):
             if client in users:
                 subscriptions.append((number, client, users[client], text))
         elif kind < 0.9:
-            lines.append(chance.choice([{"do": "acl", "text": "topic deny #"}, {"do": "publish", "client": client, "topic": "a"}, ""]))
+            lines.append(chance.choice([{"do": "acl", "text": "topic deny #"},
+                                        {"do": "publish", "client": client, "topic": "a"}, ""]))
         else:
             lines.append(chance.choice(FAULTY_LINES))
             faulty.append(number)
-    return [line if isinstance(line, str) else json.dumps(line) for line in lines], subscriptions, faulty
+    return ([line if isinstance(line, str) else json.dumps(line) for line in lines], subscriptions,
+            faulty)
 
 
 def no_command(name, script):
@@ -496,14 +545,16 @@ def faults_of_script(folder, chance, text):
     wanted = {"in_vain": len(vain), "subscriptions": len(subscriptions), "no_commands": len(faulty),
               "first_no_command": faulty[0] if faulty else None}
     if done.returncode != (1 if vain else 0) or done.stderr or counts != wanted:
-        yield f"reach --script: status {done.returncode}, {counts}, not {wanted}: {done.stderr}\n{script}"
-    if [(each["line"], each["client"], each["user"], each["filter"]) for each in told] != vain or \
-            any(each["file"] != "s.jsonl" for each in told):
+        yield (f"reach --script: status {done.returncode}, {counts}, not {wanted}: {done.stderr}\n"
+               f"{script}")
+    found = [(each["line"], each["client"], each["user"], each["filter"]) for each in told]
+    if found != vain or any(each["file"] != "s.jsonl" for each in told):
         yield f"reach --script: {told}, not {vain}\n{script}"
 
 
 def faults_of_odd_scripts(folder):
-    """Lines that a broker refuses, that are no commands or too long, and a script without a last line feed."""
+    """Lines that a broker refuses, that are no commands or too long, and a script
+    without a last line feed."""
     pathlib.Path(folder, "a.acl").write_text("topic read a\ntopic read b/" + "c" * 300 + "\n")
     cases = [
         (ODD_SCRIPT, 0, "0 of 3 subscriptions in vain\n", ""),
@@ -511,39 +562,50 @@ def faults_of_odd_scripts(folder):
         ("", 2, "", "mqroute-acl: s.jsonl: no line of 0 is a command\n"),
         ("\n\n \n", 2, "", "mqroute-acl: s.jsonl: no line of 3 is a command\n"),
         ("topic read a\n\n# b\nuser c", 2, "", "mqroute-acl: s.jsonl: no line of 4 is a command\n"),
-        ('{"do":"connect","client":"c","user":"\u00fc"}\n{"do":"subscribe","client":"c","filter":"b"}', 1,
+        ('{"do":"connect","client":"c","user":"\u00fc"}\n'
+         '{"do":"subscribe","client":"c","filter":"b"}', 1,
          "s.jsonl:2  c  user \u00fc  b\n1 of 1 subscriptions in vain\n", ""),
-        ('\nx\n{"do":"connect","client":"c"}\n' + " " * 1_048_577 + '\n{"do":"subscribe","client":"c","filter":"b"}', 1,
-         "s.jsonl:5  c  no user name  b\n2 lines are no commands, the first is s.jsonl:2\n1 of 1 subscriptions in vain\n", ""),
-        (" " * 1_048_576 + '\n{"do":"connect","client":"c"}\n{"do":"subscribe","client":"c","filter":"a"}\nx', 0,
+        ('\nx\n{"do":"connect","client":"c"}\n' + " " * 1_048_577
+         + '\n{"do":"subscribe","client":"c","filter":"b"}', 1,
+         "s.jsonl:5  c  no user name  b\n2 lines are no commands, the first is s.jsonl:2\n"
+         "1 of 1 subscriptions in vain\n", ""),
+        (" " * 1_048_576
+         + '\n{"do":"connect","client":"c"}\n{"do":"subscribe","client":"c","filter":"a"}\nx', 0,
          "s.jsonl:4 is no command\n0 of 1 subscriptions in vain\n", ""),
-        ('{"do":"connect","client":"c"}\n{"do":"subscribe","client":"c","filter":"' + "b" * 301 + '"}', 2, "",
+        ('{"do":"connect","client":"c"}\n{"do":"subscribe","client":"c","filter":"' + "b" * 301
+         + '"}', 2, "",
          "s.jsonl:2: a client id, a user name or a level of more than 300 bytes\n"),
     ]
     for script, status, told, failed in cases:
         pathlib.Path(folder, "s.jsonl").write_text(script, encoding="utf-8")
         done = run(["reach", "a.acl", "--script", "s.jsonl"], folder)
         if (done.returncode, done.stdout, done.stderr) != (status, told, failed):
-            yield f"reach --script of {script[:60]!r}: status {done.returncode}: {done.stdout}{done.stderr}"
+            yield (f"reach --script of {script[:60]!r}: status {done.returncode}: "
+                   f"{done.stdout}{done.stderr}")
 
 
 def faults_of_logs(folder):
     """Logs of mosquitto are no scripts."""
     pathlib.Path(folder, "a.acl").write_text("topic read a\n")
-    logs = [path.read_text(encoding="utf-8") for path in sorted((TOP / "brokers/recorded").glob("*.log"))]
-    for text in [*logs, "2026-11-27T10:00:00: mosquitto version 2.0.11 starting\n", "2026-11-27 10:00:00"]:
+    logs = [path.read_text(encoding="utf-8")
+            for path in sorted((TOP / "brokers/recorded").glob("*.log"))]
+    for text in [*logs, "2026-11-27T10:00:00: mosquitto version 2.0.11 starting\n",
+                 "2026-11-27 10:00:00"]:
         pathlib.Path(folder, "s.log").write_text(text, encoding="utf-8")
         done = run(["reach", "a.acl", "--script", "s.log"], folder)
-        told = no_command("s.log", text).rstrip() + "; it looks like a log: see mqroute-log-to-script(1)\n"
+        told = (no_command("s.log", text).rstrip()
+                + "; it looks like a log: see mqroute-log-to-script(1)\n")
         if (done.returncode, done.stdout, done.stderr) != (2, "", told):
-            yield f"reach --script of {text[:60]!r}: status {done.returncode}: {done.stdout}{done.stderr}"
+            yield (f"reach --script of {text[:60]!r}: status {done.returncode}: "
+                   f"{done.stdout}{done.stderr}")
 
 
 def faults_of_needless(folder, lines):
     """Without a line that is told as needless a list allows the same."""
     done = run(["lint", "--json", "old.acl"], folder)
     told = [json.loads(line) for line in done.stdout.splitlines()]
-    if done.returncode != (1 if told else 0) or any(each["kind"] not in ("needless", "no mark") for each in told):
+    if (done.returncode != (1 if told else 0)
+            or any(each["kind"] not in ("needless", "no mark") for each in told)):
         yield f"lint: status {done.returncode}: {done.stdout}{done.stderr}"
     rows = rows_of("\n".join(lines))
     for number in (each["line"] for each in told if each["kind"] == "needless"):
@@ -562,25 +624,26 @@ def faults_of_random(folder, count):
         old, new = "\n".join(lines), "\n".join(others)
         pathlib.Path(folder, "old.acl").write_text(old)
         pathlib.Path(folder, "new.acl").write_text(new)
-        faults = itertools.chain(faults_of_compare(folder, old, new), faults_of_why(folder, chance, old), faults_of_reach(folder, chance, old),
-                                 faults_of_script(folder, chance, old), faults_of_needless(folder, lines))
+        faults = itertools.chain(
+            faults_of_compare(folder, old, new), faults_of_why(folder, chance, old),
+            faults_of_reach(folder, chance, old),
+            faults_of_script(folder, chance, old), faults_of_needless(folder, lines))
         for fault in faults:
             yield f"seed {seed}: {fault}\n{old}\n--\n{new}"
 
 
 def main():
-    if not PROGRAM.exists():
-        print(f"acl: there is no {PROGRAM}: run 'make' first")
+    if is_absent("acl", PROGRAM):
         return 1
     count = int(sys.argv[1]) if len(sys.argv) > 1 else 300
     with tempfile.TemporaryDirectory() as folder:
-        faults = [*faults_of_walk(), *faults_of_input(), *faults_of_remarks(folder), *faults_of_several(folder),
-                  *faults_of_refusals(folder), *faults_of_odd_scripts(folder), *faults_of_logs(folder),
+        faults = [*faults_of_walk(), *faults_of_input(), *faults_of_remarks(folder),
+                  *faults_of_several(folder), *faults_of_refusals(folder),
+                  *faults_of_odd_scripts(folder), *faults_of_logs(folder),
                   *faults_of_known_pairs(folder), *faults_of_random(folder, count)]
-    for fault in faults:
-        print(f"acl: {fault}")
-    print(f"acl: {len(WALK)} examples, {len(FAULTY) + len(MISUSED)} refusals, {count} random pairs of lists, {len(faults)} faults")
-    return 1 if faults else 0
+    sums = (f"{len(WALK)} examples, {len(FAULTY) + len(MISUSED)} refusals, {count} random pairs of "
+            f"lists, {len(faults)} faults")
+    return status_of("acl", faults, sums)
 
 
 if __name__ == "__main__":

@@ -1,13 +1,17 @@
 #!/usr/bin/env python3
-"""Reads who names whom, among crates and among the modules of each, and fails on a name that looks up.
+"""Reads who names whom, among crates and among the modules of each, and fails on a name that looks
+up.
 
-A crate stands on those above it in crates.txt, and on no chain of more than LONGEST: both programs are built no sooner than
-the crates of the longest chain, one after the other. Within a crate no modules name each other in a circle; and where ORDER has
-the crate, its lowest module or folder first, none names one that comes later.
+A crate stands on those above it in crates.txt, and on no chain of more than LONGEST: both programs
+are built no sooner than the crates of the longest chain, one after the other. Within a crate no
+modules name each other in a circle; and where ORDER has the crate, its lowest module or folder
+first, none names one that comes later.
 """
 import pathlib
 import re
 import sys
+
+from faults import status_of
 
 TOP = pathlib.Path(__file__).resolve().parent.parent
 
@@ -42,7 +46,8 @@ def crate_faults():
 
 
 def longest_chain():
-    """Of the chains of crates that stand on each other a longest one, from below. That of tests alone doesn't count."""
+    """Of the chains of crates that stand on each other a longest one, from below. That of
+    tests alone doesn't count."""
     chains = {}
     for name, needs in towers():
         below = max((chains.get(need, []) for need in needs), key=len, default=[])
@@ -51,17 +56,20 @@ def longest_chain():
 
 
 def modules(crate):
-    """The modules of a crate by path, as sessions::edits, each with its text; its root is the empty path."""
+    """The modules of a crate by path, as sessions::edits, each with its text;
+    its root is the empty path."""
     source = TOP / "crates" / crate / "src"
     found = {}
     for path in sorted(source.rglob("*.rt")):
         parts = path.relative_to(source).with_suffix("").parts
-        found["" if parts in (("lib",), ("main",)) else "::".join(parts)] = path.read_text(encoding="utf-8")
+        found["" if parts in (("lib",), ("main",)) else "::".join(parts)] = path.read_text(
+            encoding="utf-8")
     return found
 
 
 def uses(text):
-    """The paths that a file's imports name, those in braces one by one; ghost imports are of specs."""
+    """The paths that a file's imports name, those in braces one by one; ghost
+    imports are of specs."""
     for it in re.finditer(r"^(?:pub(?:\([^)]*\))? )?use ([^;]*);", text, re.M):
         front, brace, rest = it[1].partition("{")
         for part in rest.rstrip("} \n").split(",") if brace else [""]:
@@ -137,11 +145,9 @@ def main():
     for crate, _ in towers():
         count += sum(1 for _ in edges(crate))
         faults += module_faults(crate)
-    for fault in faults:
-        print(f"layers: {fault}")
-    print(f"layers: {len(towers())} crates, {count} imports among modules, {len(faults)} upward; the longest chain: "
-          f"{' '.join(longest_chain())}")
-    return 1 if faults or count == 0 else 0
+    sums = (f"{len(towers())} crates, {count} imports among modules, {len(faults)} upward; "
+            f"the longest chain: {' '.join(longest_chain())}")
+    return status_of("layers", faults, sums) or int(count == 0)
 
 
 if __name__ == "__main__":

@@ -1,8 +1,10 @@
 #!/usr/bin/env python3
-"""Runs the README's blocks as they stand, each from the top of a copy, and compares what they print.
+"""Runs the README's blocks as they stand, each from the top of a copy, and compares what they
+print.
 
-A block of lines that begin with `$ ` is a session: what follows a command is what it prints. A block of objects with `do`
-is a script: the program accepts each of its lines. Without a jq the sessions that call it are left out, and it says so.
+A block of lines that begin with `$ ` is a session: what follows a command is what it prints. A
+block of objects with `do` is a script: the program accepts each of its lines. Without a jq the
+sessions that call it are left out, and it says so.
 With `--installed ROOT` README, files and programs are those of a package that is unpacked in ROOT.
 """
 import argparse
@@ -13,6 +15,8 @@ import shutil
 import subprocess
 import sys
 import tempfile
+
+from faults import is_absent, status_of
 
 TOP = pathlib.Path(__file__).resolve().parent.parent
 
@@ -25,12 +29,14 @@ def blocks(top):
 def told(command, folder, path):
     """What one command after those before it prints, standard error too."""
     around = os.environ | {"PATH": path}
-    return subprocess.run(["bash", "-c", command], cwd=folder, env=around, text=True, stdout=subprocess.PIPE,
-                          stderr=subprocess.STDOUT).stdout
+    return subprocess.run(
+        ["bash", "-c", command], cwd=folder, env=around, text=True, stdout=subprocess.PIPE,
+        stderr=subprocess.STDOUT).stdout
 
 
 def session_faults(block, folder, path):
-    """The commands that print something else. What changes the folder comes before each of those that follow."""
+    """The commands that print something else. What changes the folder comes before
+    each of those that follow."""
     before = ""
     for command, wanted in re.findall(r"^\$ (.*)\n((?:(?!\$ ).*\n)*)", block, re.M):
         printed = told(before + command, folder, path)
@@ -43,7 +49,8 @@ def session_faults(block, folder, path):
 def script_faults(block, programs):
     answered = subprocess.run([programs / "mqroute"], input=block, text=True, capture_output=True)
     if answered.returncode != 0:
-        yield f"a script of {len(block.splitlines())} lines has status {answered.returncode}:\n{answered.stdout}"
+        yield (f"a script of {len(block.splitlines())} lines has status {answered.returncode}:\n"
+               f"{answered.stdout}")
 
 
 def block_faults(top, programs, path):
@@ -61,24 +68,21 @@ def block_faults(top, programs, path):
 
 
 def main() -> int:
-    parser = argparse.ArgumentParser(description=__doc__.partition("\n")[0])
-    parser.add_argument("--installed", metavar="ROOT", help="a folder in which a package is unpacked")
+    parser = argparse.ArgumentParser(description=__doc__.partition("\n\n")[0])
+    parser.add_argument(
+        "--installed", metavar="ROOT", help="a folder in which a package is unpacked")
     root = parser.parse_args().installed
     top = pathlib.Path(root).resolve() / "usr/share/doc/mqroute" if root else TOP
     programs = pathlib.Path(root).resolve() / "usr/bin" if root else TOP / "bin"
-    for name in ("mqroute", "mqroute-acl"):
-        if not (programs / name).exists():
-            print(f"readme: there is no {programs / name}: run 'make' first")
-            return 1
+    if any(is_absent("readme", programs / name) for name in ("mqroute", "mqroute-acl")):
+        return 1
     # Beside an installed program stands the system alone: no toolchain.
     path = f"{programs}:/usr/bin:/bin" if root else f"{programs}:{os.environ['PATH']}"
     found = list(block_faults(top, programs, path))
     faults = [fault for _, some in found for fault in some]
-    for fault in faults:
-        print(f"readme: {fault}")
     count = [sum(it == kind for it, _ in found) for kind in ("session", "script")]
-    print(f"readme: {count[0]} sessions and {count[1]} scripts, {len(faults)} faults")
-    return 1 if faults or not all(count) else 0
+    sums = f"{count[0]} sessions and {count[1]} scripts, {len(faults)} faults"
+    return status_of("readme", faults, sums) or int(not all(count))
 
 
 sys.exit(main())

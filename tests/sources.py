@@ -1,33 +1,38 @@
 #!/usr/bin/env python3
 """Rules of the sources that no contract can see. It fails, and says where, if one doesn't hold.
 
-A `Steps` counts what a look-up enters, and the contracts speak of the count that is handed in. A body that makes a count
-of its own walks as far as it likes, and no contract sees it. So `Steps::new` is called by `Router::apply` alone, outside
-tests: there nobody asks for the count. Elsewhere `Steps` stands as what is lent, `&mut Steps`, and nowhere else: an alias,
-a field or a result could hide one that is made. And the file that has it makes one in `new` alone (COUNTS).
+A `Steps` counts what a look-up enters, and the contracts speak of the count that is handed in. A
+body that makes a count of its own walks as far as it likes, and no contract sees it. So
+`Steps::new` is called by `Router::apply` alone, outside tests: there nobody asks for the count.
+Elsewhere `Steps` stands as what is lent, `&mut Steps`, and nowhere else: an alias, a field or a
+result could hide one that is made. And the file that has it makes one in `new` alone (COUNTS).
 
-A contract of the router speaks of its model, which is made of the fields of its structs. A field that the model doesn't
-name may hold anything, and grow for ever, and each function is still proved. So MADE_OF has the fields of each struct and
-the variants of each enum that a router is made of: one that is not in it is refused, until somebody who has seen what
-the model says of it writes it down here.
+A contract of the router speaks of its model, which is made of the fields of its structs. A field
+that the model doesn't name may hold anything, and grow for ever, and each function is still proved.
+So MADE_OF has the fields of each struct and the variants of each enum that a router is made of: one
+that is not in it is refused, until somebody who has seen what the model says of it writes it down
+here.
 
-A crate's out/ is the toolchain's: it stops at a link there, and it may take away whatever else it finds.
+A crate's out/ is the toolchain's: it stops at a link there, and it may take away whatever else it
+finds.
 """
 import pathlib
 import re
 import sys
 
+from faults import status_of
+
 TOP = pathlib.Path(__file__).resolve().parent.parent
 
 # The crates that a router is made of, and the one of tests, which may count what it likes.
-ROUTER = ["mq_router", "mq_subscriptions", "mq_retained", "mq_sessions", "mq_world", "mq_acl", "mq_tree",
-          "mq_topic"]
+ROUTER = [
+    "mq_router", "mq_subscriptions", "mq_retained", "mq_sessions", "mq_world", "mq_acl", "mq_tree",
+    "mq_topic"]
 TESTS = "mq_calls"
 
 MADE_OF = {
-    "Router":
-        "alloc: Global, limits: Limits, clock: Clock, access: Option<Acl>, sessions: Sessions, subscriptions: "
-        "Subscriptions, retained: Retained",
+    "Router": "alloc: Global, limits: Limits, clock: Clock, access: Option<Acl>, sessions: "
+    "Sessions, subscriptions: Subscriptions, retained: Retained",
     "Limits": "retained: Option<u32>, queued: u32",
     "Clock": "moment: u64",
     "Acl": "groups: Groups, order: Snapshot<Vec<Row>>",
@@ -37,9 +42,11 @@ MADE_OF = {
     "Retained": "alloc: Global, tree: Messages, deadlines: Deadlines",
     "Groups": "everyone: Vec<Row>, anonymous: Vec<Row>, named: BTreeMap<String, Vec<Row>>",
     "Row": "line: u64, owner: Owner, access: Access, filter: TopicFilter",
-    "Session": "user: Option<String>, interval: u32, presence: Presence, waiting: LinkedList<Waiting>",
+    "Session":
+    "user: Option<String>, interval: u32, presence: Presence, waiting: LinkedList<Waiting>",
     "LevelTree": "alloc: Global, root: Node<V>",
-    "FilterEntry": "filter: Rc<TopicFilter>, unshared: BTreeMap<RcStr, SubscriptionOptions>, groups: ShareGroups",
+    "FilterEntry":
+    "filter: Rc<TopicFilter>, unshared: BTreeMap<RcStr, SubscriptionOptions>, groups: ShareGroups",
     "ShareGroups": "by_share: BTreeMap<RcStr, Group>",
     "ClientFilters": "texts: BTreeSet<RcStr>",
     "ClientLists": "by_client: BTreeMap<RcStr, ClientFilters>",
@@ -55,17 +62,19 @@ MADE_OF = {
     "Group": "members: IndexMap<RcStr, SubscriptionOptions>",
     "Stored": "topic: TopicName, payload: String, qos: u8, publisher: RcStr, deadline: Option<u64>",
     "Due": "deadline: u64, topic: TopicName",
-    "Delivery":
-        "client: RcStr, topic: RcStr, payload: RcStr, qos: u8, retain: bool, expiry: Option<u32>, ids: Vec<u32>, group: "
-        "Option<(RcStr, Rc<TopicFilter>)>",
+    "Delivery": "client: RcStr, topic: RcStr, payload: RcStr, qos: u8, retain: bool, expiry: "
+    "Option<u32>, ids: Vec<u32>, group: Option<(RcStr, Rc<TopicFilter>)>",
     "TopicName": "text: String",
 }
 
-UNREAD = re.compile(r"""//[^\n]*|r(\#*)"[\s\S]*?"\1|"(?:\\.|[^"\\])*"|'(?:\\[^\n]{1,8}?|[^'\\\n])'""")
+UNREAD = re.compile(
+    r"""//[^\n]*|r(\#*)"[\s\S]*?"\1|"(?:\\.|[^"\\])*"|'(?:\\[^\n]{1,8}?|[^'\\\n])'""")
 
 
 def crates():
-    return [line.split(":")[0] for line in (TOP / "crates.txt").read_text(encoding="utf-8").splitlines() if ":" in line]
+    return [
+        line.split(":")[0]
+        for line in (TOP / "crates.txt").read_text(encoding="utf-8").splitlines() if ":" in line]
 
 
 def sources(crate):
@@ -78,50 +87,66 @@ def sources(crate):
 # Steps
 
 COUNTING = "mq_tree/src/tree/steps.rt"
-# What the file of `Steps` has besides its types: a count is made by these functions, and by no derived or other impl.
+# What the file of `Steps` has besides its types: a count is made by these functions, and by no
+# derived or other impl.
 COUNTS = [
-    "derive(Drop)", "impl Trail", "fn start() -> Trail", "fn after(before: Trail) -> Trail", "derive(Drop)",
-    "impl Model for Walk", "impl Walk", "fn start() -> Walk", "fn tick(&mut self)", "impl Drop for Steps", "fn drop(self)",
+    "derive(Drop)", "impl Trail", "fn start() -> Trail", "fn after(before: Trail) -> Trail",
+    "derive(Drop)",
+    "impl Model for Walk", "impl Walk", "fn start() -> Walk", "fn tick(&mut self)",
+    "impl Drop for Steps", "fn drop(self)",
     "impl Model for Steps", "impl Steps", "fn new() -> Steps", "fn tick(&mut self)",
 ]
 
 
 def enclosing(lines, place):
-    """The headers around a line: the nearest lines above it that begin further and further to the left."""
+    """The headers around a line: the nearest lines above it that begin further
+    and further to the left."""
     indent = len(lines[place]) - len(lines[place].lstrip())
     for line in reversed(lines[:place]):
         begins = len(line) - len(line.lstrip())
-        if line.strip() and begins < indent and not line.lstrip().startswith(("ensures", "requires", "where", "{", ")")):
+        if (line.strip() and begins < indent
+                and not line.lstrip().startswith(("ensures", "requires", "where", "{", ")"))):
             indent = begins
             yield line.strip()
 
 
 def is_apply(path, headers):
     where = " in ".join(re.sub(r"^pub(\([^)]*\))? ", "", header) for header in headers)
-    return path.parts[1] == "mq_router" and re.search(r"(^| in )fn apply\(.* in impl Router \{$", where) is not None
+    return (path.parts[1] == "mq_router"
+            and re.search(r"(^| in )fn apply\(.* in impl Router \{$", where) is not None)
 
 
 def other_forms(line):
-    """Whether `Steps` or `Walk` stands on the line other than lent: as `&mut Steps`, or imported by its own name."""
+    """Whether `Steps` or `Walk` stands on the line other than lent: as `&mut Steps`, or
+    imported by its own name."""
     line = re.sub(r"&mut (Steps|Walk)\b(?!\s*(::|\{))|\b\w+::proofs::Walk::", "", line)
-    if re.match(r"\s*(pub(\([^)]*\))? )?use [\w:{} ,]*;$", line) and not re.search(r"\b(Steps|Walk) as\b", line):
+    if (re.match(r"\s*(pub(\([^)]*\))? )?use [\w:{} ,]*;$", line)
+            and not re.search(r"\b(Steps|Walk) as\b", line)):
         return False
     return re.search(r"\b(Steps|Walk)\b", line) is not None
 
 
+def lines_with_steps():
+    """Where `Steps` stands in another form outside tests and its own file: the path, the place of
+    the line, and the lines of the file."""
+    for crate in crates():
+        for path, text in sources(crate) if crate != TESTS else ():
+            lines = text.split("\n")
+            if not str(path).endswith(COUNTING):
+                yield from ((path, place, lines) for place, line in enumerate(lines)
+                            if other_forms(line))
+
+
 def steps_faults():
     made = 0
-    for crate in crates():
-        for path, text in sources(crate):
-            lines = text.split("\n")
-            for place, line in enumerate(lines):
-                if crate == TESTS or str(path).endswith(COUNTING) or not other_forms(line):
-                    continue
-                headers = list(enclosing(lines, place))
-                is_made = re.fullmatch(r"\s*let mut steps = Steps::new\(\);", line) and is_apply(path, headers)
-                made += bool(is_made)
-                if not is_made:
-                    yield f"{path}:{place + 1}: Steps may only be lent here, as &mut Steps: Router::apply alone makes one"
+    for path, place, lines in lines_with_steps():
+        headers = list(enclosing(lines, place))
+        is_made = (re.fullmatch(r"\s*let mut steps = Steps::new\(\);", lines[place])
+                   and is_apply(path, headers))
+        made += bool(is_made)
+        if not is_made:
+            yield (f"{path}:{place + 1}: Steps may only be lent here, as &mut Steps: "
+                   "Router::apply alone makes one")
     if made != 1:
         yield f"Router::apply makes {made} Steps: this rule has to be written anew"
 
@@ -129,9 +154,12 @@ def steps_faults():
 def counting_faults():
     text = (TOP / "crates" / COUNTING).read_text(encoding="utf-8")
     text = UNREAD.sub("", text)
-    found = re.findall(r"\bderive\([^)]*\)|\bimpl\b[^{]*?(?= \{)|\bfn \w+\([^)]*\)(?: -> [^\n{]*?(?=\n| \{))?", text)
+    found = re.findall(
+        r"\bderive\([^)]*\)|\bimpl\b[^{]*?(?= \{)|\bfn \w+\([^)]*\)(?: -> [^\n{]*?(?=\n| \{))?",
+        text)
     if found != COUNTS:
-        yield f"crates/{COUNTING}: COUNTS has its functions and impls: does another one make a count? {found}"
+        yield (f"crates/{COUNTING}: COUNTS has its functions and impls: does another one make a "
+               f"count? {found}")
 
 
 # What a router is made of
@@ -141,7 +169,8 @@ def inside(text, start):
     """What stands between the bracket at this place and the one that closes it."""
     depth = 0
     for place in range(start, len(text)):
-        depth += (text[place] in "{([<") - (text[place] in "})]" or text[place] == ">" and text[place - 1] not in "-=")
+        depth += (text[place] in "{([<") - (
+            text[place] in "})]" or text[place] == ">" and text[place - 1] not in "-=")
         if depth == 0:
             return text[start + 1:place]
     return text[start + 1:]
@@ -160,7 +189,8 @@ def pieces(text):
 
 
 def members(body):
-    """The fields of a struct, or the variants of an enum, without attributes, visibility and ghost fields."""
+    """The fields of a struct, or the variants of an enum, without attributes,
+    visibility and ghost fields."""
     found = [re.sub(r"(#\[[^\]]*\]|\bpub(\([^)]*\))?) ", "", piece) for piece in pieces(body)]
     return [it for it in found if not it.startswith("ghost ")]
 
@@ -170,7 +200,8 @@ def declared():
     found = {}
     for crate in ROUTER:
         for _, text in sources(crate):
-            for it in re.finditer(r"^[ \t]*(?:pub(?:\([^)]*\))? )?(struct|enum) (\w+)[^{(;]*([{(;])", text, re.M):
+            for it in re.finditer(
+                    r"^[ \t]*(?:pub(?:\([^)]*\))? )?(struct|enum) (\w+)[^{(;]*([{(;])", text, re.M):
                 body = "" if it[3] == ";" else inside(text, it.end() - 1)
                 found.setdefault(it[2], []).append((crate, members(body)))
             for it in re.finditer(r"^(?:pub(?:\([^)]*\))? )?type (\w+)[^=;]*=([^;]*);", text, re.M):
@@ -195,14 +226,16 @@ def struct_faults():
     names = reached(found)
     for name in names:
         if len(found[name]) > 1:
-            yield f"{name} is declared in {' and in '.join(crate for crate, _ in found[name])}: one of them needs another name"
+            yield (f"{name} is declared in {' and in '.join(crate for crate, _ in found[name])}: "
+                   "one of them needs another name")
         crate, parts = found[name][0]
         if name not in known:
             yield f"{crate}: a router is now made of {name}, too: {', '.join(parts)}"
             continue
         for part in parts:
             if part not in known[name]:
-                yield f"{crate}: {name} has `{part}`, which MADE_OF doesn't have: does a model speak of it?"
+                yield (f"{crate}: {name} has `{part}`, which MADE_OF doesn't have: does a model "
+                       "speak of it?")
         for part in known[name]:
             if part not in parts:
                 yield f"{crate}: {name} has no `{part}` any more, but MADE_OF has it"
@@ -223,15 +256,14 @@ def out_faults():
         if path.is_symlink():
             yield f"{path.relative_to(TOP)} is a link: `make run` and `make test` take it away"
         elif not re.fullmatch(KEPT.replace("{crate}", crate), path.name):
-            yield f"{path.relative_to(TOP)} is not the toolchain's: out/ is no place for files of ours"
+            yield (f"{path.relative_to(TOP)} is not the toolchain's: out/ is no place for files of "
+                   "ours")
 
 
 def main():
     faults = [*steps_faults(), *counting_faults(), *struct_faults(), *out_faults()]
-    for fault in faults:
-        print(f"sources: {fault}")
-    print(f"sources: {len(MADE_OF)} structs and enums of a router, {len(faults)} faults")
-    return 1 if faults else 0
+    sums = f"{len(MADE_OF)} structs and enums of a router, {len(faults)} faults"
+    return status_of("sources", faults, sums)
 
 
 sys.exit(main())

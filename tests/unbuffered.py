@@ -1,7 +1,9 @@
 #!/usr/bin/env python3
-"""Talks to the built program over a pipe and over a terminal: it writes the answers to a line before it waits for another.
+"""Talks to the built program over a pipe and over a terminal: it writes the answers to a line
+before it waits for another.
 
-With --unbuffered each command is sent once the answers to those before it have come; so they are on a terminal without it.
+With --unbuffered each command is sent once the answers to those before it have come; so they are on
+a terminal without it.
 """
 import json
 import os
@@ -10,6 +12,8 @@ import pty
 import select
 import subprocess
 import sys
+
+from faults import is_absent, status_of
 
 TOP = pathlib.Path(__file__).resolve().parent.parent
 PROGRAM = TOP / "bin/mqroute"
@@ -21,7 +25,8 @@ PIECES = [
     ('{"do":"subscribe","client":"a","filter":"t"}\n', ['{"line":2,"reason":0}']),
     ('{"do":"pub', []),
     ('lish","client":"a","topic":"t"}\n\n{"do":"fly"}\n{"do":',
-     ['{"client":"a","line":3,"payload":"","qos":0,"retain":false,"topic":"t"}', '{"line":3,"reason":0}',
+     ['{"client":"a","line":3,"payload":"","qos":0,"retain":false,"topic":"t"}',
+      '{"line":3,"reason":0}',
       '{"code":3,"line":5,"refused":"BadCommand"}']),
     ('"stat"}\n', ['{"line":6,"nodes":1,"retained":0,"subscriptions":1}']),
 ]
@@ -55,14 +60,10 @@ def talk(arguments, sent, received):
 
 
 def main():
-    if not PROGRAM.exists():
-        print(f"unbuffered: there is no {PROGRAM}: run 'make' first")
+    if is_absent("unbuffered", PROGRAM):
         return 1
     faults = [*talk(["--unbuffered"], os.pipe(), os.pipe()), *talk([], os.pipe(), pty.openpty())]
-    for fault in faults:
-        print(f"unbuffered: {fault}")
-    print(f"unbuffered: {2 * len(PIECES)} pieces sent, {len(faults)} faults")
-    return 1 if faults else 0
+    return status_of("unbuffered", faults, f"{2 * len(PIECES)} pieces sent, {len(faults)} faults")
 
 
 if __name__ == "__main__":

@@ -1,6 +1,7 @@
 #!/usr/bin/env python3
-"""Names what is wrong in each line of a script that is no command: no JSON, an unknown command, a field that is missing,
-unknown, of another kind or out of range. These are the lines that mqroute refuses with code 1 to 4.
+"""Names what is wrong in each line of a script that is no command: no JSON, an unknown command, a
+field that is missing, unknown, of another kind or out of range. These are the lines that mqroute
+refuses with code 1 to 4.
 
 usage: check.py [SCRIPT]
 Exit status: 0 nothing is wrong; 1 something is; 2 usage, a file, or a file without a command.

@@ -1,9 +1,11 @@
 #!/usr/bin/env python3
-"""Compares a mosquitto log's own `Sending PUBLISH` lines with the copies that mqroute printed for its script.
+"""Compares a mosquitto log's own `Sending PUBLISH` lines with the copies that mqroute printed for
+its script.
 
-usage: compare_log.py [OPTIONS] LOG.. OUTPUT   (OUTPUT: what mqroute wrote for what log_to_script.py made of the logs with the same options)
-One line for each client and topic that differ; copies that the broker sent again are not counted. Exit status: 0 none differs;
-1 some do; 2 usage, a file, or an output that isn't of this log.
+usage: compare_log.py [OPTIONS] LOG.. OUTPUT   (OUTPUT: what mqroute wrote for what log_to_script.py
+       made of the logs with the same options)
+One line for each client and topic that differ; copies that the broker sent again are not counted.
+Exit status: 0 none differs; 1 some do; 2 usage, a file, or an output that isn't of this log.
 """
 if __name__ == "__main__":
     from mqroute_tools import interrupt
@@ -27,9 +29,12 @@ def compare(watcher: Watcher, logs: Logs, output: str) -> Comparison:
 
 
 def arguments() -> argparse.Namespace:
-    parser = argparse.ArgumentParser(description="Compares a mosquitto log's own Sending PUBLISH lines with mqroute's copies.")
+    parser = argparse.ArgumentParser(
+        description="Compares a mosquitto log's own Sending PUBLISH lines with mqroute's copies.")
     parser.add_argument("log", nargs="+", help="as for log_to_script.py, as are the options")
-    parser.add_argument("output", help="what mqroute wrote for the script that log_to_script.py makes of the logs with the same options")
+    parser.add_argument("output",
+                        help="what mqroute wrote for the script that log_to_script.py makes of the "
+                        "logs with the same options")
     add_options(parser)
     options = parser.parse_args()
     if [*options.log, options.output, options.begin].count(STDIN) > 1:

@@ -4,25 +4,23 @@
         oracle.answers({"do": "connect", "client": "a"})
         [*copies, end] = oracle.answers({"do": "publish", "client": "a", "topic": "x"})
 
-`answers` takes one command after another, and gives what each is answered with: its copies, and last the closing line or the
-refusal. `run` takes a whole script, from a world of its own, and gives such a list for each of its commands.
-The program is `program`, or $MQROUTE, or the one that stands in the same clone or installation, or `mqroute` on the PATH.
+`answers` takes one command after another, and gives what each is answered with: its copies, and
+last the closing line or the refusal. `run` takes a whole script, from a world of its own, and gives
+such a list for each of its commands.
+The program is `program`, or $MQROUTE, or the one that stands in the same clone or installation, or
+`mqroute` on the PATH.
 """
 import io
 import json
-import os
-import shutil
 import subprocess
 import tempfile
 from collections.abc import Iterable, Iterator
 from pathlib import Path
-from typing import Any
 
+from mqroute_tools import files
 from mqroute_tools.ending import Fault
-from mqroute_tools.output import Block, blocks_of
+from mqroute_tools.output import Answer, Block, Command, blocks_of
 
-Command = dict[str, Any]
-Answer = dict[str, Any]
 BUILT = Path(__file__).resolve().parents[1] / "bin/mqroute"
 INSTALLED = Path(__file__).resolve().parents[2] / "bin/mqroute"
 
@@ -32,53 +30,55 @@ class OracleFault(Exception):
 
 
 def found_program() -> str:
-    named = os.environ.get("MQROUTE")
-    if named:
-        return named
-    for built in (BUILT, INSTALLED):
-        if os.access(built, os.X_OK):
-            return str(built)
-    return shutil.which("mqroute") or "mqroute"
+    return files.program("MQROUTE", (BUILT, INSTALLED), "mqroute")
 
 
 class Conversation:
     """A program that runs: a line in, its answers out."""
 
     def __init__(self, words: list[str]) -> None:
-        self.program = subprocess.Popen([*words, "--unbuffered"], stdin=subprocess.PIPE, stdout=subprocess.PIPE, stderr=subprocess.PIPE)
-        self.output = io.TextIOWrapper(self.program.stdout, "utf-8", newline="\n")
+        self.program = subprocess.Popen([*words, "--unbuffered"], stdin=subprocess.PIPE,
+                                        stdout=subprocess.PIPE, stderr=subprocess.PIPE)
+        given, written, told = self.program.stdin, self.program.stdout, self.program.stderr
+        assert given and written and told, "each is a pipe"
+        self.input, self.told = given, told
+        self.output = io.TextIOWrapper(written, "utf-8", newline="\n")
         self.blocks: Iterator[Block] = blocks_of(self.output, "the answer")
 
     def block(self, line: str) -> Block:
         try:
-            self.program.stdin.write(line.encode())
-            self.program.stdin.flush()
+            self.input.write(line.encode())
+            self.input.flush()
             return next(self.blocks)
         except (OSError, Fault, StopIteration) as fault:
-            raise OracleFault(self.end() or f"mqroute ended with status {self.program.returncode}") from fault
+            raise OracleFault(
+                self.end() or f"mqroute ended with status {self.program.returncode}") from fault
 
     def end(self) -> str:
         """Lets the program end; what it said on standard error, once."""
         if self.output.closed:
             return ""
         try:
-            self.program.stdin.close()
+            self.input.close()
         except OSError:
             pass  # the program has ended before it read all
         self.output.close()
-        with self.program.stderr as stream:
+        with self.told as stream:
             told = stream.read().decode("utf-8", "replace").strip()
         self.program.wait()
         return told
 
 
 class Oracle:
-    """Answers commands one by one, in a world that lasts until `close`; and whole scripts, each in a world of its own.
+    """Answers commands one by one, in a world that lasts until `close`; and whole scripts, each in
+    a world of its own.
 
-    `acl` is the text of an access list; without one everything is allowed. The limits are those of the program's options.
+    `acl` is the text of an access list; without one everything is allowed. The limits are those of
+    the program's options.
     """
 
-    def __init__(self, acl: str | None = None, max_retained: int | None = None, max_queued: int | None = None, program: str | None = None) -> None:
+    def __init__(self, acl: str | None = None, max_retained: int | None = None,
+                 max_queued: int | None = None, program: str | None = None) -> None:
         self.words = [program or found_program()]
         for name, limit in (("--max-retained", max_retained), ("--max-queued", max_queued)):
             if limit is not None:
@@ -105,9 +105,11 @@ class Oracle:
             self.folder.cleanup()
 
     def answers(self, command: Command) -> list[Answer]:
-        """The answers to a command after those before it: its copies, then the closing line or the refusal.
+        """The answers to a command after those before it: its copies, then the closing line or the
+        refusal.
 
-        Their line is the number of commands so far. After OracleFault nothing more is answered before `close`.
+        Their line is the number of commands so far. After OracleFault nothing more is answered
+        before `close`.
         """
         if self.conversation is None:
             try:
@@ -128,8 +130,10 @@ class Oracle:
         except OSError as fault:
             raise OracleFault(f"cannot run {self.words[0]}: {fault.strerror}") from fault
         if done.returncode not in (0, 1):
-            raise OracleFault(done.stderr.decode("utf-8", "replace").strip() or f"mqroute ended with status {done.returncode}")
+            raise OracleFault(done.stderr.decode("utf-8", "replace").strip()
+                              or f"mqroute ended with status {done.returncode}")
         try:
-            return list(blocks_of(io.StringIO(done.stdout.decode("utf-8"), newline="\n"), "the answer"))
+            return list(
+                blocks_of(io.StringIO(done.stdout.decode("utf-8"), newline="\n"), "the answer"))
         except (Fault, UnicodeDecodeError) as fault:
             raise OracleFault(str(fault)) from fault

@@ -2,10 +2,12 @@
 """Runs a script on a live MQTT 5 broker and compares who got what with mqroute's output.
 
 usage: replay.py [--host H] [--port P] SCRIPT OUTPUT
-The broker has to have the access list that mqroute had, and no other clients. Copies of one client for one line and topic are
-joined: greatest QoS, any RETAIN, all identifiers; there may be as many as the client has subscriptions for the topic. The order of
-what waited, the reasons of SUBACK, UNSUBACK, PUBACK and PUBREC, and CONNACK's session present are compared too.
-Exit status: 0 nothing differs; 1 something does; 2 usage, a file, an output that isn't of the script, the broker.
+The broker has to have the access list that mqroute had, and no other clients. Copies of one client
+for one line and topic are joined: greatest QoS, any RETAIN, all identifiers; there may be as many
+as the client has subscriptions for the topic. The order of what waited, the reasons of SUBACK,
+UNSUBACK, PUBACK and PUBREC, and CONNACK's session present are compared too.
+Exit status: 0 nothing differs; 1 something does; 2 usage, a file, an output that isn't of the
+script, the broker.
 """
 if __name__ == "__main__":
     from mqroute_tools import interrupt
@@ -19,12 +21,11 @@ from typing import TYPE_CHECKING
 
 from mqroute import Oracle
 from mqroute_tools import ending
-from mqroute_tools.agreement import Command
 from mqroute_tools.commands import Seen, line_faults
 from mqroute_tools.ending import Fault, counted, in_words
 from mqroute_tools.files import STDIN, at, keep_apart, open_input
-from mqroute_tools.numbers import amount, port, whole_number
-from mqroute_tools.output import Block, blocks, by_key, is_blank, misfit
+from mqroute_tools.numbers import add_waiting, port, whole_number
+from mqroute_tools.output import Block, Command, blocks, by_key, is_blank, misfit
 from mqroute_tools.progress import Progress
 from mqroute_tools.wills import Wills
 
@@ -37,7 +38,8 @@ LINE = re.compile(r"\Aline (\d+):? ")  # how a fault of a live run begins
 
 def runnable(script: Iterable[bytes], given: Iterator[Block],
              names: tuple[str, str]) -> Iterator[Line]:
-    """The lines that can be sent, with their answers: all but those refused as no MQTT command can be."""
+    """The lines that can be sent, with their answers: all but those refused as
+    no MQTT command can be."""
     name, output = names
     lines, seen = iter(script), Seen(name)
     for number, line in enumerate(lines, 1):
@@ -127,14 +129,19 @@ def differences(replay: "Replay", progress: Progress) -> Iterator[list[str]]:
 
 
 def arguments() -> argparse.Namespace:
-    parser = argparse.ArgumentParser(description="Runs a script on a live MQTT 5 broker and compares with mqroute's output.")
-    parser.add_argument("script"), parser.add_argument("output")
+    parser = argparse.ArgumentParser(
+        description="Runs a script on a live MQTT 5 broker and compares with mqroute's output.")
+    parser.add_argument("script")
+    parser.add_argument("output")
     parser.add_argument("--host", default="127.0.0.1")
     parser.add_argument("--port", type=port, default=1883)
-    parser.add_argument("--username", metavar="NAME", help="user name of the clients for which the script has none")
+    parser.add_argument(
+        "--username", metavar="NAME", help="user name of the clients for which the script has none")
     parser.add_argument("--password", metavar="TEXT", help="password of all clients")
-    parser.add_argument("--on-acl", metavar="COMMAND", help="what the shell does for an `acl` line: it lets the broker read the access list in the file "
-                        "$MQROUTE_ACL, as by: cp \"$MQROUTE_ACL\" /tmp/acl && kill -HUP 123")
+    parser.add_argument("--on-acl", metavar="COMMAND",
+                        help="what the shell does for an `acl` line: it lets the broker read the "
+                        "access list in the file $MQROUTE_ACL, "
+                        "as by: cp \"$MQROUTE_ACL\" /tmp/acl && kill -HUP 123")
     parser.add_argument("--acl-file", metavar="FILE",
                         help="the access list with which mqroute wrote OUTPUT: it runs again where "
                         "the broker doesn't offer all that the script asks for")
@@ -142,12 +149,11 @@ def arguments() -> argparse.Namespace:
                         help="the limit with which it did")
     parser.add_argument("--max-queued", type=whole_number(0), metavar="N",
                         help="the limit with which it did")
-    parser.add_argument("--wills", action="store_true", help="run as a will what a client publishes with the payload `will` and then disconnects: it goes with "
-                        "the CONNECT, and the connection ends without a DISCONNECT")
-    parser.add_argument("--patience", type=amount, default=5, metavar="SECONDS",
-                        help="how long to wait for an acknowledgement (default 5)")
-    parser.add_argument("--settle", type=amount, default=0, metavar="SECONDS",
-                        help="wait after each line, for brokers that acknowledge before they route (default 0)")
+    parser.add_argument("--wills", action="store_true",
+                        help="run as a will what a client publishes with the payload `will` and "
+                        "then disconnects: it goes with the CONNECT, and the connection ends "
+                        "without a DISCONNECT")
+    add_waiting(parser)
     options = parser.parse_args()
     if options.script == options.output == STDIN:
         parser.error("standard input can be read once")

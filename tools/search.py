@@ -1,11 +1,13 @@
 #!/usr/bin/python3
-"""Searches for differences between a live MQTT 5 broker and mqroute: random scripts on both, each that differs made as small as
-it goes on differing in that way.
+"""Searches for differences between a live MQTT 5 broker and mqroute: random scripts on both, each
+that differs made as small as it goes on differing in that way.
 
-usage: search.py [--host H] [--port P] [--minutes N] [--seed N] [--without PART,..] [--known FOLDER].. [--save FOLDER]
-The broker must be one that may be tried with anything, with no access list (but those of --on-acl) and no other clients: sessions and retained messages
-are made and removed. What its CONNACK doesn't offer isn't asked for. Differences that the scripts in differences/, or in
-FOLDER, show are passed over.
+usage: search.py [--host H] [--port P] [--minutes N] [--seed N] [--without PART,..] [--known
+       FOLDER].. [--save FOLDER]
+The broker must be one that may be tried with anything, with no access list (but those of --on-acl)
+and no other clients: sessions and retained messages are made and removed. What its CONNACK doesn't
+offer isn't asked for. Differences that the scripts in differences/, or in FOLDER, show are passed
+over.
 Exit status: 0 nothing new was found; 1 something was; 2 usage, a file, the broker.
 """
 if __name__ == "__main__":
@@ -27,18 +29,20 @@ from mqroute_tools.commands import faults
 from mqroute_tools.ending import Fault, counted, in_words
 from mqroute_tools.files import at, whole
 from mqroute_tools.kinds import Difference, Kind, kind
-from mqroute_tools.numbers import amount, port, whole_number
-from mqroute_tools.output import Block
-from mqroute_tools.random_scripts import ACCESS, PARTS, Command, Maker, Use, fresh
+from mqroute_tools.numbers import add_waiting, amount, port, whole_number
+from mqroute_tools.output import Block, Command
+from mqroute_tools.random_scripts import ACCESS, PARTS, Maker, Use, fresh
 from mqroute_tools.shrinking import connected, shrink
 
 HERE = Path(__file__).resolve().parent
-KNOWN = [folder for found in (HERE / "differences", HERE.parent / "brokers/differences")  # installed, in a clone
+# installed, in a clone
+KNOWN = [folder for found in (HERE / "differences", HERE.parent / "brokers/differences")
          for folder in (found, *sorted(found.glob("*/")))
          if folder.is_dir()]
 MARK = "Z"  # around numbers, behind the names of a script
 TRIES = 2  # a broker may do the same thing now and then
-LOOK_AGAIN = 10  # one in so many scripts whose differences all seem known is made small all the same
+# one in so many scripts whose differences all seem known is made small all the same
+LOOK_AGAIN = 10
 Script = list[Command]
 
 
@@ -54,7 +58,8 @@ class Broker(Protocol):
 class Find:
     """A script that differs, with both sides' answers."""
 
-    def __init__(self, found: Kind, script: Script, answers: list[Block], differences: list[Difference]) -> None:
+    def __init__(self, found: Kind, script: Script, answers: list[Block],
+                 differences: list[Difference]) -> None:
         self.kind, self.script, self.answers, self.differences = found, script, answers, differences
 
     def lines(self) -> list[str]:
@@ -67,20 +72,22 @@ class Find:
         """What replay.py prints for it."""
         found: dict[int, list[str]] = {}
         for difference in self.differences:
-            head = f"line {difference.line}: {json.dumps(self.script[difference.line - 1], ensure_ascii=False)}"
+            head = (f"line {difference.line}: "
+                    f"{json.dumps(self.script[difference.line - 1], ensure_ascii=False)}")
             texts = found.setdefault(difference.line, [head])
             texts += [] if difference.texts[0] in texts else difference.texts
         return [text for texts in found.values() for text in texts]
 
 
-def as_json(value: dict) -> str:
+def as_json(value: Command) -> str:
     return json.dumps(value, separators=(",", ":"), ensure_ascii=False)
 
 
 class Search:
     def __init__(self, broker: Broker, oracle: Oracle, until: float = float("inf")) -> None:
         self.broker, self.oracle, self.until = broker, oracle, until
-        self.began = int(time.time()) % 0x1000000  # a broker may remember names of an earlier search
+        # a broker may remember names of an earlier search
+        self.began = int(time.time()) % 0x1000000
         self.known: list[Kind] = []
         self.runs = self.scripts = self.passing = 0
 
@@ -104,22 +111,25 @@ class Search:
     def differs(self, script: Script, what: str, but: list[Kind]) -> Difference | None:
         """The script's first difference that is this one, and of none of these kinds."""
         for difference in self.run(script):
-            if difference.what == what and not any(one.covers(kind(script, difference)) for one in but):
+            if (difference.what == what
+                    and not any(one.covers(kind(script, difference)) for one in but)):
                 return difference
         return None
 
     def smallest(self, script: Script, difference: Difference, but: list[Kind]) -> Script | None:
         """The smallest script with this difference; None where it isn't seen again."""
         def still(candidate: Script) -> bool:
-            return time.monotonic() < self.until and self.differs(candidate, difference.what, but) is not None
+            return (time.monotonic() < self.until
+                    and self.differs(candidate, difference.what, but) is not None)
         script = connected(script[:difference.line])
         if not any(self.differs(script, difference.what, but) for _ in range(TRIES)):
             return None
         return shrink(script, still)
 
     def find(self, script: Script, difference: Difference, but: list[Kind]) -> Find | None:
-        """The difference in its smallest script, if it is of no kind that is known; from then on its kind is."""
-        small = self.smallest(script, difference, but)
+        """The difference in its smallest script, if it is of no kind that is known;
+        from then on its kind is."""
+        small = self.smallest(script, difference, but) or []
         for _ in range(TRIES if small else 0):
             differences = self.run(small)
             for one in differences:
@@ -128,7 +138,8 @@ class Search:
         self.passing += 1
         return None
 
-    def new(self, script: Script, differences: list[Difference], difference: Difference) -> Find | None:
+    def new(self, script: Script, differences: list[Difference],
+            difference: Difference) -> Find | None:
         found = kind(script, difference)
         if self.is_known(found):
             return None
@@ -140,7 +151,8 @@ class Search:
         differences = self.run(script)
         new = [one for one in differences if not self.is_known(kind(script, one))]
         if not new and differences and self.scripts % LOOK_AGAIN == 0:
-            found = self.find(script, differences[self.scripts // LOOK_AGAIN % len(differences)], [])
+            found = self.find(
+                script, differences[self.scripts // LOOK_AGAIN % len(differences)], [])
             if found:
                 yield found
         for difference in new:
@@ -156,10 +168,12 @@ class Search:
 
 
 def known_scripts(folder: Path) -> Iterator[Script]:
-    """The scripts in a folder that show a difference without an access list, limits and the clock."""
+    """The scripts in a folder that show a difference without an access list,
+    limits and the clock."""
     for name in sorted(folder.glob("*.jsonl")):
         shown = name.with_suffix(".diff")
-        if any(name.with_suffix(end).exists() for end in (".acl", ".conf", ".options")) or (shown.exists() and not shown.read_bytes()):
+        if (any(name.with_suffix(end).exists() for end in (".acl", ".conf", ".options"))
+                or (shown.exists() and not shown.read_bytes())):
             continue
         with open(name, "rb") as lines:
             for number, fault in faults(lines):
@@ -176,8 +190,7 @@ def learn(search: Search, folders: list[Path]) -> int:
             raise Fault(f"there is no folder {folder}")
         for script in known_scripts(folder):
             if search.broker.can_run(script):
-                for _ in search.all_of(script):
-                    pass
+                list(search.all_of(script))
     return len(search.known)
 
 
@@ -192,7 +205,8 @@ def show(find: Find, number: int, folder: Path | None) -> None:
     print(f"find {number}: {find.kind.what}, with {', '.join(sorted(find.kind.uses))}")
     print("\n".join([*find.lines(), "", *find.told(), ""]), flush=True)
     if folder:
-        for end, lines in ((".jsonl", find.lines()), (".out", find.output()), (".diff", find.told())):
+        for end, lines in (
+                (".jsonl", find.lines()), (".out", find.output()), (".diff", find.told())):
             with whole(str(folder / f"find-{number}{end}")) as out:
                 out.writelines((line + "\n").encode("utf-8") for line in lines)
 
@@ -206,12 +220,16 @@ def parts(text: str) -> list[str]:
 
 
 def arguments() -> argparse.Namespace:
-    parser = argparse.ArgumentParser(description="Searches for differences between a live MQTT 5 broker, which may be tried with anything, and mqroute.")
+    parser = argparse.ArgumentParser(
+        description="Searches for differences between a live MQTT 5 broker, which may be tried "
+        "with anything, and mqroute.")
     parser.add_argument("--host", default="127.0.0.1")
     parser.add_argument("--port", type=port, default=1883)
     parser.add_argument("--username", metavar="NAME", help="user name of all clients")
     parser.add_argument("--password", metavar="TEXT", help="password of all clients")
-    parser.add_argument("--on-acl", metavar="COMMAND", help="try access lists too: what the shell does to let the broker read the one in the file $MQROUTE_ACL, "
+    parser.add_argument("--on-acl", metavar="COMMAND",
+                        help="try access lists too: what the shell does to let the broker read the "
+                        "one in the file $MQROUTE_ACL, "
                         "as by: cp \"$MQROUTE_ACL\" /tmp/acl && kill -HUP 123")
     parser.add_argument("--minutes", type=amount, default=10, metavar="N",
                         help="how long to search (default 10)")
@@ -221,11 +239,9 @@ def arguments() -> argparse.Namespace:
                         help=f"leave these out of the scripts: {', '.join((*PARTS, ACCESS))}")
     parser.add_argument("--known", type=Path, action="append", default=[], metavar="FOLDER",
                         help="pass over what the scripts NAME.jsonl in it show, too")
-    parser.add_argument("--save", type=Path, metavar="FOLDER", help="write each find there as find-N.jsonl, .out and .diff")
-    parser.add_argument("--patience", type=amount, default=5, metavar="SECONDS",
-                        help="how long to wait for an acknowledgement (default 5)")
-    parser.add_argument("--settle", type=amount, default=0, metavar="SECONDS",
-                        help="wait after each line, for brokers that acknowledge before they route (default 0)")
+    parser.add_argument("--save", type=Path, metavar="FOLDER",
+                        help="write each find there as find-N.jsonl, .out and .diff")
+    add_waiting(parser)
     return parser.parse_args()
 
 
@@ -263,7 +279,8 @@ def main() -> int:
     from mqroute_tools.live_side import LiveBroker  # wants paho
     try:
         with Oracle() as oracle:
-            return 1 if searched(Search(LiveBroker(options), oracle, time.monotonic() + 60 * options.minutes), options) else 0
+            until = time.monotonic() + 60 * options.minutes
+            return 1 if searched(Search(LiveBroker(options), oracle, until), options) else 0
     except OracleFault as fault:
         raise Fault(str(fault)) from fault
 

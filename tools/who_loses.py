@@ -1,8 +1,10 @@
 #!/usr/bin/env python3
 """Tells who loses (and who gains) what between two outputs of mqroute for one script.
 
-usage: who_loses.py [--by user] [--why] [--depth N] [--acl-before FILE --acl-after FILE] [--json] [--html FILE] SCRIPT BEFORE AFTER
-Exit status: 0 nothing changes; 1 something does; 2 usage, a file, or outputs that aren't of this script.
+usage: who_loses.py [--by user] [--why] [--depth N] [--acl-before FILE --acl-after FILE] [--json]
+[--html FILE] SCRIPT BEFORE AFTER
+Exit status: 0 nothing changes; 1 something does; 2 usage, a file, or outputs that aren't of this
+script.
 """
 if __name__ == "__main__":
     from mqroute_tools import interrupt
@@ -11,9 +13,8 @@ import argparse
 import json
 import sys
 from collections import Counter, defaultdict
-from dataclasses import dataclass, field
-from functools import lru_cache
-from typing import Any
+from functools import lru_cache, partial
+from typing import BinaryIO
 
 from mqroute_tools import ending
 from mqroute_tools import page
@@ -22,60 +23,47 @@ from mqroute_tools.commands import Seen
 from mqroute_tools.deciding import Lists, in_words
 from mqroute_tools.ending import Fault, counted
 from mqroute_tools.files import STDIN, at, keep_apart, open_input
+from mqroute_tools.findings import Copies, CopiesRow, Findings, RefusedRow, Refusals, Subject
 from mqroute_tools.numbers import whole_number
-from mqroute_tools.output import Block, blocks, by_key, command_of, is_blank, misfit
-from mqroute_tools.rows import Reasons, Row, all_causes, because_of, by_user_table, copies_of, refused_of, row_order
+from mqroute_tools.output import Block, Command, blocks, by_key, command_of, is_blank, misfit
+from mqroute_tools.rows import (
+    Reasons, Row, all_causes, because_of, by_user_table, copies_of, refused_of, row_order)
 from mqroute_tools.tables import shown, table, user_shown
 
 
-@dataclass
-class Copies:
-    """The copies of one client and topic. `changed` are those with another QoS, RETAIN flag, payload or the like."""
-    before: int = 0
-    after: int = 0
-    lost: int = 0
-    gained: int = 0
-    changed: int = 0
-
-
-@dataclass
-class Refusals:
-    """The lines of one client and topic that are refused. `newly` and `no_longer` count by the refusal's name."""
-    before: int = 0
-    after: int = 0
-    newly: Counter[str] = field(default_factory=Counter)
-    no_longer: Counter[str] = field(default_factory=Counter)
+def gathered(depth: int | None, topic: str) -> str:
+    """The topic, or the filter that stands for all topics with the same first levels."""
+    levels = topic.split("/", depth) if depth else []
+    return "/".join(levels[:-1]) + "/#" if depth and len(levels) > depth else topic
 
 
 class Losses:
-    """What differs, by client and topic. With `reasons` its causes too, and where they want it by user name and topic."""
+    """What differs, by client and topic. With `reasons` its causes too, and where they want
+    it by user name and topic."""
 
     def __init__(self, depth: int | None) -> None:
-        self.depth = depth
-        self.gathered = lru_cache(1 << 14)(self.gathered)
+        self.gathered = lru_cache(1 << 14)(partial(gathered, depth))
         self.reasons: Reasons | None = None
         self.copies: defaultdict[Row, Copies] = defaultdict(Copies)
         self.refusals: defaultdict[Row, Refusals] = defaultdict(Refusals)
 
-    def gathered(self, topic: str) -> str:
-        """The topic, or the filter that stands for all topics with the same first levels."""
-        levels = topic.split("/", self.depth) if self.depth else []
-        return "/".join(levels[:-1]) + "/#" if self.depth and len(levels) > self.depth else topic
-
     def add(self, text: bytes, before: Block, after: Block) -> str | bool:
-        """Counts what one line of the script was answered in both runs. Says why, if an answer can't be of that line."""
+        """Counts what one line of the script was answered in both runs. Says why, if an
+        answer can't be of that line."""
         was = by_key(before.copies)
         now = was if before.copies == after.copies else by_key(after.copies)
         said = was or now or before.reason or after.reason or before.refused or after.refused
         if said or self.reasons:
             command = command_of(text)
-            why = said and (misfit(command, before, was) or (after != before and misfit(command, after, now)))
+            why = said and (
+                misfit(command, before, was) or (after != before and misfit(command, after, now)))
             if why:
                 return str(why)
             self.count(command or {}, (before, after), was, now)
         return False
 
-    def count(self, command: dict[str, Any], blocks: tuple[Block, Block], was: Grouped, now: Grouped) -> None:
+    def count(self, command: Command, blocks: tuple[Block, Block], was: Grouped,
+              now: Grouped) -> None:
         if self.reasons:
             self.reasons.take(command, blocks, was, now)
         self.add_copies(was, now)
@@ -86,7 +74,8 @@ class Losses:
     def who(self, client: str) -> str | None:
         return self.reasons.who(client) if self.reasons else client
 
-    def add_refusals(self, command: dict[str, Any], line: int, was: str | None, now: str | None) -> None:
+    def add_refusals(self, command: Command, line: int, was: str | None,
+                     now: str | None) -> None:
         if was or now:
             subject = self.subject(command)
             entry = self.refusals[subject]
@@ -100,7 +89,8 @@ class Losses:
 
     def add_copies(self, was: Grouped, now: Grouped) -> None:
         for key in was.keys() | now.keys():
-            entry, old, new = self.copies[self.who(key[0]), self.gathered(key[1])], was.get(key, []), now.get(key, [])
+            entry = self.copies[self.who(key[0]), self.gathered(key[1])]
+            old, new = was.get(key, []), now.get(key, [])
             entry.before += len(old)
             entry.after += len(new)
             if old is not new:
@@ -109,21 +99,26 @@ class Losses:
                 entry.gained += gained
                 entry.changed += changed
 
-    def subject(self, command: dict[str, Any]) -> Row:
-        """Whom a refusal concerns: the client, and the topic or filter, or what the command does."""
+    def subject(self, command: Command) -> Row:
+        """Whom a refusal concerns: the client, and the topic or filter, or
+        what the command does."""
         try:
-            return self.who(str(command["client"])), self.gathered(str(command.get("topic", command.get("filter", command["do"]))))
+            what = str(command.get("topic", command.get("filter", command["do"])))
+            return self.who(str(command["client"])), self.gathered(what)
         except KeyError:
             return "", "(no command)"
 
     def changed_copies(self) -> list[tuple[Row, Copies]]:
-        return sorted(((k, c) for k, c in self.copies.items() if c.lost or c.gained or c.changed), key=row_order)
+        return sorted(((k, c) for k, c in self.copies.items() if c.lost or c.gained or c.changed),
+                      key=row_order)
 
     def changed_refusals(self) -> list[tuple[Row, Refusals]]:
-        return sorted(((k, r) for k, r in self.refusals.items() if r.newly or r.no_longer), key=row_order)
+        return sorted(
+            ((k, r) for k, r in self.refusals.items() if r.newly or r.no_longer), key=row_order)
 
     def totals(self) -> dict[str, int]:
-        of_copies = {name: sum(getattr(c, name) for c in self.copies.values()) for name in ("before", "after", "lost", "gained", "changed")}
+        of_copies = {name: sum(getattr(c, name) for c in self.copies.values())
+                     for name in ("before", "after", "lost", "gained", "changed")}
         return of_copies | {"refused_before": sum(r.before for r in self.refusals.values()),
                             "refused_after": sum(r.after for r in self.refusals.values())}
 
@@ -150,11 +145,7 @@ def compare(losses: Losses, script: str, before: str, after: str) -> None:
     seen = Seen(script)
     with open_input(script) as commands:
         try:
-            for number, text in enumerate(commands, 1):
-                seen.add(text)
-                why = compare_line(losses, text, runs, number)
-                if why:
-                    raise Fault(f"{at(script, number)}: {why}")
+            compare_lines(losses, script, commands, runs, seen)
         except Fault:
             seen.refuse(commands)
             raise
@@ -164,16 +155,26 @@ def compare(losses: Losses, script: str, before: str, after: str) -> None:
             raise Fault(f"{run.name} has answers to lines that {script} doesn't have")
 
 
+def compare_lines(losses: Losses, script: str, commands: BinaryIO, runs: list[Run],
+                  seen: Seen) -> None:
+    for number, text in enumerate(commands, 1):
+        seen.add(text)
+        why = compare_line(losses, text, runs, number)
+        if why:
+            raise Fault(f"{at(script, number)}: {why}")
+
+
 def compare_line(losses: Losses, text: bytes, runs: list[Run], number: int) -> str:
     """Counts one line of the script. Says why, if the outputs can't be of this script."""
     here = [run.take(number) for run in runs]
+    before, after = here
     if is_blank(text):
         names = [run.name for run, block in zip(runs, here) if block]
         other = "has an answer to it: it is the output of another script"
         return f"blank, and {names[0]} {other}" if names else ""
-    if None in here:
+    if before is None or after is None:
         return unanswered([run.name for run, block in zip(runs, here) if block is None])
-    why = losses.add(text, *here)
+    why = losses.add(text, before, after)
     return f"an output is of another script: {why}" if why else ""
 
 
@@ -194,16 +195,17 @@ def why(newly: Counter[str], no_longer: Counter[str]) -> str:
     return ", ".join(parts) or IN_BOTH
 
 
-def report(found: dict[str, Any]) -> str:
-    copies, refusals = found["copies"], found["refused"]
-    if not (copies or refusals):
+def report(found: Findings) -> str:
+    if not (found.copies or found.refused):
         return ""
     parts = []
-    if copies:
-        parts.append("Copies\n" + (by_user_table(copies, shown) if found.get("by") == "user" else copies_table(copies)))
-    if refusals:
-        parts.append("Refused\n" + refused_table(refusals))
-    parts.append(sums(found["totals"]))
+    if found.copies:
+        by_user = found.by == "user"
+        shown_copies = by_user_table(found.copies, shown) if by_user else copies_table(found.copies)
+        parts.append("Copies\n" + shown_copies)
+    if found.refused:
+        parts.append("Refused\n" + refused_table(found.refused))
+    parts.append(sums(found.totals))
     return "\n\n".join(parts) + "\n"
 
 
@@ -214,48 +216,67 @@ def sums(totals: dict[str, int]) -> str:
             ).format(copies=copies, lines=lines, **totals)
 
 
-def copies_table(copies: list[dict[str, Any]]) -> str:
-    head = ["before", "after", "lost", "gained", "changed"]
-    rows = [[shown(c["client"]), shown(c["topic"]), *(str(c[name]) for name in head)] + ([because_of(c)] if "causes" in c else []) for c in copies]
-    return table(["client", "topic", *head] + (["because"] if "causes" in copies[0] else []), rows)
+def copies_table(copies: list[CopiesRow]) -> str:
+    head = ["client", "topic", "before", "after", "lost", "gained", "changed"]
+    rows = [[shown(row.subject.name or ""), shown(row.subject.topic),
+             *map(str, vars(row.copies).values())] for row in copies]
+    if copies[0].causes is not None:
+        head.append("because")
+        for row, cells in zip(copies, rows):
+            cells.append(because_of(row.causes or []))
+    return table(head, rows)
 
 
-def refused_table(refusals: list[dict[str, Any]]) -> str:
-    head = ["user", "clients", "topic"] if "user" in refusals[0] else ["client", "topic"]
-    rows = []
-    for r in refusals:
-        names = [user_shown(r["user"]), str(r["clients"])] if "user" in r else [shown(r["client"])]
-        rows.append([*names, shown(r["topic"]), str(r["before"]), str(r["after"]), why(r["newly"], r["no_longer"])])
-    decided = ["decided by"] if any("decided" in r for r in refusals) else []
-    for r, row in zip(refusals, rows if decided else []):
-        row.append(shown(in_words(r["decided"])) if "decided" in r else "")
-    return table([*head, "before", "after", "why", *decided], rows)
+def refused_table(refused: list[RefusedRow]) -> str:
+    head = ["user", "clients", "topic"] if refused[0].subject.by_user() else ["client", "topic"]
+    head += ["before", "after", "why"]
+    rows = [refused_cells(row.subject, row.refusals) for row in refused]
+    if any(row.decided for row in refused):
+        head.append("decided by")
+        for row, cells in zip(refused, rows):
+            cells.append(shown(in_words(row.decided)) if row.decided else "")
+    return table(head, rows)
 
 
-def findings(losses: Losses) -> dict[str, Any]:
-    """All that is told, as JSON has it."""
-    def entry(key: Row, value: Copies | Refusals) -> dict[str, Any]:
-        return {"client": key[0], "topic": key[1], **vars(value)}
+def refused_cells(subject: Subject, counts: Refusals) -> list[str]:
+    names = [shown(subject.name or "")]
+    if subject.by_user():
+        names = [user_shown(subject.name), str(subject.clients)]
+    return [*names, shown(subject.topic), str(counts.before), str(counts.after),
+            why(counts.newly, counts.no_longer)]
+
+
+def findings(losses: Losses) -> Findings:
+    """All that is told."""
     copies, refusals, reasons = losses.changed_copies(), losses.changed_refusals(), losses.reasons
     if not reasons:
-        return {"copies": [entry(*c) for c in copies], "refused": [entry(*r) for r in refusals], "totals": losses.totals()}
-    rows = [copies_of(reasons, key, vars(value)) for key, value in copies]
-    lines = [row for key, value in refusals for row in refused_of(reasons, key, vars(value))]
-    return {"by": "user" if reasons.by_user else "client", "copies": rows, "causes": all_causes(rows),
-            "refused": lines, "totals": losses.totals()}
+        return Findings(None, [CopiesRow(Subject(*key), value, None) for key, value in copies], [],
+                        [RefusedRow(Subject(*key), value) for key, value in refusals],
+                        losses.totals())
+    rows = [copies_of(reasons, key, value) for key, value in copies]
+    lines = [row for key, value in refusals for row in refused_of(reasons, key, value)]
+    return Findings("user" if reasons.by_user else "client", rows, all_causes(rows), lines,
+                    losses.totals())
 
 
 def arguments() -> argparse.Namespace:
-    parser = argparse.ArgumentParser(description="Tells who loses what between two outputs of mqroute for one script.")
-    parser.add_argument("script"), parser.add_argument("before"), parser.add_argument("after")
+    parser = argparse.ArgumentParser(
+        description="Tells who loses what between two outputs of mqroute for one script.")
+    for name in ("script", "before", "after"):
+        parser.add_argument(name)
     parser.add_argument("--depth", type=whole_number(1), metavar="N",
                         help="gather topics by their first N levels")
-    parser.add_argument("--by", choices=["client", "user"], help="gather rows by user name, with causes (client without it; with --html user)")
+    parser.add_argument("--by", choices=["client", "user"],
+                        help="gather rows by user name, with causes (client without it; with "
+                        "--html user)")
     parser.add_argument("--why", action="store_true", help="the causes by client, too")
-    parser.add_argument("--acl-before", metavar="FILE", help="with --acl-after: the lines of both lists that decide (by mqroute-acl why), with the causes")
+    parser.add_argument("--acl-before", metavar="FILE",
+                        help="with --acl-after: the lines of both lists that decide (by "
+                        "mqroute-acl why), with the causes")
     parser.add_argument("--acl-after", metavar="FILE", help="the list of the second run")
     parser.add_argument("--json", action="store_true", help="JSON, also where nothing changes")
-    parser.add_argument("--html", metavar="FILE", help="write a page with causes and script lines, too")
+    parser.add_argument(
+        "--html", metavar="FILE", help="write a page with causes and script lines, too")
     options = parser.parse_args()
     if (options.acl_before is None) != (options.acl_after is None):
         parser.error("--acl-before and --acl-after go together")
@@ -281,9 +302,12 @@ def main() -> int:
         lists.refuse()
     if options.html is not None:
         page.write(options.html, found, options.script, options.before, options.after)
-    text = json.dumps(found, ensure_ascii=False, indent=1) + "\n" if options.json else report(found)
+    if options.json:
+        text = json.dumps(found.json(), ensure_ascii=False, indent=1) + "\n"
+    else:
+        text = report(found)
     sys.stdout.buffer.write(text.encode("utf-8"))
-    return 1 if found["copies"] or found["refused"] else 0
+    return 1 if found.copies or found.refused else 0
 
 
 if __name__ == "__main__":

@@ -1,14 +1,13 @@
 """What a broker's answer to one line of a script has in common with mqroute's."""
 import json
 from collections import defaultdict
-from collections.abc import Iterable, Iterator
+from collections.abc import Iterable, Iterator, Mapping
 from dataclasses import dataclass, field
-from typing import Any, NamedTuple
+from typing import NamedTuple
 
-from .output import Block, Key, read_json
+from .output import Block, Command, Key, read_json
 from .topics import matches
 
-Command = dict[str, Any]
 EXPIRY_SLACK = 2  # seconds
 NOT_AUTHORIZED = 135  # the reason code of what mqroute refuses as NotAuthorized
 NO_SUBSCRIBERS = 16  # which a broker may leave at 0 (3.4.2.1)
@@ -45,19 +44,22 @@ class Joined:
         self.count += 1
 
     def agrees(self, other: "Joined") -> bool:
-        if (self.expiry is None) != (other.expiry is None):
-            return False
-        near = self.expiry is None or abs(self.expiry - other.expiry) <= EXPIRY_SLACK
-        return near and (self.qos, self.retain, self.ids, self.payloads) == (other.qos, other.retain, other.ids, other.payloads)
+        if self.expiry is None or other.expiry is None:
+            near = self.expiry == other.expiry
+        else:
+            near = abs(self.expiry - other.expiry) <= EXPIRY_SLACK
+        mine = (self.qos, self.retain, self.ids, self.payloads)
+        return near and mine == (other.qos, other.retain, other.ids, other.payloads)
 
     def __str__(self) -> str:
-        parts = [f"qos {self.qos}", f"retain {str(self.retain).lower()}", "payload " + ", ".join(map(json.dumps, sorted(self.payloads)))]
+        parts = [f"qos {self.qos}", f"retain {str(self.retain).lower()}",
+                 "payload " + ", ".join(map(json.dumps, sorted(self.payloads)))]
         parts += [f"ids {self.ids}"] if self.ids else []
         parts += [f"expiry {self.expiry}"] if self.expiry is not None else []
         return ", ".join(parts)
 
 
-def joined(copies: Iterable[Copy]) -> dict[Key, dict[str, Joined]]:
+def joined(copies: Iterable[Copy]) -> Mapping[Key, Mapping[str, Joined]]:
     """By client and topic, then by payload: two messages may differ in RETAIN and interval."""
     found: defaultdict[Key, defaultdict[str, Joined]] = defaultdict(lambda: defaultdict(Joined))
     for copy in copies:
@@ -89,8 +91,8 @@ def pairs(ours: list[Copy], theirs: list[Copy]) -> Iterator[Pair]:
 
 
 def copies_of(block: Block) -> list[Copy]:
-    return [Copy(c["client"], c["topic"], c["qos"], c["retain"], c["payload"], c.get("ids", []), c.get("expiry"), "share" in c)
-            for c in map(read_json, block.copies)]
+    return [Copy(c["client"], c["topic"], c["qos"], c["retain"], c["payload"], c.get("ids", []),
+                 c.get("expiry"), "share" in c) for c in map(read_json, block.copies)]
 
 
 class Sessions:
@@ -98,21 +100,26 @@ class Sessions:
 
     def __init__(self) -> None:
         self.now = 0
-        self.live: dict[str, int] = {}  # clients that are connected, and their Session Expiry Interval
+        # clients that are connected, and their Session Expiry Interval
+        self.live: dict[str, int] = {}
         self.away: dict[str, int | None] = {}  # clients with a session, and until when they have it
         self.filters: defaultdict[str, set[str]] = defaultdict(set)
 
     def has(self, client: str) -> bool:
         if client in self.live:
             return self.live[client] > 0
-        return client in self.away and (self.away[client] is None or self.now < self.away[client])
+        if client not in self.away:
+            return False
+        ends = self.away[client]
+        return ends is None or self.now < ends
 
     def present(self, command: Command) -> bool:
         """What CONNACK has to say: whether the connect resumes a session."""
         return not command.get("clean", True) and self.has(command["client"])
 
     def spread(self, client: str, topic: str) -> int:
-        """The greatest number of copies of one message: one for each of the client's subscriptions (3.3.4)."""
+        """The greatest number of copies of one message: one for each of the
+        client's subscriptions (3.3.4)."""
         return max(1, sum(matches(name, topic) for name in self.filters[client]))
 
     def follow(self, command: Command) -> None:
@@ -135,7 +142,8 @@ class Sessions:
 
 
 class Acknowledged(NamedTuple):
-    """What the broker's CONNACK, SUBACK, UNSUBACK, PUBACK or PUBREC says; None where there was none."""
+    """What the broker's CONNACK, SUBACK, UNSUBACK, PUBACK or PUBREC says; None
+    where there was none."""
     reason: int | None = None
     present: bool | None = None
 
@@ -145,29 +153,38 @@ def plural(count: int) -> str:
 
 
 def different_copies(ours: list[Copy], theirs: list[Copy], sessions: Sessions) -> list[str]:
-    """What differs of the copies, as texts to print. A broker may send one for each subscription, joined here."""
+    """What differs of the copies, as texts to print. A broker may send one for each
+    subscription, joined here."""
     found: list[str] = []
     for key, mine, other in pairs(ours, theirs):
         if mine is None or other is None or not mine.agrees(other):
-            found += [f"   {key[0]} {key[1]}", f"      mqroute: {mine or 'nothing'}", f"      broker:  {other or 'nothing'}"]
+            found += [f"   {key[0]} {key[1]}", f"      mqroute: {mine or 'nothing'}",
+                      f"      broker:  {other or 'nothing'}"]
         elif not mine.count <= other.count <= mine.count * sessions.spread(*key):
-            found += [f"   {key[0]} {key[1]}", f"      mqroute: {plural(mine.count)}", f"      broker:  {plural(other.count)}"]
+            found += [f"   {key[0]} {key[1]}", f"      mqroute: {plural(mine.count)}",
+                      f"      broker:  {plural(other.count)}"]
     return found
 
 
 def different_order(ours: list[Copy], theirs: list[Copy]) -> list[str]:
-    """What waited for a client has to come in its order, of each QoS (4.6); repeats are of overlapping subscriptions."""
+    """What waited for a client has to come in its order, of each QoS (4.6); repeats are of
+    overlapping subscriptions."""
     found = []
-    for client, qos in sorted({(c.client, c.qos) for c in ours} & {(c.client, c.qos) for c in theirs}):
-        here, there = ([(c.topic, c.payload) for c in side if (c.client, c.qos) == (client, qos)] for side in (ours, theirs))
+    both = {(c.client, c.qos) for c in ours} & {(c.client, c.qos) for c in theirs}
+    for client, qos in sorted(both):
+        here, there = ([(c.topic, c.payload) for c in side if (c.client, c.qos) == (client, qos)]
+                       for side in (ours, theirs))
         here, there = (list(dict.fromkeys(messages)) for messages in (here, there))
         if here != there and sorted(here) == sorted(there):
-            shown = [", ".join(f"{topic} {json.dumps(payload)}" for topic, payload in messages) for messages in (here, there)]
-            found += [f"   {client} order", f"      mqroute: {shown[0]}", f"      broker:  {shown[1]}"]
+            shown = [", ".join(f"{topic} {json.dumps(payload)}" for topic, payload in messages)
+                     for messages in (here, there)]
+            found += [f"   {client} order", f"      mqroute: {shown[0]}",
+                      f"      broker:  {shown[1]}"]
     return found
 
 
-def different_reasons(command: Command, block: Block, said: Acknowledged, present: bool, greatest_qos: int = 2) -> list[str]:
+def different_reasons(command: Command, block: Block, said: Acknowledged, present: bool,
+                      greatest_qos: int = 2) -> list[str]:
     found = []
     if said.present is not None and said.present != present:
         found.append(f"   session present: mqroute {int(present)}, broker {int(said.present)}")

@@ -1,10 +1,10 @@
-"""The cause of each copy that only one of two runs of a script has, or that differs between them."""
+"""The cause of each copy that only one of two runs of a script has, or that
+differs between them."""
 from collections import Counter
 from collections.abc import Callable, Iterable, Mapping
-from typing import Any
 
 from .causes import AFTER, BEFORE, READER, TURN, UNKNOWN, Found, Queues
-from .output import Block, Key, read_json
+from .output import Block, Command, Key, read_json
 from .story import Story
 from .waited import Waited
 
@@ -45,10 +45,10 @@ class Because:
     def user(self, client: str) -> str | None:
         return self.story.users.get(client)
 
-    def begin(self, command: dict[str, Any], before: Block, after: Block) -> None:
+    def begin(self, command: Command, before: Block, after: Block) -> None:
         self.story.begin(command, before, after)
 
-    def end(self, command: dict[str, Any], before: Block, after: Block, was: Grouped) -> None:
+    def end(self, command: Command, before: Block, after: Block, was: Grouped) -> None:
         do = command.get("do")
         for run, block in enumerate((before, after)):
             if do == "connect":
@@ -61,7 +61,8 @@ class Because:
                     self.story.rights.learn(client, topic, (True, True))
         self.story.end(before.line, command, before, after)
 
-    def differing(self, command: dict[str, Any], blocks: tuple[Block, Block], was: Grouped, now: Grouped) -> dict[Key, list[Found]]:
+    def differing(self, command: Command, blocks: tuple[Block, Block], was: Grouped,
+                  now: Grouped) -> dict[Key, list[Found]]:
         """What is lost, gained and changed of each client and topic, copy by copy."""
         told: dict[Key, list[Found]] = {}
         refused = self.story.refusal(command, *blocks)
@@ -80,7 +81,7 @@ class Because:
                 told[key] = found if agrees else everything(counts, Found("", UNKNOWN))
         return told
 
-    def teller(self, command: dict[str, Any], blocks: tuple[Block, Block]) -> Teller | None:
+    def teller(self, command: Command, blocks: tuple[Block, Block]) -> Teller | None:
         """What tells the causes, where both runs accepted the line."""
         do = command.get("do")
         if do == "publish":
@@ -93,11 +94,15 @@ class Because:
             return lambda key, old, new: waited.of(key[1])
         return None
 
-    def live(self, key: Key, old: list[str], new: list[str], shared: list[set[Slot]]) -> list[Found]:
-        """Of a publish that both runs accepted. Where the other run has a copy of the group, another member got it."""
-        gone, come = [sorted(map(slot, texts), key=lambda s: s is None) for texts in (rest(old, new), rest(new, old))]
+    def live(self, key: Key, old: list[str], new: list[str],
+             shared: list[set[Slot]]) -> list[Found]:
+        """Of a publish that both runs accepted. Where the other run has a copy of the
+        group, another member got it."""
+        gone, come = [sorted(map(slot, texts), key=lambda s: s is None)
+                      for texts in (rest(old, new), rest(new, old))]
         pairs = min(len(gone), len(come))
-        found = [Found("changed", TURN if a and b and a != b else UNKNOWN) for a, b in zip(gone, come)]
+        found = [Found("changed", TURN if a and b and a != b else UNKNOWN)
+                 for a, b in zip(gone, come)]
         for what, left, other in (("lost", gone[pairs:], AFTER), ("gained", come[pairs:], BEFORE)):
             for one in left:
                 found.append(Found(what, TURN if one and one in shared[other] else READER))
@@ -105,7 +110,8 @@ class Because:
                     self.story.rights.learn(*key, (what == "lost", what == "gained"))
         return found
 
-    def retained(self, command: dict[str, Any], key: Key, counts: tuple[int, int, int]) -> list[Found]:
+    def retained(self, command: Command, key: Key,
+                 counts: tuple[int, int, int]) -> list[Found]:
         """Of a retained message at a subscribe."""
         runs, cause, line = self.story.retained(key[1])
         if self.story.clocks_differ or sum(counts) != 1:
@@ -116,7 +122,8 @@ class Because:
         if not runs[has]:
             return []
         other = runs[lacks]
-        if other and not self.story.over(other.deadline) and not (command.get("no_local") and other.client == key[0]):
+        if (other and not self.story.over(other.deadline)
+                and not (command.get("no_local") and other.client == key[0])):
             return [Found(what, READER, other.line)]  # it is retained, and was not sent
         return [Found(what, cause._replace(kind="retained"), line)] if cause else []
 

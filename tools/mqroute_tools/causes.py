@@ -7,7 +7,8 @@ BEFORE, AFTER = 0, 1
 
 
 class Cause(NamedTuple):
-    """`kind` is one of WORDS, or `waited`, which `Queues` makes one of them when all has been read."""
+    """`kind` is one of WORDS, or `waited`, which `Queues` makes one of them
+    when all has been read."""
     kind: str
     refused: str = ""  # the name of the refusal,
     newly: bool = True  # and whether the second run alone has it, or the first
@@ -24,7 +25,8 @@ READER, QUEUE, TURN, UNKNOWN = (Cause(kind) for kind in ("reader", "queue", "tur
 
 
 class Found(NamedTuple):
-    """One copy that differs. `publish` is the line of the publish that it is of, where that is another line."""
+    """One copy that differs. `publish` is the line of the publish that it is of,
+    where that is another line."""
     what: str  # lost, gained or changed
     cause: Cause
     publish: int = 0
@@ -34,14 +36,17 @@ def words(cause: Cause, what: str, user: str) -> str:
     """What a table says of a cause; `user` is the publisher's user name as it is shown."""
     refusal = ("refused ({})" if cause.newly else "no longer refused ({})").format(cause.refused)
     if cause.kind in ("publisher", "retained"):
-        return ("retained message: " if cause.kind == "retained" else "") + f"publish by {user} {refusal}"
+        return (("retained message: " if cause.kind == "retained" else "")
+                + f"publish by {user} {refusal}")
     if cause.kind == "session":
         return f"{cause.did} {refusal}"
-    return "another member's turn" if cause.kind == "turn" else WORDS.get(cause.kind, {}).get(what, "unknown")
+    return ("another member's turn" if cause.kind == "turn"
+            else WORDS.get(cause.kind, {}).get(what, "unknown"))
 
 
 class Queues:
-    """What is known of how many copies may wait for a client, in each run: at least so many, at most so many."""
+    """What is known of how many copies may wait for a client, in each run: at least
+    so many, at most so many."""
 
     def __init__(self) -> None:
         self.least = [0, 0]
@@ -55,7 +60,8 @@ class Queues:
         self.most[run] = count if most is None else min(most, count)
 
     def resolved(self, cause: Cause) -> Cause:
-        """Of a copy that is missing though its publish was accepted: whether the queue was full, or the client may not read."""
+        """Of a copy that is missing though its publish was accepted: whether the queue was full,
+        or the client may not read."""
         if cause.kind != "waited":
             return cause
         most = self.most[cause.run]
@@ -79,12 +85,14 @@ class Names:
 
 
 class Tally:
-    """The copies (or refused lines) of one row and one cause: how many, whose, and the first lines of the script."""
+    """The copies (or refused lines) of one row and one cause: how many, whose, and the
+    first lines of the script."""
 
     def __init__(self) -> None:
         self.count = 0
         self.clients: set[str] = set()
-        self.places = array("I")  # four numbers each: the line, that of the publish or 0, the client, the topic
+        # four numbers each: the line, that of the publish or 0, the client, the topic
+        self.places = array("I")
 
     def add(self, line: int, publish: int, client: str, topic: str, names: Names) -> None:
         self.count += 1

@@ -5,7 +5,7 @@ from collections.abc import Iterable, Iterator
 from typing import Any, NamedTuple
 
 from .looks import HEAD, LOG, wrong
-from .output import command_of, is_blank
+from .output import Command, command_of, is_blank
 from .strict_json import NoJson, read
 
 LINE_LIMIT = 1_048_576  # bytes
@@ -25,12 +25,15 @@ class Field(NamedTuple):
 
 TEXT, FLAG, NAME, QOS = Field("text"), Field("flag"), Field("text", True), Field("number", high=2)
 COMMANDS: dict[str, dict[str, Field]] = {
-    "connect": {"client": NAME, "user": TEXT, "clean": FLAG, "session_expiry": Field("number", high=SECONDS)},
+    "connect": {"client": NAME, "user": TEXT, "clean": FLAG,
+                "session_expiry": Field("number", high=SECONDS)},
     "disconnect": {"client": NAME},
-    "subscribe": {"client": NAME, "filter": NAME, "qos": QOS, "no_local": FLAG, "rap": FLAG, "handling": QOS,
+    "subscribe": {"client": NAME, "filter": NAME, "qos": QOS, "no_local": FLAG, "rap": FLAG,
+                  "handling": QOS,
                   "id": Field("number", low=1, high=268_435_455)},
     "unsubscribe": {"client": NAME, "filter": NAME},
-    "publish": {"client": NAME, "topic": NAME, "payload": TEXT, "qos": QOS, "retain": FLAG, "expiry": Field("number", high=SECONDS)},
+    "publish": {"client": NAME, "topic": NAME, "payload": TEXT, "qos": QOS, "retain": FLAG,
+                "expiry": Field("number", high=SECONDS)},
     "acl": {"text": TEXT},
     "advance": {"seconds": Field("number", True, high=18_446_744_073_709_551_615)},
     "stat": {},
@@ -59,7 +62,7 @@ def value_fault(field: Field, value: Any) -> str:
     return "" if field.low <= value <= field.high else f"not from {field.low:,} to {field.high:,}"
 
 
-def field_faults(do: str, command: dict[str, Any]) -> Iterator[str]:
+def field_faults(do: str, command: Command) -> Iterator[str]:
     fields = COMMANDS[do]
     unknown = [name for name in command if name not in fields and name != "do"]
     absent = [name for name in fields if name not in command]
@@ -82,7 +85,8 @@ def value_faults(value: Any) -> list[str]:
         return [f"\"do\" is missing{guess_of_do(value)}"]
     do = value["do"]
     if not isinstance(do, str) or do not in COMMANDS:
-        return [f"there is no command {shown(do)}" + (guess(do, COMMANDS) if isinstance(do, str) else "")]
+        return [f"there is no command {shown(do)}"
+                + (guess(do, COMMANDS) if isinstance(do, str) else "")]
     return list(field_faults(do, value))
 
 
@@ -104,7 +108,8 @@ def line_faults(line: bytes) -> list[str]:
 
 
 def faults(lines: Iterable[bytes]) -> Iterator[tuple[int, str]]:
-    """The numbers of the lines that are no commands, each with what is wrong, once for each fault."""
+    """The numbers of the lines that are no commands, each with what is wrong,
+    once for each fault."""
     for number, line in enumerate(lines, 1):
         for fault in line_faults(line.removesuffix(b"\n")):
             yield number, fault

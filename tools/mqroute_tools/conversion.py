@@ -4,10 +4,12 @@ from itertools import chain, islice
 from typing import BinaryIO
 
 from . import mosquitto_log as log
-from .sessions import Arrival, Clients, Command
+from .output import Command
+from .sessions import Arrival, Clients
 from .stamps import LOOKED_AT, Stamps
 
 ADDRESSES = 1_000  # new connections that are remembered until they say who they are
+
 
 def publish(client: str, topic: str, size: int, qos: int, retain: bool) -> Command:
     command: Command = {"do": "publish", "client": client, "topic": topic}
@@ -30,9 +32,11 @@ class Converter(Clients):
         self.packet: tuple[str, str, int] | None = None  # subscribe or unsubscribe, client, place
         self.asked: tuple[str, int] | None = None  # filter and QoS, until the broker has granted it
         self.latest: tuple[str, int, int] | None = None  # the last PUBLISH: client, identifier, QoS
-        self.addresses: dict[str, None] = {}  # that connected over TCP: the broker has no such line of a websocket
+        # that connected over TCP: the broker has no such line of a websocket
+        self.addresses: dict[str, None] = {}
         self.sys_topics: set[str] = set()  # below $SYS/, that clients publish
-        self.parting: tuple[str, int] | None = None  # who sent DISCONNECT and has a will, and where the broker told the end
+        # who sent DISCONNECT and has a will, and where the broker told the end
+        self.parting: tuple[str, int] | None = None
         self.silent = False  # the broker tells neither who connects nor whose connection ends
 
     # -- reading
@@ -51,7 +55,8 @@ class Converter(Clients):
             self.ended = None
         if time is not None:
             if self.time is not None and time < self.time:
-                self.notes.add("times went back: the script's clock stands still there", f"line {self.place}: {line}")
+                self.notes.add("times went back: the script's clock stands still there",
+                               f"line {self.place}: {line}")
             self.time = time
         if text and not (self.granted(text) or self.known(text)):
             self.lost(line, len(raw))
@@ -59,17 +64,20 @@ class Converter(Clients):
     def finish(self) -> None:
         """Tells of what still waits for a line that doesn't come."""
         if self.arrival:
-            self.notes.add("connections are without their CONNACK line, and not in the script: the broker wants log_type all",
+            self.notes.add("connections are without their CONNACK line, and not in the script: the "
+                           "broker wants log_type all",
                            f"line {self.arrival.place}: {self.arrival.text}")
             self.arrival = None
 
     def lost(self, line: str, size: int) -> None:
         what = "lines cut short by the broker" if size >= log.CUT_AT else "lines not known"
         hint = "" if self.stamps.found() else " (if they begin with a time, give --time-format)"
-        self.notes.add(f"{what}: nothing of them is in the script{hint}", f"line {self.place}: {line}")
+        self.notes.add(
+            f"{what}: nothing of them is in the script{hint}", f"line {self.place}: {line}")
 
     def doubt(self, text: str) -> None:
-        self.notes.add("lines can be read in two ways; the first was taken", f"line {self.place}: {text}")
+        self.notes.add(
+            "lines can be read in two ways; the first was taken", f"line {self.place}: {text}")
 
     def known(self, text: str) -> bool:
         """Whether the line is of a known kind; it is then worked in."""
@@ -91,7 +99,8 @@ class Converter(Clients):
         return self.ending(text) or self.told(text) or text.startswith(log.PASSED_OVER)
 
     def arriving(self, text: str) -> bool:
-        """`New connection from ADDRESS on port N.`, and then `New client connected from ADDRESS as ID (..).`"""
+        """`New connection from ADDRESS on port N.`, and then `New client connected
+        from ADDRESS as ID (..).`"""
         if text.startswith("New connection from "):
             self.addresses[text[20:].partition(" ")[0]] = None
             if len(self.addresses) > ADDRESSES:
@@ -107,7 +116,8 @@ class Converter(Clients):
         return bool(found)
 
     def told(self, text: str) -> bool:
-        """Lines that change what the broker does, and that no command stands for; and those of its own bridges."""
+        """Lines that change what the broker does, and that no command stands for; and
+        those of its own bridges."""
         for start, what in log.TOLD:
             if text.startswith(start):
                 self.notes.add(what, f"line {self.place}: {text}")
@@ -137,7 +147,8 @@ class Converter(Clients):
         if sent.client not in self.connected:
             self.was_before(sent.client)
         if sent.topic.startswith("$SYS/") and sent.topic not in self.sys_topics:
-            self.notes.add("copies of topics under $SYS/, which the broker publishes itself, are not in the script",
+            self.notes.add("copies of topics under $SYS/, which the broker publishes itself, are "
+                           "not in the script",
                            f"line {self.place}: {sent.client} {sent.topic}")
 
     def of_own_will(self, sent: log.Publish) -> bool:
@@ -154,14 +165,21 @@ class Converter(Clients):
             if client in self.connected:
                 self.disconnecting(client)
         elif kind == "PUBREL":
-            found = log.RELEASE.match(client)
-            session = found and self.connected.get(found[1])
-            command = session.unreleased.pop(int(found[2]), None) if session else None
-            if command:
-                self.emit(self.place, command)
-            return found is not None
+            return self.released(client)
         else:
-            return kind in ("PINGREQ", "PUBACK", "PUBREC", "PUBCOMP", "AUTH", "SUBACK", "UNSUBACK") or text.startswith("CONNACK on connection ")
+            return (kind in ("PINGREQ", "PUBACK", "PUBREC", "PUBCOMP", "AUTH", "SUBACK", "UNSUBACK")
+                    or text.startswith("CONNACK on connection "))
+        return True
+
+    def released(self, text: str) -> bool:
+        """The sender of a publish of QoS 2 releases it: so it is routed."""
+        found = log.RELEASE.match(text)
+        if found is None:
+            return False
+        session = self.connected.get(found[1])
+        command = session.unreleased.pop(int(found[2]), None) if session else None
+        if command:
+            self.emit(self.place, command)
         return True
 
     def disconnecting(self, client: str) -> None:
@@ -194,7 +212,8 @@ class Converter(Clients):
         return True
 
     def forget(self, client: str, packet: int) -> None:
-        """The client uses a packet identifier again: the broker drops what it has of QoS 2 under it."""
+        """The client uses a packet identifier again: the broker drops what it
+        has of QoS 2 under it."""
         session = self.connected.get(client)
         dropped = session.unreleased.pop(packet, None) if session else None
         if dropped:
@@ -237,12 +256,14 @@ class Converter(Clients):
         return False
 
     def grant(self, qos: int | None) -> None:
-        """Writes the subscribe that was asked for, with the QoS granted, or as asked where no line tells it."""
+        """Writes the subscribe that was asked for, with the QoS granted, or as
+        asked where no line tells it."""
         if self.packet and self.asked and self.asked[1] >= 0:
             kind, client, place = self.packet
             qos = self.asked[1] if qos is None else qos
             if qos > 2:
-                self.notes.add("subscribes that the broker refused: they are not in the script", f"line {self.place}: {client} {self.asked[0]}")
+                self.notes.add("subscribes that the broker refused: they are not in the script",
+                               f"line {self.place}: {client} {self.asked[0]}")
             else:
                 self.subscribe(place, client, self.asked[0], qos)
         self.asked = None
@@ -250,9 +271,11 @@ class Converter(Clients):
     def subscribe(self, place: int, client: str, name: str, qos: int) -> None:
         """A bridge is never sent its own messages, and gets RETAIN as it was published."""
         session = self.session(client)
-        command: Command = {"do": "subscribe", "client": client, "filter": name} | ({"qos": qos} if qos else {})
+        command: Command = (
+            {"do": "subscribe", "client": client, "filter": name} | ({"qos": qos} if qos else {}))
         if session.bridge:
-            command |= {"rap": True} if name.startswith("$share/") else {"no_local": True, "rap": True}
+            command |= (
+                {"rap": True} if name.startswith("$share/") else {"no_local": True, "rap": True})
         session.add(name)
         self.emit(place, command)
 
@@ -261,9 +284,11 @@ class Converter(Clients):
         self.session(client).drop(name)
 
     def bridge_subscribes(self, client: str, name: str) -> None:
-        """Within the broker that has the bridge. The log has no QoS here: with 2 each copy has that of its publish."""
+        """Within the broker that has the bridge. The log has no QoS here: with 2 each
+        copy has that of its publish."""
         if client not in self.connected:
-            self.connect(Arrival(self.place, client, bridge=True), client, None, False, 4, client in self.away)
+            self.connect(Arrival(self.place, client, bridge=True), client, None, False, 4,
+                         client in self.away)
         self.subscribe(self.place, client, name, 2)
 
     # -- coming and going
@@ -272,9 +297,11 @@ class Converter(Clients):
         found = log.CONNACK.match(text)
         arrival, self.arrival = self.arrival, None
         if found is None or arrival is None:
-            return found is not None and (found[3] != "0" or self.unannounced(found[1], found[2] == "1"))
+            return (found is not None
+                    and (found[3] != "0" or self.unannounced(found[1], found[2] == "1")))
         client = found[1]
-        about = log.CONNECTED.match(arrival.text[len(client):]) if arrival.text.startswith(client + " (") else None
+        about = (log.CONNECTED.match(arrival.text[len(client):])
+                 if arrival.text.startswith(client + " (") else None)
         if about is None:
             return False
         protocol, clean, user = int(about[1]), about[2] == "1", about[3]
@@ -284,8 +311,10 @@ class Converter(Clients):
     def unannounced(self, client: str, present: bool) -> bool:
         """A connection of which the CONNACK line alone stands in the log."""
         self.silent = True
-        self.notes.add("connections have no 'New client connected' line (the broker's connection_messages is false): user names, wills, "
-                       "and the ends of connections without DISCONNECT are not in the script", f"line {self.place}: {client}")
+        self.notes.add("connections have no 'New client connected' line (the broker's "
+                       "connection_messages is false): user names, wills, and the ends of "
+                       "connections without DISCONNECT are not in the script",
+                       f"line {self.place}: {client}")
         self.connect(Arrival(self.place, client), client, None, not present, 5, present)
         return True
 
@@ -326,16 +355,19 @@ class Converter(Clients):
     def part(self, text: str) -> None:
         """The end of a connection after DISCONNECT, of which `text` is the line that follows.
 
-        MQTT 5 clients can ask for their will (reason 4). No line has the reason, but then the will's copies come at once.
+        MQTT 5 clients can ask for their will (reason 4). No line has the reason, but then the
+        will's copies come at once.
         """
         if self.parting is None:
             return
         (client, place), self.parting = self.parting, None
         departed = self.departed.pop(client, None)
         session = departed or self.connected[client]
-        sent = log.read_publish(text[19:], self.connected) if text.startswith("Sending PUBLISH to ") else None
+        sent = (log.read_publish(text[19:], self.connected)
+                if text.startswith("Sending PUBLISH to ") else None)
+        will = session.will or {}
         copy = publish(client, sent.topic, sent.size, 0, False) if sent else {}
-        if sent and all(copy.get(name) == session.will.get(name) for name in ("topic", "payload")):
+        if sent and all(copy.get(name) == will.get(name) for name in ("topic", "payload")):
             session.leaves = False
         here, self.place = self.place, place
         if departed is None:
@@ -350,7 +382,8 @@ class Converter(Clients):
             self.packet = self.asked = None
 
 
-def placed_commands(converter: Converter, streams: Iterable[BinaryIO]) -> Iterator[tuple[int, Command]]:
+def placed_commands(converter: Converter,
+                    streams: Iterable[BinaryIO]) -> Iterator[tuple[int, Command]]:
     """The commands, each with the number of the log line that it came from."""
     yield from converter.commands  # of before the log
     for stream in streams:

@@ -1,28 +1,46 @@
 """Which lines of two access lists decide what differs, as `mqroute-acl why` tells it.
 
-The lists are those that were in force when the script began: nothing is told of lines after one that sets another.
-The program is $MQROUTE_ACL_PROGRAM, or the one that stands in the same clone or installation, or `mqroute-acl` on the PATH.
+The lists are those that were in force when the script began: nothing is told of lines after one
+that sets another.
+The program is $MQROUTE_ACL_PROGRAM, or the one that stands in the same clone or installation, or
+`mqroute-acl` on the PATH.
 """
 import json
-import os
-import shutil
 import subprocess
 import tempfile
 from pathlib import Path
-from typing import Any, NamedTuple
+from typing import NamedTuple, TypedDict
 
 from .causes import AFTER, BEFORE, Cause
 from .ending import Fault
-from .files import STDIN, open_input, plain_file
+from .files import STDIN, open_input, plain_file, program
 from .tables import shown, user_shown
 
 BUILT = Path(__file__).resolve().parents[2] / "bin/mqroute-acl"
 INSTALLED = Path(__file__).resolve().parents[3] / "bin/mqroute-acl"
 NO_LINE = "no line allows it"
-RUNS = (("before", BEFORE), ("after", AFTER))
+RUNS = ("before", "after")
 CLIENT_MARK = b"%c"
-Verdict = dict[str, Any]
-Decided = dict[str, Verdict]  # before and after
+
+
+class Line(TypedDict):
+    """A line of a list."""
+    file: str
+    line: int
+    text: str
+
+
+class Verdict(TypedDict):
+    """Whether a list allows an access, with the lines that deny it and that grant it."""
+    access: str
+    allowed: bool
+    deny: Line | None
+    grant: Line | None
+
+
+class Decided(TypedDict):
+    before: Verdict
+    after: Verdict
 
 
 class Question(NamedTuple):
@@ -33,18 +51,12 @@ class Question(NamedTuple):
     access: str
 
 
-def program() -> str:
-    named = os.environ.get("MQROUTE_ACL_PROGRAM")
-    if named:
-        return named
-    return next((str(file) for file in (BUILT, INSTALLED) if os.access(file, os.X_OK)), None) or shutil.which("mqroute-acl") or "mqroute-acl"
-
-
 class AccessList:
     """One list. It is asked once for each user name and topic, and client if it has a `%c`."""
 
     def __init__(self, name: str) -> None:
-        self.name, self.path, self.program = name, name, program()
+        self.name, self.path = name, name
+        self.program = program("MQROUTE_ACL_PROGRAM", (BUILT, INSTALLED), "mqroute-acl")
         with open_input(name) as stream:
             text = stream.read()
         if name == STDIN or not plain_file(name):  # the program reads it each time
@@ -73,8 +85,9 @@ class AccessList:
         if done.returncode:
             said = done.stderr.decode("utf-8", "replace").strip().replace(self.path, self.name)
             raise Fault(said or f"{self.program} ended with status {done.returncode}")
-        told = [json.loads(line) for line in done.stdout.decode("utf-8").splitlines()]
-        for line in (one[kind] for one in told for kind in ("deny", "grant") if one[kind]):
+        told: list[Verdict] = [json.loads(text)
+                               for text in done.stdout.decode("utf-8").splitlines()]
+        for line in (line for one in told for line in (one["deny"], one["grant"]) if line):
             line["file"] = self.name
         return {one["access"]: one for one in told}
 
@@ -89,14 +102,14 @@ class Lists:
 
     def decides(self, asked: Question, allowed: tuple[bool, bool], line: int) -> Decided:
         """The verdicts of both. `allowed` is what the outputs show of the runs, at this line."""
-        found = {name: self.lists[run].verdict(asked) for name, run in RUNS}
-        said = tuple(found[name]["allowed"] for name, _ in RUNS)
+        before, after = (one.verdict(asked) for one in self.lists)
+        said = before["allowed"], after["allowed"]
         if said != allowed and not self.contradiction:
-            run = next(run for _, run in RUNS if said[run] != allowed[run])
-            name, when = self.lists[run].name, RUNS[run][0]
+            run = BEFORE if said[BEFORE] != allowed[BEFORE] else AFTER
+            name, when = self.lists[run].name, RUNS[run]
             self.contradiction = contradiction(name, asked, said[run], when, line)
         self.fit_swapped &= said[::-1] == allowed
-        return found
+        return {"before": before, "after": after}
 
     def refuse(self) -> None:
         """Raises Fault where they are not the lists of these outputs."""
@@ -113,9 +126,13 @@ def contradiction(name: str, asked: Question, says: bool, run: str, line: int) -
             f"{shows}")
 
 
+def deciding_line(verdict: Verdict) -> Line | None:
+    return verdict["deny"] or verdict["grant"]
+
+
 def line_of(verdict: Verdict) -> str:
     """The line that decides, in words."""
-    line = verdict["deny"] or verdict["grant"]
+    line = deciding_line(verdict)
     return f"{line['line']}: {line['text'].strip()}" if line else NO_LINE
 
 
@@ -125,8 +142,8 @@ def in_words(decided: Decided) -> str:
 
 def pair(decided: Decided | None) -> tuple[int, ...]:
     """The numbers of the lines that decide: 0 for no line; empty where nothing was asked."""
-    lines = [decided[name]["deny"] or decided[name]["grant"] for name, _ in RUNS] if decided else []
-    return tuple(line["line"] if line else 0 for line in lines)
+    verdicts = [decided["before"], decided["after"]] if decided else []
+    return tuple(line["line"] if line else 0 for line in map(deciding_line, verdicts))
 
 
 def allowed(what: str, cause: Cause) -> tuple[bool, bool]:

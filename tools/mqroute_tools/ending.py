@@ -14,7 +14,8 @@ class Fault(Exception):
 
 
 def own_name() -> str:
-    """The tool's name, as it was called: log_to_script in a clone, mqroute-log-to-script where it is installed."""
+    """The tool's name, as it was called: log_to_script in a clone,
+    mqroute-log-to-script where it is installed."""
     return Path(sys.argv[0]).stem
 
 
@@ -44,14 +45,16 @@ def in_words(fault: Exception) -> str:
 
 
 def discard_output() -> None:
-    """What is still to be written to standard output goes nowhere: Python would try again at its end."""
+    """What is still to be written to standard output goes nowhere: Python
+    would try again at its end."""
     nowhere = os.open(os.devnull, os.O_WRONLY)
     os.dup2(nowhere, 1)
     os.close(nowhere)
 
 
 def run(work: Callable[[], int]) -> int:
-    """The status that `work` gives; where a file fails, or it raises Fault, 2 after one line that says so."""
+    """The status that `work` gives; where a file fails, or it raises Fault, 2
+    after one line that says so."""
     interrupt.handle(interrupt.raise_once)
     try:
         status = work()

@@ -1,12 +1,14 @@
-"""What the broker sent to clients whose subscriptions are older than the log, and the rule that finds them."""
+"""What the broker sent to clients whose subscriptions are older than the log, and
+the rule that finds them."""
 from array import array
 from bisect import bisect_left
 from collections import Counter
 from collections.abc import Iterable, Iterator
 from itertools import chain
-from typing import Any, NamedTuple
+from typing import NamedTuple
 
 from .mosquitto_log import Publish
+from .output import Command
 from .topics import TopicTree, matches
 
 SEVERAL = 3  # topics that a filter with wildcards has to stand for
@@ -23,7 +25,8 @@ class Published:
         self.count = 0
         self.tree = TopicTree()
         self.times: dict[str, array[int]] = {}
-        self.publishers: dict[str, dict[str, str | None]] = {}  # of each topic the first few, with their user names
+        # of each topic the first few, with their user names
+        self.publishers: dict[str, dict[str, str | None]] = {}
 
     def add(self, topic: str, client: str, user: str | None) -> None:
         if topic not in self.times:
@@ -41,7 +44,8 @@ class Published:
     def within(self, topic: str, spans: Iterable[tuple[int, int]]) -> int:
         """How often a topic was published in these spans."""
         times = self.times.get(topic)
-        return sum(bisect_left(times, end) - bisect_left(times, start) for start, end in spans) if times else 0
+        return (sum(bisect_left(times, end) - bisect_left(times, start) for start, end in spans)
+                if times else 0)
 
 
 class Sent:
@@ -52,8 +56,10 @@ class Sent:
         self.count = 0  # publishes of which it got a copy
         self.at = 0  # how many publishes of the topic there were at the last of them
         self.qos = 0
-        self.best = -1  # QoS of the copies of the last publish: overlapping subscriptions may give several
-        self.lowered = [0, 0]  # publishes whose best copy had QoS 0 or 1, and that had a greater one: that of the subscription
+        # QoS of the copies of the last publish: overlapping subscriptions may give several
+        self.best = -1
+        # publishes whose best copy had QoS 0 or 1, and that had a greater one: the subscription's
+        self.lowered = [0, 0]
         self.rap = False
         self.open = False  # no subscription in the log tells why
 
@@ -65,7 +71,8 @@ def generalised(topic: str) -> set[str]:
     found: set[str] = set()
     for i in range(first, len(levels)):
         one = [*levels[:i], "+", *levels[i + 1:]]
-        found |= {"/".join([*levels[:i], "#"])} | {"/".join([*one[:j], "#"]) for j in range(i + 1, len(levels) + 1)}
+        found.add("/".join([*levels[:i], "#"]))
+        found |= {"/".join([*one[:j], "#"]) for j in range(i + 1, len(levels) + 1)}
         if topic.count("/") < DEEPEST:
             found.add("/".join(one))
             found |= {"/".join([*one[:j], "+", *one[j + 1:]]) for j in range(i + 1, len(levels))}
@@ -73,7 +80,8 @@ def generalised(topic: str) -> set[str]:
 
 
 def generality(name: str) -> tuple[int, int, bool]:
-    """Less of a filter with more levels that are no wildcards, with fewer wildcards, and without `#`."""
+    """Less of a filter with more levels that are no wildcards, with fewer
+    wildcards, and without `#`."""
     levels = name.split("/")
     wildcards = levels.count("+") + levels.count("#")
     return wildcards - len(levels), wildcards, "#" in levels
@@ -109,8 +117,10 @@ class Evidence:
         if len(self.words) < MOST_WORDS and not name.startswith("$share/"):
             self.words[name] = None
 
-    def add(self, copy: Publish, times: int, live: dict[str, Any] | None, explained: bool, counted: bool) -> None:
-        """A copy, of a topic that was published so many times; `live` is the publish that has just been routed, if it is of that."""
+    def add(self, copy: Publish, times: int, live: Command | None, explained: bool,
+            counted: bool) -> None:
+        """A copy, of a topic that was published so many times; `live` is the publish that has just
+        been routed, if it is of that."""
         sent = self.sent.setdefault(copy.topic, Sent())
         if counted and sent.at < times:
             sent.count, sent.at, sent.best = sent.count + 1, times, -1
@@ -129,19 +139,23 @@ class Evidence:
     # -- the rule
 
     def infer(self, published: Published, under: str | None = None) -> list[Inferred]:
-        """Subscriptions for the topics that nothing explains, or for those that `under` matches, which the client has just
-        given up: first filters that the client names itself, those that stand for most first; then filters with one wildcard
-        that stand for several topics; then the topics. None matches a topic that was published while the client was
-        connected, and that it wasn't sent."""
+        """Subscriptions for the topics that nothing explains, or for those that `under` matches,
+        which the client has just given up: first filters that the client names itself, those that
+        stand for most first; then filters with one wildcard that stand for several topics; then the
+        topics. None matches a topic that was published while the client was connected, and that it
+        wasn't sent."""
         spans = self.until(published.count)
-        left = {t for t, sent in self.sent.items() if sent.open and (under is None or matches(under, t))}
+        left = {t for t, sent in self.sent.items()
+                if sent.open and (under is None or matches(under, t))}
         tree = TopicTree()
         for topic in left:
             tree.add(topic)
         found: list[Inferred] = []
-        for name, wanted in chain(self.names(left) if under is None else [(under, 1)], ((t, 1) for t in sorted(left))):
+        tried = self.names(left) if under is None else [(under, 1)]
+        for name, wanted in chain(tried, ((t, 1) for t in sorted(left))):
             covered = [t for t in tree.matching(name) if t in left]
-            if len(covered) >= wanted and (name in left or self.fits(covered)) and not self.withheld(name, spans, published):
+            if (len(covered) >= wanted and (name in left or self.fits(covered))
+                    and not self.withheld(name, spans, published)):
                 found.append(self.subscription(name, covered))
                 left.difference_update(covered)
                 for topic in covered:
@@ -162,7 +176,8 @@ class Evidence:
     def fits(self, covered: list[str]) -> bool:
         """Whether one QoS explains all copies."""
         qos = max(self.sent[t].qos for t in covered)
-        return not any(times for t in covered for lower, times in enumerate(self.sent[t].lowered) if lower != qos)
+        return not any(times for t in covered
+                       for lower, times in enumerate(self.sent[t].lowered) if lower != qos)
 
     def withheld(self, name: str, spans: list[tuple[int, int]], published: Published) -> bool:
         """Whether the client wasn't sent some publish of a topic that the filter matches."""
@@ -173,4 +188,5 @@ class Evidence:
         return False
 
     def subscription(self, name: str, covered: list[str]) -> Inferred:
-        return Inferred(name, max(self.sent[t].qos for t in covered), any(self.sent[t].rap for t in covered))
+        return Inferred(name, max(self.sent[t].qos for t in covered),
+                        any(self.sent[t].rap for t in covered))

@@ -3,14 +3,19 @@ import errno
 import gzip
 import io
 import os
+import shutil
 import stat
 import sys
 import zlib
 from collections.abc import Iterable, Iterator, Mapping
 from contextlib import contextmanager
-from typing import BinaryIO, TextIO, cast
+from pathlib import Path
+from typing import TYPE_CHECKING, BinaryIO, TextIO, cast
 
 from .ending import Fault
+
+if TYPE_CHECKING:
+    from _typeshed import WriteableBuffer
 
 STDIN = "-"
 GZIP = b"\x1f\x8b"  # how a file begins that gzip packed
@@ -27,12 +32,13 @@ class Unpacked(io.RawIOBase):
     def readable(self) -> bool:
         return True
 
-    def readinto(self, buffer: memoryview) -> int:
+    def readinto(self, buffer: "WriteableBuffer") -> int:
+        room = memoryview(buffer)
         try:
-            data = self.stream.read1(len(buffer))
+            data = self.stream.read1(len(room))
         except (EOFError, gzip.BadGzipFile, zlib.error) as fault:
             raise Fault(f"{self.name}: packed by gzip, and damaged: {fault}") from fault
-        buffer[:len(data)] = data
+        room[:len(data)] = data
         return len(data)
 
     def close(self) -> None:
@@ -40,12 +46,13 @@ class Unpacked(io.RawIOBase):
         super().close()
 
 
-def open_input(name: str) -> BinaryIO:
+def open_input(name: str) -> io.BufferedReader:
     """A file, packed by gzip or not; `-` is standard input."""
-    plain = sys.stdin.buffer if name == STDIN else open(name, "rb")
+    # the type of sys.stdin says less than it is
+    plain = cast(io.BufferedReader, sys.stdin.buffer) if name == STDIN else open(name, "rb")
     if plain.peek(len(GZIP))[:len(GZIP)] != GZIP:
-        return cast(BinaryIO, plain)
-    return cast(BinaryIO, io.BufferedReader(Unpacked(cast(BinaryIO, plain), name), PIECE))
+        return plain
+    return io.BufferedReader(Unpacked(plain, name), PIECE)
 
 
 def open_text(name: str) -> TextIO:
@@ -55,6 +62,16 @@ def open_text(name: str) -> TextIO:
 def at(name: str, line: int) -> str:
     """The place of a line, as editors take it."""
     return f"{name}:{line}"
+
+
+def program(variable: str, built: Iterable[Path], name: str) -> str:
+    """The program that an environment variable names, or the first of those built that is there,
+    or the one of this name on the PATH."""
+    named = os.environ.get(variable)
+    if named:
+        return named
+    found = (str(path) for path in built if os.access(path, os.X_OK))
+    return next(found, "") or shutil.which(name) or name
 
 
 # -- not the same file

@@ -7,10 +7,14 @@ or PUBCOMP, in their order.
 from collections import Counter
 from collections.abc import Iterable, Iterator
 from dataclasses import dataclass
-from typing import Any, NamedTuple
+from typing import TYPE_CHECKING, NamedTuple
 
 from . import mosquitto_log as log
 from .output import Key
+
+if TYPE_CHECKING:
+    from .log_comparison import Line
+    from .log_steps import Step
 
 LIMIT = 20  # mosquitto's max_inflight_messages, unless the log shows another number
 
@@ -81,9 +85,9 @@ class Flight:
 @dataclass
 class Owed:
     """Copies of one topic that mqroute sent a client at one step, and the broker may still send."""
-    step: Any
+    step: "Step"
     key: Key
-    line: Any  # of the report
+    line: "Line"  # of the report
     room: Counter[tuple[int, int]]  # by size and RETAIN flag, how many more may come
     full: bool  # as many were in flight as may be
     kind: str  # of the line, if it is late
@@ -101,15 +105,14 @@ class Backlog:
     def add(self, owed: Owed) -> None:
         self.owed.setdefault(owed.key[0], []).append(owed)
 
-    def take(self, event: Event) -> Owed | None:
-        """What a late copy is of: the oldest with room for its size and RETAIN flag. One with RETAIN may
-        also be of a live message, as it was published."""
-        sent = event.copy
-        here = [owed for owed in self.owed.get(event.client, ()) if owed.key[1] == sent.topic]
-        for retain in range(sent.retain, -1, -1):
+    def take(self, key: Key, size: int, retained: int) -> Owed | None:
+        """What a late copy is of: the oldest with room for its size and RETAIN flag. One with
+        RETAIN may also be of a live message, as it was published."""
+        here = [owed for owed in self.owed.get(key[0], ()) if owed.key == key]
+        for retain in range(retained, -1, -1):
             for owed in here:
-                if owed.room[sent.size, retain] > 0:
-                    owed.room[sent.size, retain] -= 1
+                if owed.room[size, retain] > 0:
+                    owed.room[size, retain] -= 1
                     owed.late += 1
                     owed.since += owed.again
                     return owed

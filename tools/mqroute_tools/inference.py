@@ -7,8 +7,9 @@ from typing import BinaryIO
 from . import mosquitto_log as log
 from .conversion import Converter, placed_commands, publish
 from .evidence import Evidence, Inferred, Published
-from .sessions import FOREVER, NONE, Arrival, Command, Session
-from .state import UNTOLD, Client, State
+from .output import Command
+from .sessions import NONE, Arrival, Session
+from .state import FOREVER, UNTOLD, Client, State
 
 ALIKE = 100  # topics that are looked at for a publisher
 
@@ -17,10 +18,13 @@ ALIKE = 100  # topics that are looked at for a publisher
 class Beginning:
     """What the script begins with, and what later lines told of earlier ones."""
     state: State
-    inferred: dict[str, set[str]] = field(default_factory=dict)  # by client the filters that the log doesn't have
-    ends: dict[int, list[str]] = field(default_factory=dict)  # at an UNSUBSCRIBE's line other filters of its client that ended with it
+    # by client the filters that the log doesn't have
+    inferred: dict[str, set[str]] = field(default_factory=dict)
+    # at an UNSUBSCRIBE's line other filters of its client that ended with it
+    ends: dict[int, list[str]] = field(default_factory=dict)
     kept: set[int] = field(default_factory=set)  # lines of connects whose session was resumed later
-    ended: set[int] = field(default_factory=set)  # lines of connects whose session was not there later
+    # lines of connects whose session was not there later
+    ended: set[int] = field(default_factory=set)
     nameless: set[str] = field(default_factory=set)  # clients whose user name the log doesn't have
     earlier: set[int] = field(default_factory=set)  # lines that end a connection taken over
 
@@ -33,12 +37,14 @@ class Observer(Converter):
         self.evidence: dict[str, Evidence] = {}
         self.users: dict[str, str | None] = {}  # of these clients, as they connect later
         self.connects: dict[str, int] = {}  # the last one's line, of clients of MQTT 5
-        self.retained: dict[str, tuple[int, int]] = {}  # older than the log: greatest QoS seen, and size
+        # older than the log: greatest QoS seen, and size
+        self.retained: dict[str, tuple[int, int]] = {}
         self.touched: set[str] = set()  # topics whose retained message the log sets or clears
         self.last: Command = {"do": ""}
         self.result = Beginning(begin)
         self.kept_before: set[str] = set()
-        self.ended_at: dict[tuple[str, str], int] = {}  # by client and filter, the line of the UNSUBSCRIBE of another filter
+        # by client and filter, the line of the UNSUBSCRIBE of another filter
+        self.ended_at: dict[tuple[str, str], int] = {}
         self.know(begin)
         self.doubtful: dict[str, tuple[int, Session]] = {}  # ends, perhaps of an older connection
         self.begun = set(begin.clients)  # whose session is the one that the script begins with
@@ -74,10 +80,12 @@ class Observer(Converter):
             self.away.pop(client, None)
             self.result.earlier.add(place)
         if client not in self.connected:
-            self.connected[client] = self.away.pop(client, None) or self.older(client, away=False)
+            away = self.away.pop(client, None)
+            self.connected[client] = away or self.older(client, away=False)
         return self.connected[client]
 
-    def connect(self, arrival: Arrival, client: str, user: str | None, clean: bool, protocol: int, present: bool) -> None:
+    def connect(self, arrival: Arrival, client: str, user: str | None, clean: bool, protocol: int,
+                present: bool) -> None:
         if present and client not in self.connected and client not in self.away:
             self.away[client] = self.older(client, away=True)
         if present and client in self.begun and self.begin.clients[client].expiry in (0, UNTOLD):
@@ -126,7 +134,8 @@ class Observer(Converter):
                 self.retained[sent.topic] = (max(qos, sent.qos), sent.size)
         elif session.before:
             waited = self.last["do"] == "connect" and self.last["client"] == sent.client
-            self.evidence[sent.client].add(sent, self.published.times_of(sent.topic), self.last if live else None, explained, not waited)
+            self.evidence[sent.client].add(sent, self.published.times_of(sent.topic),
+                                           self.last if live else None, explained, not waited)
 
     def subscribe(self, place: int, client: str, name: str, qos: int) -> None:
         super().subscribe(place, client, name, qos)
@@ -157,7 +166,8 @@ class Observer(Converter):
             result.inferred[client] = set(found)
             commands = {i.name: subscription(client, i) for i in found.values()}
             expiry = FOREVER if client in self.kept_before else 0
-            state.clients[client] = Client(self.users.get(client), expiry, not evidence.away, None, commands)
+            state.clients[client] = Client(
+                self.users.get(client), expiry, not evidence.away, None, commands)
         for (_, name), place in self.ended_at.items():
             result.ends.setdefault(place, []).append(name)
         return result
@@ -169,13 +179,14 @@ class Observer(Converter):
         return {i.name: i for i in [*evidence.found, *lasting]}
 
     def lasts_longer(self, client: str, found: list[Inferred]) -> None:
-        """What is found again, since copies came after the UNSUBSCRIBE with which it seemed to end, didn't end there."""
+        """What is found again, since copies came after the UNSUBSCRIBE with which it seemed
+        to end, didn't end there."""
         for inferred in found:
             self.ended_at.pop((client, inferred.name), None)
 
     def publisher(self, topic: str) -> tuple[str, str | None]:
-        """Who may have published a retained message: one that publishes its topic later, or the topic whose levels begin like
-        it most; rather one whose user name is known."""
+        """Who may have published a retained message: one that publishes its topic later, or the
+        topic whose levels begin like it most; rather one whose user name is known."""
         found, nameless = self.published.publishers, self.result.nameless
         topics = list(islice(self.published.tree.alike(topic), ALIKE))
         publishers = [(c, user) for near in topics for c, user in found[near].items()]
@@ -186,7 +197,9 @@ class Observer(Converter):
 
 def subscription(client: str, found: Inferred) -> Command:
     command: Command = {"do": "subscribe", "client": client, "filter": found.name}
-    return command | ({"qos": found.qos} if found.qos else {}) | ({"rap": True} if found.rap else {})
+    if found.qos:
+        command["qos"] = found.qos
+    return command | {"rap": True} if found.rap else command
 
 
 def beginning(streams: Iterable[BinaryIO], form: str | None, begin: State) -> Beginning:

@@ -1,11 +1,12 @@
-"""Which differences between a broker and mqroute are of one kind: what differs, and what the script uses."""
+"""Which differences between a broker and mqroute are of one kind: what differs,
+and what the script uses."""
 import re
 from collections.abc import Iterator
-from typing import Any, NamedTuple
+from typing import NamedTuple
 
+from .output import Command
 from .wills import PAYLOAD
 
-Command = dict[str, Any]
 OURS, THEIRS = "      mqroute: ", "      broker:  "
 NOBODY = "   reason: mqroute 0, broker 16"
 PART = re.compile(r'(qos|retain|payload|ids|expiry) (\[[^]]*\]|"[^"]*"(?:, "[^"]*")*|[^,]+)')
@@ -37,14 +38,23 @@ def of_payloads(here: str, there: str) -> str:
     return "more" if mine < other else "missing" if other < mine else "payload"
 
 
+def of_part(name: str, here: str, there: str) -> str:
+    if name in ("retain", "expiry"):
+        return name
+    if name == "payload":
+        return of_payloads(here, there)
+    return "missing" if fewer(here, there) else "more"
+
+
 def of_parts(ours: str, theirs: str) -> list[str]:
-    """A client's copies of one topic are joined: of a copy more or less the rest has other identifiers, QoS and payloads."""
+    """A client's copies of one topic are joined: of a copy more or less the rest has other
+    identifiers, QoS and payloads."""
     here, there = (dict(PART.findall(side)) for side in (ours, theirs))
     found = set()
     for name in ("qos", "ids", "payload", "retain", "expiry"):
         mine, other = here.get(name, ""), there.get(name, "")
         if mine != other:
-            found.add(name if name in ("retain", "expiry") else of_payloads(mine, other) if name == "payload" else "missing" if fewer(mine, other) else "more")
+            found.add(of_part(name, mine, other))
     return sorted(found)
 
 
@@ -62,7 +72,8 @@ def of_copies(head: str, ours: str, theirs: str) -> list[str]:
 
 
 def apart(line: int, do: str, texts: list[str]) -> Iterator[Difference]:
-    """What differs at a line, one by one. That nobody got a message says no more than that a copy is missing."""
+    """What differs at a line, one by one. That nobody got a message says no more
+    than that a copy is missing."""
     rest, missing = list(texts), False
     while rest:
         if len(rest) > 2 and rest[1].startswith(OURS) and rest[2].startswith(THEIRS):
@@ -91,8 +102,21 @@ def of_subscribe(command: Command, before: set[tuple[str, str]]) -> set[str]:
     return uses
 
 
+def of_connect(command: Command, live: set[str]) -> set[str]:
+    uses = {"taken over"} if command["client"] in live else set()
+    if command.get("session_expiry"):
+        uses.add("session")
+    if not command.get("clean", True):
+        uses.add("resumes")
+    return uses
+
+
 def of_publish(command: Command) -> set[str]:
-    uses = {"publish"} | ({"retain"} if command.get("retain") else set()) | ({"publish qos"} if command.get("qos") else set())
+    uses = {"publish"}
+    if command.get("retain"):
+        uses.add("retain")
+    if command.get("qos"):
+        uses.add("publish qos")
     if command["topic"].startswith("$"):
         uses.add("$SYS topic" if command["topic"].startswith("$SYS") else "$ topic")
     if not command["topic"].isprintable():
@@ -109,7 +133,9 @@ def of_publish(command: Command) -> set[str]:
 def of_access(text: str) -> set[str]:
     """What an access list says, and the signs that its names have."""
     lines = [line.split(" ") for line in text.splitlines()]
-    return {"acl"} | {" ".join(words[:-1]) for words in lines} | {"acl " + sign for sign in ("#", "+", "%c") for words in lines if sign in words[-1]}
+    signs = {"acl " + sign for sign in ("#", "+", "%c")
+             for words in lines if sign in words[-1]}
+    return {"acl"} | {" ".join(words[:-1]) for words in lines} | signs
 
 
 def uses(script: list[Command]) -> frozenset[str]:
@@ -124,8 +150,7 @@ def uses(script: list[Command]) -> frozenset[str]:
         elif do == "publish":
             found |= of_publish(command)
         elif do == "connect":
-            found |= ({"taken over"} if command["client"] in live else set()) | ({"session"} if command.get("session_expiry") else set())
-            found |= set() if command.get("clean", True) else {"resumes"}
+            found |= of_connect(command, live)
             live.add(command["client"])
         elif do == "acl":
             found |= of_access(command.get("text", ""))

@@ -16,7 +16,8 @@ except ImportError:
     tell("wants the package python3-paho-mqtt")
     sys.exit(FAILED)
 
-from .agreement import Acknowledged, Command, Copy
+from .agreement import Acknowledged, Copy
+from .output import Command
 
 KEEP_ALIVE = 3600
 
@@ -74,7 +75,8 @@ class Offer:
 class Connection:
     """What it receives goes to `got`, acknowledgements to `answered`."""
 
-    def __init__(self, command: Command, host: str, port: int, user: str | None, password: str | None, will: Command | None = None) -> None:
+    def __init__(self, command: Command, host: str, port: int, user: str | None,
+                 password: str | None, will: Command | None = None) -> None:
         self.name = command["client"]
         self.got: list[mqtt.MQTTMessage] = []
         self.answered: dict[int | str, Acknowledged] = {}
@@ -84,16 +86,22 @@ class Connection:
         if user is not None:
             client.username_pw_set(user, password)
         if will:
-            client.will_set(will["topic"], will["payload"], will.get("qos", 0), will.get("retain", False), message_properties(will, PacketTypes.WILLMESSAGE))
+            client.will_set(
+                will["topic"], will["payload"], will.get("qos", 0), will.get("retain", False),
+                message_properties(will, PacketTypes.WILLMESSAGE))
         client.on_message = lambda _c, _u, message: self.got.append(message)
         client.on_connect = self.connected
         client.on_disconnect = lambda *_: self.answered.update(closed=Acknowledged())
-        client.on_subscribe = lambda _c, _u, mid, reasons, _p: self.answered.update({mid: Acknowledged(reasons[0].value)})
-        client.on_unsubscribe = lambda _c, _u, mid, _p, reasons: self.answered.update({mid: Acknowledged(first(reasons).value)})
-        client.on_publish = lambda c, _u, mid: self.answered.update({mid: Acknowledged(c.reasons.pop(mid, None))})
+        client.on_subscribe = lambda _c, _u, mid, reasons, _p: self.answered.update(
+            {mid: Acknowledged(reasons[0].value)})
+        client.on_unsubscribe = lambda _c, _u, mid, _p, reasons: self.answered.update(
+            {mid: Acknowledged(first(reasons).value)})
+        client.on_publish = lambda c, _u, mid: self.answered.update(
+            {mid: Acknowledged(c.reasons.pop(mid, None))})
         properties = Properties(PacketTypes.CONNECT)
         properties.SessionExpiryInterval = command.get("session_expiry", 0)
-        client.connect(host, port, keepalive=KEEP_ALIVE, clean_start=command.get("clean", True), properties=properties)
+        client.connect(host, port, keepalive=KEEP_ALIVE, clean_start=command.get("clean", True),
+                       properties=properties)
         self.at_once()
 
     def connected(self, _client: Any, _data: Any, flags: Any, reason: Any, properties: Any) -> None:
@@ -119,7 +127,10 @@ class Connection:
 
     def publish(self, command: Command) -> int:
         properties = message_properties(command, PacketTypes.PUBLISH)
-        return self.client.publish(command["topic"], command.get("payload", ""), command.get("qos", 0), command.get("retain", False), properties).mid
+        sent = self.client.publish(
+            command["topic"], command.get("payload", ""), command.get("qos", 0),
+            command.get("retain", False), properties)
+        return int(sent.mid)
 
     def drop(self) -> None:
         """Ends the connection without a DISCONNECT."""
@@ -129,14 +140,17 @@ class Connection:
         properties = Properties(PacketTypes.SUBSCRIBE)
         if "id" in command:
             properties.SubscriptionIdentifier = command["id"]
-        options = SubscribeOptions(command.get("qos", 0), command.get("no_local", False), command.get("rap", False), command.get("handling", 0))
-        return self.client.subscribe(command["filter"], options=options, properties=properties)[1]
+        options = SubscribeOptions(command.get("qos", 0), command.get("no_local", False),
+                                   command.get("rap", False), command.get("handling", 0))
+        _, mid = self.client.subscribe(command["filter"], options=options, properties=properties)
+        return int(mid)
 
     def copies(self) -> list[Copy]:
         """What has come since the last line, in its order."""
-        found = [Copy(self.name, m.topic, m.qos, bool(m.retain), m.payload.decode("utf-8", "replace"),
-                      list(getattr(m.properties, "SubscriptionIdentifier", None) or []), getattr(m.properties, "MessageExpiryInterval", None))
-                 for m in self.got]
+        found = [
+            Copy(self.name, m.topic, m.qos, bool(m.retain), m.payload.decode("utf-8", "replace"),
+                 list(getattr(m.properties, "SubscriptionIdentifier", None) or []),
+                 getattr(m.properties, "MessageExpiryInterval", None)) for m in self.got]
         self.got.clear()
         return found
 

@@ -1,4 +1,5 @@
-"""A run of commands on a live broker, one after another, with what differs from mqroute's answers."""
+"""A run of commands on a live broker, one after another, with what differs
+from mqroute's answers."""
 import argparse
 import os
 import select
@@ -8,13 +9,15 @@ import time
 from collections import Counter
 from collections.abc import Callable
 
-from .agreement import Acknowledged, Command, Copy, Sessions, copies_of, different_copies, different_order, different_reasons
+from .agreement import (Acknowledged, Copy, Sessions, copies_of, different_copies, different_order,
+                        different_reasons)
 from .ending import Fault
 from .live import Connection, Offer
-from .output import Block
+from .output import Block, Command
 from .wills import Wills
 
-FENCE = "mqroute/fence"  # nobody subscribes to it; its UNSUBACK tells that all that was sent before has come
+# nobody subscribes to it; its UNSUBACK tells that all that was sent before has come
+FENCE = "mqroute/fence"
 QUIET_ROUNDS = 2  # a copy of QoS 2 wants two fences: one for PUBLISH, one for PUBREL
 ACL_PAUSE = 0.3  # seconds that a broker gets to read an access list
 WILL_PAUSE = 0.1  # and to see that a connection is gone
@@ -54,7 +57,8 @@ class Replay:
     def wait(self, connection: Connection, key: int | str, what: str) -> Acknowledged:
         self.pump(lambda: key in connection.answered or "closed" in connection.answered, what)
         if key not in connection.answered:
-            raise Closed(f"the broker closed the connection of {connection.name}; the lines after this one are not run")
+            raise Closed(f"the broker closed the connection of {connection.name}; the lines after "
+                         "this one are not run")
         return connection.answered.pop(key)
 
     def fence(self) -> None:
@@ -95,11 +99,13 @@ class Replay:
             del self.live[command["client"]]
             return Acknowledged()
         if do == "publish":
-            said = self.wait(connection, connection.publish(command), "acknowledgement of the PUBLISH")
+            sent = connection.publish(command)
+            said = self.wait(connection, sent, "acknowledgement of the PUBLISH")
             return said if command.get("qos", 0) else Acknowledged()
         if do == "subscribe":
             return self.wait(connection, connection.subscribe(command), "SUBACK")
-        return self.wait(connection, connection.client.unsubscribe(command["filter"])[1], "UNSUBACK")
+        sent = connection.client.unsubscribe(command["filter"])[1]
+        return self.wait(connection, sent, "UNSUBACK")
 
     def connect(self, command: Command) -> Acknowledged:
         self.live.pop(command["client"], None)  # the broker takes the old one's session over
@@ -108,7 +114,8 @@ class Replay:
             command, options.host, options.port, options.username, options.password, self.will())
         said = self.wait(connection, "connect", "CONNACK")
         if said.reason != 0:
-            raise Fault(f"line {self.line}: the broker refused the connection, reason {said.reason}")
+            raise Fault(
+                f"line {self.line}: the broker refused the connection, reason {said.reason}")
         self.offer = connection.offer
         return said
 
@@ -119,15 +126,18 @@ class Replay:
     def set_access(self, text: str | None) -> None:
         """Lets the user's command give the broker an access list."""
         if not self.options.on_acl:
-            raise Fault(f"line {self.line} sets an access list: give --on-acl, a command that lets the broker read one")
+            raise Fault(f"line {self.line} sets an access list: give --on-acl, a command that lets "
+                        "the broker read one")
         with tempfile.NamedTemporaryFile("w", suffix=".acl", encoding="utf-8") as file:
             os.chmod(file.name, 0o644)
             file.write(ALL_ALLOWED if text is None else text)
             file.flush()
-            done = subprocess.run(self.options.on_acl, shell=True, env=os.environ | {"MQROUTE_ACL": file.name})
+            done = subprocess.run(
+                self.options.on_acl, shell=True, env=os.environ | {"MQROUTE_ACL": file.name})
             time.sleep(ACL_PAUSE)
         if done.returncode:
-            raise Fault(f"line {self.line}: the command of --on-acl ended with status {done.returncode}")
+            raise Fault(
+                f"line {self.line}: the command of --on-acl ended with status {done.returncode}")
 
     def answer(self, number: int, command: Command, block: Block) -> list[str]:
         """Runs a line, and gives what differs as texts to print."""
@@ -144,8 +154,10 @@ class Replay:
         if number in self.wills.due:
             block = self.wills.due[number].block
         theirs, ours = self.received(), copies_of(block)
-        return (different_copies(ours, theirs, self.sessions) + (different_order(ours, theirs) if command["do"] == "connect" else [])
-                + different_reasons(command, block, said, present, self.offer.greatest_qos))
+        found = different_copies(ours, theirs, self.sessions)
+        if command["do"] == "connect":
+            found += different_order(ours, theirs)
+        return found + different_reasons(command, block, said, present, self.offer.greatest_qos)
 
     def received(self) -> list[Copy]:
         """What has come, but for the topics that the broker publishes itself."""

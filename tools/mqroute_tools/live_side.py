@@ -2,11 +2,10 @@
 import argparse
 from collections.abc import Iterator
 
-from .agreement import Command
 from .ending import Fault, in_words
 from .kinds import Difference, apart
 from .live import Offer
-from .output import Block
+from .output import Block, Command
 from .random_scripts import ACCESS, PARTS, Use
 from .wills import Wills
 from .live_run import Closed, Replay
@@ -15,8 +14,10 @@ CLEANER = "mqroute-search"
 
 
 def offered(offer: Offer, lists: bool) -> Use:
-    """What the CONNACK says that the broker has. With access lists no topic that begins with `$` is for all."""
-    lacks = {"retained": not offer.retain, "groups": not offer.shared, "wildcards": not offer.wildcards, "identifiers": not offer.identifiers,
+    """What the CONNACK says that the broker has. With access lists no topic that
+    begins with `$` is for all."""
+    lacks = {"retained": not offer.retain, "groups": not offer.shared,
+             "wildcards": not offer.wildcards, "identifiers": not offer.identifiers,
              "qos2": offer.greatest_qos < 2, "qos": offer.greatest_qos < 1}
     use = Use(frozenset([*PARTS, ACCESS])).without(["dollar"]) if lists else Use()
     return use.without(part for part, lacking in lacks.items() if lacking)
@@ -52,8 +53,10 @@ class LiveBroker:
         return not any(self.offer.lacks(command) for command in script)
 
     def run(self, script: list[Command], blocks: list[Block]) -> list[Difference]:
-        """What differs; afterwards the broker has forgotten the script's sessions and retained messages."""
-        replay, found, lines = self.session(), [], list(sent(script, blocks))
+        """What differs; afterwards the broker has forgotten the script's
+        sessions and retained messages."""
+        replay, lines = self.session(), list(sent(script, blocks))
+        found: list[Difference] = []
         replay.wills = Wills(lines)
         try:
             for number, command, block in lines:
@@ -74,14 +77,16 @@ class LiveBroker:
         try:
             if any(command["do"] == "acl" for command in script):
                 replay.set_access(None)
-            for client in sorted({command["client"] for command in script if command.get("session_expiry")}):
+            for client in sorted(
+                    {command["client"] for command in script if command.get("session_expiry")}):
                 replay.do({"do": "connect", "client": client})
                 replay.do({"do": "disconnect", "client": client})
             topics = sorted({command["topic"] for command in script if command.get("retain")})
             if topics:
                 replay.do({"do": "connect", "client": CLEANER})
             for topic in topics:
-                replay.do({"do": "publish", "client": CLEANER, "topic": topic, "retain": True, "qos": min(1, self.use.qos())})
+                replay.do({"do": "publish", "client": CLEANER, "topic": topic, "retain": True,
+                           "qos": min(1, self.use.qos())})
         except (Closed, Fault):
             pass  # what the broker keeps stands under names that no other script has
         finally:

@@ -8,8 +8,7 @@ from .held_back import Backlog, Event, Owed
 from .log_kinds import (BROKERS_TOPIC, CUT_OFF, DIFFERENT, HELD_BACK, LOGGED_WILL, MEMBERS_TURN,
                         OWN_WILL, RETAINED_FOR_GROUP, TESTED_AGAIN, Copy, joined, kind, own_will)
 from .log_steps import Step
-from .output import Key
-from .sessions import Command
+from .output import Command, Key
 from .topics import matches, plain_filter
 
 
@@ -93,21 +92,25 @@ class Comparison:
         for command in commands:
             client = command.get("client", "")
             if command["do"] == "connect":
-                user, before = command.get("user"), self.users.get(client)
-                if not self.sessions.present(command):
+                if self.sessions.present(command):
+                    resumes.add(client)
+                    again |= self.resume(client, command.get("user"))
+                else:
                     self.settle([client], drained=False)
                     self.renamed.discard(client)
-                else:
-                    resumes.add(client)
-                    if user != before:
-                        again.add(client)
-                        self.renamed.add(client)
-                        self.backlog.other_user(client)
-                self.users[client] = user
+                self.users[client] = command.get("user")
             self.sessions.follow(command)
             if command["do"] == "disconnect" and not self.sessions.has(client):
                 self.users.pop(client, None)
         return resumes, again
+
+    def resume(self, client: str, user: str | None) -> set[str]:
+        """The client, if it has another user name now: what waits for it is tested again."""
+        if user == self.users.get(client):
+            return set()
+        self.renamed.add(client)
+        self.backlog.other_user(client)
+        return {client}
 
     # -- what the broker sent
 
@@ -125,7 +128,7 @@ class Comparison:
             self.sent += 1
             sent, key = event.copy, (event.client, event.copy.topic)
             copy = Copy(sent.qos, sent.retain, size=sent.size)
-            found = self.kind_of(event, step, resumes, copy)
+            found = self.kind_of(event, key, step, resumes, copy)
             if found is not None:
                 (apart[found, key] if found else step.broker.copies[key]).append(copy)
         self.set_apart(step, apart)
@@ -140,24 +143,24 @@ class Comparison:
             else:
                 self.found.append(Line(step.place, key, copies, [], found))
 
-    def kind_of(self, event: Event, step: Step, resumes: set[str], copy: Copy) -> str | None:
+    def kind_of(self, event: Event, key: Key, step: Step, resumes: set[str],
+                copy: Copy) -> str | None:
         """The kind of a copy that mqroute hasn't; None: of an earlier step, empty: of this one."""
         if event.apart not in ("", OWN_WILL):
             return event.apart
         if event.released or event.client in resumes:
-            return self.late(event, step, copy, event.client in resumes)
+            return self.late(event, key, step, copy, event.client in resumes)
         if copy.qos:
             self.settle([event.client], drained=True)  # what is held back would have gone first
         return ""
 
-    def late(self, event: Event, step: Step, copy: Copy, resumes: bool) -> str | None:
+    def late(self, event: Event, key: Key, step: Step, copy: Copy, resumes: bool) -> str | None:
         """The same of a copy that was released, or sent to a client that comes back."""
-        client, topic = key = event.client, event.copy.topic
-        owed = self.backlog.take(event)
+        owed = self.backlog.take(key, copy.size, copy.retain)
         if owed:
             owed.line.theirs.append(copy)
             owed.line.last = event.place
-            if not self.by_group(client, topic):
+            if not self.by_group(*key):
                 self.name(self.backlog.passed(owed), drained=True)
             return None
         if resumes and self.is_due(step, key, copy.size):
@@ -169,7 +172,7 @@ class Comparison:
             return "" if step.mqroute.copies.get(key) else event.apart
         if event.apart:
             return OWN_WILL
-        if self.by_group(client, topic):
+        if self.by_group(*key):
             return RETAINED_FOR_GROUP if copy.retain else MEMBERS_TURN
         return ""
 

@@ -42,6 +42,10 @@ def joined(copies: list[Copy]) -> Copy | None:
     return Copy(max(c.qos for c in copies), max(c.retain for c in copies))
 
 
+def greatest_retain(copies: list[Copy]) -> int:
+    return max((copy.retain for copy in copies), default=0)
+
+
 def own_will(step: Step, key: Key) -> bool:
     """Whether the client publishes to the topic and then leaves: so a script has the will of a
     session that is kept."""
@@ -54,7 +58,7 @@ def own_will(step: Step, key: Key) -> bool:
 def lower_qos(theirs: list[Copy], ours: list[Copy]) -> bool:
     """Whether the broker's copies, one or as many as ours, have the less QoS."""
     if len(theirs) == 1 and ours:
-        return theirs[0].qos < joined(ours).qos
+        return theirs[0].qos < max(copy.qos for copy in ours)
     here, there = (sorted(copy.qos for copy in side) for side in (ours, theirs))
     return len(here) == len(there) and here != there and all(a >= b for a, b in zip(here, there))
 
@@ -72,7 +76,7 @@ def kind(step: Step, key: Key) -> str:
     if client in step.old_protocol and lower_qos(theirs, ours):
         return ONE_QOS
     if (sorted(c.qos for c in theirs) == sorted(c.qos for c in ours)
-            and joined(theirs).retain > joined(ours).retain):
+            and greatest_retain(theirs) > greatest_retain(ours)):
         return AS_PUBLISHED
     of_group = any(c.shared for copies in step.mqroute.copies.values() for c in copies)
     if not filters and of_group and (more or any(c.shared for c in ours)):

@@ -10,8 +10,8 @@ from .ending import Fault
 from .held_back import Event, Flight
 from .inference import Beginning
 from .log_kinds import BROKERS_TOPIC, CUT_OFF, LOGGED_WILL, OWN_WILL, TAKEN_WILL, Copy
-from .output import Block, Key, blocks, by_key, misfit, read_json
-from .sessions import Command
+from .output import Block, Command, Key, blocks, by_key, misfit, read_json
+from .sessions import Arrival
 from .topics import plain_filter
 from .writing import Writer
 
@@ -110,7 +110,8 @@ class Watcher(Writer):
         self.denied = None if routed else log.read_publish(text, self.connected)
         return super().publish(text, routed)
 
-    def connect(self, arrival, client, user, clean, protocol, present) -> None:
+    def connect(self, arrival: Arrival, client: str, user: str | None, clean: bool, protocol: int,
+                present: bool) -> None:
         (self.old_protocol.add if protocol < 5 else self.old_protocol.discard)(client)
         self.flight.begin(client, present)
         super().connect(arrival, client, user, clean, protocol, present)

@@ -16,8 +16,9 @@ def raw_lines(stream: BinaryIO) -> Iterator[bytes]:
         yield piece.rstrip(b"\r\n")
 
 
-# The client id is free text, and so may look like any other part of a line. Each form below is read with its
-# fixed words at both ends; where more than one reading is left, the clients that are connected decide.
+# The client id is free text, and so may look like any other part of a line. Each form below is read
+# with its fixed words at both ends; where more than one reading is left, the clients that are
+# connected decide.
 
 PUBLISH_HEAD = re.compile(r" \(d([01]), q([0-2]), r([01]), m(\d+), '")
 PUBLISH_END = re.compile(r"', \.\.\. \((\d+) bytes\)\)$")
@@ -41,20 +42,26 @@ ENDS = tuple(re.compile(p) for p in (
 ))
 # Lines that tell nothing a script has.
 PASSED_OVER = (
-    "Sending ", "New connection from ", "No will message specified.", "Received PINGREQ from ", "Received PUBACK from ",
-    "Received PUBREC from ", "Received PUBCOMP from ", "Received AUTH from ", "Config loaded from ", "Loading config file ",
-    "Opening ", "Saving in-memory database to ", "mosquitto version ", "Invalid subscription string from ",
-    "Empty subscription string from ", "Invalid unsubscription string from ", "Empty unsubscription string from ",
-    "Warning: ", "Note: ", "To fix this, use ", "Client <unknown> ", "Client connection from ", "OpenSSL Error",
-    "ACL denying access to client with dangerous ", "Connecting bridge ",
-    "Received CONNACK on connection ",
+    "Sending ", "New connection from ", "No will message specified.",
+    "Received PINGREQ from ", "Received PUBACK from ", "Received PUBREC from ",
+    "Received PUBCOMP from ", "Received AUTH from ",
+    "Config loaded from ", "Loading config file ", "Opening ", "Saving in-memory database to ",
+    "mosquitto version ",
+    "Invalid subscription string from ", "Empty subscription string from ",
+    "Invalid unsubscription string from ", "Empty unsubscription string from ",
+    "Warning: ", "Note: ", "To fix this, use ", "Client <unknown> ", "Client connection from ",
+    "OpenSSL Error", "ACL denying access to client with dangerous ",
+    "Connecting bridge ", "Received CONNACK on connection ",
 )
 # Lines that concern the script and give no command.
 TOLD = (
-    ("Reloading config.", "times the broker read its configuration again: the access list may have changed here"),
-    ("Dropped too large PUBLISH from ", "publishes were too large for the broker, which dropped them: they are not in the script"),
+    ("Reloading config.",
+     "times the broker read its configuration again: the access list may have changed here"),
+    ("Dropped too large PUBLISH from ",
+     "publishes were too large for the broker, which dropped them: they are not in the script"),
     ("Outgoing messages are being dropped for client ",
-     "times the broker began to drop copies for a client since too many waited: the script has no such limit (mqroute's is --max-queued)"),
+     "times the broker began to drop copies for a client since too many waited: the script has no "
+     "such limit (mqroute's is --max-queued)"),
 )
 LOCAL_SUBSCRIBE = re.compile(r"Bridge (.*) doing local SUBSCRIBE on topic (.*)$")
 BRIDGE_SENDS = re.compile(r"Bridge (.*) sending (?:CONNECT|SUBSCRIBE|UNSUBSCRIBE)(?: \(.*\))?$")
@@ -67,9 +74,11 @@ class Publish:
     """What a line tells of a PUBLISH packet, received, denied or sent."""
     __slots__ = ("client", "dup", "qos", "retain", "packet", "topic", "size", "readings")
 
-    def __init__(self, client: str, head: re.Match[str], topic: str, size: int, readings: int) -> None:
+    def __init__(self, client: str, head: re.Match[str], topic: str, size: int,
+                 readings: int) -> None:
         self.client, self.topic, self.size = client, topic, size
-        self.readings = readings  # in how many ways the line can be read, by the clients that are connected
+        # in how many ways the line can be read, by the clients that are connected
+        self.readings = readings
         self.dup, self.qos, self.retain, self.packet = (int(head[i]) for i in (1, 2, 3, 4))
 
 
@@ -90,6 +99,7 @@ def read_publish(text: str, known: Container[str]) -> Publish | None:
 
 
 def ended_clients(text: str, *known: Container[str]) -> list[str]:
-    """The clients, one but for the oddest ids, whose connection this line may end; none if it is of another kind."""
+    """The clients, one but for the oddest ids, whose connection this line may end; none
+    if it is of another kind."""
     named = [found[1] for found in (p.match(text) for p in ENDS) if found]
     return [n for n in named if any(n in those for those in known)] or named

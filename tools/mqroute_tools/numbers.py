@@ -34,3 +34,12 @@ def amount(text: str) -> float:
 
 
 port = whole_number(1, MOST_PORT)
+
+
+def add_waiting(parser: argparse.ArgumentParser) -> None:
+    """The options that say how long a live broker is waited for."""
+    parser.add_argument("--patience", type=amount, default=5, metavar="SECONDS",
+                        help="how long to wait for an acknowledgement (default 5)")
+    parser.add_argument("--settle", type=amount, default=0, metavar="SECONDS",
+                        help="wait after each line, for brokers that acknowledge before they route "
+                        "(default 0)")

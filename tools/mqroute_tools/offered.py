@@ -5,10 +5,9 @@ import subprocess
 from collections import Counter
 from collections.abc import Iterable
 
-from .agreement import Command
 from .ending import Fault
 from .live import Offer
-from .output import Block, blocks_of, command_of
+from .output import Block, Command, blocks_of, command_of
 
 LEFT_OUT = "left out"
 

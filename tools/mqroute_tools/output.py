@@ -9,19 +9,25 @@ from .ending import Fault
 from .files import at, open_text
 from .looks import HEAD, kind
 
+Command = dict[str, Any]  # a line of a script, as JSON has it
+Answer = dict[str, Any]  # and one of an output
 Key = tuple[str, str]  # client and topic
 COPY = '{"client":'  # mqroute prints names in ascending order: a copy alone begins so
 ACCEPTED = re.compile(r'\{"line":(\d+),"reason":(\d+)\}$')
 TEXT = r'[^"\\\x00-\x1f]*'  # a text of JSON without escapes
-PLAIN = re.compile(rf'\{{"client":"({TEXT})"(?:,"expiry":\d+)?(?:,"filter":"{TEXT}")?(?:,"ids":\[[\d,]*\])?,"line":\d+,"payload":"{TEXT}",'
-                   rf'"qos":[012],"retain":(?:true|false)(?:,"share":"{TEXT}")?,"topic":"({TEXT})"\}}\n')
-REASONS = {"publish": (0, 16), "unsubscribe": (0, 17)}  # of other commands 0, and of a subscribe its QoS
+PLAIN = re.compile(
+    rf'\{{"client":"({TEXT})"(?:,"expiry":\d+)?(?:,"filter":"{TEXT}")?(?:,"ids":\[[\d,]*\])?'
+    rf',"line":\d+,"payload":"{TEXT}",'
+    rf'"qos":[012],"retain":(?:true|false)(?:,"share":"{TEXT}")?,"topic":"({TEXT})"\}}\n')
+# of other commands 0, and of a subscribe its QoS
+REASONS = {"publish": (0, 16), "unsubscribe": (0, 17)}
 SHOWN = 60  # characters of a line
 read_json = json.JSONDecoder().decode
 
 
 class Block(NamedTuple):
-    """What one line of a script was answered: its copies as they stand, then a reason (a stat has none) or a refusal."""
+    """What one line of a script was answered: its copies as they stand, then a reason (a
+    stat has none) or a refusal."""
     line: int
     copies: list[str]
     reason: int | None
@@ -32,7 +38,7 @@ class Block(NamedTuple):
         """The lines that were written."""
         return [*self.copies, self.end]
 
-    def answers(self) -> list[dict[str, Any]]:
+    def answers(self) -> list[Answer]:
         return [read_json(text) for text in self.texts()]
 
 
@@ -77,7 +83,8 @@ def closed(text: str, copies: list[str]) -> Block:
         return Block(int(found[1]), copies, int(found[2]), None, text)
     end = read_json(text)
     accepted = "reason" in end or "nodes" in end
-    return Block(int(end["line"]), copies, end.get("reason"), None if accepted else str(end["refused"]), text)
+    return Block(int(end["line"]), copies, end.get("reason"),
+                 None if accepted else str(end["refused"]), text)
 
 
 def by_key(copies: list[str], name: str = "the output") -> defaultdict[Key, list[str]]:
@@ -86,7 +93,7 @@ def by_key(copies: list[str], name: str = "the output") -> defaultdict[Key, list
     match = PLAIN.fullmatch
     for text in copies:
         plain = match(text)
-        found[plain.group(1, 2) if plain else key_of(text, name)].append(text)
+        found[(plain[1], plain[2]) if plain else key_of(text, name)].append(text)
     return found
 
 
@@ -99,7 +106,7 @@ def key_of(text: str, name: str) -> Key:
         raise Fault(f"{name}: no output of mqroute: {why}") from fault
 
 
-def command_of(text: bytes) -> dict[str, Any] | None:
+def command_of(text: bytes) -> Command | None:
     """The command on a line of a script, if Python can read it as one."""
     try:
         value = json.loads(text)
@@ -112,8 +119,9 @@ def is_blank(text: bytes) -> bool:
     return not text.strip(b" \t\r\n")
 
 
-def misfit(command: dict[str, Any] | None, block: Block, keys: Iterable[Key]) -> str:
-    """Why mqroute can't have answered this to the command: its output is of another script. Empty where it can."""
+def misfit(command: Command | None, block: Block, keys: Iterable[Key]) -> str:
+    """Why mqroute can't have answered this to the command: its output is of another
+    script. Empty where it can."""
     if command is None or block.refused:
         return ""
     do, client = command.get("do"), command.get("client")

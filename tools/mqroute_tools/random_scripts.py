@@ -1,21 +1,24 @@
 """Random scripts of few names, in which much comes together; and what of MQTT they may use."""
 import random
 from collections.abc import Callable, Iterable
-from typing import Any, NamedTuple
+from typing import NamedTuple
 
+from .output import Command
 from .wills import PAYLOAD
 
-Command = dict[str, Any]
 CLIENTS = "abc"
 TOPICS = ["x", "x", "x/y", "x/y", "y", "/", "x/", "x/y/z"]
 FILTERS = ["x", "x/y", "x/y", "#", "x/#", "+/y", "+", "x/+", "+/+", "/#", "+/#", "y"]
 DOLLAR_TOPICS, DOLLAR_FILTERS = ["$x", "$x/y"], ["$x", "$x/#", "$x/+"]
 FEWEST, MOST = 6, 20  # lines
+# how often each command is made
+OFTEN = {"connect": 4, "disconnect": 3, "subscribe": 10, "unsubscribe": 2, "publish": 12}
 MOST_NAMES = 4  # topics, and filters
 LEFT_OUT = 0.25  # how often a script leaves a part out
 KEPT = 1000  # seconds that a session or a message is kept; the clock isn't moved
 ACCESS = "access"  # lists that begin a script, where the broker can be given them
-PARTS = ("groups", "retained", "wildcards", "identifiers", "sessions", "expiry", "options", "dollar", "wills", "qos2", "qos")
+PARTS = ("groups", "retained", "wildcards", "identifiers", "sessions", "expiry", "options",
+         "dollar", "wills", "qos2", "qos")
 
 
 class Use(NamedTuple):
@@ -34,8 +37,9 @@ class Use(NamedTuple):
 
 
 class Maker:
-    """Makes scripts in which every command is of a client that is connected. Each has few names, so that they meet, and
-    leaves out some parts, so that what goes wrong with one part doesn't hide the others."""
+    """Makes scripts in which every command is of a client that is connected. Each has few names, so
+    that they meet, and leaves out some parts, so that what goes wrong with one part doesn't hide
+    the others."""
 
     def __init__(self, chance: random.Random, use: Use) -> None:
         self.chance, self.all = chance, use
@@ -45,12 +49,14 @@ class Maker:
         """A list of a few lines that speak of the script's names."""
         lines = []
         for _ in range(self.chance.randint(1, MOST_NAMES)):
-            name, keyword = self.chance.choice(self.topics + self.filters), self.chance.choice(["topic", "topic", "pattern"])
+            name = self.chance.choice(self.topics + self.filters)
+            keyword = self.chance.choice(["topic", "topic", "pattern"])
             if keyword == "pattern" and self.chance.random() < 0.5:
                 levels = name.split("/")
                 levels[self.chance.randrange(len(levels))] = "%c"
                 name = "/".join(levels) if "#" not in levels[:-1] else name
-            lines.append(" ".join([keyword, *self.chance.choice([["read"], ["write"], ["readwrite"], ["deny"], []]), name]))
+            access = self.chance.choice(["read ", "write ", "readwrite ", "deny ", ""])
+            lines.append(f"{keyword} {access}{name}")
         return {"do": "acl", "text": "".join(line + "\n" for line in lines)}
 
     def choose(self) -> None:
@@ -58,7 +64,8 @@ class Maker:
         chance = self.chance
         use = self.use = self.all.without([part for part in PARTS if chance.random() < LEFT_OUT])
         topics = TOPICS + (DOLLAR_TOPICS if use.has("dollar") else [])
-        filters = FILTERS + (DOLLAR_FILTERS if use.has("dollar") else []) if use.has("wildcards") else topics
+        wildcards = FILTERS + (DOLLAR_FILTERS if use.has("dollar") else [])
+        filters = wildcards if use.has("wildcards") else topics
         self.topics = [chance.choice(topics) for _ in range(chance.randint(1, MOST_NAMES))]
         self.filters = [chance.choice(filters) for _ in range(chance.randint(1, MOST_NAMES))]
 
@@ -76,7 +83,8 @@ class Maker:
     def connect(self, away: list[str]) -> Command:
         """Rather a client that comes back."""
         back = bool(away) and self.chance.random() < 0.6
-        command: Command = {"do": "connect", "client": self.chance.choice(away if back else CLIENTS)}
+        command: Command = {
+            "do": "connect", "client": self.chance.choice(away if back else CLIENTS)}
         if self.may("sessions", 0.8 if back else 0.2):
             command["clean"] = False
         if self.may("sessions", 0.6):
@@ -96,7 +104,9 @@ class Maker:
         return command
 
     def publish(self, client: str, payloads: tuple[str, ...] = ("1", "2", "3", "")) -> Command:
-        command: Command = {"do": "publish", "client": client, "topic": self.chance.choice(self.topics), "payload": self.chance.choice(payloads)}
+        command: Command = {
+            "do": "publish", "client": client, "topic": self.chance.choice(self.topics),
+            "payload": self.chance.choice(payloads)}
         command = self.with_qos(command)
         if self.may("retained", 0.45):
             command["retain"] = True
@@ -108,9 +118,11 @@ class Maker:
         self.choose()
         live: set[str] = set()
         away: set[str] = set()
-        made: list[Command] = [self.access()] if self.use.has(ACCESS) and self.chance.random() > LEFT_OUT else []
+        made: list[Command] = []
+        if self.use.has(ACCESS) and self.chance.random() > LEFT_OUT:
+            made.append(self.access())
         for _ in range(self.chance.randint(FEWEST, MOST)):
-            do = self.chance.choices(["connect", "disconnect", "subscribe", "unsubscribe", "publish"], [4, 3, 10, 2, 12])[0]
+            do = self.chance.choices([*OFTEN], [*OFTEN.values()])[0]
             if do == "connect" or not live:
                 made.append(self.connect(sorted(away)))
                 live.add(made[-1]["client"])
@@ -130,7 +142,8 @@ class Maker:
 
 
 def fresh_name(name: str, mark: str) -> str:
-    """Each level of a topic or filter with the mark behind it, but for those that have a meaning."""
+    """Each level of a topic or filter with the mark behind it, but for those
+    that have a meaning."""
     levels = name.split("/")
     if levels[0] == "$share" and len(levels) > 2:
         return "/".join(["$share", *(fresh_name(level, mark) for level in levels[1:])])
@@ -144,7 +157,17 @@ def with_names(text: str, named: Callable[[str], str]) -> str:
 
 
 def fresh(script: list[Command], mark: str) -> list[Command]:
-    """The script with names of its own, so that nothing that a broker still keeps of others is met."""
-    return [command | {field: fresh_name(command[field], mark) if field != "client" else command[field] + mark
-                       for field in ("client", "topic", "filter") if field in command}
-            | ({"text": with_names(command["text"], lambda name: fresh_name(name, mark))} if "text" in command else {}) for command in script]
+    """The script with names of its own, so that nothing that a broker still
+    keeps of others is met."""
+    return [command | fresh_fields(command, mark) for command in script]
+
+
+def fresh_fields(command: Command, mark: str) -> Command:
+    """The command's names, each with the mark."""
+    fields = {field: fresh_name(command[field], mark)
+              for field in ("topic", "filter") if field in command}
+    if "client" in command:
+        fields["client"] = command["client"] + mark
+    if "text" in command:
+        fields["text"] = with_names(command["text"], lambda name: fresh_name(name, mark))
+    return fields

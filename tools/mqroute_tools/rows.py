@@ -1,22 +1,25 @@
-"""The rows of a comparison with their causes: gathered by client or by user name, for tables, JSON and the page."""
+"""The rows of a comparison with their causes: gathered by client or by user name, for
+tables, JSON and the page."""
 from collections import Counter, defaultdict
-from collections.abc import Callable, Iterable
+from collections.abc import Callable, Iterable, Iterator
 from dataclasses import dataclass, field
-from typing import Any
+from typing import TypeVar
 
 from .because import WHAT, Because, Grouped
-from .causes import Cause, Names, Tally, words
+from .causes import Cause, Names, Tally
 from .deciding import Decided, Lists, Question, allowed, in_words, pair
-from .output import Block
+from .findings import CauseRow, CauseSum, Copies, CopiesRow, Place, RefusedRow, Refusals, Subject
+from .output import Block, Command
 from .tables import table, user_shown
 
 Row = tuple[str | None, str]  # client or user name, and topic
+Counts = TypeVar("Counts", Copies, Refusals)
 Why = tuple[str, Cause, Question | None]  # lost, gained or changed
 DENIED = "NotAuthorized"
 BY_ACCESS = {None, DENIED, "RetainedFull"}  # answers that show whether the publisher may write
 
 
-def row_order(item: tuple[Row, Any]) -> tuple[bool, str, str]:
+def row_order(item: tuple[Row, Counts]) -> tuple[bool, str, str]:
     (who, topic), _ = item
     return who is not None, who or "", topic
 
@@ -45,7 +48,8 @@ class Reasons:
                  lists: Lists | None = None) -> None:
         self.by_user, self.gathered, self.lists = by_user, gathered, lists
         self.because, self.names = Because(), Names()
-        self.copies: defaultdict[Row, defaultdict[Why, Tally]] = defaultdict(lambda: defaultdict(Tally))
+        self.copies: defaultdict[Row, defaultdict[Why, Tally]] = defaultdict(
+            lambda: defaultdict(Tally))
         self.refusals: defaultdict[Row, defaultdict[Question | None, Refused]] = defaultdict(
             lambda: defaultdict(Refused))
         self.in_both: defaultdict[Row, Tally] = defaultdict(Tally)  # lines that both runs refused
@@ -54,8 +58,10 @@ class Reasons:
     def who(self, client: str) -> str | None:
         return self.because.user(client) if self.by_user else client
 
-    def take(self, command: dict[str, Any], blocks: tuple[Block, Block], was: Grouped, now: Grouped) -> None:
-        """One line of the script. What it leaves behind is for `end`, when the line has been counted."""
+    def take(self, command: Command, blocks: tuple[Block, Block], was: Grouped,
+             now: Grouped) -> None:
+        """One line of the script. What it leaves behind is for `end`, when the
+        line has been counted."""
         self.because.begin(command, *blocks)
         if was is now:
             return
@@ -66,7 +72,7 @@ class Reasons:
                 asked = self.question(command, (client, topic), cause, publish)
                 row[what, cause, asked].add(number, publish, client, topic, self.names)
 
-    def question(self, command: dict[str, Any], key: tuple[str, str], cause: Cause,
+    def question(self, command: Command, key: tuple[str, str], cause: Cause,
                  publish: int) -> Question | None:
         """What is to be asked of the lists about a copy, where its cause is one of access."""
         if self.lists is None or self.because.story.lists:
@@ -81,7 +87,7 @@ class Reasons:
             return None if publisher is None else Question(publisher, cause.user, topic, "write")
         return None
 
-    def refused(self, row: Row, line: int, command: dict[str, Any], was: str | None,
+    def refused(self, row: Row, line: int, command: Command, was: str | None,
                 now: str | None) -> None:
         """A line that is refused in one run, or in both."""
         client = str(command.get("client", ""))
@@ -109,11 +115,10 @@ class Reasons:
             if self.lists and asked and cause.kind in ("reader", "publisher", "retained"):
                 decided = self.lists.decides(asked, allowed(what, cause), tally.places[0])
             known.setdefault((what, cause, pair(decided)), (decided, Tally()))[1].merge(tally)
-        def order(one: tuple[tuple, tuple[Decided | None, Tally]]) -> tuple:
-            (what, cause, lines), (_, tally) = one
-            return WHAT.index(what), -tally.count, str(cause), lines
-        rows = sorted(known.items(), key=order)
-        return [(what, cause, *found) for (what, cause, _), found in rows]
+
+        rows = [(what, cause, lines, *found) for (what, cause, lines), found in known.items()]
+        rows.sort(key=lambda row: (WHAT.index(row[0]), -row[4].count, str(row[1]), row[2]))
+        return [(what, cause, decided, tally) for what, cause, _, decided, tally in rows]
 
     def refused_of(self, row: Row) -> list[Refused]:
         """The lines of a row that one run alone refused, by the lines that decide it."""
@@ -126,81 +131,76 @@ class Reasons:
             known.setdefault(pair(decided), Refused(decided=decided)).add(entry)
         return [known[key] for key in sorted(known, key=lambda key: (-known[key].tally.count, key))]
 
-    def lines(self, tally: Tally) -> list[dict[str, Any]]:
+    def lines(self, tally: Tally) -> list[Place]:
         text = self.names.texts
-        return [{"line": line, "client": text[client], "topic": text[topic]} | ({"publish": publish} if publish else {})
+        return [Place(line, text[client], text[topic], publish)
                 for line, publish, client, topic in tally.quads()]
 
-
-def cause_entry(cause: Cause, what: str) -> dict[str, Any]:
-    """A cause for JSON: `because` in words, and what they are made of."""
-    found: dict[str, Any] = {"cause": cause.kind, "because": words(cause, what, user_shown(cause.user))}
-    if cause.refused:
-        found |= {"refused": cause.refused, "newly": cause.newly}
-        found |= {"command": cause.did} if cause.kind == "session" else {"publisher": cause.user}
-    return found
+    def clients(self, count: int) -> int | None:
+        """What a row says of its clients, if it is of more than one."""
+        return count if self.by_user else None
 
 
-def copies_of(reasons: Reasons, row: Row, counts: dict[str, int]) -> dict[str, Any]:
-    causes, clients = [], set()
+def copies_of(reasons: Reasons, row: Row, counts: Copies) -> CopiesRow:
+    causes: list[CauseRow] = []
+    clients: set[str] = set()
     for what, cause, decided, tally in reasons.of(row):
-        entry = {"what": what, "copies": tally.count} | ({"clients": len(tally.clients)} if reasons.by_user else {})
-        entry |= cause_entry(cause, what) | {"lines": reasons.lines(tally)} | by_lines(decided)
-        causes.append(entry)
+        causes.append(CauseRow(what, cause, tally.count, reasons.clients(len(tally.clients)),
+                               reasons.lines(tally), decided))
         clients |= tally.clients
-    return named(reasons, row, len(clients)) | counts | {"causes": causes}
+    return CopiesRow(Subject(*row, reasons.clients(len(clients))), counts, causes)
 
 
-def by_lines(decided: Decided | None) -> dict[str, Any]:
-    return {"decided": decided} if decided else {}
-
-
-def refused_of(reasons: Reasons, row: Row, counts: dict[str, Any]) -> Iterable[dict[str, Any]]:
+def refused_of(reasons: Reasons, row: Row, counts: Refusals) -> Iterable[RefusedRow]:
     """One row; where several pairs of lines decide, one for each, and one for what both refused."""
     found = reasons.refused_of(row)
     for one in found:
-        own = counts if len(found) == 1 else {
-            "before": one.no_longer.total(), "after": one.newly.total(),
-            "newly": one.newly, "no_longer": one.no_longer}
-        yield refused_row(reasons, row, own, one.tally) | by_lines(one.decided)
+        own = counts if len(found) == 1 else Refusals(
+            one.no_longer.total(), one.newly.total(), one.newly, one.no_longer)
+        yield refused_row(reasons, row, own, one.tally, one.decided)
     if len(found) > 1 and row in reasons.in_both:
         both = reasons.in_both[row]
-        own = {"before": both.count, "after": both.count, "newly": {}, "no_longer": {}}
-        yield refused_row(reasons, row, own, both)
+        yield refused_row(reasons, row, Refusals(both.count, both.count), both)
 
 
-def refused_row(reasons: Reasons, row: Row, counts: dict[str, Any], tally: Tally) -> dict[str, Any]:
-    lines = {"lines_in_all": tally.count, "lines": reasons.lines(tally)}
-    return named(reasons, row, len(tally.clients)) | counts | lines
+def refused_row(reasons: Reasons, row: Row, counts: Refusals, tally: Tally,
+                decided: Decided | None = None) -> RefusedRow:
+    subject = Subject(*row, reasons.clients(len(tally.clients)))
+    return RefusedRow(subject, counts, tally.count, reasons.lines(tally), decided)
 
 
-def named(reasons: Reasons, row: Row, clients: int) -> dict[str, Any]:
-    return {"user": row[0], "topic": row[1], "clients": clients} if reasons.by_user else {"client": row[0], "topic": row[1]}
+def causes_of(copies: list[CopiesRow]) -> Iterator[tuple[CopiesRow, CauseRow]]:
+    """Each cause of each row, where they were asked for."""
+    return ((row, cause) for row in copies for cause in row.causes or ())
 
 
-def all_causes(copies: list[dict[str, Any]]) -> list[dict[str, Any]]:
+def all_causes(copies: list[CopiesRow]) -> list[CauseSum]:
     """Each cause once, with what it lost, gained and changed in all rows."""
     sums: defaultdict[tuple[str, str], Counter[str]] = defaultdict(Counter)
-    for cause in (c for row in copies for c in row["causes"]):
-        sums[cause["because"], cause["cause"]][cause["what"]] += cause["copies"]
+    for _, cause in causes_of(copies):
+        sums[cause.because(), cause.cause.kind][cause.what] += cause.copies
     ordered = sorted(sums.items(), key=lambda s: (-s[1].total(), s[0]))
-    return [{"because": words_of, "cause": kind} | {what: sums[words_of, kind][what] for what in WHAT} for (words_of, kind), _ in ordered]
+    return [CauseSum(because, kind, {what: counts[what] for what in WHAT})
+            for (because, kind), counts in ordered]
 
 
-def because_of(row: dict[str, Any]) -> str:
+def because_of(causes: list[CauseRow]) -> str:
     """The causes of a row, in one cell."""
     sums: Counter[tuple[str, str]] = Counter()
-    for cause in row["causes"]:
-        sums[cause["because"], f" ({in_words(cause['decided'])})" if "decided" in cause else ""] += cause["copies"]
+    for cause in causes:
+        lines = f" ({in_words(cause.decided)})" if cause.decided else ""
+        sums[cause.because(), lines] += cause.copies
     return ", ".join(f"{because} {count}{decided}" for (because, decided), count in sums.items())
 
 
-def by_user_table(copies: list[dict[str, Any]], shown: Callable[[str], str]) -> str:
-    rows = [[user_shown(row["user"]), str(cause["clients"]), shown(row["topic"]), cause["what"], str(cause["copies"]),
-             cause["because"], str(cause["lines"][0]["line"])] for row in copies for cause in row["causes"]]
-    causes = [cause for row in copies for cause in row["causes"]]
-    decided = ["decided by"] if any("decided" in cause for cause in causes) else []
-    for cause, row in zip(causes, rows if decided else []):
-        row.append(shown(in_words(cause["decided"])) if "decided" in cause else "")
-    return table(["user", "clients", "topic", "what", "copies", "because", "first line", *decided], rows)
-
+def by_user_table(copies: list[CopiesRow], shown: Callable[[str], str]) -> str:
+    found = list(causes_of(copies))
+    rows = [[user_shown(row.subject.name), str(cause.clients), shown(row.subject.topic),
+             cause.what, str(cause.copies), cause.because(), str(cause.lines[0].line)]
+            for row, cause in found]
+    head = ["user", "clients", "topic", "what", "copies", "because", "first line"]
+    if any(cause.decided for _, cause in found):
+        head.append("decided by")
+        for (_, cause), cells in zip(found, rows):
+            cells.append(shown(in_words(cause.decided)) if cause.decided else "")
+    return table(head, rows)

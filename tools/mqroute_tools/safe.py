@@ -1,12 +1,14 @@
-"""Names of other people's on a page: what they hold is text, and neither markup nor a direction of writing."""
+"""Names of other people's on a page: what they hold is text, and neither markup
+nor a direction of writing."""
 import html
-from typing import Any
 
+from .findings import Subject
 from .tables import shown, user_shown
 
 
 def visible(text: str) -> str:
-    """A client id or topic for a page. Characters that aren't seen, or that turn text round, are told by their numbers."""
+    """A client id or topic for a page. Characters that aren't seen, or that turn text round,
+    are told by their numbers."""
     return escaped(shown(text))
 
 
@@ -15,6 +17,6 @@ def escaped(text: str) -> str:
     return html.escape(seen, quote=True)
 
 
-def marked(row: dict[str, Any]) -> str:
+def marked(row: Subject) -> str:
     """The client or the user name of a row."""
-    return escaped(user_shown(row["user"])) if "user" in row else visible(row["client"])
+    return escaped(user_shown(row.name)) if row.by_user() else visible(row.name or "")

@@ -3,7 +3,8 @@ import re
 from collections.abc import Mapping
 
 from .notes import Notes
-from .state import FOREVER, Command, State, connect_command
+from .output import Command
+from .state import FOREVER, State, connect_command
 from .topics import matches, plain_filter
 
 MQTT_3_1 = 1  # as the log has it: 1 is 3.1, 2 is 3.1.1, 5 is 5
@@ -19,7 +20,8 @@ class Session:
                  "taken", "websocket", "bridge", "before", "asked", "expiry", "arrived", "unsure",
                  "renamed")
 
-    def __init__(self, will: Command | None = None, kept: bool = False, user: str | None = None) -> None:
+    def __init__(self, will: Command | None = None, kept: bool = False,
+                 user: str | None = None) -> None:
         self.will = will
         self.leaves = False  # sent DISCONNECT: the will is not published
         self.unreleased: dict[int, Command] = {}  # QoS 2, routed when the sender releases them
@@ -60,7 +62,8 @@ class Session:
         if found is None:
             if len(self.reasons) >= REASONS:
                 self.reasons.clear()
-            seen, inferred = (any(matches(plain_filter(f), topic) for f in names) for names in (self.filters, self.inferred))
+            seen, inferred = (any(matches(plain_filter(f), topic) for f in names)
+                              for names in (self.filters, self.inferred))
             found = self.reasons[topic] = SEEN if seen else INFERRED if inferred else NONE
         return found
 
@@ -69,14 +72,16 @@ class Arrival:
     """A connect of which the client id is known for certain only from the CONNACK that follows."""
     __slots__ = ("place", "text", "will", "will_head", "websocket", "bridge")
 
-    def __init__(self, place: int, text: str, websocket: bool = False, bridge: bool = False) -> None:
+    def __init__(self, place: int, text: str, websocket: bool = False,
+                 bridge: bool = False) -> None:
         self.place, self.text, self.websocket, self.bridge = place, text, websocket, bridge
         self.will: Command | None = None
         self.will_head: re.Match[str] | None = None
 
 
 class Clients:
-    """Writes commands: `commands` holds those that the last line gave, each with its place in the log."""
+    """Writes commands: `commands` holds those that the last line gave, each
+    with its place in the log."""
 
     def __init__(self, session_expiry: int) -> None:
         self.session_expiry = session_expiry
@@ -93,7 +98,8 @@ class Clients:
         self.notes = Notes()
 
     def emit(self, place: int, command: Command, routed: bool | None = True) -> None:
-        """Writes a command; `routed` is whether the broker routed a publish, None where the log doesn't tell."""
+        """Writes a command; `routed` is whether the broker routed a publish, None
+        where the log doesn't tell."""
         if self.time is not None:
             if self.now is not None and self.time > self.now:
                 self.commands.append((place, {"do": "advance", "seconds": self.time - self.now}))
@@ -105,37 +111,46 @@ class Clients:
         found = self.connected.get(client)
         if found is None:
             self.was_before(client)
-            found = self.connected[client] = self.away.pop(client, None) or Session()
+            away = self.away.pop(client, None)
+            found = self.connected[client] = away or Session()
             self.emit(self.place, {"do": "connect", "client": client})
         return found
 
     def was_before(self, client: str) -> None:
         if client not in self.seen_before:
             self.seen_before.add(client)
-            self.notes.add("clients were connected before the log began: user name and subscriptions are not in the script", client)
+            self.notes.add("clients were connected before the log began: user name and "
+                           "subscriptions are not in the script", client)
 
     # -- coming
 
     def know(self, state: State, inferred: Mapping[str, set[str]] | None = None) -> None:
-        """The clients that there are before the first line; `inferred` are filters that no line told."""
+        """The clients that there are before the first line; `inferred` are
+        filters that no line told."""
         for name, client in state.clients.items():
             session = Session(kept=client.expiry > 0, user=client.user)
             guessed = (inferred or {}).get(name, set())
             session.filters, session.inferred = set(client.subscriptions) - guessed, set(guessed)
             (self.connected if client.connected else self.away)[name] = session
 
-    def connect(self, arrival: Arrival, client: str, user: str | None, clean: bool, protocol: int, present: bool) -> None:
+    def connect(self, arrival: Arrival, client: str, user: str | None, clean: bool, protocol: int,
+                present: bool) -> None:
         command = connect_command(client, user)
-        old = self.connected.pop(client, None) or self.away.pop(client, None)
-        had_one = old is not None and old.kept  # in the script; the broker may have lost it, as by a new start
-        resumed = present or (had_one and not clean and protocol == MQTT_3_1)  # whose CONNACK doesn't tell
+        old = self.connected.pop(client, None)
+        if old is None:
+            old = self.away.pop(client, None)
+        # in the script; the broker may have lost it, as by a new start
+        had_one = old is not None and old.kept
+        # whose CONNACK doesn't tell
+        resumed = present or (had_one and not clean and protocol == MQTT_3_1)
         if not clean and (resumed or not had_one):
             command["clean"] = False
         expiry = self.expiry(arrival.place, client, clean, protocol)
         if expiry:
             command["session_expiry"] = expiry
         if present and not had_one:
-            self.notes.add("sessions were resumed that the script doesn't have", f"line {arrival.place}: {client}")
+            self.notes.add("sessions were resumed that the script doesn't have",
+                           f"line {arrival.place}: {client}")
         if arrival.will:
             arrival.will["client"] = client
         session = self.connected[client] = Session(arrival.will, expiry > 0, user)
@@ -155,7 +170,8 @@ class Clients:
         return 0 if clean else FOREVER if protocol < 5 else self.session_expiry
 
     def taken_over(self, client: str) -> None:
-        """The broker closes the connection: the will is published unless the next one resumes the session."""
+        """The broker closes the connection: the will is published unless the
+        next one resumes the session."""
         session = self.connected[client]
         session.taken = self.place
         if session.websocket:
@@ -164,12 +180,14 @@ class Clients:
     # -- going
 
     def publish_will(self, place: int, client: str, session: Session, ends: bool) -> None:
-        """No client gets its own will: where the session ends, a new one without subscriptions publishes it."""
+        """No client gets its own will: where the session ends, a new one without
+        subscriptions publishes it."""
         will, session.will = session.will, None
         if session.leaves:
             session.asked = will
         elif will:
-            if ends and any(matches(plain_filter(name), will["topic"]) for name in session.filters | session.inferred):
+            if ends and any(matches(plain_filter(name), will["topic"])
+                            for name in session.filters | session.inferred):
                 self.come_for_will(place, connect_command(client, session.user))
             self.emit(place, will, None)
 
@@ -206,7 +224,8 @@ class Clients:
         if not came_back:
             kept = {"clean": False, "session_expiry": session.expiry} if session.kept else {}
             self.come_for_will(self.place, connect_command(client, session.user) | kept)
-        self.emit(self.place, session.will, None)
+        if session.will:
+            self.emit(self.place, session.will, None)
         if not came_back:
             self.emit(self.place, {"do": "disconnect", "client": client})
         self.ended = client
@@ -221,7 +240,8 @@ class Clients:
             self.end(client, willed=True)
 
     def expire(self, client: str) -> None:
-        """The broker ended the session of a client that is away; where the script still has it, a clean start ends it."""
+        """The broker ended the session of a client that is away; where the script still has
+        it, a clean start ends it."""
         session = self.away.pop(client, None)
         if session:
             self.unrouted(session)

@@ -1,16 +1,19 @@
-"""The smallest script that still does what a greater one does: lines are left out, names and fields made simpler."""
+"""The smallest script that still does what a greater one does: lines are left out,
+names and fields made simpler."""
 import json
 from collections.abc import Callable, Iterator
-from typing import Any
 
+from .output import Command
 from .random_scripts import with_names
 
-Command = dict[str, Any]
 Script = list[Command]
 Test = Callable[[Script], bool]
-OPTIONAL = {"connect": ("session_expiry", "clean"), "subscribe": ("handling", "id", "rap", "no_local", "qos"), "publish": ("expiry", "qos", "retain")}
-SIMPLEST: dict[str, list[Any]] = {"filter": ["x", "$x", "#", "+", "x/#", "$share/g/x", "$share/g/$x"], "topic": ["x", "$x"], "qos": [1], "payload": ["1"],
-                                  "id": [1], "handling": [1]}
+OPTIONAL = {"connect": ("session_expiry", "clean"),
+            "subscribe": ("handling", "id", "rap", "no_local", "qos"),
+            "publish": ("expiry", "qos", "retain")}
+SIMPLEST: dict[str, list[str | int]] = {
+    "filter": ["x", "$x", "#", "+", "x/#", "$share/g/x", "$share/g/$x"],
+    "topic": ["x", "$x"], "qos": [1], "payload": ["1"], "id": [1], "handling": [1]}
 PLAIN_NAMES = {"x", "$x", "x/y"}
 
 
@@ -45,8 +48,10 @@ def with_fewer_clients(script: Script) -> Iterator[Script]:
     names = sorted({command["client"] for command in script if "client" in command})
     for at, name in enumerate(names):
         for other in names[:at]:
-            renamed = [command | {"client": other} if command.get("client") == name else command for command in script]
-            yield [now for now, then in zip(renamed, script) if then.get("client") != name or then["do"] not in ("connect", "disconnect")]
+            renamed = [command | {"client": other} if command.get("client") == name else command
+                       for command in script]
+            yield [now for now, then in zip(renamed, script)
+                   if then.get("client") != name or then["do"] not in ("connect", "disconnect")]
             yield renamed
 
 
@@ -55,13 +60,15 @@ def first_names(script: Script) -> Iterator[Script]:
     names = list(dict.fromkeys(command["client"] for command in script if "client" in command))
     plain = dict(zip(names, "abcdefghijklmnopqrstuvwxyz"))
     if any(plain.get(name, name) != name for name in names):
-        yield [command | ({"client": plain.get(command["client"], command["client"])} if "client" in command else {}) for command in script]
+        yield [command | {"client": plain.get(command["client"], command["client"])}
+               if "client" in command else command for command in script]
 
 
 def split_share(name: str) -> tuple[str, str]:
     """What stands before the filter of a shared subscription, and the filter."""
     parts = name.split("/", 2)
-    return (f"$share/{parts[1]}/", parts[2]) if parts[0] == "$share" and len(parts) == 3 else ("", name)
+    shared = parts[0] == "$share" and len(parts) == 3
+    return (f"$share/{parts[1]}/", parts[2]) if shared else ("", name)
 
 
 def weight(name: str) -> tuple[int, str]:
@@ -70,33 +77,43 @@ def weight(name: str) -> tuple[int, str]:
 
 def with_simpler_names(script: Script) -> Iterator[Script]:
     """One name replaced in all topics and filters at once."""
-    names = {split_share(command[field])[1] for command in script for field in ("topic", "filter") if field in command}
+    names = {split_share(command[field])[1] for command in script
+             for field in ("topic", "filter") if field in command}
     topics = {command["topic"] for command in script if "topic" in command}
     for name in sorted(names, key=weight, reverse=True):
         for plain in sorted(topics | PLAIN_NAMES, key=weight):
             if weight(plain) >= weight(name):
                 break
-            changed = []
-            for command in script:
-                parts = {field: split_share(command[field]) for field in ("topic", "filter") if field in command}
-                lists = {"text": with_names(command["text"], lambda held: plain if held == name else held)} if "text" in command else {}
-                changed.append(command | {field: share + plain for field, (share, text) in parts.items() if text == name} | lists)
-            yield changed
+            yield [with_name(command, name, plain) for command in script]
+
+
+def with_name(command: Command, name: str, plain: str) -> Command:
+    """The command with `plain` where it has the name."""
+    parts = {field: split_share(command[field])
+             for field in ("topic", "filter") if field in command}
+    fields = {field: share + plain for field, (share, text) in parts.items() if text == name}
+    if "text" in command:
+        fields["text"] = with_names(command["text"],
+                                    lambda held: plain if held == name else held)
+    return command | fields
 
 
 def with_fewer_fields(script: Script) -> Iterator[Script]:
     for at, command in enumerate(script):
         for field in OPTIONAL.get(command["do"], ()):
             if field in command:
-                yield [*script[:at], {name: value for name, value in command.items() if name != field}, *script[at + 1:]]
+                fewer = {name: value for name, value in command.items() if name != field}
+                yield [*script[:at], fewer, *script[at + 1:]]
 
 
 def with_simpler_fields(script: Script) -> Iterator[Script]:
     for at, command in enumerate(script):
         for field, simplest in SIMPLEST.items():
             if field in command:
-                ahead = simplest[:simplest.index(command[field])] if command[field] in simplest else simplest
-                yield from ([*script[:at], command | {field: value}, *script[at + 1:]] for value in ahead)
+                held = command[field]
+                ahead = simplest[:simplest.index(held)] if held in simplest else simplest
+                yield from ([*script[:at], command | {field: value}, *script[at + 1:]]
+                            for value in ahead)
 
 
 def with_shorter_lists(script: Script) -> Iterator[Script]:
@@ -104,10 +121,12 @@ def with_shorter_lists(script: Script) -> Iterator[Script]:
     for at, command in enumerate(script):
         lines = command.get("text", "").splitlines(True)
         for left_out in range(len(lines) if len(lines) > 1 else 0):
-            yield [*script[:at], command | {"text": "".join(lines[:left_out] + lines[left_out + 1:])}, *script[at + 1:]]
+            shorter = {"text": "".join(lines[:left_out] + lines[left_out + 1:])}
+            yield [*script[:at], command | shorter, *script[at + 1:]]
 
 
-WAYS = (with_fewer_lines, with_shorter_lists, with_fewer_clients, with_simpler_names, with_fewer_fields, with_simpler_fields, first_names)
+WAYS = (with_fewer_lines, with_shorter_lists, with_fewer_clients, with_simpler_names,
+        with_fewer_fields, with_simpler_fields, first_names)
 
 
 def simplified(script: Script, way: Callable[[Script], Iterator[Script]], still: Test) -> Script:
@@ -125,7 +144,8 @@ def simplified(script: Script, way: Callable[[Script], Iterator[Script]], still:
 
 
 def shrink(script: Script, still: Test) -> Script:
-    """A script for which `still` holds, and for none that one of the ways makes of it; it holds for `script`."""
+    """A script for which `still` holds, and for none that one of the ways makes of
+    it; it holds for `script`."""
     answers: dict[str, bool] = {}
 
     def tried(candidate: Script) -> bool:

@@ -1,4 +1,5 @@
-"""The time stamps, and the prefixes of syslog and of the journal, before the lines of a mosquitto log."""
+"""The time stamps, and the prefixes of syslog and of the journal, before the
+lines of a mosquitto log."""
 import re
 from calendar import timegm
 from collections.abc import Sequence
@@ -6,18 +7,23 @@ from datetime import datetime
 
 ISO = re.compile(r"(\d{4}-\d\d-\d\d[T ]\d\d:\d\d:\d\d(?:[+-]\d\d:?\d\d|Z)?): ")
 EPOCH = re.compile(r"(\d{9,11}): ")
-# `Nov 24 18:40:00 host mosquitto[123]: `, or with an ISO time or seconds in place of the first three words
-PREFIX = re.compile(r"(?:([A-Z][a-z]{2}) +(\d{1,2}) (\d\d:\d\d:\d\d)(?:\.\d+)?"
-                    r"|(?:[A-Z][a-z]{2} )?(\d{4}-\d\d-\d\d[T ]\d\d:\d\d:\d\d)(?:[.,]\d+)?( ?UTC|Z|[+-]\d\d:?\d\d)?|(\d{9,11})\.\d+)"
-                    r" \S+ ([^\s:\[]+)(?:\[\d+\])?: ")
+# `Nov 24 18:40:00 host mosquitto[123]: `, or with an ISO time or seconds in place of the first
+# three words
+PREFIX = re.compile(
+    r"(?:([A-Z][a-z]{2}) +(\d{1,2}) (\d\d:\d\d:\d\d)(?:\.\d+)?"
+    r"|(?:[A-Z][a-z]{2} )?(\d{4}-\d\d-\d\d[T ]\d\d:\d\d:\d\d)(?:[.,]\d+)?"
+    r"( ?UTC|Z|[+-]\d\d:?\d\d)?|(\d{9,11})\.\d+)"
+    r" \S+ ([^\s:\[]+)(?:\[\d+\])?: ")
 MONTHS = "Jan Feb Mar Apr May Jun Jul Aug Sep Oct Nov Dec".split()
 DAYS_BEFORE = (0, 31, 59, 90, 120, 151, 181, 212, 243, 273, 304, 334)
 HALF_A_YEAR = 182 * 86_400
-LOOKED_AT = 20  # an even number: only the line of a grant may begin like a stamp, and stands below another line
+# an even number: only the line of a grant may begin like a stamp, and stands below another line
+LOOKED_AT = 20
 
 
 class Stamps:
-    """Takes what stands before mosquitto's text off the lines. Without a format most of the first lines decide what that is."""
+    """Takes what stands before mosquitto's text off the lines. Without a format most of the first
+    lines decide what that is."""
 
     def __init__(self, form: str | None = None) -> None:
         self.form = form
@@ -29,12 +35,14 @@ class Stamps:
         self.prefix_time: int | None = None
 
     def decide(self, lines: Sequence[str]) -> None:
-        """Finds the form by the first lines of a file: the first of all may be cut, or begin like a stamp by chance."""
+        """Finds the form by the first lines of a file: the first of all may be cut, or
+        begin like a stamp by chance."""
         def most(pattern: re.Pattern[str], texts: Sequence[str]) -> bool:
             return 2 * sum(1 for t in texts if pattern.match(t)) > len(texts)
         self.prefixed = most(PREFIX, lines)
         if self.prefixed:
-            lines = [line[m.end():] for line in lines if (m := PREFIX.match(line)) and "mosquitto" in m[7]]
+            lines = [line[m.end():]
+                     for line in lines if (m := PREFIX.match(line)) and "mosquitto" in m[7]]
         if not self.form:
             self.pattern = next((p for p in (EPOCH, ISO) if most(p, lines)), self.pattern)
 
@@ -42,7 +50,8 @@ class Stamps:
         return bool(self.form or self.pattern or self.prefixed)
 
     def split(self, line: str) -> tuple[int | None, str]:
-        """The line's time in seconds, if it has one, and the line without it. Of another program's line no text."""
+        """The line's time in seconds, if it has one, and the line without it. Of
+        another program's line no text."""
         if not self.prefixed:
             return self.own(line)
         found = PREFIX.match(line)
@@ -76,27 +85,30 @@ class Stamps:
         try:
             if self.pattern is EPOCH:
                 return int(stamp)
-            time = datetime.strptime(stamp, self.form) if self.form else datetime.fromisoformat(stamp)
+            time = (datetime.strptime(stamp, self.form) if self.form
+                    else datetime.fromisoformat(stamp))
         except ValueError:
             return None
         return int(time.timestamp()) if time.tzinfo else timegm(time.timetuple())
 
     def of_prefix(self, found: re.Match[str]) -> int | None:
-        """A month and day without a year count in years of 365 days, one more where they go back by over half a year."""
+        """A month and day without a year count in years of 365 days, one more where they go
+        back by over half a year."""
         if found[6]:
             return int(found[6])
         try:
             if found[4]:
                 zone = (found[5] or "").strip()
-                time = datetime.fromisoformat(found[4] + ("+00:00" if zone in ("UTC", "Z", "") else zone))
+                time = datetime.fromisoformat(
+                    found[4] + ("+00:00" if zone in ("UTC", "Z", "") else zone))
                 return int(time.timestamp())
             hours, minutes, seconds = map(int, found[3].split(":"))
             day = DAYS_BEFORE[MONTHS.index(found[1])] + int(found[2])
         except ValueError:
             return None
-        time = ((self.years * 365 + day) * 24 + hours) * 3600 + minutes * 60 + seconds
-        if self.prefix_time is not None and time < self.prefix_time - HALF_A_YEAR:
+        passed = ((self.years * 365 + day) * 24 + hours) * 3600 + minutes * 60 + seconds
+        if self.prefix_time is not None and passed < self.prefix_time - HALF_A_YEAR:
             self.years += 1
-            time += 365 * 86_400
-        self.prefix_time = time
-        return time
+            passed += 365 * 86_400
+        self.prefix_time = passed
+        return passed

@@ -1,9 +1,10 @@
-"""What a broker knows at one moment, by the commands of a script: clients, sessions, subscriptions, retained messages."""
+"""What a broker knows at one moment, by the commands of a script: clients, sessions,
+subscriptions, retained messages."""
 from collections.abc import Iterator
 from dataclasses import dataclass, field
-from typing import Any
 
-Command = dict[str, Any]
+from .output import Command
+
 FOREVER = 4_294_967_295
 UNTOLD = FOREVER - 1  # of a session of MQTT 5 of which the log doesn't tell whether it is kept
 WITHOUT_RETAINED = 2  # Retain Handling: nothing is sent at the subscribe
@@ -27,7 +28,8 @@ class State:
     def __init__(self) -> None:
         self.now = 0
         self.clients: dict[str, Client] = {}
-        self.retained: dict[str, tuple[str | None, Command]] = {}  # by topic: the publisher's user name, and the publish
+        # by topic: the publisher's user name, and the publish
+        self.retained: dict[str, tuple[str | None, Command]] = {}
 
     def follow(self, command: Command, routed: bool | None = True) -> None:
         """One command of a script; `routed` is whether the broker routed the publish."""
@@ -61,10 +63,13 @@ class State:
 
     def lasts(self, client: Client) -> bool:
         """Whether the session is there for a new connection."""
-        return client.expiry > 0 if client.connected else client.ends is None or self.now < client.ends
+        if client.connected:
+            return client.expiry > 0
+        return client.ends is None or self.now < client.ends
 
     def commands(self) -> Iterator[Command]:
-        """A script after which the state is this one: the retained messages first, since nobody is to be sent them."""
+        """A script after which the state is this one: the retained messages first, since
+        nobody is to be sent them."""
         publishers: dict[tuple[str, str | None], list[Command]] = {}
         for user, command in self.retained.values():
             publishers.setdefault((command["client"], user), []).append(command)
@@ -77,8 +82,8 @@ class State:
                 yield from self.client_commands(name, client)
 
     def at_end(self) -> Iterator[Command]:
-        """What the next log begins with. Sessions of which two logs don't tell whether they are kept
-        are given up; of a client that is connected the next CONNACK will tell."""
+        """What the next log begins with. Sessions of which two logs don't tell whether they are
+        kept are given up; of a client that is connected the next CONNACK will tell."""
         for name, client in list(self.clients.items()):
             if client.expiry == UNTOLD and client.connected:
                 client.expiry = 0
@@ -90,6 +95,7 @@ class State:
         left = client.expiry if client.connected or client.ends is None else client.ends - self.now
         yield connect_command(name, client.user) | ({"session_expiry": left} if left else {})
         for command in client.subscriptions.values():
-            yield command if command["filter"].startswith("$share/") else command | {"handling": WITHOUT_RETAINED}
+            yield (command if command["filter"].startswith("$share/")
+                   else command | {"handling": WITHOUT_RETAINED})
         if not client.connected:
             yield {"do": "disconnect", "client": name}

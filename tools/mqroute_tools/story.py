@@ -1,15 +1,18 @@
-"""What a script has done up to a line, as far as causes want it: users, who is away, what is retained, what was published.
+"""What a script has done up to a line, as far as causes want it: users, who is away, what is
+retained, what was published.
 
-Sessions, subscriptions and the clock are the script's alone, and so the same in both runs. What may differ are the
-rights, what is retained, what waits for clients that are away, and whose turn it is in a group.
+Sessions, subscriptions and the clock are the script's alone, and so the same in both runs. What may
+differ are the rights, what is retained, what waits for clients that are away, and whose turn it is
+in a group.
 """
 from array import array
-from typing import Any, NamedTuple
+from typing import NamedTuple
 
 from .causes import Cause, Found
-from .output import Block
+from .output import Block, Command
 
-RIGHTS = 200_000  # so many rights are remembered; without one a cause is less often known, and never wrong
+# so many rights are remembered; without one a cause is less often known, and never wrong
+RIGHTS = 200_000
 
 
 class Stored(NamedTuple):
@@ -44,7 +47,8 @@ class Entry(NamedTuple):
 
 
 class Log:
-    """The publishes of QoS 1 and 2 since somebody is away, each with the one before it of the same topic."""
+    """The publishes of QoS 1 and 2 since somebody is away, each with the one
+    before it of the same topic."""
 
     def __init__(self) -> None:
         self.causes: list[Cause | None] = [None]
@@ -71,13 +75,15 @@ class Log:
         """The publishes of a topic after a line, in order."""
         found, place = [], self.last.get(topic, 0)
         while place and self.lines[place] > line:
-            found.append(Entry(self.lines[place], self.payloads[place], self.deadlines[place], self.causes[self.why[place]]))
+            found.append(Entry(self.lines[place], self.payloads[place], self.deadlines[place],
+                               self.causes[self.why[place]]))
             place = self.earlier[place]
         return found[::-1]
 
 
 class Rights:
-    """Who may read what in each run, as far as copies have shown it since the last access list was set."""
+    """Who may read what in each run, as far as copies have shown it since the
+    last access list was set."""
 
     def __init__(self) -> None:
         self.of: dict[str, dict[str, tuple[bool, bool]]] = {}
@@ -114,7 +120,7 @@ class Story:
         self.renamed = False  # the client that connects has another user name than before,
         self.former: str | None = None  # which was this one
 
-    def begin(self, command: dict[str, Any], before: Block, after: Block) -> None:
+    def begin(self, command: Command, before: Block, after: Block) -> None:
         """The user name, which counts at the connect itself."""
         if command.get("do") == "connect" and not (before.refused and after.refused):
             client, user = str(command.get("client")), command.get("user")
@@ -122,15 +128,16 @@ class Story:
             self.renamed = self.former != user
             self.users[client] = user
 
-    def end(self, number: int, command: dict[str, Any], before: Block, after: Block) -> None:
+    def end(self, number: int, command: Command, before: Block, after: Block) -> None:
         """What the line leaves behind."""
         do, client = command.get("do"), str(command.get("client"))
         if before.refused and after.refused:
             return
+        cause = self.refusal(command, before, after)
         if do == "publish":
-            self.published(number, command, self.refusal(command, before, after))
-        elif before.refused or after.refused:
-            self.sessions.setdefault(client, Found("", self.refusal(command, before, after), number))
+            self.published(number, command, cause)
+        elif cause:
+            self.sessions.setdefault(client, Found("", cause, number))
             self.clocks_differ |= do == "advance"
         elif do == "connect":
             self.connected(client, command)
@@ -142,30 +149,34 @@ class Story:
             self.lists += 1
             self.rights.clear()
 
-    def refusal(self, command: dict[str, Any], before: Block, after: Block) -> Cause | None:
+    def refusal(self, command: Command, before: Block, after: Block) -> Cause | None:
         """Why one run alone accepted the line."""
         name = after.refused or before.refused
         if not name:
             return None
         if command.get("do") == "publish":
-            return Cause("publisher", name, bool(after.refused), self.users.get(str(command.get("client"))))
+            return Cause(
+                "publisher", name, bool(after.refused), self.users.get(str(command.get("client"))))
         return Cause("session", name, bool(after.refused), did=str(command.get("do")))
 
-    def connected(self, client: str, command: dict[str, Any]) -> None:
+    def connected(self, client: str, command: Command) -> None:
         (self.kept.add if command.get("session_expiry", 0) else self.kept.discard)(client)
         if self.renamed:
             self.rights.forget(client)
         if self.left.pop(client, None) and not self.left:
             self.log.clear()
 
-    def published(self, number: int, command: dict[str, Any], cause: Cause | None) -> None:
-        expiry, topic, payload = command.get("expiry"), str(command.get("topic")), command.get("payload", "")
+    def published(self, number: int, command: Command, cause: Cause | None) -> None:
+        expiry, payload = command.get("expiry"), command.get("payload", "")
+        topic = str(command.get("topic"))
         deadline = None if expiry is None else self.now + expiry
         if self.left and command.get("qos", 0) > 0:
-            self.log.add(topic, Entry(number, hash(payload), -1 if deadline is None else deadline, cause))
+            ends = -1 if deadline is None else deadline
+            self.log.add(topic, Entry(number, hash(payload), ends, cause))
             self.expiring += deadline is not None
         if command.get("retain"):
-            self.retain(topic, Stored(number, str(command.get("client")), deadline) if payload and expiry != 0 else None, cause, number)
+            stored = Stored(number, str(command.get("client")), deadline)
+            self.retain(topic, stored if payload and expiry != 0 else None, cause, number)
 
     def retain(self, topic: str, stored: Stored | None, cause: Cause | None, number: int) -> None:
         runs = self.retained(topic).runs

@@ -1,4 +1,5 @@
-"""A line of a script as mqroute reads it: JSON as the standard has it, where Python's reader takes more and less."""
+"""A line of a script as mqroute reads it: JSON as the standard has it, where Python's
+reader takes more and less."""
 import json
 import re
 from typing import Any
@@ -30,7 +31,8 @@ def whole(text: str) -> int | float:
 
 
 def has_half(value: Any) -> bool:
-    """Whether a text has half of a surrogate pair; those of an object have been looked at by `members`."""
+    """Whether a text has half of a surrogate pair; those of an object have
+    been looked at by `members`."""
     if isinstance(value, list):
         return any(map(has_half, value))
     return isinstance(value, str) and bool(SURROGATE.search(value))
@@ -63,7 +65,8 @@ def read(line: bytes) -> Any:
         text = line.decode("utf-8")
         if line.count(b"[") + line.count(b"{") > MOST_NESTING and nesting(text) > MOST_NESTING:
             raise NoJson(f"nested deeper than {MOST_NESTING}")
-        return whole_texts(json.loads(text, parse_constant=constant, parse_float=real, parse_int=whole, object_pairs_hook=members))
+        return whole_texts(json.loads(text, parse_constant=constant, parse_float=real,
+                                      parse_int=whole, object_pairs_hook=members))
     except UnicodeDecodeError as fault:
         raise NoJson(f"byte {fault.start + 1} is not UTF-8") from fault
     except json.JSONDecodeError as fault:

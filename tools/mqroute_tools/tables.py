@@ -8,12 +8,15 @@ def table(head: list[str], rows: Iterable[list[str]]) -> str:
     lines = [head, *rows]
     widths = [max(len(line[i]) for line in lines) for i in range(len(head))]
     right = [all(line[i].lstrip("-").isdigit() for line in lines[1:]) for i in range(len(head))]
-    return "\n".join("  ".join(c.rjust(w) if r else c.ljust(w) for c, w, r in zip(line, widths, right)).rstrip() for line in lines)
+    return "\n".join(
+        "  ".join(c.rjust(w) if r else c.ljust(w) for c, w, r in zip(line, widths, right)).rstrip()
+        for line in lines)
 
 
 def shown(text: str) -> str:
     """A client id or topic on one line of a table: control characters are told as JSON has them."""
-    return text if text.isprintable() and text == text.strip() and text else json.dumps(text, ensure_ascii=False)
+    plain = text.isprintable() and text == text.strip() and text
+    return text if plain else json.dumps(text, ensure_ascii=False)
 
 
 def user_shown(user: str | None) -> str:

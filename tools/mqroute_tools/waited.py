@@ -1,4 +1,5 @@
-"""Copies that waited for a client, and come when it connects again: which publish each is of, and why one is missing."""
+"""Copies that waited for a client, and come when it connects again: which publish each is
+of, and why one is missing."""
 from collections import Counter, defaultdict
 
 from .causes import AFTER, BEFORE, QUEUE, READER, UNKNOWN, Cause, Found, Queues
@@ -9,11 +10,13 @@ from .story import Entry, Left, Story
 class Waited:
     """What one connect was answered in both runs.
 
-    While a client is away its subscriptions don't change: where one copy of a topic waited, each accepted publish of
-    the topic with QoS 1 or 2 was to wait, if the client might read it and the queue wasn't full. A queue only grows.
+    While a client is away its subscriptions don't change: where one copy of a topic waited, each
+    accepted publish of the topic with QoS 1 or 2 was to wait, if the client might read it and the
+    queue wasn't full. A queue only grows.
     """
 
-    def __init__(self, story: Story, queues: Queues, client: str, blocks: tuple[Block, Block]) -> None:
+    def __init__(self, story: Story, queues: Queues, client: str,
+                 blocks: tuple[Block, Block]) -> None:
         self.story, self.queues, self.client = story, queues, client
         self.left: Left | None = None if story.clocks_differ else story.left.get(client)
         self.counts = [len(block.copies) for block in blocks]
@@ -22,23 +25,30 @@ class Waited:
             for copy in map(read_json, block.copies):
                 self.payloads[run][copy["topic"]].append(hash(copy["payload"]))
         self.origins: dict[str, tuple[list[Entry], list[Entry]] | None] = {}
+        self.expiring = 0  # publishes with an expiry while the client was away
         if self.left:
             topics = sorted(self.payloads[BEFORE].keys() | self.payloads[AFTER].keys())
-            self.origins = {topic: self.origin(topic) for topic in topics}
+            self.origins = {topic: self.origin(topic, self.left) for topic in topics}
+            self.expiring = story.expiring - self.left.expiring
         self.newest = [self.newest_in(run) for run in (BEFORE, AFTER)]
 
     def steady(self) -> bool:
         """No access list was set while the client was away, so that its rights stayed."""
         return self.left is not None and self.left.lists == self.story.lists
 
-    def origin(self, topic: str) -> tuple[list[Entry], list[Entry]] | None:
-        """The publishes that the copies of a topic are of, in each run; None where that can't be told."""
-        sent = [e for e in self.story.log.since(topic, self.left.line) if not self.story.over(e.deadline)]
-        both = [self.placed([e for e in sent if e.accepted(run)], self.payloads[run][topic]) for run in (BEFORE, AFTER)]
-        return None if None in both else (both[0], both[1])
+    def origin(self, topic: str, left: Left) -> tuple[list[Entry], list[Entry]] | None:
+        """The publishes that the copies of a topic are of, in each run; None
+        where that can't be told."""
+        sent = [e for e in self.story.log.since(topic, left.line)
+                if not self.story.over(e.deadline)]
+        before, after = (
+            self.placed([e for e in sent if e.accepted(run)], self.payloads[run][topic])
+            for run in (BEFORE, AFTER))
+        return None if before is None or after is None else (before, after)
 
     def placed(self, sent: list[Entry], payloads: list[int]) -> list[Entry] | None:
-        """The publishes that came of those that were sent, by what they say: the first that can be, if no others can."""
+        """The publishes that came of those that were sent, by what they say: the first that
+        can be, if no others can."""
         first = taken(sent, payloads)
         if self.steady():  # a part of them only where the queue was full, and then the first ones
             return first if first == sent[:len(payloads)] else None
@@ -59,7 +69,7 @@ class Waited:
         lost = [Found("lost", self.missing(topic, e, AFTER), e.line) for e in gone]
         gained = [Found("gained", self.missing(topic, e, BEFORE), e.line) for e in come]
         pairs = min(len(lost), len(gained))
-        changed = [next((f for f in pair if f.cause.kind == "publisher"), Found("", UNKNOWN))._replace(what="changed") for pair in zip(lost, gained)]
+        changed = [of_two(*pair) for pair in zip(lost, gained)]
         return changed + lost[pairs:] + gained[pairs:]
 
     def missing(self, topic: str, entry: Entry, run: int) -> Cause:
@@ -68,15 +78,22 @@ class Waited:
             return entry.cause
         if entry.line < self.newest[run]:
             return READER  # a later copy found room
-        most = self.counts[run] + self.story.expiring - self.left.expiring
+        most = self.counts[run] + self.expiring
         may = None
         if self.steady():
-            may = True if self.payloads[run][topic] else self.story.rights.may_read(self.client, topic, run)
+            may = (True if self.payloads[run][topic]
+                   else self.story.rights.may_read(self.client, topic, run))
         if may:
             self.queues.full_at(run, most)
         if may is None:
             return Cause("waited", run=run, least=self.counts[run], most=most)
         return QUEUE if may else READER
+
+
+def of_two(lost: Found, gained: Found) -> Found:
+    """One change of a copy that is lost and one that is gained."""
+    found = (one for one in (lost, gained) if one.cause.kind == "publisher")
+    return next(found, Found("", UNKNOWN))._replace(what="changed")
 
 
 def taken(sent: list[Entry], payloads: list[int]) -> list[Entry] | None:

@@ -1,13 +1,15 @@
-"""Wills. A script has none; but a client that publishes, and is gone at once, does to all others what its will does.
+"""Wills. A script has none; but a client that publishes, and is gone at once, does to all others
+what its will does.
 
-A PUBLISH with the payload `will`, before its client's disconnect and sent to nobody of that name, can be run as a will: it goes
-with the connection, and the broker has to publish it when that ends without a DISCONNECT.
+A PUBLISH with the payload `will`, before its client's disconnect and sent to nobody of that name,
+can be run as a will: it goes with the connection, and the broker has to publish it when that ends
+without a DISCONNECT.
 """
 from collections.abc import Iterable
 from typing import NamedTuple
 
-from .agreement import Command, copies_of
-from .output import Block
+from .agreement import copies_of
+from .output import Block, Command
 
 PAYLOAD = "will"
 
@@ -30,7 +32,8 @@ class Wills:
             client = command.get("client", "")
             if command["do"] == "connect":
                 connects[client] = number
-            if command["do"] == "disconnect" and before and client in connects and is_will(before[1], before[2], client):
+            if (command["do"] == "disconnect" and before and client in connects
+                    and is_will(before[1], before[2], client)):
                 will = Will(before[1], before[2])
                 self.given[connects[client]] = self.due[number] = will
                 self.published.add(before[0])
@@ -39,5 +42,6 @@ class Wills:
 
 def is_will(command: Command, block: Block, client: str) -> bool:
     """Whether it's what this client's will can do: a dead client gets no copy."""
-    mine = (command["do"], command.get("client"), command.get("payload")) == ("publish", client, PAYLOAD)
+    said = command["do"], command.get("client"), command.get("payload")
+    mine = said == ("publish", client, PAYLOAD)
     return mine and all(copy.client != client for copy in copies_of(block))

@@ -13,9 +13,9 @@ from .inference import Beginning, beginning
 from .looks import HEAD, LOG, OF_MOSQUITTO, kind, wrong
 from .numbers import whole_number
 from .order import LogFile, in_order
-from .output import is_blank
-from .sessions import FOREVER, NONE, Command
-from .state import UNTOLD, State
+from .output import Command, is_blank
+from .sessions import NONE
+from .state import FOREVER, UNTOLD, State
 
 PIECE = 1 << 20
 
@@ -40,9 +40,11 @@ class Writer(Converter):
     def tell_before(self) -> None:
         for client in self.begins.inferred:
             self.seen_before.add(client)
-            self.notes.add("clients were connected before the log began: their subscriptions are inferred from what they were sent", client)
+            self.notes.add("clients were connected before the log began: their subscriptions are "
+                           "inferred from what they were sent", client)
         for client in self.begins.nameless:
-            self.notes.add("of them have no user name in the log, and so none in the script", client)
+            self.notes.add(
+                "of them have no user name in the log, and so none in the script", client)
 
     def start_with(self, follow: bool) -> None:
         """Writes the commands of before the log."""
@@ -60,14 +62,14 @@ class Writer(Converter):
             self.topics.add(command["topic"])
         if self.state:
             for _, each in self.commands[written:]:
-                self.follow(each, routed)
+                self.follow(self.state, each, routed)
 
-    def follow(self, command: Command, routed: bool | None) -> None:
+    def follow(self, state: State, command: Command, routed: bool | None) -> None:
         if command["do"] == "connect":
-            if self.for_will and command["client"] in self.state.clients:
+            if self.for_will and command["client"] in state.clients:
                 return
             command = command | ({"session_expiry": UNTOLD} if self.untold else {})
-        self.state.follow(command, routed)
+        state.follow(command, routed)
 
     def come_for_will(self, place: int, command: Command) -> None:
         """The state keeps what the session has: it may be there when the client returns."""
@@ -93,7 +95,8 @@ class Writer(Converter):
             return FOREVER
         self.untold = place not in self.begins.ended
         if not clean and place not in self.begins.ended:
-            self.notes.add("MQTT 5 sessions may be kept after their connection, and no later CONNACK tells: they are not (--session-expiry)",
+            self.notes.add("MQTT 5 sessions may be kept after their connection, and no later "
+                           "CONNACK tells: they are not (--session-expiry)",
                            f"line {place}: {client}")
         return 0
 
@@ -102,7 +105,8 @@ class Writer(Converter):
             super().closed(client)
 
     def taken_over(self, client: str) -> None:
-        """The copies of the will, if there is to be one, stand before the line that tells whether there is."""
+        """The copies of the will, if there is to be one, stand before the line
+        that tells whether there is."""
         super().taken_over(client)
         will = self.connected[client].will
         if will:
@@ -125,11 +129,17 @@ Kind = TypeVar("Kind", bound=Writer)
 
 
 def add_options(parser: argparse.ArgumentParser) -> None:
-    parser.add_argument("--time-format", metavar="FORMAT", help="log_timestamp_format as in mosquitto.conf (seconds, ISO and none are found without)")
+    parser.add_argument("--time-format", metavar="FORMAT",
+                        help="log_timestamp_format as in mosquitto.conf (seconds, ISO and none are "
+                        "found without)")
     parser.add_argument("--session-expiry", metavar="SECONDS", type=whole_number(0, FOREVER),
-                        help="Session Expiry Interval of MQTT 5 clients that connect without Clean Start; without it the next CONNACK tells")
-    parser.add_argument("--no-inference", action="store_true", help="nothing of before the log but what --begin has")
-    parser.add_argument("--begin", metavar="FILE", help="a script to begin with, such as what --state wrote for the log before this one")
+                        help="Session Expiry Interval of MQTT 5 clients that connect without Clean "
+                        "Start; without it the next CONNACK tells")
+    parser.add_argument("--no-inference", action="store_true",
+                        help="nothing of before the log but what --begin has")
+    parser.add_argument("--begin", metavar="FILE",
+                        help="a script to begin with, such as what --state wrote for the log "
+                        "before this one")
 
 
 class Logs:
@@ -198,9 +208,9 @@ def writer(wanted: type[Kind], options: argparse.Namespace, logs: Logs,
            follow: bool = False) -> Kind:
     """What reads the logs a second time."""
     state = read_state(options.begin)
-    begins = Beginning(state) if options.no_inference else beginning(logs.streams(), options.time_format, state)
+    begins = (Beginning(state) if options.no_inference
+              else beginning(logs.streams(), options.time_format, state))
     found = wanted(options.session_expiry, options.time_format, begins)
     found.logs = logs
     found.start_with(follow)
     return found
-

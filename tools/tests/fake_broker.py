@@ -5,7 +5,8 @@ from collections.abc import Callable
 from worked import HERE, PROGRAM
 
 sys.path.insert(0, str(HERE))
-from mqroute_tools.agreement import Acknowledged, Sessions, copies_of, different_copies, different_order, different_reasons  # noqa: E402
+from mqroute_tools.agreement import (  # noqa: E402
+    Acknowledged, Sessions, copies_of, different_copies, different_order, different_reasons)
 from mqroute_tools.kinds import Difference, apart  # noqa: E402
 from mqroute import Oracle  # noqa: E402
 from mqroute_tools.random_scripts import Use  # noqa: E402
@@ -38,7 +39,9 @@ class Fake:
             sessions.follow(command)
             ours, copies = copies_of(block), copies_of(theirs)
             texts = different_copies(ours, copies, sessions) + different_order(ours, copies)
-            found += apart(number, "will" if number in wills.due else command["do"], texts + different_reasons(command, block, Acknowledged(theirs.reason), present))
+            found += apart(
+                number, "will" if number in wills.due else command["do"],
+                texts + different_reasons(command, block, Acknowledged(theirs.reason), present))
         return found
 
 
@@ -48,8 +51,11 @@ def keeps_first_options(script: Script) -> Script:
     taken = []
     for command in script:
         if command["do"] == "subscribe":
-            kept = first.setdefault((command["client"], command["filter"]), {name: command[name] for name in ("no_local", "rap") if name in command})
-            command = {name: value for name, value in command.items() if name not in ("no_local", "rap")} | kept
+            kept = first.setdefault(
+                (command["client"], command["filter"]),
+                {name: command[name] for name in ("no_local", "rap") if name in command})
+            command = {name: value
+                       for name, value in command.items() if name not in ("no_local", "rap")} | kept
         elif command["do"] in ("unsubscribe", "connect"):
             first = {key: kept for key, kept in first.items() if key[0] != command["client"]}
         taken.append(command)
@@ -57,12 +63,14 @@ def keeps_first_options(script: Script) -> Script:
 
 
 def expiry_0_is_none(script: Script) -> Script:
-    return [{name: value for name, value in command.items() if (name, value) != ("expiry", 0)} for command in script]
+    return [{name: value for name, value in command.items() if (name, value) != ("expiry", 0)}
+            for command in script]
 
 
 def keeps_what_is_cleared(script: Script) -> Script:
     """An empty retained message of QoS 1 or 2 clears nothing."""
-    return [command | {"retain": False} if command.get("retain") and not command["payload"] and command.get("qos") else command for command in script]
+    return [command | {"retain": False} if command.get("retain") and not command["payload"]
+            and command.get("qos") else command for command in script]
 
 
 def forgets_sessions(script: Script) -> Script:
@@ -86,4 +94,5 @@ def forgets_sessions(script: Script) -> Script:
 
 def drops_wills(script: Script) -> Script:
     """A connection that ends without a DISCONNECT leaves no will."""
-    return [{"do": "stat"} if now.get("payload") == "will" and then["do"] == "disconnect" else now for now, then in zip(script, [*script[1:], {"do": "stat"}])]
+    return [{"do": "stat"} if now.get("payload") == "will" and then["do"] == "disconnect" else now
+            for now, then in zip(script, [*script[1:], {"do": "stat"}])]

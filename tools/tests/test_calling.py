@@ -8,7 +8,8 @@ from worked import TOP
 class Calling(unittest.TestCase):
     def test_blocks(self):
         text = (TOP / "docs/CALLING.md").read_text("utf-8")
-        code = "".join(file.read_text("utf-8") for file in sorted((TOP / "crates/mq_example/src").glob("*.rt")))
+        code = "".join(file.read_text("utf-8")
+                       for file in sorted((TOP / "crates/mq_example/src").glob("*.rt")))
         blocks = re.findall(r"```rust\n(.*?)```", text, re.S)
         self.assertGreater(len(blocks), 1)
         for block in blocks:

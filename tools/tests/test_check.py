@@ -1,4 +1,5 @@
-"""What is said of lines that are no commands; and that these are the lines that the program refuses so."""
+"""What is said of lines that are no commands; and that these are the lines
+that the program refuses so."""
 import json
 import random
 import subprocess
@@ -13,14 +14,18 @@ sys.path.insert(0, str(HERE))
 from mqroute_tools.commands import COMMANDS, faults, line_faults  # noqa: E402
 
 SAID = [
-    ({"do": "publish", "client": "a", "topic": "x", "payloud": ""}, ['publish has no field "payloud" (payload?)']),
-    ({"do": "publish", "client": "a", "topic": "x", "QoS": 1}, ['publish has no field "QoS" (qos?)']),
+    ({"do": "publish", "client": "a", "topic": "x", "payloud": ""},
+     ['publish has no field "payloud" (payload?)']),
+    ({"do": "publish", "client": "a", "topic": "x", "QoS": 1},
+     ['publish has no field "QoS" (qos?)']),
     ({"do": "publish", "client": "a", "topic": "x", "when": 1}, ['publish has no field "when"']),
     ({"do": "stat", "client": "a"}, ['stat has no field "client"']),
     ({"do": "publish", "topic": 1}, ['publish wants the field "client"', "topic is 1: no text"]),
     ({"do": "subscribe", "client": "a", "filter": "x", "qos": 3}, ["qos is 3: not from 0 to 2"]),
-    ({"do": "subscribe", "client": "a", "filter": "x", "id": 0}, ["id is 0: not from 1 to 268,435,455"]),
-    ({"do": "subscribe", "client": "a", "filter": "x", "rap": 1}, ["rap is 1: neither true nor false"]),
+    ({"do": "subscribe", "client": "a", "filter": "x", "id": 0},
+     ["id is 0: not from 1 to 268,435,455"]),
+    ({"do": "subscribe", "client": "a", "filter": "x", "rap": 1},
+     ["rap is 1: neither true nor false"]),
     ({"do": "advance", "seconds": 1.5}, ["seconds is 1.5: no whole number"]),
     ({"do": "advance", "seconds": True}, ["seconds is true: no whole number"]),
     ({"do": "advance"}, ['advance wants the field "seconds"']),
@@ -30,7 +35,8 @@ SAID = [
     ({"client": "a"}, ['"do" is missing']),
     ([{"do": "stat"}], ['[{"do": "stat"}] is no object']),
     ({"do": "acl", "text": "x" * 100, "texts": None}, ['acl has no field "texts"']),
-    ({"do": "publish", "client": "a", "topic": ["x" * 100]}, ['topic is ["' + "x" * 58 + "..: no text"]),
+    ({"do": "publish", "client": "a", "topic": ["x" * 100]},
+     ['topic is ["' + "x" * 58 + "..: no text"]),
 ]
 TEXTS = [
     (b'{"do":"stat"', "no JSON: expecting ',' delimiter, column 13"),
@@ -39,14 +45,18 @@ TEXTS = [
     (b'{"do":"\xff"}', "no JSON: byte 8 is not UTF-8"),
     (b'{"do":"advance","seconds":NaN}', "no JSON: NaN is no number in JSON"),
     (b'{"do":"advance","seconds":1e999}', "no JSON: the number 1e999 is too great"),
-    (b'{"do":"connect","client":"\\ud800"}', "no JSON: half of a surrogate pair stands alone in a text"),
+    (b'{"do":"connect","client":"\\ud800"}',
+     "no JSON: half of a surrogate pair stands alone in a text"),
     (b"[" * 128 + b"]" * 128, "no JSON: nested deeper than 127"),
     (b" " * 1_048_577, "1,048,577 bytes, where 1,048,576 may be"),
 ]
-ODD = [b"0", b"1", b"2", b"3", b"-0", b"-1", b"1.0", b"1e0", b"268435455", b"268435456", b"4294967295", b"4294967296", b"18446744073709551615",
-       b"18446744073709551616", b"9" * 400, b"1e308", b"1e309", b"-1e309", b"1e-999", b"01", b"+1", b"NaN", b"Infinity", b"true", b"false", b"null", b"[]", b"{}",
-       b'""', b'"x"', b'"\\u0000"', b'"\\ud800"', b'"\\ud83d\\ude00"', b'"\\ude00\\ud83d"', b'"\\x41"', b'"\x01"', b'"\x7f"', b'"\xff"', b'"\xed\xa0\x80"', b"'x'",
-       b"[" * 126 + b"]" * 126, b"[" * 127 + b"]" * 127, b'[["\\udfff"]]', b'{"a":[["\\ud800"]]}', b'{"a":1,"a":"\\ud800","a":2}']
+ODD = [b"0", b"1", b"2", b"3", b"-0", b"-1", b"1.0", b"1e0", b"268435455", b"268435456",
+       b"4294967295", b"4294967296", b"18446744073709551615", b"18446744073709551616", b"9" * 400,
+       b"1e308", b"1e309", b"-1e309", b"1e-999", b"01", b"+1", b"NaN", b"Infinity", b"true",
+       b"false", b"null", b"[]", b"{}", b'""', b'"x"', b'"\\u0000"', b'"\\ud800"',
+       b'"\\ud83d\\ude00"', b'"\\ude00\\ud83d"', b'"\\x41"', b'"\x01"', b'"\x7f"', b'"\xff"',
+       b'"\xed\xa0\x80"', b"'x'", b"[" * 126 + b"]" * 126, b"[" * 127 + b"]" * 127,
+       b'[["\\udfff"]]', b'{"a":[["\\ud800"]]}', b'{"a":1,"a":"\\ud800","a":2}']
 
 
 def random_line(chance: random.Random) -> bytes:
@@ -57,15 +67,20 @@ def random_line(chance: random.Random) -> bytes:
     for name, field in fields.items():
         if chance.random() < (0.97 if field.required else 0.4):
             usual = {"text": b'"x"', "flag": b"true", "number": b"%d" % field.low}[field.kind]
-            parts.append((json.dumps(name).encode(), chance.choice(ODD) if chance.random() < 0.2 else usual))
+            parts.append(
+                (json.dumps(name).encode(), chance.choice(ODD) if chance.random() < 0.2 else usual))
     if chance.random() < 0.1:
-        parts.append((chance.choice([b'"y"', b'"do"', b'"client"', b'"\\u0064o"', b'"\\ud800"', b"do"]), chance.choice(ODD + [b'"stat"'])))
+        parts.append(
+            (chance.choice([b'"y"', b'"do"', b'"client"', b'"\\u0064o"', b'"\\ud800"', b"do"]),
+             chance.choice(ODD + [b'"stat"'])))
     chance.shuffle(parts)
-    space = chance.choice([b"", b" ", b"\t", b"\r", b"\x0c", b"\xc2\xa0"]) if chance.random() < 0.2 else b""
+    space = (chance.choice([b"", b" ", b"\t", b"\r", b"\x0c", b"\xc2\xa0"]) if chance.random() < 0.2
+             else b"")
     line = b"{" + b",".join(name + space + b":" + value for name, value in parts) + b"}" + space
     if chance.random() < 0.1:
         at = chance.randrange(len(line))
-        line = line[:at] + chance.choice([b"", b'"', b"\\", b"}", b"[", b",", b"\xff", b" "]) + line[at + chance.randrange(2):]
+        line = (line[:at] + chance.choice([b"", b'"', b"\\", b"}", b"[", b",", b"\xff", b" "])
+                + line[at + chance.randrange(2):])
     return line
 
 
@@ -81,16 +96,21 @@ class Said(unittest.TestCase):
     def run_tool(self, script: bytes, *words: str) -> tuple[int, str]:
         with tempfile.TemporaryDirectory() as folder:
             Path(folder, "script").write_bytes(script)
-            done = subprocess.run([sys.executable, HERE / "check.py", *words], input=script, cwd=folder, capture_output=True)
+            done = subprocess.run([sys.executable, HERE / "check.py", *words], input=script,
+                                  cwd=folder, capture_output=True)
             return done.returncode, done.stdout.decode("utf-8") + done.stderr.decode("utf-8")
 
     def test_the_tool(self):
         for words in (["script"], ["-"], []):
-            told = "".join("{0}:%s\n" % text for text in ('4: stat has no field "x"', '4: stat has no field "y"', '5: there is no command "ä"'))
-            self.assertEqual(self.run_tool(b'{"do":"stat"}\n\n \r\n{"do":"stat","x":1,"y":1}\n{"do":"\xc3\xa4"}', *words),
+            told = "".join("{0}:%s\n" % text
+                           for text in ('4: stat has no field "x"', '4: stat has no field "y"',
+                                        '5: there is no command "ä"'))
+            self.assertEqual(self.run_tool(
+                b'{"do":"stat"}\n\n \r\n{"do":"stat","x":1,"y":1}\n{"do":"\xc3\xa4"}', *words),
                              (1, told.format(*words or "-")))
         self.assertEqual(self.run_tool(b'{"do":"stat"}\n', "script"), (0, ""))
-        self.assertEqual(self.run_tool(b"", "nowhere"), (2, "check: nowhere: No such file or directory\n"))
+        self.assertEqual(
+            self.run_tool(b"", "nowhere"), (2, "check: nowhere: No such file or directory\n"))
 
 
 @wants_program
@@ -100,7 +120,8 @@ class Agrees(unittest.TestCase):
         found = {number for number, _ in faults(line + b"\n" for line in script.split(b"\n"))}
         lines = script.split(b"\n")
         for number in sorted(found ^ refused):
-            self.fail(f"{name} line {number}: {lines[number - 1][:200]!r}: the program {'refuses' if number in refused else 'takes'} it")
+            self.fail(f"{name} line {number}: {lines[number - 1][:200]!r}: the program "
+                      f"{'refuses' if number in refused else 'takes'} it")
         return len(refused)
 
     def test_worked_scripts(self):

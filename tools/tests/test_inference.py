@@ -1,4 +1,5 @@
-"""Logs that begin on a running broker, the rule by which subscriptions are inferred, and states handed on from log to log."""
+"""Logs that begin on a running broker, the rule by which subscriptions are inferred, and states
+handed on from log to log."""
 import io
 import json
 import os
@@ -25,19 +26,23 @@ FOREVER = 4294967295
 
 
 def sent(client: str, topic: str, qos: int = 0, retain: int = 0, dup: int = 0) -> str:
-    return f"Sending PUBLISH to {client} (d{dup}, q{qos}, r{retain}, m1, '{topic}', ... (2 bytes))\n"
+    return (
+        f"Sending PUBLISH to {client} (d{dup}, q{qos}, r{retain}, m1, '{topic}', ... (2 bytes))\n")
 
 
 def leaving(client: str, name: str) -> str:
-    return f"Received UNSUBSCRIBE from {client}\n\t{name}\n{client} {name}\nSending UNSUBACK to {client}\n"
+    return (f"Received UNSUBSCRIBE from {client}\n\t{name}\n{client} {name}\n"
+            f"Sending UNSUBACK to {client}\n")
 
 
 def routed(topic: str, *receivers: str, qos: int = 1, copy: int = 0) -> str:
     release = "Received PUBREL from p (Mid: 1)\n" if qos == 2 else ""
-    return published("p", topic, f"d0, q{qos}, r0, m1") + release + "".join(sent(r, topic, copy) for r in receivers)
+    return (published("p", topic, f"d0, q{qos}, r0, m1") + release
+            + "".join(sent(r, topic, copy) for r in receivers))
 
 
-def written(text: str, expiry: int | None = None, begin: State | None = None) -> tuple[list[dict], Writer]:
+def written(text: str, expiry: int | None = None,
+            begin: State | None = None) -> tuple[list[dict], Writer]:
     found = Writer(expiry, None, beginning([io.BytesIO(text.encode())], None, begin or State()))
     found.start_with(follow=True)
     return [command for _, command in placed_commands(found, [io.BytesIO(text.encode())])], found
@@ -51,7 +56,9 @@ def before(text: str) -> list[dict]:
 
 class Case(unittest.TestCase):
     def filters(self, text: str, *names: str, client: str = "b") -> None:
-        self.assertEqual([c["filter"] for c in before(text) if c["do"] == "subscribe" and c["client"] == client], list(names))
+        self.assertEqual(
+            [c["filter"] for c in before(text) if c["do"] == "subscribe" and c["client"] == client],
+            list(names))
 
 
 class Rule(Case):
@@ -59,7 +66,8 @@ class Rule(Case):
 
     def test_a_topic(self):
         self.assertEqual(before(routed("x/y", "b", copy=1)), [
-            {"do": "connect", "client": "b"}, {"do": "subscribe", "client": "b", "filter": "x/y", "qos": 1, "handling": 2}])
+            {"do": "connect", "client": "b"},
+            {"do": "subscribe", "client": "b", "filter": "x/y", "qos": 1, "handling": 2}])
         self.filters(routed("x", "b") + routed("y", "b"), "x", "y")
 
     def test_nothing_that_was_withheld(self):
@@ -75,18 +83,23 @@ class Rule(Case):
         self.filters(several + routed("h/9/e"), "h/0/e", "h/1/e", "h/2/e")
         self.filters(routed("h/1/e", "b") + routed("h/2/e", "b"), "h/1/e", "h/2/e")
         self.filters("".join(routed(f"$h/{i}", "b") for i in range(3)), "$h/+")
-        self.filters("".join(routed(f"{i}/h/{i}/e", "b") for i in range(3)) + routed("1/h/1/f") + routed("1/g/1/e"), "+/h/+/e")
-        self.filters("".join(routed(f"{i}/h" + i * "/e", "b") for i in range(3)) + routed("1/g/1/e"), "+/h/#")
+        self.filters("".join(routed(f"{i}/h/{i}/e", "b") for i in range(3)) + routed("1/h/1/f")
+                     + routed("1/g/1/e"), "+/h/+/e")
+        self.filters("".join(routed(f"{i}/h" + i * "/e", "b") for i in range(3))
+                     + routed("1/g/1/e"), "+/h/#")
 
     def test_many_topics(self):
         """Of thousands some are looked at, and a filter explains them all."""
-        self.filters("".join(routed(f"h/{i}/{i % 7}", "b") for i in range(5000)) + routed("x"), "h/#")
-        self.filters("".join(routed(f"h/{i}/{i % 7}", "b") for i in range(5000)) + routed("h"), "h/+/+")
+        self.filters(
+            "".join(routed(f"h/{i}/{i % 7}", "b") for i in range(5000)) + routed("x"), "h/#")
+        self.filters(
+            "".join(routed(f"h/{i}/{i % 7}", "b") for i in range(5000)) + routed("h"), "h/+/+")
 
     def test_its_own_words(self):
         self.filters(routed("x/y", "b") + subscribing("b", ("x/#", 0)), "x/#")
         self.filters(routed("x/y", "b") + routed("x/z") + subscribing("b", ("x/#", 0)), "x/y")
-        self.filters(routed("x/y", "b") + "Client b disconnected.\n" + arrival("b") + subscribing("b", ("x/#", 0)) + routed("x/z"), "x/#")
+        self.filters(routed("x/y", "b") + "Client b disconnected.\n" + arrival("b")
+                     + subscribing("b", ("x/#", 0)) + routed("x/z"), "x/#")
         self.filters(routed("x/y", "b") + subscribing("b", ("$share/g/x/#", 0)), "x/y")
 
     def test_what_the_log_explains(self):
@@ -99,14 +112,18 @@ class Rule(Case):
         text = routed("x/z") + routed("x/y", "b") + leaving("b", "x/#") + routed("x/y")
         self.filters(text, "x/y")
         commands, found = written(text)
-        self.assertEqual([c["filter"] for c in commands if c["do"] == "unsubscribe"], ["x/#", "x/y"])
+        self.assertEqual(
+            [c["filter"] for c in commands if c["do"] == "unsubscribe"], ["x/#", "x/y"])
         self.assertEqual(found.explained, [0, 1, 0])
-        text = routed("x/z") + routed("x/y", "b") + leaving("b", "x/#") + routed("x/y", "b")  # it lasts longer
+        # it lasts longer
+        text = routed("x/z") + routed("x/y", "b") + leaving("b", "x/#") + routed("x/y", "b")
         self.filters(text, "x/y")
-        self.assertEqual([c["filter"] for c in written(text)[0] if c["do"] == "unsubscribe"], ["x/#"])
+        self.assertEqual(
+            [c["filter"] for c in written(text)[0] if c["do"] == "unsubscribe"], ["x/#"])
 
     def test_the_end_of_the_session(self):
-        text = routed("x", "b") + "Client b disconnected.\n" + routed("x") + arrival("b") + routed("x")
+        text = (routed("x", "b") + "Client b disconnected.\n" + routed("x") + arrival("b")
+                + routed("x"))
         self.filters(text, "x")
         self.filters(routed("x", "b") + arrival("b") + routed("x"), "x")
 
@@ -116,14 +133,18 @@ class Rule(Case):
         self.assertEqual(qos(routed("x", "b", copy=0, qos=0) + routed("x", "b", copy=1)), [1])
         three = [routed(f"h/{i}", "b", copy=c, qos=2) for i, c in enumerate((1, 1, 1))]
         self.assertEqual(qos("".join(three)), [1])
-        self.assertEqual(qos("".join(three) + routed("h/9", "b", copy=0, qos=2)), [1, 1, 1, 0])  # no one filter has two
+        # no one filter has two
+        self.assertEqual(qos("".join(three) + routed("h/9", "b", copy=0, qos=2)), [1, 1, 1, 0])
 
     def test_qos_of_overlapping_subscriptions(self):
         """Each publish is sent twice: the greater QoS is the one that counts."""
         text = "".join(routed(f"h/{i}", "b", qos=2) + sent("b", f"h/{i}", 2) for i in range(3))
-        self.assertEqual([(c["filter"], c["qos"]) for c in before(text) if c["do"] == "subscribe"], [("h/+", 2)])
-        text = routed("x", "b", copy=1, qos=2) + routed("x", "b", copy=2, qos=2)  # one topic is never left out for its QoS
-        self.assertEqual([(c["filter"], c["qos"]) for c in before(text) if c["do"] == "subscribe"], [("x", 2)])
+        self.assertEqual(
+            [(c["filter"], c["qos"]) for c in before(text) if c["do"] == "subscribe"], [("h/+", 2)])
+        # one topic is never left out for its QoS
+        text = routed("x", "b", copy=1, qos=2) + routed("x", "b", copy=2, qos=2)
+        self.assertEqual(
+            [(c["filter"], c["qos"]) for c in before(text) if c["do"] == "subscribe"], [("x", 2)])
 
     def test_retain_as_published(self):
         text = published("p", "x", "d0, q0, r1, m0") + sent("b", "x", retain=1)
@@ -147,61 +168,81 @@ class Rule(Case):
 
 class Sessions(Case):
     def test_a_session_that_was_away(self):
-        text = arrival("b", "p2, c0, k60, u'me'", present=1) + sent("b", "x", 1) + routed("x", "b", copy=1)
-        self.assertEqual(before(text), [{"do": "connect", "client": "b", "user": "me", "session_expiry": FOREVER},
-                                        {"do": "subscribe", "client": "b", "filter": "x", "qos": 1, "handling": 2}, {"do": "disconnect", "client": "b"}])
-        self.assertNotIn("sessions were resumed that the script doesn't have", written(text)[1].notes.counts)
+        text = (arrival("b", "p2, c0, k60, u'me'", present=1) + sent("b", "x", 1)
+                + routed("x", "b", copy=1))
+        self.assertEqual(before(text), [
+            {"do": "connect", "client": "b", "user": "me", "session_expiry": FOREVER},
+            {"do": "subscribe", "client": "b", "filter": "x", "qos": 1, "handling": 2},
+            {"do": "disconnect", "client": "b"}])
+        self.assertNotIn(
+            "sessions were resumed that the script doesn't have", written(text)[1].notes.counts)
 
     def test_user_names_that_come_later(self):
         text = routed("x", "b") + "Client b disconnected.\n" + arrival("b", "p5, c1, k60, u'me'")
         self.assertEqual(before(text)[0], {"do": "connect", "client": "b", "user": "me"})
-        self.assertEqual(written(text)[1].notes.examples["of them have no user name in the log, and so none in the script"], ["p"])
+        self.assertEqual(written(text)[1].notes.examples[
+            "of them have no user name in the log, and so none in the script"], ["p"])
 
     def test_expiry_that_the_next_connack_tells(self):
         def expiries(text: str, **options) -> tuple[list, int]:
             commands, found = written(text, **options)
-            return [c.get("session_expiry", 0) for c in commands if c["do"] == "connect"], sum(found.notes.counts.values())
+            found_of = [c.get("session_expiry", 0) for c in commands if c["do"] == "connect"]
+            return found_of, sum(found.notes.counts.values())
+
         def come(clean: int, present: int) -> str:
             return arrival("b", f"p5, c{clean}, k60", present=present)
         leave = "Client b disconnected.\n"
-        self.assertEqual(expiries(come(0, 0) + leave + come(0, 1) + leave + come(0, 0)), ([FOREVER, 0, 0], 1))
-        self.assertEqual(expiries(come(1, 0) + leave + come(0, 1) + leave + come(1, 0)), ([FOREVER, 0, 0], 1))
+        self.assertEqual(
+            expiries(come(0, 0) + leave + come(0, 1) + leave + come(0, 0)), ([FOREVER, 0, 0], 1))
+        self.assertEqual(
+            expiries(come(1, 0) + leave + come(0, 1) + leave + come(1, 0)), ([FOREVER, 0, 0], 1))
         self.assertEqual(expiries(come(1, 0) + leave), ([0], 0))
         self.assertEqual(expiries(come(0, 0) + leave + come(0, 1), expiry=9), ([9, 9], 0))
 
     def test_expiry_of_a_session_of_before(self):
-        text = routed("x", "b") + "Client b disconnected.\n" + arrival("b", "p5, c0, k60", present=1) + routed("x", "b")
-        self.assertEqual([c.get("session_expiry") for c in before(text) if c["do"] == "connect"], [FOREVER])
+        text = (routed("x", "b") + "Client b disconnected.\n"
+                + arrival("b", "p5, c0, k60", present=1) + routed("x", "b"))
+        self.assertEqual(
+            [c.get("session_expiry") for c in before(text) if c["do"] == "connect"], [FOREVER])
         self.filters(text, "x")
 
 
 class Retained(Case):
     def test_one_that_nobody_published(self):
         log = arrival("q", "p5, c1, k60, u'me'") + published("q", "x/1") + arrival("b")
-        text = log + "Received SUBSCRIBE from b\n\tx/# (QoS 1)\nb 1 x/#\n" + sent("b", "x/1", 1, 1) + sent("b", "x/2", 0, 1) + "Sending SUBACK to b\n"
+        text = (log + "Received SUBSCRIBE from b\n\tx/# (QoS 1)\nb 1 x/#\n" + sent("b", "x/1", 1, 1)
+                + sent("b", "x/2", 0, 1) + "Sending SUBACK to b\n")
         self.assertEqual(before(text), [
             {"do": "connect", "client": "q", "user": "me"},
-            {"do": "publish", "client": "q", "topic": "x/1", "payload": "2 bytes", "qos": 1, "retain": True},
-            {"do": "publish", "client": "q", "topic": "x/2", "payload": "2 bytes", "retain": True}, {"do": "disconnect", "client": "q"}])
+            {"do": "publish", "client": "q", "topic": "x/1", "payload": "2 bytes", "qos": 1,
+             "retain": True},
+            {"do": "publish", "client": "q", "topic": "x/2", "payload": "2 bytes", "retain": True},
+            {"do": "disconnect", "client": "q"}])
         self.assertEqual(written(text)[1].explained, [2, 0, 0])
 
     def test_its_publisher(self):
-        """One that publishes the topic, or one that is most like it, and rather one with a known user name."""
+        """One that publishes the topic, or one that is most like it, and rather
+        one with a known user name."""
         def by(log: str, topic: str) -> str:
-            asked = arrival("b") + "Received SUBSCRIBE from b\n\t# (QoS 1)\nb 1 #\n" + sent("b", topic, 0, 1) + "Sending SUBACK to b\n"
+            asked = (arrival("b") + "Received SUBSCRIBE from b\n\t# (QoS 1)\nb 1 #\n"
+                     + sent("b", topic, 0, 1) + "Sending SUBACK to b\n")
             return next(c["client"] for c in before(log + asked) if c["do"] == "publish")
-        log = arrival("q") + arrival("r") + published("r", "z") + published("q", "x/1/a") + published("r", "x/2/b")
-        self.assertEqual([by(log, topic) for topic in ("z", "x/1/a", "x/1/c", "x/2/c", "x/2/b")], ["r", "q", "q", "r", "r"])
+        log = (arrival("q") + arrival("r") + published("r", "z") + published("q", "x/1/a")
+               + published("r", "x/2/b"))
+        self.assertEqual([by(log, topic) for topic in ("z", "x/1/a", "x/1/c", "x/2/c", "x/2/b")],
+                         ["r", "q", "q", "r", "r"])
         self.assertEqual(by(published("n", "x") + arrival("q") + published("q", "x"), "x"), "q")
         self.assertEqual(by(published("n", "x"), "x"), "n")
 
     def test_one_that_the_log_has(self):
-        text = arrival("b") + published("p", "x", "d0, q0, r1, m0") + subscribing("b", ("x", 0)) + sent("b", "x", retain=1)
+        text = (arrival("b") + published("p", "x", "d0, q0, r1, m0") + subscribing("b", ("x", 0))
+                + sent("b", "x", retain=1))
         self.assertEqual([c for c in before(text) if c["do"] == "publish"], [])
 
 
 class Told(unittest.TestCase):
-    LOG = routed("x", "b") + routed("y") + subscribing("b", ("y", 0)) + routed("y", "b") + routed("z", "b") + routed("z")
+    LOG = (routed("x", "b") + routed("y") + subscribing("b", ("y", 0)) + routed("y", "b")
+           + routed("z", "b") + routed("z"))
 
     def test_what_explains_the_copies(self):
         found = written(self.LOG)[1].explained
@@ -209,40 +250,56 @@ class Told(unittest.TestCase):
 
     def test_a_will_at_a_takeover(self):
         """Its copies stand before the new connection's lines."""
-        text = arrival("b") + subscribing("b", ("last", 0)) + arrival("a", will="Will message specified (3 bytes) (r0, q0).\n\tlast")
-        taken = "Client a already connected, closing old connection.\n" + sent("b", "last") + arrival("a")
+        text = (arrival("b") + subscribing("b", ("last", 0))
+                + arrival("a", will="Will message specified (3 bytes) (r0, q0).\n\tlast"))
+        taken = ("Client a already connected, closing old connection.\n" + sent("b", "last")
+                 + arrival("a"))
         self.assertEqual(written(text + taken)[1].explained, [1, 0, 0])
 
     def run_tool(self, *words: str, log: str = LOG) -> tuple[int, str, str]:
-        done = subprocess.run([sys.executable, TOOL, *words], input=log, capture_output=True, text=True)
+        done = subprocess.run(
+            [sys.executable, TOOL, *words], input=log, capture_output=True, text=True)
         return done.returncode, done.stdout, done.stderr
 
     def test_the_tool(self):
         status, out, told = self.run_tool()
-        self.assertIn("the broker sent 3 copies: the script explains 1 by subscriptions in the log and 1 by inferred ones, and doesn't explain 1\n", told)
+        self.assertIn("the broker sent 3 copies: the script explains 1 by subscriptions in the log "
+                      "and 1 by inferred ones, and doesn't explain 1\n", told)
         self.assertEqual((status, '"filter":"x"' in out), (1, True))
         status, out, told = self.run_tool("--no-inference")
         self.assertEqual((status, '"filter":"x"' in out), (1, False))
-        self.assertIn("explains 1 by subscriptions in the log and 0 by inferred ones, and doesn't explain 2\n", told)
+        self.assertIn("explains 1 by subscriptions in the log and 0 by inferred ones, and doesn't "
+                      "explain 2\n", told)
 
     def test_nothing_is_told_of_a_whole_log(self):
-        status, _, told = self.run_tool(log=arrival("p") + arrival("b") + subscribing("b", ("x", 0)) + routed("x", "b"))
+        status, _, told = self.run_tool(
+            log=arrival("p") + arrival("b") + subscribing("b", ("x", 0)) + routed("x", "b"))
         self.assertEqual((status, len(told.splitlines())), (0, 1))
 
     @unittest.skipUnless(PROGRAM.exists(), f"there is no {PROGRAM}")
     def test_half_of_a_recorded_log(self):
-        """Each of the broker's 454 copies is explained, and with the one user name that the half doesn't have the script gives them all."""
-        lines = (HERE.parent / "brokers/recorded/plain.log").read_text(encoding="utf-8").splitlines(True)
+        """Each of the broker's 454 copies is explained, and with the one user name that the half
+        doesn't have the script gives them all."""
+        lines = (HERE.parent / "brokers/recorded/plain.log").read_text(encoding="utf-8").splitlines(
+            True)
         with tempfile.TemporaryDirectory() as folder:
             Path(folder, "log").write_text("".join(lines[len(lines) // 2:]), encoding="utf-8")
             _, script, told = self.run_tool(f"{folder}/log")
-            self.assertIn("the broker sent 454 copies: the script explains 359 by subscriptions in the log and 95 by inferred ones, and doesn't explain 0\n", told)
-            self.assertIn("1 of them has no user name in the log, and so none in the script\n    ops\n", told)
-            script = script.replace('"connect","client":"ops"}', '"connect","client":"ops","user":"ops"}')
-            output = subprocess.run([PROGRAM, "--acl-file", HERE.parent / "brokers/recorded/plain.acl"], input=script.encode(), capture_output=True).stdout
+            self.assertIn("the broker sent 454 copies: the script explains 359 by subscriptions in "
+                          "the log and 95 by inferred ones, and doesn't explain 0\n", told)
+            self.assertIn(
+                "1 of them has no user name in the log, and so none in the script\n    ops\n", told)
+            script = script.replace(
+                '"connect","client":"ops"}', '"connect","client":"ops","user":"ops"}')
+            output = subprocess.run(
+                [PROGRAM, "--acl-file", HERE.parent / "brokers/recorded/plain.acl"],
+                input=script.encode(), capture_output=True).stdout
             Path(folder, "output").write_bytes(output)
-            done = subprocess.run([sys.executable, HERE / "compare_log.py", f"{folder}/log", f"{folder}/output"], capture_output=True, text=True)
-            self.assertEqual({line.split(":")[0] for line in done.stdout.splitlines()}, {"Retain As Published", "overlapping subscriptions"})
+            done = subprocess.run(
+                [sys.executable, HERE / "compare_log.py", f"{folder}/log", f"{folder}/output"],
+                capture_output=True, text=True)
+            self.assertEqual({line.split(":")[0] for line in done.stdout.splitlines()},
+                             {"Retain As Published", "overlapping subscriptions"})
 
 
 class States(unittest.TestCase):
@@ -252,71 +309,97 @@ class States(unittest.TestCase):
             state.follow(command)
         return list(state.commands())
 
-    COME, LEAVE = {"do": "connect", "client": "a", "user": "me"}, {"do": "disconnect", "client": "a"}
-    ASK, TELL = {"do": "subscribe", "client": "a", "filter": "x", "qos": 1}, {"do": "publish", "client": "a", "topic": "x", "payload": "p", "retain": True}
+    COME = {"do": "connect", "client": "a", "user": "me"}
+    LEAVE = {"do": "disconnect", "client": "a"}
+    ASK = {"do": "subscribe", "client": "a", "filter": "x", "qos": 1}
+    TELL = {"do": "publish", "client": "a", "topic": "x", "payload": "p", "retain": True}
     KEEP = COME | {"session_expiry": 9}
 
     def test_what_stands_at_the_end(self):
         quiet = self.ASK | {"handling": 2}
         self.assertEqual(self.state_after(self.COME, self.ASK), [self.COME, quiet])
-        self.assertEqual(self.state_after(self.COME, self.ASK, {"do": "unsubscribe", "client": "a", "filter": "x"}), [self.COME])
+        self.assertEqual(self.state_after(self.COME, self.ASK,
+                                          {"do": "unsubscribe", "client": "a", "filter": "x"}),
+                         [self.COME])
         self.assertEqual(self.state_after(self.COME, self.ASK, self.LEAVE), [])
         self.assertEqual(self.state_after(self.COME, self.ASK, self.COME), [self.COME])
-        self.assertEqual(self.state_after(self.COME, self.TELL, self.LEAVE), [self.COME, self.TELL, self.LEAVE])
-        self.assertEqual(self.state_after(self.COME, self.TELL, self.TELL | {"payload": ""}), [self.COME])
-        self.assertEqual(self.state_after(self.COME, self.ASK | {"filter": "$share/g/x"}), [self.COME, self.ASK | {"filter": "$share/g/x"}])
+        self.assertEqual(
+            self.state_after(self.COME, self.TELL, self.LEAVE), [self.COME, self.TELL, self.LEAVE])
+        self.assertEqual(
+            self.state_after(self.COME, self.TELL, self.TELL | {"payload": ""}), [self.COME])
+        self.assertEqual(self.state_after(self.COME, self.ASK | {"filter": "$share/g/x"}),
+                         [self.COME, self.ASK | {"filter": "$share/g/x"}])
 
     def test_sessions(self):
         quiet = self.ASK | {"handling": 2}
         wait = {"do": "advance", "seconds": 4}
-        self.assertEqual(self.state_after(self.KEEP, self.ASK, self.LEAVE, wait), [self.COME | {"session_expiry": 5}, quiet, self.LEAVE])
+        self.assertEqual(self.state_after(self.KEEP, self.ASK, self.LEAVE, wait),
+                         [self.COME | {"session_expiry": 5}, quiet, self.LEAVE])
         self.assertEqual(self.state_after(self.KEEP, self.ASK, self.LEAVE, wait, wait, wait), [])
-        self.assertEqual(self.state_after(self.KEEP, self.ASK, self.LEAVE, wait, self.KEEP | {"clean": False}), [self.KEEP, quiet])
+        self.assertEqual(
+            self.state_after(self.KEEP, self.ASK, self.LEAVE, wait, self.KEEP | {"clean": False}),
+            [self.KEEP, quiet])
         self.assertEqual(self.state_after(self.KEEP, self.ASK, self.LEAVE, self.KEEP), [self.KEEP])
 
     def test_a_state_gives_itself(self):
-        commands = self.state_after(self.COME, self.TELL, self.KEEP | {"client": "b"}, self.ASK | {"client": "b"}, self.LEAVE | {"client": "b"})
+        commands = self.state_after(self.COME, self.TELL, self.KEEP | {"client": "b"},
+                                    self.ASK | {"client": "b"}, self.LEAVE | {"client": "b"})
         self.assertEqual(self.state_after(*commands), commands)
 
     def test_denied_publishes(self):
-        text = arrival("a") + published("a", "x", "d0, q0, r1, m0", word="Denied") + published("a", "y", "d0, q0, r1, m0")
+        text = (arrival("a") + published("a", "x", "d0, q0, r1, m0", word="Denied")
+                + published("a", "y", "d0, q0, r1, m0"))
         state = written(text)[1].state
         self.assertEqual(list(state.retained), ["y"])
 
     def test_from_log_to_log(self):
-        """Two halves, the second with the state of the first, are like the whole, but for wills ("4 bytes"), which no script has."""
-        lines = (HERE.parent / "brokers/recorded/plain.log").read_text(encoding="utf-8").splitlines(True)
+        """Two halves, the second with the state of the first, are like the whole, but for wills ("4
+        bytes"), which no script has."""
+        lines = (HERE.parent / "brokers/recorded/plain.log").read_text(encoding="utf-8").splitlines(
+            True)
         half = next(i for i in range(len(lines) // 2, len(lines)) if "Received PUBLISH" in lines[i])
         with tempfile.TemporaryDirectory() as folder:
             for name, part in (("one", lines[:half]), ("two", lines[half:])):
                 Path(folder, name).write_text("".join(part), encoding="utf-8")
-            run = lambda *words: subprocess.run([sys.executable, TOOL, *words], cwd=folder, capture_output=True, text=True, encoding="utf-8")  # noqa: E731
+
+            def run(*words: str) -> subprocess.CompletedProcess:
+                return subprocess.run([sys.executable, TOOL, *words], cwd=folder,
+                                      capture_output=True, text=True, encoding="utf-8")
             first = run("--state", "state", "one")
             second = run("--begin", "state", "two")
-            self.assertEqual((first.returncode, second.returncode, len(second.stderr.splitlines())), (0, 0, 1), second.stderr)
+            self.assertEqual((first.returncode, second.returncode, len(second.stderr.splitlines())),
+                             (0, 0, 1), second.stderr)
             state = Path(folder, "state").read_text(encoding="utf-8")
             self.assertTrue(second.stdout.startswith(state))
             whole = (HERE.parent / "brokers/recorded/plain.jsonl").read_text(encoding="utf-8")
             joined = first.stdout + second.stdout[len(state):]
-            commands = [[c for c in map(json.loads, text.splitlines()) if c["do"] != "advance" and c.get("payload") != "4 bytes"] for text in (joined, whole)]
+            commands = [[c for c in map(json.loads, text.splitlines()) if c["do"] != "advance"
+                         and c.get("payload") != "4 bytes"] for text in (joined, whole)]
             self.assertEqual(commands[0], commands[1])
 
     def test_a_file_that_is_no_state(self):
         with tempfile.TemporaryDirectory() as folder:
             Path(folder, "state").write_text("{}\n")
-            done = subprocess.run([sys.executable, TOOL, "--begin", "state"], cwd=folder, input="", capture_output=True, text=True)
-            self.assertEqual((done.returncode, done.stderr), (2, "log_to_script: state:1: no command of a script: looks like JSON\n"))
+            done = subprocess.run([sys.executable, TOOL, "--begin", "state"], cwd=folder, input="",
+                                  capture_output=True, text=True)
+            self.assertEqual(
+                (done.returncode, done.stderr),
+                (2, "log_to_script: state:1: no command of a script: looks like JSON\n"))
 
 
 class Filters(unittest.TestCase):
     def test_matches(self):
-        for name, topic, wanted in (("a", "a", 1), ("a", "b", 0), ("+", "a", 1), ("+", "a/b", 0), ("a/#", "a", 1), ("a/#", "a/b/c", 1), ("a/#", "b", 0), ("#", "a/b", 1),
-                                    ("#", "$x", 0), ("+/a", "$x/a", 0), ("$x/#", "$x/a", 1), ("a/+", "a/", 1), ("+/+", "/", 1), ("+", "", 1), ("a/+/#", "a", 0)):
+        for name, topic, wanted in (
+                ("a", "a", 1), ("a", "b", 0), ("+", "a", 1), ("+", "a/b", 0), ("a/#", "a", 1),
+                ("a/#", "a/b/c", 1), ("a/#", "b", 0), ("#", "a/b", 1), ("#", "$x", 0),
+                ("+/a", "$x/a", 0), ("$x/#", "$x/a", 1), ("a/+", "a/", 1), ("+/+", "/", 1),
+                ("+", "", 1), ("a/+/#", "a", 0)):
             self.assertEqual(matches(name, topic), bool(wanted), (name, topic))
             tree = TopicTree()
             for each in (topic, "zz/top", "$zz"):
                 tree.add(each)
-            self.assertEqual(sorted(tree.matching(name)), sorted(t for t in (topic, "zz/top", "$zz") if matches(name, t)), name)
+            self.assertEqual(sorted(tree.matching(name)),
+                             sorted(t for t in (topic, "zz/top", "$zz") if matches(name, t)), name)
 
 
 if __name__ == "__main__":

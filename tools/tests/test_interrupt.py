@@ -38,6 +38,12 @@ def waits(running: subprocess.Popen) -> bool:
     return Path(f"/proc/{running.pid}/syscall").read_text().startswith("0 0x0 ")
 
 
+def close_pipes(running: subprocess.Popen) -> None:
+    for pipe in (running.stdin, running.stdout, running.stderr):
+        with contextlib.suppress(BrokenPipeError):
+            pipe.close()
+
+
 @unittest.skipUnless(Path("/proc/self/syscall").exists(), "there is no /proc")
 class Reading(unittest.TestCase):
     def test_while_it_reads(self):
@@ -45,18 +51,20 @@ class Reading(unittest.TestCase):
             Path(folder, "out").write_text('{"line":1,"reason":0}\n')
             for tool, words in READING.items():
                 running = started(tool, words, cwd=folder)
-                running.stdin.write('{"do":"connect","client":"a"}\n')
-                running.stdin.flush()
-                end = time.monotonic() + PATIENCE
-                while not waits(running) and time.monotonic() < end:
-                    time.sleep(0.01)
-                running.send_signal(signal.SIGINT)
+                self.interrupt(running)
                 with self.subTest(tool):
                     said = running.wait(PATIENCE), running.stdout.read(), running.stderr.read()
                     self.assertEqual(said, (130, "", f"{tool}: stopped\n"))
-                for pipe in (running.stdin, running.stdout, running.stderr):
-                    with contextlib.suppress(BrokenPipeError):
-                        pipe.close()
+                close_pipes(running)
+
+    def interrupt(self, running: subprocess.Popen) -> None:
+        """Ctrl-C, once it has read a line and waits for the next."""
+        running.stdin.write('{"do":"connect","client":"a"}\n')
+        running.stdin.flush()
+        end = time.monotonic() + PATIENCE
+        while not waits(running) and time.monotonic() < end:
+            time.sleep(0.01)
+        running.send_signal(signal.SIGINT)
 
     def test_while_it_is_loaded(self):
         """In place of one that every tool imports stands a module that Ctrl-C meets."""

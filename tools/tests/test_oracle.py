@@ -1,4 +1,5 @@
-"""The oracle module; and the README's example, which finds the bug that is planted in its broker."""
+"""The oracle module; and the README's example, which finds the bug that is
+planted in its broker."""
 import json
 import os
 import re
@@ -30,24 +31,33 @@ class Answers(unittest.TestCase):
     def test_copies_then_the_closing_line(self):
         with Oracle() as oracle:
             for _ in range(2):  # each script begins anew
-                self.assertEqual(oracle.run(iter([*CONNECT, SUBSCRIBE, PUBLISH, {"do": "fly"}, PUBLISH]))[2:],
-                                 [[{"line": 3, "reason": 1}], [COPY, {"line": 4, "reason": 0}], [{"code": 3, "line": 5, "refused": "BadCommand"}],
-                                  [COPY | {"line": 6}, {"line": 6, "reason": 0}]])
+                self.assertEqual(
+                    oracle.run(iter([*CONNECT, SUBSCRIBE, PUBLISH, {"do": "fly"}, PUBLISH]))[2:],
+                    [[{"line": 3, "reason": 1}], [COPY, {"line": 4, "reason": 0}],
+                     [{"code": 3, "line": 5, "refused": "BadCommand"}],
+                     [COPY | {"line": 6}, {"line": 6, "reason": 0}]])
             self.assertEqual(oracle.run([]), [])
 
     def test_access_list(self):
         with Oracle(acl="topic write ä\n") as oracle:
             folder = Path(oracle.folder.name)
-            self.assertEqual(oracle.run([*CONNECT, SUBSCRIBE, PUBLISH, PUBLISH | {"topic": "y"}])[3:],
-                             [[{"line": 4, "reason": 16}], [{"code": 11, "line": 5, "refused": "NotAuthorized"}]])
+            self.assertEqual(
+                oracle.run([*CONNECT, SUBSCRIBE, PUBLISH, PUBLISH | {"topic": "y"}])[3:],
+                [[{"line": 4, "reason": 16}],
+                 [{"code": 11, "line": 5, "refused": "NotAuthorized"}]])
         self.assertFalse(folder.exists())
-        with Oracle(acl="topic read #\ntopick #\n") as oracle, self.assertRaisesRegex(OracleFault, "line 2: Keyword"):
+        with Oracle(acl="topic read #\ntopick #\n") as oracle, self.assertRaisesRegex(
+                OracleFault, "line 2: Keyword"):
             oracle.run(CONNECT)
 
     def test_limits(self):
         with Oracle(max_retained=1, max_queued=0) as oracle:
-            script = [CONNECT[0], CONNECT[1] | {"session_expiry": 9}, SUBSCRIBE, {"do": "disconnect", "client": "b"}, PUBLISH | {"qos": 1}, PUBLISH | {"topic": "y"}]
-            self.assertEqual(oracle.run(script)[4:], [[{"line": 5, "reason": 16}], [{"code": 14, "line": 6, "refused": "RetainedFull"}]])
+            script = [
+                CONNECT[0], CONNECT[1] | {"session_expiry": 9}, SUBSCRIBE,
+                {"do": "disconnect", "client": "b"}, PUBLISH | {"qos": 1}, PUBLISH | {"topic": "y"}]
+            self.assertEqual(
+                oracle.run(script)[4:],
+                [[{"line": 5, "reason": 16}], [{"code": 14, "line": 6, "refused": "RetainedFull"}]])
 
     def test_no_program(self):
         with self.assertRaisesRegex(OracleFault, "cannot run /nowhere"):
@@ -55,7 +65,8 @@ class Answers(unittest.TestCase):
 
     def test_which_program(self):
         self.assertEqual(mqroute.found_program(), str(PROGRAM))
-        with mock.patch.dict(os.environ, MQROUTE=""), mock.patch.multiple(mqroute, BUILT=Path("/nowhere"), INSTALLED=Path("/nowhere")):
+        with mock.patch.dict(os.environ, MQROUTE=""), mock.patch.multiple(
+                mqroute, BUILT=Path("/nowhere"), INSTALLED=Path("/nowhere")):
             with mock.patch.dict(os.environ, PATH="/nowhere"):
                 self.assertEqual(mqroute.found_program(), "mqroute")
             with mock.patch.object(mqroute, "INSTALLED", PROGRAM):
@@ -67,7 +78,9 @@ class Answers(unittest.TestCase):
         with Oracle() as oracle:
             found = oracle.run(script)
         self.assertEqual((len(found), {len(one) for one in found[3:]}), (2003, {2}))
-        self.assertEqual(found[-1][-1], answers("".join(json.dumps(command) + "\n" for command in script).encode())[-1])
+        self.assertEqual(
+            found[-1][-1],
+            answers("".join(json.dumps(command) + "\n" for command in script).encode())[-1])
 
 
 @wants_unbuffered
@@ -82,19 +95,24 @@ class OneByOne(unittest.TestCase):
         for number, command in enumerate([*CONNECT, SUBSCRIBE], 1):
             self.assertEqual(oracle.answers(command)[0]["line"], number)
         self.assertEqual(oracle.answers(PUBLISH), [COPY, {"line": 4, "reason": 0}])
-        self.assertEqual(oracle.answers({"do": "fly"}), [{"code": 3, "line": 5, "refused": "BadCommand"}])
+        self.assertEqual(
+            oracle.answers({"do": "fly"}), [{"code": 3, "line": 5, "refused": "BadCommand"}])
         self.assertEqual(oracle.answers({"do": "stat"})[0]["line"], 6)
-        self.assertEqual(oracle.run([*CONNECT, SUBSCRIBE])[2], [{"line": 3, "reason": 1}])  # of a world of its own
+        # of a world of its own
+        self.assertEqual(oracle.run([*CONNECT, SUBSCRIBE])[2], [{"line": 3, "reason": 1}])
         self.assertEqual(oracle.answers(PUBLISH), [COPY | {"line": 7}, {"line": 7, "reason": 0}])
 
     def test_as_a_whole_script(self):
         """With an access list and limits, and answers larger than a pipe holds."""
-        script = [{"do": "connect", "client": f"c{n}"} for n in range(300)] + [{"do": "subscribe", "client": f"c{n}", "filter": "x/#"} for n in range(300)]
-        script += [{"do": "publish", "client": "c0", "topic": topic, "payload": "é" * size, "retain": True}
-                   for topic, size in (("x/1", 1000), ("y", 1), ("x/2", 200_000 // 300), ("x/3", 1))]
+        script = ([{"do": "connect", "client": f"c{n}"} for n in range(300)]
+                  + [{"do": "subscribe", "client": f"c{n}", "filter": "x/#"} for n in range(300)])
+        script += [
+            {"do": "publish", "client": "c0", "topic": topic, "payload": "é" * size, "retain": True}
+            for topic, size in (("x/1", 1000), ("y", 1), ("x/2", 200_000 // 300), ("x/3", 1))]
         more = {"acl": "topic readwrite x/#\n", "max_retained": 2}
         oracle = self.oracle(**more)
-        self.assertEqual([oracle.answers(command) for command in script], self.oracle(**more).run(script))
+        self.assertEqual(
+            [oracle.answers(command) for command in script], self.oracle(**more).run(script))
 
     def test_begun_anew_after_the_end(self):
         oracle = self.oracle()
@@ -125,7 +143,8 @@ class WithoutTheOption(unittest.TestCase):
             old = Path(folder, "mqroute")
             old.write_text("#!/bin/sh\necho 'mqroute: unknown option --unbuffered' >&2\nexit 2\n")
             old.chmod(0o755)
-            with Oracle(program=str(old)) as oracle, self.assertRaisesRegex(OracleFault, "unknown option --unbuffered"):
+            with Oracle(program=str(old)) as oracle, self.assertRaisesRegex(
+                    OracleFault, "unknown option --unbuffered"):
                 oracle.answers(CONNECT[0])
 
 
@@ -148,9 +167,11 @@ class Example(unittest.TestCase):
 
     def test_they_find_the_bug(self):
         for test in self.chosen(self.example()):
-            with mock.patch.dict(os.environ, MQROUTE=str(PROGRAM)), self.assertRaises(AssertionError) as found:
+            with mock.patch.dict(os.environ, MQROUTE=str(PROGRAM)), self.assertRaises(
+                    AssertionError) as found:
                 test()
-            self.assertIn("E       AssertionError: " + str(found.exception) + "\n", (HERE / "README.md").read_text("utf-8"))
+            self.assertIn("E       AssertionError: " + str(found.exception) + "\n",
+                          (HERE / "README.md").read_text("utf-8"))
 
     def test_they_pass_without(self):
         names = self.example()

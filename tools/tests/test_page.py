@@ -13,11 +13,13 @@ from pathlib import Path
 HERE = Path(__file__).parent.parent
 RECORDED = HERE.parent / "brokers/recorded"
 PROGRAM = Path(os.environ.get("MQROUTE", HERE.parent / "bin/mqroute"))
-BROWSER = shutil.which("chromium") or shutil.which("chromium-browser") or shutil.which("google-chrome")
+BROWSER = (
+    shutil.which("chromium") or shutil.which("chromium-browser") or shutil.which("google-chrome"))
 wants_browser = unittest.skipUnless(BROWSER, "there is no chromium")
 wants_program = unittest.skipUnless(PROGRAM.exists(), f"there is no {PROGRAM}")
 
-ODD = ["<script>document.title='x'</script>", "a&amp;b\"'", "\u202eright\u0007", "\u05d0\u05d1 \u05d2", "(none)", " ", "</details></section>", "a · b"]
+ODD = ["<script>document.title='x'</script>", "a&amp;b\"'", "\u202eright\u0007",
+       "\u05d0\u05d1 \u05d2", "(none)", " ", "</details></section>", "a · b"]
 
 
 class Reading(HTMLParser):
@@ -73,17 +75,21 @@ class Pages(unittest.TestCase):
         """Writes the page and gives what --json tells."""
         for name, acl in (("before", before), ("after", after)):
             Path(folder, f"{name}.acl").write_text(acl, encoding="utf-8")
-            done = subprocess.run([PROGRAM, "--acl-file", f"{name}.acl"], input=script.encode(), capture_output=True, cwd=folder)
+            done = subprocess.run([PROGRAM, "--acl-file", f"{name}.acl"], input=script.encode(),
+                                  capture_output=True, cwd=folder)
             Path(folder, name).write_bytes(done.stdout)
         Path(folder, "script").write_text(script, encoding="utf-8")
-        done = subprocess.run([sys.executable, HERE / "who_loses.py", "--json", "--html", "page.html", *words, "script", "before", "after"],
+        done = subprocess.run([sys.executable, HERE / "who_loses.py", "--json", "--html",
+                               "page.html", *words, "script", "before", "after"],
                               cwd=folder, capture_output=True, text=True, encoding="utf-8")
         self.assertIn(done.returncode, (0, 1), done.stderr)
         return json.loads(done.stdout)
 
     def read(self, folder: str) -> Reading:
-        done = subprocess.run([BROWSER, "--headless", "--no-sandbox", "--disable-gpu", f"--user-data-dir={folder}/profile", "--dump-dom", f"file://{folder}/page.html"],
-                              capture_output=True, text=True, encoding="utf-8", timeout=120)
+        done = subprocess.run(
+            [BROWSER, "--headless", "--no-sandbox", "--disable-gpu",
+             f"--user-data-dir={folder}/profile", "--dump-dom", f"file://{folder}/page.html"],
+            capture_output=True, text=True, encoding="utf-8", timeout=120)
         page = Reading()
         page.feed(done.stdout)
         return page
@@ -91,21 +97,29 @@ class Pages(unittest.TestCase):
     def agree(self, page: Reading, found: dict) -> None:
         self.assertEqual({key: int(page.ids[key]) for key in found["totals"]}, found["totals"])
         causes = [(row, cause) for row in found["copies"] for cause in row["causes"]]
-        self.assertEqual([(c["what"], int(c["copies"]), c["because"], int(c["first-line"])) for c in page.of("copies")],
-                         [(c["what"], c["copies"], c["because"], c["lines"][0]["line"]) for _, c in causes])
+        self.assertEqual(
+            [(c["what"], int(c["copies"]), c["because"], int(c["first-line"]))
+             for c in page.of("copies")],
+            [(c["what"], c["copies"], c["because"], c["lines"][0]["line"]) for _, c in causes])
         if found["by"] == "user":
-            self.assertEqual([int(c["clients"]) for c in page.of("copies")], [c["clients"] for _, c in causes])
-        self.assertEqual([(int(r["before"]), int(r["after"])) for r in page.of("refused")], [(r["before"], r["after"]) for r in found["refused"]])
-        self.assertEqual([(c["because"], *(int(c.get(what) or 0) for what in ("lost", "gained", "changed"))) for c in page.of("causes")],
-                         [(c["because"], c["lost"], c["gained"], c["changed"]) for c in found["causes"]])
+            self.assertEqual(
+                [int(c["clients"]) for c in page.of("copies")], [c["clients"] for _, c in causes])
+        self.assertEqual([(int(r["before"]), int(r["after"])) for r in page.of("refused")],
+                         [(r["before"], r["after"]) for r in found["refused"]])
+        self.assertEqual(
+            [(c["because"], *(int(c.get(what) or 0) for what in ("lost", "gained", "changed")))
+             for c in page.of("causes")],
+            [(c["because"], c["lost"], c["gained"], c["changed"]) for c in found["causes"]])
         lines = [at for row in (*(c for _, c in causes), *found["refused"]) for at in row["lines"]]
-        self.assertEqual([int(re.search(r"line (\d+)", text)[1]) for text in page.lines], [at["line"] for at in lines])
+        self.assertEqual([int(re.search(r"line (\d+)", text)[1]) for text in page.lines],
+                         [at["line"] for at in lines])
         self.assertFalse(page.tags & {"script", "link", "img", "iframe", "object", "base"})
 
     @wants_browser
     @wants_program
     def test_the_recorded_day(self):
-        script, before, after = ((RECORDED / name).read_text(encoding="utf-8") for name in ("plain.jsonl", "plain.acl", "proposed.acl"))
+        script, before, after = ((RECORDED / name).read_text(encoding="utf-8")
+                                 for name in ("plain.jsonl", "plain.acl", "proposed.acl"))
         for words in ([], ["--depth", "1"], ["--by", "client"]):
             with tempfile.TemporaryDirectory() as folder, self.subTest(words):
                 found = self.made(folder, script, before, after, *words)
@@ -117,15 +131,19 @@ class Pages(unittest.TestCase):
     def test_odd_names(self):
         commands = [{"do": "connect", "client": "p", "user": "pub<lisher>"}]
         for odd in ODD:
-            commands += [{"do": "connect", "client": odd, "user": odd}, {"do": "subscribe", "client": odd, "filter": "#"}]
-        commands += [{"do": "publish", "client": "p", "topic": odd, "payload": odd} for odd in ODD if "/" not in odd]
+            commands += [{"do": "connect", "client": odd, "user": odd},
+                         {"do": "subscribe", "client": odd, "filter": "#"}]
+        commands += [{"do": "publish", "client": "p", "topic": odd, "payload": odd}
+                     for odd in ODD if "/" not in odd]
         script = "".join(json.dumps(c, ensure_ascii=False) + "\n" for c in commands)
         for words in ([], ["--by", "client"]):
             with tempfile.TemporaryDirectory() as folder, self.subTest(words):
-                found = self.made(folder, script, "pattern readwrite #\n", "pattern read #\n", *words)
+                found = self.made(
+                    folder, script, "pattern readwrite #\n", "pattern read #\n", *words)
                 page = self.read(folder)
                 self.agree(page, found)
-                self.assertEqual({c["because"] for c in page.of("copies")}, {"publish by pub<lisher> refused (NotAuthorized)"})
+                self.assertEqual({c["because"] for c in page.of("copies")},
+                                 {"publish by pub<lisher> refused (NotAuthorized)"})
                 names = {row["who"] for row in page.of("copies")}
                 self.assertEqual(len(names), len(ODD))
                 self.assertTrue({ODD[0], ODD[1], ODD[3], '" "', ODD[6]} <= names, names)
@@ -145,7 +163,9 @@ class Pages(unittest.TestCase):
         with tempfile.TemporaryDirectory() as folder:
             for name in ("script", "before", "after"):
                 Path(folder, name).write_text("")
-            done = subprocess.run([sys.executable, HERE / "who_loses.py", "--html", "/nowhere/page", "script", "before", "after"], cwd=folder, capture_output=True, text=True)
+            done = subprocess.run(
+                [sys.executable, HERE / "who_loses.py", "--html", "/nowhere/page", "script",
+                 "before", "after"], cwd=folder, capture_output=True, text=True)
             self.assertEqual((done.returncode, done.stdout), (2, ""))
 
 

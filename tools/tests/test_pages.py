@@ -1,5 +1,5 @@
-"""Each tool's manual page has the options that its --help has, and no other; those of the programs explain each text that they tell on
-standard error; and what is installed is what is taken out."""
+"""Each tool's manual page has the options that its --help has, and no other; those of the programs
+explain each text that they tell on standard error; and what is installed is what is taken out."""
 import os
 import re
 import shutil
@@ -11,12 +11,14 @@ from pathlib import Path
 
 from worked import HERE, TOP
 
-BUILT = [TOP / f"crates/{name}/out/{name}" for name in ("mqroute", "mqroute_acl")]  # which make install wants
+# which make install wants
+BUILT = [TOP / f"crates/{name}/out/{name}" for name in ("mqroute", "mqroute_acl")]
 TOOLS = ("log_to_script", "who_loses", "replay", "compare_log", "check", "search")
 SECTIONS = ["NAME", "SYNOPSIS", "DESCRIPTION", "OPTIONS", "EXIT STATUS", "EXAMPLE", "SEE ALSO"]
 PROGRAMS = ("mqroute", "mqroute-acl")
 # What each page has under SEE ALSO at least.
-SEE_ALSO = {"mqroute": {"mqroute-acl"}, "mqroute-acl": {"mqroute"}, "mqroute-who-loses": set(PROGRAMS)}
+SEE_ALSO = {
+    "mqroute": {"mqroute-acl"}, "mqroute-acl": {"mqroute"}, "mqroute-who-loses": set(PROGRAMS)}
 
 
 def installed_name(tool: str) -> str:
@@ -41,7 +43,8 @@ def help_of(tool: str) -> str:
     """Without python3-paho-mqtt, which no --help wants."""
     with tempfile.TemporaryDirectory() as folder:
         Path(folder, "paho.py").write_text("raise ImportError")
-        done = subprocess.run([sys.executable, HERE / f"{tool}.py", "--help"], capture_output=True, text=True, env=os.environ | {"PYTHONPATH": folder})
+        done = subprocess.run([sys.executable, HERE / f"{tool}.py", "--help"], capture_output=True,
+                              text=True, env=os.environ | {"PYTHONPATH": folder})
     assert done.returncode == 0, done.stderr
     return done.stdout
 
@@ -59,12 +62,15 @@ class Pages(unittest.TestCase):
     def test_sections(self):
         for tool in TOOLS:
             with self.subTest(tool):
-                self.assertEqual([name.strip('"') for name in re.findall(r"^\.SH (.*)$", page(tool), re.M)], SECTIONS)
+                self.assertEqual(
+                    [name.strip('"') for name in re.findall(r"^\.SH (.*)$", page(tool), re.M)],
+                    SECTIONS)
 
     @unittest.skipUnless(shutil.which("man"), "there is no man")
     def test_man_takes_them(self):
         for name in (*PROGRAMS, *map(installed_name, TOOLS)):
-            done = subprocess.run(["man", "--warnings", "-l", f"docs/{name}.1"], cwd=TOP, capture_output=True, text=True,
+            done = subprocess.run(["man", "--warnings", "-l", f"docs/{name}.1"], cwd=TOP,
+                                  capture_output=True, text=True,
                                   env=os.environ | {"MANWIDTH": "80", "LC_ALL": "C.UTF-8"})
             self.assertEqual((done.returncode, done.stderr), (0, ""))
             self.assertIn(name, done.stdout)
@@ -90,11 +96,14 @@ TOLD = {"mqroute": "mq_cli/src/failure.rt", "mqroute-acl": "mq_acl_cli/src/failu
 
 
 def diagnostics(program: str) -> list[str]:
-    """The lines of DIAGNOSTICS as they are read: words without macros, the parts of one macro without blanks between them where it joins them."""
-    text = (TOP / f"docs/{program}.1").read_text("utf-8").split(".SH DIAGNOSTICS\n")[1].split("\n.SH")[0].replace("\\-", "-")
+    """The lines of DIAGNOSTICS as they are read: words without macros, the parts of one macro
+    without blanks between them where it joins them."""
+    text = (TOP / f"docs/{program}.1").read_text("utf-8").split(".SH DIAGNOSTICS\n")[1].split(
+        "\n.SH")[0].replace("\\-", "-")
     joined = re.compile(r"\.(?:BI|BR|IB|IR|RB|RI) ")
-    return [re.sub(r'"((?:[^"]|"")*)" ?|(\S+) ?', lambda part: (part[1] or "").replace('""', '"') + (part[2] or ""), line[4:]) if joined.match(line)
-            else re.sub(r"^\.[BI] ", "", line) for line in text.split("\n")]
+    return [re.sub(r'"((?:[^"]|"")*)" ?|(\S+) ?',
+                   lambda part: (part[1] or "").replace('""', '"') + (part[2] or ""), line[4:])
+            if joined.match(line) else re.sub(r"^\.[BI] ", "", line) for line in text.split("\n")]
 
 
 def pattern(told: str) -> str:
@@ -110,23 +119,26 @@ class Diagnostics(unittest.TestCase):
             self.assertGreater(len(told), 8)
             for text in told:
                 with self.subTest(program, text=text):
-                    self.assertTrue(any(re.match(pattern(text) + r"[.;]?$", line) for line in lines))
-            for head, line in zip(lines, lines[1:]):
-                if head == ".TP":
-                    with self.subTest(program, line=line):
-                        self.assertTrue(any(re.fullmatch(pattern(text), line) for text in told))
+                    self.assertTrue(
+                        any(re.match(pattern(text) + r"[.;]?$", line) for line in lines))
+            for line in (line for head, line in zip(lines, lines[1:]) if head == ".TP"):
+                with self.subTest(program, line=line):
+                    self.assertTrue(any(re.fullmatch(pattern(text), line) for text in told))
 
     def test_each_kind_of_fault_is_explained(self):
-        kinds = re.findall(r"^    (\w+),$", (TOP / "crates/mq_acl/src/fault.rt").read_text("utf-8").split("enum AclKind {")[1].split("\n}")[0], re.M)
+        kinds = re.findall(r"^    (\w+),$", (TOP / "crates/mq_acl/src/fault.rt").read_text(
+            "utf-8").split("enum AclKind {")[1].split("\n}")[0], re.M)
         self.assertIn("Keyword", kinds)
         words = {line.split()[0] for line in diagnostics("mqroute") if line}
         self.assertEqual({kind for kind in kinds if kind not in words}, {"Memory"})
 
 
-@unittest.skipUnless(all(file.exists() for file in BUILT) and shutil.which("make") and shutil.which("bash"), "nothing is built, or there is no make or bash")
+@unittest.skipUnless(all(file.exists() for file in BUILT) and shutil.which("make")
+                     and shutil.which("bash"), "nothing is built, or there is no make or bash")
 class Installed(unittest.TestCase):
     def make(self, word: str, folder: str) -> None:
-        done = subprocess.run(["make", word, f"PREFIX={folder}"], cwd=TOP, capture_output=True, text=True)
+        done = subprocess.run(
+            ["make", word, f"PREFIX={folder}"], cwd=TOP, capture_output=True, text=True)
         self.assertEqual(done.returncode, 0, done.stderr)
 
     def test_install(self):
@@ -135,24 +147,31 @@ class Installed(unittest.TestCase):
             for tool in map(installed_name, TOOLS):
                 self.assertTrue(Path(folder, f"share/man/man1/{tool}.1").exists())
             for name in ("mqroute", "mqroute-acl"):
-                self.assertTrue(Path(folder, f"share/man/man1/{name}.1").exists() and os.access(f"{folder}/bin/{name}", os.X_OK))
+                self.assertTrue(Path(folder, f"share/man/man1/{name}.1").exists()
+                                and os.access(f"{folder}/bin/{name}", os.X_OK))
             self.named_as_installed(folder)
             self.completed(folder)
             self.make("uninstall", folder)
-            self.assertEqual([str(file) for file in Path(folder).rglob("*") if not file.is_dir()], [])
+            self.assertEqual(
+                [str(file) for file in Path(folder).rglob("*") if not file.is_dir()], [])
 
     def named_as_installed(self, folder: str) -> None:
-        for words, said in ((["mqroute-check", "/nowhere/script"], r"mqroute-check: .*/nowhere/script"),
-                            (["mqroute-log-to-script", "/nowhere/log"], r"mqroute-log-to-script: .*/nowhere/log"),
-                            (["mqroute-who-loses", "one"], r"usage: mqroute-who-loses (?s:.)*\nmqroute-who-loses: error: ")):
-            done = subprocess.run([f"{folder}/bin/{words[0]}", *words[1:]], capture_output=True, text=True)
+        for words, said in (
+                (["mqroute-check", "/nowhere/script"], r"mqroute-check: .*/nowhere/script"),
+                (["mqroute-log-to-script", "/nowhere/log"],
+                 r"mqroute-log-to-script: .*/nowhere/log"),
+                (["mqroute-who-loses", "one"],
+                 r"usage: mqroute-who-loses (?s:.)*\nmqroute-who-loses: error: ")):
+            done = subprocess.run(
+                [f"{folder}/bin/{words[0]}", *words[1:]], capture_output=True, text=True)
             self.assertEqual((done.returncode, done.stdout), (2, ""))
             self.assertRegex(done.stderr, "^" + said)
 
     def completed(self, folder: str) -> None:
         for tool in TOOLS:
             name = installed_name(tool)
-            code = f'. {folder}/share/bash-completion/completions/{name}; COMP_WORDS=({name} --); COMP_CWORD=1; _mqroute_tools; echo "${{COMPREPLY[*]}}"'
+            code = (f'. {folder}/share/bash-completion/completions/{name}; COMP_WORDS=({name} --); '
+                    f'COMP_CWORD=1; _mqroute_tools; echo "${{COMPREPLY[*]}}"')
             done = subprocess.run(["bash", "-c", code], capture_output=True, text=True)
             self.assertEqual((set(done.stdout.split()), done.stderr), (options_of(tool), ""))
 

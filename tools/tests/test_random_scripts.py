@@ -22,8 +22,11 @@ class Scripts(unittest.TestCase):
         maker = Maker(random.Random(3), use)
         return "\n".join(json.dumps(maker.script()) for _ in range(300))
 
-    SIGNS = {"groups": r"\$share", "retained": '"retain"', "wildcards": '"filter": "[^"]*[+#]', "identifiers": '"id"',
-             "sessions": '"session_expiry"|"clean"', "expiry": '"expiry"', "options": '"no_local"|"rap"|"handling"', "dollar": r'[/"]\$x', "wills": '"payload": "will"', "qos2": '"qos": 2', "qos": '"qos"'}
+    SIGNS = {"groups": r"\$share", "retained": '"retain"', "wildcards": '"filter": "[^"]*[+#]',
+             "identifiers": '"id"',
+             "sessions": '"session_expiry"|"clean"', "expiry": '"expiry"',
+             "options": '"no_local"|"rap"|"handling"', "dollar": r'[/"]\$x',
+             "wills": '"payload": "will"', "qos2": '"qos": 2', "qos": '"qos"'}
 
     def test_parts(self):
         self.assertEqual(set(self.SIGNS), set(PARTS))
@@ -43,10 +46,13 @@ class Scripts(unittest.TestCase):
                     self.assertNotIn("refused", answers[-1])
 
     def test_fresh_names(self):
-        for name, wanted in (("x", "xZ"), ("x/+/#", "xZ/+/#"), ("/", "/"), ("#", "#"), ("$x/y", "$xZ/yZ"),
-                             ("$share/g/x/#", "$share/gZ/xZ/#"), ("$share/g/#", "$share/gZ/#")):
-            self.assertEqual(fresh([{"do": "subscribe", "client": "a", "filter": name}], "Z"), [{"do": "subscribe", "client": "aZ", "filter": wanted}])
-        self.assertEqual(fresh([PUBLISH | {"payload": "x"}], "Z"), [PUBLISH | {"client": "aZ", "topic": "xZ", "payload": "x"}])
+        for name, wanted in (
+                ("x", "xZ"), ("x/+/#", "xZ/+/#"), ("/", "/"), ("#", "#"), ("$x/y", "$xZ/yZ"),
+                ("$share/g/x/#", "$share/gZ/xZ/#"), ("$share/g/#", "$share/gZ/#")):
+            self.assertEqual(fresh([{"do": "subscribe", "client": "a", "filter": name}], "Z"),
+                             [{"do": "subscribe", "client": "aZ", "filter": wanted}])
+        self.assertEqual(fresh([PUBLISH | {"payload": "x"}], "Z"),
+                         [PUBLISH | {"client": "aZ", "topic": "xZ", "payload": "x"}])
 
 
 class Shrinks(unittest.TestCase):
@@ -55,11 +61,13 @@ class Shrinks(unittest.TestCase):
         tried = 0
 
         def still(script):
-            return any(c["do"] == "publish" and c.get("retain") and c["topic"].startswith("$") for c in script) and connected(script) == script
+            return any(c["do"] == "publish" and c.get("retain") and c["topic"].startswith("$")
+                       for c in script) and connected(script) == script
         for script in (maker.script() for _ in range(200)):
             if still(script):
                 tried += 1
-                self.assertEqual(shrink(script, still), [A, PUBLISH | {"topic": "$x", "retain": True}])
+                self.assertEqual(
+                    shrink(script, still), [A, PUBLISH | {"topic": "$x", "retain": True}])
         self.assertGreater(tried, 10)
 
     def test_nothing_can_be_left_out(self):
@@ -67,43 +75,58 @@ class Shrinks(unittest.TestCase):
         self.assertEqual(shrink(script, lambda candidate: candidate == script), script)
 
     def test_connected(self):
-        self.assertEqual(connected([X, A, X, {"do": "disconnect", "client": "a"}, PUBLISH, {"do": "advance", "seconds": 1}, A, PUBLISH]),
-                         [A, X, {"do": "disconnect", "client": "a"}, {"do": "advance", "seconds": 1}, A, PUBLISH])
+        self.assertEqual(connected([X, A, X, {"do": "disconnect", "client": "a"}, PUBLISH,
+                                    {"do": "advance", "seconds": 1}, A, PUBLISH]),
+                         [A, X, {"do": "disconnect", "client": "a"},
+                          {"do": "advance", "seconds": 1}, A, PUBLISH])
 
 
 class Kinds(unittest.TestCase):
     def whats(self, ours: str, theirs: str, *more: str, head: str = "   a x") -> list[str]:
-        return [one.what for one in apart(3, "publish", [head, f"      mqroute: {ours}", f"      broker:  {theirs}", *more])]
+        return [one.what for one in apart(
+            3, "publish", [head, f"      mqroute: {ours}", f"      broker:  {theirs}", *more])]
 
     def test_what_differs(self):
         full = 'qos 1, retain true, payload "1", "2", ids [3, 7], expiry 0'
-        for theirs, wanted in (("nothing", ["missing"]), (full.replace("true", "false"), ["retain"]), (full.replace(", expiry 0", ""), ["expiry"]),
-                               (full.replace("[3, 7]", "[3]"), ["missing"]), (full.replace(", ids [3, 7]", ""), ["missing"]), (full.replace("qos 1", "qos 2"), ["more"]),
-                               (full.replace("qos 1", "qos 0").replace("[3, 7]", "[7]").replace("true", "false"), ["missing", "retain"]),
-                               (full.replace(', "2"', ""), ["missing"]), (full.replace('"2"', '"3"'), ["payload"])):
-            self.assertEqual(self.whats(full, theirs), [f"publish: {what}" for what in wanted], theirs)
+        for theirs, wanted in (
+                ("nothing", ["missing"]), (full.replace("true", "false"), ["retain"]),
+                (full.replace(", expiry 0", ""), ["expiry"]),
+                (full.replace("[3, 7]", "[3]"), ["missing"]),
+                (full.replace(", ids [3, 7]", ""), ["missing"]),
+                (full.replace("qos 1", "qos 2"), ["more"]),
+                (full.replace("qos 1", "qos 0").replace("[3, 7]", "[7]").replace("true", "false"),
+                 ["missing", "retain"]),
+                (full.replace(', "2"', ""), ["missing"]),
+                (full.replace('"2"', '"3"'), ["payload"])):
+            self.assertEqual(
+                self.whats(full, theirs), [f"publish: {what}" for what in wanted], theirs)
         self.assertEqual(self.whats("nothing", full), ["publish: more"])
         self.assertEqual(self.whats("2 copies", "1 copy"), ["publish: missing"])
         self.assertEqual(self.whats("1 copy", "3 copies"), ["publish: more"])
-        self.assertEqual(self.whats('x "1", x "2"', 'x "2", x "1"', head="   a order"), ["publish: order"])
+        self.assertEqual(
+            self.whats('x "1", x "2"', 'x "2", x "1"', head="   a order"), ["publish: order"])
 
     def test_reasons(self):
         nobody = "   reason: mqroute 0, broker 16"
-        self.assertEqual(self.whats('qos 0, retain false, payload ""', "nothing", nobody), ["publish: missing"] * 2)
-        self.assertEqual([one.what for one in apart(3, "publish", [nobody])], ["publish: reason: mqroute 0, broker 16"])
+        self.assertEqual(self.whats('qos 0, retain false, payload ""', "nothing", nobody),
+                         ["publish: missing"] * 2)
+        self.assertEqual([one.what for one in apart(3, "publish", [nobody])],
+                         ["publish: reason: mqroute 0, broker 16"])
 
     def test_covers(self):
-        small, great = Kind("publish: missing", frozenset("ab")), Kind("publish: missing", frozenset("abc"))
+        small, great = Kind("publish: missing", frozenset("ab")), Kind(
+            "publish: missing", frozenset("abc"))
         self.assertTrue(small.covers(great) and small.covers(small))
         self.assertFalse(great.covers(small) or small.covers(great._replace(what="publish: more")))
 
     def test_what_a_script_uses(self):
         self.assertEqual(uses([A, X, PUBLISH]), {"subscribe", "plain", "publish"})
-        script = [A, A | {"clean": False, "session_expiry": 1}, X | {"filter": "$share/g/$x/#", "qos": 1}, X, X | {"handling": 2},
+        script = [A, A | {"clean": False, "session_expiry": 1},
+                  X | {"filter": "$share/g/$x/#", "qos": 1}, X, X | {"handling": 2},
                   PUBLISH | {"topic": "$x", "expiry": 0}]
-        self.assertEqual(uses(script), {"taken over", "resumes", "session", "subscribe", "group", "plain", "$ filter", "#", "qos", "subscribes again",
+        self.assertEqual(uses(script), {"taken over", "resumes", "session", "subscribe", "group",
+                                        "plain", "$ filter", "#", "qos", "subscribes again",
                                         "handling 2", "publish", "$ topic", "expiry 0"})
-
 
 
 class AccessLists(unittest.TestCase):
@@ -117,13 +140,15 @@ class AccessLists(unittest.TestCase):
     def test_only_where_they_are_asked_for(self):
         def lists(use: Use) -> int:
             maker = Maker(random.Random(1), use)
-            return sum(any(command["do"] == "acl" for command in maker.script()) for _ in range(100))
+            return sum(
+                any(command["do"] == "acl" for command in maker.script()) for _ in range(100))
         self.assertEqual(lists(Use()), 0)
         self.assertGreater(lists(Use(frozenset([*PARTS, ACCESS]))), 50)
 
     def test_a_line_that_decides_nothing_is_left_out(self):
         script = [{"do": "acl", "text": "topic read y\ntopic deny x\n"}]
-        self.assertEqual(shrink(script, lambda one: "deny x" in one[0].get("text", "")), [{"do": "acl", "text": "topic deny x\n"}])
+        self.assertEqual(shrink(script, lambda one: "deny x" in one[0].get("text", "")),
+                         [{"do": "acl", "text": "topic deny x\n"}])
 
 
 if __name__ == "__main__":

@@ -17,10 +17,11 @@ def section(title: str) -> str:
 
 
 def sessions(text: str) -> list[list[tuple[str, str]]]:
-    """Of each block the commands, with what each prints. A line that begins with > goes on with the one before."""
+    """Of each block the commands, with what each prints. A line that begins with >
+    goes on with the one before."""
     blocks = re.findall(r"```\n(\$ .*?)```", text, re.S)
-    return [[(command.replace("\n> ", "\n"), printed) for command, printed in re.findall(r"^\$ (.*(?:\n> .*)*)\n((?:(?!\$ ).*\n)*)", block, re.M)]
-            for block in blocks]
+    return [[(command.replace("\n> ", "\n"), printed) for command, printed in re.findall(
+        r"^\$ (.*(?:\n> .*)*)\n((?:(?!\$ ).*\n)*)", block, re.M)] for block in blocks]
 
 
 @wants_program
@@ -34,7 +35,8 @@ class Sessions(unittest.TestCase):
                 continue
             with tempfile.TemporaryDirectory() as folder:
                 for name in ("brokers", "examples", "tools"):
-                    shutil.copytree(TOP / name, Path(folder, name), ignore=shutil.ignore_patterns("__pycache__", "recorded"))
+                    shutil.copytree(TOP / name, Path(folder, name),
+                                    ignore=shutil.ignore_patterns("__pycache__", "recorded"))
                 Path(folder, "bin").mkdir()
                 Path(folder, "bin/mqroute").symlink_to(PROGRAM)
                 self.run_session(session, folder)
@@ -43,7 +45,9 @@ class Sessions(unittest.TestCase):
         around = os.environ | {"PATH": f"{folder}/bin:{os.environ['PATH']}"}
         moved = ""
         for command, printed in session:
-            done = subprocess.run([BASH, "-c", moved + command], cwd=folder, env=around, text=True, encoding="utf-8", stdout=subprocess.PIPE, stderr=subprocess.STDOUT)
+            done = subprocess.run(
+                [BASH, "-c", moved + command], cwd=folder, env=around, text=True, encoding="utf-8",
+                stdout=subprocess.PIPE, stderr=subprocess.STDOUT)
             self.assertEqual(done.stdout, printed, command)
             moved += command + "\n" if command.startswith("cd ") else ""
         self.assertTrue(session[-1][1], "the last command prints something")

@@ -1,6 +1,8 @@
-"""The recorded logs under the built mqroute, the broker's own lines against its copies, and the READMEs' numbers.
+"""The recorded logs under the built mqroute, the broker's own lines against its copies, and the
+READMEs' numbers.
 
-The program is $MQROUTE, or the one that `make` builds; without one the tests that want it are skipped.
+The program is $MQROUTE, or the one that `make` builds; without one the tests that want it are
+skipped.
 """
 import io
 import os
@@ -28,7 +30,8 @@ def mqroute(script: bytes, *words: str) -> bytes:
 
 
 def tool(name: str, *words: str | Path) -> tuple[int, str]:
-    done = subprocess.run([sys.executable, HERE / name, *words], capture_output=True, text=True, encoding="utf-8")
+    done = subprocess.run(
+        [sys.executable, HERE / name, *words], capture_output=True, text=True, encoding="utf-8")
     return done.returncode, done.stdout
 
 
@@ -41,7 +44,8 @@ def walk_through(text: str) -> list[tuple[str, str]]:
 class Recorded(unittest.TestCase):
     def convert(self, kind: str, *words: str, wanted: int = 0) -> None:
         status, script = tool("log_to_script.py", RECORDED / f"{kind}.log", *words)
-        self.assertEqual((status, script), (wanted, (RECORDED / f"{kind}.jsonl").read_text(encoding="utf-8")))
+        self.assertEqual(
+            (status, script), (wanted, (RECORDED / f"{kind}.jsonl").read_text(encoding="utf-8")))
 
     def differ(self, kind: str, *words: str, acl: str | None = None) -> None:
         script = (RECORDED / f"{kind}.jsonl").read_bytes()
@@ -88,7 +92,8 @@ class Scripts(unittest.TestCase):
     def test_outputs(self):
         """Each script of differences/ gives the output that the broker was compared with."""
         for script in sorted((HERE.parent / "brokers/differences").rglob("*.jsonl")):
-            words = ["--acl-file", script.with_suffix(".acl")] if script.with_suffix(".acl").exists() else []
+            words = (["--acl-file", script.with_suffix(".acl")]
+                     if script.with_suffix(".acl").exists() else [])
             if script.with_suffix(".options").exists():
                 words += script.with_suffix(".options").read_text().split()
             done = subprocess.run([PROGRAM, *words, script], capture_output=True)
@@ -96,15 +101,20 @@ class Scripts(unittest.TestCase):
                 self.assertEqual(done.stdout, script.with_suffix(".out").read_bytes())
 
     def test_each_is_told_of(self):
-        """docs/BROKERS.md names each script in its broker's section, and stands the ones that differ in its table."""
+        """docs/BROKERS.md names each script in its broker's section, and stands the ones
+        that differ in its table."""
         sections = (HERE.parent / "docs/BROKERS.md").read_text(encoding="utf-8").split("\n## ")
         by_broker = {section.split(" ")[0].lower(): section for section in sections}
-        agreement = next(section for section in sections if section.startswith("Where mosquitto agrees"))
-        folders = sorted(path for path in (HERE.parent / "brokers/differences").iterdir() if path.is_dir())
+        agreement = next(
+            section for section in sections if section.startswith("Where mosquitto agrees"))
+        folders = sorted(
+            path for path in (HERE.parent / "brokers/differences").iterdir() if path.is_dir())
         self.are_named("brokers/differences", by_broker["mosquitto"], agreement)
         for folder in folders:
             section = by_broker[folder.name]
-            self.are_named(f"brokers/differences/{folder.name}", "\n".join(line for line in section.splitlines() if line.startswith("|")), section)
+            self.are_named(
+                f"brokers/differences/{folder.name}",
+                "\n".join(line for line in section.splitlines() if line.startswith("|")), section)
         self.assertGreater(len(folders), 1)
 
     def are_named(self, folder: str, table: str, agreement: str) -> None:
@@ -121,7 +131,8 @@ class Scripts(unittest.TestCase):
         lists = sorted((HERE.parent / "brokers/differences").glob("refused-*.acl"))
         self.assertGreater(len(lists), 3)
         for name in lists:
-            self.assertEqual(mqroute(b'{"do":"connect","client":"a"}\n', "--acl-file", name), b'{"line":1,"reason":0}\n')
+            self.assertEqual(mqroute(b'{"do":"connect","client":"a"}\n', "--acl-file", name),
+                             b'{"line":1,"reason":0}\n')
 
     @wants_program
     def test_lists_that_the_broker_takes(self):
@@ -135,15 +146,18 @@ class Scripts(unittest.TestCase):
 
 class Readme(unittest.TestCase):
     def check(self, commands: list[tuple[str, str]]) -> None:
-        """Runs commands in order in the folder of the recorded logs, and compares what they print."""
+        """Runs commands in order in the folder of the recorded logs, and
+        compares what they print."""
         with tempfile.TemporaryDirectory() as folder:
             for name in ("tools", "brokers"):
-                shutil.copytree(HERE.parent / name, Path(folder, name), ignore=shutil.ignore_patterns("__pycache__"))
+                shutil.copytree(HERE.parent / name, Path(folder, name),
+                                ignore=shutil.ignore_patterns("__pycache__"))
             Path(folder, "mqroute").symlink_to(PROGRAM)
             Path(folder, "mqroute-acl").symlink_to(ACL_PROGRAM)
             around = os.environ | {"PATH": f"{folder}:{os.environ['PATH']}"}
             for command, printed in commands:
-                done = subprocess.run(command, shell=True, cwd=Path(folder, "brokers/recorded"), text=True, encoding="utf-8",
+                done = subprocess.run(command, shell=True, cwd=Path(folder, "brokers/recorded"),
+                                      text=True, encoding="utf-8",
                                       stdout=subprocess.PIPE, stderr=subprocess.STDOUT, env=around)
                 self.assertEqual(done.stdout, printed, command)
 

@@ -3,31 +3,23 @@ import io
 import json
 import os
 import shutil
-import socket
 import subprocess
 import sys
 import tempfile
-import time
 import unittest
 import unittest.mock
 from pathlib import Path
 
-HERE = Path(__file__).parent.parent
+import mosquitto
+from mosquitto import PAHO, wants_paho
+from worked import HERE, PROGRAM, wants_program
+
 sys.path.insert(0, str(HERE))
-from mqroute_tools.agreement import Acknowledged, Copy, Sessions, different_copies, different_order, different_reasons  # noqa: E402
+from mqroute_tools.agreement import (  # noqa: E402
+    Acknowledged, Copy, Sessions, different_copies, different_order, different_reasons)
 from mqroute_tools.output import Block  # noqa: E402
 from mqroute_tools.progress import Progress  # noqa: E402
 
-PROGRAM = Path(os.environ.get("MQROUTE", HERE.parent / "crates/mqroute/out/mqroute"))
-PYTHON = "/usr/bin/python3"  # which has Debian's python3-paho-mqtt
-MOSQUITTO = os.environ.get("MOSQUITTO") or shutil.which("mosquitto") or "/usr/sbin/mosquitto"
-
-
-def has_paho(python: str) -> bool:
-    return Path(python).exists() and subprocess.run([python, "-c", "import paho.mqtt.client"], capture_output=True).returncode == 0
-
-
-PAHO = next((p for p in (sys.executable, PYTHON) if has_paho(p)), None)
 COPY = Copy("b", "x", 1, True, "p", [3, 7], 9)
 
 
@@ -45,7 +37,8 @@ class Copies(unittest.TestCase):
             self.assertEqual(self.differ(self.OURS, theirs), [])
 
     def test_differs(self):
-        for more in ({"qos": 0}, {"retain": False}, {"ids": [3]}, {"payload": "q"}, {"expiry": 5}, {"expiry": None}):
+        for more in ({"qos": 0}, {"retain": False}, {"ids": [3]}, {"payload": "q"}, {"expiry": 5},
+                     {"expiry": None}):
             self.assertEqual(len(self.differ([COPY], [COPY._replace(**more)])), 3, more)
         self.assertEqual(self.differ([COPY], [])[2], "      broker:  nothing")
         self.assertEqual(self.differ([], [COPY])[1], "      mqroute: nothing")
@@ -64,7 +57,8 @@ class Copies(unittest.TestCase):
     def test_how_many(self):
         """One copy for each subscription that matches, and no more."""
         plain = COPY._replace(ids=[])
-        self.assertEqual(self.differ([plain], [plain] * 3), ["   b x", "      mqroute: 1 copy", "      broker:  3 copies"])
+        self.assertEqual(self.differ([plain], [plain] * 3),
+                         ["   b x", "      mqroute: 1 copy", "      broker:  3 copies"])
         self.assertEqual(self.differ([plain], [plain] * 3, "x", "#", "+"), [])
         self.assertEqual(len(self.differ([plain], [plain] * 3, "x", "#", "y")), 3)
         self.assertEqual(len(self.differ([plain] * 2, [plain])), 3)
@@ -73,36 +67,48 @@ class Copies(unittest.TestCase):
         def messages(*texts: str, qos: int = 1) -> list[Copy]:
             return [COPY._replace(payload=t, qos=qos) for t in texts]
         self.assertEqual(different_order(messages("1", "2"), messages("1", "1", "2")), [])
-        self.assertEqual(different_order(messages("1", "2"), messages("2", "1")),
-                         ["   b order", '      mqroute: x "1", x "2"', '      broker:  x "2", x "1"'])
-        self.assertEqual(different_order(messages("1") + messages("2", qos=2), messages("2", qos=2) + messages("1")), [])
+        self.assertEqual(
+            different_order(messages("1", "2"), messages("2", "1")),
+            ["   b order", '      mqroute: x "1", x "2"', '      broker:  x "2", x "1"'])
+        self.assertEqual(different_order(messages("1") + messages("2", qos=2),
+                                         messages("2", qos=2) + messages("1")), [])
 
 
 class Reasons(unittest.TestCase):
     def differ(self, do: str, ours: int | None, theirs: int | None, **more) -> list[str]:
         refused = "NotAuthorized" if ours is None else None
-        return different_reasons({"do": do}, Block(1, [], ours, refused), Acknowledged(theirs), False, **more)
+        return different_reasons(
+            {"do": do}, Block(1, [], ours, refused), Acknowledged(theirs), False, **more)
 
     def test_same(self):
-        for do, ours, theirs in (("unsubscribe", 17, 17), ("subscribe", 1, 1), ("publish", 16, 16), ("publish", None, 135), ("publish", 16, 0), ("publish", 16, None)):
+        for do, ours, theirs in (("unsubscribe", 17, 17), ("subscribe", 1, 1), ("publish", 16, 16),
+                                 ("publish", None, 135), ("publish", 16, 0), ("publish", 16, None)):
             self.assertEqual(self.differ(do, ours, theirs), [], (do, ours, theirs))
         self.assertEqual(self.differ("subscribe", 2, 1, greatest_qos=1), [])
 
     def test_differs(self):
-        for do, ours, theirs in (("unsubscribe", 0, 17), ("unsubscribe", 17, 0), ("subscribe", 1, 128), ("publish", 0, 16), ("publish", 0, 135), ("publish", 16, 135)):
-            self.assertEqual(self.differ(do, ours, theirs), [f"   reason: mqroute {ours}, broker {theirs}"])
+        for do, ours, theirs in (
+                ("unsubscribe", 0, 17), ("unsubscribe", 17, 0), ("subscribe", 1, 128),
+                ("publish", 0, 16), ("publish", 0, 135), ("publish", 16, 135)):
+            self.assertEqual(
+                self.differ(do, ours, theirs), [f"   reason: mqroute {ours}, broker {theirs}"])
         self.assertEqual(self.differ("publish", None, 0), ["   reason: mqroute 135, broker 0"])
 
     def test_session_present(self):
         block, connect = Block(1, [], 0, None), {"do": "connect", "client": "b"}
         self.assertEqual(different_reasons(connect, block, Acknowledged(0, True), True), [])
-        self.assertEqual(different_reasons(connect, block, Acknowledged(0, True), False), ["   session present: mqroute 0, broker 1"])
+        self.assertEqual(different_reasons(connect, block, Acknowledged(0, True), False),
+                         ["   session present: mqroute 0, broker 1"])
 
     def test_which_sessions_there_are(self):
         sessions = Sessions()
-        again, leave = {"do": "connect", "client": "b", "clean": False, "session_expiry": 9}, {"do": "disconnect", "client": "b"}
-        for command, present in ((again, True), (leave, True), (again, True), (leave, True), ({"do": "advance", "seconds": 9}, False),
-                                 (again | {"session_expiry": 0}, False), (leave, False), (again, True), (again | {"clean": True, "session_expiry": 0}, False)):
+        again = {"do": "connect", "client": "b", "clean": False, "session_expiry": 9}
+        leave = {"do": "disconnect", "client": "b"}
+        for command, present in (
+                (again, True), (leave, True), (again, True), (leave, True),
+                ({"do": "advance", "seconds": 9}, False),
+                (again | {"session_expiry": 0}, False), (leave, False), (again, True),
+                (again | {"clean": True, "session_expiry": 0}, False)):
             sessions.follow(command)
             self.assertEqual(sessions.present(again), present, command)
 
@@ -127,49 +133,46 @@ class WithoutPaho(unittest.TestCase):
     def test_status(self):
         with tempfile.TemporaryDirectory() as folder:
             Path(folder, "paho.py").write_text("raise ImportError")
-            done = subprocess.run([sys.executable, HERE / "replay.py", "x", "y"], capture_output=True, text=True, env=os.environ | {"PYTHONPATH": folder})
-            self.assertEqual((done.returncode, done.stderr), (2, "replay: wants the package python3-paho-mqtt\n"))
+            done = subprocess.run(
+                [sys.executable, HERE / "replay.py", "x", "y"], capture_output=True, text=True,
+                env=os.environ | {"PYTHONPATH": folder})
+            self.assertEqual((done.returncode, done.stderr),
+                             (2, "replay: wants the package python3-paho-mqtt\n"))
 
 
 class OnABroker(unittest.TestCase):
-    CONF = "listener {port} 127.0.0.1\nallow_anonymous true\nuser {user}\npersistence false\nsys_interval 0\nlog_dest none\nacl_file {folder}/acl\n"
+    CONF = ("listener {port} 127.0.0.1\nallow_anonymous true\nuser {user}\npersistence false\n"
+            "sys_interval 0\nlog_dest none\nacl_file {folder}/acl\n")
 
     def setUp(self):
         self.folder = tempfile.TemporaryDirectory()
         self.addCleanup(self.folder.cleanup)
         os.chmod(self.folder.name, 0o755)
-        with socket.socket() as free:
-            free.bind(("127.0.0.1", 0))
-            self.port = free.getsockname()[1]
+        self.port = mosquitto.free_port()
 
     def start(self, more: str = "", access: str = "pattern readwrite #\n") -> int:
-        if not Path(MOSQUITTO).exists():
-            self.skipTest("there is no mosquitto")
         folder = self.folder.name
         Path(folder, "acl").write_text(access)
-        Path(folder, "conf").write_text(self.CONF.format(port=self.port, folder=folder, user=subprocess.getoutput("id -un")) + more)
-        broker = subprocess.Popen([MOSQUITTO, "-c", f"{folder}/conf"], stderr=subprocess.DEVNULL)
-        self.addCleanup(broker.wait)
-        self.addCleanup(broker.kill)
-        for _ in range(100):
-            with socket.socket() as probe:
-                if probe.connect_ex(("127.0.0.1", self.port)) == 0:
-                    return broker.pid
-            time.sleep(0.05)
-        raise AssertionError("the broker doesn't start")
+        Path(folder, "conf").write_text(
+            self.CONF.format(port=self.port, folder=folder, user=subprocess.getoutput("id -un"))
+            + more)
+        return mosquitto.start(self, Path(folder, "conf"), self.port)
 
     def write_files(self, script: list, output: list) -> None:
         for name, lines in (("script", script), ("output", output)):
-            texts = (line if isinstance(line, str) else json.dumps(line, separators=(",", ":")) for line in lines)
+            texts = (line if isinstance(line, str) else json.dumps(line, separators=(",", ":"))
+                     for line in lines)
             Path(self.folder.name, name).write_text("".join(text + "\n" for text in texts))
 
     def run_script(self, script: list, output: list, *words: str) -> tuple[int, str, str]:
         self.write_files(script, output)
-        done = subprocess.run([PAHO, HERE / "replay.py", "--port", str(self.port), *words, "script", "output"],
-                              cwd=self.folder.name, capture_output=True, text=True, timeout=60)
+        done = subprocess.run(
+            [PAHO, HERE / "replay.py", "--port", str(self.port), *words, "script", "output"],
+            cwd=self.folder.name, capture_output=True, text=True, timeout=60)
         return done.returncode, done.stdout, done.stderr
 
-    CONNECT, PUBLISH = {"do": "connect", "client": "a"}, {"do": "publish", "client": "a", "topic": "x", "payload": "p", "qos": 1}
+    CONNECT = {"do": "connect", "client": "a"}
+    PUBLISH = {"do": "publish", "client": "a", "topic": "x", "payload": "p", "qos": 1}
     SUBSCRIBE = {"do": "subscribe", "client": "a", "filter": "#", "qos": 1}
     GOT = {"client": "a", "line": 3, "payload": "p", "qos": 1, "retain": False, "topic": "x"}
 
@@ -177,13 +180,17 @@ class OnABroker(unittest.TestCase):
         return [{"line": n, "reason": r} for n, r in enumerate(reasons, 1)]
 
 
-@unittest.skipUnless(PAHO, "there is no python3-paho-mqtt")
+@wants_paho
 class Runs(OnABroker):
     def test_outputs_that_are_not_of_the_script(self):
         script = [self.CONNECT, "", self.PUBLISH]
-        for output in ([], self.done(0), [{"line": 1, "reason": 0}, {"line": 3, "reason": 17}], self.done(0, 0, 0),
-                       [{"line": 1, "reason": 0}, self.GOT | {"topic": "y"}, {"line": 3, "reason": 0}], ["no"]):
-            status, out, told = self.run_script(script, output)  # there is no broker: it isn't asked
+        for output in (
+                [], self.done(0), [{"line": 1, "reason": 0}, {"line": 3, "reason": 17}],
+                self.done(0, 0, 0),
+                [{"line": 1, "reason": 0}, self.GOT | {"topic": "y"}, {"line": 3, "reason": 0}],
+                ["no"]):
+            # there is no broker: it isn't asked
+            status, out, told = self.run_script(script, output)
             self.assertEqual((status, out, len(told.splitlines())), (2, "", 1), output)
             self.assertNotIn("refused", told)
 
@@ -191,14 +198,20 @@ class Runs(OnABroker):
         self.start()
         faulty = {"do": "publish", "client": "a", "topic": "+"}
         refused = {"code": 8, "line": 3, "refused": "TopicName"}
-        self.assertEqual(self.run_script([self.CONNECT, self.SUBSCRIBE, faulty, {"do": "stat"}], [*self.done(0, 1), refused, {"line": 4, "nodes": 1, "retained": 0, "subscriptions": 1}]), (0, "", ""))
+        script = [self.CONNECT, self.SUBSCRIBE, faulty, {"do": "stat"}]
+        stat = {"line": 4, "nodes": 1, "retained": 0, "subscriptions": 1}
+        self.assertEqual(self.run_script(script, [*self.done(0, 1), refused, stat]), (0, "", ""))
 
     def test_the_same_and_not(self):
         self.start()
         script = [self.CONNECT, self.SUBSCRIBE, self.PUBLISH]
-        self.assertEqual(self.run_script(script, [*self.done(0, 1), self.GOT, {"line": 3, "reason": 0}]), (0, "", ""))
+        self.assertEqual(
+            self.run_script(script, [*self.done(0, 1), self.GOT, {"line": 3, "reason": 0}]),
+            (0, "", ""))
         status, out, _ = self.run_script(script, [*self.done(0, 1), {"line": 3, "reason": 16}])
-        self.assertEqual((status, out.splitlines()[1:]), (1, ["   a x", "      mqroute: nothing", '      broker:  qos 1, retain false, payload "p"']))
+        self.assertEqual((status, out.splitlines()[1:]),
+                         (1, ["   a x", "      mqroute: nothing",
+                              '      broker:  qos 1, retain false, payload "p"']))
         status, out, _ = self.run_script([self.CONNECT, self.PUBLISH], self.done(0, 0))
         self.assertEqual((status, out.splitlines()[1:]), (1, ["   reason: mqroute 0, broker 16"]))
 
@@ -214,8 +227,10 @@ class Runs(OnABroker):
 
     def test_access_lists(self):
         pid = self.start()
-        script = [self.CONNECT, self.SUBSCRIBE, {"do": "acl", "text": "topic read #"}, self.PUBLISH, {"do": "acl"}, self.PUBLISH]
-        output = [*self.done(0, 1, 0), {"code": 11, "line": 4, "refused": "NotAuthorized"}, {"line": 5, "reason": 0}, self.GOT | {"line": 6}, {"line": 6, "reason": 0}]
+        script = [self.CONNECT, self.SUBSCRIBE, {"do": "acl", "text": "topic read #"}, self.PUBLISH,
+                  {"do": "acl"}, self.PUBLISH]
+        output = [*self.done(0, 1, 0), {"code": 11, "line": 4, "refused": "NotAuthorized"},
+                  {"line": 5, "reason": 0}, self.GOT | {"line": 6}, {"line": 6, "reason": 0}]
         command = f'cp "$MQROUTE_ACL" "{self.folder.name}/acl" && kill -HUP {pid}'
         self.assertEqual(self.run_script(script, output, "--on-acl", command), (0, "", ""))
         wanted = "sets an access list: give --on-acl, a command that lets the broker read one"
@@ -227,51 +242,71 @@ class Runs(OnABroker):
     def test_user_and_password(self):
         names = f"{self.folder.name}/passwords"
         Path(names).write_text("me:secret\nops:secret\n")
-        if not shutil.which("mosquitto_passwd") or subprocess.run(["mosquitto_passwd", "-U", names]).returncode:
+        if (not shutil.which("mosquitto_passwd")
+                or subprocess.run(["mosquitto_passwd", "-U", names]).returncode):
             self.skipTest("there is no mosquitto_passwd")
         os.chmod(names, 0o644)
         self.start(f"password_file {names}\nallow_anonymous false\n")
-        script, output = [self.CONNECT, self.CONNECT | {"client": "b", "user": "ops"}], self.done(0, 0)
+        script = [self.CONNECT, self.CONNECT | {"client": "b", "user": "ops"}]
+        output = self.done(0, 0)
         self.assertEqual(self.run_script(script, output)[0], 2)
-        self.assertEqual(self.run_script(script, output, "--username", "me", "--password", "secret"), (0, "", ""))
+        self.assertEqual(
+            self.run_script(script, output, "--username", "me", "--password", "secret"),
+            (0, "", ""))
 
     def test_wills(self):
-        """What a client publishes and is gone at once is sent by the broker, when it sees that the connection is gone."""
+        """What a client publishes and is gone at once is sent by the broker, when it sees
+        that the connection is gone."""
         self.start()
-        will = {"do": "publish", "client": "b", "topic": "x", "payload": "will", "qos": 1, "retain": True}
+        will = {"do": "publish", "client": "b", "topic": "x", "payload": "will", "qos": 1,
+                "retain": True}
         clear = {"do": "publish", "client": "a", "topic": "x", "retain": True}
-        script = [self.CONNECT, self.SUBSCRIBE, {"do": "connect", "client": "b"}, will, {"do": "disconnect", "client": "b"}, self.SUBSCRIBE, clear]
+        script = [self.CONNECT, self.SUBSCRIBE, {"do": "connect", "client": "b"}, will,
+                  {"do": "disconnect", "client": "b"}, self.SUBSCRIBE, clear]
         got = self.GOT | {"payload": "will"}
-        output = [*self.done(0, 1, 0), got | {"line": 4}, {"line": 4, "reason": 0}, {"line": 5, "reason": 0},
-                  got | {"line": 6, "retain": True}, {"line": 6, "reason": 1}, self.GOT | {"line": 7, "payload": "", "qos": 0}, {"line": 7, "reason": 0}]
+        output = [*self.done(0, 1, 0), got | {"line": 4}, {"line": 4, "reason": 0},
+                  {"line": 5, "reason": 0},
+                  got | {"line": 6, "retain": True}, {"line": 6, "reason": 1},
+                  self.GOT | {"line": 7, "payload": "", "qos": 0}, {"line": 7, "reason": 0}]
         for words in ((), ("--wills",)):
             self.assertEqual(self.run_script(script, output, *words), (0, "", ""))
         status, out, _ = self.run_script(script, [*output[:3], *output[4:]], "--wills")
-        self.assertEqual((status, out.splitlines()[0]), (1, 'line 5: {"do": "disconnect", "client": "b"}'))
+        self.assertEqual(
+            (status, out.splitlines()[0]), (1, 'line 5: {"do": "disconnect", "client": "b"}'))
         self.assertIn('      broker:  qos 1, retain false, payload "will"', out)
 
     def test_which_are_wills(self):
         code = """if True:
+            import json
             from mqroute_tools.output import Block
             from mqroute_tools.wills import Wills
             def lines(*commands, mine=False):
-                copies = ['{"client":"a","line":2,"payload":"will","qos":0,"retain":false,"topic":"x"}'] if mine else []
-                return [(n, c, Block(n, copies if c["do"] == "publish" else [], 0, None)) for n, c in enumerate(commands, 1)]
-            a, gone, other = {"do": "connect", "client": "a"}, {"do": "disconnect", "client": "a"}, {"do": "disconnect", "client": "b"}
+                copy = {"client": "a", "line": 2, "payload": "will", "qos": 0, "retain": False,
+                        "topic": "x"}
+                copies = [json.dumps(copy)] if mine else []
+                return [(n, c, Block(n, copies if c["do"] == "publish" else [], 0, None))
+                        for n, c in enumerate(commands, 1)]
+            a, gone = {"do": "connect", "client": "a"}, {"do": "disconnect", "client": "a"}
+            other = {"do": "disconnect", "client": "b"}
             will = {"do": "publish", "client": "a", "topic": "x", "payload": "will"}
             found = Wills(lines(a, will, gone))
-            assert (set(found.given), found.published, set(found.due)) == ({1}, {2}, {3}), vars(found)
-            for not_one in (lines(a, will, gone, mine=True), lines(a, will | {"payload": "x"}, gone), lines(a, will, {"do": "stat"}, gone), lines(will, gone),
+            places = set(found.given), found.published, set(found.due)
+            assert places == ({1}, {2}, {3}), vars(found)
+            for not_one in (lines(a, will, gone, mine=True),
+                            lines(a, will | {"payload": "x"}, gone),
+                            lines(a, will, {"do": "stat"}, gone), lines(will, gone),
                             lines(a, will, other)):
                 assert not vars(Wills(not_one))["due"], not_one
         """
-        done = subprocess.run([sys.executable, "-c", code], cwd=HERE, capture_output=True, text=True)
+        done = subprocess.run(
+            [sys.executable, "-c", code], cwd=HERE, capture_output=True, text=True)
         self.assertEqual((done.returncode, done.stderr), (0, ""))
 
     def test_denied_publishes(self):
         self.start(access="topic read #\n")
         script = [self.CONNECT] + [self.PUBLISH | {"qos": q} for q in (0, 1, 2)]
-        output = [{"line": 1, "reason": 0}] + [{"code": 11, "line": n, "refused": "NotAuthorized"} for n in (2, 3, 4)]
+        output = ([{"line": 1, "reason": 0}]
+                  + [{"code": 11, "line": n, "refused": "NotAuthorized"} for n in (2, 3, 4)])
         self.assertEqual(self.run_script(script, output), (0, "", ""))
         status, out, _ = self.run_script(script, self.done(0, 16, 16, 16))
         self.assertEqual((status, out.count("   reason: mqroute 16, broker 135\n")), (1, 2))
@@ -281,7 +316,9 @@ class Runs(OnABroker):
         code = """if True:
             from types import SimpleNamespace
             from mqroute_tools.live import Offer
-            poor = Offer(SimpleNamespace(SharedSubscriptionAvailable=0, WildcardSubscriptionAvailable=0, SubscriptionIdentifierAvailable=0))
+            poor = Offer(SimpleNamespace(
+                SharedSubscriptionAvailable=0, WildcardSubscriptionAvailable=0,
+                SubscriptionIdentifierAvailable=0))
             from mqroute_tools.offered import fitted_script
             lines = [b'{"do":"subscribe","client":"a","filter":"$share/g/x"}\\n', b"\\n",
                      b'{"do":"subscribe","client":"a","filter":"x","id":1}\\n',
@@ -291,8 +328,10 @@ class Runs(OnABroker):
             assert fitted == [b"\\n", b"\\n", without, b"\\n", lines[4]], fitted
             assert sorted(told.values()) == [1, 1, 1], told
             assert fitted_script(lines, {1, 3, 4}, Offer()) == (lines, {})
-            for command, wanted in (({"filter": "$share/g/x"}, "shared subscriptions"), ({"filter": "x/+"}, "wildcards in filters"),
-                                    ({"filter": "x", "id": 1}, "subscription identifiers"), ({"filter": "x"}, "")):
+            for command, wanted in (({"filter": "$share/g/x"}, "shared subscriptions"),
+                                    ({"filter": "x/+"}, "wildcards in filters"),
+                                    ({"filter": "x", "id": 1}, "subscription identifiers"),
+                                    ({"filter": "x"}, "")):
                 command["do"] = "subscribe"
                 assert poor.lacks(command) == wanted and Offer().lacks(command) == "", command
         """
@@ -315,24 +354,29 @@ class Runs(OnABroker):
 
     def test_what_is_not_offered(self):
         self.start("max_qos 1\nretain_available false\n")
-        script = [self.CONNECT, self.SUBSCRIBE, self.PUBLISH | {"qos": 2}, self.PUBLISH | {"retain": True}, self.PUBLISH]
-        output = [*self.done(0, 1), self.GOT, {"line": 3, "reason": 0}, self.GOT | {"line": 4}, {"line": 4, "reason": 0}, self.GOT | {"line": 5}, {"line": 5, "reason": 0}]
+        script = [self.CONNECT, self.SUBSCRIBE, self.PUBLISH | {"qos": 2},
+                  self.PUBLISH | {"retain": True}, self.PUBLISH]
+        output = [*self.done(0, 1), self.GOT, {"line": 3, "reason": 0}, self.GOT | {"line": 4},
+                  {"line": 4, "reason": 0}, self.GOT | {"line": 5}, {"line": 5, "reason": 0}]
         told = ("replay: the broker doesn't offer QoS over 1: 1 line sent with QoS 1\n"
                 "replay: the broker doesn't offer retained messages: 1 line sent without RETAIN\n")
         self.assertEqual(self.run_script(script, output), (0, "", told))
 
-    @unittest.skipUnless(PROGRAM.exists(), f"there is no {PROGRAM}")
+    @wants_program
     def test_what_follows_from_it(self):
-        """mqroute answers what was sent: nothing is retained, and the last message comes with QoS 1."""
+        """mqroute answers what was sent: nothing is retained, and the last
+        message comes with QoS 1."""
         access = "pattern readwrite #\npattern deny secret\n"
         self.start("max_qos 1\nretain_available false\n", access=access)
         kept = {"do": "publish", "client": "a", "topic": "x", "payload": "p", "retain": True}
         denied = {"do": "publish", "client": "a", "topic": "secret"}
-        script = ["", self.CONNECT, kept, kept | {"topic": "+"}, denied, self.SUBSCRIBE | {"qos": 2},
-                  self.PUBLISH | {"qos": 2}]
+        script = [
+            "", self.CONNECT, kept, kept | {"topic": "+"}, denied, self.SUBSCRIBE | {"qos": 2},
+            self.PUBLISH | {"qos": 2}]
         text = "".join((json.dumps(line) if line else "") + "\n" for line in script)
         acl = Path(self.folder.name, "acl")
-        done = subprocess.run([PROGRAM, "--acl-file", acl], input=text, capture_output=True, text=True)
+        done = subprocess.run(
+            [PROGRAM, "--acl-file", acl], input=text, capture_output=True, text=True)
         output = done.stdout.splitlines()
         self.assertEqual(sum('"retain":true' in line for line in output), 1)
         status, out, told = self.run_script(script, output, "--acl-file", "acl")
@@ -343,7 +387,8 @@ class Runs(OnABroker):
     def test_topics_of_the_broker(self):
         self.start("sys_interval 1\n", access="topic read $SYS/#\n")
         script = [self.CONNECT, self.SUBSCRIBE | {"filter": "$SYS/broker/version"}]
-        told = "replay: 1 copy of topics under $SYS/, which the broker publishes itself, are left out\n"
+        told = ("replay: 1 copy of topics under $SYS/, which the broker publishes itself, are left "
+                "out\n")
         self.assertEqual(self.run_script(script, self.done(0, 1)), (0, "", told))
 
 

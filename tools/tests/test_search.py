@@ -1,44 +1,38 @@
-"""The search, on brokers that answer as mqroute but for a planted bug; and on a mosquitto, where there is one."""
+"""The search, on brokers that answer as mqroute but for a planted bug; and on a
+mosquitto, where there is one."""
 import json
 import os
 import random
-import shutil
-import socket
 import subprocess
 import sys
 import tempfile
-import time
 import unittest
 import unittest.mock
 from pathlib import Path
 
+import mosquitto
+from mosquitto import PAHO, wants_paho
 from worked import HERE, PROGRAM, wants_program
 
 sys.path.insert(0, str(HERE))
 import search  # noqa: E402
 from mqroute_tools.ending import Fault  # noqa: E402
-from fake_broker import Fake, drops_wills, expiry_0_is_none, forgets_sessions, keeps_first_options, keeps_what_is_cleared  # noqa: E402
+from fake_broker import (  # noqa: E402
+    Fake, drops_wills, expiry_0_is_none, forgets_sessions, keeps_first_options,
+    keeps_what_is_cleared)
 from mqroute_tools.kinds import Difference, Kind  # noqa: E402
 from mqroute import Oracle  # noqa: E402
 from mqroute_tools.random_scripts import Maker, Use  # noqa: E402
 from search import Search, known_scripts, learn  # noqa: E402
 
-PYTHON = "/usr/bin/python3"  # which has Debian's python3-paho-mqtt
-MOSQUITTO = os.environ.get("MOSQUITTO") or shutil.which("mosquitto") or "/usr/sbin/mosquitto"
-
-
-def has_paho(python: str) -> bool:
-    return Path(python).exists() and subprocess.run([python, "-c", "import paho.mqtt.client"], capture_output=True).returncode == 0
-
-
-PAHO = next((p for p in (sys.executable, PYTHON) if has_paho(p)), None)
 A = {"do": "connect", "client": "a"}
 X = {"do": "subscribe", "client": "a", "filter": "x"}
 PUBLISH = {"do": "publish", "client": "a", "topic": "x", "payload": "1"}
 CLEAR = {"payload": "", "qos": 1, "retain": True}
 
 
-def searched(broker: Fake, scripts: int, folders: list[Path] = [], seed: int = 1) -> list[search.Find]:
+def searched(broker: Fake, scripts: int, folders: list[Path] = [],
+             seed: int = 1) -> list[search.Find]:
     """What so many scripts find."""
     one = Search(broker, Oracle(program=str(PROGRAM)))
     learn(one, folders)
@@ -52,12 +46,17 @@ def searched(broker: Fake, scripts: int, folders: list[Path] = [], seed: int = 1
 @wants_program
 class Finds(unittest.TestCase):
     SMALLEST = {  # what is found first, and the lines of its script
-        keeps_first_options: [("publish: retain", [A, X | {"rap": True}, X, PUBLISH | {"retain": True}]),
-                              ("publish: retain", [A, X, X | {"rap": True}, PUBLISH | {"retain": True}]),
-                              ("publish: missing", [A, X | {"no_local": True}, X, PUBLISH]), ("publish: more", [A, X, X | {"no_local": True}, PUBLISH])],
-        expiry_0_is_none: [("publish: expiry", [A, X, PUBLISH | {"expiry": 0}]), ("subscribe: more", [A, PUBLISH | {"retain": True, "expiry": 0}, X])],
-        keeps_what_is_cleared: [("subscribe: more", [A, PUBLISH | {"retain": True}, PUBLISH | CLEAR, X]),
-                                ("publish: retain", [A, X | {"rap": True}, PUBLISH | CLEAR])],
+        keeps_first_options: [
+            ("publish: retain", [A, X | {"rap": True}, X, PUBLISH | {"retain": True}]),
+            ("publish: retain", [A, X, X | {"rap": True}, PUBLISH | {"retain": True}]),
+            ("publish: missing", [A, X | {"no_local": True}, X, PUBLISH]),
+            ("publish: more", [A, X, X | {"no_local": True}, PUBLISH])],
+        expiry_0_is_none: [
+            ("publish: expiry", [A, X, PUBLISH | {"expiry": 0}]),
+            ("subscribe: more", [A, PUBLISH | {"retain": True, "expiry": 0}, X])],
+        keeps_what_is_cleared: [
+            ("subscribe: more", [A, PUBLISH | {"retain": True}, PUBLISH | CLEAR, X]),
+            ("publish: retain", [A, X | {"rap": True}, PUBLISH | CLEAR])],
     }
 
     def first(self, bug, scripts: int) -> search.Find:
@@ -80,8 +79,10 @@ class Finds(unittest.TestCase):
 
     def test_wills(self):
         found = self.first(drops_wills, 500)
-        self.assertIn(found.kind.what, ("will: missing", "subscribe: missing"))  # at once, or of what is retained
-        self.assertTrue({"disconnect", "will"} <= found.kind.uses and len(found.script) <= 5, found.script)
+        # at once, or of what is retained
+        self.assertIn(found.kind.what, ("will: missing", "subscribe: missing"))
+        self.assertTrue(
+            {"disconnect", "will"} <= found.kind.uses and len(found.script) <= 5, found.script)
 
     def test_no_bug(self):
         self.assertEqual(searched(Fake(lambda script: script), 60), [])
@@ -103,16 +104,20 @@ class Finds(unittest.TestCase):
                 for number, find in enumerate(searched(Fake(expiry_0_is_none), 150), 1):
                     search.show(find, number, Path(folder))
             self.assertTrue(number < 12 and Path(folder, "find-1.out").exists())
-            self.assertEqual([find.kind for find in searched(Fake(expiry_0_is_none), 150, [Path(folder)])], [])
+            self.assertEqual(
+                [find.kind for find in searched(Fake(expiry_0_is_none), 150, [Path(folder)])], [])
 
             def both(script):
                 return keeps_what_is_cleared(expiry_0_is_none(script))
             found = searched(Fake(both), 400, [Path(folder)])
-            self.assertTrue(any("clear" in find.kind.uses for find in found), [find.kind for find in found])
+            self.assertTrue(
+                any("clear" in find.kind.uses for find in found), [find.kind for find in found])
 
     def test_what_only_seems_known(self):
-        """A difference may hide behind a known one with more in it; each tenth such script is made small all the same."""
-        seems = Kind("publish: expiry", frozenset(["subscribe", "plain", "id", "publish", "expiry 0"]))
+        """A difference may hide behind a known one with more in it; each tenth such script
+        is made small all the same."""
+        seems = Kind(
+            "publish: expiry", frozenset(["subscribe", "plain", "id", "publish", "expiry 0"]))
         small, great = [A, X, PUBLISH | {"expiry": 0}], [A, X | {"id": 3}, PUBLISH | {"expiry": 0}]
         for scripts, wanted in ((11, []), (10, [small])):
             one = Search(Fake(expiry_0_is_none), Oracle(program=str(PROGRAM)))
@@ -143,13 +148,17 @@ class Known(unittest.TestCase):
     def test_which_scripts(self):
         with tempfile.TemporaryDirectory() as name:
             folder = Path(name)
-            for script, more in (("plain", {}), ("agrees", {".diff": ""}), ("differs", {".diff": "line 1: .."}), ("access", {".acl": "topic #\n"}),
-                                 ("limits", {".options": ""})):
-                (folder / f"{script}.jsonl").write_text(as_lines([A | {"user": script}, {"do": "advance", "seconds": 9}, X]))
+            for script, more in (
+                    ("plain", {}), ("agrees", {".diff": ""}), ("differs", {".diff": "line 1: .."}),
+                    ("access", {".acl": "topic #\n"}),
+                    ("limits", {".options": ""})):
+                (folder / f"{script}.jsonl").write_text(
+                    as_lines([A | {"user": script}, {"do": "advance", "seconds": 9}, X]))
                 for end, text in more.items():
                     (folder / f"{script}{end}").write_text(text)
             (folder / "sets-a-list.jsonl").write_text(as_lines([{"do": "acl"}]))
-            self.assertEqual(list(known_scripts(folder)), [[A | {"user": "differs"}, X], [A | {"user": "plain"}, X]])
+            self.assertEqual(list(known_scripts(folder)),
+                             [[A | {"user": "differs"}, X], [A | {"user": "plain"}, X]])
             (folder / "bad.jsonl").write_text("{")
             with self.assertRaisesRegex(Fault, "bad.jsonl:1: no JSON"):
                 list(known_scripts(folder))
@@ -159,56 +168,57 @@ class Known(unittest.TestCase):
             learn(None, [Path("/nowhere")])
 
 
-@unittest.skipUnless(PAHO, "there is no python3-paho-mqtt")
+@wants_paho
 @wants_program
 class Live(unittest.TestCase):
     """On a mosquitto of its own."""
 
     def start(self) -> int:
-        if not Path(MOSQUITTO).exists():
-            self.skipTest("there is no mosquitto")
         folder = tempfile.TemporaryDirectory()
         self.addCleanup(folder.cleanup)
-        with socket.socket() as free:
-            free.bind(("127.0.0.1", 0))
-            port = free.getsockname()[1]
+        port = mosquitto.free_port()
         conf = Path(folder.name, "conf")
-        conf.write_text(f"listener {port} 127.0.0.1\nallow_anonymous true\npersistence false\nsys_interval 0\nlog_dest none\nmax_qos 1\n")
-        broker = subprocess.Popen([MOSQUITTO, "-c", conf], stderr=subprocess.DEVNULL)
-        self.addCleanup(broker.wait)
-        self.addCleanup(broker.kill)
-        for _ in range(100):
-            with socket.socket() as probe:
-                if probe.connect_ex(("127.0.0.1", port)) == 0:
-                    return port
-            time.sleep(0.05)
-        raise AssertionError("the broker doesn't start")
+        conf.write_text(f"listener {port} 127.0.0.1\nallow_anonymous true\npersistence false\n"
+                        "sys_interval 0\nlog_dest none\nmax_qos 1\n")
+        mosquitto.start(self, conf, port)
+        return port
 
     def run_tool(self, *words: str) -> tuple[int, str, str]:
-        done = subprocess.run([PAHO, HERE / "search.py", *words], capture_output=True, text=True, timeout=120, env=os.environ | {"MQROUTE": str(PROGRAM)})
+        done = subprocess.run([PAHO, HERE / "search.py", *words], capture_output=True, text=True,
+                              timeout=120, env=os.environ | {"MQROUTE": str(PROGRAM)})
         return done.returncode, done.stdout, done.stderr
 
     def test_nothing_is_left(self):
-        """The same names twice, on a broker that may not have kept anything; what it doesn't offer isn't asked for."""
+        """The same names twice, on a broker that may not have kept anything; what it
+        doesn't offer isn't asked for."""
         code = f"""if True:
             import argparse, sys
             sys.path[:0] = ["tests"]
             from mqroute_tools.live_side import LiveBroker
             from mqroute import Oracle
-            options = argparse.Namespace(host="127.0.0.1", port={self.start()}, username=None, password=None, patience=5, settle=0, on_acl=None)
+            options = argparse.Namespace(
+                host="127.0.0.1", port={self.start()}, username=None, password=None, patience=5,
+                settle=0, on_acl=None)
             broker = LiveBroker(options)
-            script = [{{"do": "connect", "client": "a", "clean": False, "session_expiry": 99}}, {{"do": "subscribe", "client": "a", "filter": "#"}},
-                      {{"do": "publish", "client": "a", "topic": "x", "payload": "1", "retain": True}}, {{"do": "publish", "client": "a", "topic": "+"}}]
+            subscribe = {{"do": "subscribe", "client": "a", "filter": "#"}}
+            publish = {{"do": "publish", "client": "a", "topic": "x", "payload": "1"}}
+            script = [{{"do": "connect", "client": "a", "clean": False, "session_expiry": 99}},
+                      subscribe, publish | {{"retain": True}},
+                      {{"do": "publish", "client": "a", "topic": "+"}}]
             blocks = Oracle().blocks(script)
             for _ in range(2):
                 assert broker.run(script, blocks) == []
-            assert broker.use.qos() == 1 and broker.can_run(script) and not broker.can_run([script[2] | {{"qos": 2}}])
-            more = script[:1] + [script[1] | {{"no_local": True}}] + script[2:3] + [script[1] | {{"no_local": True, "qos": 1}}]
+            assert broker.use.qos() == 1 and broker.can_run(script)
+            assert not broker.can_run([script[2] | {{"qos": 2}}])
+            not_own = subscribe | {{"no_local": True}}
+            more = [script[0], not_own, script[2], not_own | {{"qos": 1}}]
             blocks = Oracle().blocks(more)
             for _ in range(2):
-                assert [(one.line, one.what) for one in broker.run(more, blocks)] == [(4, "subscribe: more")]
+                found = [(one.line, one.what) for one in broker.run(more, blocks)]
+                assert found == [(4, "subscribe: more")]
         """
-        done = subprocess.run([PAHO, "-c", code], cwd=HERE, capture_output=True, text=True, env=os.environ | {"MQROUTE": str(PROGRAM)})
+        done = subprocess.run([PAHO, "-c", code], cwd=HERE, capture_output=True, text=True,
+                              env=os.environ | {"MQROUTE": str(PROGRAM)})
         self.assertEqual((done.returncode, done.stderr), (0, ""))
 
     def test_the_tool(self):
@@ -216,10 +226,12 @@ class Live(unittest.TestCase):
         plain = "groups,retained,sessions,expiry,options,dollar,identifiers"
         status, out, told = self.run_tool("--port", port, "--minutes", "0.1", "--without", plain)
         self.assertEqual((status, out), (0, ""), told)
-        self.assertRegex(told, r"search: \d+ kinds of differences are known .*\nsearch: \d+ scripts, \d+ runs in \d+ s; 0 new kinds")
+        self.assertRegex(told, r"search: \d+ kinds of differences are known .*\n"
+                         r"search: \d+ scripts, \d+ runs in \d+ s; 0 new kinds")
 
     def test_faults(self):
-        for words, said in ((("--port", "1"), "no broker at 127.0.0.1 port 1"), (("--without", "groups,testaments"), "'testaments' is none of")):
+        for words, said in ((("--port", "1"), "no broker at 127.0.0.1 port 1"),
+                            (("--without", "groups,testaments"), "'testaments' is none of")):
             status, _, told = self.run_tool(*words)
             self.assertEqual(status, 2, told)
             self.assertIn(said, told)

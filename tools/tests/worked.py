@@ -1,4 +1,5 @@
-"""What several tests share: the program, and the worked scripts of tests/rows and examples with its answers."""
+"""What several tests share: the program, and the worked scripts of tests/rows and
+examples with its answers."""
 import json
 import os
 import subprocess
@@ -10,7 +11,8 @@ HERE = Path(__file__).parent.parent
 TOP = HERE.parent
 PROGRAM = Path(os.environ.get("MQROUTE", TOP / "bin/mqroute"))
 wants_program = unittest.skipUnless(PROGRAM.exists(), f"there is no {PROGRAM}")
-UNBUFFERED = PROGRAM.exists() and "--unbuffered" in subprocess.run([PROGRAM, "--help"], capture_output=True, text=True).stdout
+UNBUFFERED = PROGRAM.exists() and "--unbuffered" in subprocess.run(
+    [PROGRAM, "--help"], capture_output=True, text=True).stdout
 wants_unbuffered = unittest.skipUnless(UNBUFFERED, "the program has no --unbuffered")
 LINE_FAULTS = (1, 2, 3, 4)  # codes of lines that are no commands
 
