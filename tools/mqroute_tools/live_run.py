@@ -20,6 +20,7 @@ from .wills import Wills
 FENCE = "mqroute/fence"
 QUIET_ROUNDS = 2  # a copy of QoS 2 wants two fences: one for PUBLISH, one for PUBREL
 ACL_PAUSE = 0.3  # seconds that a broker gets to read an access list
+LONGEST_PAUSE = 86_400  # seconds that an `advance` may take, in real time
 WILL_PAUSE = 0.1  # and to see that a connection is gone
 ALL_ALLOWED = "pattern readwrite #\npattern readwrite $SYS/#\n"  # in place of no access list
 
@@ -77,6 +78,13 @@ class Replay:
 
     # -- commands
 
+    def let_pass(self, seconds: int) -> None:
+        """A little more, so that what ends then has ended."""
+        if seconds > LONGEST_PAUSE:
+            raise Fault(f"line {self.line}: advance waits in real time, and {seconds} seconds "
+                        f"are over a day")
+        time.sleep(seconds + 0.1)
+
     def do(self, command: Command) -> Acknowledged:
         """Sends one command; gives what its acknowledgement says."""
         do = command["do"]
@@ -84,7 +92,7 @@ class Replay:
             return self.connect(command)
         if do in ("advance", "acl", "stat"):
             if do == "advance":
-                time.sleep(command["seconds"] + 0.1)
+                self.let_pass(command["seconds"])
             if do == "acl":
                 self.set_access(command.get("text"))
             return Acknowledged()

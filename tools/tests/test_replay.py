@@ -215,6 +215,12 @@ class Runs(OnABroker):
         status, out, _ = self.run_script([self.CONNECT, self.PUBLISH], self.done(0, 0))
         self.assertEqual((status, out.splitlines()[1:]), (1, ["   reason: mqroute 0, broker 16"]))
 
+    def test_a_wait_of_more_than_a_day(self):
+        script = [{"do": "advance", "seconds": 86_401}]
+        status, out, told = self.run_script(script, self.done(0))
+        said = "advance waits in real time, and 86401 seconds are over a day"
+        self.assertEqual((status, out, told), (2, "", f"replay: script:1: {said}\n"))
+
     def test_no_broker(self):
         status, out, told = self.run_script([self.CONNECT], self.done(0))
         said = f"the broker at 127.0.0.1 port {self.port}: Connection refused"
