@@ -20,6 +20,10 @@ use Rattle.mq_acl_cli.specs.declared.outcome.Outcome.TheVariants.{Clear, Remark}
 abbrev one_if : Bool → ℕ
 one_if b = cond b 1 0
 
+is_none : (b : Bool) → one_if b ≡ 0 → b ≡ false
+is_none false e = refl
+is_none true e = absurd (let bad : one_if true ≡ 0 = e in omega arith)
+
 not_both : (a b : Bool) → 0 + one_if a + one_if b ≤ 1 → b ≡ true → a ≡ false
 not_both false b once e = refl
 not_both true true once e = absurd (let bad : 2 ≤ 1 = once in omega arith)
@@ -81,10 +85,6 @@ texts_parted files i =
     ∙ ap input_count (sym (map-append (λ file. file.now) (take i files) (drop i files))
     ∙ ap texts (take-append-drop i files))
 
-is_none : (b : Bool) → one_if b ≡ 0 → b ≡ false
-is_none false e = refl
-is_none true e = absurd (let bad : one_if true ≡ 0 = e in omega arith)
-
 -- of files of which one at most is standard input the next is so where no earlier one is
 next_input : (files : List (Bor (List ℕ))) (i : ℕ) (d : Bor (List ℕ)) → i < length files
     → input_count (texts files) ≤ 1 → is_input (get_or files i d).now ≡ true
@@ -100,19 +100,29 @@ next_input files i d low once e =
     omega arith
 
 -- where none of the files so far is standard input, it is left alone
-pub kept_more : {X : Type 0} (known : X → Option (List ℕ)) (start before after : X)
+pub kept_more : {X : Type 0} (start before after : X)
     (files : List (Bor (List ℕ))) (i : ℕ) (d : Bor (List ℕ)) → i < length files
-    → (input_count (texts (take i files)) ≡ 0 → known before ≡ known start)
+    → (input_count (texts (take i files)) ≡ 0 → before ≡ start)
     → (is_input (get_or files i d).now ≡ false → after ≡ before)
-    → input_count (texts (take (i + 1) files)) ≡ 0 → known after ≡ known start
-kept_more known start before after files i d low so_far kept none =
+    → input_count (texts (take (i + 1) files)) ≡ 0 → after ≡ start
+kept_more start before after files i d low so_far kept none =
     let here : ℕ = one_if (is_input (get_or files i d).now) in
     let parts : input_count (texts (take (i + 1) files))
     ≡ input_count (texts (take i files)) + (0 + here) =
     texts_more files i d low in
     let earlier : input_count (texts (take i files)) ≡ 0 = omega arith in
     let not_here : here ≡ 0 = omega arith in
-    ap known (kept (is_none (is_input (get_or files i d).now) not_here)) ∙ so_far earlier
+    kept (is_none (is_input (get_or files i d).now) not_here) ∙ so_far earlier
+
+pub kept_among : {X : Type 0} (start before after : X)
+    (files : List (Bor (List ℕ))) (i : ℕ) (d : Bor (List ℕ)) → i < length files
+    → (input_count (texts (take i files)) ≡ 0 → before ≡ start)
+    → (is_input (get_or files i d).now ≡ false → after ≡ before)
+    → input_count (texts files) ≡ 0 → after ≡ start
+kept_among start before after files i d low so_far kept none =
+    let all : input_count (texts (take (i + 1) files)) + input_count (texts (drop (i + 1) files))
+    ≡ input_count (texts files) = texts_parted files (i + 1) in
+    kept_more start before after files i d low so_far kept (omega arith)
 
 -- and what is told of the files so far holds with the next one too
 pub linted_more : (known before : Option (List ℕ)) (files : List (Bor (List ℕ))) (i : ℕ)

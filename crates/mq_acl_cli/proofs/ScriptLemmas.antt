@@ -1,54 +1,22 @@
 -- What the subscriptions in vain that are found say of a script.
-use Rattle.std.proofs.Common.{◌≡◌, ◌≢◌, ◌∙◌, ◌<◌, ◌++◌, ℕ, suc, List, [], ◌∷◌, Option, Some}
-use Rattle.std.proofs.Common.{None, IfSome, ap, append-nil, arith, inl, inr, length, refl, subst, sym, ◌⊎◌}
+use Rattle.std.proofs.Common.{◌≡◌, ◌≢◌, ◌<◌, ℕ, suc, List, [], ◌∷◌, Option}
+use Rattle.std.proofs.Common.{ap, arith, inl, inr, length, refl, subst, sym, ◌⊎◌}
 use Rattle.std.specs.Borrow.{Bor}
 use Rattle.std.specs.Io.KnownBytes.{Consumes, IsAtEnd}
 use Rattle.mq_acl.specs.Views.{row_views}
 use Rattle.mq_acl.specs.declared.row.Row.{Row}
 use Rattle.mq_lines.specs.Lines.{all_lines}
-use Rattle.mq_reach.specs.Faults.{IsScriptFault}
 use Rattle.mq_reach.specs.Search.{AreCounted, IsFound, subscription_views}
 use Rattle.mq_reach.specs.Subscriptions.{commands_of}
-use Rattle.mq_reach.specs.declared.question.SearchFault.TheVariants as search
-use Rattle.mq_reach.specs.declared.reading.ScriptFault.{ScriptFault}
-use Rattle.mq_reach.specs.declared.reading.ScriptFault.TheVariants as script
 use Rattle.mq_reach.specs.declared.search.Findings.{Findings}
 use Rattle.mq_reach.specs.declared.subscription.Subscription.{Subscription}
 use Rattle.mq_acl_cli.specs.Answers.{AreRows}
-use Rattle.mq_acl_cli.specs.Failures.{HasNoCommand, IsScriptFailure}
+use Rattle.mq_acl_cli.specs.Failures.{GivesNoCommand, IsScriptFailure}
 use Rattle.mq_acl_cli.specs.Script.{AreTold, FindsVain, HasCommand, TellsWhetherNone}
 use Rattle.mq_acl_cli.specs.declared.failure.Failure.{Failure}
 use Rattle.mq_acl_cli.specs.declared.failure.Failure.TheVariants as failure
 use Rattle.mq_acl_cli.specs.declared.outcome.Outcome.{Outcome}
 use Rattle.mq_acl_cli.specs.declared.outcome.Outcome.TheVariants.{Clear, Remark}
-
--- ## What a reader gave
-
--- to its end that is all that it had
-pub all_given : (known after : Option (List ℕ)) (given : List ℕ) → Consumes known after given
-    → IsAtEnd after → IfSome known (λ bytes. given ≡ bytes)
-all_given None after given takes end = tt
-all_given (Some xs) None given takes end = absurd takes
-all_given (Some xs) (Some ys) given takes end =
-    sym (takes ∙ ap (λ rest. given ++ rest) end ∙ append-nil given)
-
--- and else that is its front
-pub front_given : (known after : Option (List ℕ)) (given : List ℕ) → Consumes known after given
-    → (rest : List ℕ) × IfSome known (λ bytes. bytes ≡ given ++ rest)
-front_given None after given takes = ([], tt)
-front_given (Some xs) None given takes = absurd takes
-front_given (Some xs) (Some ys) given takes = (ys, takes)
-
--- a subscription of what it gave is too long
-pub long_subscription : (rows : List Row) (name : Bor (List ℕ)) (line : ℕ)
-    (known after : Option (List ℕ)) (fault : ScriptFault)
-    → fault ≡ script.Search (search.Subscription line) → IsScriptFault rows known after fault
-    → IsScriptFailure name.now known (failure.LongSubscription name line)
-long_subscription rows name line known after fault is told =
-    let long : IsScriptFault rows known after (script.Search (search.Subscription line)) =
-    subst (IsScriptFault rows known after) is told in
-    let front = front_given known after long.0 long.1 in
-    (refl, (long.0, front.0, front.1, long.2))
 
 -- ## Commands
 
@@ -77,29 +45,29 @@ finds text script rows f are found some = record {
   command = has_command script f.counts.commands found.counts.commands some;
 }
 
-none_told : (name : Bor (List ℕ)) (known : Option (List ℕ)) (script : List ℕ) (f : Findings)
-    → IfSome known (λ bytes. script ≡ bytes) → AreCounted (all_lines script) f.counts
-    → f.counts.commands ≡ 0 → (name.now ≡ name.now) × HasNoCommand known f.counts.lines
-none_told name known script f all are zero = (
-  refl,
-  (
-    script,
-    all,
-    none_counted (commands_of (all_lines script)) f.counts.commands are.commands zero,
-    are.lines,
-  ),
+none_given : (before after : Option (List ℕ)) (script : List ℕ) (f : Findings)
+    → Consumes before after script → IsAtEnd after → AreCounted (all_lines script) f.counts
+    → f.counts.commands ≡ 0 → GivesNoCommand before after f.counts.lines
+none_given before after script f takes end are zero = (
+  script,
+  takes,
+  end,
+  none_counted (commands_of (all_lines script)) f.counts.commands are.commands zero,
+  are.lines,
 )
 
 -- and what is told of one without
-pub no_command : (name : Bor (List ℕ)) (known : Option (List ℕ)) (script : List ℕ)
-    (f : Findings) (told : Failure) → IfSome known (λ bytes. script ≡ bytes)
+pub no_command : (name : Bor (List ℕ)) (before after : Option (List ℕ)) (script : List ℕ)
+    (f : Findings) (told : Failure) → Consumes before after script → IsAtEnd after
     → AreCounted (all_lines script) f.counts → f.counts.commands ≡ 0
     → (told ≡ failure.NoCommand name f.counts.lines) ⊎ (told ≡ failure.Log name f.counts.lines)
-    → IsScriptFailure name.now known told
-no_command name known script f told all are zero (inl e) =
-    subst (IsScriptFailure name.now known) (sym e) (none_told name known script f all are zero)
-no_command name known script f told all are zero (inr e) =
-    subst (IsScriptFailure name.now known) (sym e) (none_told name known script f all are zero)
+    → IsScriptFailure name.now before after told
+no_command name before after script f told takes end are zero (inl e) =
+    subst (IsScriptFailure name.now before after) (sym e)
+    (refl, none_given before after script f takes end are zero)
+no_command name before after script f told takes end are zero (inr e) =
+    subst (IsScriptFailure name.now before after) (sym e)
+    (refl, none_given before after script f takes end are zero)
 
 -- ## What is told
 

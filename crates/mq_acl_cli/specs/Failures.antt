@@ -1,6 +1,7 @@
 -- Why nothing is answered about lists.
-use Rattle.std.specs.Prelude.{◌≡◌, ◌⊎◌, ◌<◌, ◌++◌, ℕ, List, [], false, true, length, ⊤, Option, Some}
+use Rattle.std.specs.Prelude.{◌≡◌, ◌⊎◌, ◌<◌, ℕ, List, [], false, true, length, ⊤, Option, Some}
 use Rattle.std.specs.Prelude.{Err, IfSome}
+use Rattle.std.specs.Io.KnownBytes.{Consumes, IsAtEnd}
 use Rattle.mq_topic.specs.Texts.{filter_part, is_name, is_subscription}
 use Rattle.mq_acl.specs.Rows.{rows_of}
 use Rattle.mq_acl.specs.declared.fault.AclFault.{AclFault}
@@ -47,20 +48,21 @@ IsWordFailure client user subscription failure.LongWord =
     ⊎ (has_short_levels (filter_part subscription) ≡ false)
 IsWordFailure client user subscription other = ⊥
 
--- of a script that a reader gave to its end no line is a command, and it has so many
-abbrev pub HasNoCommand : (known : Option (List ℕ)) → (lines : ℕ) → Type 0
-HasNoCommand known lines = (script : List ℕ) × IfSome known (λ bytes. script ≡ bytes)
-    × (commands_of (all_lines script) ≡ []) × (lines ≡ length (all_lines script))
+-- a reader gave a script to its end, of which no line is a command, and it has so many
+abbrev pub GivesNoCommand : (before after : Option (List ℕ)) → (lines : ℕ) → Type 0
+GivesNoCommand before after lines = (script : List ℕ) × Consumes before after script
+    × IsAtEnd after × (commands_of (all_lines script) ≡ []) × (lines ≡ length (all_lines script))
 
--- what is told of the script with this name is so of the bytes that its reader has, where they are known
-abbrev pub IsScriptFailure : (name : List ℕ) → (known : Option (List ℕ)) → Failure → Type 0
-IsScriptFailure name known (failure.Read file error) = file.now ≡ name
-IsScriptFailure name known (failure.LongScript file) =
-    (file.now ≡ name) × IfSome known (λ bytes. script_limit < length bytes)
-IsScriptFailure name known (failure.LongSubscription file line) =
-    (file.now ≡ name) × ((given rest : List ℕ) × IfSome known (λ bytes. bytes ≡ given ++ rest)
+-- what is told of the script with this name is so of the bytes that were read
+abbrev pub IsScriptFailure : (name : List ℕ) → (before after : Option (List ℕ)) → Failure → Type 0
+IsScriptFailure name before after (failure.Read file error) = file.now ≡ name
+IsScriptFailure name before after (failure.LongScript file) =
+    (file.now ≡ name) × IfSome before (λ bytes. script_limit < length bytes)
+IsScriptFailure name before after (failure.LongSubscription file line) =
+    (file.now ≡ name) × ((given : List ℕ) × Consumes before after given
     × (has_long_at line (subscriptions (all_lines given)) ≡ true))
-IsScriptFailure name known (failure.NoCommand file lines) =
-    (file.now ≡ name) × HasNoCommand known lines
-IsScriptFailure name known (failure.Log file lines) = (file.now ≡ name) × HasNoCommand known lines
-IsScriptFailure name known other = ⊥
+IsScriptFailure name before after (failure.NoCommand file lines) =
+    (file.now ≡ name) × GivesNoCommand before after lines
+IsScriptFailure name before after (failure.Log file lines) =
+    (file.now ≡ name) × GivesNoCommand before after lines
+IsScriptFailure name before after other = ⊥

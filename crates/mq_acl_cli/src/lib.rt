@@ -20,7 +20,6 @@ mod remarks;
 mod request;
 mod script;
 mod searched;
-mod watched;
 mod why;
 
 pub use changes::{Changes, find_changes};

@@ -59,8 +59,9 @@ fn lint_files<'a, R: Files, I: Read>(
     answer: &mut String,
 ) -> Result<Outcome, Failure<'a>>
     requires { input_count (map (λ file. file.now) files.now) ≤ 1 }
-    ensures { IfOk result (AreLinted (I.remaining input.old)
+    ensures ok { IfOk result (AreLinted (I.remaining input.old)
         (map (λ file. file.now) files.now)) }
+    ensures kept { input_count (map (λ file. file.now) files.now) ≡ 0 → input.new ≡ input.old }
 {
     let mut outcome = Outcome::Clear;
     for file in files {
@@ -83,6 +84,7 @@ pub(crate) fn answer_lint<'a, R: Files, I: Read, W: Write>(
     ensures ok { IfOk result (AreLinted (I.remaining input.old)
         (map (λ file. file.now) files.now)) }
     ensures unread { IfErr result (λ failure. failure_status failure ≡ 2 → out.new ≡ out.old) }
+    ensures kept { input_count (map (λ file. file.now) files.now) ≡ 0 → input.new ≡ input.old }
 {
     let mut answer = String::new(alloc);
     let outcome = lint_files(rt, alloc, files, json, input, &mut answer)?;

@@ -1,13 +1,13 @@
 //! All of the program but its `main`.
-ghost use Rattle.std.specs.Prelude.{◌≡◌, ◌≢◌, ◌≤◌, ◌⊎◌, ◌∷◌, ℕ, List, [], IfOk, IfErr, map};
-ghost use Rattle.std.specs.Prelude.{string_bytes, if◌then◌else◌, is_ok};
+ghost use Rattle.std.specs.Prelude.{◌≡◌, ◌≢◌, ◌≤◌, ◌⊎◌, ◌∷◌, ℕ, List, [], IfOk, IfErr, Some};
+ghost use Rattle.std.specs.Prelude.{false, map, string_bytes, if◌then◌else◌, is_ok};
 ghost use Rattle.std.specs.Option.{option_copied};
 ghost use Rattle.clap.specs.Words.{fault_of, subcommand_of};
 ghost use Rattle.mq_acl_cli.specs.Answers.{IsCompared, IsReached};
-ghost use Rattle.mq_acl_cli.specs.Files.{IsTextOf, input_count};
+ghost use Rattle.mq_acl_cli.specs.Files.{IsTextOf, input_count, is_input as is_dash};
 ghost use Rattle.mq_acl_cli.specs.Script.{AreTold};
 ghost use Rattle.mq_acl_cli.specs.CommandLine.{mqroute_acl, asked_by, question_view, IsFaultOf};
-ghost use Rattle.mq_acl_cli.specs.CommandLine.{ReadsInputOnce};
+ghost use Rattle.mq_acl_cli.specs.CommandLine.{Asked, ReadsInputOnce, files_of};
 ghost use Rattle.mq_acl_cli.specs.Program.{IsAnswer, IsAnswered, TellsUsage};
 ghost use Rattle.mq_acl_cli.specs.Statuses.{failure_status, outcome_status};
 
@@ -41,6 +41,8 @@ fn answer_compare<'a, R: Files, I: Read, W: Write>(
         × IsTextOf (I.remaining input.old) files.entry.0.now old
         × IsTextOf (I.remaining input.old) files.entry.1.now new × IsCompared old new outcome) }
     ensures unread { IfErr result (λ failure. failure_status failure ≡ 2 → out.new ≡ out.old) }
+    ensures kept { input_count (files.entry.0.now ∷ files.entry.1.now ∷ []) ≡ 0
+        → input.new ≡ input.old }
 {
     let old_text = text_of(rt, alloc, files.0, input)?;
     let new_text = text_of(rt, alloc, files.1, input)?;
@@ -67,6 +69,7 @@ fn answer_why<'a, R: Files, I: Read, W: Write>(
 ) -> Result<Outcome, Failure<'a>>
     ensures ok { IfOk result (λ outcome. outcome ≡ Outcome.Clear) }
     ensures unread { IfErr result (λ failure. failure_status failure ≡ 2 → out.new ≡ out.old) }
+    ensures kept { input_count (file.entry.now ∷ []) ≡ 0 → input.new ≡ input.old }
 {
     let text = text_of(rt, alloc, file, input)?;
     let list = ListText {
@@ -92,6 +95,7 @@ fn answer_reach<'a, R: Files, I: Read, W: Write>(
         × IsReached text about.entry.0.id.now (option_copied about.entry.0.user)
         about.entry.1.now outcome) }
     ensures unread { IfErr result (λ failure. failure_status failure ≡ 2 → out.new ≡ out.old) }
+    ensures kept { input_count (file.entry.now ∷ []) ≡ 0 → input.new ≡ input.old }
 {
     let text = text_of(rt, alloc, file, input)?;
     let list = ListText {
@@ -115,12 +119,13 @@ fn answer_script<'a, R: Files, I: Read, W: Write>(
         × IsTextOf (I.remaining input.old) script.entry.now lines
         × AreTold list.entry.text.now lines outcome) }
     ensures unread { IfErr result (λ failure. failure_status failure ≡ 2 → out.new ≡ out.old) }
+    ensures kept { is_dash script.entry.now ≡ false → input.new ≡ input.old }
 {
     if is_input(script) {
-        return tell_subscriptions(alloc, list, script, &mut *input, json, out);
+        return tell_subscriptions(alloc, list, script, input, json, out);
     }
     match fs::open(rt, script) {
-        Ok(opened) => tell_subscriptions(alloc, list, script, opened, json, out),
+        Ok(mut opened) => tell_subscriptions(alloc, list, script, &mut opened, json, out),
         Err(error) => Err(Failure::of_io(script, error)),
     }
 }
@@ -140,6 +145,8 @@ fn answer_reach_all<'a, R: Files, I: Read, W: Write>(
         × IsTextOf (I.remaining input.old) file.entry.now text
         × IsTextOf (I.remaining input.old) script.entry.now lines × AreTold text lines outcome) }
     ensures unread { IfErr result (λ failure. failure_status failure ≡ 2 → out.new ≡ out.old) }
+    ensures kept { input_count (file.entry.now ∷ script.entry.now ∷ []) ≡ 0
+        → input.new ≡ input.old }
 {
     let text = text_of(rt, alloc, file, input)?;
     let list = ListText {
@@ -161,6 +168,8 @@ fn answer<'a, R: Files, I: Read, W: Write>(
     ensures ok { IfOk result (IsAnswer (I.remaining input.old)
         (question_view request.entry.question)) }
     ensures unread { IfErr result (λ failure. failure_status failure ≡ 2 → out.new ≡ out.old) }
+    ensures kept { input_count (files_of (question_view request.entry.question)) ≡ 0
+        → input.new ≡ input.old }
 {
     let json = request.json;
     match request.question {
@@ -248,6 +257,13 @@ pub fn start<R: Files, I: Read, W: Write, E: Write>(
     ensures usage { let given = map string_bytes words.now in fault_of mqroute_acl given ≢ []
         → (fault : UsageFault) × IsFaultOf given (fault_of mqroute_acl given) fault
         × TellsUsage fault result (W.contents out.old) (W.contents out.new) }
+
+    // Standard input is left alone where no file of the question is `-`, and where the words are not understood.
+    ensures kept { (question : Asked)
+        → asked_by (subcommand_of mqroute_acl (map string_bytes words.now)) ≡ Some question
+        → input_count (files_of question) ≡ 0 → input.new ≡ input.old }
+    ensures not_understood { fault_of mqroute_acl (map string_bytes words.now) ≢ []
+        → input.new ≡ input.old }
 
     // At a status of 2 nothing is written, and at one of 0 or 1 nothing is told.
     ensures unread { result ≡ 2 → out.new ≡ out.old }

@@ -1,5 +1,6 @@
 //! The subscriptions of a script that are in vain.
-ghost use Rattle.std.specs.Prelude.{◌≡◌, ◌≢◌, ◌⊎◌, ◌<◌, [], ℕ, List, Option, IfOk, IfErr, IfSome};
+ghost use Rattle.std.specs.Prelude.{◌≡◌, ◌≢◌, ◌⊎◌, ◌<◌, [], ℕ, List, Option, IfOk, IfErr};
+ghost use Rattle.std.specs.Io.KnownBytes.{Consumes, IsAtEnd};
 ghost use Rattle.mq_reach.specs.Faults.{IsScriptFault};
 ghost use Rattle.mq_acl_cli.specs.Answers.{AreRows};
 ghost use Rattle.mq_acl_cli.specs.Failures.{IsListFailure, IsScriptFailure};
@@ -8,27 +9,25 @@ ghost use Rattle.mq_acl_cli.specs.Script.{FindsVain};
 use crate::failure::Failure;
 use crate::list::rows_in;
 use crate::outcome::Outcome;
-use crate::watched::Watched;
 use mq_acl::Row;
 use mq_acl_words::ListText;
 use mq_reach::{Findings, ScriptFault, SearchFault, find_vain};
 use std::alloc::Global;
-use std::io::{self, Read};
+use std::io::Read;
 
 fn script_failure<'a>(
     list: ListText<'a, '_>,
     rows: &[Row],
     script: &'a str,
     fault: ScriptFault,
-    error: io::Error,
 ) -> Failure<'a>
     requires { AreRows list.text.now rows.now }
-    ensures { (known after : Option (List ℕ)) → IsScriptFault rows.now known after fault
+    ensures { (before after : Option (List ℕ)) → IsScriptFault rows.now before after fault
         → IsListFailure list.entry result
-        ⊎ IsScriptFailure script.entry.now known result }
+        ⊎ IsScriptFailure script.entry.now before after result }
 {
     match fault {
-        ScriptFault::Read => Failure::of_io(script, error),
+        ScriptFault::Read(error) => Failure::of_io(script, error),
         ScriptFault::TooLong => Failure::LongScript(script),
         ScriptFault::Search(SearchFault::Memory) => Failure::Memory,
         ScriptFault::Search(SearchFault::Row(line)) => Failure::Long {
@@ -42,11 +41,7 @@ fn script_failure<'a>(
 }
 
 // The findings, unless no line of the script is a command.
-fn unless_no_command<'a>(
-    findings: Findings,
-    script: &'a str,
-    is_log: bool,
-) -> Result<Findings, Failure<'a>>
+fn unless_no_command<'a>(findings: Findings, script: &'a str) -> Result<Findings, Failure<'a>>
     ensures ok { IfOk result (λ kept. (kept ≡ findings) × (0 < findings.counts.commands)) }
     ensures err { IfErr result (λ failure. (findings.counts.commands ≡ 0)
         × ((failure ≡ Failure.NoCommand script.entry findings.counts.lines)
@@ -56,7 +51,7 @@ fn unless_no_command<'a>(
         return Ok(findings);
     }
     let lines = findings.counts.lines;
-    if is_log {
+    if findings.is_log {
         return Err(Failure::Log {
             file: script,
             lines,
@@ -70,23 +65,23 @@ fn unless_no_command<'a>(
 
 /// The subscriptions of the script that this reader gives, with this name, that are in vain under the list. A script of
 /// which no line is a command is a failure: it is another file than was meant.
-pub fn find_subscriptions<'a, R: Read + Drop>(
+pub fn find_subscriptions<'a, R: Read>(
     alloc: Global,
     list: ListText<'a, '_>,
     script: &'a str,
-    reader: R,
+    reader: &mut R,
 ) -> Result<Findings, Failure<'a>>
     ensures ok { IfOk result (λ findings. (given : List ℕ)
-        × IfSome (R.remaining reader) (λ bytes. given ≡ bytes)
-        × FindsVain list.entry.text.now given findings) }
+        × Consumes (R.remaining reader.old) (R.remaining reader.new) given
+        × IsAtEnd (R.remaining reader.new) × FindsVain list.entry.text.now given findings) }
     ensures err { IfErr result (λ failure. IsListFailure list.entry failure
-        ⊎ IsScriptFailure script.entry.now (R.remaining reader) failure) }
+        ⊎ IsScriptFailure script.entry.now (R.remaining reader.old)
+        (R.remaining reader.new) failure) }
 {
     let rows = rows_in(alloc, list)?;
-    let mut watched = Watched::new(reader);
-    match find_vain(alloc, &rows, &mut watched) {
-        Ok(findings) => unless_no_command(findings, script, watched.is_log()),
-        Err(fault) => Err(script_failure(list, &rows, script, fault, watched.error)),
+    match find_vain(alloc, &rows, reader) {
+        Ok(findings) => unless_no_command(findings, script),
+        Err(fault) => Err(script_failure(list, &rows, script, fault)),
     }
 }
 

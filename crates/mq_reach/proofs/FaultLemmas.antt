@@ -186,7 +186,7 @@ read_fault rows list r given fault holds fails =
 pub stopped : (rows : List Row) (list : List AclRow) (r : Reading) (before after : Option (List ℕ))
     (fault : ScriptFault) → HoldsScript list [] r → StopsWith list r before after fault
     → IsScriptFault rows before after fault
-stopped rows list r before after script.Read holds is = tt
+stopped rows list r before after (script.Read error) holds is = tt
 stopped rows list r before after script.TooLong holds is = is
 stopped rows list r before after (script.Search fault) holds is =
     (is.0, is.1, read_fault rows list r is.0 fault holds is.2)

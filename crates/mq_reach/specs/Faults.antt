@@ -44,7 +44,7 @@ IsSearchFault rows given (search.Subscription line) =
 -- of a reader that tells its bytes, what is told is so of those that it gave; that it failed, no
 -- clause says
 abbrev pub IsScriptFault : List Row → (before after : Option (List ℕ)) → ScriptFault → Type 0
-IsScriptFault rows before after script.Read = ⊤
+IsScriptFault rows before after (script.Read error) = ⊤
 IsScriptFault rows before after script.TooLong =
     IfSome before (λ bytes. script_limit < length bytes)
 IsScriptFault rows before after (script.Search fault) =
@@ -60,7 +60,7 @@ FailsIn rows r bytes fault = (given : List ℕ) → HoldsScript rows given r
 -- and so is what is told of a reader
 abbrev pub StopsWith : List AclRow → Reading → (before after : Option (List ℕ)) → ScriptFault
     → Type 0
-StopsWith rows r before after script.Read = ⊤
+StopsWith rows r before after (script.Read error) = ⊤
 StopsWith rows r before after script.TooLong = IfSome before (λ bytes. script_limit < length bytes)
 StopsWith rows r before after (script.Search fault) =
     (bytes : List ℕ) × Consumes before after bytes × FailsIn rows r bytes fault

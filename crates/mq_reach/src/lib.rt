@@ -3,6 +3,7 @@
 
 mod clients;
 mod counts;
+mod log;
 mod question;
 mod reading;
 mod search;

@@ -16,7 +16,7 @@ use mq_acl::Row;
 use mq_lines::{LINE_ROOM, keep_front, split_line};
 use mq_questions::Reach;
 use std::alloc::Global;
-use std::io::Read;
+use std::io::{self, Read};
 
 /// How many bytes a script may have, as many as of a run.
 const SCRIPT_LIMIT: u64 = 4_294_967_296;
@@ -25,10 +25,10 @@ const SCRIPT_LIMIT: u64 = 4_294_967_296;
 const PIECE: usize = 65_536;
 
 /// Why a script isn't searched to its end.
-#[derive(Clone, Copy, Debug, PartialEq, Eq)]
+#[derive(Debug, Drop)]
 pub enum ScriptFault {
     /// The reader failed.
-    Read,
+    Read(io::Error),
     /// The script has more than 4,294,967,296 bytes.
     TooLong,
     /// It can't be told of one of its subscriptions whether it is in vain, or there was no memory.
@@ -138,7 +138,7 @@ fn read_lines<R: Read>(
     'reads: loop {
         let n = match reader.read(piece) {
             Ok(n) => n,
-            Err(_) => return Err(ScriptFault::Read),
+            Err(error) => return Err(ScriptFault::Read(error)),
         };
         if n == 0 {
             return Ok(());

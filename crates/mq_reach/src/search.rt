@@ -8,6 +8,7 @@ ghost use Rattle.mq_lines.specs.Reading.{reading};
 
 use crate::clients::Clients;
 use crate::counts::{Counts, LineKind};
+use crate::log::begins_as_log;
 use crate::question::{SearchFault, is_taken, is_vain};
 use crate::subscription::Subscription;
 use mq_lines::{LineFault, read_line};
@@ -21,12 +22,18 @@ pub struct Findings {
     pub vain: Vec<Subscription>,
     /// How many lines and subscriptions the script has.
     pub counts: Counts,
+    /// Whether the first line begins as one of a log does.
+    pub is_log: bool,
 }
 
 // One step where it is dropped, and not one for each thing inside.
 impl Drop for Findings {
     fn drop(self) {
-        let Findings { vain: _, counts: _ } = self;
+        let Findings {
+            vain: _,
+            counts: _,
+            is_log: _,
+        } = self;
     }
 }
 
@@ -35,6 +42,7 @@ pub(crate) struct Search {
     clients: Clients,
     vain: Vec<Subscription>,
     pub counts: Counts,
+    is_log: bool,
     ghost commands: { counts.commands ≤ counts.lines },
     ghost subscriptions: { counts.subscriptions ≤ counts.lines },
     ghost faulty: { counts.faulty ≤ counts.lines },
@@ -47,6 +55,7 @@ impl Drop for Search {
             clients: _,
             vain: _,
             counts: _,
+            is_log: _,
         } = self;
     }
 }
@@ -69,6 +78,7 @@ impl Search {
             clients: Clients::new(alloc),
             vain: Vec::new(alloc),
             counts: Counts::new(),
+            is_log: false,
         }
     }
 
@@ -187,6 +197,9 @@ impl Search {
             → IfErr result (IsFaultAmong (subscriptions (before ++ line.now ∷ []))) }
     {
         let kind = self.read(alloc, list, line)?;
+        if self.counts.lines == 0 {
+            self.is_log = begins_as_log(line);
+        }
         self.counts = self.counts.with_line(kind);
         Ok(())
     }
@@ -200,7 +213,12 @@ impl Search {
             clients: _,
             vain,
             counts,
+            is_log,
         } = self;
-        Findings { vain, counts }
+        Findings {
+            vain,
+            counts,
+            is_log,
+        }
     }
 }

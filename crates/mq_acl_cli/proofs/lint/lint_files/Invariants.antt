@@ -8,7 +8,7 @@ use Rattle.mq_acl_cli.proofs.lint.lint_files.Given as goal
 abbrev pub invariant-loop-file : goal.invariant-loop-file
 invariant-loop-file g l = record {
   kept : input_count (texts (take l.file-index l.files)) ≡ 0
-      → g.I.Read.remaining l.input ≡ g.I.Read.remaining l.initial.input;
+      → l.input ≡ l.initial.input;
   linted : AreLinted (g.I.Read.remaining l.initial.input) (texts (take l.file-index l.files))
       l.outcome;
 }
