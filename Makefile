@@ -20,7 +20,7 @@ TOOL_NAMES = $(subst _,-,$(TOOLS:%=mqroute-%))
 BROKERS = ejabberd rabbitmq
 COMPLETIONS = $(INSTALLED)/share/bash-completion/completions
 
-all: mended
+all:
 	dev/build.py
 
 run: mended
@@ -34,6 +34,7 @@ check: programs
 	tests/program.py
 	tests/memory.sh
 	tests/unbuffered.py
+	tests/build.py
 	tests/acl.py
 	tests/readme.py
 	tests/package.sh
@@ -44,7 +45,7 @@ test: mended
 	tests/layers.py
 	tests/sources.py
 	rt ci
-	$(MAKE) --no-print-directory programs
+	dev/build.py --of-gate
 	tests/refused.sh
 	$(MAKE) --no-print-directory check
 
@@ -60,11 +61,10 @@ mended:
 	@find crates -mindepth 3 -maxdepth 3 -path '*/out/*' -type l -delete
 
 # What is built, in bin/.
-programs: mended
-	@dev/build.py --link
+programs:
+	@for built in bin/mqroute bin/mqroute-acl; do [ -x $$built ] || { echo "there is no $$built: run 'make' first"; exit 1; }; done
 
 install: programs
-	@for built in bin/mqroute bin/mqroute-acl; do [ -x $$built ] || { echo "there is no $$built: run 'make' first"; exit 1; }; done
 	install -D -m 755 bin/mqroute $(INSTALLED)/bin/mqroute
 	install -m 755 bin/mqroute-acl $(INSTALLED)/bin/mqroute-acl
 	install -d $(INSTALLED)/share/man/man1

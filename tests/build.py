@@ -1,0 +1,94 @@
+#!/usr/bin/env python3
+"""Runs dev/build.py over a small repository, with a stand-in for the toolchain."""
+import os
+import pathlib
+import shutil
+import signal
+import subprocess
+import sys
+import tempfile
+import time
+
+TOP = pathlib.Path(__file__).resolve().parent.parent
+CRATES = """words:
+mqroute: words
+mqroute_acl: words
+tests_alone: words
+"""
+# What the toolchain does: it says how each crate ends, and leaves the programs.
+RT = """#!/bin/sh
+[ "$*" = ci ] || exit 9
+ls crates > "$SEEN"
+for name in words mqroute mqroute_acl; do
+    [ ! -e crates/$name/must-fail ] || exit 9
+    sh -c "$STEP"
+    echo "== $name"
+    echo "rt: $name $ENDS"
+    mkdir crates/$name/out
+    echo $name > crates/$name/out/$name
+done
+echo "3 passed, 0 failed"
+"""
+
+
+def lay_out(top):
+    shutil.copytree(TOP / "dev", top / "dev")
+    (top / "tools").mkdir()
+    (top / "crates.txt").write_text(CRATES)
+    (top / "HANDLES").write_text("Handles allowed: none.\n")
+    for line in CRATES.splitlines():
+        (top / "crates" / line.partition(":")[0] / "must-fail").mkdir(parents=True)
+    (top / "rt").write_text(RT)
+    (top / "rt").chmod(0o755)
+
+
+def started(top, ends, step=":"):
+    env = os.environ | {"PATH": f"{top}:{os.environ['PATH']}", "XDG_CACHE_HOME": str(top / "cache"),
+                        "SEEN": str(top / "seen"), "ENDS": ends, "STEP": step}
+    return subprocess.Popen([sys.executable, "dev/build.py"], cwd=top, env=env, text=True,
+                            stdout=subprocess.PIPE, stderr=subprocess.PIPE)
+
+
+def ended(*words):
+    process = started(*words)
+    out, err = process.communicate(timeout=60)
+    return process.returncode, out, err
+
+
+def check(top):
+    status, out, err = ended(top, "proved")
+    assert (status, err) == (0, ""), (status, out, err)
+    assert [line.split(" after ")[0] for line in out.splitlines()[:3]] == [
+        " 1 of 3  words           ", " 2 of 3  mqroute         ", " 3 of 3  mqroute_acl     "], out
+    assert (top / "bin/mqroute-acl").read_text() == "mqroute_acl\n"
+    assert (top / "seen").read_text().split() == ["mqroute", "mqroute_acl", "words"]
+
+    status, out, _ = ended(top, "is kept: an earlier run proved the same")
+    assert status == 0 and out.splitlines()[0].endswith("words            was proved before"), out
+
+    (top / "bin/mqroute").unlink()
+    status, out, err = ended(top, "NOT PROVED")
+    assert (status, out) == (1, ""), (status, out)
+    assert err.splitlines()[-3:] == [
+        "== words", "rt: words NOT PROVED",
+        "build: words is not proved: all of the log is bin/build.log"], err
+    assert not (top / "bin/mqroute").exists()
+
+    process = started(top, "proved", f"touch {top}/begun; sleep 60")
+    while not (top / "begun").exists():
+        time.sleep(0.05)
+    process.send_signal(signal.SIGINT)
+    out, err = process.communicate(timeout=30)
+    assert (process.returncode, err) == (
+        130, "\nbuild: stopped; run again, it goes on where it was\n"), (process.returncode, err)
+
+
+def main():
+    with tempfile.TemporaryDirectory() as name:
+        lay_out(pathlib.Path(name))
+        check(pathlib.Path(name))
+    print("build: ok")
+
+
+if __name__ == "__main__":
+    main()
