@@ -1,576 +1,278 @@
--- Each command's fields, read in the order of their names.
-use Rattle.std.proofs.Common.{◌≡◌, ℕ, List, [], ◌∷◌, true, false, Option, Some, None, option_map}
-use Rattle.std.proofs.Common.{Bool, ◌||◌, refl, rules, sym, ap, ◌∙◌}
-use Rattle.std.specs.Prelude.{Result, Ok, Err, codes, if◌then◌else◌, unwrap_or}
-use Rattle.serde_json.specs.Data.{Data, object, Members}
-use Rattle.serde_json.specs.Find.{get}
+-- Fields that are read in one walk, in the order of their names, are those of their table.
+use Rattle.std.proofs.Common.{◌≡◌, ℕ, List, [], ◌∷◌, Bool, true, false, ◌||◌, cond, Option, Some}
+use Rattle.std.proofs.Common.{None, Ordering, Less, Equal, Greater, is_eq, bytes_eq, refl, sym}
+use Rattle.std.proofs.Common.{ap, ◌∙◌, subst}
+use Rattle.std.proofs.lemmas.Map.Text.{is_eq-slice_cmp}
+use Rattle.std.specs.Prelude.{Result, Ok, Err, if◌then◌else◌, is_none, unwrap_or, option_and_then}
+use Rattle.std.specs.Ordering.{is_lt}
+use Rattle.mq_topic.proofs.ByteLemmas.{text_is}
+use Rattle.serde_json.specs.Data.{Data, object, Members, no_members, member}
+use Rattle.serde_json.specs.Find.{get, get_member}
+use Rattle.mq_world.specs.World.{Request}
 use Rattle.mq_lines.specs.Objects.{names_of}
-use Rattle.mq_world.specs.World.{Request, Connect, Disconnect, Subscribe, Unsubscribe, Publish}
-use Rattle.mq_world.specs.World.{SetAcl, Advance, Stat}
-use Rattle.mq_lines.specs.Fields.{◌>>=◌, text, flag, unsigned, whole, of_kind, optional, required}
-use Rattle.mq_lines.specs.Fields.{defaulted, or_fault, is_fault, value_or}
-use Rattle.mq_lines.specs.Reading.{connect_names, connect_fields, disconnect_fields}
-use Rattle.mq_lines.specs.Reading.{subscribe_names, subscribe_fields, unsubscribe_fields}
-use Rattle.mq_lines.specs.Reading.{publish_names, publish_fields, acl_fields, advance_fields}
-use Rattle.mq_lines.specs.Reading.{stat_fields}
-use Rattle.mq_lines.specs.Ahead.{Ascends, ahead, past, end, outcome}
+use Rattle.mq_lines.specs.Fields.{◌>>=◌, or_fault, Kind, ValueOf, of_kind, Presence}
+use Rattle.mq_lines.specs.Fields.{Given, given_as, Field, given, Maker, made, names_in}
+use Rattle.mq_lines.specs.Fields.{is_among, all_among, has_only, word, from_fields}
+use Rattle.mq_lines.specs.Ahead.{Above, Ascends, ahead, past, end, outcome, members_left, finished}
+use Rattle.mq_lines.specs.Ahead.{Begins, Reads}
 use Rattle.mq_lines.specs.declared.fault.LineFault.{LineFault}
 use Rattle.mq_lines.specs.declared.fault.LineFault.TheVariants.{BadField}
-use Rattle.mq_lines.proofs.AheadLemmas.{left, walked}
+use Rattle.mq_lines.specs.declared.fields.Fields.{Fields}
+use Rattle.mq_lines.proofs.AheadLemmas.{text_cmp, turned, apart, apart_from, above_later, unfound}
+use Rattle.mq_lines.proofs.AheadLemmas.{not_among, unneeded, is_ascending, ascends}
 
--- ---- all faults of fields are one, so they may be read in any order
+-- ## What follows a field, unless it has a fault
 
-abbrev Sound : {A : Type 0} → Result A LineFault → Type 0
-Sound (Ok x) = Unit {0}
-Sound (Err e) = e ≡ BadField
+abbrev pub Reading : Type 0
+Reading = Result Request LineFault
 
-sound_or_fault : {A : Type 0} (o : Option A) → Sound (or_fault BadField o)
-sound_or_fault (Some x) = tt
-sound_or_fault None = refl
+abbrev next : {A : Type 0} → Option A → (A → Reading) → Reading
+next o rest = or_fault BadField o >>= rest
 
-sound_then : {A B : Type 0} (r : Result A LineFault) (f : A → Result B LineFault) → Sound r
-    → ((x : A) → Sound (f x)) → Sound (r >>= f)
-sound_then (Ok x) f h later = later x
-sound_then (Err e) f h later = h
+same_rest : {A : Type 0} (o : Option A) (f g : A → Reading) → ((x : A) → f x ≡ g x)
+    → next o f ≡ next o g
+same_rest None f g same = refl
+same_rest (Some x) f g same = same x
 
-sound_kind : {A : Type 0} (kind : Data → Option A) (o : Option Data) → Sound (of_kind kind o)
-sound_kind kind None = tt
-sound_kind kind (Some d) = sound_or_fault (option_map Some (kind d))
+faulty_rest : {A : Type 0} (o : Option A) (f : A → Reading) → ((x : A) → f x ≡ Err BadField)
+    → next o f ≡ Err BadField
+faulty_rest None f faulty = refl
+faulty_rest (Some x) f faulty = faulty x
 
-sound_optional : {A : Type 0} (kind : Data → Option A) (n : List ℕ) (d : Data)
-    → Sound (optional kind n d)
-sound_optional kind n d = sound_kind kind (get n d)
+same_made : {A : Type 0} (o : Option A) (f g : A → Option Request) → ((x : A) → f x ≡ g x)
+    → option_and_then f o ≡ option_and_then g o
+same_made None f g same = refl
+same_made (Some x) f g same = same x
 
-sound_required : {A : Type 0} (kind : Data → Option A) (n : List ℕ) (d : Data)
-    → Sound (required kind n d)
-sound_required kind n d = sound_then (optional kind n d) (or_fault BadField)
-    (sound_optional kind n d) sound_or_fault
+-- ## Fields in the order of their names
 
-sound_defaulted : {A : Type 0} (a : A) (kind : Data → Option A) (n : List ℕ) (d : Data)
-    → Sound (defaulted a kind n d)
-sound_defaulted a kind n d = sound_then (optional kind n d) _ (sound_optional kind n d) (λ o. tt)
+-- an object of these fields and of nothing else makes the command
+abbrev by_name : (fields : List Field) → Maker fields → Data → Reading
+by_name fields make d =
+    if has_only (names_in fields) d then or_fault BadField (made fields make d) else Err BadField
 
-faulty : {A B : Type 0} (r : Result A LineFault) (f : A → Result B LineFault) (e : LineFault)
-    → Sound r → e ≡ BadField → ((x : A)
-    → f x ≡ Err e) → (r >>= f) ≡ Err e
-faulty (Ok x) f e p q h = h x
-faulty (Err d) f e p q h = ap Err (p ∙ sym q)
+-- each field in turn is read from the next member, and then none is left
+abbrev walk : (fields : List Field) → Maker fields → Members → Reading
+walk [] request ms = end ms >>= λ _. Ok request
+walk (f ∷ fields) make ms = next (given f (ahead ms)) (λ x. walk fields (make x) (past f.name ms))
 
-faulty_now : {A B : Type 0} (r : Result A LineFault) (f : A → Result B LineFault) → r ≡ Err BadField
-    → (r >>= f) ≡ Err BadField
-faulty_now r f h = ap (λ s. s >>= f) h
+-- a member below all names is left
+stuck : (fields : List Field) (make : Maker fields) (k : List ℕ) (d : Data) (ms : Members)
+    → Above k (names_in fields)
+    → walk fields make (member k d ms) ≡ Err BadField
+stuck [] request k d ms above = refl
+stuck (f ∷ fields) make k d ms above = faulty_rest (given f (ahead (member k d ms))) _
+    (λ x. rw (apart_from k f.name above.0) (stuck fields (make x) k d ms above.1))
 
--- five fields, each of which is read, or has the fault of a field
-record AreSound {A B C D E : Type 0} (a : Result A LineFault) (b : Result B LineFault)
-    (c : Result C LineFault) (d : Result D LineFault) (e : Result E LineFault) : Type 0 where
-  first : Sound a
-  second : Sound b
-  third : Sound c
-  fourth : Sound d
-  fifth : Sound e
+-- a member below all names counts for none of them
+made_beyond : (fields : List Field) (make : Maker fields) (k : List ℕ) (d : Data) (ms : Members)
+    → Above k (names_in fields)
+    → made fields make (object (member k d ms)) ≡ made fields make (object ms)
+made_beyond [] request k d ms above = refl
+made_beyond (f ∷ fields) make k d ms above =
+    let here : get_member f.name (member k d ms) ≡ get_member f.name ms =
+    rw (turned k f.name Less above.0) in
+    rw here
+    (same_made (given f (object ms)) _ _ (λ x. made_beyond fields (make x) k d ms above.1))
 
--- ---- faults may be gathered, and told at the end
+-- a field of those that are read by name comes first
+first_field : {A : Type 0} (only : Bool) (o : Option A) (f : A → Option Request)
+    → (if only then or_fault BadField (option_and_then f o) else Err BadField)
+    ≡ next o (λ x. if only then or_fault BadField (f x) else Err BadField)
+first_field true None f = refl
+first_field true (Some x) f = refl
+first_field false None f = refl
+first_field false (Some x) f = refl
 
--- one more field: its fault joins those so far, and its value stands, or one in its place
-gather : {A Y : Type 0} (b : Bool) (r : Result A LineFault) (a : A) (rest : A → Result Y LineFault)
-    → Sound r → (if b then Err BadField else (r >>= rest))
-    ≡ (if b || is_fault r then Err BadField else rest (value_or a r))
-gather true r a rest h = refl
-gather false (Ok x) a rest h = refl
-gather false (Err e) a rest h = ap Err h
+-- walked by names that ascend, members that ascend give what they give by name
+walk_by_name : (fields : List Field) (make : Maker fields) (ms : Members)
+    → Ascends (names_in fields) → Ascends (names_of ms)
+    → by_name fields make (object ms) ≡ walk fields make ms
+walk_by_name [] request no_members up sorted = refl
+walk_by_name [] request (member k d ms) up sorted = refl
+walk_by_name (f ∷ fields) make no_members up sorted =
+    let given_none = given f (object no_members) in
+    first_field true given_none _
+    ∙ same_rest given_none _ _ (λ x. walk_by_name fields (make x) no_members up.1 tt)
+walk_by_name (f ∷ fields) make (member k d ms) up sorted =
+    first_field (all_among (f.name ∷ names) (member k d ms)) (given f (object (member k d ms))) _
+    ∙ by_order (text_cmp f.name k) refl (λ x. walk_by_name fields (make x) ms up.1 sorted.1)
+    (λ x. walk_by_name fields (make x) (member k d ms) up.1 sorted)
+  where
+    names : List (List ℕ)
+    names = names_in fields
 
--- the same of a field that stands for a where it is absent
-gather_or : {A Y : Type 0} (b : Bool) (r : Result (Option A) LineFault) (a : A)
-    (rest : A → Result Y LineFault)
-    → Sound r → (if b then Err BadField else ((r >>= λ o. Ok (unwrap_or o a)) >>= rest))
-    ≡ (if b || is_fault r then Err BadField else rest (unwrap_or (value_or None r) a))
-gather_or true r a rest h = refl
-gather_or false (Ok x) a rest h = refl
-gather_or false (Err e) a rest h = ap Err h
+    Same : Members → Type 0
+    Same rest = (x : Given f.presence)
+        → by_name fields (make x) (object rest) ≡ walk fields (make x) rest
 
--- what was gathered, and then whether no member is left
-finished : {Y : Type 0} (b : Bool) (ms : Members) (y : Y)
-    → (if b then Err BadField else (end ms >>= λ _. Ok y)) ≡ (outcome b ms >>= λ _. Ok y)
-finished true ms y = refl
-finished false ms y = refl
+    by_order : (o : Ordering) → text_cmp f.name k ≡ o → Same ms → Same (member k d ms)
+        → next (given f (object (member k d ms)))
+        (λ x. if all_among (f.name ∷ names) (member k d ms) then
+        or_fault BadField (made fields (make x) (object (member k d ms))) else Err BadField)
+        ≡ next (given f (ahead (member k d ms)))
+        (λ x. walk fields (make x) (past f.name (member k d ms)))
+    by_order Less is here later =
+        let above : Above f.name (k ∷ names_of ms) =
+        (is, above_later f.name k (names_of ms) is sorted.0) in
+        let absent : get_member f.name (member k d ms) ≡ None =
+        unfound f.name (member k d ms) above in
+        let alone : get f.name (ahead (member k d ms)) ≡ None = rw is in
+        let only : all_among (f.name ∷ names) (member k d ms) ≡ all_among names (member k d ms) =
+        unneeded f.name names (member k d ms) above in
+        rw (only, absent, alone, apart f.name k is)
+        (same_rest (given_as f.presence (of_kind f.kind) None) _ _ later)
+    by_order Equal is here later =
+        let same : bytes_eq f.name k ≡ true = sym (is_eq-slice_cmp f.name k) ∙ ap is_eq is in
+        let above : Above f.name (names_of ms) =
+        subst (λ m. Above m (names_of ms)) (sym (text_is f.name k same)) sorted.0 in
+        let beyond : Above k names = subst (λ m. Above m names) (text_is f.name k same) up.0 in
+        rw (is, same)
+        (same_rest (given_as f.presence (of_kind f.kind) (Some d)) _ _
+        (λ x. rw (unneeded f.name names ms above, made_beyond fields (make x) k d ms beyond)
+        (here x)))
+    by_order Greater is here later =
+        let below : text_cmp k f.name ≡ Less = turned f.name k Greater is in
+        let above : Above k (f.name ∷ names) = (below, above_later k f.name names below up.0) in
+        let unknown : all_among (f.name ∷ names) (member k d ms) ≡ false =
+        rw (not_among k (f.name ∷ names) above) in
+        rw unknown (faulty_rest (given f (object (member k d ms))) _ (λ x. refl)
+        ∙ sym (stuck (f ∷ fields) make k d ms above))
 
--- ---- each command
+-- ## Fields in another order
 
-abbrev connect_order : List (List ℕ)
-connect_order = codes "clean" ∷ codes "client" ∷ codes "do" ∷ codes "session_expiry" ∷ codes "user"
-    ∷ []
+-- a field among those that ascend
+abbrev pub place : Field → List Field → List Field
+place f [] = f ∷ []
+place f (g ∷ gs) = cond (is_lt (text_cmp f.name g.name)) (f ∷ g ∷ gs) (g ∷ place f gs)
 
-abbrev pub connect_walk : Members → Result Request LineFault
-connect_walk ms = do
-  clean ← defaulted true flag (codes "clean") (ahead ms)
-  client ← required text (codes "client") (ahead (left (codes "clean" ∷ []) ms))
-  session_expiry ← defaulted 0 (whole 0 4294967295) (codes "session_expiry")
-      (ahead (left (codes "clean" ∷ codes "client" ∷ codes "do" ∷ []) ms))
-  user ← optional text (codes "user")
-      (ahead (left (codes "clean" ∷ codes "client" ∷ codes "do" ∷ codes "session_expiry" ∷ []) ms))
-  ended ← end (left connect_order ms)
-  Ok (Connect client user clean session_expiry)
+abbrev pub place_maker : (f : Field) (gs : List Field) → (Given f.presence → Maker gs)
+    → Maker (place f gs)
+place_maker f [] make = make
+place_maker f (g ∷ gs) make =
+    elim (is_lt (text_cmp f.name g.name)) as (λ b. Maker (cond b (f ∷ g ∷ gs) (g ∷ place f gs))) [
+      | true ↦ make
+      | false ↦ λ y. place_maker f gs (λ x. make x y)
+    ]
 
-connect_reordered : {A B C D Y : Type 0} (clean : Result A LineFault) (client : Result B LineFault)
-    (session_expiry : Result C LineFault)
-    (user : Result D LineFault)
-    (f : A → B → C → D → Y)
-    → Sound clean → Sound client → Sound session_expiry → Sound user
-    → (client >>= λ x1. user >>= λ x3. clean >>= λ x0. session_expiry >>= λ x2. Ok (f x0 x1 x2 x3))
-    ≡ (clean >>= λ x0. client >>= λ x1. session_expiry >>= λ x2. user >>= λ x3. Ok (f x0 x1 x2 x3))
-connect_reordered (Err e) client session_expiry user f h0 h1 h2 h3 = search (rules, faulty)
-connect_reordered (Ok x0) (Err e) session_expiry user f h0 h1 h2 h3 = refl
-connect_reordered (Ok x0) (Ok x1) (Err e) user f h0 h1 h2 h3 = search (rules, faulty)
-connect_reordered (Ok x0) (Ok x1) (Ok x2) user f h0 h1 h2 h3 = refl
+abbrev pub sorted : List Field → List Field
+sorted [] = []
+sorted (f ∷ fields) = place f (sorted fields)
 
--- a walk in the order of their names reads a connect's fields the same
-pub connect_walked : (ms : Members) → Ascends (names_of ms)
-    → connect_fields (object ms) ≡ connect_walk ms
-unfolding connect_fields
-connect_walked ms sorted = walked connect_names connect_order ms _ (connect_walk ms) refl sorted
-    (λ a. rw (
-      a.0,
-      a.1.0,
-      a.1.1.1.0,
-      a.1.1.1.1.0,
-      a.1.1.1.1.1,
-    ) (connect_reordered _ _ _ _ _ (sound_defaulted true flag (codes "clean") (object ms))
-    (sound_required text
-    (codes "client") (object ms))
-    (sound_defaulted 0 (whole 0 4294967295) (codes "session_expiry") (object ms))
-    (sound_optional text
-    (codes "user") (object ms))))
-    (λ e. search (faulty, faulty_now, sound_required, sound_optional, sound_defaulted) depth 12)
+abbrev pub sorted_maker : (fields : List Field) → Maker fields → Maker (sorted fields)
+sorted_maker [] request = request
+sorted_maker (f ∷ fields) make = place_maker f (sorted fields) (λ x. sorted_maker fields (make x))
 
-abbrev disconnect_order : List (List ℕ)
-disconnect_order = codes "client" ∷ codes "do" ∷ []
+swapped : {A B : Type 0} (a : Option A) (b : Option B) (f : A → B → Option Request)
+    → option_and_then (λ y. option_and_then (λ x. f x y) a) b
+    ≡ option_and_then (λ x. option_and_then (λ y. f x y) b) a
+swapped None None f = refl
+swapped None (Some y) f = refl
+swapped (Some x) None f = refl
+swapped (Some x) (Some y) f = refl
 
-abbrev pub disconnect_walk : Members → Result Request LineFault
-disconnect_walk ms = do
-  client ← required text (codes "client") (ahead ms)
-  ended ← end (left disconnect_order ms)
-  Ok (Disconnect client)
+made_place : (f : Field) (gs : List Field) (make : Given f.presence → Maker gs) (d : Data)
+    → made (place f gs) (place_maker f gs make) d
+    ≡ option_and_then (λ x. made gs (make x) d) (given f d)
+made_place f [] make d = refl
+made_place f (g ∷ gs) make d =
+    by_test (is_lt (text_cmp f.name g.name)) (λ y. made_place f gs (λ x. make x y) d)
+  where
+    by_test : (b : Bool)
+        → ((y : Given g.presence) → made (place f gs) (place_maker f gs (λ x. make x y)) d
+        ≡ option_and_then (λ x. made gs (make x y) d) (given f d))
+        → made (cond b (f ∷ g ∷ gs) (g ∷ place f gs))
+        (elim b as (λ b. Maker (cond b (f ∷ g ∷ gs) (g ∷ place f gs))) [
+          | true ↦ make
+          | false ↦ λ y. place_maker f gs (λ x. make x y)
+        ]) d
+        ≡ option_and_then (λ x. made (g ∷ gs) (make x) d) (given f d)
+    by_test true later = refl
+    by_test false later = same_made (given g d) _ _ later
+        ∙ swapped (given f d) (given g d) (λ x y. made gs (make x y) d)
 
--- a walk in the order of their names reads a disconnect's fields the same
-pub disconnect_walked : (ms : Members) → Ascends (names_of ms)
-    → disconnect_fields (object ms) ≡ disconnect_walk ms
-unfolding disconnect_fields
-disconnect_walked ms sorted = walked (codes "do" ∷ codes "client" ∷ []) disconnect_order ms _
-    (disconnect_walk ms) refl sorted
-    (λ a. rw (a.0, a.1.1))
-    (λ e. search (faulty, faulty_now, sound_required))
+made_sorted : (fields : List Field) (make : Maker fields) (d : Data)
+    → made (sorted fields) (sorted_maker fields make) d ≡ made fields make d
+made_sorted [] request d = refl
+made_sorted (f ∷ fields) make d = made_place f (sorted fields) (λ x. sorted_maker fields (make x)) d
+    ∙ same_made (given f d) _ _ (λ x. made_sorted fields (make x) d)
 
-abbrev subscribe_order : List (List ℕ)
-subscribe_order = codes "client" ∷ codes "do" ∷ codes "filter" ∷ codes "handling" ∷ codes "id"
-    ∷ codes "no_local" ∷ codes "qos" ∷ codes "rap" ∷ []
+either_first : (a b c : Bool) → a || (b || c) ≡ b || (a || c)
+either_first true true c = refl
+either_first true false c = refl
+either_first false true c = refl
+either_first false false c = refl
 
-abbrev pub subscribe_walk : Members → Result Request LineFault
-subscribe_walk ms = do
-  client ← required text (codes "client") (ahead ms)
-  filter ← required text (codes "filter") (ahead (left (codes "client" ∷ codes "do" ∷ []) ms))
-  handling ← defaulted 0 (whole 0 2) (codes "handling")
-      (ahead (left (codes "client" ∷ codes "do" ∷ codes "filter" ∷ []) ms))
-  id ← optional (whole 1 268435455) (codes "id")
-      (ahead (left (codes "client" ∷ codes "do" ∷ codes "filter" ∷ codes "handling" ∷ []) ms))
-  no_local ← defaulted false flag (codes "no_local")
-      (ahead (left (codes "client" ∷ codes "do" ∷ codes "filter" ∷ codes "handling" ∷ codes "id"
-      ∷ []) ms))
-  qos ← defaulted 0 (whole 0 2) (codes "qos")
-      (ahead (left (codes "client" ∷ codes "do" ∷ codes "filter" ∷ codes "handling" ∷ codes "id"
-      ∷ codes "no_local" ∷ []) ms))
-  rap ← defaulted false flag (codes "rap")
-      (ahead (left (codes "client" ∷ codes "do" ∷ codes "filter" ∷ codes "handling" ∷ codes "id"
-      ∷ codes "no_local" ∷ codes "qos" ∷ []) ms))
-  ended ← end (left subscribe_order ms)
-  Ok (Subscribe client filter (record {
-    qos = qos;
-    no_local = no_local;
-    retain_as_published = rap;
-    handling = handling;
-    identifier = id;
-  }))
+among_place : (f : Field) (gs : List Field) (k : List ℕ)
+    → is_among (names_in (place f gs)) k ≡ is_among (names_in (f ∷ gs)) k
+among_place f [] k = refl
+among_place f (g ∷ gs) k = by_test (is_lt (text_cmp f.name g.name)) (among_place f gs k)
+  where
+    by_test : (b : Bool) → is_among (names_in (place f gs)) k ≡ is_among (names_in (f ∷ gs)) k
+        → is_among (names_in (cond b (f ∷ g ∷ gs) (g ∷ place f gs))) k
+        ≡ is_among (names_in (f ∷ g ∷ gs)) k
+    by_test true later = refl
+    by_test false later = ap (λ t. bytes_eq g.name k || t) later
+        ∙ either_first (bytes_eq g.name k) (bytes_eq f.name k) (is_among (names_in gs) k)
 
-subscribe_reordered : {A B C D E F G Y : Type 0} (client : Result A LineFault)
-    (filter : Result B LineFault)
-    (handling : Result C LineFault) (id : Result D LineFault) (no_local : Result E LineFault)
-    (qos : Result F LineFault)
-    (rap : Result G LineFault)
-    (f : A → B → C → D → E → F → G → Y)
-    → AreSound handling id no_local qos rap
-    → (client >>= λ x0. filter >>= λ x1. qos >>= λ x5. no_local >>= λ x4. rap >>= λ x6. handling >>=
-    λ x2. id >>= λ x3. Ok (f x0 x1 x2 x3 x4 x5 x6))
-    ≡ (client >>= λ x0. filter >>= λ x1. handling >>= λ x2. id >>= λ x3. no_local >>= λ x4. qos >>=
-    λ x5. rap >>= λ x6. Ok
-    (f x0 x1 x2 x3 x4 x5 x6))
-subscribe_reordered (Err e) filter handling id no_local qos rap f are = refl
-subscribe_reordered (Ok x0) (Err e) handling id no_local qos rap f are = refl
-subscribe_reordered (Ok x0) (Ok x1) (Err e) id no_local qos rap f are =
-    search (rules, faulty, are.first, are.third, are.fourth, are.fifth)
-subscribe_reordered (Ok x0) (Ok x1) (Ok x2) (Err e) no_local qos rap f are =
-    search (rules, faulty, are.second, are.third, are.fourth, are.fifth)
-subscribe_reordered (Ok x0) (Ok x1) (Ok x2) (Ok x3) (Err e) qos rap f are =
-    search (rules, faulty, are.third, are.fourth)
-subscribe_reordered (Ok x0) (Ok x1) (Ok x2) (Ok x3) (Ok x4) qos rap f are = refl
+among_sorted : (fields : List Field) (k : List ℕ)
+    → is_among (names_in (sorted fields)) k ≡ is_among (names_in fields) k
+among_sorted [] k = refl
+among_sorted (f ∷ fields) k = among_place f (sorted fields) k
+    ∙ ap (λ t. bytes_eq f.name k || t) (among_sorted fields k)
 
--- a walk in the order of their names reads a subscribe's fields the same
-pub subscribe_walked : (ms : Members) → Ascends (names_of ms)
-    → subscribe_fields (object ms) ≡ subscribe_walk ms
-unfolding subscribe_fields
-subscribe_walked ms sorted = walked subscribe_names subscribe_order ms _ (subscribe_walk ms) refl
-    sorted
-    (λ a. rw (
-      a.0,
-      a.1.1.0,
-      a.1.1.1.0,
-      a.1.1.1.1.0,
-      a.1.1.1.1.1.0,
-      a.1.1.1.1.1.1.0,
-      a.1.1.1.1.1.1.1.0,
-      a.1.1.1.1.1.1.1.1,
-    ) (subscribe_reordered (required text (codes "client") (object ms))
-    (required text (codes "filter") (object ms)) _ _ _ _ _ _ (record {
-      first = sound_defaulted 0 (whole 0 2) (codes "handling") (object ms);
-      second = sound_optional (whole 1 268435455) (codes "id") (object ms);
-      third = sound_defaulted false flag (codes "no_local") (object ms);
-      fourth = sound_defaulted 0 (whole 0 2) (codes "qos") (object ms);
-      fifth = sound_defaulted false flag (codes "rap") (object ms);
-    })))
-    (λ e. search (faulty, faulty_now, sound_required, sound_optional, sound_defaulted) depth 12)
+all_among_sorted : (fields : List Field) (ms : Members)
+    → all_among (names_in (sorted fields)) ms ≡ all_among (names_in fields) ms
+all_among_sorted fields no_members = refl
+all_among_sorted fields (member k d ms) = rw (among_sorted fields k, all_among_sorted fields ms)
 
-abbrev unsubscribe_order : List (List ℕ)
-unsubscribe_order = codes "client" ∷ codes "do" ∷ codes "filter" ∷ []
+-- ## A walk as the code makes it
 
-abbrev pub unsubscribe_walk : Members → Result Request LineFault
-unsubscribe_walk ms = do
-  client ← required text (codes "client") (ahead ms)
-  filter ← required text (codes "filter") (ahead (left (codes "client" ∷ codes "do" ∷ []) ms))
-  ended ← end (left unsubscribe_order ms)
-  Ok (Unsubscribe client filter)
+-- what a walk that is begun goes on to read
+pub walked : (fields : List Field) → Maker fields → Fields → Reading
+walked fields make state =
+    if state.is_faulty then Err BadField else walk fields make (members_left state)
 
--- a walk in the order of their names reads an unsubscribe's fields the same
-pub unsubscribe_walked : (ms : Members) → Ascends (names_of ms)
-    → unsubscribe_fields (object ms) ≡ unsubscribe_walk ms
-unfolding unsubscribe_fields
-unsubscribe_walked ms sorted = walked (codes "do" ∷ codes "client" ∷ codes "filter" ∷ [])
-    unsubscribe_order ms _ (unsubscribe_walk ms) refl sorted
-    (λ a. rw (a.0, a.1.1.0, a.1.1.1))
-    (λ e. search (faulty, faulty_now, sound_required))
+-- a command's fields are read in one walk by their names, wherever its table has them
+pub begins : {ms : Members} {state : Fields} → Begins ms state
+    → (fields : List Field) (make : Maker fields)
+    → is_ascending (names_in (sorted (word ∷ fields))) ≡ true
+    → from_fields fields make (object ms)
+    ≡ walked (sorted (word ∷ fields)) (sorted_maker (word ∷ fields) (λ ignored. make)) state
+unfolding from_fields walked
+begins {ms} {state} at fields make up =
+    let all = word ∷ fields in
+    let from_all : Maker all = λ ignored. make in
+    rw (at.sound, at.all, ← all_among_sorted all ms, ← made_sorted all from_all (object ms))
+    (walk_by_name (sorted all) (sorted_maker all from_all) ms (ascends _ up) at.ordered)
 
-abbrev publish_order : List (List ℕ)
-publish_order = codes "client" ∷ codes "do" ∷ codes "expiry" ∷ codes "payload" ∷ codes "qos"
-    ∷ codes "retain" ∷ codes "topic" ∷ []
+gathered : {A : Type 0} (faulty : Bool) (o : Option A) (a : A) (rest : A → Reading)
+    → (if faulty then Err BadField else next o rest)
+    ≡ (if faulty || is_none o then Err BadField else rest (unwrap_or o a))
+gathered true o a rest = refl
+gathered false None a rest = refl
+gathered false (Some x) a rest = refl
 
-abbrev pub publish_walk : Members → Result Request LineFault
-publish_walk ms = do
-  client ← required text (codes "client") (ahead ms)
-  expiry ← optional (whole 0 4294967295) (codes "expiry")
-      (ahead (left (codes "client" ∷ codes "do" ∷ []) ms))
-  payload ← defaulted [] text (codes "payload")
-      (ahead (left (codes "client" ∷ codes "do" ∷ codes "expiry" ∷ []) ms))
-  qos ← defaulted 0 (whole 0 2) (codes "qos")
-      (ahead (left (codes "client" ∷ codes "do" ∷ codes "expiry" ∷ codes "payload" ∷ []) ms))
-  retain ← defaulted false flag (codes "retain")
-      (ahead (left (codes "client" ∷ codes "do" ∷ codes "expiry" ∷ codes "payload" ∷ codes "qos"
-      ∷ []) ms))
-  topic ← required text (codes "topic")
-      (ahead (left (codes "client" ∷ codes "do" ∷ codes "expiry" ∷ codes "payload" ∷ codes "qos"
-      ∷ codes "retain" ∷ []) ms))
-  ended ← end (left publish_order ms)
-  Ok (Publish (record {
-    publisher = client;
-    topic = topic;
-    payload = payload;
-    qos = qos;
-    retain = retain;
-    expiry = expiry;
-  }))
+-- one more field is read
+pub step : {name : List ℕ} {kind : Kind} {presence : Presence (ValueOf kind)} {a x : Given presence}
+    {old new : Fields} → Reads name kind presence a old new x
+    → (fields : List Field) (make : Given presence → Maker fields)
+    → walked (record { name = name; kind = kind; presence = presence } ∷ fields) make old
+    ≡ walked fields (make x) new
+unfolding walked
+step {name} {kind} {presence} {a} {x} {old} {new} reads fields make =
+    rw (reads.faulty, reads.left, reads.value)
+    (gathered old.is_faulty
+    (given_as presence (of_kind kind) (get name (ahead (members_left old)))) a
+    (λ x. walk fields (make x) (past name (members_left old))))
 
-publish_reordered : {A B C D E F Y : Type 0} (client : Result A LineFault)
-    (expiry : Result B LineFault) (payload : Result C LineFault)
-    (qos : Result D LineFault) (retain : Result E LineFault) (topic : Result F LineFault)
-    (f : A → B → C → D → E → F → Y)
-    → AreSound expiry payload qos retain topic
-    → (client >>= λ x0. topic >>= λ x5. payload >>= λ x2. qos >>= λ x3. retain >>= λ x4. expiry >>=
-    λ x1. Ok (f x0 x1 x2 x3 x4 x5))
-    ≡ (client >>= λ x0. expiry >>= λ x1. payload >>= λ x2. qos >>= λ x3. retain >>= λ x4. topic >>=
-    λ x5. Ok (f x0 x1 x2 x3 x4 x5))
-publish_reordered (Err e) expiry payload qos retain topic f are = refl
-publish_reordered (Ok x0) (Err e) payload qos retain topic f are =
-    search (rules, faulty, are.first, are.second, are.third, are.fourth, are.fifth)
-publish_reordered (Ok x0) (Ok x1) (Err e) qos retain topic f are =
-    search (rules, faulty, are.second, are.fifth)
-publish_reordered (Ok x0) (Ok x1) (Ok x2) (Err e) retain topic f are =
-    search (rules, faulty, are.third, are.fifth)
-publish_reordered (Ok x0) (Ok x1) (Ok x2) (Ok x3) (Err e) topic f are =
-    search (rules, faulty, are.fourth, are.fifth)
-publish_reordered (Ok x0) (Ok x1) (Ok x2) (Ok x3) (Ok x4) topic f are = refl
-
--- a walk in the order of their names reads a publish's fields the same
-pub publish_walked : (ms : Members) → Ascends (names_of ms)
-    → publish_fields (object ms) ≡ publish_walk ms
-unfolding publish_fields
-publish_walked ms sorted = walked publish_names publish_order ms _ (publish_walk ms) refl sorted
-    (λ a. rw (
-      a.0,
-      a.1.1.0,
-      a.1.1.1.0,
-      a.1.1.1.1.0,
-      a.1.1.1.1.1.0,
-      a.1.1.1.1.1.1.0,
-      a.1.1.1.1.1.1.1,
-    ) (publish_reordered _ _ _ _ _ _ _ (record {
-      first = sound_optional (whole 0 4294967295) (codes "expiry") (object ms);
-      second = sound_defaulted [] text (codes "payload") (object ms);
-      third = sound_defaulted 0 (whole 0 2) (codes "qos") (object ms);
-      fourth = sound_defaulted false flag (codes "retain") (object ms);
-      fifth = sound_required text (codes "topic") (object ms);
-    })))
-    (λ e. search (faulty, faulty_now, sound_required, sound_optional, sound_defaulted) depth 12)
-
-abbrev acl_order : List (List ℕ)
-acl_order = codes "do" ∷ codes "text" ∷ []
-
-abbrev pub acl_walk : Members → Result Request LineFault
-acl_walk ms = do
-  acl ← optional text (codes "text") (ahead (left (codes "do" ∷ []) ms))
-  ended ← end (left acl_order ms)
-  Ok (SetAcl acl)
-
--- a walk in the order of their names reads an access list's fields the same
-pub acl_walked : (ms : Members) → Ascends (names_of ms) → acl_fields (object ms) ≡ acl_walk ms
-unfolding acl_fields
-acl_walked ms sorted = walked (codes "do" ∷ codes "text" ∷ []) acl_order ms _ (acl_walk ms) refl
-    sorted
-    (λ a. rw (a.1.0, a.1.1))
-    (λ e. search (faulty, faulty_now, sound_optional))
-
-abbrev advance_order : List (List ℕ)
-advance_order = codes "do" ∷ codes "seconds" ∷ []
-
-abbrev pub advance_walk : Members → Result Request LineFault
-advance_walk ms = do
-  seconds ← required unsigned (codes "seconds") (ahead (left (codes "do" ∷ []) ms))
-  ended ← end (left advance_order ms)
-  Ok (Advance seconds)
-
--- a walk in the order of their names reads an advance's fields the same
-pub advance_walked : (ms : Members) → Ascends (names_of ms)
-    → advance_fields (object ms) ≡ advance_walk ms
-unfolding advance_fields
-advance_walked ms sorted = walked (codes "do" ∷ codes "seconds" ∷ []) advance_order ms _
-    (advance_walk ms) refl sorted
-    (λ a. rw (a.1.0, a.1.1))
-    (λ e. search (faulty, faulty_now, sound_required))
-
-abbrev stat_order : List (List ℕ)
-stat_order = codes "do" ∷ []
-
-abbrev pub stat_walk : Members → Result Request LineFault
-stat_walk ms = do
-  ended ← end (left stat_order ms)
-  Ok (Stat)
-
--- a walk in the order of their names reads a stat's fields the same
-pub stat_walked : (ms : Members) → Ascends (names_of ms) → stat_fields (object ms) ≡ stat_walk ms
-unfolding stat_fields
-stat_walked ms sorted = walked (codes "do" ∷ []) stat_order ms _ (stat_walk ms) refl sorted
-    (λ a. rw a.1)
-    (λ e. faulty_now _ _ e)
-
--- ---- each command, with its faults gathered
-
--- what a connect says, with the faults of its fields told at the end
-pub connect_read : (ms : Members) → Ascends (names_of ms) →
-    let clean = defaulted true flag (codes "clean") (ahead ms) in
-    let m1 = past (codes "clean") ms in
-    let client = required text (codes "client") (ahead m1) in
-    let m2 = past (codes "client") m1 in
-    let m3 = past (codes "do") m2 in
-    let session_expiry = optional (whole 0 4294967295) (codes "session_expiry") (ahead m3) in
-    let m4 = past (codes "session_expiry") m3 in
-    let user = optional text (codes "user") (ahead m4) in
-    let m5 = past (codes "user") m4 in
-    let f1 = false || is_fault clean in
-    let f2 = f1 || is_fault client in
-    let f3 = f2 || is_fault session_expiry in
-    let f4 = f3 || is_fault user in
-    connect_fields (object ms) ≡ (outcome f4 m5 >>= λ _.
-    Ok (Connect (value_or [] client) (value_or None user) (value_or true clean)
-    (unwrap_or (value_or None session_expiry) 0)))
-connect_read ms sorted =
-    let m1 = past (codes "clean") ms in
-    let m2 = past (codes "client") m1 in
-    let m3 = past (codes "do") m2 in
-    let m4 = past (codes "session_expiry") m3 in
-    connect_walked ms sorted
-    ∙ gather false _ true _ (sound_defaulted true flag (codes "clean") (ahead ms))
-    ∙ gather _ _ [] _ (sound_required text (codes "client") (ahead m1))
-    ∙ gather_or _ _ 0 _ (sound_optional (whole 0 4294967295) (codes "session_expiry") (ahead m3))
-    ∙ gather _ _ None _ (sound_optional text (codes "user") (ahead m4))
-    ∙ finished _ _ _
-
--- what a disconnect says, with the faults of its fields told at the end
-pub disconnect_read : (ms : Members) → Ascends (names_of ms) →
-    let client = required text (codes "client") (ahead ms) in
-    let m1 = past (codes "client") ms in
-    let m2 = past (codes "do") m1 in
-    let f1 = false || is_fault client in
-    disconnect_fields (object ms) ≡ (outcome f1 m2 >>= λ _.
-    Ok (Disconnect (value_or [] client)))
-disconnect_read ms sorted =
-    let m1 = past (codes "client") ms in
-    disconnect_walked ms sorted
-    ∙ gather false _ [] _ (sound_required text (codes "client") (ahead ms))
-    ∙ finished _ _ _
-
--- what a subscribe says, with the faults of its fields told at the end
-pub subscribe_read : (ms : Members) → Ascends (names_of ms) →
-    let client = required text (codes "client") (ahead ms) in
-    let m1 = past (codes "client") ms in
-    let m2 = past (codes "do") m1 in
-    let filter = required text (codes "filter") (ahead m2) in
-    let m3 = past (codes "filter") m2 in
-    let handling = defaulted 0 (whole 0 2) (codes "handling") (ahead m3) in
-    let m4 = past (codes "handling") m3 in
-    let id = optional (whole 1 268435455) (codes "id") (ahead m4) in
-    let m5 = past (codes "id") m4 in
-    let no_local = defaulted false flag (codes "no_local") (ahead m5) in
-    let m6 = past (codes "no_local") m5 in
-    let qos = defaulted 0 (whole 0 2) (codes "qos") (ahead m6) in
-    let m7 = past (codes "qos") m6 in
-    let rap = defaulted false flag (codes "rap") (ahead m7) in
-    let m8 = past (codes "rap") m7 in
-    let f1 = false || is_fault client in
-    let f2 = f1 || is_fault filter in
-    let f3 = f2 || is_fault handling in
-    let f4 = f3 || is_fault id in
-    let f5 = f4 || is_fault no_local in
-    let f6 = f5 || is_fault qos in
-    let f7 = f6 || is_fault rap in
-    subscribe_fields (object ms) ≡ (outcome f7 m8 >>= λ _.
-    Ok (Subscribe (value_or [] client) (value_or [] filter) (record {
-      qos = value_or 0 qos;
-      no_local = value_or false no_local;
-      retain_as_published = value_or false rap;
-      handling = value_or 0 handling;
-      identifier = value_or None id;
-    })))
-subscribe_read ms sorted =
-    let m1 = past (codes "client") ms in
-    let m2 = past (codes "do") m1 in
-    let m3 = past (codes "filter") m2 in
-    let m4 = past (codes "handling") m3 in
-    let m5 = past (codes "id") m4 in
-    let m6 = past (codes "no_local") m5 in
-    let m7 = past (codes "qos") m6 in
-    subscribe_walked ms sorted
-    ∙ gather false _ [] _ (sound_required text (codes "client") (ahead ms))
-    ∙ gather _ _ [] _ (sound_required text (codes "filter") (ahead m2))
-    ∙ gather _ _ 0 _ (sound_defaulted 0 (whole 0 2) (codes "handling") (ahead m3))
-    ∙ gather _ _ None _ (sound_optional (whole 1 268435455) (codes "id") (ahead m4))
-    ∙ gather _ _ false _ (sound_defaulted false flag (codes "no_local") (ahead m5))
-    ∙ gather _ _ 0 _ (sound_defaulted 0 (whole 0 2) (codes "qos") (ahead m6))
-    ∙ gather _ _ false _ (sound_defaulted false flag (codes "rap") (ahead m7))
-    ∙ finished _ _ _
-
--- what a unsubscribe says, with the faults of its fields told at the end
-pub unsubscribe_read : (ms : Members) → Ascends (names_of ms) →
-    let client = required text (codes "client") (ahead ms) in
-    let m1 = past (codes "client") ms in
-    let m2 = past (codes "do") m1 in
-    let filter = required text (codes "filter") (ahead m2) in
-    let m3 = past (codes "filter") m2 in
-    let f1 = false || is_fault client in
-    let f2 = f1 || is_fault filter in
-    unsubscribe_fields (object ms) ≡ (outcome f2 m3 >>= λ _.
-    Ok (Unsubscribe (value_or [] client) (value_or [] filter)))
-unsubscribe_read ms sorted =
-    let m1 = past (codes "client") ms in
-    let m2 = past (codes "do") m1 in
-    unsubscribe_walked ms sorted
-    ∙ gather false _ [] _ (sound_required text (codes "client") (ahead ms))
-    ∙ gather _ _ [] _ (sound_required text (codes "filter") (ahead m2))
-    ∙ finished _ _ _
-
--- what a publish says, with the faults of its fields told at the end
-pub publish_read : (ms : Members) → Ascends (names_of ms) →
-    let client = required text (codes "client") (ahead ms) in
-    let m1 = past (codes "client") ms in
-    let m2 = past (codes "do") m1 in
-    let expiry = optional (whole 0 4294967295) (codes "expiry") (ahead m2) in
-    let m3 = past (codes "expiry") m2 in
-    let payload = defaulted [] text (codes "payload") (ahead m3) in
-    let m4 = past (codes "payload") m3 in
-    let qos = defaulted 0 (whole 0 2) (codes "qos") (ahead m4) in
-    let m5 = past (codes "qos") m4 in
-    let retain = defaulted false flag (codes "retain") (ahead m5) in
-    let m6 = past (codes "retain") m5 in
-    let topic = required text (codes "topic") (ahead m6) in
-    let m7 = past (codes "topic") m6 in
-    let f1 = false || is_fault client in
-    let f2 = f1 || is_fault expiry in
-    let f3 = f2 || is_fault payload in
-    let f4 = f3 || is_fault qos in
-    let f5 = f4 || is_fault retain in
-    let f6 = f5 || is_fault topic in
-    publish_fields (object ms) ≡ (outcome f6 m7 >>= λ _.
-    Ok (Publish (record {
-      publisher = value_or [] client;
-      topic = value_or [] topic;
-      payload = value_or [] payload;
-      qos = value_or 0 qos;
-      retain = value_or false retain;
-      expiry = value_or None expiry;
-    })))
-publish_read ms sorted =
-    let m1 = past (codes "client") ms in
-    let m2 = past (codes "do") m1 in
-    let m3 = past (codes "expiry") m2 in
-    let m4 = past (codes "payload") m3 in
-    let m5 = past (codes "qos") m4 in
-    let m6 = past (codes "retain") m5 in
-    publish_walked ms sorted
-    ∙ gather false _ [] _ (sound_required text (codes "client") (ahead ms))
-    ∙ gather _ _ None _ (sound_optional (whole 0 4294967295) (codes "expiry") (ahead m2))
-    ∙ gather _ _ [] _ (sound_defaulted [] text (codes "payload") (ahead m3))
-    ∙ gather _ _ 0 _ (sound_defaulted 0 (whole 0 2) (codes "qos") (ahead m4))
-    ∙ gather _ _ false _ (sound_defaulted false flag (codes "retain") (ahead m5))
-    ∙ gather _ _ [] _ (sound_required text (codes "topic") (ahead m6))
-    ∙ finished _ _ _
-
--- what a acl says, with the faults of its fields told at the end
-pub acl_read : (ms : Members) → Ascends (names_of ms) →
-    let m1 = past (codes "do") ms in
-    let text_read = optional text (codes "text") (ahead m1) in
-    let m2 = past (codes "text") m1 in
-    let f1 = false || is_fault text_read in
-    acl_fields (object ms) ≡ (outcome f1 m2 >>= λ _.
-    Ok (SetAcl (value_or None text_read)))
-acl_read ms sorted =
-    let m1 = past (codes "do") ms in
-    acl_walked ms sorted
-    ∙ gather false _ None _ (sound_optional text (codes "text") (ahead m1))
-    ∙ finished _ _ _
-
--- what a advance says, with the faults of its fields told at the end
-pub advance_read : (ms : Members) → Ascends (names_of ms) →
-    let m1 = past (codes "do") ms in
-    let seconds = required unsigned (codes "seconds") (ahead m1) in
-    let m2 = past (codes "seconds") m1 in
-    let f1 = false || is_fault seconds in
-    advance_fields (object ms) ≡ (outcome f1 m2 >>= λ _.
-    Ok (Advance (value_or 0 seconds)))
-advance_read ms sorted =
-    let m1 = past (codes "do") ms in
-    advance_walked ms sorted
-    ∙ gather false _ 0 _ (sound_required unsigned (codes "seconds") (ahead m1))
-    ∙ finished _ _ _
-
--- what a stat says, with the faults of its fields told at the end
-pub stat_read : (ms : Members) → Ascends (names_of ms) →
-    let m1 = past (codes "do") ms in
-    stat_fields (object ms) ≡ (outcome false m1 >>= λ _.
-    Ok (Stat))
-stat_read ms sorted =
-    stat_walked ms sorted
-    ∙ finished false _ _
+-- nothing is left to read
+pub ends : (request : Request) (state : Fields) → walked [] request state ≡ finished state request
+unfolding walked
+ends request state = by_test state.is_faulty
+  where
+    by_test : (b : Bool)
+        → (if b then Err BadField else (end (members_left state) >>= λ _. Ok request))
+        ≡ (outcome b (members_left state) >>= λ _. Ok request)
+    by_test true = refl
+    by_test false = refl

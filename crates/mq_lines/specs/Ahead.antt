@@ -1,15 +1,17 @@
 -- An object that is read member by member, in the order of its names.
 use Rattle.std.specs.Borrow.{Bor, MutBor}
 use Rattle.std.specs.Prelude.{◌≡◌, ℕ, List, [], ◌∷◌, cond, Option, None, Some, Result, Ok, Err, ⊤}
-use Rattle.std.specs.Prelude.{Bool, true, false}
+use Rattle.std.specs.Prelude.{Bool, true, false, ◌||◌, is_none, unwrap_or}
 use Rattle.std.specs.Cmp.Lexicographic.{slice_cmp}
 use Rattle.std.specs.List.{AllByRecursion}
 use Rattle.std.specs.Ordering.{nat_cmp}
 use Rattle.std.specs.declared.cmp.Ordering.TheVariants.{Less}
 use Rattle.std.specs.Str.{bytes_eq}
 use Rattle.serde_json.specs.Data.{Data, object, Members, no_members, member}
+use Rattle.serde_json.specs.Find.{get}
 use Rattle.serde_json.specs.View.{members_view}
-use Rattle.mq_lines.specs.Fields.{◌>>=◌}
+use Rattle.mq_lines.specs.Fields.{◌>>=◌, Kind, ValueOf, of_kind, Presence, Given, given_as}
+use Rattle.mq_lines.specs.Objects.{names_of}
 use Rattle.mq_lines.specs.declared.fault.LineFault.{LineFault}
 use Rattle.mq_lines.specs.declared.fault.LineFault.TheVariants.{BadField}
 use Rattle.mq_lines.specs.declared.fields.Fields.{Fields}
@@ -55,3 +57,18 @@ outcome false ms = end ms
 -- y, unless fields had a fault or have a member left
 abbrev pub finished : {Y : Type 0} → Fields → Y → Result Y LineFault
 finished f y = outcome f.is_faulty (members_left f) >>= λ _. Ok y
+
+-- the fields stand before all members of an object, whose names ascend
+pub record Begins (ms : Members) (fields : Fields) : Type 0 where
+  pub all : members_left fields ≡ ms
+  pub ordered : Ascends (names_of ms)
+  pub sound : fields.is_faulty ≡ false
+
+-- a field is read from the next member: x is what it gives, or a in its place where it has a fault
+pub record Reads (name : List ℕ) (kind : Kind) (presence : Presence (ValueOf kind))
+    (a : Given presence) (old new : Fields) (x : Given presence) : Type 0 where
+  pub value : x ≡ unwrap_or
+      (given_as presence (of_kind kind) (get name (ahead (members_left old)))) a
+  pub left : members_left new ≡ past name (members_left old)
+  pub faulty : new.is_faulty ≡ (old.is_faulty
+      || is_none (given_as presence (of_kind kind) (get name (ahead (members_left old)))))

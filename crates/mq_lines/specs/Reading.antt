@@ -9,93 +9,74 @@ use Rattle.serde_json.specs.Find.{get, as_str}
 use Rattle.serde_json.specs.Read.{read}
 use Rattle.mq_world.specs.World.{Request, Connect, Disconnect, Subscribe, Unsubscribe, Publish}
 use Rattle.mq_world.specs.World.{SetAcl, Advance, Stat}
-use Rattle.mq_lines.specs.Fields.{◌>>=◌, text, flag, unsigned, whole, optional, required, defaulted}
-use Rattle.mq_lines.specs.Fields.{has_only, or_fault}
+use Rattle.mq_lines.specs.Fields.{◌>>=◌, or_fault, text, flag, unsigned, whole, required, optional}
+use Rattle.mq_lines.specs.Fields.{default, row, from_fields}
 use Rattle.mq_lines.specs.declared.fault.LineFault.{LineFault}
 use Rattle.mq_lines.specs.declared.fault.LineFault.TheVariants.{LineTooLong, BadJson, BadCommand}
-use Rattle.mq_lines.specs.declared.fault.LineFault.TheVariants.{BadField}
 
 -- ## The fields of each command
 
-abbrev pub connect_names : List (List ℕ)
-connect_names = codes "do" ∷ codes "client" ∷ codes "user" ∷ codes "clean" ∷ codes "session_expiry"
-    ∷ []
-
 unfoldable pub connect_fields : Data → Result Request LineFault
-connect_fields d = if has_only connect_names d then (do
-  client ← required text (codes "client") d
-  user ← optional text (codes "user") d
-  clean ← defaulted true flag (codes "clean") d
-  interval ← defaulted 0 (whole 0 4294967295) (codes "session_expiry") d
-  Ok (Connect client user clean interval)) else Err BadField
+connect_fields = from_fields
+    (row "client" text required
+    ∷ row "user" text optional
+    ∷ row "clean" flag (default true)
+    ∷ row "session_expiry" (whole 0 4294967295) (default 0)
+    ∷ [])
+    Connect
 
 unfoldable pub disconnect_fields : Data → Result Request LineFault
-disconnect_fields d = if has_only (codes "do" ∷ codes "client" ∷ []) d then (do
-  client ← required text (codes "client") d
-  Ok (Disconnect client)) else Err BadField
-
-abbrev pub subscribe_names : List (List ℕ)
-subscribe_names =
-    codes "do" ∷ codes "client" ∷ codes "filter" ∷ codes "qos" ∷ codes "no_local" ∷ codes "rap"
-    ∷ codes "handling" ∷ codes "id" ∷ []
+disconnect_fields = from_fields (row "client" text required ∷ []) Disconnect
 
 unfoldable pub subscribe_fields : Data → Result Request LineFault
-subscribe_fields d = if has_only subscribe_names d then (do
-  client ← required text (codes "client") d
-  filter ← required text (codes "filter") d
-  qos ← defaulted 0 (whole 0 2) (codes "qos") d
-  no_local ← defaulted false flag (codes "no_local") d
-  rap ← defaulted false flag (codes "rap") d
-  handling ← defaulted 0 (whole 0 2) (codes "handling") d
-  id ← optional (whole 1 268435455) (codes "id") d
-  Ok (Subscribe client filter (record {
-    qos = qos;
-    no_local = no_local;
-    retain_as_published = rap;
-    handling = handling;
-    identifier = id;
-  }))) else Err BadField
+subscribe_fields = from_fields
+    (row "client" text required
+    ∷ row "filter" text required
+    ∷ row "qos" (whole 0 2) (default 0)
+    ∷ row "no_local" flag (default false)
+    ∷ row "rap" flag (default false)
+    ∷ row "handling" (whole 0 2) (default 0)
+    ∷ row "id" (whole 1 268435455) optional
+    ∷ [])
+    (λ client filter qos no_local rap handling id. Subscribe client filter (record {
+      qos = qos;
+      no_local = no_local;
+      retain_as_published = rap;
+      handling = handling;
+      identifier = id;
+    }))
 
 unfoldable pub unsubscribe_fields : Data → Result Request LineFault
-unsubscribe_fields d = if has_only (codes "do" ∷ codes "client" ∷ codes "filter" ∷ []) d then (do
-  client ← required text (codes "client") d
-  filter ← required text (codes "filter") d
-  Ok (Unsubscribe client filter)) else Err BadField
-
-abbrev pub publish_names : List (List ℕ)
-publish_names =
-    codes "do" ∷ codes "client" ∷ codes "topic" ∷ codes "payload" ∷ codes "qos" ∷ codes "retain"
-    ∷ codes "expiry" ∷ []
+unsubscribe_fields = from_fields
+    (row "client" text required ∷ row "filter" text required ∷ [])
+    Unsubscribe
 
 unfoldable pub publish_fields : Data → Result Request LineFault
-publish_fields d = if has_only publish_names d then (do
-  client ← required text (codes "client") d
-  topic ← required text (codes "topic") d
-  payload ← defaulted [] text (codes "payload") d
-  qos ← defaulted 0 (whole 0 2) (codes "qos") d
-  retain ← defaulted false flag (codes "retain") d
-  expiry ← optional (whole 0 4294967295) (codes "expiry") d
-  Ok (Publish (record {
-    publisher = client;
-    topic = topic;
-    payload = payload;
-    qos = qos;
-    retain = retain;
-    expiry = expiry;
-  }))) else Err BadField
+publish_fields = from_fields
+    (row "client" text required
+    ∷ row "topic" text required
+    ∷ row "payload" text (default [])
+    ∷ row "qos" (whole 0 2) (default 0)
+    ∷ row "retain" flag (default false)
+    ∷ row "expiry" (whole 0 4294967295) optional
+    ∷ [])
+    (λ client topic payload qos retain expiry. Publish (record {
+      publisher = client;
+      topic = topic;
+      payload = payload;
+      qos = qos;
+      retain = retain;
+      expiry = expiry;
+    }))
 
 unfoldable pub acl_fields : Data → Result Request LineFault
-acl_fields d = if has_only (codes "do" ∷ codes "text" ∷ []) d then (do
-  acl ← optional text (codes "text") d
-  Ok (SetAcl acl)) else Err BadField
+acl_fields = from_fields (row "text" text optional ∷ []) SetAcl
 
 unfoldable pub advance_fields : Data → Result Request LineFault
-advance_fields d = if has_only (codes "do" ∷ codes "seconds" ∷ []) d then (do
-  seconds ← required unsigned (codes "seconds") d
-  Ok (Advance seconds)) else Err BadField
+advance_fields = from_fields (row "seconds" unsigned required ∷ []) Advance
 
 unfoldable pub stat_fields : Data → Result Request LineFault
-stat_fields d = if has_only (codes "do" ∷ []) d then Ok Stat else Err BadField
+stat_fields = from_fields [] Stat
 
 -- ## A line
 

@@ -1,13 +1,11 @@
 //! The fields of an object, each of one kind, read in the order of their names.
-ghost use Rattle.std.specs.Prelude.{◌≡◌, ◌≤◌, ◌||◌, [], true, false, None, Ok, Err};
+ghost use Rattle.std.specs.Prelude.{◌≡◌, ◌≤◌, [], true, false, None, Ok, Err};
 ghost use Rattle.std.specs.Prelude.{IfSome, option_map, string_bytes};
 ghost use Rattle.serde_json.specs.View.{view, members_view};
 ghost use Rattle.serde_json.specs.Find.{get, get_member};
-ghost use Rattle.mq_lines.specs.Fields.{text as text_kind, flag as flag_kind, unsigned};
-ghost use Rattle.mq_lines.specs.Fields.{whole, optional, required, defaulted};
-ghost use Rattle.mq_lines.specs.Fields.{is_fault, value_or};
-ghost use Rattle.mq_lines.specs.Objects.{names_of};
-ghost use Rattle.mq_lines.specs.Ahead.{Ascends, ahead, past, outcome, members_left};
+ghost use Rattle.mq_lines.specs.Fields.{text as text_kind, flag as flag_kind, unsigned, whole};
+ghost use Rattle.mq_lines.specs.Fields.{required, optional, default, ignored};
+ghost use Rattle.mq_lines.specs.Ahead.{ahead, past, outcome, members_left, Begins, Reads};
 
 use crate::fault::LineFault;
 use serde_json::{Map, Value};
@@ -47,9 +45,7 @@ impl Drop for Fields<'_> {
 
 impl<'a> Fields<'a> {
     pub fn of(alloc: Global, members: &'a mut Map<String, Value>) -> Fields<'a>
-        ensures all { members_left result ≡ members_view members.old.entries }
-        ensures ordered { Ascends (names_of (members_view members.old.entries)) }
-        ensures sound { result.is_faulty ≡ false }
+        ensures { Begins (members_view members.old.entries) result }
     {
         let mut rest = members.iter_mut();
         let next = rest.next();
@@ -83,19 +79,15 @@ impl<'a> Fields<'a> {
 
     /// Passes by a field whose value is known.
     pub fn skip(&mut self, name: &str)
-        ensures left { members_left self.new ≡ past name.now (members_left self.old) }
-        ensures faulty { self.new.is_faulty ≡ self.old.is_faulty }
+        ensures { Reads name.now text_kind ignored tt self.old self.new tt }
     {
         self.take(name);
     }
 
     /// A text, if it is there.
     pub fn optional_text(&mut self, name: &str) -> Option<String>
-        ensures value { option_map string_bytes result
-            ≡ value_or None (optional text_kind name.now (ahead (members_left self.old))) }
-        ensures left { members_left self.new ≡ past name.now (members_left self.old) }
-        ensures faulty { self.new.is_faulty ≡ (self.old.is_faulty
-            || is_fault (optional text_kind name.now (ahead (members_left self.old)))) }
+        ensures { Reads name.now text_kind optional None self.old self.new
+            (option_map string_bytes result) }
     {
         let field = self.take(name)?;
         match field {
@@ -109,11 +101,7 @@ impl<'a> Fields<'a> {
 
     /// A text, which must be there.
     pub fn required_text(&mut self, name: &str) -> String
-        ensures value { string_bytes result
-            ≡ value_or [] (required text_kind name.now (ahead (members_left self.old))) }
-        ensures left { members_left self.new ≡ past name.now (members_left self.old) }
-        ensures faulty { self.new.is_faulty ≡ (self.old.is_faulty
-            || is_fault (required text_kind name.now (ahead (members_left self.old)))) }
+        ensures { Reads name.now text_kind required [] self.old self.new (string_bytes result) }
     {
         match self.optional_text(name) {
             Some(text) => text,
@@ -126,11 +114,7 @@ impl<'a> Fields<'a> {
 
     /// A text, and the empty one where it is absent.
     pub fn text_or_empty(&mut self, name: &str) -> String
-        ensures value { string_bytes result
-            ≡ value_or [] (defaulted [] text_kind name.now (ahead (members_left self.old))) }
-        ensures left { members_left self.new ≡ past name.now (members_left self.old) }
-        ensures faulty { self.new.is_faulty ≡ (self.old.is_faulty
-            || is_fault (defaulted [] text_kind name.now (ahead (members_left self.old)))) }
+        ensures { Reads name.now text_kind (default []) [] self.old self.new (string_bytes result) }
     {
         match self.optional_text(name) {
             Some(text) => text,
@@ -140,11 +124,7 @@ impl<'a> Fields<'a> {
 
     /// True or false, and `absent` where it is absent.
     pub fn flag_or(&mut self, name: &str, absent: bool) -> bool
-        ensures value { result ≡ value_or absent
-            (defaulted absent flag_kind name.now (ahead (members_left self.old))) }
-        ensures left { members_left self.new ≡ past name.now (members_left self.old) }
-        ensures faulty { self.new.is_faulty ≡ (self.old.is_faulty
-            || is_fault (defaulted absent flag_kind name.now (ahead (members_left self.old)))) }
+        ensures { Reads name.now flag_kind (default absent) absent self.old self.new result }
     {
         let Some(field) = self.take(name) else {
             return absent;
@@ -160,29 +140,21 @@ impl<'a> Fields<'a> {
 
     /// True or false, and false where it is absent.
     pub fn is_set(&mut self, name: &str) -> bool
-        ensures value { result
-            ≡ value_or false (defaulted false flag_kind name.now (ahead (members_left self.old))) }
-        ensures left { members_left self.new ≡ past name.now (members_left self.old) }
-        ensures faulty { self.new.is_faulty ≡ (self.old.is_faulty
-            || is_fault (defaulted false flag_kind name.now (ahead (members_left self.old)))) }
+        ensures { Reads name.now flag_kind (default false) false self.old self.new result }
     {
         self.flag_or(name, false)
     }
 
     /// A whole number up to `high`, and 0 where it is absent.
-    pub fn number_or_zero(&mut self, name: &str, high: u8) -> u8
-        ensures value { result
-            ≡ value_or 0 (defaulted 0 (whole 0 high) name.now (ahead (members_left self.old))) }
+    pub fn number_or_zero(&mut self, name: &str, high: u32) -> u32
+        ensures read { Reads name.now (whole 0 high) (default 0) 0 self.old self.new result }
         ensures range { result ≤ high }
-        ensures left { members_left self.new ≡ past name.now (members_left self.old) }
-        ensures faulty { self.new.is_faulty ≡ (self.old.is_faulty
-            || is_fault (defaulted 0 (whole 0 high) name.now (ahead (members_left self.old)))) }
     {
         let Some(field) = self.take(name) else {
             return 0;
         };
         match field.as_u64() {
-            Some(n) if n <= u64::from(high) => n as u8,
+            Some(n) if n <= u64::from(high) => n as u32,
             _ => {
                 self.is_faulty = true;
                 0
@@ -192,12 +164,8 @@ impl<'a> Fields<'a> {
 
     /// A whole number from `low` to `high`, if it is there.
     pub fn optional_number(&mut self, name: &str, low: u32, high: u32) -> Option<u32>
-        ensures value { result
-            ≡ value_or None (optional (whole low high) name.now (ahead (members_left self.old))) }
+        ensures read { Reads name.now (whole low high) optional None self.old self.new result }
         ensures range { IfSome result (λ n. (low ≤ n) × (n ≤ high)) }
-        ensures left { members_left self.new ≡ past name.now (members_left self.old) }
-        ensures faulty { self.new.is_faulty ≡ (self.old.is_faulty
-            || is_fault (optional (whole low high) name.now (ahead (members_left self.old)))) }
     {
         let field = self.take(name)?;
         match field.as_u64() {
@@ -211,11 +179,7 @@ impl<'a> Fields<'a> {
 
     /// A whole number, which must be there.
     pub fn required_number(&mut self, name: &str) -> u64
-        ensures value { result
-            ≡ value_or 0 (required unsigned name.now (ahead (members_left self.old))) }
-        ensures left { members_left self.new ≡ past name.now (members_left self.old) }
-        ensures faulty { self.new.is_faulty ≡ (self.old.is_faulty
-            || is_fault (required unsigned name.now (ahead (members_left self.old)))) }
+        ensures { Reads name.now unsigned required 0 self.old self.new result }
     {
         match self.take(name).and_then(|field| field.as_u64()) {
             Some(n) => n,

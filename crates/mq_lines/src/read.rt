@@ -21,9 +21,9 @@ use std::alloc::Global;
 /// How many bytes a line may have.
 pub const LINE_LIMIT: usize = 1_048_576;
 
-const MOST_QOS: u8 = 2;
+const MOST_QOS: u32 = 2;
 
-const MOST_HANDLING: u8 = 2;
+const MOST_HANDLING: u32 = 2;
 
 const MOST_ID: u32 = 268_435_455;
 
@@ -48,7 +48,7 @@ fn connect(alloc: Global, members: &mut Map<String, Value>) -> Result<Command, L
     let clean = fields.flag_or("clean", true);
     let client = fields.required_text("client");
     fields.skip("do");
-    let session_expiry = fields.optional_number("session_expiry", 0, u32::MAX);
+    let session_expiry = fields.number_or_zero("session_expiry", u32::MAX);
     let user = fields.optional_text("user");
     finish(
         &fields,
@@ -56,7 +56,7 @@ fn connect(alloc: Global, members: &mut Map<String, Value>) -> Result<Command, L
             client,
             user,
             clean,
-            session_expiry: session_expiry.unwrap_or(0),
+            session_expiry,
         },
     )
 }
@@ -81,10 +81,10 @@ fn subscribe(alloc: Global, members: &mut Map<String, Value>) -> Result<Command,
     let client = fields.required_text("client");
     fields.skip("do");
     let filter = fields.required_text("filter");
-    let handling = fields.number_or_zero("handling", MOST_HANDLING);
+    let handling = fields.number_or_zero("handling", MOST_HANDLING) as u8;
     let id = fields.optional_number("id", 1, MOST_ID);
     let no_local = fields.is_set("no_local");
-    let qos = fields.number_or_zero("qos", MOST_QOS);
+    let qos = fields.number_or_zero("qos", MOST_QOS) as u8;
     let rap = fields.is_set("rap");
     finish(
         &fields,
@@ -122,7 +122,7 @@ fn publish(alloc: Global, members: &mut Map<String, Value>) -> Result<Command, L
     fields.skip("do");
     let expiry = fields.optional_number("expiry", 0, u32::MAX);
     let payload = fields.text_or_empty("payload");
-    let qos = fields.number_or_zero("qos", MOST_QOS);
+    let qos = fields.number_or_zero("qos", MOST_QOS) as u8;
     let retain = fields.is_set("retain");
     let topic = fields.required_text("topic");
     finish(

@@ -1,21 +1,12 @@
-use Rattle.std.proofs.Common.{sym}
-use Rattle.serde_json.specs.View.{members_view}
-use Rattle.mq_lines.proofs.WalkLemmas.{acl_read}
+use Rattle.mq_lines.specs.Reading.{acl_fields}
+use Rattle.mq_lines.proofs.WalkLemmas.{begins, step, ends}
 use Rattle.mq_lines.proofs.read.acl.Goals as goal
 
 pub returns-clause-value : goal.returns-clause-value
-returns-clause-value c =
-    let walk = acl_read (members_view c.args.members.now.entries)
-    c.of-fields.ensures.ordered in
-    let told = rw (
-      c.optional_text-text.ensures.faulty,
-      c.skip.ensures.faulty,
-      c.of-fields.ensures.sound,
-      c.optional_text-text.ensures.value,
-    ) at c.finish.ensures.value in
-    rw (
-      walk,
-      sym c.of-fields.ensures.all,
-      sym c.skip.ensures.left,
-      sym c.optional_text-text.ensures.left,
-    ) told
+unfolding acl_fields
+returns-clause-value c = simp (
+  begins c.of-fields.ensures,
+  step c.skip.ensures,
+  step c.optional_text-text.ensures,
+  ends,
+) c.finish.ensures.value

@@ -1,18 +1,8 @@
-use Rattle.std.proofs.Common.{sym}
-use Rattle.serde_json.specs.View.{members_view}
-use Rattle.mq_lines.proofs.WalkLemmas.{stat_read}
+use Rattle.mq_lines.specs.Reading.{stat_fields}
+use Rattle.mq_lines.proofs.WalkLemmas.{begins, step, ends}
 use Rattle.mq_lines.proofs.read.stat.Goals as goal
 
 pub returns-clause-value : goal.returns-clause-value
+unfolding stat_fields
 returns-clause-value c =
-    let walk = stat_read (members_view c.args.members.now.entries)
-    c.of-fields.ensures.ordered in
-    let told = rw (
-      c.skip.ensures.faulty,
-      c.of-fields.ensures.sound,
-    ) at c.finish.ensures.value in
-    rw (
-      walk,
-      sym c.of-fields.ensures.all,
-      sym c.skip.ensures.left,
-    ) told
+    simp (begins c.of-fields.ensures, step c.skip.ensures, ends) c.finish.ensures.value

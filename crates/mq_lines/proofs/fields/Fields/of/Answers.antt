@@ -1,5 +1,8 @@
+use Rattle.std.proofs.Common.{refl, rules}
 use Rattle.mq_lines.proofs.AheadLemmas.{ascends_keys}
 use Rattle.mq_lines.proofs.fields.Fields.of.Goals as goal
 
-pub returns-clause-ordered : goal.returns-clause-ordered
-returns-clause-ordered c = ascends_keys c.args.members.now.entries c.iter_mut-rest.ensures.ordered
+pub returns : goal.returns
+returns c =
+    let sorted = ascends_keys c.args.members.now.entries c.iter_mut-rest.ensures.ordered in
+    record { all = search rules; ordered = sorted; sound = refl }
