@@ -7,15 +7,15 @@ usage: check.py [SCRIPT]
 Exit status: 0 nothing is wrong; 1 something is; 2 usage, a file, or a file without a command.
 """
 if __name__ == "__main__":
-    from mqroute_tools import interrupt
+    from mqroute_tools.common import interrupt
     interrupt.handle(interrupt.stop)
 import argparse
 import sys
 
-from mqroute_tools import ending
-from mqroute_tools.commands import Seen, line_faults
-from mqroute_tools.files import STDIN, at, keep_apart, open_input
-from mqroute_tools.output import is_blank
+from mqroute_tools.common import exit_status
+from mqroute_tools.common.files import STDIN, at, keep_apart, open_input
+from mqroute_tools.script.commands import Seen, line_faults
+from mqroute_tools.script.output import is_blank
 
 SHOWN = 20  # faulty lines of a file most of whose lines are no commands
 
@@ -62,4 +62,4 @@ def main() -> int:
 
 
 if __name__ == "__main__":
-    sys.exit(ending.run(main))
+    sys.exit(exit_status.run(main))

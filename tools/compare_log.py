@@ -8,17 +8,18 @@ One line for each client and topic that differ; copies that the broker sent agai
 Exit status: 0 none differs; 1 some do; 2 usage, a file, or an output that isn't of this log.
 """
 if __name__ == "__main__":
-    from mqroute_tools import interrupt
+    from mqroute_tools.common import interrupt
     interrupt.handle(interrupt.stop)
 import argparse
 import sys
 
-from mqroute_tools import ending
-from mqroute_tools.ending import counted
-from mqroute_tools.files import STDIN, keep_apart
-from mqroute_tools.log_comparison import Comparison
-from mqroute_tools.log_steps import Watcher, answered, steps
-from mqroute_tools.writing import Logs, add_options, writer
+from mqroute_tools.common import exit_status, messages
+from mqroute_tools.common.files import STDIN, keep_apart
+from mqroute_tools.common.messages import counted
+from mqroute_tools.log.comparison import Comparison
+from mqroute_tools.log.log_files import Logs
+from mqroute_tools.log.script_writer import add_options, writer
+from mqroute_tools.log.step_reader import Watcher, answered, steps
 
 
 def compare(watcher: Watcher, logs: Logs, output: str) -> Comparison:
@@ -51,12 +52,12 @@ def main() -> int:
     for line in lines:
         print(line)
     refused = counted(found.refused, "publishes")
-    ending.tell(f"the broker sent {counted(found.sent, 'copies')} and refused {refused}; "
-                f"{counted(len(lines), 'differences')}")
+    messages.tell(f"the broker sent {counted(found.sent, 'copies')} and refused {refused}; "
+                  f"{counted(len(lines), 'differences')}")
     for kind, count in found.kinds():
-        ending.tell(f"{count} {kind}")
+        messages.tell(f"{count} {kind}")
     return 1 if lines else 0
 
 
 if __name__ == "__main__":
-    sys.exit(ending.run(main))
+    sys.exit(exit_status.run(main))

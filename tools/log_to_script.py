@@ -10,18 +10,19 @@ Exit status: 0 all of the log is in the script; 1 something isn't, told on stand
 or a file.
 """
 if __name__ == "__main__":
-    from mqroute_tools import interrupt
+    from mqroute_tools.common import interrupt
     interrupt.handle(interrupt.stop)
 import argparse
 import json
 import sys
 
-from mqroute_tools import ending
-from mqroute_tools.conversion import placed_commands
-from mqroute_tools.ending import counted
-from mqroute_tools.files import STDIN, keep_apart, whole
-from mqroute_tools.sessions import INFERRED, NONE, SEEN
-from mqroute_tools.writing import Logs, Writer, add_options, writer
+from mqroute_tools.common import exit_status, messages
+from mqroute_tools.common.files import STDIN, keep_apart, whole
+from mqroute_tools.common.messages import counted
+from mqroute_tools.log.clients import INFERRED, NONE, SEEN
+from mqroute_tools.log.conversion import placed_commands
+from mqroute_tools.log.log_files import Logs
+from mqroute_tools.log.script_writer import Writer, add_options, writer
 
 text_of = json.JSONEncoder(ensure_ascii=False, separators=(",", ":")).encode
 
@@ -44,13 +45,13 @@ def arguments() -> argparse.Namespace:
 
 def tell(found: Writer, logs: Logs, written: int) -> None:
     others = f" ({found.stamps.others} of other programs)" if found.stamps.others else ""
-    ending.tell(f"{counted(found.place, 'lines read')}{others}, "
-                f"{counted(written, 'commands written')}")
+    messages.tell(f"{counted(found.place, 'lines read')}{others}, "
+                  f"{counted(written, 'commands written')}")
     if found.explained[INFERRED] or found.explained[NONE]:
         seen, inferred, none = (found.explained[i] for i in (SEEN, INFERRED, NONE))
         copies = counted(seen + inferred + none, "copies")
-        ending.tell(f"the broker sent {copies}: the script explains {seen} by subscriptions in "
-                    f"the log and {inferred} by inferred ones, and doesn't explain {none}")
+        messages.tell(f"the broker sent {copies}: the script explains {seen} by subscriptions in "
+                      f"the log and {inferred} by inferred ones, and doesn't explain {none}")
     found.notes.write(sys.stderr, logs.where)
 
 
@@ -73,4 +74,4 @@ def main() -> int:
 
 
 if __name__ == "__main__":
-    sys.exit(ending.run(main))
+    sys.exit(exit_status.run(main))

@@ -10,7 +10,7 @@ Exit status: 0 nothing differs; 1 something does; 2 usage, a file, an output tha
 script, the broker.
 """
 if __name__ == "__main__":
-    from mqroute_tools import interrupt
+    from mqroute_tools.common import interrupt
     interrupt.handle(interrupt.stop)
 import argparse
 import json
@@ -19,18 +19,20 @@ import sys
 from collections.abc import Iterable, Iterator
 from typing import TYPE_CHECKING
 
-from mqroute import Oracle
-from mqroute_tools import ending
-from mqroute_tools.commands import Seen, line_faults
-from mqroute_tools.ending import Fault, counted, in_words
-from mqroute_tools.files import STDIN, at, keep_apart, open_input
-from mqroute_tools.numbers import add_waiting, port, whole_number
-from mqroute_tools.output import Block, Command, blocks, by_key, is_blank, misfit
-from mqroute_tools.progress import Progress
-from mqroute_tools.wills import Wills
+from mqroute_tools.script.oracle import Oracle
+from mqroute_tools.common import exit_status, messages
+from mqroute_tools.common.exit_status import Fault
+from mqroute_tools.common.files import STDIN, at, keep_apart, open_input
+from mqroute_tools.common.messages import counted, in_words
+from mqroute_tools.common.option_values import port, whole_number
+from mqroute_tools.common.progress import Progress
+from mqroute_tools.live.options import add_waiting
+from mqroute_tools.live.wills import Wills
+from mqroute_tools.script.commands import Seen, line_faults
+from mqroute_tools.script.output import Block, Command, blocks, by_key, is_blank, misfit
 
 if TYPE_CHECKING:
-    from mqroute_tools.live_run import Replay  # wants paho
+    from mqroute_tools.live.broker_run import Replay
 
 Line = tuple[int, Command, Block]
 LINE = re.compile(r"\Aline (\d+):? ")  # how a fault of a live run begins
@@ -70,7 +72,7 @@ def runnable(script: Iterable[bytes], given: Iterator[Block],
 def offered(replay: "Replay", script: list[bytes], given: list[Block],
             lines: list[Line]) -> list[Line]:
     """The lines as this broker can run them. Where it lacks something mqroute answers anew."""
-    from mqroute_tools.offered import answers, fitted_script, read_list
+    from mqroute_tools.live.script_fitting import answers, fitted_script, read_list
     options = replay.options
     fitted, told = fitted_script(script, {number for number, _, _ in lines}, replay.offer)
     if not told:
@@ -101,7 +103,7 @@ def answer(replay: "Replay", line: Line) -> list[str]:
 
 def differences(replay: "Replay", progress: Progress) -> Iterator[list[str]]:
     """For each line that differs, the texts to print."""
-    from mqroute_tools.live_run import Closed
+    from mqroute_tools.live.broker_run import Closed
     options = replay.options
     with open_input(options.script) as stream:
         script = stream.readlines()
@@ -170,7 +172,7 @@ def compared(replay: "Replay") -> int:
     except KeyboardInterrupt:
         progress.clear()
         differ = "line differs" if number == 1 else "lines differ"
-        ending.tell(f"at line {replay.line} of {progress.of}: {number} {differ} so far")
+        messages.tell(f"at line {replay.line} of {progress.of}: {number} {differ} so far")
         raise
     finally:
         progress.clear()
@@ -186,7 +188,7 @@ def numbered(text: str, number: int) -> str:
 def main() -> int:
     options = arguments()
     keep_apart([options.script, options.output, options.acl_file])
-    from mqroute_tools.live_run import Replay
+    from mqroute_tools.live.broker_run import Replay
     replay = Replay(options)
     try:
         status = 1 if compared(replay) else 0
@@ -195,9 +197,9 @@ def main() -> int:
     finally:
         replay.end()
     for what, count in replay.told.items():
-        ending.tell(numbered(what, count))
+        messages.tell(numbered(what, count))
     return status
 
 
 if __name__ == "__main__":
-    sys.exit(ending.run(main))
+    sys.exit(exit_status.run(main))

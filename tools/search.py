@@ -11,7 +11,7 @@ over.
 Exit status: 0 nothing new was found; 1 something was; 2 usage, a file, the broker.
 """
 if __name__ == "__main__":
-    from mqroute_tools import interrupt
+    from mqroute_tools.common import interrupt
     interrupt.handle(interrupt.stop)
 import argparse
 import json
@@ -23,16 +23,18 @@ from collections.abc import Iterator
 from pathlib import Path
 from typing import Protocol
 
-from mqroute import Oracle, OracleFault
-from mqroute_tools import ending
-from mqroute_tools.commands import faults
-from mqroute_tools.ending import Fault, counted, in_words
-from mqroute_tools.files import at, whole
-from mqroute_tools.kinds import Difference, Kind, kind
-from mqroute_tools.numbers import add_waiting, amount, port, whole_number
-from mqroute_tools.output import Block, Command
-from mqroute_tools.random_scripts import ACCESS, PARTS, Maker, Use, fresh
-from mqroute_tools.shrinking import connected, shrink
+from mqroute_tools.script.oracle import Oracle, OracleFault
+from mqroute_tools.common import exit_status, messages
+from mqroute_tools.common.exit_status import Fault
+from mqroute_tools.common.files import at, whole
+from mqroute_tools.common.messages import counted, in_words
+from mqroute_tools.common.option_values import amount, port, whole_number
+from mqroute_tools.live.options import add_waiting
+from mqroute_tools.script.commands import faults
+from mqroute_tools.script.output import Block, Command
+from mqroute_tools.search.difference_kinds import Difference, Kind, kind
+from mqroute_tools.search.random_scripts import ACCESS, PARTS, Maker, Use, fresh
+from mqroute_tools.search.shrinking import connected, shrink
 
 HERE = Path(__file__).resolve().parent
 # installed, in a clone
@@ -258,17 +260,17 @@ def searched(search: Search, options: argparse.Namespace) -> int:
     try:
         known = learn(search, [*KNOWN, *options.known])
         are = "is" if known == 1 else "are"
-        ending.tell(f"{counted(known, 'kinds of differences')} {are} known of this broker "
-                    f"({counted(search.runs, 'runs')})")
+        messages.tell(f"{counted(known, 'kinds of differences')} {are} known of this broker "
+                      f"({counted(search.runs, 'runs')})")
         maker = Maker(random.Random(options.seed), search.broker.use.without(options.without))
         for number, find in enumerate(search.finds(maker), 1):
             show(find, before + number, options.save)
             heads.append(f"find {before + number}: {find.kind.what}")
     except KeyboardInterrupt:
         for text in [*heads, sums(search, number, time.monotonic() - start)]:
-            ending.tell(text)
+            messages.tell(text)
         raise
-    ending.tell(sums(search, number, time.monotonic() - start))
+    messages.tell(sums(search, number, time.monotonic() - start))
     return number
 
 
@@ -276,7 +278,7 @@ def main() -> int:
     options = arguments()
     if options.save:
         options.save.mkdir(parents=True, exist_ok=True)
-    from mqroute_tools.live_side import LiveBroker  # wants paho
+    from mqroute_tools.search.live_broker import LiveBroker
     try:
         with Oracle() as oracle:
             until = time.monotonic() + 60 * options.minutes
@@ -286,4 +288,4 @@ def main() -> int:
 
 
 if __name__ == "__main__":
-    sys.exit(ending.run(main))
+    sys.exit(exit_status.run(main))

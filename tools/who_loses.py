@@ -7,7 +7,7 @@ Exit status: 0 nothing changes; 1 something does; 2 usage, a file, or outputs th
 script.
 """
 if __name__ == "__main__":
-    from mqroute_tools import interrupt
+    from mqroute_tools.common import interrupt
     interrupt.handle(interrupt.stop)
 import argparse
 import json
@@ -16,19 +16,20 @@ from collections import Counter, defaultdict
 from functools import lru_cache, partial
 from typing import BinaryIO
 
-from mqroute_tools import ending
-from mqroute_tools import page
-from mqroute_tools.because import Grouped, difference
-from mqroute_tools.commands import Seen
-from mqroute_tools.deciding import Lists, in_words
-from mqroute_tools.ending import Fault, counted
-from mqroute_tools.files import STDIN, at, keep_apart, open_input
-from mqroute_tools.findings import Copies, CopiesRow, Findings, RefusedRow, Refusals, Subject
-from mqroute_tools.numbers import whole_number
-from mqroute_tools.output import Block, Command, blocks, by_key, command_of, is_blank, misfit
-from mqroute_tools.rows import (
+from mqroute_tools.common import exit_status
+from mqroute_tools.common.exit_status import Fault
+from mqroute_tools.common.files import STDIN, at, keep_apart, open_input
+from mqroute_tools.common.messages import counted
+from mqroute_tools.common.option_values import whole_number
+from mqroute_tools.common.tables import shown, table, user_shown
+from mqroute_tools.losses import html_page
+from mqroute_tools.losses.acl_verdicts import Lists, in_words
+from mqroute_tools.losses.attribution import Grouped, difference
+from mqroute_tools.losses.findings import Copies, CopiesRow, Findings, Refusals, RefusedRow, Subject
+from mqroute_tools.losses.report_rows import (
     Reasons, Row, all_causes, because_of, by_user_table, copies_of, refused_of, row_order)
-from mqroute_tools.tables import shown, table, user_shown
+from mqroute_tools.script.commands import Seen
+from mqroute_tools.script.output import Block, Command, blocks, by_key, command_of, is_blank, misfit
 
 
 def gathered(depth: int | None, topic: str) -> str:
@@ -69,7 +70,7 @@ class Losses:
         self.add_copies(was, now)
         self.add_refusals(command, blocks[0].line, blocks[0].refused, blocks[1].refused)
         if self.reasons:
-            self.reasons.because.end(command, *blocks, was)
+            self.reasons.attribution.end(command, *blocks, was)
 
     def who(self, client: str) -> str | None:
         return self.reasons.who(client) if self.reasons else client
@@ -301,7 +302,7 @@ def main() -> int:
     if lists:
         lists.refuse()
     if options.html is not None:
-        page.write(options.html, found, options.script, options.before, options.after)
+        html_page.write(options.html, found, options.script, options.before, options.after)
     if options.json:
         text = json.dumps(found.json(), ensure_ascii=False, indent=1) + "\n"
     else:
@@ -311,4 +312,4 @@ def main() -> int:
 
 
 if __name__ == "__main__":
-    sys.exit(ending.run(main))
+    sys.exit(exit_status.run(main))

@@ -15,10 +15,8 @@ from pathlib import Path
 from fake_broker import Fake, expiry_0_is_none
 from test_replay import PAHO, OnABroker
 from worked import HERE, PROGRAM, wants_program
-
-sys.path.insert(0, str(HERE))
-import search  # noqa: E402
-from mqroute import Oracle  # noqa: E402
+import search
+from mqroute import Oracle
 
 # What a tool reads while it waits for more of its standard input.
 READING = {"log_to_script": ["-"], "check": ["-"], "compare_log": ["-", "out"],

@@ -1,16 +1,13 @@
 """The random scripts, how they are made smaller, and which differences are of one kind."""
 import json
 import random
-import sys
 import unittest
 
-from worked import HERE, PROGRAM, wants_program
-
-sys.path.insert(0, str(HERE))
-from mqroute_tools.kinds import Kind, apart, uses  # noqa: E402
-from mqroute import Oracle  # noqa: E402
-from mqroute_tools.random_scripts import ACCESS, PARTS, Maker, Use, fresh, with_names  # noqa: E402
-from mqroute_tools.shrinking import connected, shrink  # noqa: E402
+from worked import PROGRAM, wants_program
+from mqroute import Oracle
+from mqroute_tools.search.difference_kinds import Kind, apart, uses
+from mqroute_tools.search.random_scripts import ACCESS, PARTS, Maker, Use, fresh, with_names
+from mqroute_tools.search.shrinking import connected, shrink
 
 A = {"do": "connect", "client": "a"}
 X = {"do": "subscribe", "client": "a", "filter": "x"}

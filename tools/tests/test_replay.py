@@ -13,12 +13,11 @@ from pathlib import Path
 import mosquitto
 from mosquitto import PAHO, wants_paho
 from worked import HERE, PROGRAM, wants_program
-
-sys.path.insert(0, str(HERE))
-from mqroute_tools.agreement import (  # noqa: E402
-    Acknowledged, Copy, Sessions, different_copies, different_order, different_reasons)
-from mqroute_tools.output import Block  # noqa: E402
-from mqroute_tools.progress import Progress  # noqa: E402
+from mqroute_tools.common.progress import Progress
+from mqroute_tools.live.broker_diff import (
+    Acknowledged, Copy, different_copies, different_order, different_reasons)
+from mqroute_tools.script.output import Block
+from mqroute_tools.script.sessions import Sessions
 
 COPY = Copy("b", "x", 1, True, "p", [3, 7], 9)
 
@@ -284,8 +283,8 @@ class Runs(OnABroker):
     def test_which_are_wills(self):
         code = """if True:
             import json
-            from mqroute_tools.output import Block
-            from mqroute_tools.wills import Wills
+            from mqroute_tools.script.output import Block
+            from mqroute_tools.live.wills import Wills
             def lines(*commands, mine=False):
                 copy = {"client": "a", "line": 2, "payload": "will", "qos": 0, "retain": False,
                         "topic": "x"}
@@ -321,11 +320,11 @@ class Runs(OnABroker):
         """mosquitto can't do without these."""
         code = """if True:
             from types import SimpleNamespace
-            from mqroute_tools.live import Offer
+            from mqroute_tools.live.paho_client import Offer
             poor = Offer(SimpleNamespace(
                 SharedSubscriptionAvailable=0, WildcardSubscriptionAvailable=0,
                 SubscriptionIdentifierAvailable=0))
-            from mqroute_tools.offered import fitted_script
+            from mqroute_tools.live.script_fitting import fitted_script
             lines = [b'{"do":"subscribe","client":"a","filter":"$share/g/x"}\\n', b"\\n",
                      b'{"do":"subscribe","client":"a","filter":"x","id":1}\\n',
                      b'{"do":"unsubscribe","client":"a","filter":"x/+"}\\n', b'{"do":"stat"}\\n']
@@ -348,7 +347,7 @@ class Runs(OnABroker):
         """As after Ctrl-C in the middle of a packet: it isn't waited for."""
         code = """if True:
             from types import SimpleNamespace
-            from mqroute_tools.live import Connection
+            from mqroute_tools.live.paho_client import Connection
             gone = Connection.__new__(Connection)
             gone.client = SimpleNamespace(want_write=lambda: True, socket=lambda: None,
                                           loop_write=lambda: None)

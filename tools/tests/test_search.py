@@ -4,26 +4,23 @@ import json
 import os
 import random
 import subprocess
-import sys
 import tempfile
 import unittest
 import unittest.mock
 from pathlib import Path
 
 import mosquitto
-from mosquitto import PAHO, wants_paho
-from worked import HERE, PROGRAM, wants_program
-
-sys.path.insert(0, str(HERE))
-import search  # noqa: E402
-from mqroute_tools.ending import Fault  # noqa: E402
-from fake_broker import (  # noqa: E402
+from fake_broker import (
     Fake, drops_wills, expiry_0_is_none, forgets_sessions, keeps_first_options,
     keeps_what_is_cleared)
-from mqroute_tools.kinds import Difference, Kind  # noqa: E402
-from mqroute import Oracle  # noqa: E402
-from mqroute_tools.random_scripts import Maker, Use  # noqa: E402
-from search import Search, known_scripts, learn  # noqa: E402
+from mosquitto import PAHO, wants_paho
+from worked import HERE, PROGRAM, wants_program
+import search
+from mqroute import Oracle
+from mqroute_tools.common.exit_status import Fault
+from mqroute_tools.search.difference_kinds import Difference, Kind
+from mqroute_tools.search.random_scripts import Maker, Use
+from search import Search, known_scripts, learn
 
 A = {"do": "connect", "client": "a"}
 X = {"do": "subscribe", "client": "a", "filter": "x"}
@@ -192,9 +189,8 @@ class Live(unittest.TestCase):
         """The same names twice, on a broker that may not have kept anything; what it
         doesn't offer isn't asked for."""
         code = f"""if True:
-            import argparse, sys
-            sys.path[:0] = ["tests"]
-            from mqroute_tools.live_side import LiveBroker
+            import argparse
+            from mqroute_tools.search.live_broker import LiveBroker
             from mqroute import Oracle
             options = argparse.Namespace(
                 host="127.0.0.1", port={self.start()}, username=None, password=None, patience=5,
