@@ -8,8 +8,8 @@ from mqroute_tools.live.broker_diff import (
 from mqroute_tools.live.wills import Wills
 from mqroute_tools.script.sessions import Sessions
 from mqroute_tools.search.difference_kinds import Difference, apart
+from mqroute_tools.search.finds import Script
 from mqroute_tools.search.random_scripts import Use
-from search import Script
 
 
 class Fake:

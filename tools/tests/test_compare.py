@@ -8,8 +8,8 @@ import unittest
 from pathlib import Path
 
 from worked import HERE
-from compare_log import compare
 from mqroute_tools.log.broker_state import State
+from mqroute_tools.log.compare_log import compare
 from mqroute_tools.log.inference import Beginning
 from mqroute_tools.log.log_files import Logs
 from mqroute_tools.log.step_reader import Watcher

@@ -10,8 +10,8 @@ import unittest
 from pathlib import Path
 
 from worked import HERE
-from compare_log import compare
 from mqroute_tools.log.broker_state import State
+from mqroute_tools.log.compare_log import compare
 from mqroute_tools.log.conversion import placed_commands
 from mqroute_tools.log.inference import beginning
 from mqroute_tools.log.log_files import Logs

@@ -4,8 +4,8 @@ import json
 import unittest
 
 import worked  # noqa: F401  it knows where the tools are
-from log_to_script import text_of
 from mqroute_tools.log.conversion import Converter, placed_commands
+from mqroute_tools.log.log_to_script import text_of
 
 
 def convert(text: str | bytes, **options) -> tuple[list[dict], dict[str, int]]:

@@ -15,8 +15,8 @@ import unittest
 from pathlib import Path
 
 from worked import HERE, PROGRAM, TOP, wants_program
-from log_to_script import text_of
 from mqroute_tools.log.conversion import Converter, placed_commands
+from mqroute_tools.log.log_to_script import text_of
 
 RECORDED = TOP / "brokers/recorded"
 ACL_PROGRAM = TOP / "bin/mqroute-acl"

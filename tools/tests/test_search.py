@@ -15,12 +15,13 @@ from fake_broker import (
     keeps_what_is_cleared)
 from mosquitto import PAHO, wants_paho
 from worked import HERE, PROGRAM, wants_program
-import search
 from mqroute import Oracle
 from mqroute_tools.common.exit_status import Fault
 from mqroute_tools.search.difference_kinds import Difference, Kind
+from mqroute_tools.search.finds import Find, Search
+from mqroute_tools.search.known_scripts import known_scripts, learn
 from mqroute_tools.search.random_scripts import Maker, Use
-from search import Search, known_scripts, learn
+from mqroute_tools.search.search import show
 
 A = {"do": "connect", "client": "a"}
 X = {"do": "subscribe", "client": "a", "filter": "x"}
@@ -29,7 +30,7 @@ CLEAR = {"payload": "", "qos": 1, "retain": True}
 
 
 def searched(broker: Fake, scripts: int, folders: list[Path] = [],
-             seed: int = 1) -> list[search.Find]:
+             seed: int = 1) -> list[Find]:
     """What so many scripts find."""
     one = Search(broker, Oracle(program=str(PROGRAM)))
     learn(one, folders)
@@ -56,7 +57,7 @@ class Finds(unittest.TestCase):
             ("publish: retain", [A, X | {"rap": True}, PUBLISH | CLEAR])],
     }
 
-    def first(self, bug, scripts: int) -> search.Find:
+    def first(self, bug, scripts: int) -> Find:
         one = Search(Fake(bug), Oracle(program=str(PROGRAM)))
         maker = Maker(random.Random(1), one.broker.use)
         for _ in range(scripts):
@@ -99,7 +100,7 @@ class Finds(unittest.TestCase):
         with tempfile.TemporaryDirectory() as folder:
             with open(os.devnull, "w") as nowhere, unittest.mock.patch("sys.stdout", nowhere):
                 for number, find in enumerate(searched(Fake(expiry_0_is_none), 150), 1):
-                    search.show(find, number, Path(folder))
+                    show(find, number, Path(folder))
             self.assertTrue(number < 12 and Path(folder, "find-1.out").exists())
             self.assertEqual(
                 [find.kind for find in searched(Fake(expiry_0_is_none), 150, [Path(folder)])], [])

@@ -13,6 +13,10 @@ class Fault(Exception):
     """What is said to the user before exit status 2."""
 
 
+class UsageFault(Exception):
+    """The same of arguments that don't go together, behind the usage."""
+
+
 def discard_output() -> None:
     """What is still to be written to standard output goes nowhere: Python
     would try again at its end."""

@@ -10,7 +10,7 @@ from collections.abc import Iterable, Iterator, Mapping
 from contextlib import contextmanager
 from typing import TYPE_CHECKING, BinaryIO, TextIO, cast
 
-from .exit_status import Fault
+from .exit_status import Fault, UsageFault
 
 if TYPE_CHECKING:
     from _typeshed import WriteableBuffer
@@ -71,6 +71,11 @@ def plain_file(name: str | int) -> os.stat_result | None:
     except OSError:
         return None
     return found if stat.S_ISREG(found.st_mode) else None
+
+
+def refuse_stdin_twice(read: list[str | None]) -> None:
+    if read.count(STDIN) > 1:
+        raise UsageFault("standard input can be read once")
 
 
 def keep_apart(read: Iterable[str | None], written: Mapping[str, str | None] = {}) -> None:

@@ -5,7 +5,6 @@ from typing import TypeVar
 
 from ..common.exit_status import Fault
 from ..common.files import at, open_input
-from ..common.option_values import whole_number
 from ..script.file_kinds import OF_MOSQUITTO, kind
 from ..script.output import Command, is_blank
 from ..script.sessions import FOREVER
@@ -123,20 +122,6 @@ class Writer(Converter):
 
 
 Kind = TypeVar("Kind", bound=Writer)
-
-
-def add_options(parser: argparse.ArgumentParser) -> None:
-    parser.add_argument("--time-format", metavar="FORMAT",
-                        help="log_timestamp_format as in mosquitto.conf (seconds, ISO and none are "
-                        "found without)")
-    parser.add_argument("--session-expiry", metavar="SECONDS", type=whole_number(0, FOREVER),
-                        help="Session Expiry Interval of MQTT 5 clients that connect without Clean "
-                        "Start; without it the next CONNACK tells")
-    parser.add_argument("--no-inference", action="store_true",
-                        help="nothing of before the log but what --begin has")
-    parser.add_argument("--begin", metavar="FILE",
-                        help="a script to begin with, such as what --state wrote for the log "
-                        "before this one")
 
 
 def read_state(name: str | None) -> State:

@@ -5,9 +5,8 @@ from collections.abc import Callable, Iterable, Iterator
 from dataclasses import dataclass, field
 from typing import TypeVar
 
-from ..common.tables import table, user_shown
 from ..script.output import Block, Command
-from .acl_verdicts import Decided, Lists, Question, allowed, in_words, pair
+from .acl_verdicts import Decided, Lists, Question, allowed, pair
 from .attribution import WHAT, Attribution, Grouped
 from .causes import Cause, Names, Tally
 from .findings import CauseRow, CauseSum, Copies, CopiesRow, Place, Refusals, RefusedRow, Subject
@@ -182,25 +181,3 @@ def all_causes(copies: list[CopiesRow]) -> list[CauseSum]:
     ordered = sorted(sums.items(), key=lambda s: (-s[1].total(), s[0]))
     return [CauseSum(because, kind, {what: counts[what] for what in WHAT})
             for (because, kind), counts in ordered]
-
-
-def because_of(causes: list[CauseRow]) -> str:
-    """The causes of a row, in one cell."""
-    sums: Counter[tuple[str, str]] = Counter()
-    for cause in causes:
-        lines = f" ({in_words(cause.decided)})" if cause.decided else ""
-        sums[cause.because(), lines] += cause.copies
-    return ", ".join(f"{because} {count}{decided}" for (because, decided), count in sums.items())
-
-
-def by_user_table(copies: list[CopiesRow], shown: Callable[[str], str]) -> str:
-    found = list(causes_of(copies))
-    rows = [[user_shown(row.subject.name), str(cause.clients), shown(row.subject.topic),
-             cause.what, str(cause.copies), cause.because(), str(cause.lines[0].line)]
-            for row, cause in found]
-    head = ["user", "clients", "topic", "what", "copies", "because", "first line"]
-    if any(cause.decided for _, cause in found):
-        head.append("decided by")
-        for (_, cause), cells in zip(found, rows):
-            cells.append(shown(in_words(cause.decided)) if cause.decided else "")
-    return table(head, rows)
