@@ -190,10 +190,10 @@ class Live(unittest.TestCase):
         """The same names twice, on a broker that may not have kept anything; what it
         doesn't offer isn't asked for."""
         code = f"""if True:
-            import argparse
+            from mqroute_tools.live.options import BrokerOptions
             from mqroute_tools.search.live_broker import LiveBroker
             from mqroute import Oracle
-            options = argparse.Namespace(
+            options = BrokerOptions(
                 host="127.0.0.1", port={self.start()}, username=None, password=None, patience=5,
                 settle=0, on_acl=None)
             broker = LiveBroker(options)

@@ -1,6 +1,5 @@
 """A run of commands on a live broker, one after another, with what differs
 from mqroute's answers."""
-import argparse
 import os
 import select
 import subprocess
@@ -14,6 +13,7 @@ from ..script.output import Block, Command
 from ..script.sessions import Sessions
 from .broker_diff import (
     Acknowledged, Copy, copies_of, different_copies, different_order, different_reasons)
+from .options import BrokerOptions
 from .paho_client import Connection, Offer
 from .wills import Wills
 
@@ -31,7 +31,7 @@ class Closed(Exception):
 
 
 class Replay:
-    def __init__(self, options: argparse.Namespace) -> None:
+    def __init__(self, options: BrokerOptions) -> None:
         self.options = options
         self.live: dict[str, Connection] = {}
         self.sessions = Sessions()

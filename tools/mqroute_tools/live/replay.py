@@ -21,7 +21,7 @@ from ..common.progress import Progress
 from ..script.commands import Seen, line_faults
 from ..script.oracle import Oracle
 from ..script.output import Block, Command, blocks, by_key, is_blank, misfit
-from .options import add_waiting
+from .options import BrokerOptions, add_waiting
 from .wills import Wills
 
 if TYPE_CHECKING:
@@ -62,11 +62,10 @@ def runnable(script: Iterable[bytes], given: Iterator[Block],
         raise Fault(f"{output} has answers to lines that {name} doesn't have")
 
 
-def offered(replay: "Replay", script: list[bytes], given: list[Block],
-            lines: list[Line]) -> list[Line]:
+def offered(replay: "Replay", options: argparse.Namespace, script: list[bytes],
+            given: list[Block], lines: list[Line]) -> list[Line]:
     """The lines as this broker can run them. Where it lacks something mqroute answers anew."""
     from .script_fitting import answers, fitted_script, read_list
-    options = replay.options
     fitted, told = fitted_script(script, {number for number, _, _ in lines}, replay.offer)
     if not told:
         return lines
@@ -81,9 +80,8 @@ def offered(replay: "Replay", script: list[bytes], given: list[Block],
     return list(runnable(fitted, iter(again), (options.script, "mqroute's answer")))
 
 
-def answer(replay: "Replay", line: Line) -> list[str]:
-    """What differs at one line. A fault names the line."""
-    script, number = replay.options.script, line[0]
+def answer(replay: "Replay", script: str, line: Line) -> list[str]:
+    """What differs at one line. A fault names the script and the line."""
     try:
         return replay.answer(*line)
     except Fault as fault:
@@ -91,13 +89,13 @@ def answer(replay: "Replay", line: Line) -> list[str]:
         raise Fault(text) from fault
     except OSError as fault:
         broker = f"the broker at {replay.options.host} port {replay.options.port}"
-        raise Fault(f"{at(script, number)}: {broker}: {in_words(fault)}") from fault
+        raise Fault(f"{at(script, line[0])}: {broker}: {in_words(fault)}") from fault
 
 
-def differences(replay: "Replay", progress: Progress) -> Iterator[list[str]]:
+def differences(replay: "Replay", options: argparse.Namespace,
+                progress: Progress) -> Iterator[list[str]]:
     """For each line that differs, the texts to print."""
     from .broker_run import Closed
-    options = replay.options
     with open_input(options.script) as stream:
         script = stream.readlines()
     given = list(blocks(options.output))
@@ -109,7 +107,7 @@ def differences(replay: "Replay", progress: Progress) -> Iterator[list[str]]:
         progress.at(number, len(script))
         head = f"line {number}: {json.dumps(command, ensure_ascii=False)}"
         try:
-            found = answer(replay, line)
+            found = answer(replay, options.script, line)
         except Closed as fault:
             yield [head, f"   {fault}"]
             return
@@ -117,17 +115,18 @@ def differences(replay: "Replay", progress: Progress) -> Iterator[list[str]]:
             yield [head, *found]
         if command["do"] == "connect" and not fits:
             fits = True
-            rest = [it for it in offered(replay, script, given, lines) if it[0] > number]
+            fitting = offered(replay, options, script, given, lines)
+            rest = [it for it in fitting if it[0] > number]
             lines = lines[:place + 1] + rest
             replay.wills = Wills(lines if options.wills else ())
         place += 1
 
 
-def compared(replay: "Replay") -> int:
+def compared(replay: "Replay", options: argparse.Namespace) -> int:
     """How many lines differ, each shown."""
     number, progress = 0, Progress()
     try:
-        for number, texts in enumerate(differences(replay, progress), 1):
+        for number, texts in enumerate(differences(replay, options, progress), 1):
             progress.clear()
             print("\n".join(texts), flush=True)
     except KeyboardInterrupt:
@@ -177,9 +176,9 @@ def run(options: argparse.Namespace) -> int:
     refuse_stdin_twice([options.script, options.output])
     keep_apart([options.script, options.output, options.acl_file])
     from .broker_run import Replay  # wants paho
-    replay = Replay(options)
+    replay = Replay(BrokerOptions.of(options))
     try:
-        status = 1 if compared(replay) else 0
+        status = 1 if compared(replay, options) else 0
     except (ValueError, KeyError) as fault:
         raise Fault(repr(fault)) from fault
     finally:

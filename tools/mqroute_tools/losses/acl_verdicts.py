@@ -8,7 +8,8 @@ The program is $MQROUTE_ACL_PROGRAM, or the one that stands in the same clone or
 import json
 import subprocess
 import tempfile
-from typing import NamedTuple, TypedDict
+from dataclasses import dataclass
+from typing import Any, NamedTuple
 
 from ..common.exit_status import Fault
 from ..common.files import STDIN, open_input, plain_file
@@ -21,24 +22,39 @@ RUNS = ("before", "after")
 CLIENT_MARK = b"%c"
 
 
-class Line(TypedDict):
+@dataclass
+class Line:
     """A line of a list."""
     file: str
     line: int
     text: str
 
 
-class Verdict(TypedDict):
+@dataclass
+class Verdict:
     """Whether a list allows an access, with the lines that deny it and that grant it."""
     access: str
     allowed: bool
     deny: Line | None
     grant: Line | None
 
+    def deciding_line(self) -> Line | None:
+        return self.deny or self.grant
 
-class Decided(TypedDict):
+    def in_words(self) -> str:
+        """The line that decides."""
+        line = self.deciding_line()
+        return f"{line.line}: {line.text.strip()}" if line else NO_LINE
+
+
+@dataclass
+class Decided:
+    """The verdicts of the list before and of the list after."""
     before: Verdict
     after: Verdict
+
+    def in_words(self) -> str:
+        return f"{self.before.in_words()} -> {self.after.in_words()}"
 
 
 class Question(NamedTuple):
@@ -83,11 +99,17 @@ class AccessList:
         if done.returncode:
             said = done.stderr.decode("utf-8", "replace").strip().replace(self.path, self.name)
             raise Fault(said or f"{self.program} ended with status {done.returncode}")
-        told: list[Verdict] = [json.loads(text)
-                               for text in done.stdout.decode("utf-8").splitlines()]
-        for line in (line for one in told for line in (one["deny"], one["grant"]) if line):
-            line["file"] = self.name
-        return {one["access"]: one for one in told}
+        told = map(self.verdict_of, done.stdout.decode("utf-8").splitlines())
+        return {one.access: one for one in told}
+
+    def verdict_of(self, text: str) -> Verdict:
+        found = json.loads(text)
+        return Verdict(found["access"], found["allowed"], self.line(found["deny"]),
+                       self.line(found["grant"]))
+
+    def line(self, found: dict[str, Any] | None) -> Line | None:
+        """A line as the program tells it, which may have read a copy."""
+        return Line(self.name, found["line"], found["text"]) if found else None
 
 
 class Lists:
@@ -101,13 +123,13 @@ class Lists:
     def decides(self, asked: Question, allowed: tuple[bool, bool], line: int) -> Decided:
         """The verdicts of both. `allowed` is what the outputs show of the runs, at this line."""
         before, after = (one.verdict(asked) for one in self.lists)
-        said = before["allowed"], after["allowed"]
+        said = before.allowed, after.allowed
         if said != allowed and not self.contradiction:
             run = BEFORE if said[BEFORE] != allowed[BEFORE] else AFTER
             name, when = self.lists[run].name, RUNS[run]
             self.contradiction = contradiction(name, asked, said[run], when, line)
         self.fit_swapped &= said[::-1] == allowed
-        return {"before": before, "after": after}
+        return Decided(before, after)
 
     def refuse(self) -> None:
         """Raises Fault where they are not the lists of these outputs."""
@@ -124,24 +146,11 @@ def contradiction(name: str, asked: Question, says: bool, run: str, line: int) -
             f"{shows}")
 
 
-def deciding_line(verdict: Verdict) -> Line | None:
-    return verdict["deny"] or verdict["grant"]
-
-
-def line_of(verdict: Verdict) -> str:
-    """The line that decides, in words."""
-    line = deciding_line(verdict)
-    return f"{line['line']}: {line['text'].strip()}" if line else NO_LINE
-
-
-def in_words(decided: Decided) -> str:
-    return f"{line_of(decided['before'])} -> {line_of(decided['after'])}"
-
-
 def pair(decided: Decided | None) -> tuple[int, ...]:
     """The numbers of the lines that decide: 0 for no line; empty where nothing was asked."""
-    verdicts = [decided["before"], decided["after"]] if decided else []
-    return tuple(line["line"] if line else 0 for line in map(deciding_line, verdicts))
+    verdicts = [decided.before, decided.after] if decided else []
+    lines = [verdict.deciding_line() for verdict in verdicts]
+    return tuple(line.line if line else 0 for line in lines)
 
 
 def allowed(what: str, cause: Cause) -> tuple[bool, bool]:

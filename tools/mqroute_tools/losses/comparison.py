@@ -8,7 +8,7 @@ from ..common.files import at, open_input
 from ..script.commands import Seen
 from ..script.output import Block, Command, blocks, by_key, command_of, is_blank, misfit
 from .attribution import Grouped, difference
-from .findings import Copies, CopiesRow, Findings, RefusedRow, Refusals, Subject
+from .findings import Copies, CopiesRow, Findings, RefusedRow, Refusals, Subject, Totals
 from .report_rows import Reasons, Row, all_causes, copies_of, refused_of, row_order
 
 
@@ -97,11 +97,13 @@ class Losses:
         return sorted(
             ((k, r) for k, r in self.refusals.items() if r.newly or r.no_longer), key=row_order)
 
-    def totals(self) -> dict[str, int]:
-        of_copies = {name: sum(getattr(c, name) for c in self.copies.values())
-                     for name in ("before", "after", "lost", "gained", "changed")}
-        return of_copies | {"refused_before": sum(r.before for r in self.refusals.values()),
-                            "refused_after": sum(r.after for r in self.refusals.values())}
+    def totals(self) -> Totals:
+        copies, refusals = self.copies.values(), self.refusals.values()
+        return Totals(
+            sum(c.before for c in copies), sum(c.after for c in copies),
+            sum(c.lost for c in copies), sum(c.gained for c in copies),
+            sum(c.changed for c in copies),
+            sum(r.before for r in refusals), sum(r.after for r in refusals))
 
 
 class Run:

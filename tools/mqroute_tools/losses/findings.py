@@ -1,7 +1,6 @@
 """What a comparison of two outputs finds: its rows with their causes, and how JSON has them."""
 from collections import Counter
-from collections.abc import Mapping
-from dataclasses import dataclass, field
+from dataclasses import asdict, dataclass, field
 from typing import Any
 
 from ..common.tables import user_shown
@@ -88,7 +87,7 @@ class CauseRow:
             else:
                 found["publisher"] = cause.user
         found["lines"] = [place.json() for place in self.lines]
-        return found | {"decided": self.decided} if self.decided else found
+        return found | {"decided": asdict(self.decided)} if self.decided else found
 
 
 @dataclass
@@ -117,7 +116,7 @@ class RefusedRow:
         if self.lines is not None:
             found |= {"lines_in_all": self.lines_in_all,
                       "lines": [place.json() for place in self.lines]}
-        return found | {"decided": self.decided} if self.decided else found
+        return found | {"decided": asdict(self.decided)} if self.decided else found
 
 
 @dataclass
@@ -125,10 +124,21 @@ class CauseSum:
     """One cause, with what it lost, gained and changed in all rows."""
     because: str
     cause: str
-    counts: Mapping[str, int]
+    lost: int
+    gained: int
+    changed: int
 
-    def json(self) -> Json:
-        return {"because": self.because, "cause": self.cause, **self.counts}
+
+@dataclass
+class Totals:
+    """Of all copies, also where nothing changes, and of all lines that are refused."""
+    before: int
+    after: int
+    lost: int
+    gained: int
+    changed: int
+    refused_before: int
+    refused_after: int
 
 
 @dataclass
@@ -137,12 +147,12 @@ class Findings:
     copies: list[CopiesRow]
     causes: list[CauseSum]
     refused: list[RefusedRow]
-    totals: dict[str, int]
+    totals: Totals
 
     def json(self) -> Json:
         copies = [row.json() for row in self.copies]
         refused = [row.json() for row in self.refused]
         if self.by is None:
-            return {"copies": copies, "refused": refused, "totals": self.totals}
-        return {"by": self.by, "copies": copies, "causes": [one.json() for one in self.causes],
-                "refused": refused, "totals": self.totals}
+            return {"copies": copies, "refused": refused, "totals": vars(self.totals)}
+        return {"by": self.by, "copies": copies, "causes": [vars(one) for one in self.causes],
+                "refused": refused, "totals": vars(self.totals)}

@@ -2,9 +2,9 @@
 from collections.abc import Iterator
 
 from ..common.files import open_input, whole
-from .acl_verdicts import Decided, in_words, line_of
+from .acl_verdicts import Decided
 from .bar_chart import picture
-from .findings import CauseSum, Findings, Place, Subject
+from .findings import CauseSum, Findings, Place, Subject, Totals
 from .html_escape import escaped, marked, visible
 from .page_style import STYLE
 from .report_rows import causes_of
@@ -61,21 +61,20 @@ def file(name: str) -> str:
     return f"<bdi class='file'>{escaped(name)}</bdi>"
 
 
-def totals(numbers: dict[str, int]) -> str:
-    cards = (("before", "copies before"), ("after", "copies after"), ("lost", "lost"),
-             ("gained", "gained"), ("changed", "changed"),
-             ("refused_before", "lines refused before"), ("refused_after", "lines refused after"))
+def totals(numbers: Totals) -> str:
+    names = {"before": "copies before", "after": "copies after",
+             "refused_before": "lines refused before", "refused_after": "lines refused after"}
     items = "".join(
-        f"<div class='card {key}'><b id='{key}'>{numbers[key]}</b><span>{name}</span></div>"
-        for key, name in cards)
+        f"<div class='card {key}'><b id='{key}'>{number}</b>"
+        f"<span>{names.get(key, key)}</span></div>" for key, number in vars(numbers).items())
     return f"<section id='totals'>{items}</section>\n"
 
 
 def why(sums: list[CauseSum]) -> str:
     rows = ""
     for one in sums:
-        counts = "".join(f"<td class='{what}'>{count or ''}</td>"
-                         for what, count in one.counts.items())
+        counts = "".join(f"<td class='{what}'>{count or ''}</td>" for what, count in (
+            ("lost", one.lost), ("gained", one.gained), ("changed", one.changed)))
         rows += f"<tr><td class='because'><bdi>{escaped(one.because)}</bdi></td>{counts}</tr>\n"
     return ("<section><h2>Causes</h2>\n<table id='causes'><thead><tr>"
             "<th>because</th><th>lost</th><th>gained</th><th>changed</th></tr></thead>"
@@ -134,14 +133,14 @@ def refused(found: Findings, texts: dict[int, str]) -> Iterator[str]:
 
 def by(lines: Decided | None) -> str:
     """The same in a row that isn't opened."""
-    return f"<small><bdi>{escaped(in_words(lines))}</bdi></small>" if lines else ""
+    return f"<small><bdi>{escaped(lines.in_words())}</bdi></small>" if lines else ""
 
 
 def decided(lines: Decided | None) -> str:
     """The lines of both access lists that decide it, where they were given."""
     if lines is None:
         return ""
-    before, after = (escaped(line_of(one)) for one in (lines["before"], lines["after"]))
+    before, after = (escaped(one.in_words()) for one in (lines.before, lines.after))
     return (f"<div class='decided'><div>before: <code><bdi>{before}</bdi></code></div>"
             f"<div>after: <code><bdi>{after}</bdi></code></div></div>")
 

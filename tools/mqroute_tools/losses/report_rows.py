@@ -179,5 +179,5 @@ def all_causes(copies: list[CopiesRow]) -> list[CauseSum]:
     for _, cause in causes_of(copies):
         sums[cause.because(), cause.cause.kind][cause.what] += cause.copies
     ordered = sorted(sums.items(), key=lambda s: (-s[1].total(), s[0]))
-    return [CauseSum(because, kind, {what: counts[what] for what in WHAT})
+    return [CauseSum(because, kind, *(counts[what] for what in WHAT))
             for (because, kind), counts in ordered]

@@ -3,8 +3,7 @@ from collections import Counter
 
 from ..common.messages import counted
 from ..common.tables import shown, table, user_shown
-from .acl_verdicts import in_words
-from .findings import CauseRow, CopiesRow, Findings, RefusedRow, Refusals, Subject
+from .findings import CauseRow, CopiesRow, Findings, RefusedRow, Refusals, Subject, Totals
 from .report_rows import causes_of
 
 IN_BOTH = "refused in both"
@@ -29,11 +28,11 @@ def report(found: Findings) -> str:
     return "\n\n".join(parts) + "\n"
 
 
-def sums(totals: dict[str, int]) -> str:
-    copies, lines = counted(totals["before"], "copies"), counted(totals["refused_before"], "lines")
-    return ("In all {copies} before and {after} after: {lost} lost, {gained} gained, "
-            "{changed} changed. {lines} refused before, {refused_after} after."
-            ).format(copies=copies, lines=lines, **totals)
+def sums(totals: Totals) -> str:
+    copies, lines = counted(totals.before, "copies"), counted(totals.refused_before, "lines")
+    return (f"In all {copies} before and {totals.after} after: {totals.lost} lost, "
+            f"{totals.gained} gained, {totals.changed} changed. "
+            f"{lines} refused before, {totals.refused_after} after.")
 
 
 def copies_table(copies: list[CopiesRow]) -> str:
@@ -54,7 +53,7 @@ def refused_table(refused: list[RefusedRow]) -> str:
     if any(row.decided for row in refused):
         head.append("decided by")
         for row, cells in zip(refused, rows):
-            cells.append(shown(in_words(row.decided)) if row.decided else "")
+            cells.append(shown(row.decided.in_words()) if row.decided else "")
     return table(head, rows)
 
 
@@ -70,7 +69,7 @@ def because_of(causes: list[CauseRow]) -> str:
     """The causes of a row, in one cell."""
     sums: Counter[tuple[str, str]] = Counter()
     for cause in causes:
-        lines = f" ({in_words(cause.decided)})" if cause.decided else ""
+        lines = f" ({cause.decided.in_words()})" if cause.decided else ""
         sums[cause.because(), lines] += cause.copies
     return ", ".join(f"{because} {count}{decided}" for (because, decided), count in sums.items())
 
@@ -84,5 +83,5 @@ def by_user_table(copies: list[CopiesRow]) -> str:
     if any(cause.decided for _, cause in found):
         head.append("decided by")
         for (_, cause), cells in zip(found, rows):
-            cells.append(shown(in_words(cause.decided)) if cause.decided else "")
+            cells.append(shown(cause.decided.in_words()) if cause.decided else "")
     return table(head, rows)

@@ -1,10 +1,10 @@
 """A live broker on which many scripts are run, one after another."""
-import argparse
 from collections.abc import Iterator
 
 from ..common.exit_status import Fault
 from ..common.messages import in_words
 from ..live.broker_run import Closed, Replay
+from ..live.options import BrokerOptions
 from ..live.paho_client import Offer
 from ..live.wills import Wills
 from ..script.output import Block, Command
@@ -32,7 +32,7 @@ def sent(script: list[Command], blocks: list[Block]) -> Iterator[tuple[int, Comm
 
 
 class LiveBroker:
-    def __init__(self, options: argparse.Namespace) -> None:
+    def __init__(self, options: BrokerOptions) -> None:
         self.options = options
         replay = self.session()
         try:

@@ -17,7 +17,7 @@ from ..common.exit_status import Fault
 from ..common.files import whole
 from ..common.messages import counted, tell
 from ..common.option_values import amount, port, whole_number
-from ..live.options import add_waiting
+from ..live.options import BrokerOptions, add_waiting
 from ..script.oracle import Oracle, OracleFault
 from .finds import Find, Search
 from .known_scripts import KNOWN, learn
@@ -108,6 +108,7 @@ def run(options: argparse.Namespace) -> int:
     try:
         with Oracle() as oracle:
             until = time.monotonic() + 60 * options.minutes
-            return 1 if searched(Search(LiveBroker(options), oracle, until), options) else 0
+            broker = LiveBroker(BrokerOptions.of(options))
+            return 1 if searched(Search(broker, oracle, until), options) else 0
     except OracleFault as fault:
         raise Fault(str(fault)) from fault
