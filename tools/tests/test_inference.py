@@ -16,7 +16,7 @@ from mqroute_tools.log.clients import INFERRED, NONE, SEEN
 from mqroute_tools.log.conversion import placed_commands
 from mqroute_tools.log.inference import beginning
 from mqroute_tools.log.script_writer import Writer
-from mqroute_tools.script.topics import TopicTree, matches
+from mqroute_tools.script.topics import matches
 
 TOOL = HERE / "log_to_script.py"
 FOREVER = 4294967295
@@ -382,21 +382,6 @@ class States(unittest.TestCase):
             self.assertEqual(
                 (done.returncode, done.stderr),
                 (2, "log_to_script: state:1: no command of a script: looks like JSON\n"))
-
-
-class Filters(unittest.TestCase):
-    def test_matches(self):
-        for name, topic, wanted in (
-                ("a", "a", 1), ("a", "b", 0), ("+", "a", 1), ("+", "a/b", 0), ("a/#", "a", 1),
-                ("a/#", "a/b/c", 1), ("a/#", "b", 0), ("#", "a/b", 1), ("#", "$x", 0),
-                ("+/a", "$x/a", 0), ("$x/#", "$x/a", 1), ("a/+", "a/", 1), ("+/+", "/", 1),
-                ("+", "", 1), ("a/+/#", "a", 0)):
-            self.assertEqual(matches(name, topic), bool(wanted), (name, topic))
-            tree = TopicTree()
-            for each in (topic, "zz/top", "$zz"):
-                tree.add(each)
-            self.assertEqual(sorted(tree.matching(name)),
-                             sorted(t for t in (topic, "zz/top", "$zz") if matches(name, t)), name)
 
 
 if __name__ == "__main__":
