@@ -7,7 +7,7 @@ from mqroute_tools.live.broker_diff import (
     Acknowledged, copies_of, different_copies, different_order, different_reasons)
 from mqroute_tools.live.wills import Wills
 from mqroute_tools.script.sessions import Sessions
-from mqroute_tools.search.difference_kinds import Difference, apart
+from mqroute_tools.search.difference_kinds import Difference, separate
 from mqroute_tools.search.finds import Script
 from mqroute_tools.search.random_scripts import Use
 
@@ -37,7 +37,7 @@ class Fake:
             sessions.follow(command)
             ours, copies = copies_of(block), copies_of(theirs)
             texts = different_copies(ours, copies, sessions) + different_order(ours, copies)
-            found += apart(
+            found += separate(
                 number, "will" if number in wills.due else command["do"],
                 texts + different_reasons(command, block, Acknowledged(theirs.reason), present))
         return found

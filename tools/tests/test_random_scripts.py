@@ -5,7 +5,7 @@ import unittest
 
 from worked import PROGRAM, wants_program
 from mqroute import Oracle
-from mqroute_tools.search.difference_kinds import Kind, apart, uses
+from mqroute_tools.search.difference_kinds import Kind, separate, uses
 from mqroute_tools.search.random_scripts import ACCESS, PARTS, Maker, Use, fresh, with_names
 from mqroute_tools.search.shrinking import connected, shrink
 
@@ -80,7 +80,7 @@ class Shrinks(unittest.TestCase):
 
 class Kinds(unittest.TestCase):
     def whats(self, ours: str, theirs: str, *more: str, head: str = "   a x") -> list[str]:
-        return [one.what for one in apart(
+        return [one.what for one in separate(
             3, "publish", [head, f"      mqroute: {ours}", f"      broker:  {theirs}", *more])]
 
     def test_what_differs(self):
@@ -107,7 +107,7 @@ class Kinds(unittest.TestCase):
         nobody = "   reason: mqroute 0, broker 16"
         self.assertEqual(self.whats('qos 0, retain false, payload ""', "nothing", nobody),
                          ["publish: missing"] * 2)
-        self.assertEqual([one.what for one in apart(3, "publish", [nobody])],
+        self.assertEqual([one.what for one in separate(3, "publish", [nobody])],
                          ["publish: reason: mqroute 0, broker 16"])
 
     def test_covers(self):

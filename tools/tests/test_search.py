@@ -91,9 +91,9 @@ class Finds(unittest.TestCase):
         script = "".join(line + "\n" for line in find.lines())
         done = subprocess.run([PROGRAM], input=script, capture_output=True, text=True)
         self.assertEqual(done.stdout.splitlines(), find.output())
-        self.assertEqual(find.told()[0], f"line {len(find.script)}: {json.dumps(find.script[-1])}")
-        self.assertEqual(find.told()[1], "   a x")
-        self.assertNotIn("Z", "".join(find.told() + find.lines()))
+        head = f"line {len(find.script)}: {json.dumps(find.script[-1])}"
+        self.assertEqual(find.report()[:2], [head, "   a x"])
+        self.assertNotIn("Z", "".join(find.report() + find.lines()))
 
     def test_what_is_found_is_known_then(self):
         """Saved finds are passed over; another bug isn't."""

@@ -36,7 +36,7 @@ class Replay:
         self.live: dict[str, Connection] = {}
         self.sessions = Sessions()
         self.offer = Offer()
-        self.told: Counter[str] = Counter()  # what to say at the end, with {} for the number
+        self.remarks: Counter[str] = Counter()  # what to say at the end, with {} for the number
         self.sys_topics: set[str] = set()  # under $SYS/, that the script publishes
         self.wills = Wills()
         self.line = 0
@@ -174,7 +174,7 @@ class Replay:
         ours = [c for c in found if not c.topic.startswith("$SYS/") or c.topic in self.sys_topics]
         if len(ours) < len(found):
             what = "copies of topics under $SYS/, which the broker publishes itself, are left out"
-            self.told["{} " + what] += len(found) - len(ours)
+            self.remarks["{} " + what] += len(found) - len(ours)
         return ours
 
     def end(self) -> None:

@@ -76,7 +76,7 @@ def offered(replay: "Replay", options: argparse.Namespace, script: list[bytes],
             raise Fault(f"{lacking}: mqroute has to run again, and wrote {options.output} "
                         "with other options. Give its --acl-file, --max-retained and --max-queued")
         again = answers(oracle.words, b"".join(fitted))
-    replay.told += told
+    replay.remarks += told
     return list(runnable(fitted, iter(again), (options.script, "mqroute's answer")))
 
 
@@ -183,6 +183,6 @@ def run(options: argparse.Namespace) -> int:
         raise Fault(repr(fault)) from fault
     finally:
         replay.end()
-    for what, count in replay.told.items():
+    for what, count in replay.remarks.items():
         tell(numbered(what, count))
     return status

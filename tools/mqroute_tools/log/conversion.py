@@ -50,7 +50,7 @@ class Converter(Clients):
             self.lost(raw.decode("utf-8", "replace"), len(raw))
             return
         time, text = self.stamps.split(line)
-        self.part(text)
+        self.end_after_disconnect(text)
         if not text.startswith("Sending PUBLISH to "):
             self.ended = None
         if time is not None:
@@ -96,7 +96,7 @@ class Converter(Clients):
         if text.startswith("Will message specified ") and self.arrival:
             self.arrival.will_head = log.WILL.match(text)
             return self.arrival.will_head is not None
-        return self.ending(text) or self.told(text) or text.startswith(log.PASSED_OVER)
+        return self.ending(text) or self.noted(text) or text.startswith(log.PASSED_OVER)
 
     def arriving(self, text: str) -> bool:
         """`New connection from ADDRESS on port N.`, and then `New client connected
@@ -115,10 +115,10 @@ class Converter(Clients):
         self.arrival = Arrival(self.place, name, websocket, text.startswith("New bridge"))
         return bool(found)
 
-    def told(self, text: str) -> bool:
+    def noted(self, text: str) -> bool:
         """Lines that change what the broker does, and that no command stands for; and
         those of its own bridges."""
-        for start, what in log.TOLD:
+        for start, what in log.NOTED:
             if text.startswith(start):
                 self.notes.add(what, f"line {self.place}: {text}")
                 return True
@@ -347,12 +347,12 @@ class Converter(Clients):
         willed = bool(session and session.leaves and session.will)
         waits = departed or (willed and client not in self.closing)
         if waits:
-            self.part("")
+            self.end_after_disconnect("")
             self.parting = (client, self.place)
         if departed or not waits:
             super().closed(client)
 
-    def part(self, text: str) -> None:
+    def end_after_disconnect(self, text: str) -> None:
         """The end of a connection after DISCONNECT, of which `text` is the line that follows.
 
         MQTT 5 clients can ask for their will (reason 4). No line has the reason, but then the
@@ -395,6 +395,6 @@ def placed_commands(converter: Converter,
                 converter.read(raw)
                 yield from converter.commands
     converter.commands = []
-    converter.part("")
+    converter.end_after_disconnect("")
     yield from converter.commands
     converter.finish()

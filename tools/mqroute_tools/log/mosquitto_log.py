@@ -54,7 +54,7 @@ PASSED_OVER = (
     "Connecting bridge ", "Received CONNACK on connection ",
 )
 # Lines that concern the script and give no command.
-TOLD = (
+NOTED = (
     ("Reloading config.",
      "times the broker read its configuration again: the access list may have changed here"),
     ("Dropped too large PUBLISH from ",

@@ -71,7 +71,7 @@ def of_copies(head: str, ours: str, theirs: str) -> list[str]:
     return of_parts(ours, theirs) or ["differs"]
 
 
-def apart(line: int, do: str, texts: list[str]) -> Iterator[Difference]:
+def separate(line: int, do: str, texts: list[str]) -> Iterator[Difference]:
     """What differs at a line, one by one. That nobody got a message says no more
     than that a copy is missing."""
     rest, missing = list(texts), False

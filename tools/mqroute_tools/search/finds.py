@@ -41,7 +41,7 @@ class Find:
     def output(self) -> list[str]:
         return [text.rstrip("\n") for answer in self.answers for text in answer.texts()]
 
-    def told(self) -> list[str]:
+    def report(self) -> list[str]:
         """What replay.py prints for it."""
         found: dict[int, list[str]] = {}
         for difference in self.differences:

@@ -8,7 +8,7 @@ from ..live.options import BrokerOptions
 from ..live.paho_client import Offer
 from ..live.wills import Wills
 from ..script.output import Block, Command
-from .difference_kinds import Difference, apart
+from .difference_kinds import Difference, separate
 from .random_scripts import ACCESS, PARTS, Use
 
 CLEANER = "mqroute-search"
@@ -63,7 +63,7 @@ class LiveBroker:
             for number, command, block in lines:
                 do = "will" if number in replay.wills.due else command["do"]
                 try:
-                    found += apart(number, do, replay.answer(number, command, block))
+                    found += separate(number, do, replay.answer(number, command, block))
                 except Closed as fault:
                     return [*found, Difference(number, f"{do}: closed", [f"   {fault}"])]
                 except Fault as fault:

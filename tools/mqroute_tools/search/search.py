@@ -33,10 +33,10 @@ def saved(folder: Path | None) -> int:
 
 def show(find: Find, number: int, folder: Path | None) -> None:
     print(f"find {number}: {find.kind.what}, with {', '.join(sorted(find.kind.uses))}")
-    print("\n".join([*find.lines(), "", *find.told(), ""]), flush=True)
+    print("\n".join([*find.lines(), "", *find.report(), ""]), flush=True)
     if folder:
         for end, lines in (
-                (".jsonl", find.lines()), (".out", find.output()), (".diff", find.told())):
+                (".jsonl", find.lines()), (".out", find.output()), (".diff", find.report())):
             with whole(str(folder / f"find-{number}{end}")) as out:
                 out.writelines((line + "\n").encode("utf-8") for line in lines)
 
