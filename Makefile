@@ -13,9 +13,11 @@
 PREFIX ?= /usr/local
 INSTALLED = $(DESTDIR)$(PREFIX)
 
-# The tools beside real brokers, each installed as mqroute-NAME; they import what stands in tools/mqroute_tools.
-TOOLS = log_to_script who_loses replay compare_log check search
+# The tools beside real brokers, each installed as mqroute-NAME, tools.py with all of them as subcommands; they import what
+# stands in tools/mqroute_tools.
+TOOLS = log_to_script who_loses replay compare_log check search tools
 TOOL_NAMES = $(subst _,-,$(TOOLS:%=mqroute-%))
+TOOL_MODULES = $(patsubst tools/%,%,$(wildcard tools/mqroute_tools/*.py tools/mqroute_tools/*/*.py))
 # The brokers beside mosquitto on which scripts differ.
 BROKERS = ejabberd rabbitmq
 COMPLETIONS = $(INSTALLED)/share/bash-completion/completions
@@ -71,8 +73,10 @@ install: programs
 	install -m 644 docs/mqroute.1 docs/mqroute-acl.1 $(TOOL_NAMES:%=docs/%.1) $(INSTALLED)/share/man/man1
 	install -D -m 644 docs/mqroute.bash-completion $(COMPLETIONS)/mqroute
 	install -m 644 docs/mqroute-acl.bash-completion $(COMPLETIONS)/mqroute-acl
-	install -d $(INSTALLED)/lib/mqroute/mqroute_tools $(BROKERS:%=$(INSTALLED)/lib/mqroute/differences/%) $(INSTALLED)/share/mqroute/schemas
-	install -m 644 tools/mqroute_tools/*.py $(INSTALLED)/lib/mqroute/mqroute_tools
+	install -d $(BROKERS:%=$(INSTALLED)/lib/mqroute/differences/%) $(INSTALLED)/share/mqroute/schemas
+	for module in $(TOOL_MODULES); do \
+	    install -D -m 644 tools/$$module $(INSTALLED)/lib/mqroute/$$module || exit 1; \
+	done
 	install -m 644 tools/mqroute.py $(INSTALLED)/lib/mqroute
 	install -m 755 $(TOOLS:%=tools/%.py) $(INSTALLED)/lib/mqroute
 	install -m 644 brokers/differences/*.* $(INSTALLED)/lib/mqroute/differences

@@ -8,7 +8,8 @@ import time
 from pathlib import Path
 
 sys.path.insert(0, str(Path(__file__).resolve().parents[1] / "tools"))
-from mqroute_tools.live import Client, PacketTypes, Properties, SubscribeOptions, mqtt  # noqa: E402
+from mqroute_tools.live.paho_client import (  # noqa: E402
+    Client, PacketTypes, Properties, SubscribeOptions, mqtt)
 
 STEPS = 700
 PAUSE = 0.06

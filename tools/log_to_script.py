@@ -1,76 +1,8 @@
 #!/usr/bin/env python3
-"""Makes a script for mqroute of a mosquitto 2.0 log (log_type all).
-
-The commands stand in the order in which the broker did them. What a log doesn't tell (payloads,
-options, expiry) is left at its default; a payload is told as its number of bytes, and is empty
-where it was empty.
-Of clients that were connected before the log began the script begins with what their copies show
-(--no-inference: it doesn't).
-Exit status: 0 all of the log is in the script; 1 something isn't, told on standard error; 2 usage,
-or a file.
-"""
-if __name__ == "__main__":
-    from mqroute_tools import interrupt
-    interrupt.handle(interrupt.stop)
-import argparse
-import json
+"""Makes a script for mqroute of a mosquitto 2.0 log (log_type all)."""
 import sys
 
-from mqroute_tools import ending
-from mqroute_tools.conversion import placed_commands
-from mqroute_tools.ending import counted
-from mqroute_tools.files import STDIN, keep_apart, whole
-from mqroute_tools.sessions import INFERRED, NONE, SEEN
-from mqroute_tools.writing import Logs, Writer, add_options, writer
-
-text_of = json.JSONEncoder(ensure_ascii=False, separators=(",", ":")).encode
-
-
-def arguments() -> argparse.Namespace:
-    parser = argparse.ArgumentParser(
-        description="Makes a script for mqroute of a mosquitto 2.0 log (log_type all).")
-    parser.add_argument("log", nargs="*",
-                        help="log files that follow one another, packed by gzip or not; "
-                        "standard input if none, or -")
-    add_options(parser)
-    parser.add_argument("--state", metavar="FILE",
-                        help="write what stands at the end (clients, sessions, subscriptions, "
-                        "retained messages) as a script, for --begin with the log that follows")
-    options = parser.parse_args()
-    if [*(options.log or [STDIN]), options.begin].count(STDIN) > 1:
-        parser.error("standard input can be read once")
-    return options
-
-
-def tell(found: Writer, logs: Logs, written: int) -> None:
-    others = f" ({found.stamps.others} of other programs)" if found.stamps.others else ""
-    ending.tell(f"{counted(found.place, 'lines read')}{others}, "
-                f"{counted(written, 'commands written')}")
-    if found.explained[INFERRED] or found.explained[NONE]:
-        seen, inferred, none = (found.explained[i] for i in (SEEN, INFERRED, NONE))
-        copies = counted(seen + inferred + none, "copies")
-        ending.tell(f"the broker sent {copies}: the script explains {seen} by subscriptions in "
-                    f"the log and {inferred} by inferred ones, and doesn't explain {none}")
-    found.notes.write(sys.stderr, logs.where)
-
-
-def main() -> int:
-    options = arguments()
-    keep_apart([*(options.log or [STDIN]), options.begin], {"--state": options.state})
-    logs = Logs(options.log, not options.no_inference, options.time_format)
-    found = writer(Writer, options, logs, follow=bool(options.state))
-    written = 0
-    for _, command in placed_commands(found, logs.streams(found)):
-        sys.stdout.buffer.write(text_of(command).encode("utf-8") + b"\n")
-        written += 1
-    sys.stdout.buffer.flush()
-    if found.state:
-        with whole(options.state) as file:
-            file.writelines(
-                text_of(command).encode("utf-8") + b"\n" for command in found.state.at_end())
-    tell(found, logs, written)
-    return 1 if found.notes.counts or found.explained[NONE] else 0
-
+from mqroute_tools.cli import log_to_script
 
 if __name__ == "__main__":
-    sys.exit(ending.run(main))
+    sys.exit(log_to_script())

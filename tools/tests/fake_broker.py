@@ -1,17 +1,15 @@
 """A broker that answers as mqroute, but for a planted bug: it takes some commands for others."""
-import sys
 from collections.abc import Callable
 
-from worked import HERE, PROGRAM
-
-sys.path.insert(0, str(HERE))
-from mqroute_tools.agreement import (  # noqa: E402
-    Acknowledged, Sessions, copies_of, different_copies, different_order, different_reasons)
-from mqroute_tools.kinds import Difference, apart  # noqa: E402
-from mqroute import Oracle  # noqa: E402
-from mqroute_tools.random_scripts import Use  # noqa: E402
-from mqroute_tools.wills import Wills  # noqa: E402
-from search import Script  # noqa: E402
+from worked import PROGRAM
+from mqroute import Oracle
+from mqroute_tools.live.broker_diff import (
+    Acknowledged, copies_of, different_copies, different_order, different_reasons)
+from mqroute_tools.live.wills import Wills
+from mqroute_tools.script.sessions import Sessions
+from mqroute_tools.search.difference_kinds import Difference, separate
+from mqroute_tools.search.finds import Script
+from mqroute_tools.search.random_scripts import Use
 
 
 class Fake:
@@ -39,7 +37,7 @@ class Fake:
             sessions.follow(command)
             ours, copies = copies_of(block), copies_of(theirs)
             texts = different_copies(ours, copies, sessions) + different_order(ours, copies)
-            found += apart(
+            found += separate(
                 number, "will" if number in wills.due else command["do"],
                 texts + different_reasons(command, block, Acknowledged(theirs.reason), present))
         return found

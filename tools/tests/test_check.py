@@ -9,9 +9,7 @@ import unittest
 from pathlib import Path
 
 from worked import HERE, answers, no_commands, scripts, wants_program
-
-sys.path.insert(0, str(HERE))
-from mqroute_tools.commands import COMMANDS, faults, line_faults  # noqa: E402
+from mqroute_tools.script.commands import COMMANDS, faults, line_faults
 
 SAID = [
     ({"do": "publish", "client": "a", "topic": "x", "payloud": ""},

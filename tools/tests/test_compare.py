@@ -7,13 +7,14 @@ import tracemalloc
 import unittest
 from pathlib import Path
 
-sys.path.insert(0, str(Path(__file__).parent.parent))
-from compare_log import Watcher, compare  # noqa: E402
-from mqroute_tools.inference import Beginning  # noqa: E402
-from mqroute_tools.state import State  # noqa: E402
-from mqroute_tools.writing import Logs  # noqa: E402
+from worked import HERE
+from mqroute_tools.log.broker_state import State
+from mqroute_tools.log.compare_log import compare
+from mqroute_tools.log.inference import Beginning
+from mqroute_tools.log.log_files import Logs
+from mqroute_tools.log.step_reader import Watcher
 
-TOOL = Path(__file__).parent.parent / "compare_log.py"
+TOOL = HERE / "compare_log.py"
 CONNECTS = "".join(f"New client connected from 1.2.3.4:5 as {c} ({p}, c1, k60).\n"
                    f"No will message specified.\nSending CONNACK to {c} (0, 0)\n"
                    for c, p in (("a", "p5"), ("b", "p5"), ("old", "p2")))

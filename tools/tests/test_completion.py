@@ -79,6 +79,9 @@ class Tab(unittest.TestCase):
         self.assertEqual(self.words(tools, "mqroute-search --port=ne\t"), ["--port=ne"])
         self.assertEqual(self.words(tools, "mqroute-log-to-script --sta\tne\t"),
                          ["--state", FILES[0]])
+        self.assertEqual(self.words(tools, "mqroute-tools who\t"), ["who-loses"])
+        self.assertEqual(self.words(tools, "mqroute-tools who-loses --by us\tne\t"),
+                         ["who-loses", "--by", "user", FILES[0]])
         self.assertEqual(self.words("mqroute", "mqroute --max-queued ne\t"), ["--max-queued", "ne"])
         self.assertEqual(self.words("mqroute-acl", "mqroute-acl rea\t"), ["reach"])
         self.assertEqual(self.words("mqroute-acl", "mqroute-acl why --user ne\t"),

@@ -1,13 +1,10 @@
 """The fields of each command are told in four places; each is as the table that check.py goes by,
 which test_schemas.py tries on the program."""
 import re
-import sys
 import unittest
 
-from worked import HERE, TOP
-
-sys.path.insert(0, str(HERE))
-from mqroute_tools.commands import COMMANDS, Field  # noqa: E402
+from worked import TOP
+from mqroute_tools.script.commands import COMMANDS, Field
 
 # what stands for the value of an optional field that is left out
 ABSENT = {"no user name", "none", "no access list"}

@@ -7,11 +7,10 @@ import tempfile
 import unittest
 from pathlib import Path
 
-HERE = Path(__file__).parent.parent
-sys.path.insert(0, str(HERE))
-from mqroute_tools.files import whole  # noqa: E402
+from worked import HERE, TOP
+from mqroute_tools.common.files import whole
 
-RECORDED = HERE.parent / "brokers/recorded"
+RECORDED = TOP / "brokers/recorded"
 SCRIPT = '{"do":"connect","client":"a"}\n{"do":"publish","client":"a","topic":"x"}\n'
 BEFORE = '{"line":1,"reason":0}\n{"line":2,"reason":16}\n'
 AFTER = '{"line":1,"reason":0}\n{"code":11,"line":2,"refused":"NotAuthorized"}\n'

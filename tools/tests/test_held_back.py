@@ -5,22 +5,22 @@ All are of 2.0.11, but `gone` of 2.0.21. `held` and `overlap` have max_inflight_
 """
 import io
 import json
-import sys
 import tempfile
 import unittest
 from pathlib import Path
 
-HERE = Path(__file__).parent
-sys.path[:0] = [str(HERE), str(HERE.parent)]
-from compare_log import Watcher, compare  # noqa: E402
-from mqroute_tools.conversion import placed_commands  # noqa: E402
-from mqroute_tools.inference import beginning  # noqa: E402
-from mqroute_tools.state import State  # noqa: E402
-from mqroute_tools.writing import Logs, Writer  # noqa: E402
+from worked import HERE
+from mqroute_tools.log.broker_state import State
+from mqroute_tools.log.compare_log import compare
+from mqroute_tools.log.conversion import placed_commands
+from mqroute_tools.log.inference import beginning
+from mqroute_tools.log.log_files import Logs
+from mqroute_tools.log.script_writer import Writer
+from mqroute_tools.log.step_reader import Watcher
 
 
 def log(name: str) -> str:
-    return (HERE / f"logs/{name}.log").read_text(encoding="utf-8")
+    return (HERE / f"tests/logs/{name}.log").read_text(encoding="utf-8")
 
 
 def copy(client: str, topic: str, size: int, qos: int = 1) -> dict:

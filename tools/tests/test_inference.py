@@ -2,7 +2,6 @@
 handed on from log to log."""
 import io
 import json
-import os
 import random
 import subprocess
 import sys
@@ -10,18 +9,16 @@ import tempfile
 import unittest
 from pathlib import Path
 
-sys.path.insert(0, str(Path(__file__).parent))
-from test_log_to_script import arrival, published, subscribing  # noqa: E402
-from mqroute_tools.conversion import placed_commands  # noqa: E402
-from mqroute_tools.inference import beginning  # noqa: E402
-from mqroute_tools.sessions import INFERRED, NONE, SEEN  # noqa: E402
-from mqroute_tools.state import State  # noqa: E402
-from mqroute_tools.topics import TopicTree, matches  # noqa: E402
-from mqroute_tools.writing import Writer  # noqa: E402
+from test_log_to_script import arrival, published, subscribing
+from worked import HERE, PROGRAM, TOP, wants_program
+from mqroute_tools.log.broker_state import State
+from mqroute_tools.log.clients import INFERRED, NONE, SEEN
+from mqroute_tools.log.conversion import placed_commands
+from mqroute_tools.log.inference import beginning
+from mqroute_tools.log.script_writer import Writer
+from mqroute_tools.script.topics import matches
 
-HERE = Path(__file__).parent.parent
 TOOL = HERE / "log_to_script.py"
-PROGRAM = Path(os.environ.get("MQROUTE", HERE.parent / "bin/mqroute"))
 FOREVER = 4294967295
 
 
@@ -276,11 +273,11 @@ class Told(unittest.TestCase):
             log=arrival("p") + arrival("b") + subscribing("b", ("x", 0)) + routed("x", "b"))
         self.assertEqual((status, len(told.splitlines())), (0, 1))
 
-    @unittest.skipUnless(PROGRAM.exists(), f"there is no {PROGRAM}")
+    @wants_program
     def test_half_of_a_recorded_log(self):
         """Each of the broker's 454 copies is explained, and with the one user name that the half
         doesn't have the script gives them all."""
-        lines = (HERE.parent / "brokers/recorded/plain.log").read_text(encoding="utf-8").splitlines(
+        lines = (TOP / "brokers/recorded/plain.log").read_text(encoding="utf-8").splitlines(
             True)
         with tempfile.TemporaryDirectory() as folder:
             Path(folder, "log").write_text("".join(lines[len(lines) // 2:]), encoding="utf-8")
@@ -292,7 +289,7 @@ class Told(unittest.TestCase):
             script = script.replace(
                 '"connect","client":"ops"}', '"connect","client":"ops","user":"ops"}')
             output = subprocess.run(
-                [PROGRAM, "--acl-file", HERE.parent / "brokers/recorded/plain.acl"],
+                [PROGRAM, "--acl-file", TOP / "brokers/recorded/plain.acl"],
                 input=script.encode(), capture_output=True).stdout
             Path(folder, "output").write_bytes(output)
             done = subprocess.run(
@@ -355,7 +352,7 @@ class States(unittest.TestCase):
     def test_from_log_to_log(self):
         """Two halves, the second with the state of the first, are like the whole, but for wills ("4
         bytes"), which no script has."""
-        lines = (HERE.parent / "brokers/recorded/plain.log").read_text(encoding="utf-8").splitlines(
+        lines = (TOP / "brokers/recorded/plain.log").read_text(encoding="utf-8").splitlines(
             True)
         half = next(i for i in range(len(lines) // 2, len(lines)) if "Received PUBLISH" in lines[i])
         with tempfile.TemporaryDirectory() as folder:
@@ -371,7 +368,7 @@ class States(unittest.TestCase):
                              (0, 0, 1), second.stderr)
             state = Path(folder, "state").read_text(encoding="utf-8")
             self.assertTrue(second.stdout.startswith(state))
-            whole = (HERE.parent / "brokers/recorded/plain.jsonl").read_text(encoding="utf-8")
+            whole = (TOP / "brokers/recorded/plain.jsonl").read_text(encoding="utf-8")
             joined = first.stdout + second.stdout[len(state):]
             commands = [[c for c in map(json.loads, text.splitlines()) if c["do"] != "advance"
                          and c.get("payload") != "4 bytes"] for text in (joined, whole)]
@@ -385,21 +382,6 @@ class States(unittest.TestCase):
             self.assertEqual(
                 (done.returncode, done.stderr),
                 (2, "log_to_script: state:1: no command of a script: looks like JSON\n"))
-
-
-class Filters(unittest.TestCase):
-    def test_matches(self):
-        for name, topic, wanted in (
-                ("a", "a", 1), ("a", "b", 0), ("+", "a", 1), ("+", "a/b", 0), ("a/#", "a", 1),
-                ("a/#", "a/b/c", 1), ("a/#", "b", 0), ("#", "a/b", 1), ("#", "$x", 0),
-                ("+/a", "$x/a", 0), ("$x/#", "$x/a", 1), ("a/+", "a/", 1), ("+/+", "/", 1),
-                ("+", "", 1), ("a/+/#", "a", 0)):
-            self.assertEqual(matches(name, topic), bool(wanted), (name, topic))
-            tree = TopicTree()
-            for each in (topic, "zz/top", "$zz"):
-                tree.add(each)
-            self.assertEqual(sorted(tree.matching(name)),
-                             sorted(t for t in (topic, "zz/top", "$zz") if matches(name, t)), name)
 
 
 if __name__ == "__main__":

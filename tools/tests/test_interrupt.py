@@ -15,10 +15,9 @@ from pathlib import Path
 from fake_broker import Fake, expiry_0_is_none
 from test_replay import PAHO, OnABroker
 from worked import HERE, PROGRAM, wants_program
-
-sys.path.insert(0, str(HERE))
-import search  # noqa: E402
-from mqroute import Oracle  # noqa: E402
+from mqroute import Oracle
+from mqroute_tools.search.finds import Search
+from mqroute_tools.search.search import searched
 
 # What a tool reads while it waits for more of its standard input.
 READING = {"log_to_script": ["-"], "check": ["-"], "compare_log": ["-", "out"],
@@ -83,7 +82,7 @@ class Searching(unittest.TestCase):
     def test_what_was_found(self):
         """After the 30th script it is stopped."""
         broker, scripts = Fake(expiry_0_is_none), []
-        one = search.Search(broker, Oracle(program=str(PROGRAM)))
+        one = Search(broker, Oracle(program=str(PROGRAM)))
         all_of = one.all_of
 
         def stopped(script):
@@ -95,8 +94,9 @@ class Searching(unittest.TestCase):
         options = argparse.Namespace(save=None, known=[], seed=1, without=[])
         with (contextlib.redirect_stdout(io.StringIO()) as out,
               contextlib.redirect_stderr(io.StringIO()) as told,
-              unittest.mock.patch("search.KNOWN", []), self.assertRaises(KeyboardInterrupt)):
-            search.searched(one, options)
+              unittest.mock.patch("mqroute_tools.search.search.KNOWN", []),
+              self.assertRaises(KeyboardInterrupt)):
+            searched(one, options)
         heads = [line.partition(", with")[0] for line in out.getvalue().splitlines()
                  if line.startswith("find ")]
         self.assertGreater(len(heads), 0)

@@ -8,11 +8,11 @@ import tempfile
 import unittest
 from pathlib import Path
 
-sys.path[:0] = [str(Path(__file__).parent), str(Path(__file__).parent.parent)]
-from mqroute_tools.conversion import Converter, placed_commands  # noqa: E402
-from test_log_to_script import arrival, convert, published, subscribing  # noqa: E402
+from test_log_to_script import arrival, convert, published, subscribing
+from worked import HERE
+from mqroute_tools.log.conversion import Converter, placed_commands
 
-TOOL = Path(__file__).parent.parent / "log_to_script.py"
+TOOL = HERE / "log_to_script.py"
 TAKEN = "Client a already connected, closing old connection.\n"
 CLOSED = "Client a closed its connection.\n"
 WILL = "Will message specified (3 bytes) (r1, q2).\n\tlast/words"

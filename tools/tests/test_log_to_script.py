@@ -1,13 +1,11 @@
 """The converter, on each kind of line that mosquitto writes, and on ones made to mislead it."""
 import io
 import json
-import sys
 import unittest
-from pathlib import Path
 
-sys.path.insert(0, str(Path(__file__).parent.parent))
-from mqroute_tools.conversion import Converter, placed_commands  # noqa: E402
-from log_to_script import text_of  # noqa: E402
+import worked  # noqa: F401  it knows where the tools are
+from mqroute_tools.log.conversion import Converter, placed_commands
+from mqroute_tools.log.log_to_script import text_of
 
 
 def convert(text: str | bytes, **options) -> tuple[list[dict], dict[str, int]]:

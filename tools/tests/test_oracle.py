@@ -3,17 +3,15 @@ planted in its broker."""
 import json
 import os
 import re
-import sys
 import tempfile
 import unittest
 from pathlib import Path
 from unittest import mock
 
 from worked import HERE, PROGRAM, UNBUFFERED, answers, wants_program, wants_unbuffered
-
-sys.path.insert(0, str(HERE))
-import mqroute  # noqa: E402
-from mqroute import Oracle, OracleFault  # noqa: E402
+import mqroute
+from mqroute import Oracle, OracleFault
+from mqroute_tools.common import programs
 
 CONNECT = [{"do": "connect", "client": c} for c in "ab"]
 SUBSCRIBE = {"do": "subscribe", "client": "b", "filter": "#", "qos": 1}
@@ -66,11 +64,14 @@ class Answers(unittest.TestCase):
     def test_which_program(self):
         self.assertEqual(mqroute.found_program(), str(PROGRAM))
         with mock.patch.dict(os.environ, MQROUTE=""), mock.patch.multiple(
-                mqroute, BUILT=Path("/nowhere"), INSTALLED=Path("/nowhere")):
+                programs, BUILT=Path("/nowhere"), INSTALLED=Path("/nowhere")):
             with mock.patch.dict(os.environ, PATH="/nowhere"):
                 self.assertEqual(mqroute.found_program(), "mqroute")
-            with mock.patch.object(mqroute, "INSTALLED", PROGRAM):
-                self.assertEqual(mqroute.found_program(), str(PROGRAM))
+            with tempfile.TemporaryDirectory() as folder:
+                installed = Path(folder, "mqroute")
+                installed.symlink_to(PROGRAM)
+                with mock.patch.object(programs, "INSTALLED", Path(folder)):
+                    self.assertEqual(mqroute.found_program(), str(installed))
 
     def test_large_scripts(self):
         """More than a pipe holds, in both directions."""

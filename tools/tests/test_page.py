@@ -1,6 +1,5 @@
 """The page, as a browser reads it: its numbers are those of --json, and what names hold is text."""
 import json
-import os
 import re
 import shutil
 import subprocess
@@ -10,13 +9,12 @@ import unittest
 from html.parser import HTMLParser
 from pathlib import Path
 
-HERE = Path(__file__).parent.parent
-RECORDED = HERE.parent / "brokers/recorded"
-PROGRAM = Path(os.environ.get("MQROUTE", HERE.parent / "bin/mqroute"))
+from worked import HERE, PROGRAM, TOP, wants_program
+
+RECORDED = TOP / "brokers/recorded"
 BROWSER = (
     shutil.which("chromium") or shutil.which("chromium-browser") or shutil.which("google-chrome"))
 wants_browser = unittest.skipUnless(BROWSER, "there is no chromium")
-wants_program = unittest.skipUnless(PROGRAM.exists(), f"there is no {PROGRAM}")
 
 ODD = ["<script>document.title='x'</script>", "a&amp;b\"'", "\u202eright\u0007",
        "\u05d0\u05d1 \u05d2", "(none)", " ", "</details></section>", "a · b"]

@@ -9,11 +9,12 @@ import tempfile
 import unittest
 from pathlib import Path
 
+from test_command_line import help_behind_name
 from worked import HERE, TOP
 
 # which make install wants
 BUILT = [TOP / f"crates/{name}/out/{name}" for name in ("mqroute", "mqroute_acl")]
-TOOLS = ("log_to_script", "who_loses", "replay", "compare_log", "check", "search")
+TOOLS = ("log_to_script", "who_loses", "replay", "compare_log", "check", "search", "tools")
 SECTIONS = ["NAME", "SYNOPSIS", "DESCRIPTION", "OPTIONS", "EXIT STATUS", "EXAMPLE", "SEE ALSO"]
 PROGRAMS = ("mqroute", "mqroute-acl")
 # What each page has under SEE ALSO at least.
@@ -150,6 +151,7 @@ class Installed(unittest.TestCase):
                 self.assertTrue(Path(folder, f"share/man/man1/{name}.1").exists()
                                 and os.access(f"{folder}/bin/{name}", os.X_OK))
             self.named_as_installed(folder)
+            self.subcommands(folder)
             self.completed(folder)
             self.make("uninstall", folder)
             self.assertEqual(
@@ -166,6 +168,13 @@ class Installed(unittest.TestCase):
                 [f"{folder}/bin/{words[0]}", *words[1:]], capture_output=True, text=True)
             self.assertEqual((done.returncode, done.stdout), (2, ""))
             self.assertRegex(done.stderr, "^" + said)
+
+    def subcommands(self, folder: str) -> None:
+        """Each link has the help that `mqroute-tools` gives."""
+        for name in map(installed_name, TOOLS[:-1]):
+            words = [f"{folder}/bin/mqroute-tools", name.removeprefix("mqroute-")]
+            self.assertEqual(help_behind_name([f"{folder}/bin/{name}"], name),
+                             help_behind_name(words, f"mqroute-tools {words[1]}"))
 
     def completed(self, folder: str) -> None:
         for tool in TOOLS:

@@ -1,16 +1,13 @@
 """The random scripts, how they are made smaller, and which differences are of one kind."""
 import json
 import random
-import sys
 import unittest
 
-from worked import HERE, PROGRAM, wants_program
-
-sys.path.insert(0, str(HERE))
-from mqroute_tools.kinds import Kind, apart, uses  # noqa: E402
-from mqroute import Oracle  # noqa: E402
-from mqroute_tools.random_scripts import ACCESS, PARTS, Maker, Use, fresh, with_names  # noqa: E402
-from mqroute_tools.shrinking import connected, shrink  # noqa: E402
+from worked import PROGRAM, wants_program
+from mqroute import Oracle
+from mqroute_tools.search.difference_kinds import Kind, separate, uses
+from mqroute_tools.search.random_scripts import ACCESS, PARTS, Maker, Use, fresh, with_names
+from mqroute_tools.search.shrinking import connected, shrink
 
 A = {"do": "connect", "client": "a"}
 X = {"do": "subscribe", "client": "a", "filter": "x"}
@@ -83,7 +80,7 @@ class Shrinks(unittest.TestCase):
 
 class Kinds(unittest.TestCase):
     def whats(self, ours: str, theirs: str, *more: str, head: str = "   a x") -> list[str]:
-        return [one.what for one in apart(
+        return [one.what for one in separate(
             3, "publish", [head, f"      mqroute: {ours}", f"      broker:  {theirs}", *more])]
 
     def test_what_differs(self):
@@ -110,7 +107,7 @@ class Kinds(unittest.TestCase):
         nobody = "   reason: mqroute 0, broker 16"
         self.assertEqual(self.whats('qos 0, retain false, payload ""', "nothing", nobody),
                          ["publish: missing"] * 2)
-        self.assertEqual([one.what for one in apart(3, "publish", [nobody])],
+        self.assertEqual([one.what for one in separate(3, "publish", [nobody])],
                          ["publish: reason: mqroute 0, broker 16"])
 
     def test_covers(self):

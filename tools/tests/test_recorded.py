@@ -14,12 +14,13 @@ import tempfile
 import unittest
 from pathlib import Path
 
-HERE = Path(__file__).parent.parent
-RECORDED = HERE.parent / "brokers/recorded"
-PROGRAM = Path(os.environ.get("MQROUTE", HERE.parent / "bin/mqroute"))
-ACL_PROGRAM = HERE.parent / "bin/mqroute-acl"
+from worked import HERE, PROGRAM, TOP, wants_program
+from mqroute_tools.log.conversion import Converter, placed_commands
+from mqroute_tools.log.log_to_script import text_of
+
+RECORDED = TOP / "brokers/recorded"
+ACL_PROGRAM = TOP / "bin/mqroute-acl"
 SESSIONS = ["--session-expiry", "3600"]  # as record_clients.py asks for
-wants_program = unittest.skipUnless(PROGRAM.exists(), f"there is no {PROGRAM}")
 
 
 def mqroute(script: bytes, *words: str) -> bytes:
@@ -78,9 +79,6 @@ class Recorded(unittest.TestCase):
 
     def test_time_stamps_of_other_forms(self):
         """The same log without stamps gives the same script without `advance`."""
-        sys.path.insert(0, str(HERE))
-        from mqroute_tools.conversion import Converter, placed_commands
-        from log_to_script import text_of
         plain = re.sub(rb"(?m)^\d+: ", b"", (RECORDED / "plain.log").read_bytes())
         found = [text_of(c) for _, c in placed_commands(Converter(), [io.BytesIO(plain)])]
         wanted = (RECORDED / "plain.jsonl").read_text(encoding="utf-8").splitlines()
@@ -91,7 +89,7 @@ class Scripts(unittest.TestCase):
     @wants_program
     def test_outputs(self):
         """Each script of differences/ gives the output that the broker was compared with."""
-        for script in sorted((HERE.parent / "brokers/differences").rglob("*.jsonl")):
+        for script in sorted((TOP / "brokers/differences").rglob("*.jsonl")):
             words = (["--acl-file", script.with_suffix(".acl")]
                      if script.with_suffix(".acl").exists() else [])
             if script.with_suffix(".options").exists():
@@ -103,12 +101,12 @@ class Scripts(unittest.TestCase):
     def test_each_is_told_of(self):
         """docs/BROKERS.md names each script in its broker's section, and stands the ones
         that differ in its table."""
-        sections = (HERE.parent / "docs/BROKERS.md").read_text(encoding="utf-8").split("\n## ")
+        sections = (TOP / "docs/BROKERS.md").read_text(encoding="utf-8").split("\n## ")
         by_broker = {section.split(" ")[0].lower(): section for section in sections}
         agreement = next(
             section for section in sections if section.startswith("Where mosquitto agrees"))
         folders = sorted(
-            path for path in (HERE.parent / "brokers/differences").iterdir() if path.is_dir())
+            path for path in (TOP / "brokers/differences").iterdir() if path.is_dir())
         self.are_named("brokers/differences", by_broker["mosquitto"], agreement)
         for folder in folders:
             section = by_broker[folder.name]
@@ -118,17 +116,17 @@ class Scripts(unittest.TestCase):
         self.assertGreater(len(folders), 1)
 
     def are_named(self, folder: str, table: str, agreement: str) -> None:
-        for script in (HERE.parent / folder).glob("*.jsonl"):
+        for script in (TOP / folder).glob("*.jsonl"):
             differs = script.with_suffix(".diff").stat().st_size > 0
             self.assertIn(f"`{script.stem}`", table if differs else table + agreement)
-        for name in (HERE.parent / folder).glob("*-*.acl"):
+        for name in (TOP / folder).glob("*-*.acl"):
             if name.stem.startswith(("refused-", "taken-")):
                 self.assertIn(f"`{name.stem}`", table)
 
     @wants_program
     def test_lists_that_the_broker_refuses(self):
         """mqroute reads each."""
-        lists = sorted((HERE.parent / "brokers/differences").glob("refused-*.acl"))
+        lists = sorted((TOP / "brokers/differences").glob("refused-*.acl"))
         self.assertGreater(len(lists), 3)
         for name in lists:
             self.assertEqual(mqroute(b'{"do":"connect","client":"a"}\n', "--acl-file", name),
@@ -137,7 +135,7 @@ class Scripts(unittest.TestCase):
     @wants_program
     def test_lists_that_the_broker_takes(self):
         """mqroute refuses each."""
-        lists = sorted((HERE.parent / "brokers/differences").glob("taken-*.acl"))
+        lists = sorted((TOP / "brokers/differences").glob("taken-*.acl"))
         self.assertGreater(len(lists), 2)
         for name in lists:
             done = subprocess.run([PROGRAM, "--acl-file", name], input=b"", capture_output=True)
@@ -150,7 +148,7 @@ class Readme(unittest.TestCase):
         compares what they print."""
         with tempfile.TemporaryDirectory() as folder:
             for name in ("tools", "brokers"):
-                shutil.copytree(HERE.parent / name, Path(folder, name),
+                shutil.copytree(TOP / name, Path(folder, name),
                                 ignore=shutil.ignore_patterns("__pycache__"))
             Path(folder, "mqroute").symlink_to(PROGRAM)
             Path(folder, "mqroute-acl").symlink_to(ACL_PROGRAM)

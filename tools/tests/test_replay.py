@@ -1,4 +1,4 @@
-"""What is compared with a live broker; and a run on one, where mosquitto and paho are there."""
+"""A script on a live broker, where mosquitto and paho are there."""
 import io
 import json
 import os
@@ -13,104 +13,7 @@ from pathlib import Path
 import mosquitto
 from mosquitto import PAHO, wants_paho
 from worked import HERE, PROGRAM, wants_program
-
-sys.path.insert(0, str(HERE))
-from mqroute_tools.agreement import (  # noqa: E402
-    Acknowledged, Copy, Sessions, different_copies, different_order, different_reasons)
-from mqroute_tools.output import Block  # noqa: E402
-from mqroute_tools.progress import Progress  # noqa: E402
-
-COPY = Copy("b", "x", 1, True, "p", [3, 7], 9)
-
-
-class Copies(unittest.TestCase):
-    OURS = [COPY._replace(qos=0, ids=[7]), COPY._replace(retain=False, ids=[3])]
-
-    def differ(self, ours: list[Copy], theirs: list[Copy], *filters: str) -> list[str]:
-        sessions = Sessions()
-        for name in filters:
-            sessions.follow({"do": "subscribe", "client": "b", "filter": name})
-        return different_copies(ours, theirs, sessions)
-
-    def test_joined(self):
-        for theirs in (self.OURS, self.OURS[::-1], [c._replace(expiry=8) for c in self.OURS]):
-            self.assertEqual(self.differ(self.OURS, theirs), [])
-
-    def test_differs(self):
-        for more in ({"qos": 0}, {"retain": False}, {"ids": [3]}, {"payload": "q"}, {"expiry": 5},
-                     {"expiry": None}):
-            self.assertEqual(len(self.differ([COPY], [COPY._replace(**more)])), 3, more)
-        self.assertEqual(self.differ([COPY], [])[2], "      broker:  nothing")
-        self.assertEqual(self.differ([], [COPY])[1], "      mqroute: nothing")
-
-    def test_two_messages(self):
-        """Each by itself, if their payloads differ."""
-        first, second = COPY, COPY._replace(payload="q", retain=False, expiry=500)
-        self.assertEqual(self.differ([first, second], [second, first]), [])
-        for more in ({"expiry": 400}, {"expiry": None}, {"retain": True}, {"qos": 0}, {"ids": [3]}):
-            for ours in ([first, second], [second, first]):
-                theirs = [copy._replace(**more) if copy == second else copy for copy in ours]
-                texts = self.differ(ours, theirs)
-                self.assertEqual(len(texts), 3, more)
-                self.assertTrue('"q"' in texts[1] and '"p"' not in texts[1], texts)
-
-    def test_how_many(self):
-        """One copy for each subscription that matches, and no more."""
-        plain = COPY._replace(ids=[])
-        self.assertEqual(self.differ([plain], [plain] * 3),
-                         ["   b x", "      mqroute: 1 copy", "      broker:  3 copies"])
-        self.assertEqual(self.differ([plain], [plain] * 3, "x", "#", "+"), [])
-        self.assertEqual(len(self.differ([plain], [plain] * 3, "x", "#", "y")), 3)
-        self.assertEqual(len(self.differ([plain] * 2, [plain])), 3)
-
-    def test_order_of_what_waited(self):
-        def messages(*texts: str, qos: int = 1) -> list[Copy]:
-            return [COPY._replace(payload=t, qos=qos) for t in texts]
-        self.assertEqual(different_order(messages("1", "2"), messages("1", "1", "2")), [])
-        self.assertEqual(
-            different_order(messages("1", "2"), messages("2", "1")),
-            ["   b order", '      mqroute: x "1", x "2"', '      broker:  x "2", x "1"'])
-        self.assertEqual(different_order(messages("1") + messages("2", qos=2),
-                                         messages("2", qos=2) + messages("1")), [])
-
-
-class Reasons(unittest.TestCase):
-    def differ(self, do: str, ours: int | None, theirs: int | None, **more) -> list[str]:
-        refused = "NotAuthorized" if ours is None else None
-        return different_reasons(
-            {"do": do}, Block(1, [], ours, refused), Acknowledged(theirs), False, **more)
-
-    def test_same(self):
-        for do, ours, theirs in (("unsubscribe", 17, 17), ("subscribe", 1, 1), ("publish", 16, 16),
-                                 ("publish", None, 135), ("publish", 16, 0), ("publish", 16, None)):
-            self.assertEqual(self.differ(do, ours, theirs), [], (do, ours, theirs))
-        self.assertEqual(self.differ("subscribe", 2, 1, greatest_qos=1), [])
-
-    def test_differs(self):
-        for do, ours, theirs in (
-                ("unsubscribe", 0, 17), ("unsubscribe", 17, 0), ("subscribe", 1, 128),
-                ("publish", 0, 16), ("publish", 0, 135), ("publish", 16, 135)):
-            self.assertEqual(
-                self.differ(do, ours, theirs), [f"   reason: mqroute {ours}, broker {theirs}"])
-        self.assertEqual(self.differ("publish", None, 0), ["   reason: mqroute 135, broker 0"])
-
-    def test_session_present(self):
-        block, connect = Block(1, [], 0, None), {"do": "connect", "client": "b"}
-        self.assertEqual(different_reasons(connect, block, Acknowledged(0, True), True), [])
-        self.assertEqual(different_reasons(connect, block, Acknowledged(0, True), False),
-                         ["   session present: mqroute 0, broker 1"])
-
-    def test_which_sessions_there_are(self):
-        sessions = Sessions()
-        again = {"do": "connect", "client": "b", "clean": False, "session_expiry": 9}
-        leave = {"do": "disconnect", "client": "b"}
-        for command, present in (
-                (again, True), (leave, True), (again, True), (leave, True),
-                ({"do": "advance", "seconds": 9}, False),
-                (again | {"session_expiry": 0}, False), (leave, False), (again, True),
-                (again | {"clean": True, "session_expiry": 0}, False)):
-            sessions.follow(command)
-            self.assertEqual(sessions.present(again), present, command)
+from mqroute_tools.common.progress import Progress
 
 
 class OnATerminal(unittest.TestCase):
@@ -284,8 +187,8 @@ class Runs(OnABroker):
     def test_which_are_wills(self):
         code = """if True:
             import json
-            from mqroute_tools.output import Block
-            from mqroute_tools.wills import Wills
+            from mqroute_tools.script.output import Block
+            from mqroute_tools.live.wills import Wills
             def lines(*commands, mine=False):
                 copy = {"client": "a", "line": 2, "payload": "will", "qos": 0, "retain": False,
                         "topic": "x"}
@@ -321,11 +224,11 @@ class Runs(OnABroker):
         """mosquitto can't do without these."""
         code = """if True:
             from types import SimpleNamespace
-            from mqroute_tools.live import Offer
+            from mqroute_tools.live.paho_client import Offer
             poor = Offer(SimpleNamespace(
                 SharedSubscriptionAvailable=0, WildcardSubscriptionAvailable=0,
                 SubscriptionIdentifierAvailable=0))
-            from mqroute_tools.offered import fitted_script
+            from mqroute_tools.live.script_fitting import fitted_script
             lines = [b'{"do":"subscribe","client":"a","filter":"$share/g/x"}\\n', b"\\n",
                      b'{"do":"subscribe","client":"a","filter":"x","id":1}\\n',
                      b'{"do":"unsubscribe","client":"a","filter":"x/+"}\\n', b'{"do":"stat"}\\n']
@@ -348,7 +251,7 @@ class Runs(OnABroker):
         """As after Ctrl-C in the middle of a packet: it isn't waited for."""
         code = """if True:
             from types import SimpleNamespace
-            from mqroute_tools.live import Connection
+            from mqroute_tools.live.paho_client import Connection
             gone = Connection.__new__(Connection)
             gone.client = SimpleNamespace(want_write=lambda: True, socket=lambda: None,
                                           loop_write=lambda: None)

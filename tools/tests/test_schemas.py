@@ -1,15 +1,12 @@
 """The schemas against the worked scripts, the program's answers, and the table
 that check.py goes by."""
 import json
-import sys
 import unittest
 from typing import Any
 
-from worked import HERE, TOP, answers, no_commands, scripts, wants_program
-
-sys.path.insert(0, str(HERE))
-from mqroute_tools.commands import COMMANDS, Field, is_blank  # noqa: E402
-from mqroute_tools.strict_json import NoJson, read  # noqa: E402
+from worked import TOP, answers, no_commands, scripts, wants_program
+from mqroute_tools.script.commands import COMMANDS, Field, is_blank
+from mqroute_tools.script.strict_json import NoJson, read
 
 COMMAND, ANSWER = (json.loads((TOP / "schemas" / f"{name}.schema.json").read_text("utf-8"))
                    for name in ("command", "answer"))

@@ -4,26 +4,24 @@ import json
 import os
 import random
 import subprocess
-import sys
 import tempfile
 import unittest
 import unittest.mock
 from pathlib import Path
 
 import mosquitto
-from mosquitto import PAHO, wants_paho
-from worked import HERE, PROGRAM, wants_program
-
-sys.path.insert(0, str(HERE))
-import search  # noqa: E402
-from mqroute_tools.ending import Fault  # noqa: E402
-from fake_broker import (  # noqa: E402
+from fake_broker import (
     Fake, drops_wills, expiry_0_is_none, forgets_sessions, keeps_first_options,
     keeps_what_is_cleared)
-from mqroute_tools.kinds import Difference, Kind  # noqa: E402
-from mqroute import Oracle  # noqa: E402
-from mqroute_tools.random_scripts import Maker, Use  # noqa: E402
-from search import Search, known_scripts, learn  # noqa: E402
+from mosquitto import PAHO, wants_paho
+from worked import HERE, PROGRAM, wants_program
+from mqroute import Oracle
+from mqroute_tools.common.exit_status import Fault
+from mqroute_tools.search.difference_kinds import Difference, Kind
+from mqroute_tools.search.finds import Find, Search
+from mqroute_tools.search.known_scripts import known_scripts, learn
+from mqroute_tools.search.random_scripts import Maker, Use
+from mqroute_tools.search.search import show
 
 A = {"do": "connect", "client": "a"}
 X = {"do": "subscribe", "client": "a", "filter": "x"}
@@ -32,7 +30,7 @@ CLEAR = {"payload": "", "qos": 1, "retain": True}
 
 
 def searched(broker: Fake, scripts: int, folders: list[Path] = [],
-             seed: int = 1) -> list[search.Find]:
+             seed: int = 1) -> list[Find]:
     """What so many scripts find."""
     one = Search(broker, Oracle(program=str(PROGRAM)))
     learn(one, folders)
@@ -59,7 +57,7 @@ class Finds(unittest.TestCase):
             ("publish: retain", [A, X | {"rap": True}, PUBLISH | CLEAR])],
     }
 
-    def first(self, bug, scripts: int) -> search.Find:
+    def first(self, bug, scripts: int) -> Find:
         one = Search(Fake(bug), Oracle(program=str(PROGRAM)))
         maker = Maker(random.Random(1), one.broker.use)
         for _ in range(scripts):
@@ -93,16 +91,16 @@ class Finds(unittest.TestCase):
         script = "".join(line + "\n" for line in find.lines())
         done = subprocess.run([PROGRAM], input=script, capture_output=True, text=True)
         self.assertEqual(done.stdout.splitlines(), find.output())
-        self.assertEqual(find.told()[0], f"line {len(find.script)}: {json.dumps(find.script[-1])}")
-        self.assertEqual(find.told()[1], "   a x")
-        self.assertNotIn("Z", "".join(find.told() + find.lines()))
+        head = f"line {len(find.script)}: {json.dumps(find.script[-1])}"
+        self.assertEqual(find.report()[:2], [head, "   a x"])
+        self.assertNotIn("Z", "".join(find.report() + find.lines()))
 
     def test_what_is_found_is_known_then(self):
         """Saved finds are passed over; another bug isn't."""
         with tempfile.TemporaryDirectory() as folder:
             with open(os.devnull, "w") as nowhere, unittest.mock.patch("sys.stdout", nowhere):
                 for number, find in enumerate(searched(Fake(expiry_0_is_none), 150), 1):
-                    search.show(find, number, Path(folder))
+                    show(find, number, Path(folder))
             self.assertTrue(number < 12 and Path(folder, "find-1.out").exists())
             self.assertEqual(
                 [find.kind for find in searched(Fake(expiry_0_is_none), 150, [Path(folder)])], [])
@@ -192,11 +190,10 @@ class Live(unittest.TestCase):
         """The same names twice, on a broker that may not have kept anything; what it
         doesn't offer isn't asked for."""
         code = f"""if True:
-            import argparse, sys
-            sys.path[:0] = ["tests"]
-            from mqroute_tools.live_side import LiveBroker
+            from mqroute_tools.live.options import BrokerOptions
+            from mqroute_tools.search.live_broker import LiveBroker
             from mqroute import Oracle
-            options = argparse.Namespace(
+            options = BrokerOptions(
                 host="127.0.0.1", port={self.start()}, username=None, password=None, patience=5,
                 settle=0, on_acl=None)
             broker = LiveBroker(options)

@@ -6,7 +6,9 @@ import tempfile
 import unittest
 from pathlib import Path
 
-TOOL = Path(__file__).parent.parent / "who_loses.py"
+from worked import HERE
+
+TOOL = HERE / "who_loses.py"
 
 
 def copy(line: int, client: str, topic: str, **more) -> str:

@@ -1,14 +1,10 @@
 """A file of another kind in place of a log, a script or an output: what it looks like."""
 import gzip
-import sys
 import unittest
 
 from test_files import BEFORE, LOG, RECORDED, SCRIPT, Case
-from worked import HERE
-
-sys.path.insert(0, str(HERE))
-from mqroute_tools.looks import OF_MOSQUITTO, kind  # noqa: E402
-from mqroute_tools.stamps import LOOKED_AT, Stamps  # noqa: E402
+from mqroute_tools.log.time_stamps import LOOKED_AT, Stamps
+from mqroute_tools.script.file_kinds import OF_MOSQUITTO, kind
 
 A_LOG = LOG.format(1795358535, 1795358536)
 EMQX = "2026-11-26T10:00:00.123456+00:00 [info] msg: client_connected, clientid: a\n"

@@ -1,14 +1,16 @@
-"""What several tests share: the program, and the worked scripts of tests/rows and
-examples with its answers."""
+"""What several tests share: where the tools are, which who imports them has to know first; the
+program; and the worked scripts of tests/rows and examples with its answers."""
 import json
 import os
 import subprocess
+import sys
 import unittest
 from collections.abc import Iterator
 from pathlib import Path
 
 HERE = Path(__file__).parent.parent
 TOP = HERE.parent
+sys.path.insert(0, str(HERE))
 PROGRAM = Path(os.environ.get("MQROUTE", TOP / "bin/mqroute"))
 wants_program = unittest.skipUnless(PROGRAM.exists(), f"there is no {PROGRAM}")
 UNBUFFERED = PROGRAM.exists() and "--unbuffered" in subprocess.run(

@@ -1,0 +1,104 @@
+"""The command line: mqroute-tools SUBCOMMAND .., and each subcommand under a name of its own.
+
+At Ctrl-C it ends in one line from its beginning on: what takes time to load is imported behind
+that.
+"""
+import importlib
+import sys
+from typing import TYPE_CHECKING, NamedTuple, Protocol, cast
+
+from .common import interrupt
+
+if TYPE_CHECKING:
+    from argparse import ArgumentParser, Namespace
+
+NAME = "mqroute-tools"
+
+
+class Entry(NamedTuple):
+    module: str
+    summary: str  # on one line of 80 columns, in the list
+
+
+SUBCOMMANDS = {
+    "log-to-script": Entry("log.log_to_script", "makes a script for mqroute of a mosquitto log"),
+    "who-loses": Entry(
+        "losses.who_loses", "tells who loses which copies between two runs of a script"),
+    "replay": Entry("live.replay", "runs a script on a live broker and compares with mqroute"),
+    "compare-log": Entry(
+        "log.compare_log", "compares a mosquitto log's own copies with mqroute's"),
+    "check": Entry("script.check", "names what is wrong in a script's lines"),
+    "search": Entry(
+        "search.search", "searches for differences between a live broker and mqroute"),
+}
+
+
+class Subcommand(Protocol):
+    """What the module of a subcommand has."""
+
+    def add_arguments(self, parser: "ArgumentParser") -> None: ...
+
+    def run(self, options: "Namespace") -> int:
+        """Gives the exit status. Raises UsageFault where the arguments don't go together."""
+
+
+def run(name: str) -> int:
+    """Runs a subcommand with the arguments of the process, under the name that stands there."""
+    interrupt.handle(interrupt.stop)
+    from argparse import ArgumentParser
+    from .common import exit_status
+    subcommand = cast(
+        Subcommand, importlib.import_module(f".{SUBCOMMANDS[name].module}", __package__))
+    parser = ArgumentParser()
+    subcommand.add_arguments(parser)
+
+    def work() -> int:
+        options = parser.parse_args()
+        try:
+            return subcommand.run(options)
+        except exit_status.UsageFault as fault:
+            parser.error(str(fault))
+    return exit_status.run(work)
+
+
+def main() -> int:
+    """mqroute-tools: the first argument names the subcommand, which has the others."""
+    sys.argv[0] = NAME
+    interrupt.handle(interrupt.stop)
+    import argparse
+    listed = "".join(f"  {name:13}  {entry.summary}\n" for name, entry in SUBCOMMANDS.items())
+    parser = argparse.ArgumentParser(
+        usage=f"{NAME} [-h] SUBCOMMAND ..",
+        description="Tools between mqroute and a real broker. Each subcommand has --help.",
+        epilog=f"subcommands:\n{listed}", formatter_class=argparse.RawDescriptionHelpFormatter)
+    parser.add_argument(
+        "subcommand", metavar="SUBCOMMAND", choices=SUBCOMMANDS, help=argparse.SUPPRESS)
+    rest = parser.add_argument("arguments", nargs=argparse.REMAINDER, help=argparse.SUPPRESS)
+    rest.required = False  # by itself from Python 3.12 on
+    options = parser.parse_args()
+    sys.argv = [f"{NAME} {options.subcommand}", *options.arguments]
+    return run(options.subcommand)
+
+
+def log_to_script() -> int:
+    return run("log-to-script")
+
+
+def who_loses() -> int:
+    return run("who-loses")
+
+
+def replay() -> int:
+    return run("replay")
+
+
+def compare_log() -> int:
+    return run("compare-log")
+
+
+def check() -> int:
+    return run("check")
+
+
+def search() -> int:
+    return run("search")

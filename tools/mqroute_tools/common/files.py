@@ -1,0 +1,125 @@
+"""The files that a tool reads and writes: packed or not, standard input, none of them both."""
+import errno
+import gzip
+import io
+import os
+import stat
+import sys
+import zlib
+from collections.abc import Iterable, Iterator, Mapping
+from contextlib import contextmanager
+from typing import TYPE_CHECKING, BinaryIO, TextIO, cast
+
+from .exit_status import Fault, UsageFault
+
+if TYPE_CHECKING:
+    from _typeshed import WriteableBuffer
+
+STDIN = "-"
+GZIP = b"\x1f\x8b"  # how a file begins that gzip packed
+PIECE = 1 << 16
+
+
+class Unpacked(io.RawIOBase):
+    """What a file packed by gzip holds. Where it is damaged, its name is said."""
+
+    def __init__(self, packed: BinaryIO, name: str) -> None:
+        self.packed, self.name = packed, name
+        self.stream = gzip.GzipFile(fileobj=packed)
+
+    def readable(self) -> bool:
+        return True
+
+    def readinto(self, buffer: "WriteableBuffer") -> int:
+        room = memoryview(buffer)
+        try:
+            data = self.stream.read1(len(room))
+        except (EOFError, gzip.BadGzipFile, zlib.error) as fault:
+            raise Fault(f"{self.name}: packed by gzip, and damaged: {fault}") from fault
+        room[:len(data)] = data
+        return len(data)
+
+    def close(self) -> None:
+        self.packed.close()
+        super().close()
+
+
+def open_input(name: str) -> io.BufferedReader:
+    """A file, packed by gzip or not; `-` is standard input."""
+    # the type of sys.stdin says less than it is
+    plain = cast(io.BufferedReader, sys.stdin.buffer) if name == STDIN else open(name, "rb")
+    if plain.peek(len(GZIP))[:len(GZIP)] != GZIP:
+        return plain
+    return io.BufferedReader(Unpacked(plain, name), PIECE)
+
+
+def open_text(name: str) -> TextIO:
+    return io.TextIOWrapper(open_input(name), encoding="utf-8", newline="\n")
+
+
+def at(name: str, line: int) -> str:
+    """The place of a line, as editors take it."""
+    return f"{name}:{line}"
+
+
+# -- not the same file
+
+def plain_file(name: str | int) -> os.stat_result | None:
+    """Of what name it ever is; nothing of pipes and devices."""
+    try:
+        found = os.fstat(name) if isinstance(name, int) else os.stat(name)
+    except OSError:
+        return None
+    return found if stat.S_ISREG(found.st_mode) else None
+
+
+def refuse_stdin_twice(read: list[str | None]) -> None:
+    if read.count(STDIN) > 1:
+        raise UsageFault("standard input can be read once")
+
+
+def keep_apart(read: Iterable[str | None], written: Mapping[str, str | None] = {}) -> None:
+    """Refuses a file that is read and written: `written` by their options, and standard output."""
+    sources = {name: plain_file(0 if name == STDIN else name) for name in read if name is not None}
+    targets = {f"{option} {name}": plain_file(name)
+               for option, name in written.items() if name is not None}
+    output = plain_file(1)
+    for said, target in targets.items():
+        if target and output and os.path.samestat(target, output):
+            raise Fault(f"{said}: standard output goes to this file too")
+    for said, target in (targets | {"standard output": output}).items():
+        for name, source in sources.items():
+            if target and source and os.path.samestat(target, source):
+                which = "standard input" if name == STDIN else name
+                raise Fault(f"{said}: it would overwrite {which}, which is read too")
+
+
+@contextmanager
+def whole(name: str) -> Iterator[BinaryIO]:
+    """A file that is written whole or not at all: beside its place, and then renamed.
+
+    What is no plain file, or stands in a folder where none can be made, is written where it is.
+    """
+    old, path = plain_file(name), os.path.realpath(name)
+    if old and not os.access(name, os.W_OK):
+        raise PermissionError(errno.EACCES, os.strerror(errno.EACCES), name)
+    beside = os.path.join(os.path.dirname(path), f".mqroute-{os.getpid()}.part")
+    try:
+        out = None if os.path.exists(name) and not old else open(beside, "xb")
+    except OSError as fault:
+        if not old:
+            raise type(fault)(fault.errno, fault.strerror, name) from fault
+        out = None
+    if out is None:
+        with open(name, "wb") as there:
+            yield there
+        return
+    try:
+        with out:
+            yield out
+        if old:
+            os.chmod(beside, stat.S_IMODE(old.st_mode))
+        os.replace(beside, path)
+    except BaseException:
+        os.unlink(beside)
+        raise

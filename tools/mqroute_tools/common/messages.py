@@ -1,0 +1,34 @@
+"""What a tool tells on standard error, and how it words numbers and failures."""
+import os
+import sys
+from pathlib import Path
+
+SINGULARS = {"copies": "copy", "publishes": "publish"}
+
+
+def own_name() -> str:
+    """The tool's name, as it was called: log_to_script in a clone,
+    mqroute-log-to-script where it is installed."""
+    return Path(sys.argv[0]).stem
+
+
+def tell(text: str) -> None:
+    print(f"{own_name()}: {text}", file=sys.stderr)
+
+
+def one_of(noun: str) -> str:
+    return SINGULARS.get(noun, noun.removesuffix("s"))
+
+
+def counted(number: int, things: str) -> str:
+    """`1 line read`, `2 lines read`: the first word of `things` is a plural."""
+    noun, blank, rest = things.partition(" ")
+    return f"{number} {one_of(noun) if number == 1 else noun}{blank}{rest}"
+
+
+def in_words(fault: Exception) -> str:
+    """`x: No such file or directory`, as other programs say it."""
+    if not isinstance(fault, OSError) or not fault.strerror:
+        return str(fault)
+    name = os.fsdecode(fault.filename) if isinstance(fault.filename, (str, bytes)) else ""
+    return f"{name}: {fault.strerror}" if name else fault.strerror

@@ -1,0 +1,1 @@
+"""A script on a live broker, and where the broker's answers differ from mqroute's."""

@@ -1,0 +1,184 @@
+"""A run of commands on a live broker, one after another, with what differs
+from mqroute's answers."""
+import os
+import select
+import subprocess
+import tempfile
+import time
+from collections import Counter
+from collections.abc import Callable
+
+from ..common.exit_status import Fault
+from ..script.output import Block, Command
+from ..script.sessions import Sessions
+from .broker_diff import (
+    Acknowledged, Copy, copies_of, different_copies, different_order, different_reasons)
+from .options import BrokerOptions
+from .paho_client import Connection, Offer
+from .wills import Wills
+
+# nobody subscribes to it; its UNSUBACK tells that all that was sent before has come
+FENCE = "mqroute/fence"
+QUIET_ROUNDS = 2  # a copy of QoS 2 wants two fences: one for PUBLISH, one for PUBREL
+ACL_PAUSE = 0.3  # seconds that a broker gets to read an access list
+LONGEST_PAUSE = 86_400  # seconds that an `advance` may take, in real time
+WILL_PAUSE = 0.1  # and to see that a connection is gone
+ALL_ALLOWED = "pattern readwrite #\npattern readwrite $SYS/#\n"  # in place of no access list
+
+
+class Closed(Exception):
+    """The broker closed a client's connection: a difference, and the end of the run."""
+
+
+class Replay:
+    def __init__(self, options: BrokerOptions) -> None:
+        self.options = options
+        self.live: dict[str, Connection] = {}
+        self.sessions = Sessions()
+        self.offer = Offer()
+        self.remarks: Counter[str] = Counter()  # what to say at the end, with {} for the number
+        self.sys_topics: set[str] = set()  # under $SYS/, that the script publishes
+        self.wills = Wills()
+        self.line = 0
+
+    # -- waiting
+
+    def pump(self, done: Callable[[], bool], what: str) -> None:
+        """Reads and writes on all connections until `done`."""
+        end = time.monotonic() + self.options.patience
+        while not done():
+            if time.monotonic() > end:
+                raise Fault(f"line {self.line}: no {what} within {self.options.patience:g} seconds")
+            by_socket = {c.client.socket(): c for c in self.live.values() if c.client.socket()}
+            for connection in by_socket.values():
+                connection.write()
+            ready, _, _ = select.select(list(by_socket), [], [], 0.02)
+            for readable in ready:
+                by_socket[readable].read()
+
+    def wait(self, connection: Connection, key: int | str, what: str) -> Acknowledged:
+        self.pump(lambda: key in connection.answered or "closed" in connection.answered, what)
+        if key not in connection.answered:
+            raise Closed(f"the broker closed the connection of {connection.name}; the lines after "
+                         "this one are not run")
+        return connection.answered.pop(key)
+
+    def fence(self) -> None:
+        marks = [(c, c.client.unsubscribe(FENCE)[1]) for c in self.live.values()]
+        for connection, mark in marks:
+            self.wait(connection, mark, "UNSUBACK")
+
+    def quiet(self) -> None:
+        """Until nothing more comes."""
+        idle, count = 0, -1
+        time.sleep(self.options.settle)
+        while idle < QUIET_ROUNDS:
+            self.fence()
+            now = sum(len(c.got) for c in self.live.values())
+            idle, count = (idle + 1, count) if now == count else (0, now)
+
+    # -- commands
+
+    def let_pass(self, seconds: int) -> None:
+        """A little more, so that what ends then has ended."""
+        if seconds > LONGEST_PAUSE:
+            raise Fault(f"line {self.line}: advance waits in real time, and {seconds} seconds "
+                        f"are over a day")
+        time.sleep(seconds + 0.1)
+
+    def do(self, command: Command) -> Acknowledged:
+        """Sends one command; gives what its acknowledgement says."""
+        do = command["do"]
+        if do == "connect":
+            return self.connect(command)
+        if do in ("advance", "acl", "stat"):
+            if do == "advance":
+                self.let_pass(command["seconds"])
+            if do == "acl":
+                self.set_access(command.get("text"))
+            return Acknowledged()
+        connection = self.live[command["client"]]
+        if do == "disconnect":
+            if self.line in self.wills.due:
+                connection.drop()
+                time.sleep(WILL_PAUSE)
+            else:
+                connection.client.disconnect()
+            self.pump(lambda: "closed" in connection.answered, "end of the connection")
+            del self.live[command["client"]]
+            return Acknowledged()
+        if do == "publish":
+            sent = connection.publish(command)
+            said = self.wait(connection, sent, "acknowledgement of the PUBLISH")
+            return said if command.get("qos", 0) else Acknowledged()
+        if do == "subscribe":
+            return self.wait(connection, connection.subscribe(command), "SUBACK")
+        sent = connection.client.unsubscribe(command["filter"])[1]
+        return self.wait(connection, sent, "UNSUBACK")
+
+    def connect(self, command: Command) -> Acknowledged:
+        self.live.pop(command["client"], None)  # the broker takes the old one's session over
+        options = self.options
+        connection = self.live[command["client"]] = Connection(
+            command, options.host, options.port, options.username, options.password, self.will())
+        said = self.wait(connection, "connect", "CONNACK")
+        if said.reason != 0:
+            raise Fault(
+                f"line {self.line}: the broker refused the connection, reason {said.reason}")
+        self.offer = connection.offer
+        return said
+
+    def will(self) -> Command | None:
+        """What goes with the connection that this line makes."""
+        return self.wills.given[self.line].message if self.line in self.wills.given else None
+
+    def set_access(self, text: str | None) -> None:
+        """Lets the user's command give the broker an access list."""
+        if not self.options.on_acl:
+            raise Fault(f"line {self.line} sets an access list: give --on-acl, a command that lets "
+                        "the broker read one")
+        with tempfile.NamedTemporaryFile("w", suffix=".acl", encoding="utf-8") as file:
+            os.chmod(file.name, 0o644)
+            file.write(ALL_ALLOWED if text is None else text)
+            file.flush()
+            done = subprocess.run(
+                self.options.on_acl, shell=True, env=os.environ | {"MQROUTE_ACL": file.name})
+            time.sleep(ACL_PAUSE)
+        if done.returncode:
+            raise Fault(
+                f"line {self.line}: the command of --on-acl ended with status {done.returncode}")
+
+    def answer(self, number: int, command: Command, block: Block) -> list[str]:
+        """Runs a line, and gives what differs as texts to print."""
+        self.line = number
+        if number in self.wills.published:
+            return []
+        if command["do"] == "publish" and command["topic"].startswith("$SYS/"):
+            self.sys_topics.add(command["topic"])
+        present = self.sessions.present(command) if command["do"] == "connect" else False
+        said = self.do(command)
+        self.quiet()
+        if not block.refused:
+            self.sessions.follow(command)
+        if number in self.wills.due:
+            block = self.wills.due[number].block
+        theirs, ours = self.received(), copies_of(block)
+        found = different_copies(ours, theirs, self.sessions)
+        if command["do"] == "connect":
+            found += different_order(ours, theirs)
+        return found + different_reasons(command, block, said, present, self.offer.greatest_qos)
+
+    def received(self) -> list[Copy]:
+        """What has come, but for the topics that the broker publishes itself."""
+        found = [copy for connection in self.live.values() for copy in connection.copies()]
+        ours = [c for c in found if not c.topic.startswith("$SYS/") or c.topic in self.sys_topics]
+        if len(ours) < len(found):
+            what = "copies of topics under $SYS/, which the broker publishes itself, are left out"
+            self.remarks["{} " + what] += len(found) - len(ours)
+        return ours
+
+    def end(self) -> None:
+        for connection in self.live.values():
+            if connection.client.socket():
+                connection.client.disconnect()
+                connection.write()

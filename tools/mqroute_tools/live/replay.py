@@ -1,0 +1,188 @@
+"""replay: runs a script on a live MQTT 5 broker and compares who got what with mqroute's output.
+
+The broker has to have the access list that mqroute had, and no other clients. Copies of one client
+for one line and topic are joined: greatest QoS, any RETAIN, all identifiers; there may be as many
+as the client has subscriptions for the topic. The order of what waited, the reasons of SUBACK,
+UNSUBACK, PUBACK and PUBREC, and CONNACK's session present are compared too.
+Exit status: 0 nothing differs; 1 something does; 2 usage, a file, an output that isn't of the
+script, the broker.
+"""
+import argparse
+import json
+import re
+from collections.abc import Iterable, Iterator
+from typing import TYPE_CHECKING
+
+from ..common.exit_status import Fault
+from ..common.files import at, keep_apart, open_input, refuse_stdin_twice
+from ..common.messages import counted, in_words, tell
+from ..common.option_values import port, whole_number
+from ..common.progress import Progress
+from ..script.commands import Seen, line_faults
+from ..script.oracle import Oracle
+from ..script.output import Block, Command, blocks, by_key, is_blank, misfit
+from .options import BrokerOptions, add_waiting
+from .wills import Wills
+
+if TYPE_CHECKING:
+    from .broker_run import Replay  # wants paho
+
+Line = tuple[int, Command, Block]
+LINE = re.compile(r"\Aline (\d+):? ")  # how a fault of a live run begins
+
+
+def runnable(script: Iterable[bytes], given: Iterator[Block],
+             names: tuple[str, str]) -> Iterator[Line]:
+    """The lines that can be sent, with their answers: all but those refused as
+    no MQTT command can be."""
+    name, output = names
+    lines, seen = iter(script), Seen(name)
+    for number, line in enumerate(lines, 1):
+        seen.add(line)
+        if is_blank(line):
+            continue
+        block, place = next(given, None), at(name, number)
+        if block is None or block.line != number:
+            seen.refuse(lines)
+            raise Fault(f"{place}: not answered in {output}: it is cut short, "
+                        "or is of another script")
+        if block.refused and block.refused != "NotAuthorized":
+            continue
+        faults = line_faults(line.removesuffix(b"\n"))
+        if faults:
+            seen.refuse(lines)
+            raise Fault(f"{place}: {faults[0]}: {output} accepts it: it is of another script")
+        command = json.loads(line)
+        why = misfit(command, block, by_key(block.copies, output))
+        if why:
+            raise Fault(f"{place}: {output} is of another script: it answers with {why}")
+        yield number, command, block
+    seen.refuse()
+    if next(given, None):
+        raise Fault(f"{output} has answers to lines that {name} doesn't have")
+
+
+def offered(replay: "Replay", options: argparse.Namespace, script: list[bytes],
+            given: list[Block], lines: list[Line]) -> list[Line]:
+    """The lines as this broker can run them. Where it lacks something mqroute answers anew."""
+    from .script_fitting import answers, fitted_script, read_list
+    fitted, told = fitted_script(script, {number for number, _, _ in lines}, replay.offer)
+    if not told:
+        return lines
+    acl = read_list(options.acl_file) if options.acl_file else None
+    with Oracle(acl, options.max_retained, options.max_queued) as oracle:
+        if answers(oracle.words, b"".join(script)) != given:
+            lacking = ", ".join(what.partition(": ")[0] for what in told)
+            raise Fault(f"{lacking}: mqroute has to run again, and wrote {options.output} "
+                        "with other options. Give its --acl-file, --max-retained and --max-queued")
+        again = answers(oracle.words, b"".join(fitted))
+    replay.remarks += told
+    return list(runnable(fitted, iter(again), (options.script, "mqroute's answer")))
+
+
+def answer(replay: "Replay", script: str, line: Line) -> list[str]:
+    """What differs at one line. A fault names the script and the line."""
+    try:
+        return replay.answer(*line)
+    except Fault as fault:
+        text = LINE.sub(lambda found: f"{at(script, int(found[1]))}: ", str(fault))
+        raise Fault(text) from fault
+    except OSError as fault:
+        broker = f"the broker at {replay.options.host} port {replay.options.port}"
+        raise Fault(f"{at(script, line[0])}: {broker}: {in_words(fault)}") from fault
+
+
+def differences(replay: "Replay", options: argparse.Namespace,
+                progress: Progress) -> Iterator[list[str]]:
+    """For each line that differs, the texts to print."""
+    from .broker_run import Closed
+    with open_input(options.script) as stream:
+        script = stream.readlines()
+    given = list(blocks(options.output))
+    lines = list(runnable(script, iter(given), (options.script, options.output)))  # faults first
+    replay.wills = Wills(lines if options.wills else ())
+    place, fits = 0, False
+    while place < len(lines):
+        number, command, _ = line = lines[place]
+        progress.at(number, len(script))
+        head = f"line {number}: {json.dumps(command, ensure_ascii=False)}"
+        try:
+            found = answer(replay, options.script, line)
+        except Closed as fault:
+            yield [head, f"   {fault}"]
+            return
+        if found:
+            yield [head, *found]
+        if command["do"] == "connect" and not fits:
+            fits = True
+            fitting = offered(replay, options, script, given, lines)
+            rest = [it for it in fitting if it[0] > number]
+            lines = lines[:place + 1] + rest
+            replay.wills = Wills(lines if options.wills else ())
+        place += 1
+
+
+def compared(replay: "Replay", options: argparse.Namespace) -> int:
+    """How many lines differ, each shown."""
+    number, progress = 0, Progress()
+    try:
+        for number, texts in enumerate(differences(replay, options, progress), 1):
+            progress.clear()
+            print("\n".join(texts), flush=True)
+    except KeyboardInterrupt:
+        progress.clear()
+        differ = "line differs" if number == 1 else "lines differ"
+        tell(f"at line {replay.line} of {progress.of}: {number} {differ} so far")
+        raise
+    finally:
+        progress.clear()
+    return number
+
+
+def numbered(text: str, number: int) -> str:
+    """`{} lines sent` with the number: `1 line sent`."""
+    before, _, things = text.partition("{} ")
+    return before + counted(number, things)
+
+
+def add_arguments(parser: argparse.ArgumentParser) -> None:
+    parser.description = "Runs a script on a live MQTT 5 broker and compares with mqroute's output."
+    parser.add_argument("script")
+    parser.add_argument("output")
+    parser.add_argument("--host", default="127.0.0.1")
+    parser.add_argument("--port", type=port, default=1883)
+    parser.add_argument(
+        "--username", metavar="NAME", help="user name of the clients for which the script has none")
+    parser.add_argument("--password", metavar="TEXT", help="password of all clients")
+    parser.add_argument("--on-acl", metavar="COMMAND",
+                        help="what the shell does for an `acl` line: it lets the broker read the "
+                        "access list in the file $MQROUTE_ACL, "
+                        "as by: cp \"$MQROUTE_ACL\" /tmp/acl && kill -HUP 123")
+    parser.add_argument("--acl-file", metavar="FILE",
+                        help="the access list with which mqroute wrote OUTPUT: it runs again where "
+                        "the broker doesn't offer all that the script asks for")
+    parser.add_argument("--max-retained", type=whole_number(0), metavar="N",
+                        help="the limit with which it did")
+    parser.add_argument("--max-queued", type=whole_number(0), metavar="N",
+                        help="the limit with which it did")
+    parser.add_argument("--wills", action="store_true",
+                        help="run as a will what a client publishes with the payload `will` and "
+                        "then disconnects: it goes with the CONNECT, and the connection ends "
+                        "without a DISCONNECT")
+    add_waiting(parser)
+
+
+def run(options: argparse.Namespace) -> int:
+    refuse_stdin_twice([options.script, options.output])
+    keep_apart([options.script, options.output, options.acl_file])
+    from .broker_run import Replay  # wants paho
+    replay = Replay(BrokerOptions.of(options))
+    try:
+        status = 1 if compared(replay, options) else 0
+    except (ValueError, KeyError) as fault:
+        raise Fault(repr(fault)) from fault
+    finally:
+        replay.end()
+    for what, count in replay.remarks.items():
+        tell(numbered(what, count))
+    return status

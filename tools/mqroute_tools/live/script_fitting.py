@@ -1,0 +1,68 @@
+"""The script that a broker can run: what its CONNACK doesn't offer is replaced or left out."""
+import io
+import json
+import subprocess
+from collections import Counter
+from collections.abc import Iterable
+
+from ..common.exit_status import Fault
+from ..script.output import Block, Command, blocks_of, command_of
+from .paho_client import Offer
+
+LEFT_OUT = "left out"
+
+
+def fitting(command: Command, offer: Offer) -> tuple[Command | None, list[tuple[str, str]]]:
+    """What is sent in place of a command, None for nothing; what isn't offered, what was done."""
+    did, name = [], str(command.get("filter", ""))
+    if name.startswith("$share/") and not offer.shared:
+        return None, [("shared subscriptions", LEFT_OUT)]
+    if ("+" in name or "#" in name) and not offer.wildcards:
+        return None, [("wildcards in filters", LEFT_OUT)]
+    if command["do"] == "publish" and command.get("qos", 0) > offer.greatest_qos:
+        command = command | {"qos": offer.greatest_qos}
+        did.append((f"QoS over {offer.greatest_qos}", f"sent with QoS {offer.greatest_qos}"))
+    if command["do"] == "publish" and command.get("retain") and not offer.retain:
+        command = command | {"retain": False}
+        did.append(("retained messages", "sent without RETAIN"))
+    if command["do"] == "subscribe" and "id" in command and not offer.identifiers:
+        command = {field: value for field, value in command.items() if field != "id"}
+        did.append(("subscription identifiers", "sent without"))
+    return command, did
+
+
+def fitted_script(lines: Iterable[bytes], sent: set[int],
+                  offer: Offer) -> tuple[list[bytes], Counter[str]]:
+    """The script that the broker can run, each line under its old number; what was done, and to
+    how many. `sent` are the lines that go to the broker at all: the others stay."""
+    told: Counter[str] = Counter()
+    result = []
+    for number, line in enumerate(lines, 1):
+        command = command_of(line) if number in sent else None
+        if command is not None:
+            instead, did = fitting(command, offer)
+            for what, how in did:
+                told[f"the broker doesn't offer {what}: {{}} lines {how}"] += 1
+            if did:
+                line = b"\n" if instead is None else json.dumps(instead).encode() + b"\n"
+        result.append(line)
+    return result, told
+
+
+def read_list(name: str) -> str:
+    """The text of an access list."""
+    with open(name, encoding="utf-8", newline="") as file:
+        return file.read()
+
+
+def answers(words: list[str], script: bytes) -> list[Block]:
+    """What mqroute answers to a script."""
+    try:
+        done = subprocess.run(words, input=script, capture_output=True)
+    except OSError as fault:
+        raise Fault(f"cannot run {words[0]}: {fault.strerror}") from fault
+    if done.returncode not in (0, 1):
+        why = done.stderr.decode("utf-8", "replace").strip()
+        raise Fault(why or f"{words[0]} ended with status {done.returncode}")
+    output = io.StringIO(done.stdout.decode("utf-8"), newline="\n")
+    return list(blocks_of(output, "mqroute's answer"))

@@ -1,0 +1,49 @@
+"""compare-log: compares a mosquitto log's own `Sending PUBLISH` lines with the copies that mqroute
+printed for its script, which log-to-script makes of the logs with the same options.
+
+One line for each client and topic that differ; copies that the broker sent again are not counted.
+Exit status: 0 none differs; 1 some do; 2 usage, a file, or an output that isn't of this log.
+"""
+import argparse
+
+from ..common.files import keep_apart, refuse_stdin_twice
+from ..common.messages import counted, tell
+from .comparison import Comparison
+from .log_files import Logs
+from .options import add_log_options
+from .script_writer import writer
+from .step_reader import Watcher, answered, steps
+
+
+def compare(watcher: Watcher, logs: Logs, output: str) -> Comparison:
+    found = Comparison()
+    for step in answered(steps(watcher, logs.streams()), output):
+        found.add(step)
+    return found
+
+
+def add_arguments(parser: argparse.ArgumentParser) -> None:
+    parser.description = (
+        "Compares a mosquitto log's own Sending PUBLISH lines with mqroute's copies.")
+    parser.add_argument("log", nargs="+", help="as for log_to_script.py, as are the options")
+    parser.add_argument("output",
+                        help="what mqroute wrote for the script that log_to_script.py makes of the "
+                        "logs with the same options")
+    add_log_options(parser)
+
+
+def run(options: argparse.Namespace) -> int:
+    files = [*options.log, options.output, options.begin]
+    refuse_stdin_twice(files)
+    keep_apart(files)
+    logs = Logs(options.log, not options.no_inference, options.time_format)
+    found = compare(writer(Watcher, options, logs), logs, options.output)
+    lines = found.lines()
+    for line in lines:
+        print(line)
+    refused = counted(found.refused, "publishes")
+    tell(f"the broker sent {counted(found.sent, 'copies')} and refused {refused}; "
+         f"{counted(len(lines), 'differences')}")
+    for kind, count in found.kinds():
+        tell(f"{count} {kind}")
+    return 1 if lines else 0

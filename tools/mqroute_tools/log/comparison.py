@@ -1,0 +1,219 @@
+"""What differs between a log's own copies and mqroute's, step by step, and of which kind it is."""
+from collections import Counter, defaultdict
+from collections.abc import Iterable
+
+from ..script.output import Command, Key
+from ..script.sessions import Sessions
+from ..script.topics import matches, plain_filter
+from .difference_kinds import (
+    BROKERS_TOPIC, CUT_OFF, DIFFERENT, HELD_BACK, LOGGED_WILL, MEMBERS_TURN, OWN_WILL,
+    RETAINED_FOR_GROUP, TESTED_AGAIN, joined, kind, own_will)
+from .held_back import Backlog, Owed
+from .report_line import Line
+from .steps import Copy, Event, Step
+
+
+class Comparison:
+    """The lines to print, and how much was compared."""
+
+    def __init__(self) -> None:
+        self.found: list[Line] = []
+        self.refusals: list[str] = []
+        self.sent = self.refused = 0
+        # how many of the broker's copies of an own will may still wait, by client, topic and size
+        self.own_wills: Counter[tuple[str, str, int]] = Counter()
+        self.sessions = Sessions()
+        self.users: dict[str, str | None] = {}  # of clients that have a session
+        self.renamed: set[str] = set()  # who resumed a session with another user name
+        self.backlog = Backlog()
+
+    def add(self, step: Step) -> None:
+        broker, mqroute = step.broker, step.mqroute
+        resumes, again = self.follow(step.commands)
+        drained, cut = self.receive(step, resumes)
+        for key in sorted(broker.copies.keys() | mqroute.copies.keys()):
+            client = key[0]
+            line = Line(step.place, key, broker.copies[key], mqroute.copies[key])
+            if line.ours and own_will(step, key):
+                self.own_wills[*key, line.ours[0].size] = self.spread(step, key)
+            if line.differs():
+                line.kind = self.kind(step, key)
+                if line.kind == DIFFERENT and client in again and not line.theirs:
+                    line.kind = TESTED_AGAIN
+                if line.kind == DIFFERENT and step.renamed:
+                    line.kind = TESTED_AGAIN
+            waits = (client in step.flying or client in self.renamed) and client not in drained
+            owed = (client in cut or waits) and self.owe(step, line, client in again, client in cut)
+            if line.kind or owed:
+                self.found.append(line)
+        self.add_refusals(step)
+
+    def add_refusals(self, step: Step) -> None:
+        theirs, ours = step.broker.refused, step.mqroute.refused
+        self.refused += theirs.total()
+        for client, topic in sorted((theirs - ours) + (ours - theirs)):
+            who = "the broker" if theirs[client, topic] else "mqroute"
+            self.refusals.append(f"refused by {who} alone: line {step.place}: {client!r} {topic!r}")
+
+    def spread(self, step: Step, key: Key) -> int:
+        """How many copies of a message the broker sends: with MQTT 5 one for each subscription."""
+        return 1 if key[0] in step.old_protocol else self.sessions.spread(*key)
+
+    def follow(self, commands: list[Command]) -> tuple[set[str], set[str]]:
+        """Who resumes a session, and who of them with another user name than before."""
+        resumes: set[str] = set()
+        again: set[str] = set()
+        for command in commands:
+            client = command.get("client", "")
+            if command["do"] == "connect":
+                if self.sessions.present(command):
+                    resumes.add(client)
+                    again |= self.resume(client, command.get("user"))
+                else:
+                    self.settle([client], drained=False)
+                    self.renamed.discard(client)
+                self.users[client] = command.get("user")
+            self.sessions.follow(command)
+            if command["do"] == "disconnect" and not self.sessions.has(client):
+                self.users.pop(client, None)
+        return resumes, again
+
+    def resume(self, client: str, user: str | None) -> set[str]:
+        """The client, if it has another user name now: what waits for it is tested again."""
+        if user == self.users.get(client):
+            return set()
+        self.renamed.add(client)
+        self.backlog.other_user(client)
+        return {client}
+
+    # -- what the broker sent
+
+    def receive(self, step: Step, resumes: set[str]) -> tuple[set[str], set[str]]:
+        """Gives each copy to its step. Who has all that was held back now, and who was cut off."""
+        drained: set[str] = set()
+        cut: set[str] = set()
+        apart: defaultdict[tuple[str, Key], list[Copy]] = defaultdict(list)
+        for event in step.events:
+            if event.copy is None:
+                (cut if event.apart else drained).add(event.client)
+                if not event.apart:
+                    self.settle([event.client], drained=True)
+                continue
+            self.sent += 1
+            sent, key = event.copy, (event.client, event.copy.topic)
+            copy = Copy(sent.qos, sent.retain, size=sent.size)
+            found = self.kind_of(event, key, step, resumes, copy)
+            if found is not None:
+                (apart[found, key] if found else step.broker.copies[key]).append(copy)
+        self.set_apart(step, apart)
+        return drained, cut
+
+    def set_apart(self, step: Step, apart: dict[tuple[str, Key], list[Copy]]) -> None:
+        """Own wills are compared where mqroute has them too."""
+        for (found, key), copies in sorted(apart.items()):
+            ours, theirs = step.mqroute.copies.get(key, []), step.broker.copies.get(key, [])
+            if found != BROKERS_TOPIC and ours and joined(theirs + copies) == joined(ours):
+                step.broker.copies[key] = theirs + copies
+            else:
+                self.found.append(Line(step.place, key, copies, [], found))
+
+    def kind_of(self, event: Event, key: Key, step: Step, resumes: set[str],
+                copy: Copy) -> str | None:
+        """The kind of a copy that mqroute hasn't; None: of an earlier step, empty: of this one."""
+        if event.apart not in ("", OWN_WILL):
+            return event.apart
+        if event.released or event.client in resumes:
+            return self.late(event, key, step, copy, event.client in resumes)
+        if copy.qos:
+            self.settle([event.client], drained=True)  # what is held back would have gone first
+        return ""
+
+    def late(self, event: Event, key: Key, step: Step, copy: Copy, resumes: bool) -> str | None:
+        """The same of a copy that was released, or sent to a client that comes back."""
+        owed = self.backlog.take(key, copy.size, copy.retain)
+        if owed:
+            owed.line.theirs.append(copy)
+            owed.line.last = event.place
+            if not self.by_group(*key):
+                self.name(self.backlog.passed(owed), drained=True)
+            return None
+        if resumes and self.is_due(step, key, copy.size):
+            return ""
+        if self.own_wills[*key, copy.size] > 0:
+            self.own_wills[*key, copy.size] -= 1
+            return OWN_WILL
+        if resumes:
+            return "" if step.mqroute.copies.get(key) else event.apart
+        if event.apart:
+            return OWN_WILL
+        if self.by_group(*key):
+            return RETAINED_FOR_GROUP if copy.retain else MEMBERS_TURN
+        return ""
+
+    def is_due(self, step: Step, key: Key, size: int) -> bool:
+        """Whether mqroute has more copies of this size at the step than the broker has sent yet."""
+        ours, theirs = (sum(copy.size == size for copy in side.copies.get(key, []))
+                        for side in (step.mqroute, step.broker))
+        return theirs < ours * self.spread(step, key)
+
+    def by_group(self, client: str, topic: str) -> bool:
+        """Whether a shared subscription of the client may have brought a copy."""
+        groups = (name for name in self.sessions.filters[client] if name.startswith("$share/"))
+        return any(matches(plain_filter(name), topic) for name in groups)
+
+    # -- what it may still send
+
+    def owe(self, step: Step, line: Line, again: bool, cut: bool) -> bool:
+        """Whether more may come of this step."""
+        client = line.key[0]
+        if line.kind in (OWN_WILL, LOGGED_WILL) or not (cut or any(copy.qos for copy in line.ours)):
+            return False
+        did = {command["do"] for command in step.commands}
+        spread = 1 if "subscribe" in did else self.spread(step, line.key)
+        ours = line.ours[:1] if client in step.old_protocol and "publish" in did else line.ours
+        room = Counter((copy.size, copy.retain) for copy in ours
+                       for _ in range(1 if copy.shared else spread))
+        room -= Counter((copy.size, copy.retain) for copy in line.theirs)
+        if room:
+            # what was dropped at a return under another name still counts as in flight
+            full = cut or step.flying.get(client, False) or client in self.renamed
+            late = CUT_OFF if cut else HELD_BACK
+            self.backlog.add(Owed(step, line.key, line, room, full, late, again))
+        return bool(room)
+
+    def settle(self, clients: Iterable[str] | None, drained: bool) -> None:
+        """Nothing more comes of what is owed; `drained`: nothing is held back any more."""
+        self.name(self.backlog.settle(clients), drained)
+
+    def name(self, found: Iterable[Owed], drained: bool) -> None:
+        """Names the kinds of what came late, or didn't come."""
+        for owed in found:
+            line = owed.line
+            same = not line.differs() or joined(line.theirs) == joined(line.ours)
+            if owed.late and same:
+                line.kind = owed.kind
+            elif line.differs():
+                line.kind = self.kind(owed.step, owed.key)
+                if line.kind == DIFFERENT and owed.again and not owed.since:
+                    line.kind = TESTED_AGAIN
+                elif line.kind == DIFFERENT and owed.full and not drained:
+                    line.kind = owed.kind
+
+    # -- the result
+
+    def kind(self, step: Step, key: Key) -> str:
+        """As `kind`, with what waits since an earlier step."""
+        found = kind(step, key)
+        broker, mqroute = step.broker.copies.get(key), step.mqroute.copies.get(key)
+        if found == DIFFERENT and mqroute and not broker and own_will(step, key):
+            return OWN_WILL
+        return found
+
+    def lines(self) -> list[str]:
+        self.settle(None, drained=False)
+        return [str(line) for line in self.found if line.kind] + self.refusals
+
+    def kinds(self) -> list[tuple[str, int]]:
+        """How many lines there are of each kind, most first."""
+        count = Counter(line.partition(": line ")[0] for line in self.lines())
+        return sorted(count.items(), key=lambda each: (-each[1], each[0]))

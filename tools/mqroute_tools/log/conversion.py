@@ -1,0 +1,400 @@
+"""From the lines of a mosquitto log to the commands of a script."""
+from collections.abc import Iterable, Iterator
+from itertools import chain, islice
+from typing import BinaryIO
+
+from ..script.output import Command
+from . import mosquitto_log as log
+from .clients import Arrival, Clients
+from .time_stamps import LOOKED_AT, Stamps
+
+ADDRESSES = 1_000  # new connections that are remembered until they say who they are
+
+
+def publish(client: str, topic: str, size: int, qos: int, retain: bool) -> Command:
+    command: Command = {"do": "publish", "client": client, "topic": topic}
+    if size:
+        command["payload"] = f"{size} bytes"
+    if qos:
+        command["qos"] = qos
+    if retain:
+        command["retain"] = True
+    return command
+
+
+class Converter(Clients):
+    """Reads lines one by one."""
+
+    def __init__(self, session_expiry: int = 0, form: str | None = None) -> None:
+        super().__init__(session_expiry)
+        self.stamps = Stamps(form)
+        self.arrival: Arrival | None = None
+        self.packet: tuple[str, str, int] | None = None  # subscribe or unsubscribe, client, place
+        self.asked: tuple[str, int] | None = None  # filter and QoS, until the broker has granted it
+        self.latest: tuple[str, int, int] | None = None  # the last PUBLISH: client, identifier, QoS
+        # that connected over TCP: the broker has no such line of a websocket
+        self.addresses: dict[str, None] = {}
+        self.sys_topics: set[str] = set()  # below $SYS/, that clients publish
+        # who sent DISCONNECT and has a will, and where the broker told the end
+        self.parting: tuple[str, int] | None = None
+        self.silent = False  # the broker tells neither who connects nor whose connection ends
+
+    # -- reading
+
+    def read(self, raw: bytes) -> None:
+        self.place += 1
+        self.commands = []
+        try:
+            line = raw.decode("utf-8")
+        except UnicodeDecodeError:
+            self.lost(raw.decode("utf-8", "replace"), len(raw))
+            return
+        time, text = self.stamps.split(line)
+        self.end_after_disconnect(text)
+        if not text.startswith("Sending PUBLISH to "):
+            self.ended = None
+        if time is not None:
+            if self.time is not None and time < self.time:
+                self.notes.add("times went back: the script's clock stands still there",
+                               f"line {self.place}: {line}")
+            self.time = time
+        if text and not (self.granted(text) or self.known(text)):
+            self.lost(line, len(raw))
+
+    def finish(self) -> None:
+        """Tells of what still waits for a line that doesn't come."""
+        if self.arrival:
+            self.notes.add("connections are without their CONNACK line, and not in the script: the "
+                           "broker wants log_type all",
+                           f"line {self.arrival.place}: {self.arrival.text}")
+            self.arrival = None
+
+    def lost(self, line: str, size: int) -> None:
+        what = "lines cut short by the broker" if size >= log.CUT_AT else "lines not known"
+        hint = "" if self.stamps.found() else " (if they begin with a time, give --time-format)"
+        self.notes.add(
+            f"{what}: nothing of them is in the script{hint}", f"line {self.place}: {line}")
+
+    def doubt(self, text: str) -> None:
+        self.notes.add(
+            "lines can be read in two ways; the first was taken", f"line {self.place}: {text}")
+
+    def known(self, text: str) -> bool:
+        """Whether the line is of a known kind; it is then worked in."""
+        if text.startswith("Sending "):
+            return self.sending(text[8:])
+        if text.startswith("Received PUBLISH from "):
+            return self.publish(text[22:], routed=True)
+        if text.startswith("Received "):
+            return self.received(text[9:])
+        if text.startswith("\t"):
+            return self.listed(text[1:])
+        if text.startswith("Denied PUBLISH from "):
+            return self.publish(text[20:], routed=False)
+        if text.startswith("New "):
+            return self.arriving(text)
+        if text.startswith("Will message specified ") and self.arrival:
+            self.arrival.will_head = log.WILL.match(text)
+            return self.arrival.will_head is not None
+        return self.ending(text) or self.noted(text) or text.startswith(log.PASSED_OVER)
+
+    def arriving(self, text: str) -> bool:
+        """`New connection from ADDRESS on port N.`, and then `New client connected
+        from ADDRESS as ID (..).`"""
+        if text.startswith("New connection from "):
+            self.addresses[text[20:].partition(" ")[0]] = None
+            if len(self.addresses) > ADDRESSES:
+                del self.addresses[next(iter(self.addresses))]
+            return True
+        if not text.startswith(("New client connected from ", "New bridge connected from ")):
+            return False
+        address, found, name = text[26:].partition(" as ")
+        self.finish()
+        websocket = address not in self.addresses
+        self.addresses.pop(address, None)
+        self.arrival = Arrival(self.place, name, websocket, text.startswith("New bridge"))
+        return bool(found)
+
+    def noted(self, text: str) -> bool:
+        """Lines that change what the broker does, and that no command stands for; and
+        those of its own bridges."""
+        for start, what in log.NOTED:
+            if text.startswith(start):
+                self.notes.add(what, f"line {self.place}: {text}")
+                return True
+        bridge = log.LOCAL_SUBSCRIBE.match(text)
+        if bridge:
+            self.bridge_subscribes(bridge[1], bridge[2])
+        return bridge is not None or log.BRIDGE_SENDS.match(text) is not None
+
+    def sending(self, text: str) -> bool:
+        if text.startswith("PUBLISH to "):
+            sent = log.read_publish(text[11:], self.connected)
+            if sent:
+                self.copied(sent)
+            return sent is not None
+        if text.startswith("CONNACK to "):
+            return self.connack(text[11:])
+        if text.startswith(("SUBACK to ", "UNSUBACK to ")):
+            self.grant(None)
+            self.packet = None
+        return True
+
+    def copied(self, sent: log.Publish) -> None:
+        """The broker sent a copy."""
+        if self.of_own_will(sent):
+            return
+        if sent.client not in self.connected:
+            self.was_before(sent.client)
+        if sent.topic.startswith("$SYS/") and sent.topic not in self.sys_topics:
+            self.notes.add("copies of topics under $SYS/, which the broker publishes itself, are "
+                           "not in the script",
+                           f"line {self.place}: {sent.client} {sent.topic}")
+
+    def of_own_will(self, sent: log.Publish) -> bool:
+        """Whether the copy stands right behind the end of its client's connection: so the broker
+        logs those of the client's own will."""
+        return sent.client == self.ended and sent.client not in self.connected
+
+    def received(self, text: str) -> bool:
+        kind, _, client = text.partition(" from ")
+        if kind in ("SUBSCRIBE", "UNSUBSCRIBE"):
+            self.session(client)
+            self.packet = (kind.lower(), client, self.place)
+        elif kind == "DISCONNECT":
+            if client in self.connected:
+                self.disconnecting(client)
+        elif kind == "PUBREL":
+            return self.released(client)
+        else:
+            return (kind in ("PINGREQ", "PUBACK", "PUBREC", "PUBCOMP", "AUTH", "SUBACK", "UNSUBACK")
+                    or text.startswith("CONNACK on connection "))
+        return True
+
+    def released(self, text: str) -> bool:
+        """The sender of a publish of QoS 2 releases it: so it is routed."""
+        found = log.RELEASE.match(text)
+        if found is None:
+            return False
+        session = self.connected.get(found[1])
+        command = session.unreleased.pop(int(found[2]), None) if session else None
+        if command:
+            self.emit(self.place, command)
+        return True
+
+    def disconnecting(self, client: str) -> None:
+        """Over websockets the connection ends here for all others."""
+        session = self.connected[client]
+        session.leaves = True
+        if self.silent:
+            self.end(client, willed=True)
+        elif session.websocket:
+            self.leave(client)
+
+    def publish(self, text: str, routed: bool) -> bool:
+        found = log.read_publish(text, self.connected)
+        if found is None:
+            return False
+        if found.readings > 1:
+            self.doubt(text)
+        command = publish(found.client, found.topic, found.size, found.qos, bool(found.retain))
+        session = self.session(found.client)
+        self.latest = (found.client, found.packet, found.qos)
+        if found.topic.startswith("$SYS/"):
+            self.sys_topics.add(found.topic)
+        if routed and found.qos == 2:
+            if session.unreleased.get(found.packet, command) != command:
+                self.forget(found.client, found.packet)
+            session.renamed.discard(found.packet)
+            session.unreleased[found.packet] = command
+        else:
+            self.emit(self.place, command, routed)
+        return True
+
+    def forget(self, client: str, packet: int) -> None:
+        """The client uses a packet identifier again: the broker drops what it
+        has of QoS 2 under it."""
+        session = self.connected.get(client)
+        dropped = session.unreleased.pop(packet, None) if session else None
+        if dropped:
+            self.never_released(dropped)
+
+    # -- subscribing: `<tab>FILTER (QoS N)`, then `CLIENT GRANTED FILTER`
+
+    def listed(self, text: str) -> bool:
+        """A line that begins with a tab: a filter, or the topic of a will."""
+        if self.arrival and self.arrival.will_head:
+            head = self.arrival.will_head
+            self.arrival.will = publish("", text, int(head[1]), int(head[3]), head[2] == "1")
+            return True
+        if self.packet is None:
+            return False
+        kind, client, place = self.packet
+        if kind == "unsubscribe":
+            self.unsubscribe(place, client, text)
+            self.asked = (text, -1)
+            return True
+        self.grant(None)
+        found = log.FILTER.match(text)
+        if found:
+            self.asked = (found[1], int(found[2]))
+        return found is not None
+
+    def granted(self, text: str) -> bool:
+        """The line with which the broker closes one filter of a SUBSCRIBE or UNSUBSCRIBE."""
+        if self.packet is None or self.asked is None:
+            return False
+        client, name = self.packet[1], self.asked[0]
+        if self.asked[1] < 0:
+            return text == f"{client} {name}"
+        if not (text.startswith(client + " ") and text.endswith(" " + name)):
+            return False
+        word = text[len(client) + 1:-len(name) - 1]
+        if word.isascii() and word.isdigit():
+            self.grant(int(word))
+            return True
+        return False
+
+    def grant(self, qos: int | None) -> None:
+        """Writes the subscribe that was asked for, with the QoS granted, or as
+        asked where no line tells it."""
+        if self.packet and self.asked and self.asked[1] >= 0:
+            kind, client, place = self.packet
+            qos = self.asked[1] if qos is None else qos
+            if qos > 2:
+                self.notes.add("subscribes that the broker refused: they are not in the script",
+                               f"line {self.place}: {client} {self.asked[0]}")
+            else:
+                self.subscribe(place, client, self.asked[0], qos)
+        self.asked = None
+
+    def subscribe(self, place: int, client: str, name: str, qos: int) -> None:
+        """A bridge is never sent its own messages, and gets RETAIN as it was published."""
+        session = self.session(client)
+        command: Command = (
+            {"do": "subscribe", "client": client, "filter": name} | ({"qos": qos} if qos else {}))
+        if session.bridge:
+            command |= (
+                {"rap": True} if name.startswith("$share/") else {"no_local": True, "rap": True})
+        session.add(name)
+        self.emit(place, command)
+
+    def unsubscribe(self, place: int, client: str, name: str) -> None:
+        self.emit(place, {"do": "unsubscribe", "client": client, "filter": name})
+        self.session(client).drop(name)
+
+    def bridge_subscribes(self, client: str, name: str) -> None:
+        """Within the broker that has the bridge. The log has no QoS here: with 2 each
+        copy has that of its publish."""
+        if client not in self.connected:
+            self.connect(Arrival(self.place, client, bridge=True), client, None, False, 4,
+                         client in self.away)
+        self.subscribe(self.place, client, name, 2)
+
+    # -- coming and going
+
+    def connack(self, text: str) -> bool:
+        found = log.CONNACK.match(text)
+        arrival, self.arrival = self.arrival, None
+        if found is None or arrival is None:
+            return (found is not None
+                    and (found[3] != "0" or self.unannounced(found[1], found[2] == "1")))
+        client = found[1]
+        about = (log.CONNECTED.match(arrival.text[len(client):])
+                 if arrival.text.startswith(client + " (") else None)
+        if about is None:
+            return False
+        protocol, clean, user = int(about[1]), about[2] == "1", about[3]
+        self.connect(arrival, client, user, clean, protocol, found[2] == "1")
+        return True
+
+    def unannounced(self, client: str, present: bool) -> bool:
+        """A connection of which the CONNACK line alone stands in the log."""
+        self.silent = True
+        self.notes.add("connections have no 'New client connected' line (the broker's "
+                       "connection_messages is false): user names, wills, and the ends of "
+                       "connections without DISCONNECT are not in the script",
+                       f"line {self.place}: {client}")
+        self.connect(Arrival(self.place, client), client, None, not present, 5, present)
+        return True
+
+    def ending(self, text: str) -> bool:
+        taken = log.TAKEN_OVER.match(text)
+        if taken and taken[1] in self.connected:
+            self.taken_over(taken[1])
+            return True
+        if text.startswith("mosquitto version ") and text.endswith(" starting"):
+            self.start()
+            return True
+        reused = log.REUSED.match(text)
+        if reused:
+            if self.latest != (reused[2], int(reused[1]), 2):  # that one is new
+                self.forget(reused[2], int(reused[1]))
+            return True
+        expired = log.EXPIRED.match(text)
+        if expired:
+            self.expire(expired[1])
+            return True
+        named = log.ended_clients(text, self.connected, self.closing)
+        if len(named) > 1:
+            self.doubt(text)
+        if named:
+            self.closed(named[0])
+        return bool(named) or taken is not None
+
+    def closed(self, client: str) -> None:
+        session, departed = self.connected.get(client), client in self.departed
+        willed = bool(session and session.leaves and session.will)
+        waits = departed or (willed and client not in self.closing)
+        if waits:
+            self.end_after_disconnect("")
+            self.parting = (client, self.place)
+        if departed or not waits:
+            super().closed(client)
+
+    def end_after_disconnect(self, text: str) -> None:
+        """The end of a connection after DISCONNECT, of which `text` is the line that follows.
+
+        MQTT 5 clients can ask for their will (reason 4). No line has the reason, but then the
+        will's copies come at once.
+        """
+        if self.parting is None:
+            return
+        (client, place), self.parting = self.parting, None
+        departed = self.departed.pop(client, None)
+        session = departed or self.connected[client]
+        sent = (log.read_publish(text[19:], self.connected)
+                if text.startswith("Sending PUBLISH to ") else None)
+        will = session.will or {}
+        copy = publish(client, sent.topic, sent.size, 0, False) if sent else {}
+        if sent and all(copy.get(name) == will.get(name) for name in ("topic", "payload")):
+            session.leaves = False
+        here, self.place = self.place, place
+        if departed is None:
+            self.end(client, willed=True)
+        elif not departed.leaves:
+            self.departed_will(client, departed)
+        self.place = here
+
+    def end(self, client: str, willed: bool) -> None:
+        super().end(client, willed)
+        if self.packet and self.packet[1] == client:
+            self.packet = self.asked = None
+
+
+def placed_commands(converter: Converter,
+                    streams: Iterable[BinaryIO]) -> Iterator[tuple[int, Command]]:
+    """The commands, each with the number of the log line that it came from."""
+    yield from converter.commands  # of before the log
+    for stream in streams:
+        with stream:
+            lines = log.raw_lines(stream)
+            first = list(islice(lines, LOOKED_AT))
+            converter.stamps.decide([line.decode("utf-8", "replace") for line in first])
+            for raw in chain(first, lines):
+                converter.read(raw)
+                yield from converter.commands
+    converter.commands = []
+    converter.end_after_disconnect("")
+    yield from converter.commands
+    converter.finish()

@@ -1,0 +1,68 @@
+"""The kinds of differences between a log and mqroute's output, which tools/README.md explains."""
+from ..script.output import Key
+from ..script.topics import matches
+from .steps import Copy, Step
+
+OWN_WILL = "own will in a session that is kept"
+LOGGED_WILL = "own will of a client that is gone"
+TAKEN_WILL = "own will at a takeover"
+BROKERS_TOPIC = "the broker's own topics"
+HELD_BACK = "held back by max_inflight_messages"
+TESTED_AGAIN = "tested again under another user name"
+CUT_OFF = "cut off by the end of the connection"
+MEMBERS_TURN = "another member's turn"
+RETAINED_FOR_GROUP = "retained messages for a group"
+OVERLAPPING = "overlapping subscriptions"
+ONE_QOS = "QoS of one matching subscription"
+AS_PUBLISHED = "Retain As Published"
+DIFFERENT = "different"
+
+
+def joined(copies: list[Copy]) -> Copy | None:
+    if not copies:
+        return None
+    return Copy(max(c.qos for c in copies), max(c.retain for c in copies))
+
+
+def greatest_retain(copies: list[Copy]) -> int:
+    return max((copy.retain for copy in copies), default=0)
+
+
+def own_will(step: Step, key: Key) -> bool:
+    """Whether the client publishes to the topic and then leaves: so a script has the will of a
+    session that is kept."""
+    published = [at for at, c in enumerate(step.commands)
+                 if c["do"] == "publish" and (c["client"], c["topic"]) == key]
+    gone = {"do": "disconnect", "client": key[0]}
+    return bool(published) and any(c == gone for c in step.commands[published[-1]:])
+
+
+def lower_qos(theirs: list[Copy], ours: list[Copy]) -> bool:
+    """Whether the broker's copies, one or as many as ours, have the less QoS."""
+    if len(theirs) == 1 and ours:
+        return theirs[0].qos < max(copy.qos for copy in ours)
+    here, there = (sorted(copy.qos for copy in side) for side in (ours, theirs))
+    return len(here) == len(there) and here != there and all(a >= b for a, b in zip(here, there))
+
+
+def kind(step: Step, key: Key) -> str:
+    """Names the differences that one step alone explains; the others are `different`."""
+    client, topic = key
+    theirs, ours = step.broker.copies.get(key, []), step.mqroute.copies.get(key, [])
+    filters = [c["filter"] for c in step.commands if c["do"] == "subscribe"]
+    more = len(theirs) > len(ours)
+    if any(f.startswith("$share/") for f in filters) and all(c.retain for c in theirs) and more:
+        return RETAINED_FOR_GROUP
+    if joined(theirs) == joined(ours):
+        return OVERLAPPING
+    if client in step.old_protocol and lower_qos(theirs, ours):
+        return ONE_QOS
+    if (sorted(c.qos for c in theirs) == sorted(c.qos for c in ours)
+            and greatest_retain(theirs) > greatest_retain(ours)):
+        return AS_PUBLISHED
+    of_group = any(c.shared for copies in step.mqroute.copies.values() for c in copies)
+    if not filters and of_group and (more or any(c.shared for c in ours)):
+        return MEMBERS_TURN
+    if more and any(matches(f, topic) for f in step.shared.get(client, [])):
+        return MEMBERS_TURN  # which was away, and now comes back
+    return DIFFERENT

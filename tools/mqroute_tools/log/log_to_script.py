@@ -1,0 +1,64 @@
+"""log-to-script: makes a script for mqroute of a mosquitto 2.0 log (log_type all).
+
+The commands stand in the order in which the broker did them. What a log doesn't tell (payloads,
+options, expiry) is left at its default; a payload is told as its number of bytes, and is empty
+where it was empty.
+Of clients that were connected before the log began the script begins with what their copies show
+(--no-inference: it doesn't).
+Exit status: 0 all of the log is in the script; 1 something isn't, told on standard error; 2 usage,
+or a file.
+"""
+import argparse
+import json
+import sys
+
+from ..common.files import STDIN, keep_apart, refuse_stdin_twice, whole
+from ..common.messages import counted, tell
+from .clients import INFERRED, NONE, SEEN
+from .conversion import placed_commands
+from .log_files import Logs
+from .options import add_log_options
+from .script_writer import Writer, writer
+
+text_of = json.JSONEncoder(ensure_ascii=False, separators=(",", ":")).encode
+
+
+def sum_up(found: Writer, logs: Logs, written: int) -> None:
+    others = f" ({found.stamps.others} of other programs)" if found.stamps.others else ""
+    tell(f"{counted(found.place, 'lines read')}{others}, {counted(written, 'commands written')}")
+    if found.explained[INFERRED] or found.explained[NONE]:
+        seen, inferred, none = (found.explained[i] for i in (SEEN, INFERRED, NONE))
+        copies = counted(seen + inferred + none, "copies")
+        tell(f"the broker sent {copies}: the script explains {seen} by subscriptions in "
+             f"the log and {inferred} by inferred ones, and doesn't explain {none}")
+    found.notes.write(sys.stderr, logs.where)
+
+
+def add_arguments(parser: argparse.ArgumentParser) -> None:
+    parser.description = "Makes a script for mqroute of a mosquitto 2.0 log (log_type all)."
+    parser.add_argument("log", nargs="*",
+                        help="log files that follow one another, packed by gzip or not; "
+                        "standard input if none, or -")
+    add_log_options(parser)
+    parser.add_argument("--state", metavar="FILE",
+                        help="write what stands at the end (clients, sessions, subscriptions, "
+                        "retained messages) as a script, for --begin with the log that follows")
+
+
+def run(options: argparse.Namespace) -> int:
+    files = [*(options.log or [STDIN]), options.begin]
+    refuse_stdin_twice(files)
+    keep_apart(files, {"--state": options.state})
+    logs = Logs(options.log, not options.no_inference, options.time_format)
+    found = writer(Writer, options, logs, follow=bool(options.state))
+    written = 0
+    for _, command in placed_commands(found, logs.streams(found)):
+        sys.stdout.buffer.write(text_of(command).encode("utf-8") + b"\n")
+        written += 1
+    sys.stdout.buffer.flush()
+    if found.state:
+        with whole(options.state) as file:
+            file.writelines(
+                text_of(command).encode("utf-8") + b"\n" for command in found.state.at_end())
+    sum_up(found, logs, written)
+    return 1 if found.notes.counts or found.explained[NONE] else 0

@@ -1,0 +1,105 @@
+"""What the lines of a mosquitto 2.0 log say (log_type all), one event a line."""
+import re
+from collections.abc import Container, Iterator
+from typing import BinaryIO
+
+LINE_MAX = 65_536  # far over what mosquitto writes: it cuts its lines at 1,000 bytes
+CUT_AT = 999
+
+
+def raw_lines(stream: BinaryIO) -> Iterator[bytes]:
+    """The lines without their ends; of one that is far too long only the beginning."""
+    while piece := stream.readline(LINE_MAX):
+        rest = piece
+        while not rest.endswith(b"\n") and len(rest) == LINE_MAX:
+            rest = stream.readline(LINE_MAX)
+        yield piece.rstrip(b"\r\n")
+
+
+# The client id is free text, and so may look like any other part of a line. Each form below is read
+# with its fixed words at both ends; where more than one reading is left, the clients that are
+# connected decide.
+
+PUBLISH_HEAD = re.compile(r" \(d([01]), q([0-2]), r([01]), m(\d+), '")
+PUBLISH_END = re.compile(r"', \.\.\. \((\d+) bytes\)\)$")
+CONNECTED = re.compile(r" \(p(\d+), c([01]), k\d+(?:, u'(.*)')?\)\.$")
+CONNACK = re.compile(r"(.*) \(([01]), (\d+)\)$")
+RELEASE = re.compile(r"(.*) \(Mid: (\d+)\)$")
+ACKNOWLEDGED = re.compile(r"PUB(?:ACK|COMP) from (.*) \(Mid: (\d+), RC:\d+\)$")
+ANSWERED = re.compile(r"(PUB(?:ACK|REC|REL|COMP)) to (.*) \(m(\d+)(?:, rc\d+)?\)$")
+FILTER = re.compile(r"(.*) \(QoS ([0-2])\)$")
+WILL = re.compile(r"Will message specified \((\d+) bytes\) \(r([01]), q([0-2])\)\.$")
+ENDS = tuple(re.compile(p) for p in (
+    r"Client (.*) disconnected\.$",
+    r"Client (.*) closed its connection\.$",
+    r"Client (.*) has exceeded timeout, disconnecting\.$",
+    r"Client (.*) disconnected: [A-Za-z0-9 ,/'()-]+\.$",
+    r"Client (.*) disconnected due to [A-Za-z ]+\.$",
+    r"Client (.*) disconnected, not authorised\.$",
+    r"Client (.*) been disconnected by administrative action\.$",
+    r"Bad socket read/write on client (.*): [A-Za-z0-9 ,/'()-]+$",
+    r"Socket error on client (.*), disconnecting\.$",
+))
+# Lines that tell nothing a script has.
+PASSED_OVER = (
+    "Sending ", "New connection from ", "No will message specified.",
+    "Received PINGREQ from ", "Received PUBACK from ", "Received PUBREC from ",
+    "Received PUBCOMP from ", "Received AUTH from ",
+    "Config loaded from ", "Loading config file ", "Opening ", "Saving in-memory database to ",
+    "mosquitto version ",
+    "Invalid subscription string from ", "Empty subscription string from ",
+    "Invalid unsubscription string from ", "Empty unsubscription string from ",
+    "Warning: ", "Note: ", "To fix this, use ", "Client <unknown> ", "Client connection from ",
+    "OpenSSL Error", "ACL denying access to client with dangerous ",
+    "Connecting bridge ", "Received CONNACK on connection ",
+)
+# Lines that concern the script and give no command.
+NOTED = (
+    ("Reloading config.",
+     "times the broker read its configuration again: the access list may have changed here"),
+    ("Dropped too large PUBLISH from ",
+     "publishes were too large for the broker, which dropped them: they are not in the script"),
+    ("Outgoing messages are being dropped for client ",
+     "times the broker began to drop copies for a client since too many waited: the script has no "
+     "such limit (mqroute's is --max-queued)"),
+)
+LOCAL_SUBSCRIBE = re.compile(r"Bridge (.*) doing local SUBSCRIBE on topic (.*)$")
+BRIDGE_SENDS = re.compile(r"Bridge (.*) sending (?:CONNECT|SUBSCRIBE|UNSUBSCRIBE)(?: \(.*\))?$")
+REUSED = re.compile(r"Reused message ID (\d+) from (.*) detected\. Clearing from storage\.$")
+EXPIRED = re.compile(r"Expiring client (.*) due to timeout\.$")
+TAKEN_OVER = re.compile(r"Client (.*) already connected, closing old connection\.$")
+
+
+class Publish:
+    """What a line tells of a PUBLISH packet, received, denied or sent."""
+    __slots__ = ("client", "dup", "qos", "retain", "packet", "topic", "size", "readings")
+
+    def __init__(self, client: str, head: re.Match[str], topic: str, size: int,
+                 readings: int) -> None:
+        self.client, self.topic, self.size = client, topic, size
+        # in how many ways the line can be read, by the clients that are connected
+        self.readings = readings
+        self.dup, self.qos, self.retain, self.packet = (int(head[i]) for i in (1, 2, 3, 4))
+
+
+def read_publish(text: str, known: Container[str]) -> Publish | None:
+    """`text` is what stands after `PUBLISH from ` or `PUBLISH to `."""
+    end = PUBLISH_END.search(text, text.rfind("'"))
+    if end is None:
+        return None
+    head = PUBLISH_HEAD.search(text)
+    if head is None or head.end() > end.start():
+        return None
+    readings = 1
+    if PUBLISH_HEAD.search(text, head.end()):
+        heads = [h for h in PUBLISH_HEAD.finditer(text) if h.end() <= end.start()]
+        likely = [h for h in heads if text[:h.start()] in known] or heads
+        head, readings = likely[0], len(likely)
+    return Publish(text[:head.start()], head, text[head.end():end.start()], int(end[1]), readings)
+
+
+def ended_clients(text: str, *known: Container[str]) -> list[str]:
+    """The clients, one but for the oddest ids, whose connection this line may end; none
+    if it is of another kind."""
+    named = [found[1] for found in (p.match(text) for p in ENDS) if found]
+    return [n for n in named if any(n in those for those in known)] or named

@@ -1,0 +1,19 @@
+"""Options of the tools that read a log."""
+import argparse
+
+from ..common.option_values import whole_number
+from ..script.sessions import FOREVER
+
+
+def add_log_options(parser: argparse.ArgumentParser) -> None:
+    parser.add_argument("--time-format", metavar="FORMAT",
+                        help="log_timestamp_format as in mosquitto.conf (seconds, ISO and none are "
+                        "found without)")
+    parser.add_argument("--session-expiry", metavar="SECONDS", type=whole_number(0, FOREVER),
+                        help="Session Expiry Interval of MQTT 5 clients that connect without Clean "
+                        "Start; without it the next CONNACK tells")
+    parser.add_argument("--no-inference", action="store_true",
+                        help="nothing of before the log but what --begin has")
+    parser.add_argument("--begin", metavar="FILE",
+                        help="a script to begin with, such as what --state wrote for the log "
+                        "before this one")

@@ -1,0 +1,32 @@
+"""One line of the report on a log: the copies of one client and topic that differ at a step."""
+from dataclasses import dataclass
+
+from ..script.output import Key
+from .steps import Copy
+
+
+def shown(copies: list[Copy]) -> str:
+    return ", ".join(map(str, sorted(copies))) or "none"
+
+
+def flags(copies: list[Copy]) -> list[tuple[int, int]]:
+    return sorted((copy.qos, copy.retain) for copy in copies)
+
+
+@dataclass
+class Line:
+    """One line of the report; its kind may be known only later."""
+    place: int
+    key: Key
+    theirs: list[Copy]
+    ours: list[Copy]
+    kind: str = ""  # none: it is not printed
+    last: int = 0  # where the last of the copies was sent that came late
+
+    def differs(self) -> bool:
+        return flags(self.theirs) != flags(self.ours)
+
+    def __str__(self) -> str:
+        late = f" (by line {self.last})" if self.last else ""
+        return (f"{self.kind}: line {self.place}: {self.key[0]!r} {self.key[1]!r}: "
+                f"broker {shown(self.theirs)}{late}; mqroute {shown(self.ours)}")

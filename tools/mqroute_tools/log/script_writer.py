@@ -1,0 +1,152 @@
+"""The second reading of a log: the script, with what it begins with."""
+import argparse
+import json
+from typing import TypeVar
+
+from ..common.exit_status import Fault
+from ..common.files import at, open_input
+from ..script.file_kinds import OF_MOSQUITTO, kind
+from ..script.output import Command, is_blank
+from ..script.sessions import FOREVER
+from . import mosquitto_log as log
+from .broker_state import UNTOLD, State
+from .clients import NONE
+from .conversion import Converter
+from .inference import Beginning, beginning
+from .log_files import Logs
+
+
+class Writer(Converter):
+    """Converts, and counts what explains the broker's copies."""
+
+    def __init__(self, session_expiry: int | None, form: str | None, begins: Beginning) -> None:
+        super().__init__(session_expiry or 0, form)
+        self.given = session_expiry is not None
+        self.begins = begins
+        self.state: State | None = None  # that the commands lead to, if it is wanted
+        self.untold = False  # whether the session that begins is kept
+        self.for_will = False
+        self.topics: set[str] = set(begins.state.retained)  # that the script publishes
+        self.explained = [0, 0, 0]
+        self.logs: Logs | None = None
+        self.is_log = False  # whether a line of mosquitto's was read
+        self.know(begins.state, begins.inferred)
+        self.tell_before()
+
+    def tell_before(self) -> None:
+        for client in self.begins.inferred:
+            self.seen_before.add(client)
+            self.notes.add("clients were connected before the log began: their subscriptions are "
+                           "inferred from what they were sent", client)
+        for client in self.begins.nameless:
+            self.notes.add(
+                "of them have no user name in the log, and so none in the script", client)
+
+    def start_with(self, follow: bool) -> None:
+        """Writes the commands of before the log."""
+        if follow:
+            self.state = State()
+        for command in self.begins.state.commands():
+            self.emit(0, command)
+        for client in self.state.clients.values() if self.state else ():
+            client.older = True
+
+    def emit(self, place: int, command: Command, routed: bool | None = True) -> None:
+        written = len(self.commands)
+        super().emit(place, command, routed)
+        if command["do"] == "publish":
+            self.topics.add(command["topic"])
+        if self.state:
+            for _, each in self.commands[written:]:
+                self.follow(self.state, each, routed)
+
+    def follow(self, state: State, command: Command, routed: bool | None) -> None:
+        if command["do"] == "connect":
+            if self.for_will and command["client"] in state.clients:
+                return
+            command = command | ({"session_expiry": UNTOLD} if self.untold else {})
+        state.follow(command, routed)
+
+    def come_for_will(self, place: int, command: Command) -> None:
+        """The state keeps what the session has: it may be there when the client returns."""
+        self.for_will = True
+        super().come_for_will(place, command)
+        self.for_will = False
+
+    def known(self, text: str) -> bool:
+        self.is_log = self.is_log or OF_MOSQUITTO.match(text) is not None
+        return super().known(text)
+
+    def finish(self) -> None:
+        super().finish()
+        if self.logs and not self.is_log:
+            raise self.logs.wrong()
+
+    def expiry(self, place: int, client: str, clean: bool, protocol: int) -> int:
+        """As the next CONNACK tells it: whether the session was there."""
+        self.untold = False
+        if protocol < 5 or self.given:
+            return super().expiry(place, client, clean, protocol)
+        if place in self.begins.kept:
+            return FOREVER
+        self.untold = place not in self.begins.ended
+        if not clean and place not in self.begins.ended:
+            self.notes.add("MQTT 5 sessions may be kept after their connection, and no later "
+                           "CONNACK tells: they are not (--session-expiry)",
+                           f"line {place}: {client}")
+        return 0
+
+    def closed(self, client: str) -> None:
+        if self.place not in self.begins.earlier:
+            super().closed(client)
+
+    def taken_over(self, client: str) -> None:
+        """The copies of the will, if there is to be one, stand before the line
+        that tells whether there is."""
+        super().taken_over(client)
+        will = self.connected[client].will
+        if will:
+            self.topics.add(will["topic"])
+
+    def copied(self, sent: log.Publish) -> None:
+        super().copied(sent)
+        session = self.connected.get(sent.client)
+        if not (sent.dup or sent.topic.startswith("$SYS/") or self.of_own_will(sent)):
+            known = session is not None and sent.topic in self.topics
+            self.explained[session.reason(sent.topic) if session and known else NONE] += 1
+
+    def unsubscribe(self, place: int, client: str, name: str) -> None:
+        super().unsubscribe(place, client, name)
+        for other in self.begins.ends.pop(place, ()):
+            super().unsubscribe(place, client, other)
+
+
+Kind = TypeVar("Kind", bound=Writer)
+
+
+def read_state(name: str | None) -> State:
+    state = State()
+    if name is None:
+        return state
+    with open_input(name) as stream:
+        for number, line in enumerate(stream, 1):
+            if is_blank(line):
+                continue
+            try:
+                state.follow(json.loads(line))
+            except (ValueError, KeyError, TypeError, AttributeError) as fault:
+                seems = f": looks like {kind(line)}" if kind(line) else ""
+                raise Fault(f"{at(name, number)}: no command of a script{seems}") from fault
+    return state
+
+
+def writer(wanted: type[Kind], options: argparse.Namespace, logs: Logs,
+           follow: bool = False) -> Kind:
+    """What reads the logs a second time."""
+    state = read_state(options.begin)
+    begins = (Beginning(state) if options.no_inference
+              else beginning(logs.streams(), options.time_format, state))
+    found = wanted(options.session_expiry, options.time_format, begins)
+    found.logs = logs
+    found.start_with(follow)
+    return found

@@ -1,0 +1,180 @@
+"""Two outputs for one script, line by line: what differs, by client or user name and topic."""
+from collections import defaultdict
+from functools import lru_cache, partial
+from typing import BinaryIO
+
+from ..common.exit_status import Fault
+from ..common.files import at, open_input
+from ..script.commands import Seen
+from ..script.output import Block, Command, blocks, by_key, command_of, is_blank, misfit
+from .attribution import Grouped, difference
+from .findings import Copies, CopiesRow, Findings, RefusedRow, Refusals, Subject, Totals
+from .report_rows import Reasons, Row, all_causes, copies_of, refused_of, row_order
+
+
+def gathered(depth: int | None, topic: str) -> str:
+    """The topic, or the filter that stands for all topics with the same first levels."""
+    levels = topic.split("/", depth) if depth else []
+    return "/".join(levels[:-1]) + "/#" if depth and len(levels) > depth else topic
+
+
+class Losses:
+    """What differs, by client and topic. With `reasons` its causes too, and where they want
+    it by user name and topic."""
+
+    def __init__(self, depth: int | None) -> None:
+        self.gathered = lru_cache(1 << 14)(partial(gathered, depth))
+        self.reasons: Reasons | None = None
+        self.copies: defaultdict[Row, Copies] = defaultdict(Copies)
+        self.refusals: defaultdict[Row, Refusals] = defaultdict(Refusals)
+
+    def add(self, text: bytes, before: Block, after: Block) -> str | bool:
+        """Counts what one line of the script was answered in both runs. Says why, if an
+        answer can't be of that line."""
+        was = by_key(before.copies)
+        now = was if before.copies == after.copies else by_key(after.copies)
+        said = was or now or before.reason or after.reason or before.refused or after.refused
+        if said or self.reasons:
+            command = command_of(text)
+            why = said and (
+                misfit(command, before, was) or (after != before and misfit(command, after, now)))
+            if why:
+                return str(why)
+            self.count(command or {}, (before, after), was, now)
+        return False
+
+    def count(self, command: Command, blocks: tuple[Block, Block], was: Grouped,
+              now: Grouped) -> None:
+        if self.reasons:
+            self.reasons.take(command, blocks, was, now)
+        self.add_copies(was, now)
+        self.add_refusals(command, blocks[0].line, blocks[0].refused, blocks[1].refused)
+        if self.reasons:
+            self.reasons.attribution.end(command, *blocks, was)
+
+    def who(self, client: str) -> str | None:
+        return self.reasons.who(client) if self.reasons else client
+
+    def add_refusals(self, command: Command, line: int, was: str | None,
+                     now: str | None) -> None:
+        if was or now:
+            subject = self.subject(command)
+            entry = self.refusals[subject]
+            entry.before += was is not None
+            entry.after += now is not None
+            if self.reasons:
+                self.reasons.refused(subject, line, command, was, now)
+            if was != now:
+                entry.newly.update([now] if now else [])
+                entry.no_longer.update([was] if was else [])
+
+    def add_copies(self, was: Grouped, now: Grouped) -> None:
+        for key in was.keys() | now.keys():
+            entry = self.copies[self.who(key[0]), self.gathered(key[1])]
+            old, new = was.get(key, []), now.get(key, [])
+            entry.before += len(old)
+            entry.after += len(new)
+            if old is not new:
+                lost, gained, changed = difference(old, new)
+                entry.lost += lost
+                entry.gained += gained
+                entry.changed += changed
+
+    def subject(self, command: Command) -> Row:
+        """Whom a refusal concerns: the client, and the topic or filter, or
+        what the command does."""
+        try:
+            what = str(command.get("topic", command.get("filter", command["do"])))
+            return self.who(str(command["client"])), self.gathered(what)
+        except KeyError:
+            return "", "(no command)"
+
+    def changed_copies(self) -> list[tuple[Row, Copies]]:
+        return sorted(((k, c) for k, c in self.copies.items() if c.lost or c.gained or c.changed),
+                      key=row_order)
+
+    def changed_refusals(self) -> list[tuple[Row, Refusals]]:
+        return sorted(
+            ((k, r) for k, r in self.refusals.items() if r.newly or r.no_longer), key=row_order)
+
+    def totals(self) -> Totals:
+        copies, refusals = self.copies.values(), self.refusals.values()
+        return Totals(
+            sum(c.before for c in copies), sum(c.after for c in copies),
+            sum(c.lost for c in copies), sum(c.gained for c in copies),
+            sum(c.changed for c in copies),
+            sum(r.before for r in refusals), sum(r.after for r in refusals))
+
+
+class Run:
+    """One output, answer by answer."""
+
+    def __init__(self, name: str) -> None:
+        self.name = name
+        self.blocks = blocks(name)
+        self.head = next(self.blocks, None)
+
+    def take(self, number: int) -> Block | None:
+        """The answer to this line of the script, if it has one."""
+        head = self.head
+        if head is None or head.line != number:
+            return None
+        self.head = next(self.blocks, None)
+        return head
+
+
+def compare(losses: Losses, script: str, before: str, after: str) -> None:
+    runs = [Run(before), Run(after)]
+    seen = Seen(script)
+    with open_input(script) as commands:
+        try:
+            compare_lines(losses, script, commands, runs, seen)
+        except Fault:
+            seen.refuse(commands)
+            raise
+    seen.refuse()
+    for run in runs:
+        if run.head:
+            raise Fault(f"{run.name} has answers to lines that {script} doesn't have")
+
+
+def compare_lines(losses: Losses, script: str, commands: BinaryIO, runs: list[Run],
+                  seen: Seen) -> None:
+    for number, text in enumerate(commands, 1):
+        seen.add(text)
+        why = compare_line(losses, text, runs, number)
+        if why:
+            raise Fault(f"{at(script, number)}: {why}")
+
+
+def compare_line(losses: Losses, text: bytes, runs: list[Run], number: int) -> str:
+    """Counts one line of the script. Says why, if the outputs can't be of this script."""
+    here = [run.take(number) for run in runs]
+    before, after = here
+    if is_blank(text):
+        names = [run.name for run, block in zip(runs, here) if block]
+        other = "has an answer to it: it is the output of another script"
+        return f"blank, and {names[0]} {other}" if names else ""
+    if before is None or after is None:
+        return unanswered([run.name for run, block in zip(runs, here) if block is None])
+    why = losses.add(text, before, after)
+    return f"an output is of another script: {why}" if why else ""
+
+
+def unanswered(names: list[str]) -> str:
+    if len(names) == 2:
+        return "answered in neither output: a run failed or is cut short"
+    return f"not answered in {names[0]}: a run failed or is cut short, or is of another script"
+
+
+def findings(losses: Losses) -> Findings:
+    """All that is told."""
+    copies, refusals, reasons = losses.changed_copies(), losses.changed_refusals(), losses.reasons
+    if not reasons:
+        return Findings(None, [CopiesRow(Subject(*key), value, None) for key, value in copies], [],
+                        [RefusedRow(Subject(*key), value) for key, value in refusals],
+                        losses.totals())
+    rows = [copies_of(reasons, key, value) for key, value in copies]
+    lines = [row for key, value in refusals for row in refused_of(reasons, key, value)]
+    return Findings("user" if reasons.by_user else "client", rows, all_causes(rows), lines,
+                    losses.totals())

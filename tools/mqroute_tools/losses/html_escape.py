@@ -1,0 +1,22 @@
+"""Names of other people's on a page: what they hold is text, and neither markup
+nor a direction of writing."""
+import html
+
+from ..common.tables import shown, user_shown
+from .findings import Subject
+
+
+def visible(text: str) -> str:
+    """A client id or topic for a page. Characters that aren't seen, or that turn text round,
+    are told by their numbers."""
+    return escaped(shown(text))
+
+
+def escaped(text: str) -> str:
+    seen = "".join(c if c == " " or c.isprintable() else f"\\u{ord(c):04x}" for c in text)
+    return html.escape(seen, quote=True)
+
+
+def marked(row: Subject) -> str:
+    """The client or the user name of a row."""
+    return escaped(user_shown(row.name)) if row.by_user() else visible(row.name or "")

@@ -1,0 +1,68 @@
+"""who-loses: tells who loses (and who gains) what between two outputs of mqroute for one script.
+
+Exit status: 0 nothing changes; 1 something does; 2 usage, a file, or outputs that aren't of this
+script.
+"""
+import argparse
+import json
+import sys
+
+from ..common.exit_status import UsageFault
+from ..common.files import STDIN, keep_apart, refuse_stdin_twice
+from ..common.option_values import whole_number
+from . import html_page
+from .acl_verdicts import Lists
+from .comparison import Losses, compare, findings
+from .report_rows import Reasons
+from .text_report import report
+
+
+def add_arguments(parser: argparse.ArgumentParser) -> None:
+    parser.description = "Tells who loses what between two outputs of mqroute for one script."
+    for name in ("script", "before", "after"):
+        parser.add_argument(name)
+    parser.add_argument("--depth", type=whole_number(1), metavar="N",
+                        help="gather topics by their first N levels")
+    parser.add_argument("--by", choices=["client", "user"],
+                        help="gather rows by user name, with causes (client without it; with "
+                        "--html user)")
+    parser.add_argument("--why", action="store_true", help="the causes by client, too")
+    parser.add_argument("--acl-before", metavar="FILE",
+                        help="with --acl-after: the lines of both lists that decide (by "
+                        "mqroute-acl why), with the causes")
+    parser.add_argument("--acl-after", metavar="FILE", help="the list of the second run")
+    parser.add_argument("--json", action="store_true", help="JSON, also where nothing changes")
+    parser.add_argument(
+        "--html", metavar="FILE", help="write a page with causes and script lines, too")
+
+
+def check(options: argparse.Namespace) -> None:
+    """Refuses arguments that don't go together, and a file that is read and written."""
+    if (options.acl_before is None) != (options.acl_after is None):
+        raise UsageFault("--acl-before and --acl-after go together")
+    read = [options.script, options.before, options.after, options.acl_before, options.acl_after]
+    refuse_stdin_twice(read)
+    if options.script == STDIN and options.html is not None:
+        raise UsageFault("--html reads the script twice: give it as a file")
+    keep_apart(read, {"--html": options.html})
+
+
+def run(options: argparse.Namespace) -> int:
+    check(options)
+    by_user = options.by == "user" or (options.html is not None and options.by is None)
+    losses = Losses(options.depth)
+    lists = None if options.acl_before is None else Lists(options.acl_before, options.acl_after)
+    if by_user or options.why or options.html is not None or lists:
+        losses.reasons = Reasons(by_user, losses.gathered, lists)
+    compare(losses, options.script, options.before, options.after)
+    found = findings(losses)
+    if lists:
+        lists.refuse()
+    if options.html is not None:
+        html_page.write(options.html, found, options.script, options.before, options.after)
+    if options.json:
+        text = json.dumps(found.json(), ensure_ascii=False, indent=1) + "\n"
+    else:
+        text = report(found)
+    sys.stdout.buffer.write(text.encode("utf-8"))
+    return 1 if found.copies or found.refused else 0

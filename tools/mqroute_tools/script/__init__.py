@@ -1,0 +1,1 @@
+"""Scripts and what mqroute answers to them: commands, outputs, topics, the program itself."""

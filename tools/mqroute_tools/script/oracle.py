@@ -1,0 +1,125 @@
+"""The program mqroute as an oracle, which answers commands and whole scripts."""
+import io
+import json
+import subprocess
+import tempfile
+from collections.abc import Iterable, Iterator
+from pathlib import Path
+
+from ..common.exit_status import Fault
+from ..common.programs import find_program
+from .output import Answer, Block, Command, blocks_of
+
+
+class OracleFault(Exception):
+    """The program is not there, or it ended with another status than 0 and 1."""
+
+
+def found_program() -> str:
+    return find_program("MQROUTE", "mqroute")
+
+
+class Conversation:
+    """A program that runs: a line in, its answers out."""
+
+    def __init__(self, words: list[str]) -> None:
+        self.program = subprocess.Popen([*words, "--unbuffered"], stdin=subprocess.PIPE,
+                                        stdout=subprocess.PIPE, stderr=subprocess.PIPE)
+        given, written, told = self.program.stdin, self.program.stdout, self.program.stderr
+        assert given and written and told, "each is a pipe"
+        self.input, self.told = given, told
+        self.output = io.TextIOWrapper(written, "utf-8", newline="\n")
+        self.blocks: Iterator[Block] = blocks_of(self.output, "the answer")
+
+    def block(self, line: str) -> Block:
+        try:
+            self.input.write(line.encode())
+            self.input.flush()
+            return next(self.blocks)
+        except (OSError, Fault, StopIteration) as fault:
+            raise OracleFault(
+                self.end() or f"mqroute ended with status {self.program.returncode}") from fault
+
+    def end(self) -> str:
+        """Lets the program end; what it said on standard error, once."""
+        if self.output.closed:
+            return ""
+        try:
+            self.input.close()
+        except OSError:
+            pass  # the program has ended before it read all
+        self.output.close()
+        with self.told as stream:
+            told = stream.read().decode("utf-8", "replace").strip()
+        self.program.wait()
+        return told
+
+
+class Oracle:
+    """Answers commands one by one, in a world that lasts until `close`; and whole scripts, each in
+    a world of its own.
+
+    `acl` is the text of an access list; without one everything is allowed. The limits are those of
+    the program's options.
+    """
+
+    def __init__(self, acl: str | None = None, max_retained: int | None = None,
+                 max_queued: int | None = None, program: str | None = None) -> None:
+        self.words = [program or found_program()]
+        for name, limit in (("--max-retained", max_retained), ("--max-queued", max_queued)):
+            if limit is not None:
+                self.words.append(f"{name}={limit}")
+        self.conversation: Conversation | None = None
+        self.folder: tempfile.TemporaryDirectory[str] | None = None
+        if acl is not None:
+            self.folder = tempfile.TemporaryDirectory(prefix="mqroute-")
+            file = Path(self.folder.name, "acl")
+            file.write_text(acl, encoding="utf-8", newline="")
+            self.words.append(f"--acl-file={file}")
+
+    def __enter__(self) -> "Oracle":
+        return self
+
+    def __exit__(self, *_: object) -> None:
+        self.close()
+
+    def close(self) -> None:
+        if self.conversation is not None:
+            self.conversation.end()
+            self.conversation = None
+        if self.folder is not None:
+            self.folder.cleanup()
+
+    def answers(self, command: Command) -> list[Answer]:
+        """The answers to a command after those before it: its copies, then the closing line or the
+        refusal.
+
+        Their line is the number of commands so far. After OracleFault nothing more is answered
+        before `close`.
+        """
+        if self.conversation is None:
+            try:
+                self.conversation = Conversation(self.words)
+            except OSError as fault:
+                raise OracleFault(f"cannot run {self.words[0]}: {fault.strerror}") from fault
+        return self.conversation.block(json.dumps(command) + "\n").answers()
+
+    def run(self, commands: Iterable[Command]) -> list[list[Answer]]:
+        """The answers to each command: its copies, then the closing line or the refusal."""
+        return [block.answers() for block in self.blocks(commands)]
+
+    def blocks(self, commands: Iterable[Command]) -> list[Block]:
+        """The same, as the lines that mqroute wrote."""
+        lines = [json.dumps(command) + "\n" for command in commands]
+        try:
+            done = subprocess.run(self.words, input="".join(lines).encode(), capture_output=True)
+        except OSError as fault:
+            raise OracleFault(f"cannot run {self.words[0]}: {fault.strerror}") from fault
+        if done.returncode not in (0, 1):
+            raise OracleFault(done.stderr.decode("utf-8", "replace").strip()
+                              or f"mqroute ended with status {done.returncode}")
+        try:
+            return list(
+                blocks_of(io.StringIO(done.stdout.decode("utf-8"), newline="\n"), "the answer"))
+        except (Fault, UnicodeDecodeError) as fault:
+            raise OracleFault(str(fault)) from fault

@@ -1,0 +1,138 @@
+"""What mqroute wrote for a script: the answers, by the script's lines."""
+import json
+import re
+from collections import defaultdict
+from collections.abc import Iterable, Iterator
+from typing import Any, NamedTuple
+
+from ..common.exit_status import Fault
+from ..common.files import at, open_text
+from .file_kinds import HEAD, kind
+
+Command = dict[str, Any]  # a line of a script, as JSON has it
+Answer = dict[str, Any]  # and one of an output
+Key = tuple[str, str]  # client and topic
+COPY = '{"client":'  # mqroute prints names in ascending order: a copy alone begins so
+ACCEPTED = re.compile(r'\{"line":(\d+),"reason":(\d+)\}$')
+TEXT = r'[^"\\\x00-\x1f]*'  # a text of JSON without escapes
+PLAIN = re.compile(
+    rf'\{{"client":"({TEXT})"(?:,"expiry":\d+)?(?:,"filter":"{TEXT}")?(?:,"ids":\[[\d,]*\])?'
+    rf',"line":\d+,"payload":"{TEXT}",'
+    rf'"qos":[012],"retain":(?:true|false)(?:,"share":"{TEXT}")?,"topic":"({TEXT})"\}}\n')
+# of other commands 0, and of a subscribe its QoS
+REASONS = {"publish": (0, 16), "unsubscribe": (0, 17)}
+SHOWN = 60  # characters of a line
+read_json = json.JSONDecoder().decode
+
+
+class Block(NamedTuple):
+    """What one line of a script was answered: its copies as they stand, then a reason (a
+    stat has none) or a refusal."""
+    line: int
+    copies: list[str]
+    reason: int | None
+    refused: str | None
+    end: str = ""  # the closing line or the refusal, as it stands
+
+    def texts(self) -> list[str]:
+        """The lines that were written."""
+        return [*self.copies, self.end]
+
+    def answers(self) -> list[Answer]:
+        return [read_json(text) for text in self.texts()]
+
+
+def blocks(name: str) -> Iterator[Block]:
+    """The answers in the output that a file has, in order."""
+    with open_text(name) as stream:
+        yield from blocks_of(stream, name)
+
+
+def blocks_of(lines: Iterable[str], name: str) -> Iterator[Block]:
+    """The answers in an output, in order; each as soon as its last line is there."""
+    copies: list[str] = []
+    number, text = 0, "\n"
+    try:
+        for number, text in enumerate(lines, 1):
+            if text.startswith(COPY):
+                copies.append(text)
+                continue
+            yield closed(text, copies)
+            copies = []
+    except UnicodeDecodeError as fault:
+        raise Fault(f"{name}: no output of mqroute: it is not UTF-8") from fault
+    except (ValueError, KeyError, TypeError, RecursionError) as fault:
+        raise Fault(f"{at(name, number)}: {no_answer(text, number)}") from fault
+    if copies or not text.endswith("\n"):
+        raise Fault(f"{at(name, number)}: cut short: copies without a closing line, "
+                    "or a line without its end")
+
+
+def no_answer(text: str, number: int) -> str:
+    """What is wrong with a line of an output, that is its first of all or a later one."""
+    if not text.endswith("\n"):
+        return "cut short: no answer of mqroute"
+    what = kind(text[:HEAD].encode("utf-8", "replace")) if number == 1 else ""
+    return "no answer of mqroute" + (f": looks like {what}" if what else "")
+
+
+def closed(text: str, copies: list[str]) -> Block:
+    """The answer that a closing line ends."""
+    found = ACCEPTED.match(text)
+    if found:
+        return Block(int(found[1]), copies, int(found[2]), None, text)
+    end = read_json(text)
+    accepted = "reason" in end or "nodes" in end
+    return Block(int(end["line"]), copies, end.get("reason"),
+                 None if accepted else str(end["refused"]), text)
+
+
+def by_key(copies: list[str], name: str = "the output") -> defaultdict[Key, list[str]]:
+    """The copies of each client and topic, read without JSON where they are plain."""
+    found: defaultdict[Key, list[str]] = defaultdict(list)
+    match = PLAIN.fullmatch
+    for text in copies:
+        plain = match(text)
+        found[(plain[1], plain[2]) if plain else key_of(text, name)].append(text)
+    return found
+
+
+def key_of(text: str, name: str) -> Key:
+    try:
+        copy = read_json(text)
+        return copy["client"], copy["topic"]
+    except (ValueError, KeyError, TypeError, RecursionError) as fault:
+        why = f"begins like a copy and is none: {text[:SHOWN].rstrip()}"
+        raise Fault(f"{name}: no output of mqroute: {why}") from fault
+
+
+def command_of(text: bytes) -> Command | None:
+    """The command on a line of a script, if Python can read it as one."""
+    try:
+        value = json.loads(text)
+    except (ValueError, RecursionError):
+        return None
+    return value if isinstance(value, dict) else None
+
+
+def is_blank(text: bytes) -> bool:
+    return not text.strip(b" \t\r\n")
+
+
+def misfit(command: Command | None, block: Block, keys: Iterable[Key]) -> str:
+    """Why mqroute can't have answered this to the command: its output is of another
+    script. Empty where it can."""
+    if command is None or block.refused:
+        return ""
+    do, client = command.get("do"), command.get("client")
+    reasons = (command.get("qos", 0),) if do == "subscribe" else REASONS.get(str(do), (0,))
+    if block.reason is not None and block.reason not in reasons:
+        return f"reason {block.reason} for the command {do}"
+    for receiver, topic in keys:
+        if do == "publish" and topic != command.get("topic"):
+            return f"a copy of the topic {topic!r}, which isn't the one that is published"
+        if do in ("connect", "subscribe") and receiver != client:
+            return f"a copy for {receiver!r}, where {client!r} connects or subscribes"
+        if do not in ("publish", "connect", "subscribe"):
+            return f"a copy for the command {do}"
+    return ""

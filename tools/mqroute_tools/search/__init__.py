@@ -1,0 +1,1 @@
+"""A search for differences: random scripts on a live broker, and the smallest that differ."""

@@ -1,0 +1,68 @@
+"""The command line: each subcommand under its own name and under that of all."""
+import os
+import re
+import subprocess
+import sys
+import tempfile
+import unittest
+from pathlib import Path
+
+from worked import HERE
+from mqroute_tools.cli import SUBCOMMANDS
+
+ALL = [sys.executable, "-m", "mqroute_tools"]
+
+
+def said(words: list[str | Path]) -> subprocess.CompletedProcess:
+    """Where `mqroute_tools` can be imported, on a terminal of 80 columns."""
+    around = os.environ | {"PYTHONPATH": str(HERE), "COLUMNS": "80"}
+    return subprocess.run(words, capture_output=True, text=True, env=around)
+
+
+def help_behind_name(words: list[str | Path], name: str) -> str:
+    """What --help tells, from behind the name on. Where its lines break depends on that."""
+    done = said([*words, "--help"])
+    assert (done.returncode, done.stderr) == (0, ""), done
+    head, rest = f"usage: {name} ", done.stdout
+    assert rest.startswith(head), rest
+    return " ".join(rest.removeprefix(head).split())
+
+
+class Names(unittest.TestCase):
+    def test_the_same_help(self):
+        with tempfile.TemporaryDirectory() as folder:
+            for name in SUBCOMMANDS:
+                script = HERE / f"{name.replace('-', '_')}.py"
+                link = Path(folder, f"mqroute-{name}")
+                link.symlink_to(script)
+                wanted = help_behind_name([*ALL, name], f"mqroute-tools {name}")
+                self.assertGreater(len(wanted), 100)
+                for way in (script, link):
+                    with self.subTest(way=way):
+                        self.assertEqual(help_behind_name([way], way.name), wanted)
+
+    def test_the_list(self):
+        """A line for each subcommand; also where the file of all is called by its path."""
+        done = said([*ALL, "--help"])
+        lines = re.findall(r"^  ([\w-]+)  +\w.*$", done.stdout.split("subcommands:\n")[1], re.M)
+        self.assertEqual((lines, done.returncode), ([*SUBCOMMANDS], 0))
+        self.assertEqual(said([HERE / "tools.py", "--help"]).stdout, done.stdout)
+
+    def test_no_such_subcommand(self):
+        for words, told in ((["fly"], "invalid choice: 'fly'"), ([], "required: SUBCOMMAND\n"),
+                            (["--fly", "check"], "unrecognized arguments: --fly")):
+            done = said([*ALL, *words])
+            self.assertEqual((done.returncode, done.stdout), (2, ""))
+            self.assertIn(told, done.stderr)
+
+    def test_what_it_tells(self):
+        for words, told in ((["check", "/nowhere"], "check: /nowhere: No such file or directory\n"),
+                            (["who-loses", "-", "-", "x"],
+                             "who-loses: error: standard input can be read once\n")):
+            done = said([*ALL, *words])
+            self.assertEqual(done.returncode, 2)
+            self.assertTrue(done.stderr.endswith(f"mqroute-tools {told}"), done.stderr)
+
+
+if __name__ == "__main__":
+    unittest.main()
