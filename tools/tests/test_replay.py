@@ -261,6 +261,7 @@ class Runs(OnABroker):
                               timeout=20)
         self.assertEqual((done.returncode, done.stderr), (0, ""))
 
+    @wants_program
     def test_what_is_not_offered(self):
         self.start("max_qos 1\nretain_available false\n")
         script = [self.CONNECT, self.SUBSCRIBE, self.PUBLISH | {"qos": 2},
