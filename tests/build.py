@@ -45,8 +45,10 @@ def lay_out(top):
 def started(top, ends, step=":"):
     env = os.environ | {"PATH": f"{top}:{os.environ['PATH']}", "XDG_CACHE_HOME": str(top / "cache"),
                         "SEEN": str(top / "seen"), "ENDS": ends, "STEP": step}
+    # a job in the background ignores Ctrl-C, and so do its tests
     return subprocess.Popen([sys.executable, "dev/build.py"], cwd=top, env=env, text=True,
-                            stdout=subprocess.PIPE, stderr=subprocess.PIPE)
+                            stdout=subprocess.PIPE, stderr=subprocess.PIPE,
+                            preexec_fn=lambda: signal.signal(signal.SIGINT, signal.SIG_DFL))
 
 
 def ended(*words):
