@@ -1,48 +1,42 @@
--- Texts in ascending order, equal ones repeated: what a stable sort by a text gives, and the run of the first one.
+-- Texts in ascending order, equal ones repeated: a stable sort by a text, and the run of the first.
 use Rattle.std.proofs.Common.{◌≡◌, ℕ, suc, ◌+◌, ◌-◌, ◌≤◌, ◌<◌, suc-le-suc, zero-le, Bool, true}
-use Rattle.std.proofs.Common.{false, true≢false, cond, not, ◌&&◌, ◌||◌, List, [], ◌∷◌, ◌++◌, map}
-use Rattle.std.proofs.Common.{length, get_or, refl, sym, ◌∙◌, ap, subst, arith}
-use Rattle.std.specs.declared.cmp.Ordering.{Ordering}
-use Rattle.std.specs.declared.cmp.Ordering.TheVariants.{Less, Equal, Greater}
-use Rattle.std.specs.Ordering.{is_eq, is_lt, ordering_reverse}
+use Rattle.std.proofs.Common.{false, true≢false, not, ◌&&◌, List, [], ◌∷◌, ◌++◌, map, length}
+use Rattle.std.proofs.Common.{get_or, refl, sym, ◌∙◌, ap, subst, arith, Less, is_eq, is_lt, filter}
+use Rattle.std.proofs.Common.{flat_map, IsSortedBy}
+use Rattle.std.specs.Ordering.{ordering_reverse}
 use Rattle.std.specs.Cmp.Lexicographic.{nat_list_cmp_total}
-use Rattle.std.specs.List.{filter, flat_map, list_any, AllByRecursion, AllAdjacentBelow}
-use Rattle.std.specs.List.{IsChunkByPrefix}
-use Rattle.std.specs.List.Sorted.{IsSortedBy, IsStableBy, IsStrictlySortedBy}
+use Rattle.std.specs.List.{list_any, AllByRecursion, AllAdjacentBelow, IsChunkByPrefix}
+use Rattle.std.specs.List.Sorted.{IsStableBy, IsStrictlySortedBy}
 use Rattle.std.proofs.lemmas.List.Sorted.{sorted_far, ranks_by}
-use Rattle.std.proofs.Math.Bool.{or-true, or-false, or_self}
+use Rattle.std.proofs.Math.Bool.{or-false, or_self}
+use Rattle.std.proofs.lemmas.Bool.{or_left, or_right, or_parts}
 use Rattle.mq_world.specs.Lists.{Text, same_text, text_cmp, in_order}
 use Rattle.mq_subscriptions.specs.Filters.{is_text}
 use Rattle.mq_subscriptions.specs.Matches.{AreAscending}
 use Rattle.mq_world.proofs.BoolLemmas.{pick}
 use Rattle.mq_world.proofs.ListLemmas.{filter-same, any-append}
-use Rattle.mq_world.proofs.OrderLemmas.{all_weaker, all-with_row, text_flip}
+use Rattle.mq_world.proofs.OrderLemmas.{all_weaker, all-with_row, text_flip, same_text-is}
+use Rattle.mq_world.proofs.OrderLemmas.{same_text-itself}
 use Rattle.mq_world.proofs.SortedLemmas.{same_sorted, sorted-in_order, any-in_order}
-use Rattle.mq_world.proofs.OrderLemmas.{same_text-is, same_text-itself}
 use Rattle.mq_subscriptions.proofs.TextMaps.{is_text-is, key_text}
+use Rattle.mq_subscriptions.proofs.Outcomes.{pick_order}
 
 -- what is no less than a text, and another, is greater
 greater : (s t : Text) → is_lt (text_cmp t s) ≡ false → same_text s t ≡ false → text_cmp s t ≡ Less
-greater s t h n = by (text_cmp s t) refl
-  where
-    by : (r : Ordering) → text_cmp s t ≡ r → r ≡ Less
-    by Less e = refl
-    by Equal e = absurd (true≢false (sym (sym (is_text-is s t) ∙ ap is_eq e) ∙ n))
-    by Greater e =
-        absurd (true≢false (sym (ap is_lt (nat_list_cmp_total.antisymm t s ∙ ap ordering_reverse e))
-        ∙ h))
+greater s t h n =
+    pick_order (text_cmp s t) (λ e. e)
+    (λ e. absurd (true≢false (sym (sym (is_text-is s t) ∙ ap is_eq e) ∙ n)))
+    (λ e. absurd (true≢false
+    (sym (ap is_lt (nat_list_cmp_total.antisymm t s ∙ ap ordering_reverse e)) ∙ h)))
 
 -- and so is what is no less than a greater one
 greater_far : (s t u : Text) → text_cmp s t ≡ Less → is_lt (text_cmp u t) ≡ false
     → text_cmp s u ≡ Less
-greater_far s t u less h = by (text_cmp t u) refl
-  where
-    by : (r : Ordering) → text_cmp t u ≡ r → text_cmp s u ≡ Less
-    by Less e = nat_list_cmp_total.trans s t u less e
-    by Equal e = ap (text_cmp s) (sym (key_text t u (ap is_eq e))) ∙ less
-    by Greater e =
-        absurd (true≢false (sym (ap is_lt (nat_list_cmp_total.antisymm u t ∙ ap ordering_reverse e))
-        ∙ h))
+greater_far s t u less h =
+    pick_order (text_cmp t u) (λ e. nat_list_cmp_total.trans s t u less e)
+    (λ e. rw (← key_text t u (ap is_eq e)) less)
+    (λ e. absurd (true≢false
+    (sym (ap is_lt (nat_list_cmp_total.antisymm u t ∙ ap ordering_reverse e)) ∙ h)))
 
 all_far : (s t : Text) → text_cmp s t ≡ Less → (us : List Text)
     → AllByRecursion (λ u. is_lt (text_cmp u t) ≡ false) us
@@ -59,9 +53,8 @@ all-in_order P (t ∷ ts) h = all-with_row text_cmp nat_list_cmp_total P t (in_o
 
 any-alike : (c z : Text) (t : Text) (ts : List Text) → AllByRecursion (λ u. u ≡ c) (t ∷ ts)
     → list_any (is_text z) (t ∷ ts) ≡ is_text z c
-any-alike c z t [] h = ap (λ u. is_text z u || false) h.0 ∙ or-false (is_text z c)
-any-alike c z t (u ∷ ts) h = ap (λ v. is_text z v || list_any (is_text z) (u ∷ ts)) h.0
-    ∙ ap (λ b. is_text z c || b) (any-alike c z u ts h.1) ∙ or_self (is_text z c)
+any-alike c z t [] h = rw h.0 (or-false (is_text z c))
+any-alike c z t (u ∷ ts) h = rw (h.0, any-alike c z u ts h.1) (or_self (is_text z c))
 
 -- the least text comes first, once
 pub least-first : (c t : Text) (ts rest : List Text) → AllByRecursion (λ u. u ≡ c) (t ∷ ts)
@@ -70,15 +63,13 @@ pub least-first : (c t : Text) (ts rest : List Text) → AllByRecursion (λ u. u
 unfolding IsStrictlySortedBy
 least-first c t ts rest own far =
     same_sorted text_cmp nat_list_cmp_total key_text (in_order text_cmp ((t ∷ ts) ++ rest))
-    (c ∷ in_order text_cmp rest)
-    (sorted-in_order text_cmp nat_list_cmp_total ((t ∷ ts) ++ rest)) (
+    (c ∷ in_order text_cmp rest) (sorted-in_order text_cmp nat_list_cmp_total ((t ∷ ts) ++ rest)) (
       all-in_order (λ u. text_cmp c u ≡ Less) rest far,
       sorted-in_order text_cmp nat_list_cmp_total rest,
     )
-    (λ z. any-in_order text_cmp nat_list_cmp_total key_text z ((t ∷ ts) ++ rest)
-    ∙ any-append (is_text z) (t ∷ ts) rest
-    ∙ ap (λ b. b || list_any (is_text z) rest) (any-alike c z t ts own)
-    ∙ ap (λ b. is_text z c || b) (sym (any-in_order text_cmp nat_list_cmp_total key_text z rest)))
+    (λ z. rw (any-in_order text_cmp nat_list_cmp_total key_text z ((t ∷ ts) ++ rest))
+    (rw (any-append (is_text z) (t ∷ ts) rest, any-alike c z t ts own)
+    (rw (any-in_order text_cmp nat_list_cmp_total key_text z rest))))
 
 -- ## What a sort by a text gives, and what a run of one text is
 
@@ -112,8 +103,7 @@ module _ {X : Type 0} (key : X → Text) where
       → (suc (length own) < length (x ∷ own ++ rest) → (d : X)
       → same (get_or (x ∷ own ++ rest) (length own) d)
       (get_or (x ∷ own ++ rest) (suc (length own)) d) ≡ false)
-      → AreAscending (map key (x ∷ own ++ rest))
-      → AllByRecursion (λ u. u ≡ key x) (map key own)
+      → AreAscending (map key (x ∷ own ++ rest)) → AllByRecursion (λ u. u ≡ key x) (map key own)
       × AllByRecursion (λ u. text_cmp (key x) u ≡ Less) (map key rest)
   run x [] [] adjacent apart up = (tt, tt)
   run x [] (y ∷ rest) adjacent apart up =
@@ -122,15 +112,15 @@ module _ {X : Type 0} (key : X → Text) where
       (tt, (less, all_far (key x) (key y) less (map key rest) up.1.0))
   run x (y ∷ own) rest adjacent apart up =
       let one : key x ≡ key y = same_text-is (key x) (key y) (adjacent 0 x (omega arith)) in
-      let next = run y own rest
-      (λ k d p. (let one_more : suc (k + 1) ≡ suc k + 1 = omega arith in
+      let next = run y own rest (λ k d p. (let one_more : suc (k + 1) ≡ suc k + 1 = omega arith in
       ap (λ n. same (get_or (y ∷ own ++ rest) k d) (get_or (x ∷ y ∷ own ++ rest) n d)) one_more
       ∙ adjacent (suc k) d (omega arith)))
-      (λ p d. apart (suc-le-suc p) d) up.1 in (
-        (sym one, subst (λ (c : Text). AllByRecursion (λ u. u ≡ c) (map key own)) (sym one) next.0),
-        subst (λ (c : Text). AllByRecursion (λ u. text_cmp c u ≡ Less) (map key rest)) (sym one)
-            next.1,
-      )
+      (λ p d. apart (suc-le-suc p) d) up.1 in
+      let same_as = subst (λ (c : Text). AllByRecursion (λ u. u ≡ c) (map key own)) (sym one) next.0
+      in
+      let behind = subst (λ (c : Text). AllByRecursion (λ u. text_cmp c u ≡ Less) (map key rest))
+      (sym one) next.1 in
+      ((sym one, same_as), behind)
 
   pub first-run : (x : X) (own rest : List X)
       → IsChunkByPrefix same (x ∷ own ++ rest) (length (x ∷ own))
@@ -139,8 +129,7 @@ module _ {X : Type 0} (key : X → Text) where
       × AllByRecursion (λ u. text_cmp (key x) u ≡ Less) (map key rest)
   first-run x own rest prefix up =
       let back : length (x ∷ own) - 1 ≡ length own = omega arith in
-      let both = run x own rest prefix.0
-      (λ p d. ap (λ n. same (get_or (x ∷ own ++ rest) n d)
+      let both = run x own rest prefix.0 (λ p d. ap (λ n. same (get_or (x ∷ own ++ rest) n d)
       (get_or (x ∷ own ++ rest) (suc (length own)) d)) (sym back) ∙ prefix.1 p d) up in
       ((refl, both.0), both.1)
 
@@ -151,24 +140,14 @@ module _ {X : Type 0} (key : X → Text) where
       → (filter (λ x. same_text (key x) t) xs ≡ [] → P) → P
   with_key t [] f g = g refl
   with_key t (x ∷ xs) f g =
-      pick (same_text (key x) t)
-      (λ e. f x (same_text-is (key x) t e))
-      (λ e. with_key t xs f
-      (λ none. g (ap (λ b. cond b (x ∷ filter (λ y. same_text (key y) t) xs)
-      (filter (λ y. same_text (key y) t) xs)) e ∙ none)))
+      pick (same_text (key x) t) (λ e. f x (same_text-is (key x) t e))
+      (λ e. with_key t xs f (λ none. g (rw e none)))
 
   tie-same : (t u : Text) → same_text u t
       ≡ (not (is_lt (text_cmp t u)) && not (is_lt (text_cmp u t)))
   tie-same t u =
-      text_flip u t ∙ sym (is_text-is t u)
-      ∙ cases (text_cmp t u)
-      ∙ ap (λ r. not (is_lt (text_cmp t u)) && not (is_lt r))
-      (sym (nat_list_cmp_total.antisymm u t))
-    where
-      cases : (r : Ordering) → is_eq r ≡ (not (is_lt r) && not (is_lt (ordering_reverse r)))
-      cases Less = refl
-      cases Equal = refl
-      cases Greater = refl
+      rw (text_flip u t, ← is_text-is t u, nat_list_cmp_total.antisymm u t)
+      (pick_order (text_cmp t u) (λ e. rw e) (λ e. rw e) (λ e. rw e))
 
   pub stable-kept : (xs ys : List X) → IsStableBy lt xs ys → (t : Text)
       → filter (λ x. same_text (key x) t) ys ≡ filter (λ x. same_text (key x) t) xs
@@ -180,10 +159,9 @@ module _ {X : Type 0} (key : X → Text) where
       by_one x e =
           let alike : (y : X) → same_text (key y) t ≡ (not (lt x y) && not (lt y x)) =
           λ y. ap (same_text (key y)) (sym e) ∙ tie-same (key x) (key y) in
-          filter-same (λ y. same_text (key y) t) (λ y. not (lt x y) && not (lt y x)) alike ys
-          ∙ stable x
-          ∙ sym (filter-same (λ y. same_text (key y) t) (λ y. not (lt x y) && not (lt y x)) alike
-          xs)
+          rw (filter-same (λ y. same_text (key y) t) (λ y. not (lt x y) && not (lt y x)) alike ys)
+          (rw (filter-same (λ y. same_text (key y) t) (λ y. not (lt x y) && not (lt y x)) alike xs)
+          (stable x))
 
   -- ### By each key
 
@@ -192,8 +170,7 @@ module _ {X : Type 0} (key : X → Text) where
 
   not_of : (x : X) (t : Text) (xs : List X) → text_cmp t (key x) ≡ Less
       → of_key (x ∷ xs) t ≡ of_key xs t
-  not_of x t xs less = ap (λ b. cond b (x ∷ of_key xs t) (of_key xs t))
-      (text_flip (key x) t ∙ sym (is_text-is t (key x)) ∙ ap is_eq less)
+  not_of x t xs less = rw (text_flip (key x) t, ← is_text-is t (key x), less)
 
   none_of : (t : Text) (xs : List X) → AllByRecursion (λ u. text_cmp t u ≡ Less) (map key xs)
       → of_key xs t ≡ []
@@ -208,10 +185,7 @@ module _ {X : Type 0} (key : X → Text) where
       → AllByRecursion (λ u. text_cmp (key x) u ≡ Less) ts
       → flat_map (of_key (x ∷ xs)) ts ≡ flat_map (of_key xs) ts
   behind_first x xs [] h = refl
-  behind_first x xs (t ∷ ts) h =
-      ap (λ b. cond b (x ∷ of_key xs t) (of_key xs t) ++ flat_map (of_key (x ∷ xs)) ts)
-      (sym (is_text-is (key x) t) ∙ ap is_eq h.0)
-      ∙ ap (λ l. of_key xs t ++ l) (behind_first x xs ts h.1)
+  behind_first x xs (t ∷ ts) h = rw (← is_text-is (key x) t, h.0, behind_first x xs ts h.1)
 
   first_by_key : (x : X) (xs : List X) (ts : List Text)
       → AllByRecursion (λ u. is_lt (text_cmp u (key x)) ≡ false) (map key xs)
@@ -220,29 +194,18 @@ module _ {X : Type 0} (key : X → Text) where
   unfolding IsStrictlySortedBy
   first_by_key x xs [] up s there = absurd (true≢false (sym there))
   first_by_key x xs (t ∷ ts) up s there =
-      pick (is_text (key x) t)
-      (λ e. (let one : key x ≡ t = key_text (key x) t e in
-      ap (λ b. cond b (x ∷ of_key xs t) (of_key xs t) ++ flat_map (of_key (x ∷ xs)) ts)
-      (sym (is_text-is (key x) t) ∙ e)
-      ∙ ap (λ l. (x ∷ of_key xs t) ++ l)
-      (behind_first x xs ts (subst (λ (c : Text). AllByRecursion (λ u. text_cmp c u ≡ Less) ts)
-      (sym one) s.0))))
-      (λ f. (let later : list_any (is_text (key x)) ts ≡ true =
-      ap (λ b. b || list_any (is_text (key x)) ts) (sym f) ∙ there in
+      pick (is_text (key x) t) (λ e. rw (← is_text-is (key x) t, e)
+      (rw (behind_first x xs ts (rw (← key_text (key x) t e) at s.0))))
+      (λ f. (let later : list_any (is_text (key x)) ts ≡ true = rw f at there in
       let less : text_cmp t (key x) ≡ Less = below t (key x) ts s.0 later in
-      ap (λ l. l ++ flat_map (of_key (x ∷ xs)) ts)
-      (not_of x t xs less ∙ none_of t xs (all_far t (key x) less (map key xs) up))
-      ∙ first_by_key x xs ts up s.1 later
-      ∙ ap (λ l. x ∷ l ++ flat_map (of_key xs) ts)
-      (sym (none_of t xs (all_far t (key x) less (map key xs) up)))))
+      rw (not_of x t xs less, none_of t xs (all_far t (key x) less (map key xs) up))
+      (first_by_key x xs ts up s.1 later)))
     where
       below : (t c : Text) (us : List Text) → AllByRecursion (λ u. text_cmp t u ≡ Less) us
           → list_any (is_text c) us ≡ true → text_cmp t c ≡ Less
       below t c [] h k = absurd (true≢false (sym k))
       below t c (u ∷ us) h k =
-          pick (is_text c u)
-          (λ e. ap (text_cmp t) (key_text c u e) ∙ h.0)
-          (λ f. below t c us h.1 (ap (λ b. b || list_any (is_text c) us) (sym f) ∙ k))
+          pick (is_text c u) (λ e. rw (key_text c u e) h.0) (λ f. below t c us h.1 (rw f at k))
 
   -- a list in order of its keys is what it has of each, one after the other
   by_each : (xs : List X) (ts : List Text) → AreAscending (map key xs)
@@ -266,16 +229,13 @@ module _ {X : Type 0} (key : X → Text) where
           → AllByRecursion (λ u. list_any (is_text u) ts ≡ true) us
       all_there [] ts h = tt
       all_there (u ∷ us) ts h = (
-        h u (ap (λ b. b || list_any (is_text u) us) (is_text-is u u ∙ same_text-itself u)),
-        all_there us ts (λ v k. h v (ap (λ b. is_text v u || b) k ∙ or-true (is_text v u))),
+        h u (or_left _ _ (is_text-is u u ∙ same_text-itself u)),
+        all_there us ts (λ v k. h v (or_right _ _ k)),
       )
 
   pub none_there : (t : Text) (xs : List X) → list_any (is_text t) (map key xs) ≡ false
       → of_key xs t ≡ []
   none_there t [] h = refl
   none_there t (x ∷ xs) h =
-      pick (is_text t (key x))
-      (λ e. absurd (true≢false (sym (ap (λ b. b || list_any (is_text t) (map key xs)) e) ∙ h)))
-      (λ f. ap (λ b. cond b (x ∷ of_key xs t) (of_key xs t))
-      (text_flip (key x) t ∙ sym (is_text-is t (key x)) ∙ f)
-      ∙ none_there t xs (ap (λ b. b || list_any (is_text t) (map key xs)) (sym f) ∙ h))
+      let parts = or_parts (is_text t (key x)) (list_any (is_text t) (map key xs)) h in
+      rw (text_flip (key x) t, ← is_text-is t (key x), parts.0) (none_there t xs parts.1)

@@ -13,7 +13,5 @@ pub mod AnyLemmas
 pub mod ClientFilterLemmas
 pub mod TurnsAtLemmas
 pub mod AscendingLemmas
-pub mod MatchLemmas
 pub mod FoundLemmas
-pub mod CountLemmas
 pub mod Outcomes

@@ -1,11 +1,10 @@
 -- What each client has, listed beside the tree.
 use Rattle.std.proofs.Common.{◌≡◌, Bool, true, false, true≢false, cond, ◌&&◌, ◌||◌, not, List, []}
-use Rattle.std.proofs.Common.{◌∷◌, ◌++◌, Option, Some, None, is_some, refl, sym, ◌∙◌, ap, subst}
+use Rattle.std.proofs.Common.{◌∷◌, Option, Some, None, is_some, refl, sym, ◌∙◌, ap, arith, filter}
 use Rattle.std.specs.Cmp.{IsEquivalence, eq_by_cmp_equiv}
 use Rattle.std.specs.Cmp.Lexicographic.{nat_list_cmp_total}
 use Rattle.std.specs.Rc.{rc_str_bytes}
 use Rattle.std.specs.Option.{option_map_or}
-use Rattle.std.specs.List.{filter}
 use Rattle.std.specs.List.Sorted.{IsStrictlySortedBy}
 use Rattle.std.specs.Map.{lookup, set_value, remove_entry, keys_of}
 use Rattle.std.specs.BTreeMap.{insert_entry}
@@ -20,13 +19,12 @@ use Rattle.mq_world.proofs.ListLemmas.{filter-same}
 use Rattle.mq_world.proofs.SameLemmas.{filter-filter}
 use Rattle.mq_world.proofs.TextKeys.{finds}
 use Rattle.mq_world.proofs.BoolLemmas.{pick}
-use Rattle.mq_subscriptions.proofs.TextMaps.{is_text-is, lookup-texts, set_value-texts}
-use Rattle.mq_subscriptions.proofs.TextMaps.{remove_entry-texts, insert_entry-texts, ordered-texts}
-use Rattle.mq_subscriptions.proofs.TextMaps.{key_text, removed-set}
+use Rattle.mq_subscriptions.proofs.TextMaps.{is_text-is, lookup-texts, set_value-texts, key_text}
+use Rattle.mq_subscriptions.proofs.TextMaps.{remove_entry-texts, ordered-texts, removed-set}
 use Rattle.mq_world.proofs.Splits.{Put, put_gap, lookup-more, lookup-at}
-use Rattle.mq_world.proofs.OrderLemmas.{same_text-is, same_text-itself, text_flip}
-use Rattle.mq_subscriptions.proofs.AtLemmas.{same_share-itself, nothing}
-use Rattle.std.proofs.lemmas.Bool.{and_parts}
+use Rattle.mq_world.proofs.OrderLemmas.{same_text-itself, text_flip}
+use Rattle.mq_subscriptions.proofs.AtLemmas.{keyed, empty_is}
+use Rattle.mq_subscriptions.proofs.InTurn.{key_parts, same_share-itself}
 use Rattle.std.proofs.lemmas.Map.{lookup-set_value, lookup-remove_entry}
 use Rattle.std.proofs.lemmas.Map.Keys.{IsDistinct-from_sorted}
 use Rattle.std.proofs.Math.Bool.{and_assoc, and-true}
@@ -36,24 +34,14 @@ use Rattle.std.proofs.Math.Bool.{and_assoc, and-true}
 abbrev pub leaves : Text → List FilterKey → Subscription → Bool
 leaves c list s = not (same_text s.client c && is_in_list list s)
 
-all_kept : {X : Type 0} (q : X → Bool) → ((x : X) → q x ≡ true) → (xs : List X) → filter q xs ≡ xs
-all_kept q h [] = refl
-all_kept q h (x ∷ xs) = ap (λ b. cond b (x ∷ filter q xs) (filter q xs)) (h x)
-    ∙ ap (λ l. x ∷ l) (all_kept q h xs)
-
-nothing_leaves : (a : Bool) → not (a && false) ≡ true
-nothing_leaves true = refl
-nothing_leaves false = refl
-
 -- where the list of what leaves is empty, all rows stay
 pub none-leave : (c : Text) (rows : List Subscription) → filter (leaves c []) rows ≡ rows
-none-leave c rows = all_kept (leaves c []) (λ s. nothing_leaves (same_text s.client c)) rows
+none-leave c [] = refl
+none-leave c (s ∷ rows) =
+    pick (same_text s.client c) (λ t. rw (t, none-leave c rows)) (λ n. rw (n, none-leave c rows))
 
 one_more : (c l h f : Bool) → (not (c && h && f) && not (c && l)) ≡ not (c && ((h && f) || l))
-one_more false l h f = refl
-one_more true l true true = refl
-one_more true l true false = refl
-one_more true l false f = refl
+one_more c l h f = grind arith
 
 -- to take out one key and then what a list has is to take out what the list with that key has
 pub one-leaves : (c : Text) (k : FilterKey) (list : List FilterKey) (rows : List Subscription)
@@ -86,34 +74,32 @@ module _ (bs : Text) (ls new : List (Key × List FilterKey)) where
   becomes-set : (v w : List FilterKey) → lookup (finds bs) ls ≡ Some v
       → new ≡ set_value (finds bs) ls w → Becomes bs (Some w) (texts ls) (texts new)
   becomes-set v w found set c =
-      ap (lookup (is_text c)) (ap texts set ∙ set_value-texts bs ls w)
-      ∙ lookup-set_value text_equiv (is_text bs) (alike bs) c w (texts ls)
-      (ap is_some (lookup-texts bs ls ∙ found))
+      rw (set, set_value-texts bs ls w)
+      (lookup-set_value text_equiv (is_text bs) (alike bs) c w (texts ls)
+      (ap is_some (lookup-texts bs ls ∙ found)))
 
   becomes-out : IsStrictlySortedBy key_cmp (keys_of ls) → new ≡ remove_entry (finds bs) ls
       → Becomes bs None (texts ls) (texts new)
   becomes-out sorted gone c =
-      ap (lookup (is_text c)) (ap texts gone ∙ remove_entry-texts bs ls)
-      ∙ lookup-remove_entry text_equiv (is_text bs) (alike bs) c (texts ls)
-      (IsDistinct-from_sorted text_cmp (keys_of (texts ls)) (ordered-texts ls sorted))
+      rw (gone, remove_entry-texts bs ls)
+      (lookup-remove_entry text_equiv (is_text bs) (alike bs) c (texts ls)
+      (IsDistinct-from_sorted text_cmp (keys_of (texts ls)) (ordered-texts ls sorted)))
 
   becomes-begun : (name : Key) (w : List FilterKey) → rc_str_bytes name ≡ bs
       → lookup (is_text bs) (texts ls) ≡ None → new ≡ insert_entry key_cmp ls name w
       → Becomes bs (Some w) (texts ls) (texts new)
   becomes-begun name w named none put c =
-      ap (lookup (is_text c)) (ap texts put ∙ insert_entry-texts ls name w
-      ∙ ap (λ k. insert_entry text_cmp (texts ls) k w) named ∙ gap.put w)
-      ∙ pick (is_text bs c)
-      (λ t. subst (λ (d : Text). lookup (is_text d) (gap.gap.front ++ (bs, w) ∷ gap.gap.back)
-      ≡ Some w) (key_text bs c t)
-      (lookup-at (is_text bs) gap.gap.front gap.gap.back bs w gap.gap.before (text_equiv.refl bs))
-      ∙ sym (ap (λ b. cond b (Some w) (lookup (is_text c) (texts ls))) t))
-      (λ f. lookup-more (is_text c) gap.gap.front gap.gap.back bs w (text_equiv.symm c bs ∙ f)
-      ∙ sym (ap (lookup (is_text c)) gap.gap.is)
-      ∙ sym (ap (λ b. cond b (Some w) (lookup (is_text c) (texts ls))) f))
-    where
-      gap : Put text_cmp bs (texts ls)
-      gap = put_gap text_cmp bs (texts ls) none
+      let finds_none : lookup (finds (rc_str_bytes name)) ls ≡ None =
+      rw named (sym (lookup-texts bs ls) ∙ none) in
+      let gap : Put key_cmp name ls = put_gap key_cmp name ls finds_none in
+      let front = gap.gap.front in
+      let back = gap.gap.back in
+      rw (← named, lookup-texts c new, lookup-texts c ls) (ap (lookup (finds c)) (put ∙ gap.put w)
+      ∙ pick (is_text (rc_str_bytes name) c) (λ t. rw (t, ← key_text (rc_str_bytes name) c t)
+      (lookup-at (finds (rc_str_bytes name)) front back name w gap.gap.before
+      (text_equiv.refl (rc_str_bytes name))))
+      (λ n. rw n (lookup-more (finds c) front back name w
+      (text_equiv.symm c (rc_str_bytes name) ∙ n) ∙ ap (lookup (finds c)) (sym gap.gap.is))))
 
 -- ## A key joins and leaves
 
@@ -124,18 +110,11 @@ module _ (bs : Text) (u o : Option (List FilterKey)) (old new : FilterLists)
       → ((s : Subscription) → found_in s o ≡ f (own s) (found_in s u)) → (s : Subscription)
       → is_listed new s ≡ f (same_text s.client bs && own s) (is_listed old s)
   changed f own keeps here s =
-      let P : Bool → Type 0 = λ b. is_text bs s.client ≡ b
-      → found_in s (cond b o (lookup (is_text s.client) old))
-      ≡ f (b && own s) (is_listed old s) in
-      ap (found_in s) (becomes s.client)
-      ∙ (elim (is_text bs s.client) as P [
-        | true ↦ λ t. here s ∙ ap (λ l. f (own s) (found_in s l)) (sym was)
-            ∙ ap (λ (c : Text). f (own s) (found_in s (lookup (is_text c) old)))
-            (key_text bs s.client t)
-        | false ↦ λ t. sym (keeps (is_listed old s))
-      ]) refl
-      ∙ ap (λ b. f (b && own s) (is_listed old s))
-      (is_text-is bs s.client ∙ text_flip bs s.client)
+      rw (← text_flip bs s.client, ← is_text-is bs s.client, becomes s.client)
+      (pick (is_text bs s.client)
+      (λ t. (let found : lookup (is_text s.client) old ≡ u = rw (← key_text bs s.client t) was in
+      rw (t, found) (here s)))
+      (λ n. rw n (sym (keeps (is_listed old s)))))
 
   module _ (k : FilterKey) where
     key_by : (s : Subscription) → (same_text s.client bs && has_filter_key s k)
@@ -153,42 +132,38 @@ module _ (bs : Text) (u o : Option (List FilterKey)) (old new : FilterLists)
     less drops s = changed (λ a b. not a && b) (λ r. has_filter_key r k) (λ b. refl) drops s
         ∙ ap (λ b. not b && is_listed old s) (key_by s)
 
+-- a list has a key and what another has, or all of it but the key
+abbrev pub Adds : FilterKey → List FilterKey → List FilterKey → Type 0
+Adds k v w = (s : Subscription) → is_in_list w s ≡ (has_filter_key s k || is_in_list v s)
+
+abbrev pub Drops : FilterKey → List FilterKey → List FilterKey → Type 0
+Drops k v w = (s : Subscription) → is_in_list w s ≡ (not (has_filter_key s k) && is_in_list v s)
+
 module _ (bs : Text) (k : FilterKey) (ls : List (Key × List FilterKey)) (v w : List FilterKey)
     (new : List (Key × List FilterKey)) (found : lookup (finds bs) ls ≡ Some v)
     (set : new ≡ set_value (finds bs) ls w) where
-  pub added-there : ((s : Subscription) → is_in_list w s ≡ (has_filter_key s k || is_in_list v s))
-      → ListsMore bs k (texts ls) (texts new)
+  pub added-there : Adds k v w → ListsMore bs k (texts ls) (texts new)
   added-there adds = more bs (Some v) (Some w) (texts ls) (texts new) (lookup-texts bs ls ∙ found)
       (becomes-set bs ls new v w found set) k adds
 
-  pub dropped-there : ((s : Subscription) → is_in_list w s
-      ≡ (not (has_filter_key s k) && is_in_list v s))
-      → ListsLess bs k (texts ls) (texts new)
+  pub dropped-there : Drops k v w → ListsLess bs k (texts ls) (texts new)
   dropped-there drops = less bs (Some v) (Some w) (texts ls) (texts new)
       (lookup-texts bs ls ∙ found) (becomes-set bs ls new v w found set) k drops
 
   pub dropped-last : IsStrictlySortedBy key_cmp (keys_of ls) → (out : List (Key × List FilterKey))
-      → out ≡ remove_entry (finds bs) new → is_empty w ≡ true
-      → ((s : Subscription) → is_in_list w s ≡ (not (has_filter_key s k) && is_in_list v s))
+      → out ≡ remove_entry (finds bs) new → is_empty w ≡ true → Drops k v w
       → ListsLess bs k (texts ls) (texts out)
   dropped-last sorted out gone bare drops =
       less bs (Some v) None (texts ls) (texts out) (lookup-texts bs ls ∙ found)
       (becomes-out bs ls out sorted
       (gone ∙ ap (remove_entry (finds bs)) set ∙ removed-set (finds bs) ls w)) k
-      (λ s. nothing_in s w bare ∙ drops s)
-    where
-      nothing_in : (s : Subscription) (l : List FilterKey) → is_empty l ≡ true
-          → false ≡ is_in_list l s
-      nothing_in s [] h = refl
-      nothing_in s (x ∷ l) h = absurd (true≢false (sym h))
+      (λ s. ap (λ l. is_in_list l s) (sym (empty_is w bare)) ∙ drops s)
 
 -- a client without a list gets one of a single key: listed then is that key, and what was
 pub added-first : (bs : Text) (k : FilterKey) (ls : List (Key × List FilterKey)) (name : Key)
     → rc_str_bytes name ≡ bs → lookup (is_text bs) (texts ls) ≡ None
-    → (w : List FilterKey) (new : List (Key × List FilterKey)) → new
-    ≡ insert_entry key_cmp ls name w
-    → ((s : Subscription) → is_in_list w s ≡ (has_filter_key s k || false))
-    → ListsMore bs k (texts ls) (texts new)
+    → (w : List FilterKey) (new : List (Key × List FilterKey))
+    → new ≡ insert_entry key_cmp ls name w → Adds k [] w → ListsMore bs k (texts ls) (texts new)
 added-first bs k ls name named none w new put adds =
     more bs None (Some w) (texts ls) (texts new) none
     (becomes-begun bs ls new name w named none put) k adds
@@ -207,22 +182,11 @@ pub dropped-absent : (bs : Text) (k : FilterKey) (ls : List (Key × List FilterK
     → lookup (finds bs) ls ≡ None → ListsLess bs k (texts ls) (texts ls)
 dropped-absent bs k ls none s =
     pick (has_key bs k.0 k.1 s)
-    (λ t. (let client : s.client ≡ bs =
-    same_text-is s.client bs
-    (and_parts _ _ (and_parts (same_text s.client bs && same_share s.share k.0)
-    (same_text s.filter k.1) t).0).0 in
-    ap (λ (c : Text). found_in s (lookup (is_text c) (texts ls))) client
-    ∙ ap (found_in s) (lookup-texts bs ls ∙ none)
-    ∙ sym (ap (λ b. not b && is_listed (texts ls) s) t)))
-    (λ f. sym (ap (λ b. not b && is_listed (texts ls) s) f))
+    (λ t. rw (t, (key_parts bs k.0 k.1 s t).0, lookup-texts bs ls, none)) (λ n. rw n)
 
 -- a list with a key is not empty
-pub added-live : (k : FilterKey) (v w : List FilterKey)
-    → ((s : Subscription) → is_in_list w s ≡ (has_filter_key s k || is_in_list v s)) → is_empty w
-    ≡ false
+pub added-live : (k : FilterKey) (v w : List FilterKey) → Adds k v w → is_empty w ≡ false
 added-live k v [] adds =
-    let s : Subscription = record { client = []; share = k.0; filter = k.1; options = nothing } in
     absurd (true≢false
-    (sym (adds s ∙ ap (λ b. b || is_in_list v s)
-    (ap (λ b. b && same_text k.1 k.1) (same_share-itself k.0) ∙ same_text-itself k.1))))
+    (sym (rw (same_share-itself k.0, same_text-itself k.1) at (adds (keyed [] k.0 k.1)))))
 added-live k v (x ∷ w) adds = refl

@@ -1,5 +1,5 @@
-use Rattle.std.proofs.Common.{◌≡◌, map}
-use Rattle.std.specs.List.{filter, AllByRecursion}
+use Rattle.std.proofs.Common.{◌≡◌, map, filter}
+use Rattle.std.specs.List.{AllByRecursion}
 use Rattle.mq_subscriptions.specs.Filters.{all_rows, AreEntries}
 use Rattle.mq_subscriptions.specs.ClientViews.{key_in, IsAsked}
 use Rattle.mq_subscriptions.proofs.ListedLemmas.{leaves}

@@ -1,7 +1,4 @@
-use Rattle.std.proofs.Common.{◌∙◌, sym, ap, not}
-use Rattle.std.specs.List.{filter}
-use Rattle.mq_world.specs.Lists.{same_text}
-use Rattle.mq_subscriptions.specs.Filters.{SubscriptionsView}
+use Rattle.std.proofs.Common.{◌∙◌, sym}
 use Rattle.mq_subscriptions.proofs.AnyLemmas.{listed-gone, all-leave, none-had}
 use Rattle.mq_subscriptions.proofs.KeyLemmas.{kept-keys}
 use Rattle.mq_subscriptions.proofs.subscriptions.Subscriptions.remove_client.Goals as goal
@@ -9,8 +6,7 @@ use Rattle.mq_subscriptions.proofs.subscriptions.Subscriptions.remove_client.Goa
 pub invariant_of-self-2 : goal.invariant_of-self-2
 invariant_of-self-2 c =
     listed-gone c.args.client.now c.self.inside.tree c.remove_all.new.tree c.self.inside.lists
-    c.take.new.self c.self.invariant c.remove_all.ensures.kept
-    (c.remove_all.ensures.rows
+    c.take.new.self c.self.invariant c.remove_all.ensures.kept (c.remove_all.ensures.rows
     ∙ all-leave c.args.client.now c.self.inside.lists c.in-Some.filters c.self.inside.tree
     (sym c.take.ensures.taken ∙ c.in-Some.is) c.self.invariant) c.take.ensures.rest
 
@@ -23,22 +19,17 @@ invariant_of-self c =
 
 pub returns-clause-rows : goal.returns-clause-rows
 returns-clause-rows c =
-    c.remove_all.ensures.rows ∙ all-leave c.args.client.now c.self.inside.lists c.in-Some.filters
-    c.self.inside.tree (sym c.take.ensures.taken ∙ c.in-Some.is) c.self.invariant
-    ∙ ap (λ (k : SubscriptionsView). filter (λ s. not (same_text s.client c.args.client.now))
-    k.rows)
-    c.self.view_is
+    rw (← c.self.view_is) (c.remove_all.ensures.rows
+    ∙ all-leave c.args.client.now c.self.inside.lists c.in-Some.filters c.self.inside.tree
+    (sym c.take.ensures.taken ∙ c.in-Some.is) c.self.invariant)
 
 pub returns-clause-keys : goal.returns-clause-keys
 returns-clause-keys c = kept-keys c.remove_all.new.tree c.remove_all.ensures.kept
 
 pub returns-in_default-clause-rows : goal.returns-in_default-clause-rows
 returns-in_default-clause-rows c =
-    none-had c.args.client.now c.self.inside.lists c.self.inside.tree
-    (sym c.take.ensures.taken ∙ c.in_default.is) c.self.invariant
-    ∙ ap (λ (k : SubscriptionsView). filter (λ s. not (same_text s.client c.args.client.now))
-    k.rows)
-    c.self.view_is
+    rw (← c.self.view_is) (none-had c.args.client.now c.self.inside.lists c.self.inside.tree
+    (sym c.take.ensures.taken ∙ c.in_default.is) c.self.invariant)
 
 pub returns-in_default-clause-keys : goal.returns-in_default-clause-keys
 returns-in_default-clause-keys c = kept-keys c.self.inside.tree c.self.invariant.kept

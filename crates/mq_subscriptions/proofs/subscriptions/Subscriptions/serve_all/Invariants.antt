@@ -1,8 +1,7 @@
 use Rattle.std.proofs.Common.{map, drop}
 use Rattle.mq_world.specs.Turns.{SameInTurn}
-use Rattle.mq_subscriptions.specs.Turns.{all_turned}
+use Rattle.mq_subscriptions.specs.Turns.{all_turned, turn_of}
 use Rattle.mq_subscriptions.specs.Filters.{AreKeys}
-use Rattle.mq_subscriptions.specs.Turns.{turn_of}
 use Rattle.mq_subscriptions.proofs.subscriptions.Subscriptions.serve_all.Given as goal
 
 abbrev pub invariant-loop-turn : goal.invariant-loop-turn

@@ -12,8 +12,7 @@ returns-clause-sorted c =
     on_ok_weaker c.sort_by.result
     (λ sorted. ascending-sorted (λ t. rc_str_bytes t.share) c.sort_by.new.self.items
     (sorted _ (ranks_by nat_list_cmp_total (λ t. rc_str_bytes t.share))
-    (answers_always _ _ _ (λ f a r g h. search rules))))
-    c.sort_by.ensures.sorted
+    (answers_always _ _ _ (λ f a r g h. search rules)))) c.sort_by.ensures.sorted
 
 pub returns-clause-stable : goal.returns-clause-stable
 returns-clause-stable c =

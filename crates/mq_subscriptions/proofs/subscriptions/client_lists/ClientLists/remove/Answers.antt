@@ -1,8 +1,6 @@
-use Rattle.std.proofs.Common.{◌∙◌, sym, ap, subst}
-use Rattle.std.specs.Option.{option_copied_mut}
-use Rattle.std.specs.Map.{remove_entry}
+use Rattle.std.proofs.Common.{◌∙◌, sym}
 use Rattle.mq_world.proofs.TextKeys.{finds}
-use Rattle.mq_subscriptions.specs.Filters.{FilterLists, text_key, is_listed}
+use Rattle.mq_subscriptions.specs.Filters.{text_key}
 use Rattle.mq_subscriptions.specs.SubFilters.{ListsLess}
 use Rattle.mq_subscriptions.specs.Views.{texts}
 use Rattle.mq_subscriptions.proofs.ListedLemmas.{dropped-there, dropped-last, dropped-absent}
@@ -11,20 +9,18 @@ use Rattle.mq_subscriptions.proofs.subscriptions.client_lists.ClientLists.remove
 
 pub returns-in_default : goal.returns-in_default
 returns-in_default c =
-    subst (λ (l : FilterLists). ListsLess c.args.client.now (text_key c.args.text.now) l
-    (texts c.get_mut.follows.lender-at-none.entries)) c.self.view_is (λ s.
-    ap (λ m. is_listed (texts m.entries) s) c.get_mut.follows.holds-at-none
-    ∙ dropped-absent c.args.client.now (text_key c.args.text.now) c.self.inside.by_client.entries
-    (sym c.get_mut.ensures.value ∙ ap option_copied_mut c.in_default.is) s)
+    rw (← c.self.view_is, c.get_mut.follows.holds-at-none) (dropped-absent c.args.client.now
+    (text_key c.args.text.now) c.self.inside.by_client.entries
+    (rw c.in_default.is at (sym c.get_mut.ensures.value)))
 
 pub returns-then-is_empty : goal.returns-then-is_empty
 returns-then-is_empty c =
     let w = c.remove.new.self in
-    let rest = subst (λ (l : FilterLists). ListsLess c.args.client.now (text_key c.args.text.now) l
-    (texts c.remove-then-is_empty.new.self.entries)) c.self.view_is
+    let rest : ListsLess c.args.client.now (text_key c.args.text.now) c.args.self.now
+    (texts c.remove-then-is_empty.new.self.entries) = rw (← c.self.view_is)
     (dropped-last c.args.client.now (text_key c.args.text.now) c.self.inside.by_client.entries
     c.in-Some.filters.now w (c.get_mut.follows.lender w).entries
-    (sym c.get_mut.ensures.value ∙ ap option_copied_mut c.in-Some.is) (c.get_mut.follows.holds w).0
+    (rw c.in-Some.is at (sym c.get_mut.ensures.value)) (c.get_mut.follows.holds w).0
     c.self.invariant.ordered c.remove-then-is_empty.new.self.entries
     c.remove-then-is_empty.ensures.entries
     (sym c.is_empty.ensures ∙ c.if-is_empty.true) c.remove.ensures) in
@@ -39,29 +35,25 @@ invariant_of-self-then-is_empty c =
     let test = finds c.args.client.now in
     let es = c.self.inside.by_client.entries in
     record {
-      live = live-out test es c.remove-then-is_empty.new.self.entries
-          (c.remove-then-is_empty.ensures.entries
-          ∙ ap (remove_entry test) (c.get_mut.follows.holds w).0 ∙ removed-set test es w)
-          c.self.invariant.live;
+      live = rw (c.remove-then-is_empty.ensures.entries, (c.get_mut.follows.holds w).0)
+          (rw (removed-set test es w) (live-out test es c.self.invariant.live));
       ordered = c.remove-then-is_empty.ensures.ordered;
     }
 
 pub returns-else-is_empty : goal.returns-else-is_empty
 returns-else-is_empty c =
     let w = c.remove.new.self in
-    subst (λ (l : FilterLists). ListsLess c.args.client.now (text_key c.args.text.now) l
-    (texts (c.get_mut.follows.lender w).entries)) c.self.view_is
-    (dropped-there c.args.client.now (text_key c.args.text.now) c.self.inside.by_client.entries
-    c.in-Some.filters.now w (c.get_mut.follows.lender w).entries
-    (sym c.get_mut.ensures.value ∙ ap option_copied_mut c.in-Some.is) (c.get_mut.follows.holds w).0
+    rw (← c.self.view_is) (dropped-there c.args.client.now (text_key c.args.text.now)
+    c.self.inside.by_client.entries c.in-Some.filters.now w (c.get_mut.follows.lender w).entries
+    (rw c.in-Some.is at (sym c.get_mut.ensures.value)) (c.get_mut.follows.holds w).0
     c.remove.ensures)
 
 pub invariant_of-self-else-is_empty : goal.invariant_of-self-else-is_empty
 invariant_of-self-else-is_empty c =
     let w = c.remove.new.self in
     record {
-      live = live-set (finds c.args.client.now) c.self.inside.by_client.entries w
-          (c.get_mut.follows.lender w).entries (c.get_mut.follows.holds w).0
-          (sym c.is_empty.ensures ∙ c.if-is_empty.false) c.self.invariant.live;
+      live = rw ((c.get_mut.follows.holds w).0) (live-set (finds c.args.client.now)
+          c.self.inside.by_client.entries w (sym c.is_empty.ensures ∙ c.if-is_empty.false)
+          c.self.invariant.live);
       ordered = (c.get_mut.follows.holds w).4;
     }

@@ -1,9 +1,8 @@
 use Rattle.std.proofs.Common.{◌≡◌, ◌++◌, []}
 use Rattle.mq_subscriptions.specs.Filters.{unshared_rows}
 use Rattle.mq_subscriptions.specs.Views.{texts}
-use Rattle.mq_subscriptions.specs.Matches.{match_views}
+use Rattle.mq_subscriptions.specs.Matches.{match_views, unshared_matches}
 use Rattle.mq_world.specs.Views.{message_of}
-use Rattle.mq_subscriptions.specs.Matches.{unshared_matches}
 use Rattle.mq_subscriptions.proofs.subscriptions.filter_entry.FilterEntry.gather_matches.Given as goal
 
 abbrev pub invariant-loop-client : goal.invariant-loop-client

@@ -1,6 +1,6 @@
 use Rattle.std.proofs.Common.{◌≡◌, ◌+◌, length, sym, ap, ◌∙◌, arith}
 use Rattle.mq_subscriptions.specs.Filters.{At, group_rows}
-use Rattle.mq_subscriptions.proofs.CountLemmas.{at-number}
+use Rattle.mq_subscriptions.proofs.AtLemmas.{at-number}
 use Rattle.mq_subscriptions.proofs.subscriptions.filter_entry.FilterEntryCounted.count.Goals as goal
 
 pub returns : goal.returns

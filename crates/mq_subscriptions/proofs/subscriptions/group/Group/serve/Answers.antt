@@ -1,20 +1,15 @@
-use Rattle.std.proofs.Common.{◌∙◌, ap, sym}
-use Rattle.mq_subscriptions.specs.Filters.{has_client}
-use Rattle.mq_subscriptions.specs.Views.{texts}
-use Rattle.mq_subscriptions.specs.Turns.{put_last}
+use Rattle.std.proofs.Common.{◌∙◌, sym}
 use Rattle.mq_subscriptions.proofs.Members.{turned-texts, turned-none}
 use Rattle.mq_subscriptions.proofs.subscriptions.group.Group.serve.Goals as goal
 
 pub returns-in-Some : goal.returns-in-Some
 returns-in-Some c =
-    ap texts c.move_index.ensures.entries
-    ∙ turned-texts c.args.client.now c.self.inside.members.entries c.in-Some.place
+    rw (← c.self.view_is, c.move_index.ensures.entries)
+    (turned-texts c.args.client.now c.self.inside.members.entries c.in-Some.place
     c.len-count.result c.len-count.ensures.unique
-    (sym c.get_index_of.ensures.index ∙ c.in-Some.is) c.len-count.ensures.len
-    ∙ ap (put_last (has_client c.args.client.now)) c.self.view_is
+    (sym c.get_index_of.ensures.index ∙ c.in-Some.is) c.len-count.ensures.len)
 
 pub returns-in-None : goal.returns-in-None
 returns-in-None c =
-    sym c.self.view_is ∙ turned-none c.args.client.now c.self.inside.members.entries
-    (sym c.get_index_of.ensures.index ∙ c.in-None.is)
-    ∙ ap (put_last (has_client c.args.client.now)) c.self.view_is
+    rw (← c.self.view_is) (turned-none c.args.client.now c.self.inside.members.entries
+    (sym c.get_index_of.ensures.index ∙ c.in-None.is))

@@ -1,10 +1,9 @@
-use Rattle.std.proofs.Common.{◌≡◌, ◌∙◌, ◌+◌, ℕ, length, sym, ap, arith}
-use Rattle.std.specs.List.{sum_by}
+use Rattle.std.proofs.Common.{◌≡◌, ◌∙◌, ◌+◌, ℕ, length, sym, ap, arith, sum_by}
 use Rattle.std.specs.Map.{values_of}
 use Rattle.std.proofs.lemmas.List.Sums.{sum_by-cons}
 use Rattle.mq_topic.specs.Prefixes.{capped}
 use Rattle.mq_subscriptions.specs.Filters.{GroupList, group_rows}
-use Rattle.mq_subscriptions.proofs.CountLemmas.{group-number}
+use Rattle.mq_subscriptions.proofs.AtLemmas.{group-number}
 use Rattle.mq_subscriptions.proofs.subscriptions.share_groups.ShareGroups.member_count.Goals as goal
 
 pub loop-group-init : goal.loop-group-init

@@ -1,5 +1,4 @@
-use Rattle.std.proofs.Common.{◌≡◌, ◌+◌, ◌≤◌, length}
-use Rattle.std.specs.List.{sum_by}
+use Rattle.std.proofs.Common.{◌≡◌, ◌+◌, ◌≤◌, length, sum_by}
 use Rattle.mq_topic.specs.Prefixes.{capped}
 use Rattle.mq_world.specs.Lists.{Text}
 use Rattle.mq_subscriptions.specs.Filters.{group_rows}

@@ -1,40 +1,38 @@
-use Rattle.std.proofs.Common.{◌∙◌, sym, ap, subst}
-use Rattle.std.specs.Option.{option_copied_mut}
-use Rattle.mq_subscriptions.specs.Edits.{GroupTurns}
-use Rattle.mq_subscriptions.specs.Filters.{GroupList, group_rows, has_client, is_empty}
-use Rattle.mq_subscriptions.specs.Views.{texts}
+use Rattle.std.proofs.Common.{◌∙◌, [], sym, ap, refl, Some}
+use Rattle.mq_world.specs.World.{Subscription, same_key}
 use Rattle.mq_world.proofs.TextKeys.{finds}
-use Rattle.mq_subscriptions.proofs.InTurn.{same-is, same-then}
-use Rattle.mq_subscriptions.proofs.TextMaps.{live-set}
-use Rattle.mq_subscriptions.proofs.AtLemmas.{group-turned, group-absent_turned}
+use Rattle.mq_subscriptions.specs.Filters.{has_client, is_empty, row}
+use Rattle.mq_subscriptions.proofs.AtLemmas.{group-edited, group-absent, keyed, own_key}
 use Rattle.mq_subscriptions.proofs.AtLemmas.{put_last-live, found_live}
+use Rattle.mq_subscriptions.proofs.InTurn.{turning, map-put_last, same-is, same-itself}
+use Rattle.mq_subscriptions.proofs.TextMaps.{live-set}
 use Rattle.mq_subscriptions.proofs.subscriptions.share_groups.ShareGroups.serve.Goals as goal
 
 pub returns : goal.returns
 returns c =
+    let share = c.args.share.now in
     let w = c.serve.new.self in
-    subst (λ (gs : GroupList). GroupTurns c.args.share.now c.args.client.now gs
-    (texts (c.get_mut.follows.lender w).entries)) c.self.view_is (λ f.
-    group-turned c.args.share.now c.self.inside.by_share.entries c.self.invariant
-    c.get_mut.ensures.ordered c.in-Some.group.now w (c.get_mut.follows.lender w).entries
-    (sym c.get_mut.ensures.value ∙ ap option_copied_mut c.in-Some.is) (c.get_mut.follows.holds w).0
-    f c.args.client.now c.serve.ensures)
+    rw (← c.self.view_is) (λ f. (let s : Subscription = keyed c.args.client.now (Some share) f in
+    group-edited share c.self.inside.by_share.entries c.get_mut.ensures.ordered
+    c.in-Some.group.now w (c.get_mut.follows.lender w).entries
+    (rw c.in-Some.is at (sym c.get_mut.ensures.value)) (c.get_mut.follows.holds w).0
+    f s refl (turning s) (same-is _ _ (rw c.serve.ensures (map-put_last (row (Some share) f)
+    (has_client c.args.client.now) (same_key s) (own_key (Some share) f c.args.client.now)
+    c.in-Some.group.now)))))
 
 pub invariant_of-self-2 : goal.invariant_of-self-2
 invariant_of-self-2 c =
     let w = c.serve.new.self in
-    let found = sym c.get_mut.ensures.value ∙ ap option_copied_mut c.in-Some.is in
-    live-set (finds c.args.share.now) c.self.inside.by_share.entries w
-    (c.get_mut.follows.lender w).entries (c.get_mut.follows.holds w).0
+    let found = rw c.in-Some.is at (sym c.get_mut.ensures.value) in
+    rw ((c.get_mut.follows.holds w).0)
+    (live-set (finds c.args.share.now) c.self.inside.by_share.entries w
     (ap is_empty c.serve.ensures ∙ put_last-live (has_client c.args.client.now) c.in-Some.group.now
     (found_live c.args.share.now c.self.inside.by_share.entries c.self.invariant
-    c.in-Some.group.now found)) c.self.invariant
+    c.in-Some.group.now found)) c.self.invariant)
 
 pub returns-in_default : goal.returns-in_default
 returns-in_default c =
-    subst (λ (gs : GroupList). GroupTurns c.args.share.now c.args.client.now gs
-    (texts c.get_mut.follows.lender-at-none.entries)) c.self.view_is (λ f.
-    same-then _ _ _
-    (same-is _ _ (ap (λ m. group_rows f (texts m.entries)) c.get_mut.follows.holds-at-none))
-    (group-absent_turned c.args.share.now c.self.inside.by_share.entries c.self.invariant f
-    c.args.client.now (sym c.get_mut.ensures.value ∙ ap option_copied_mut c.in_default.is)))
+    rw (← c.self.view_is, c.get_mut.follows.holds-at-none) (λ f.
+    (let s : Subscription = keyed c.args.client.now (Some c.args.share.now) f in
+    group-absent c.args.share.now c.self.inside.by_share.entries
+    (rw c.in_default.is at (sym c.get_mut.ensures.value)) f s refl (turning s) (same-itself [])))
