@@ -14,6 +14,7 @@ pub use command_line::{Options, UsageFault, arguments};
 pub use failure::UNREADABLE;
 pub use mq_lines::{LineFault, print_answer, print_line_fault, print_refusal, read_line};
 pub use mq_script::{
-    DeviceFault, RunFault, Sink, Source, StdSink, StdSource, Summary, exit_status, run, run_within,
+    DeviceFault, RunFault, RunOptions, Sink, Source, StdSink, StdSource, Summary, exit_status, run,
+    run_with, run_within,
 };
 pub use program::start;

@@ -10,7 +10,7 @@ ghost use Rattle.mq_world.specs.Views.{limits_of};
 ghost use Rattle.mq_router.specs.StandsFor.{StandsFor};
 ghost use Rattle.mq_cli.specs.AclFile.{IsAnswerTo};
 ghost use Rattle.mq_cli.specs.CommandLine.{mqroute, given, IsGiven, IsFaultOf};
-ghost use Rattle.mq_script.specs.Ending.{AppendsSome, EndsOver, script_limit, watch};
+ghost use Rattle.mq_script.specs.Ending.{AppendsSome};
 ghost use Rattle.mq_script.specs.Output.{output};
 ghost use Rattle.mq_cli.specs.Program.{script_file, failure_status, limits_by, limits_given};
 ghost use Rattle.mq_cli.specs.Program.{TellsUsage};
@@ -23,8 +23,8 @@ use crate::failure::{Failure, UNREADABLE};
 use mq_acl::Acl;
 use mq_router::Router;
 use mq_script::{
-    RUN_FAILED, RunFault, Sink, Source, StdSource, Summary, exit_status, flush, run,
-    run_unbuffered, write_all,
+    RUN_FAILED, RunFault, RunOptions, Sink, Source, StdSource, Summary, exit_status, flush,
+    run_with, write_all,
 };
 use mq_world::Limits;
 use std::alloc::{AllocError, Global};
@@ -93,34 +93,13 @@ fn script_of(options: &Options) -> Option<&str>
     }
 }
 
-/// Runs a script, unbuffered where that is asked for.
-fn run_as_asked<S: Source, W: Sink>(
-    alloc: Global,
-    router: Router,
-    source: &mut S,
-    out: &mut W,
-    unbuffered: bool,
-) -> Result<Summary, RunFault>
-    ensures ending { (w : World) → StandsFor router w → EndsOver script_limit w result
-        (watch S.to_come S.failures source.old source.new)
-        (watch W.taken W.failures out.old out.new) }
-    ensures flushed { OnOk result (W.flushed out.new ≡ W.taken out.new) }
-    ensures unbuffered { IsTrue unbuffered → S.failures source.new ≢ S.failures source.old
-        → W.flushed out.new ≡ W.taken out.new }
-{
-    if unbuffered {
-        return run_unbuffered(alloc, router, source, out);
-    }
-    run(alloc, router, source, out)
-}
-
 /// Runs the script that a source gives.
 fn run_source<'a, S: Source, W: Sink>(
     alloc: Global,
     router: Router,
+    unbuffered: bool,
     source: &mut S,
     out: &mut W,
-    unbuffered: bool,
 ) -> Result<Summary, Failure<'a>>
     ensures ok { (w : World) (before : List ℕ) → StandsFor router w → W.taken out.old ≡ Some before
         → IfOk result (λ summary.
@@ -133,7 +112,11 @@ fn run_source<'a, S: Source, W: Sink>(
     ensures unbuffered { IsTrue unbuffered → S.failures source.new ≢ S.failures source.old
         → W.flushed out.new ≡ W.taken out.new }
 {
-    match run_as_asked(alloc, router, source, out, unbuffered) {
+    let options = RunOptions {
+        unbuffered,
+        ..RunOptions::new()
+    };
+    match run_with(alloc, router, options, source, out) {
         Ok(summary) => Ok(summary),
         Err(fault) => Err(Failure::of_run(fault)),
     }
@@ -145,8 +128,8 @@ fn run_file<'a, R: Files, W: Sink>(
     alloc: Global,
     router: Router,
     file: &'a str,
-    out: &mut W,
     unbuffered: bool,
+    out: &mut W,
 ) -> Result<Summary, Failure<'a>>
     ensures ok { (w : World) (before : List ℕ) → StandsFor router w → W.taken out.old ≡ Some before
         → IfOk result (λ summary.
@@ -161,42 +144,7 @@ fn run_file<'a, R: Files, W: Sink>(
     ensures flushed { OnOk result (W.flushed out.new ≡ W.taken out.new) }
 {
     let mut source = open(rt, file, Failure::Script(file))?;
-    run_source(alloc, router, &mut source, out, unbuffered)
-}
-
-/// Runs the script that the options ask for.
-fn run_with<'a, R: Files, S: Source, W: Sink>(
-    rt: &R,
-    alloc: Global,
-    router: Router,
-    options: &'a Options,
-    input: &mut S,
-    out: &mut W,
-) -> Result<Summary, Failure<'a>>
-    ensures ok { (w : World) (before : List ℕ) → StandsFor router w → W.taken out.old ≡ Some before
-        → IfOk result (λ summary.
-        (script : List ℕ) × IsScript (script_file (option_map string_bytes options.now.script))
-        (S.to_come input.old) script
-        × AnswersScript w script before (W.taken out.new) summary) }
-    ensures prefix { (w : World) → StandsFor router w
-        → WritesFront w (script_file (option_map string_bytes options.now.script))
-        (S.to_come input.old)
-        (W.taken out.old) (W.taken out.new) }
-    ensures err { script_file (option_map string_bytes options.now.script) ≡ None
-        → IfErr result (λ failure. failure_status failure ≡ 3) }
-    ensures unread { (file : List ℕ) → script_file (option_map string_bytes options.now.script)
-        ≡ Some file
-        → input.new ≡ input.old }
-    ensures unreadable { IfErr result (λ failure. failure_status failure ≡ 2
-        → (input.new ≡ input.old) × (out.new ≡ out.old)) }
-    ensures flushed { OnOk result (W.flushed out.new ≡ W.taken out.new) }
-    ensures unbuffered { IsTrue options.now.unbuffered → S.failures input.new ≢ S.failures input.old
-        → W.flushed out.new ≡ W.taken out.new }
-{
-    match script_of(options) {
-        Some(file) => run_file(rt, alloc, router, file, out, options.unbuffered),
-        None => run_source(alloc, router, input, out, options.unbuffered),
-    }
+    run_source(alloc, router, unbuffered, &mut source, out)
 }
 
 /// Runs the script that the options ask for, with their access list and limits.
@@ -232,7 +180,10 @@ fn run_options<'a, R: Files, S: Source, W: Sink>(
 {
     let access = access_list(rt, alloc, options)?;
     let router = Router::with_limits(alloc, access, limits(options));
-    run_with(rt, alloc, router, options, input, out)
+    match script_of(options) {
+        Some(file) => run_file(rt, alloc, router, file, options.unbuffered, out),
+        None => run_source(alloc, router, options.unbuffered, input, out),
+    }
 }
 
 /// Writes all of a text at once.

@@ -9,6 +9,7 @@ use Rattle.mq_script.specs.declared.outcome.RunFault.{RunFault}
 use Rattle.mq_script.specs.declared.outcome.RunFault.TheVariants as fault
 use Rattle.mq_script.specs.Output.{output, Summarizes}
 use Rattle.mq_script.specs.Ending.{Seen, Watched, DidNotFail, Failed, Failures, Ending, EndsOver}
+use Rattle.mq_script.specs.Ending.{AnswersWhole}
 
 -- all that a reader tells was given, where it is at its end
 pub whole : (a b : Option (List ℕ)) (script given : List ℕ) → a ≡ Some script → Consumes a b given
@@ -53,17 +54,17 @@ Ending-ok limit w summary seen to_come script before e f c h =
     )
 
 -- the device told these bytes before, and none of its calls failed
-pub record IsHonest (device : Watched) (bytes : List ℕ) : Type 0 where
+record IsHonest (device : Watched) (bytes : List ℕ) : Type 0 where
   pub told : device.before ≡ Some bytes
   pub well : DidNotFail device.calls
 
 -- the script is within the limit, and memory sufficed
-pub record IsWithin (limit : ℕ) (script : List ℕ) (result : Result Summary RunFault) : Type 0 where
+record IsWithin (limit : ℕ) (script : List ℕ) (result : Result Summary RunFault) : Type 0 where
   pub bytes : length script ≤ limit
   pub memory : result ≡ Err fault.Memory → ⊥
 
 -- where the devices tell their bytes and don't fail, and memory suffices, it ends well
-pub EndsOver-honest : (limit : ℕ) (w : World) (result : Result Summary RunFault)
+EndsOver-honest : (limit : ℕ) (w : World) (result : Result Summary RunFault)
     (reader writer : Watched) (script before : List ℕ)
     → EndsOver limit w result reader writer → IsHonest reader script → IsHonest writer before
     → IsWithin limit script result
@@ -82,3 +83,12 @@ EndsOver-honest limit w (Err fault.TooMuch) reader writer script before end read
     absurd (omega arith)
 EndsOver-honest limit w (Err fault.Memory) reader writer script before end reads writes within =
     absurd (within.memory refl)
+
+-- the headline
+pub headline : (limit : ℕ) (w : World) (result : Result Summary RunFault)
+    (reader writer : Watched) → EndsOver limit w result reader writer
+    → AnswersWhole limit w result reader writer
+headline limit w result reader writer end = λ script before told taken small reads writes memory.
+    EndsOver-honest limit w result reader writer script before end
+    (record { told = told; well = reads }) (record { told = taken; well = writes })
+    (record { bytes = small; memory = memory })

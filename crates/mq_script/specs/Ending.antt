@@ -1,6 +1,6 @@
 -- How a run ends.
 use Rattle.std.specs.Prelude.{◌≡◌, ◌≤◌, ◌<◌, ◌⊎◌, ℕ, ◌+◌, List, ◌++◌, length, take, Option, Result}
-use Rattle.std.specs.Prelude.{Ok, Err}
+use Rattle.std.specs.Prelude.{◌≢◌, Ok, Err, IsOkAnd, Some}
 use Rattle.std.specs.Io.KnownBytes.{Appends, Consumes, IsAtEnd}
 use Rattle.mq_world.specs.World.{World}
 use Rattle.mq_script.specs.declared.outcome.Summary.{Summary}
@@ -116,3 +116,13 @@ EndsOver limit w result reader writer = (given : List ℕ) × Consumes reader.be
       reader = reader.calls;
       writer = writer.calls;
     })
+
+-- the headline of a run of at most so many bytes that began in a world: where the devices tell
+-- their bytes and don't fail, the script isn't too long and memory suffices, all of the script is
+-- answered, and nothing else is written
+abbrev pub AnswersWhole : ℕ → World → Result Summary RunFault → (reader writer : Watched) → Type 0
+AnswersWhole limit w result reader writer = (script before : List ℕ)
+    → reader.before ≡ Some script → writer.before ≡ Some before → length script ≤ limit
+    → DidNotFail reader.calls → DidNotFail writer.calls → result ≢ Err fault.Memory
+    → IsOkAnd result (λ summary. (writer.after ≡ Some (before ++ output w script))
+    × Summarizes w script summary)

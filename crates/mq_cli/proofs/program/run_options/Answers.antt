@@ -1,8 +1,10 @@
-use Rattle.std.proofs.Common.{refl, subst, option_map, string_bytes}
+use Rattle.std.proofs.Common.{◌≡◌, ◌∙◌, Some, None, inl, inr, refl, subst, sym, option_map}
+use Rattle.std.proofs.Common.{string_bytes}
 use Rattle.mq_world.specs.World.{Limits, fresh_world, within}
 use Rattle.mq_router.specs.StandsFor.{StandsFor}
 use Rattle.mq_cli.specs.Program.{limits_by, script_file, IsScript, AnswersScript}
-use Rattle.mq_cli.proofs.ProgramLemmas.{IfOk-begun, BeginsIn-some, WritesFront-none}
+use Rattle.mq_cli.proofs.ProgramLemmas.{IfErr-map, IfOk-begun, IfOk-file, BeginsIn-some}
+use Rattle.mq_cli.proofs.ProgramLemmas.{WritesFront-file, WritesFront-none}
 use Rattle.mq_cli.proofs.program.run_options.Goals as goal
 
 pub returns-in_err-access-clause-prefix : goal.returns-in_err-access-clause-prefix
@@ -11,28 +13,83 @@ returns-in_err-access-clause-prefix g c =
     let begun = BeginsIn-some (option_map string_bytes c.args.options.now.acl_file) given in
     (begun.0, begun.1, WritesFront-none begun.0 _ _ _)
 
-pub returns-clause-ok : goal.returns-clause-ok
-returns-clause-ok g c = λ before taken.
+-- ## The script is in a file
+
+pub returns-in-Some-clause-ok : goal.returns-in-Some-clause-ok
+returns-in-Some-clause-ok g c = λ before taken.
     let given = limits_by c.args.options.now.max_retained c.args.options.now.max_queued in
     let w = within given (fresh_world c.in_ok-access.access) in
-    IfOk-begun c.run_with.result _ given w
+    let stands = subst (λ (limits : Limits). StandsFor c.with_limits-router.result
+    (within limits (fresh_world c.in_ok-access.access))) c.limits.ensures
+    c.with_limits-router.ensures in
+    IfOk-begun c.run_file.result _ given w
     (IsScript (script_file (option_map string_bytes c.args.options.now.script))
     (g.S.Source.to_come c.args.input.now))
-    (λ v script summary. AnswersScript v script before (g.W.Sink.taken c.run_with.new.out) summary)
+    (λ v script summary. AnswersScript v script before (g.W.Sink.taken c.run_file.new.out) summary)
     (c.in_ok-access.access, c.in_ok-access.ensures.ok, refl)
-    (c.run_with.ensures.ok w before
-    (subst (λ (limits : Limits). StandsFor c.with_limits-router.result
-    (within limits (fresh_world c.in_ok-access.access))) c.limits.ensures
-    c.with_limits-router.ensures) taken)
+    (IfOk-file c.run_file.result c.in-Some.file.now _ _
+    (λ script summary. AnswersScript w script before (g.W.Sink.taken c.run_file.new.out) summary)
+    c.in-Some.ensures (c.run_file.ensures.ok w before stands taken))
 
-pub returns-clause-prefix : goal.returns-clause-prefix
-returns-clause-prefix g c =
+pub returns-in-Some-clause-prefix : goal.returns-in-Some-clause-prefix
+returns-in-Some-clause-prefix g c =
     let w = within (limits_by c.args.options.now.max_retained c.args.options.now.max_queued)
-    (fresh_world c.in_ok-access.access) in (
+    (fresh_world c.in_ok-access.access) in
+    let stands = subst (λ (limits : Limits). StandsFor c.with_limits-router.result
+    (within limits (fresh_world c.in_ok-access.access))) c.limits.ensures
+    c.with_limits-router.ensures in (
       w,
       (c.in_ok-access.access, c.in_ok-access.ensures.ok, refl),
-      c.run_with.ensures.prefix w
-          (subst (λ (limits : Limits). StandsFor c.with_limits-router.result
-          (within limits (fresh_world c.in_ok-access.access))) c.limits.ensures
-          c.with_limits-router.ensures),
+      WritesFront-file w c.in-Some.file.now _ _ _ _ c.in-Some.ensures
+          (c.run_file.ensures.prefix w stands),
     )
+
+pub returns-in-Some-clause-err : goal.returns-in-Some-clause-err
+returns-in-Some-clause-err g c = λ _ none.
+    absurd (let bad : Some c.in-Some.file.now ≡ None = c.in-Some.ensures ∙ none in cc)
+
+pub returns-in-Some-clause-unreadable : goal.returns-in-Some-clause-unreadable
+returns-in-Some-clause-unreadable g c =
+    IfErr-map c.run_file.result _ _ (λ failure told two. elim told [
+      | inl unopened ↦ (refl, unopened.1)
+      | inr three ↦ absurd (let bad : 2 ≡ 3 = sym two ∙ three in cc)
+    ]) c.run_file.ensures.err
+
+-- ## The script is the input
+
+pub returns-in-None-clause-ok : goal.returns-in-None-clause-ok
+returns-in-None-clause-ok g c = λ before taken.
+    let given = limits_by c.args.options.now.max_retained c.args.options.now.max_queued in
+    let w = within given (fresh_world c.in_ok-access.access) in
+    let stands = subst (λ (limits : Limits). StandsFor c.with_limits-router.result
+    (within limits (fresh_world c.in_ok-access.access))) c.limits.ensures
+    c.with_limits-router.ensures in
+    IfOk-begun c.run_source.result _ given w
+    (IsScript (script_file (option_map string_bytes c.args.options.now.script))
+    (g.S.Source.to_come c.args.input.now))
+    (λ v script summary. AnswersScript v script before (g.W.Sink.taken c.run_source.new.out)
+    summary)
+    (c.in_ok-access.access, c.in_ok-access.ensures.ok, refl)
+    (rw (sym c.in-None.ensures) (c.run_source.ensures.ok w before stands taken))
+
+pub returns-in-None-clause-prefix : goal.returns-in-None-clause-prefix
+returns-in-None-clause-prefix g c =
+    let w = within (limits_by c.args.options.now.max_retained c.args.options.now.max_queued)
+    (fresh_world c.in_ok-access.access) in
+    let stands = subst (λ (limits : Limits). StandsFor c.with_limits-router.result
+    (within limits (fresh_world c.in_ok-access.access))) c.limits.ensures
+    c.with_limits-router.ensures in (
+      w,
+      (c.in_ok-access.access, c.in_ok-access.ensures.ok, refl),
+      rw (sym c.in-None.ensures) (c.run_source.ensures.prefix w stands),
+    )
+
+pub returns-in-None-clause-unread : goal.returns-in-None-clause-unread
+returns-in-None-clause-unread g c =
+    λ file named. absurd (let bad : None ≡ Some file = c.in-None.ensures ∙ named in cc)
+
+pub returns-in-None-clause-unreadable : goal.returns-in-None-clause-unreadable
+returns-in-None-clause-unreadable g c =
+    IfErr-map c.run_source.result _ _
+    (λ failure three two. absurd (let bad : 2 ≡ 3 = sym two ∙ three in cc))
+    c.run_source.ensures.err

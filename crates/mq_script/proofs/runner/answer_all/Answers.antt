@@ -23,7 +23,7 @@ returns-in_err-finish-clause-ending g c = λ w s.
     rw (fault.1, fault.2) (
       all.0,
       all.1,
-      Ending-last c.args.limit w _ _ all.2.ended last read.0 (let written = read.1 in omega arith),
+      Ending-last c.args.options.limit w _ _ all.2.ended last read.0 (let written = read.1 in omega arith),
     )
 
 pub returns-clause-ending : goal.returns-clause-ending

@@ -58,7 +58,7 @@ returns-in_err-before_read-clause-err g c = λ w start.
     rw (fault.1, fault.2) (
       so_far.0,
       so_far.1,
-      Ending-stopped c.args.limit w _ _ stopped c.reads.invariant.reader
+      Ending-stopped c.args.options.limit w _ _ stopped c.reads.invariant.reader
           (let k = c.in_err-before_read.ensures.counted in omega arith),
     )
 
@@ -101,8 +101,8 @@ returns-then-n-room-clause-err g c = λ w start.
     let a = g.W.Sink.taken c.args.writer.now in
     let now = c.in_ok-take.ensures.takes w given a (so_taken w [] a start) in
     let read = c.in-Ok.ensures.bytes in
-    let room : length given + (c.args.limit - c.reads.total) ≡ c.args.limit = omega arith in
-    let front = over_take given buf c.args.limit (c.args.limit - c.reads.total) n room (omega arith)
+    let room : length given + (c.args.options.limit - c.reads.total) ≡ c.args.options.limit = omega arith in
+    let front = over_take given buf c.args.options.limit (c.args.options.limit - c.reads.total) n room (omega arith)
     in
     let grown : length (given ++ take n buf) ≡ length given + n =
     rw (length-append, length-take-le n buf) in (
@@ -128,14 +128,14 @@ returns-in_err-take-clause-err g c = λ w start.
     let read = c.in-Ok.ensures.bytes in
     let a = g.W.Sink.taken c.args.writer.now in
     let now = c.in_err-take.ensures.takes w given a (so_taken w [] a start) in
-    let room : c.args.limit - c.reads.total ≤ n = omega arith in
+    let room : c.args.options.limit - c.reads.total ≤ n = omega arith in
     let fault = err_from_is_err_and c.from_residual-in_err-take.result
     c.from_residual-in_err-take.ensures.1 in
     rw (fault.1, fault.2) (
       given ++ take n buf,
       Consumes-trans _ (g.R.Source.to_come c.reads.reader) _ given (take n buf) so_far.1 read.0,
-      Ending-stopped c.args.limit w _ _
-          (Stopped-front a _ w given buf (c.args.limit - c.reads.total) n _ room now)
+      Ending-stopped c.args.options.limit w _ _
+          (Stopped-front a _ w given buf (c.args.options.limit - c.reads.total) n _ room now)
           (let k = c.in-Ok.ensures.counted in omega arith)
           (let k = c.in_err-take.ensures.counted in let flushed =
           c.in_ok-before_read.ensures.counted in omega arith),
@@ -157,7 +157,7 @@ returns-in_err-take-2-clause-err g c = λ w start.
     rw (fault.1, fault.2) (
       given ++ take n buf,
       Consumes-trans _ (g.R.Source.to_come c.reads.reader) _ given (take n buf) so_far.1 read.0,
-      Ending-stopped c.args.limit w _ _ now
+      Ending-stopped c.args.options.limit w _ _ now
           (let k = c.in-Ok.ensures.counted in omega arith)
           (let k = c.in_err-take-2.ensures.counted in let flushed =
           c.in_ok-before_read.ensures.counted in omega arith),

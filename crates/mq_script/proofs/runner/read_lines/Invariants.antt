@@ -8,7 +8,7 @@ invariant-reads g l =
     let taken = g.W.Sink.taken in
     let to_come = g.R.Source.to_come in
     record {
-      within : l.total ≤ l.limit;
+      within : l.total ≤ l.options.limit;
       lines : l.progress.summary.lines + length l.progress.line.items ≤ l.total;
       reader : g.R.Source.failures l.reader ≡ g.R.Source.failures l.fn.reader;
       writer : g.W.Sink.failures l.writer ≡ g.W.Sink.failures l.fn.writer;
@@ -18,4 +18,4 @@ invariant-reads g l =
     }
 
 abbrev pub decreases-reads : goal.decreases-reads
-decreases-reads g l = l.limit - l.total
+decreases-reads g l = l.options.limit - l.total
