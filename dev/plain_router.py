@@ -7,7 +7,8 @@ is slow, and its answers owe nothing to mqroute's code. What tests/rows wants is
 it is too long to be written by hand.
 
     dev/plain_router.py [--acl-file FILE] [--max-retained N] [--max-queued N] [SCRIPT]
-    dev/plain_router.py --check      answers each row of tests/rows and each example, and compares
+    dev/plain_router.py --check      answers each row of tests/rows, each conformance case and each
+                                     example, and compares
 """
 import argparse
 import json
@@ -528,12 +529,16 @@ def run(words, script, folder="."):
 
 def cases(top):
     """A name, the words, the script, the folder, and what is wanted, of each
-    row and each example."""
+    row, each conformance case and each example."""
     for path in sorted(top.glob("tests/rows/*.jsonl")):
         args = path.with_suffix(".args")
         words = args.read_text().splitlines() if args.exists() else []
         wanted = path.with_suffix(".out").read_bytes(), int(path.with_suffix(".status").read_text())
         yield path.stem, words, path.read_bytes(), top, wanted
+    for path in sorted(top.glob("conformance/*/*.jsonl")):
+        out = path.with_suffix(".out").read_bytes()
+        status = 1 if b'"refused"' in out else 0
+        yield f"{path.parent.name}/{path.stem}", [], path.read_bytes(), top, (out, status)
     for path in sorted(top.glob("examples/*/run")):
         for line in path.read_text().splitlines():
             out, status, *words = line.split()

@@ -1,6 +1,6 @@
 #!/usr/bin/env bash
-# Runs the built program on each worked row of tests/rows and on each example, as a user would, and compares what it
-# writes, byte for byte, and its exit status.
+# Runs the built program on each worked row of tests/rows, on each case of conformance/ and on each example, as a user
+# would, and compares what it writes, byte for byte, and its exit status.
 #
 # A row is NAME.jsonl (standard input), NAME.out (what must be written) and NAME.status; NAME.args, where it stands, has
 # the arguments, one a line. An example is a folder of examples/ with a file `run` of lines `OUT STATUS ARGUMENTS..`.
@@ -41,6 +41,16 @@ for script in tests/rows/*.jsonl; do
     "$program" ${args[@]+"${args[@]}"} < "$script" > "$written" 2> /dev/null
     status=$?
     check "$row" "$row.out" "$(cat "$row.status")"
+done
+
+for script in conformance/*/*.jsonl; do
+    [ -e "$script" ] || continue
+    case=${script%.jsonl}
+    wanted=0
+    grep -q '"refused"' "$case.out" && wanted=1
+    "$program" "$script" > "$written" 2> /dev/null
+    status=$?
+    check "$case" "$case.out" "$wanted"
 done
 
 # A script of one byte more than 4,294,967,296 is cut, whatever its lines are.
