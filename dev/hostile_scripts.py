@@ -1,5 +1,5 @@
 #!/usr/bin/env python3
-"""Writes crates/mq_calls/src/tests/scripts.rt: two worked rows of tests/rows, since the gate gives
+"""Writes crates/mq_tests/src/tests/scripts.rt: two worked rows of tests/rows, since the gate gives
 a test no files.
 
 Their lines of more than 1,000 bytes are left out, and the others renumbered: the scripts are cut at
@@ -11,7 +11,7 @@ import re
 import sys
 
 ROWS = pathlib.Path("tests/rows")
-MADE = pathlib.Path("crates/mq_calls/src/tests/scripts.rt")
+MADE = pathlib.Path("crates/mq_tests/src/tests/scripts.rt")
 NAMES = ("first-look", "refusals")
 LONGEST_LINE = 1_000
 NUMBER = re.compile(r'"line":(\d+)')

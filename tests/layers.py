@@ -21,7 +21,7 @@ LONGEST = 8
 # The folders and files of a crate that has layers, from the lowest up.
 ORDER = {
     "mq_router": ["texts", "replies", "delivery", "router"],
-    "mq_script": ["devices", "outcome", "write", "answer", "progress", "runner"],
+    "mq_run": ["devices", "outcome", "write", "answer", "progress", "runner"],
 }
 
 

@@ -1,10 +1,10 @@
 #!/usr/bin/env bash
 # Refuses each growth in turn, by a preloaded malloc (tests/refused.c): the nth growth fails, for each n, until none is
-# met. First in the calls that tests of mq_calls make, without a script and over each worked row; then in both built
+# met. First in the calls that tests of mq_tests make, without a script and over each worked row; then in both built
 # programs, over some command lines. '-v' shows how many growths were refused in each trial.
 set -uo pipefail
 cd "$(dirname "$0")/.."
-tests=$PWD/crates/mq_calls/out/mq_calls_tests
+tests=$PWD/crates/mq_tests/out/mq_tests_tests
 program=$PWD/bin/mqroute
 acl=$PWD/bin/mqroute-acl
 verbose=${1-}

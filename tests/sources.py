@@ -28,19 +28,19 @@ TOP = pathlib.Path(__file__).resolve().parent.parent
 ROUTER = [
     "mq_router", "mq_subscriptions", "mq_retained", "mq_sessions", "mq_world", "mq_acl", "mq_tree",
     "mq_topic"]
-TESTS = "mq_calls"
+TESTS = "mq_tests"
 
 MADE_OF = {
     "Router": "alloc: Global, limits: Limits, clock: Clock, access: Option<Acl>, sessions: "
     "Sessions, subscriptions: Subscriptions, retained: Retained",
     "Limits": "retained: Option<u32>, queued: u32",
     "Clock": "moment: u64",
-    "Acl": "groups: Groups, order: Snapshot<Vec<Row>>",
+    "Acl": "by_owner: RowsByOwner, order: Snapshot<Vec<Row>>",
     "Sessions": "by_id: BTreeMap<RcStr, Session>, ends: Ends",
     "Ends": "heap: BinaryHeap<(Reverse<u64>, RcStr)>",
     "Subscriptions": "alloc: Global, tree: LevelTree<FilterEntry>, lists: ClientLists",
     "Retained": "alloc: Global, tree: Messages, deadlines: Deadlines",
-    "Groups": "everyone: Vec<Row>, anonymous: Vec<Row>, named: BTreeMap<String, Vec<Row>>",
+    "RowsByOwner": "everyone: Vec<Row>, anonymous: Vec<Row>, named: BTreeMap<String, Vec<Row>>",
     "Row": "line: u64, owner: Owner, access: Access, filter: TopicFilter",
     "Session":
     "user: Option<String>, interval: u32, presence: Presence, waiting: LinkedList<Waiting>",

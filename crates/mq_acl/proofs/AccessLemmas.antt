@@ -6,9 +6,9 @@ use Rattle.std.specs.Option.{unwrap_or}
 use Rattle.mq_acl.specs.Rows.{AclRow}
 use Rattle.mq_acl.specs.declared.access.Direction.{Direction}
 use Rattle.mq_acl.specs.Access.{is_deny, grants, concerns, covers, applies, rows_allow, allowed}
-use Rattle.mq_acl.specs.declared.groups.Groups.{Groups}
-use Rattle.mq_acl.specs.Groups.{is_own, is_everyones, IsGrouped, everyones, own_rows, judged}
-use Rattle.mq_acl.proofs.GroupLemmas.{any_of_groups}
+use Rattle.mq_acl.specs.declared.rows_by_owner.RowsByOwner.{RowsByOwner}
+use Rattle.mq_acl.specs.RowsByOwner.{is_own, is_everyones, IsGrouped, everyones, own_rows, judged}
+use Rattle.mq_acl.proofs.RowsByOwnerLemmas.{any_of_groups}
 
 -- what the rows for all and those of the user say, one after the other, is what all rows say
 pub allowed_by_groups : (client : List ℕ) (user : Option (List ℕ)) (name : List ℕ)
@@ -59,13 +59,13 @@ in_turn false false some mine = refl
 
 -- what the rows for all say, and then those of the user, is what all rows say
 pub judged_in_turn : (client : List ℕ) (user : Option (List ℕ)) (name : List ℕ)
-    (direction : Direction) (rows : List AclRow) (groups : Groups) (first : Option Bool)
+    (direction : Direction) (rows : List AclRow) (by_owner : RowsByOwner) (first : Option Bool)
     (all own : List AclRow)
-    → IsGrouped rows groups → all ≡ everyones groups → own ≡ own_rows user groups
+    → IsGrouped rows by_owner → all ≡ everyones by_owner → own ≡ own_rows user by_owner
     → first ≡ judged client user name direction false all
     → then_own first (λ granted. judged client user name direction granted own)
     ≡ rows_allow rows client user name direction
-judged_in_turn client user name direction rows groups first all own g a o e =
+judged_in_turn client user name direction rows by_owner first all own g a o e =
     ap (λ f. then_own f (λ granted. judged client user name direction granted own)) e
     ∙ sym (in_turn (denies all) (denies own) (grant all) (grant own))
     ∙ sym (allowed_by_groups client user name direction rows all own (a ∙ g.all) (o ∙ g.own user))

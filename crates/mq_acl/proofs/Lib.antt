@@ -1,5 +1,5 @@
 pub mod AccessLemmas
 pub mod FaultLemmas
-pub mod GroupLemmas
+pub mod RowsByOwnerLemmas
 pub mod RowLemmas
 pub mod WordLemmas

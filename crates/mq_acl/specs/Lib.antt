@@ -3,4 +3,4 @@ pub mod Lines
 pub mod Rows
 pub mod Views
 pub mod Access
-pub mod Groups
+pub mod RowsByOwner

@@ -8,9 +8,9 @@ ghost use Rattle.mq_acl.specs.declared.access.Direction.TheVariants.{Reading, Wr
 use crate::access::Direction;
 use crate::check::rows_allow;
 use crate::fault::{AclFault, AclKind};
-use crate::groups::Groups;
 use crate::read::read_rows;
 use crate::row::Row;
+use crate::rows_by_owner::RowsByOwner;
 use mq_topic::TopicName;
 use std::alloc::{AllocError, Global};
 use std::fmt;
@@ -19,7 +19,7 @@ use std::snapshot::Snapshot;
 
 /// An access list: rows that grant topics to clients or deny them (mosquitto.conf(5), `acl_file`).
 pub struct Acl {
-    groups: Groups,
+    by_owner: RowsByOwner,
     /// The rows as they stand in the text, for contracts alone.
     order: Snapshot<Vec<Row>>,
 }
@@ -28,7 +28,7 @@ pub struct Acl {
 impl Drop for Acl {
     fn drop(self) {
         let Acl {
-            groups: _,
+            by_owner: _,
             order: _,
         } = self;
     }
@@ -41,11 +41,11 @@ impl Model for Acl {
 
     ghost Value = { List AclRow };
 
-    ghost use Rattle.mq_acl.specs.Groups.{IsGrouped};
+    ghost use Rattle.mq_acl.specs.RowsByOwner.{IsGrouped};
 
     ghost view = { λ acl. row_views acl.order.value.items };
 
-    ghost invariant = { λ acl. IsGrouped (row_views acl.order.value.items) acl.groups };
+    ghost invariant = { λ acl. IsGrouped (row_views acl.order.value.items) acl.by_owner };
 }
 
 impl Acl {
@@ -75,8 +75,8 @@ impl Acl {
         ensures { IfOk result (λ acl. acl ≡ row_views rows.items) }
     {
         let order = Snapshot::of(&rows);
-        let groups = Groups::of(alloc, rows)?;
-        Ok(Acl { groups, order })
+        let by_owner = RowsByOwner::of(alloc, rows)?;
+        Ok(Acl { by_owner, order })
     }
 
     /// Whether the client with this client id, and with this user name or none, may read the topic: no row denies
@@ -87,7 +87,7 @@ impl Acl {
         ensures { result ≡ allowed (Some self.now) client.now (option_copied user.entry) name.now
             Reading }
     {
-        rows_allow(&self.groups, client, user, name, Direction::Reading)
+        rows_allow(&self.by_owner, client, user, name, Direction::Reading)
     }
 
     /// Whether this client may write the topic, as `may_read`.
@@ -96,12 +96,12 @@ impl Acl {
         ensures { result ≡ allowed (Some self.now) client.now (option_copied user.entry) name.now
             Writing }
     {
-        rows_allow(&self.groups, client, user, name, Direction::Writing)
+        rows_allow(&self.by_owner, client, user, name, Direction::Writing)
     }
 }
 
 impl fmt::Debug for Acl {
     fn fmt<W: fmt::Write>(&self, f: &mut fmt::Formatter<W>) -> fmt::Result {
-        fmt::Debug::fmt(&self.groups, f)
+        fmt::Debug::fmt(&self.by_owner, f)
     }
 }

@@ -3,14 +3,14 @@ ghost use Rattle.std.specs.Option.{option_copied};
 ghost use Rattle.mq_acl.specs.Access.{row_level_matches, begins_with_dollar, covers, applies};
 ghost use Rattle.mq_acl.specs.Access.{is_deny, grants, concerns, rows_allow};
 ghost use Rattle.mq_acl.specs.Rows.{AclRow};
-ghost use Rattle.mq_acl.specs.Groups.{IsGrouped, judged};
+ghost use Rattle.mq_acl.specs.RowsByOwner.{IsGrouped, judged};
 ghost use Rattle.mq_topic.specs.Levels.{levels};
 ghost use Rattle.mq_topic.specs.Matching.{levels_match_by};
 ghost use Rattle.mq_acl.specs.Views.{access_view, owner_view, row_view, row_views};
 
 use crate::access::{Access, Direction};
-use crate::groups::Groups;
 use crate::row::{Owner, Row};
+use crate::rows_by_owner::RowsByOwner;
 use mq_topic::{LevelTest, LevelText, TopicName, levels_match};
 
 // The levels of a row, for one client.
@@ -117,19 +117,19 @@ fn judge(
 
 // Whether no row that concerns the name denies, and one grants, of the rows for all clients and of those for this user alone.
 pub(crate) fn rows_allow(
-    groups: &Groups,
+    by_owner: &RowsByOwner,
     client: &str,
     user: Option<&str>,
     name: &TopicName,
     direction: Direction,
 ) -> bool
-    ensures { (rows : List AclRow) → IsGrouped rows groups.now
+    ensures { (rows : List AclRow) → IsGrouped rows by_owner.now
         → result ≡ rows_allow rows client.now (option_copied user.entry) name.now direction }
 {
-    match judge(groups.everyone(), false, client, user, name, direction) {
+    match judge(by_owner.everyone(), false, client, user, name, direction) {
         None => false,
         Some(granted) => {
-            judge(groups.own(user), granted, client, user, name, direction).unwrap_or(false)
+            judge(by_owner.own(user), granted, client, user, name, direction).unwrap_or(false)
         }
     }
 }

@@ -6,10 +6,10 @@ mod acl;
 mod check;
 mod entry;
 mod fault;
-mod groups;
 mod read;
 mod rights;
 mod row;
+mod rows_by_owner;
 mod words;
 
 pub use access::{Access, Direction};

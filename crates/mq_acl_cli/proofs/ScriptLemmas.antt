@@ -5,7 +5,7 @@ use Rattle.std.specs.Borrow.{Bor}
 use Rattle.std.specs.Io.KnownBytes.{Consumes, IsAtEnd}
 use Rattle.mq_acl.specs.Views.{row_views}
 use Rattle.mq_acl.specs.declared.row.Row.{Row}
-use Rattle.mq_lines.specs.Lines.{all_lines}
+use Rattle.mq_jsonl.specs.Lines.{all_lines}
 use Rattle.mq_reach.specs.Search.{AreCounted, IsFound, subscription_views}
 use Rattle.mq_reach.specs.Subscriptions.{commands_of}
 use Rattle.mq_reach.specs.declared.search.Findings.{Findings}

@@ -6,9 +6,9 @@ use Rattle.mq_topic.specs.Texts.{filter_part, is_name, is_subscription}
 use Rattle.mq_acl.specs.Rows.{rows_of}
 use Rattle.mq_acl.specs.declared.fault.AclFault.{AclFault}
 use Rattle.mq_acl.specs.declared.row.Row.{Row}
-use Rattle.mq_acl_words.specs.declared.list.ListText.{ListText}
+use Rattle.mq_acl_print.specs.declared.list.ListText.{ListText}
 use Rattle.mq_questions.specs.Limits.{has_short_levels, is_short, is_short_user, long_line}
-use Rattle.mq_lines.specs.Lines.{all_lines}
+use Rattle.mq_jsonl.specs.Lines.{all_lines}
 use Rattle.mq_reach.specs.Faults.{has_long_at}
 use Rattle.mq_reach.specs.Script.{script_limit}
 use Rattle.mq_reach.specs.Subscriptions.{commands_of, subscriptions}

@@ -3,7 +3,7 @@ use Rattle.std.specs.Prelude.{◌≡◌, ◌≢◌, ℕ, List, [], Ok}
 use Rattle.mq_acl.specs.Rows.{AclRow, rows_of}
 use Rattle.mq_acl.specs.Views.{row_views}
 use Rattle.mq_acl.specs.declared.row.Row.{Row}
-use Rattle.mq_lines.specs.Lines.{all_lines}
+use Rattle.mq_jsonl.specs.Lines.{all_lines}
 use Rattle.mq_reach.specs.Search.{IsFound}
 use Rattle.mq_reach.specs.Subscriptions.{Subscription, commands_of, subscriptions}
 use Rattle.mq_reach.specs.Vain.{AreVain}

@@ -8,7 +8,7 @@ use crate::failure::Failure;
 use crate::list::rows_in;
 use crate::outcome::Outcome;
 use mq_acl::Row;
-use mq_acl_words::ListText;
+use mq_acl_print::ListText;
 use mq_questions::ComparisonFault;
 use mq_report::{Difference, compare};
 use mq_topic::LevelText;

@@ -7,7 +7,7 @@ use crate::changes::{find_changes, outcome_of};
 use crate::failure::Failure;
 use crate::outcome::Outcome;
 use crate::print::print_outcome;
-use mq_acl_words::{ListText, changes_text};
+use mq_acl_print::{ListText, changes_text};
 use std::alloc::Global;
 use std::io::Write;
 

@@ -8,7 +8,7 @@ use crate::failure::Failure;
 use crate::list::rows_in;
 use crate::request::Client;
 use mq_acl::Direction;
-use mq_acl_words::ListText;
+use mq_acl_print::ListText;
 use mq_report::{Verdict, why};
 use mq_topic::{TopicFault, TopicName};
 use std::alloc::Global;

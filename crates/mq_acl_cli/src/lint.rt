@@ -9,7 +9,7 @@ use crate::files::text_of;
 use crate::outcome::Outcome;
 use crate::print::print_outcome;
 use crate::remarks::{find_remarks, outcome_of};
-use mq_acl_words::{ListText, add_remarks};
+use mq_acl_print::{ListText, add_remarks};
 use std::alloc::Global;
 use std::io::{Read, Write};
 use std::rt::Files;

@@ -6,7 +6,7 @@ ghost use Rattle.mq_acl_cli.specs.Failures.{IsListFailure};
 
 use crate::failure::Failure;
 use mq_acl::{AclFault, AclKind, Row, read_rows};
-use mq_acl_words::{ListText, fault_words};
+use mq_acl_print::{ListText, fault_words};
 use std::alloc::{AllocError, Global};
 
 fn line_failure<'a>(

@@ -22,7 +22,7 @@ use crate::reach::tell_reach;
 use crate::request::{Client, Question, Request};
 use crate::script::tell_subscriptions;
 use crate::why::tell_why;
-use mq_acl_words::ListText;
+use mq_acl_print::ListText;
 use std::alloc::{AllocError, Global};
 use std::fs;
 use std::io::{Read, Write};

@@ -9,7 +9,7 @@ use crate::outcome::Outcome;
 use crate::print::print_outcome;
 use crate::reached::{find_topic, outcome_of};
 use crate::request::Client;
-use mq_acl_words::{ListText, topic_text};
+use mq_acl_print::{ListText, topic_text};
 use std::alloc::Global;
 use std::io::Write;
 

@@ -11,7 +11,7 @@ use crate::list::rows_in;
 use crate::outcome::Outcome;
 use crate::request::Client;
 use mq_acl::Row;
-use mq_acl_words::ListText;
+use mq_acl_print::ListText;
 use mq_questions::{ListFault, Reach, ReachFault};
 use mq_topic::{LevelText, SubFilter, TopicFault, TopicFilter, TopicName};
 use std::alloc::Global;

@@ -6,7 +6,7 @@ ghost use Rattle.mq_acl_cli.specs.Lint.{AreRemarks, IsNeedlessIn};
 use crate::failure::Failure;
 use crate::list::rows_in;
 use crate::outcome::Outcome;
-use mq_acl_words::ListText;
+use mq_acl_print::ListText;
 use mq_questions::ListFault;
 use mq_report::{Remark, RemarkKind, needless, remarks};
 use std::alloc::Global;

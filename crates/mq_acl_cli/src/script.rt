@@ -8,7 +8,7 @@ use crate::failure::Failure;
 use crate::outcome::Outcome;
 use crate::print::print_outcome;
 use crate::searched::{find_subscriptions, outcome_of};
-use mq_acl_words::{ListText, subscriptions_text};
+use mq_acl_print::{ListText, subscriptions_text};
 use std::alloc::Global;
 use std::io::{Read, Write};
 

@@ -10,7 +10,7 @@ use crate::failure::Failure;
 use crate::list::rows_in;
 use crate::outcome::Outcome;
 use mq_acl::Row;
-use mq_acl_words::ListText;
+use mq_acl_print::ListText;
 use mq_reach::{Findings, ScriptFault, SearchFault, find_vain};
 use std::alloc::Global;
 use std::io::Read;

@@ -6,7 +6,7 @@ use crate::explanation::{Explanation, explain};
 use crate::failure::Failure;
 use crate::print::print_answer;
 use crate::request::Client;
-use mq_acl_words::{ListText, explanation_text};
+use mq_acl_print::{ListText, explanation_text};
 use std::alloc::Global;
 use std::io::Write;
 

@@ -3,7 +3,7 @@ use Rattle.std.proofs.Common.{ℕ, List, Option, Result, Ok, Err}
 use Rattle.mq_acl.specs.Rows.{AclRow}
 use Rattle.mq_cli.specs.declared.acl_file.AclFileFault.{AclFileFault}
 use Rattle.mq_cli.specs.declared.acl_file.AclFileFault.TheVariants as fault
-use Rattle.mq_script.specs.Ending.{Failures}
+use Rattle.mq_run.specs.Ending.{Failures}
 use Rattle.mq_cli.specs.AclFile.{IsAnswerTo, IsWholeFile, AclFileEnding}
 
 -- the answer to a file that the reader gave whole is how its reading ends

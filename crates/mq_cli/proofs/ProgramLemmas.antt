@@ -12,11 +12,11 @@ use Rattle.mq_cli.specs.declared.command_line.UsageFault.TheVariants.{Help, Usag
 use Rattle.mq_cli.specs.declared.failure.Failure.{Failure}
 use Rattle.mq_cli.specs.declared.failure.Failure.TheVariants as failure
 use Rattle.mq_cli.specs.CommandLine.{IsFaultOf, AreGiven, given}
-use Rattle.mq_script.specs.Ending.{AppendsSome}
-use Rattle.mq_script.specs.Output.{output}
+use Rattle.mq_run.specs.Ending.{AppendsSome}
+use Rattle.mq_run.specs.Output.{output}
 use Rattle.mq_cli.specs.Program.{script_file, failure_status, limits_by, limits_given, BeginsIn}
 use Rattle.mq_cli.specs.Program.{IsScript, WritesFront, TellsUsage}
-use Rattle.mq_script.proofs.FrontLemmas.{AppendsSome-none}
+use Rattle.mq_run.proofs.FrontLemmas.{AppendsSome-none}
 
 -- where the words have no fault, memory ran out
 pub memory_only : (kinds : Kinds) (fault : UsageFault) → kinds ≡ [] → IsFaultOf kinds fault

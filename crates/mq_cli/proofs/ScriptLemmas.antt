@@ -2,13 +2,13 @@
 use Rattle.std.proofs.Common.{◌≡◌, ℕ, List, [], ◌++◌, Option, Some, None, Result, Ok, refl, sym}
 use Rattle.std.specs.Io.KnownBytes.{Consumes, IsAtEnd}
 use Rattle.mq_world.specs.World.{World}
-use Rattle.mq_script.specs.declared.outcome.Summary.{Summary}
-use Rattle.mq_script.specs.declared.outcome.RunFault.{RunFault}
-use Rattle.mq_script.specs.Output.{output}
-use Rattle.mq_script.specs.Ending.{Watched, EndsOver}
+use Rattle.mq_run.specs.declared.outcome.Summary.{Summary}
+use Rattle.mq_run.specs.declared.outcome.RunFault.{RunFault}
+use Rattle.mq_run.specs.Output.{output}
+use Rattle.mq_run.specs.Ending.{Watched, EndsOver}
 use Rattle.mq_cli.specs.Program.{IsScript, AnswersScript, WritesFront}
-use Rattle.mq_script.proofs.HeadlineLemmas.{whole, written}
-use Rattle.mq_script.proofs.FrontLemmas.{Ending-front}
+use Rattle.mq_run.proofs.HeadlineLemmas.{whole, written}
+use Rattle.mq_run.proofs.FrontLemmas.{Ending-front}
 
 is_script : (a b : Option (List ℕ)) (given : List ℕ) → Consumes a b given → IsAtEnd b
     → IsScript None a given

@@ -5,7 +5,7 @@ use Rattle.mq_acl.specs.Rows.{AclRow, rows_of}
 use Rattle.mq_acl.specs.declared.fault.AclKind.TheVariants as kind
 use Rattle.mq_cli.specs.declared.acl_file.AclFileFault.{AclFileFault}
 use Rattle.mq_cli.specs.declared.acl_file.AclFileFault.TheVariants as fault
-use Rattle.mq_script.specs.Ending.{Failures, Watched, DidNotFail, Failed}
+use Rattle.mq_run.specs.Ending.{Failures, Watched, DidNotFail, Failed}
 
 -- how many bytes the file may have
 unfoldable pub acl_file_limit : ℕ

@@ -6,11 +6,11 @@ use Rattle.std.specs.Str.{bytes_eq}
 use Rattle.mq_acl.specs.Rows.{AclRow}
 use Rattle.mq_world.specs.World.{World, Limits, default_limits, fresh_world, within}
 use Rattle.mq_cli.specs.CommandLine.{number_given}
-use Rattle.mq_script.specs.declared.outcome.Summary.{Summary}
-use Rattle.mq_script.specs.Output.{refused_from, output, Summarizes}
-use Rattle.mq_lines.specs.Lines.{all_lines}
+use Rattle.mq_run.specs.declared.outcome.Summary.{Summary}
+use Rattle.mq_run.specs.Output.{refused_from, output, Summarizes}
+use Rattle.mq_jsonl.specs.Lines.{all_lines}
 use Rattle.mq_cli.specs.AclFile.{IsAnswerTo}
-use Rattle.mq_script.specs.Ending.{AppendsSome}
+use Rattle.mq_run.specs.Ending.{AppendsSome}
 use Rattle.mq_cli.specs.declared.command_line.UsageFault.{UsageFault}
 use Rattle.mq_cli.specs.declared.command_line.UsageFault.TheVariants.{Help, Usage, Memory}
 use Rattle.mq_cli.specs.declared.failure.Failure.{Failure}

@@ -2,10 +2,10 @@
 ghost use Rattle.std.specs.Prelude.{◌<◌, Err, IfOk, IfErr, length};
 ghost use Rattle.std.specs.Io.KnownBytes.{Consumes};
 ghost use Rattle.mq_cli.specs.AclFile.{AclFileEnds, IsAnswerTo, IsWholeFile, acl_file_limit};
-ghost use Rattle.mq_script.specs.Ending.{watch};
+ghost use Rattle.mq_run.specs.Ending.{watch};
 
 use mq_acl::{Acl, AclFault, AclKind};
-use mq_script::{PIECE, Source};
+use mq_run::{PIECE, Source};
 use std::alloc::{AllocError, Global};
 use std::str;
 use thiserror::Error;

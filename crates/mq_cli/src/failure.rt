@@ -4,7 +4,7 @@ ghost use Rattle.mq_cli.specs.Program.{failure_status};
 
 use crate::acl_file::AclFileFault;
 use mq_acl::{AclFault, AclKind};
-use mq_script::{RUN_FAILED, RunFault};
+use mq_run::{RUN_FAILED, RunFault};
 use std::io::{self, ErrorKind};
 use thiserror::Error;
 

@@ -10,8 +10,8 @@ ghost use Rattle.mq_world.specs.Views.{limits_of};
 ghost use Rattle.mq_router.specs.StandsFor.{StandsFor};
 ghost use Rattle.mq_cli.specs.AclFile.{IsAnswerTo};
 ghost use Rattle.mq_cli.specs.CommandLine.{mqroute, given, IsGiven, IsFaultOf};
-ghost use Rattle.mq_script.specs.Ending.{AppendsSome};
-ghost use Rattle.mq_script.specs.Output.{output};
+ghost use Rattle.mq_run.specs.Ending.{AppendsSome};
+ghost use Rattle.mq_run.specs.Output.{output};
 ghost use Rattle.mq_cli.specs.Program.{script_file, failure_status, limits_by, limits_given};
 ghost use Rattle.mq_cli.specs.Program.{TellsUsage};
 ghost use Rattle.mq_cli.specs.Program.{BeginsWith, BeginsIn, IsScript, AnswersScript, AnswersAll};
@@ -22,7 +22,7 @@ use crate::command_line::{Options, UsageFault, arguments};
 use crate::failure::{Failure, UNREADABLE};
 use mq_acl::Acl;
 use mq_router::Router;
-use mq_script::{
+use mq_run::{
     RUN_FAILED, RunFault, RunOptions, Sink, Source, StdSource, Summary, exit_status, flush,
     run_with, write_all,
 };

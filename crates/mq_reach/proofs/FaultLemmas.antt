@@ -9,12 +9,12 @@ use Rattle.mq_topic.specs.Texts.{filter_part}
 use Rattle.mq_acl.specs.Rows.{AclRow}
 use Rattle.mq_acl.specs.declared.row.Row.{Row}
 use Rattle.mq_questions.specs.Limits.{has_short_levels, is_short, is_short_user}
-use Rattle.mq_lines.specs.Lines.{all_lines, command_in, kept, last_piece, piece_line, pieces}
-use Rattle.mq_lines.specs.Lines.{whole_lines}
-use Rattle.mq_lines.specs.Reading.{reading}
-use Rattle.mq_lines.proofs.LongLemmas.{some_piece}
-use Rattle.mq_lines.proofs.PieceLemmas.{last_piece-text, whole_lines-feed, whole_lines-grown}
-use Rattle.mq_lines.proofs.PieceLemmas.{whole_lines-text}
+use Rattle.mq_jsonl.specs.Lines.{all_lines, command_in, kept, last_piece, piece_line, pieces}
+use Rattle.mq_jsonl.specs.Lines.{whole_lines}
+use Rattle.mq_jsonl.specs.Reading.{reading}
+use Rattle.mq_jsonl.proofs.LongLemmas.{some_piece}
+use Rattle.mq_jsonl.proofs.PieceLemmas.{last_piece-text, whole_lines-feed, whole_lines-grown}
+use Rattle.mq_jsonl.proofs.PieceLemmas.{whole_lines-text}
 use Rattle.mq_reach.specs.Faults.{FailsIn, IsFaultAmong, IsScriptFault, IsSearchFault, StopsWith}
 use Rattle.mq_reach.specs.Faults.{has_long_at, is_long_at, is_short_subscription}
 use Rattle.mq_reach.specs.Script.{HoldsScript, TakesBytes}

@@ -10,8 +10,8 @@ use Rattle.mq_acl.specs.Rows.{AclRow}
 use Rattle.mq_world.specs.Lists.{Text}
 use Rattle.mq_world.specs.World.{Request, Connect, Disconnect, Subscribe, Unsubscribe, Publish}
 use Rattle.mq_world.specs.World.{SetAcl, Advance, Stat}
-use Rattle.mq_lines.specs.Lines.{command_in}
-use Rattle.mq_lines.specs.Reading.{reading}
+use Rattle.mq_jsonl.specs.Lines.{command_in}
+use Rattle.mq_jsonl.specs.Reading.{reading}
 use Rattle.mq_reach.specs.Search.{connection_then, Tells}
 use Rattle.mq_reach.specs.Subscriptions.{Subscription, commands_of, concerns, connected_by}
 use Rattle.mq_reach.specs.Subscriptions.{connection, fault_at, faulty_from, faulty_lines, is_taken}

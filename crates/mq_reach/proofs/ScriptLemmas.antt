@@ -8,11 +8,11 @@ use Rattle.std.specs.List.{cons_option}
 use Rattle.std.specs.Option.{option_and_then, option_to_list}
 use Rattle.std.proofs.lemmas.List.{take_all}
 use Rattle.mq_acl.specs.Rows.{AclRow}
-use Rattle.mq_lines.specs.Lines.{all_lines, command_in, kept, last_piece, piece_line, pieces}
-use Rattle.mq_lines.specs.Lines.{whole_lines}
-use Rattle.mq_lines.proofs.LongLemmas.{kept_more, no_piece, reading-kept, some_piece}
-use Rattle.mq_lines.proofs.PieceLemmas.{whole_lines-feed, last_piece-feed, whole_lines-text}
-use Rattle.mq_lines.proofs.PieceLemmas.{last_piece-text}
+use Rattle.mq_jsonl.specs.Lines.{all_lines, command_in, kept, last_piece, piece_line, pieces}
+use Rattle.mq_jsonl.specs.Lines.{whole_lines}
+use Rattle.mq_jsonl.proofs.LongLemmas.{kept_more, no_piece, reading-kept, some_piece}
+use Rattle.mq_jsonl.proofs.PieceLemmas.{whole_lines-feed, last_piece-feed, whole_lines-text}
+use Rattle.mq_jsonl.proofs.PieceLemmas.{last_piece-text}
 use Rattle.mq_reach.specs.Script.{HoldsScript, TakesBytes}
 use Rattle.mq_reach.specs.Search.{IsSearched, subscription_views}
 use Rattle.mq_reach.specs.Subscriptions.{commands_of, connection, fault_at, faulty_lines}

@@ -7,9 +7,9 @@ use Rattle.std.specs.Option.{option_and_then, option_or, option_to_list}
 use Rattle.mq_acl.specs.Rows.{AclRow}
 use Rattle.mq_world.specs.Lists.{Text}
 use Rattle.mq_world.specs.World.{SubscriptionOptions, Request, Subscribe}
-use Rattle.mq_lines.specs.Lines.{command_in}
-use Rattle.mq_lines.specs.Reading.{reading}
-use Rattle.mq_lines.specs.declared.fault.LineFault.{LineFault}
+use Rattle.mq_jsonl.specs.Lines.{command_in}
+use Rattle.mq_jsonl.specs.Reading.{reading}
+use Rattle.mq_jsonl.specs.declared.fault.LineFault.{LineFault}
 use Rattle.mq_reach.specs.Clients.{user_at}
 use Rattle.mq_reach.specs.Counts.{counted}
 use Rattle.mq_reach.specs.Search.{AreCounted, Applies, IsSearched, Tells, connection_then, kind_of}

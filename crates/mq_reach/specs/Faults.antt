@@ -7,7 +7,7 @@ use Rattle.mq_topic.specs.Texts.{filter_part}
 use Rattle.mq_acl.specs.Rows.{AclRow}
 use Rattle.mq_acl.specs.declared.row.Row.{Row}
 use Rattle.mq_questions.specs.Limits.{has_short_levels, is_short, is_short_user, long_line}
-use Rattle.mq_lines.specs.Lines.{all_lines, whole_lines}
+use Rattle.mq_jsonl.specs.Lines.{all_lines, whole_lines}
 use Rattle.mq_reach.specs.Script.{HoldsScript, script_limit}
 use Rattle.mq_reach.specs.Subscriptions.{Subscription, subscriptions}
 use Rattle.mq_reach.specs.declared.question.SearchFault.{SearchFault}

@@ -1,7 +1,7 @@
 -- A script that is read.
 use Rattle.std.specs.Prelude.{◌≡◌, ℕ, List, ◌++◌, take}
 use Rattle.mq_acl.specs.Rows.{AclRow}
-use Rattle.mq_lines.specs.Lines.{kept, last_piece, whole_lines}
+use Rattle.mq_jsonl.specs.Lines.{kept, last_piece, whole_lines}
 use Rattle.mq_reach.specs.Search.{IsSearched}
 use Rattle.mq_reach.specs.declared.reading.Reading.{Reading}
 

@@ -5,8 +5,8 @@ use Rattle.std.specs.Option.{option_and_then, option_map}
 use Rattle.mq_acl.specs.Rows.{AclRow}
 use Rattle.mq_world.specs.Lists.{Text}
 use Rattle.mq_world.specs.World.{Request}
-use Rattle.mq_lines.specs.Lines.{command_in}
-use Rattle.mq_lines.specs.declared.fault.LineFault.{LineFault}
+use Rattle.mq_jsonl.specs.Lines.{command_in}
+use Rattle.mq_jsonl.specs.declared.fault.LineFault.{LineFault}
 use Rattle.mq_reach.specs.Clients.{user_at}
 use Rattle.mq_reach.specs.Subscriptions.{commands_of, concerns, connected_by, connection}
 use Rattle.mq_reach.specs.Subscriptions.{faulty_lines, subscription_by, subscriptions}

@@ -8,9 +8,9 @@ use Rattle.mq_topic.specs.Texts.{is_shared, is_subscription}
 use Rattle.mq_world.specs.Lists.{Text}
 use Rattle.mq_world.specs.Refusals.{is_client_id, is_user_name}
 use Rattle.mq_world.specs.World.{Request, Connect, Disconnect, Subscribe, SubscriptionOptions}
-use Rattle.mq_lines.specs.Lines.{command_in}
-use Rattle.mq_lines.specs.Reading.{reading}
-use Rattle.mq_lines.specs.declared.fault.LineFault.{LineFault}
+use Rattle.mq_jsonl.specs.Lines.{command_in}
+use Rattle.mq_jsonl.specs.Reading.{reading}
+use Rattle.mq_jsonl.specs.declared.fault.LineFault.{LineFault}
 
 pub record Subscription : Type 0 where
   pub line : ℕ

@@ -3,15 +3,15 @@ ghost use Rattle.std.specs.Prelude.{◌≡◌, ◌+◌, ◌<◌, ◌^◌, ◌≤
 ghost use Rattle.std.specs.Prelude.{string_bytes, option_map, length};
 ghost use Rattle.mq_world.specs.World.{SubscriptionOptions, Subscribe};
 ghost use Rattle.mq_world.specs.Views.{request_of};
-ghost use Rattle.mq_lines.specs.Lines.{command_in};
-ghost use Rattle.mq_lines.specs.Reading.{reading};
+ghost use Rattle.mq_jsonl.specs.Lines.{command_in};
+ghost use Rattle.mq_jsonl.specs.Reading.{reading};
 
 use crate::clients::Clients;
 use crate::counts::{Counts, LineKind};
 use crate::log::begins_as_log;
 use crate::question::{SearchFault, is_taken, is_vain};
 use crate::subscription::Subscription;
-use mq_lines::{LineFault, read_line};
+use mq_jsonl::{LineFault, read_line};
 use mq_questions::Reach;
 use mq_world::Command;
 use std::alloc::{AllocError, Global};

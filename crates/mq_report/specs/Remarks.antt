@@ -5,7 +5,7 @@ use Rattle.std.specs.List.{list_any, flat_map, filter_map, enumerate_from}
 use Rattle.std.specs.Str.{bytes_eq}
 use Rattle.mq_topic.specs.Levels.{levels}
 use Rattle.mq_acl.specs.Lines.{Entry, Pattern, entry_of, lines}
-use Rattle.mq_acl.specs.Groups.{is_everyones}
+use Rattle.mq_acl.specs.RowsByOwner.{is_everyones}
 use Rattle.mq_acl.specs.Rows.{AclRow}
 use Rattle.mq_acl.specs.declared.fault.AclKind.{AclKind}
 use Rattle.mq_acl.specs.declared.fault.AclFault.{AclFault}

@@ -1,26 +1,28 @@
 //! The retained messages: a tree by topic, and an index of their deadlines.
 ghost use Rattle.std.specs.Prelude.{◌≡◌, ◌+◌, ◌<◌, ◌^◌, ℕ, [], length, not, OnOk, OnErr, IfOk};
-ghost use Rattle.std.specs.Prelude.{IfSome};
+ghost use Rattle.std.specs.Prelude.{IfSome, None, nat_eq, if◌then◌else◌};
 ghost use Rattle.std.specs.List.{filter, list_any};
+ghost use Rattle.std.specs.Option.{option_map, option_eq};
 ghost use Rattle.mq_topic.specs.Prefixes.{capped};
 ghost use Rattle.mq_topic.specs.Prefixes.{prefixes};
 ghost use Rattle.mq_world.specs.Clock.{deadline_of};
 ghost use Rattle.mq_world.specs.Lists.{with_row};
 ghost use Rattle.mq_world.specs.World.{retained_cmp};
 ghost use Rattle.mq_world.specs.Retained.{retained_after, without_expired, is_full, has_topic};
+ghost use Rattle.mq_world.specs.Retained.{is_stored};
+ghost use Rattle.mq_world.specs.Views.{message_of};
 ghost use Rattle.mq_retained.specs.Deadlines.{deadline_at, is_due};
+ghost use Rattle.mq_retained.specs.Due.{due_of};
 ghost use Rattle.mq_retained.specs.Stored.{stored_until, AreFiled, AreNear};
 
 mod copies;
 mod deadlines;
-mod edits;
 mod messages;
 mod stored;
 
 pub use copies::Receiver;
 use copies::copies_of;
 use deadlines::{Deadlines, Due};
-use edits::{is_stored, replaced};
 use messages::Messages;
 use mq_topic::TopicName;
 use mq_tree::Steps;
@@ -61,7 +63,6 @@ impl Model for Retained {
 }
 
 impl Retained {
-    ghost use Rattle.mq_world.specs.Views.{message_of};
     ghost use Rattle.mq_retained.specs.Receivers.{copies_for, steps_among};
     ghost use Rattle.mq_world.specs.Views.{copies_in};
 
@@ -92,7 +93,7 @@ impl Retained {
             return Ok(());
         }
         if !is_stored(message) {
-            return self.forget(message.topic);
+            return self.clear(message.topic);
         }
         self.store(message)
     }
@@ -194,8 +195,8 @@ impl Retained {
         }
     }
 
-    // Removes the message of a topic, if there is one.
-    fn forget(&mut self, topic: &TopicName) -> Result<(), AllocError>
+    // Clears the message of a topic, if there is one.
+    fn clear(&mut self, topic: &TopicName) -> Result<(), AllocError>
         ensures ok { OnOk result (self.new.messages
             ≡ filter (λ kept. not (has_topic topic.now kept)) self.old.messages) }
         ensures filed { OnOk result (AreFiled self.new) }
@@ -206,4 +207,28 @@ impl Retained {
         self.deadlines.remove(&older);
         Ok(())
     }
+}
+
+// Whether a message that is published is stored.
+fn is_stored(message: &Message) -> bool
+    ensures { result ≡ is_stored (message_of message.now) }
+{
+    message.retain
+        && !message.payload.is_empty()
+        && !message.expiry.is_some_and(|seconds| seconds == 0)
+}
+
+// The pair of the older message, unless it is the pair of the new one.
+fn replaced(
+    older: Option<u64>,
+    new: Option<u64>,
+    topic: &TopicName,
+) -> Result<Option<Due>, AllocError>
+    ensures { IfOk result (λ due. option_map due_of due
+        ≡ (if option_eq nat_eq older new then None else option_map (λ d. (d, topic.now)) older)) }
+{
+    if older == new {
+        return Ok(None);
+    }
+    Due::of(older, topic)
 }

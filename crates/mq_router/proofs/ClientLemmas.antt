@@ -22,8 +22,8 @@ use Rattle.mq_acl.specs.declared.access.Direction.TheVariants.{Reading}
 use Rattle.mq_world.specs.Sessions.{is_reader, user_of}
 use Rattle.mq_world.specs.Waiting.{with_qos}
 use Rattle.mq_sessions.specs.Queue.{QueueItem, room_for, queue_item}
-use Rattle.mq_sessions.specs.Ways.{is_sent, waits}
-use Rattle.mq_sessions.specs.declared.sessions.session.Way.{Way}
+use Rattle.mq_sessions.specs.Fates.{is_sent, waits}
+use Rattle.mq_sessions.specs.declared.sessions.session.Fate.{Fate}
 use Rattle.mq_router.proofs.SummaryLemmas.{summary_of-append}
 use Rattle.std.proofs.lemmas.List.{map-append, append-nil}
 use Rattle.std.proofs.lemmas.List.Elements.{filter-append}
@@ -36,7 +36,7 @@ use Rattle.mq_world.specs.Views.{options_of}
 use Rattle.mq_router.specs.delivery.Summaries.{Summary, summary_of, summary_for, together}
 use Rattle.mq_router.specs.delivery.Summaries.{copy_from}
 use Rattle.mq_router.specs.delivery.Copies.{gives, gives_options, copy_for, copies_by, queue_item_for}
-use Rattle.mq_router.specs.delivery.Copies.{queue_items_by, by_client, sent_by_way, queued_by_way}
+use Rattle.mq_router.specs.delivery.Copies.{queue_items_by, by_client, sent_by_fate, queued_by_fate}
 use Rattle.mq_subscriptions.specs.Matches.{is_unshared_match, unshared_matches, match_views}
 use Rattle.mq_subscriptions.specs.Matches.{clients_of}
 use Rattle.mq_subscriptions.specs.Matches.{options_among, AreAscending, AreByClient}
@@ -310,34 +310,34 @@ onto ys None rest = ap (λ l. l ++ rest) (append-nil ys)
 onto ys (Some y) rest = append_assoc ys (y ∷ []) rest
 
 module _ (limit : ℕ) (access : Option (List AclRow)) (sessions : List Session) (m : Message)
-    (deadline : Option ℕ) (l : Text × Summary) (w : Way)
+    (deadline : Option ℕ) (l : Text × Summary) (w : Fate)
     (sent : is_sent w ≡ is_reader access sessions m.topic l.0)
     (waiting : waits w ≡ (room_for limit sessions l.0
     && allowed access l.0 (user_of sessions l.0) m.topic Reading)) where
   copy-by_way : copy_for access sessions m l
-      ≡ sent_by_way w (copy_from l.0 None m l.1)
+      ≡ sent_by_fate w (copy_from l.0 None m l.1)
   copy-by_way = ap (λ b. if b then Some (copy_from l.0 None m l.1) else None) (sym sent)
 
   begin-by_way : queue_item_for limit access sessions m deadline l
-      ≡ queued_by_way w deadline (copy_from l.0 None m l.1)
+      ≡ queued_by_fate w deadline (copy_from l.0 None m l.1)
   begin-by_way =
       ap (λ b. if b then option_map (queue_item l.0 deadline) (with_qos (copy_from l.0 None m l.1))
       else None) (sym waiting)
 
   pub copies-first : (copies : List Copy) (L all : List (Text × Summary)) → all ≡ l ∷ L
-      → (copies ++ option_to_list (sent_by_way w (copy_from l.0 None m l.1)))
+      → (copies ++ option_to_list (sent_by_fate w (copy_from l.0 None m l.1)))
       ++ copies_by access sessions m L ≡ copies ++ copies_by access sessions m all
   copies-first copies L all e =
-      onto copies (sent_by_way w (copy_from l.0 None m l.1)) (copies_by access sessions m L)
+      onto copies (sent_by_fate w (copy_from l.0 None m l.1)) (copies_by access sessions m L)
       ∙ ap (λ p. copies ++ cons_option p (copies_by access sessions m L)) (sym copy-by_way)
       ∙ ap (λ k. copies ++ copies_by access sessions m k) (sym e)
 
   pub begins-first : (queued : List QueueItem) (L all : List (Text × Summary)) → all ≡ l ∷ L
-      → (queued ++ option_to_list (queued_by_way w deadline (copy_from l.0 None m l.1)))
+      → (queued ++ option_to_list (queued_by_fate w deadline (copy_from l.0 None m l.1)))
       ++ queue_items_by limit access sessions m deadline L
       ≡ queued ++ queue_items_by limit access sessions m deadline all
   begins-first queued L all e =
-      onto queued (queued_by_way w deadline (copy_from l.0 None m l.1))
+      onto queued (queued_by_fate w deadline (copy_from l.0 None m l.1))
       (queue_items_by limit access sessions m deadline L)
       ∙ ap (λ p. queued ++ cons_option p (queue_items_by limit access sessions m deadline L))
       (sym begin-by_way)

@@ -22,7 +22,7 @@ use Rattle.mq_world.specs.World.{Session, Subscription, Group, Message, group_cm
 use Rattle.mq_world.specs.World.{same_share}
 use Rattle.mq_subscriptions.specs.Turns.{groups_among, next_members}
 use Rattle.mq_world.specs.Copies.{filter_matches}
-use Rattle.mq_subscriptions.specs.Filters.{At, AreHere, AreAtFilters, is_text, is_empty}
+use Rattle.mq_subscriptions.specs.Filters.{Entry, AreHere, AreEntriesFor, is_text, is_empty}
 use Rattle.mq_subscriptions.specs.Matches.{AreAscending}
 use Rattle.mq_subscriptions.specs.Turns.{shares_of, turns_listed}
 use Rattle.mq_subscriptions.specs.Turns.{turn_of}
@@ -44,9 +44,9 @@ use Rattle.mq_subscriptions.specs.declared.subscriptions.turn.Turn.{Turn}
 differ : (a b : Text) → level_order (levels a) (levels b) ≡ Less → same_text a b ≡ false
 differ a b h = sym (level_equal a b) ∙ ap is_eq h
 
-far : (a : At) (ats : List At) → AllByRecursion (λ y. level_order (levels a.filter) y ≡ Less)
-    (map (λ (b : At). levels b.filter) ats)
-    → AllByRecursion (λ (b : At). same_text a.filter b.filter ≡ false) ats
+far : (a : Entry) (ats : List Entry) → AllByRecursion (λ y. level_order (levels a.filter) y ≡ Less)
+    (map (λ (b : Entry). levels b.filter) ats)
+    → AllByRecursion (λ (b : Entry). same_text a.filter b.filter ≡ false) ats
 far a [] h = tt
 far a (b ∷ ats) h = (differ a.filter b.filter h.0, far a ats h.1)
 
@@ -60,8 +60,8 @@ not_here g f n (x ∷ xs) h =
     (ap (λ (t : Text). same_text t g.filter) h.0 ∙ n))
     ∙ not_here g f n xs h.1
 
-none_found : (g : Group) (ats : List At) → AllByRecursion AreHere ats
-    → AllByRecursion (λ (b : At). same_text b.filter g.filter ≡ false) ats
+none_found : (g : Group) (ats : List Entry) → AllByRecursion AreHere ats
+    → AllByRecursion (λ (b : Entry). same_text b.filter g.filter ≡ false) ats
     → filter (is_in_group g) (rows_found ats) ≡ []
 none_found g [] h n = refl
 none_found g (a ∷ ats) h n =
@@ -69,26 +69,27 @@ none_found g (a ∷ ats) h n =
     ∙ ap (λ l. l ++ filter (is_in_group g) (rows_found ats)) (not_here g a.filter n.0 a.rows h.0)
     ∙ none_found g ats h.1 n.1
 
-flipped : (f : Text) (ats : List At) → AllByRecursion (λ (b : At). same_text f b.filter ≡ false) ats
-    → AllByRecursion (λ (b : At). same_text b.filter f ≡ false) ats
+flipped : (f : Text) (ats : List Entry)
+    → AllByRecursion (λ (b : Entry). same_text f b.filter ≡ false) ats
+    → AllByRecursion (λ (b : Entry). same_text b.filter f ≡ false) ats
 flipped f [] h = tt
 flipped f (a ∷ ats) h = (text_flip a.filter f ∙ h.0, flipped f ats h.1)
 
-abbrev pairs : List At → Text → List Group
-pairs ats share = map (λ (a : At). record { share = share; filter = a.filter }) ats
+abbrev pairs : List Entry → Text → List Group
+pairs ats share = map (λ (a : Entry). record { share = share; filter = a.filter }) ats
 
-abbrev all_pairs : List At → List Text → List Group
+abbrev all_pairs : List Entry → List Text → List Group
 all_pairs ats shares = flat_map (pairs ats) shares
 
-sorted_pairs : (share : Text) (ats : List At)
-    → IsStrictlySortedBy level_order (map (λ (a : At). levels a.filter) ats)
+sorted_pairs : (share : Text) (ats : List Entry)
+    → IsStrictlySortedBy level_order (map (λ (a : Entry). levels a.filter) ats)
     → IsStrictlySortedBy group_cmp (pairs ats share)
 unfolding IsStrictlySortedBy
 sorted_pairs share [] s = tt
 sorted_pairs share (a ∷ ats) s = (below ats s.0, sorted_pairs share ats s.1)
   where
-    below : (bs : List At) → AllByRecursion (λ y. level_order (levels a.filter) y ≡ Less)
-        (map (λ (b : At). levels b.filter) bs)
+    below : (bs : List Entry) → AllByRecursion (λ y. level_order (levels a.filter) y ≡ Less)
+        (map (λ (b : Entry). levels b.filter) bs)
         → AllByRecursion (λ (k : Group). group_cmp (record { share = share; filter = a.filter }) k
         ≡ Less) (pairs bs share)
     below [] h = tt
@@ -99,20 +100,20 @@ sorted_pairs share (a ∷ ats) s = (below ats s.0, sorted_pairs share ats s.1)
     )
 
 -- the groups of a lesser share name are before those of others
-lesser : (g : Group) (ats : List At) (shares : List Text)
+lesser : (g : Group) (ats : List Entry) (shares : List Text)
     → AllByRecursion (λ y. text_cmp g.share y ≡ Less) shares
     → AllByRecursion (λ (k : Group). group_cmp g k ≡ Less) (all_pairs ats shares)
 lesser g ats [] h = tt
 lesser g ats (share ∷ shares) h = all_append (λ (k : Group). group_cmp g k ≡ Less) (pairs ats share)
     (all_pairs ats shares) (here ats) (lesser g ats shares h.1)
   where
-    here : (bs : List At) → AllByRecursion (λ (k : Group). group_cmp g k ≡ Less) (pairs bs share)
+    here : (bs : List Entry) → AllByRecursion (λ (k : Group). group_cmp g k ≡ Less) (pairs bs share)
     here [] = tt
     here (b ∷ bs) =
         (ap (λ r. ordering_then r (level_order (levels g.filter) (levels b.filter))) h.0, here bs)
 
-sorted_all : (ats : List At) (shares : List Text)
-    → IsStrictlySortedBy level_order (map (λ (a : At). levels a.filter) ats)
+sorted_all : (ats : List Entry) (shares : List Text)
+    → IsStrictlySortedBy level_order (map (λ (a : Entry). levels a.filter) ats)
     → IsStrictlySortedBy text_cmp shares → IsStrictlySortedBy group_cmp (all_pairs ats shares)
 unfolding IsStrictlySortedBy
 sorted_all ats [] s t = tt
@@ -120,7 +121,7 @@ sorted_all ats (share ∷ shares) s t =
     sorted-append group_cmp group_total (pairs ats share) (all_pairs ats shares)
     (sorted_pairs share ats s) (sorted_all ats shares s t.1) (before ats)
   where
-    before : (bs : List At) → AllByRecursion
+    before : (bs : List Entry) → AllByRecursion
         (λ (g : Group). AllByRecursion (λ (k : Group). group_cmp g k ≡ Less) (all_pairs ats shares))
         (pairs bs share)
     before [] = tt
@@ -128,8 +129,8 @@ sorted_all ats (share ∷ shares) s t =
         (lesser (record { share = share; filter = b.filter }) ats shares t.0, before bs)
 
 -- a pair of a share name and a filter that are there
-in_pairs : (g : Group) (ats : List At) (shares : List Text)
-    → list_any (λ (a : At). same_text g.filter a.filter) ats ≡ true
+in_pairs : (g : Group) (ats : List Entry) (shares : List Text)
+    → list_any (λ (a : Entry). same_text g.filter a.filter) ats ≡ true
     → list_any (is_text g.share) shares ≡ true
     → list_any (ties group_cmp group_total g) (all_pairs ats shares) ≡ true
 in_pairs g ats [] h k = k
@@ -145,11 +146,11 @@ in_pairs g ats (share ∷ shares) h k =
     here : same_text g.share share ≡ true
         → list_any (ties group_cmp group_total g) (pairs ats share) ≡ true
     here t =
-        list_any-map (λ (a : At). record { share = share; filter = a.filter })
+        list_any-map (λ (a : Entry). record { share = share; filter = a.filter })
         (ties group_cmp group_total g) ats
-        ∙ list_any-same (λ (a : At). ties group_cmp group_total g
+        ∙ list_any-same (λ (a : Entry). ties group_cmp group_total g
         (record { share = share; filter = a.filter }))
-        (λ (a : At). same_text g.filter a.filter)
+        (λ (a : Entry). same_text g.filter a.filter)
         (λ a. group_tie g (record { share = share; filter = a.filter })
         ∙ ap (λ b. b && same_text g.filter a.filter) t) ats ∙ h
 
@@ -172,13 +173,13 @@ some_gives h g e (x ∷ xs) t none =
     rest (Some y) n = absurd (let no : y ∷ filter_map h xs ≡ [] = n in cc)
 
 -- the filter of a group with a member is one of those that are found
-member_found : (g : Group) (ats : List At) → AllByRecursion AreHere ats
+member_found : (g : Group) (ats : List Entry) → AllByRecursion AreHere ats
     → list_any (is_in_group g) (rows_found ats) ≡ true
-    → list_any (λ (a : At). same_text g.filter a.filter) ats ≡ true
+    → list_any (λ (a : Entry). same_text g.filter a.filter) ats ≡ true
 member_found g [] h t = t
 member_found g (a ∷ ats) h t =
     pick (same_text g.filter a.filter)
-    (λ e. ap (λ b. b || list_any (λ (b : At). same_text g.filter b.filter) ats) e)
+    (λ e. ap (λ b. b || list_any (λ (b : Entry). same_text g.filter b.filter) ats) e)
     (λ f. ap (λ b. same_text g.filter a.filter || b) (member_found g ats h.1
     (sym (any-append (is_in_group g) a.rows (rows_found ats)
     ∙ ap (λ b. b || list_any (is_in_group g) (rows_found ats))
@@ -186,16 +187,16 @@ member_found g (a ∷ ats) h t =
     (not_here g a.filter (text_flip a.filter g.filter ∙ f) a.rows h.0))) ∙ t))
     ∙ or-true (same_text g.filter a.filter))
 
-found_matches : (topic : Text) (g : Group) (ats : List At)
-    → AllByRecursion (λ (a : At). filter_matches a.filter topic ≡ true) ats
-    → list_any (λ (a : At). same_text g.filter a.filter) ats ≡ true
+found_matches : (topic : Text) (g : Group) (ats : List Entry)
+    → AllByRecursion (λ (a : Entry). filter_matches a.filter topic ≡ true) ats
+    → list_any (λ (a : Entry). same_text g.filter a.filter) ats ≡ true
     → filter_matches g.filter topic ≡ true
 found_matches topic g [] m t = absurd (true≢false (sym t))
 found_matches topic g (a ∷ ats) m t =
     pick (same_text g.filter a.filter)
     (λ e. ap (λ (f : Text). filter_matches f topic) (same_text-is g.filter a.filter e) ∙ m.0)
     (λ f. found_matches topic g ats m.1
-    (ap (λ b. b || list_any (λ (b : At). same_text g.filter b.filter) ats) (sym f) ∙ t))
+    (ap (λ b. b || list_any (λ (b : Entry). same_text g.filter b.filter) ats) (sym f) ∙ t))
 
 some_member : (p q : Subscription → Bool) (xs : List Subscription)
     → is_some (find p (filter q xs)) ≡ true → list_any q xs ≡ true
@@ -222,8 +223,9 @@ module _ (may : Subscription → Bool) where
   next_of rows g = find may (filter (is_in_group g) rows)
 
   -- with others to another filter
-  with_other : (share : Text) (a : At) (rest : List Subscription) → AreHere a → (ats : List At)
-      → AllByRecursion (λ (b : At). same_text a.filter b.filter ≡ false) ats
+  with_other : (share : Text) (a : Entry) (rest : List Subscription) → AreHere a
+      → (ats : List Entry)
+      → AllByRecursion (λ (b : Entry). same_text a.filter b.filter ≡ false) ats
       → filter_map (next_of rest) (pairs ats share)
       ≡ filter_map (next_of (a.rows ++ rest)) (pairs ats share)
   with_other share a rest h [] n = refl
@@ -238,23 +240,23 @@ module _ (may : Subscription → Bool) where
   onto None xs = refl
   onto (Some x) xs = refl
 
-  turns_pairs : (share : Text) (ats : List At)
-      → IsStrictlySortedBy level_order (map (λ (a : At). levels a.filter) ats)
+  turns_pairs : (share : Text) (ats : List Entry)
+      → IsStrictlySortedBy level_order (map (λ (a : Entry). levels a.filter) ats)
       → AllByRecursion AreHere ats
-      → flat_map (λ (a : At). turns_of
+      → flat_map (λ (a : Entry). turns_of
       (next_of a.rows (record { share = share; filter = a.filter }))) ats
       ≡ filter_map (next_of (rows_found ats)) (pairs ats share)
   unfolding IsStrictlySortedBy
   turns_pairs share [] s h = refl
   turns_pairs share (a ∷ ats) s h =
       let g : Group = record { share = share; filter = a.filter } in
-      let apart : AllByRecursion (λ (b : At). same_text a.filter b.filter ≡ false) ats =
+      let apart : AllByRecursion (λ (b : Entry). same_text a.filter b.filter ≡ false) ats =
       far a ats s.0 in
       onto (next_of a.rows g)
-      (flat_map (λ (b : At). turns_of
+      (flat_map (λ (b : Entry). turns_of
       (next_of b.rows (record { share = share; filter = b.filter }))) ats)
       ∙ ap (λ o. cons_option o
-      (flat_map (λ (b : At). turns_of
+      (flat_map (λ (b : Entry). turns_of
       (next_of b.rows (record { share = share; filter = b.filter }))) ats))
       (ap (find may) (sym (filter-append (is_in_group g) a.rows (rows_found ats)
       ∙ ap (λ l. filter (is_in_group g) a.rows ++ l)
@@ -263,7 +265,7 @@ module _ (may : Subscription → Bool) where
       ∙ ap (cons_option (next_of (a.rows ++ rows_found ats) g))
       (turns_pairs share ats s.1 h.1 ∙ with_other share a (rows_found ats) h.0 ats apart)
 
-pairs_apart : {Y : Type 0} (h : Group → Option Y) (ats : List At) (T : Text → List Y)
+pairs_apart : {Y : Type 0} (h : Group → Option Y) (ats : List Entry) (T : Text → List Y)
     → ((share : Text) → T share ≡ filter_map h (pairs ats share)) → (shares : List Text)
     → flat_map T shares ≡ filter_map h (all_pairs ats shares)
 pairs_apart h ats T e [] = refl
@@ -275,7 +277,7 @@ pairs_apart h ats T e (share ∷ shares) =
 -- members gathered in the order of share names, for each the ones in turn at the filters
 -- found, are those that the message serves
 pub served-members : (access : Option (List AclRow)) (sessions : List Session) (m : Message)
-    (found : List At) (served : List Turn) → AreAtFilters m.topic found
+    (found : List Entry) (served : List Turn) → AreEntriesFor m.topic found
     → AreAscending (shares_of served)
     → ((share : Text) → turns_listed share served ≡ turns_at access sessions m.topic share found)
     → map turn_of served ≡ next_members access sessions (rows_found found) m
@@ -300,7 +302,7 @@ served-members access sessions m found served at up listed =
     (IsStrictlySortedBy-filter group_cmp q groups (groups-sorted rows))
     (λ g e.
     let member : list_any (is_in_group g) rows ≡ true = some_member may (is_in_group g) rows e in
-    let there : list_any (λ (a : At). same_text g.filter a.filter) found ≡ true =
+    let there : list_any (λ (a : Entry). same_text g.filter a.filter) found ≡ true =
     member_found g found at.here member in
     let shared : list_any (is_text g.share) shares ≡ true =
     pick (list_any (is_text g.share) shares) (λ t. t)

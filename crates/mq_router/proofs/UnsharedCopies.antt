@@ -128,8 +128,8 @@ module _ {X : Type 0} (test : Session → Bool) (make : Text → Summary → Opt
   abbrev passes : Text → Bool
   passes id = option_map_or test (session_of sessions id) false
 
-  abbrev made_for : Session → Option X
-  made_for s = cond (test s) (if not (length (O s.id) == 0) && may s.id s.user then
+  abbrev deliveries_for : Session → Option X
+  deliveries_for s = cond (test s) (if not (length (O s.id) == 0) && may s.id s.user then
       make s.id (summary_of (O s.id)) else None) None
 
   abbrev made_by : Text × Summary → Option X
@@ -146,14 +146,14 @@ module _ {X : Type 0} (test : Session → Bool) (make : Text → Summary → Opt
   nested false n y o = refl
 
   by_ids : (ss : List Session) → AllByRecursion (λ s. session_of sessions s.id ≡ Some s) ss
-      → filter_map made_for ss ≡ filter_map H (ids ss)
+      → filter_map deliveries_for ss ≡ filter_map H (ids ss)
   by_ids [] h = refl
   by_ids (s ∷ ss) h =
       let there : passes s.id ≡ test s =
       ap (λ (o : Option Session). option_map_or test o false) h.0 in
       let user : user_of sessions s.id ≡ s.user =
       ap (option_and_then (λ (x : Session). x.user)) h.0 in
-      let rest : List X = filter_map made_for ss in
+      let rest : List X = filter_map deliveries_for ss in
       ap (λ o. cons_option o rest)
       (nested (test s) (not (length (O s.id) == 0)) (may s.id s.user)
       (make s.id (summary_of (O s.id))))
@@ -191,7 +191,7 @@ module _ {X : Type 0} (test : Session → Bool) (make : Text → Summary → Opt
   pub unshared-made : (L : List (Text × Summary)) → IsStrictlySortedBy session_cmp sessions
       → IsStrictlySortedBy text_cmp (keys_of L)
       → ((id : Text) → lookup (is_text id) L ≡ summary_for (O id))
-      → filter_map made_by L ≡ filter_map made_for sessions
+      → filter_map made_by L ≡ filter_map deliveries_for sessions
   unshared-made L s t found =
       by_keys L (each_shown (λ (o : Option Summary). o) L (λ id. summary_for (O id)) t
       (λ id k. found id))
@@ -238,7 +238,7 @@ pub unshared-queued : (limit : ℕ) (access : Option (List AclRow)) (sessions : 
     ≡ queued_by limit access sessions subscriptions m deadline
 unshared-queued limit access sessions subscriptions m deadline L s t found =
     unshared-made (has_room limit) begin access sessions subscriptions m L s t found
-    ∙ filter_map-same (made_for (has_room limit) begin access sessions subscriptions m)
+    ∙ filter_map-same (deliveries_for (has_room limit) begin access sessions subscriptions m)
     (begins limit access subscriptions m deadline) each sessions
   where
     begin : Text → Summary → Option QueueItem
@@ -252,7 +252,7 @@ unshared-queued limit access sessions subscriptions m deadline L s t found =
     onto true false id copy = refl
     onto true true id copy = refl
 
-    each : (x : Session) → made_for (has_room limit) begin access sessions subscriptions m x
+    each : (x : Session) → deliveries_for (has_room limit) begin access sessions subscriptions m x
         ≡ begins limit access subscriptions m deadline x
     each x =
         let os : List world.SubscriptionOptions = options_for subscriptions m x.id in

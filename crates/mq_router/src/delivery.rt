@@ -7,18 +7,18 @@ ghost use Rattle.mq_world.specs.Views.{message_of, copy_of, copies_in};
 ghost use Rattle.mq_subscriptions.specs.Turns.{turn_of, turns_in, next_members};
 ghost use Rattle.mq_sessions.specs.Views.{queue_item_of};
 ghost use Rattle.mq_router.specs.delivery.Copies.{queued_by, by_client, copies_by, queue_items_by};
-ghost use Rattle.mq_subscriptions.specs.Filters.{AreAtFilters};
+ghost use Rattle.mq_subscriptions.specs.Filters.{AreEntriesFor};
 ghost use Rattle.mq_subscriptions.specs.Matches.{lent_values, match_views, options_among};
 ghost use Rattle.mq_subscriptions.specs.Matches.{AreByClient, rows_found, unshared_matches};
 ghost use Rattle.mq_router.specs.router.Effects.{message_copies, member_copy};
 
+pub(crate) mod access_view;
 pub(crate) mod outgoing;
-pub(crate) mod readers;
 pub(crate) mod summary;
 pub(crate) mod unshared;
 
+use crate::delivery::access_view::{AccessView, TopicReaders};
 use crate::delivery::outgoing::Outgoing;
-use crate::delivery::readers::{Readers, TopicReaders};
 use crate::delivery::summary::Summary;
 use crate::delivery::unshared::{Unshared, unshared_copies};
 use mq_sessions::QueuedCopy;
@@ -53,21 +53,21 @@ impl Deliveries {
 /// All copies of a message: those for clients themselves by client id, and those for groups by share name and filter.
 pub(crate) fn make_copies(
     alloc: Global,
-    readers: &Readers,
+    view: &AccessView,
     subscriptions: &Subscriptions,
     message: &Message,
     limit: u32,
     steps: &mut Steps,
 ) -> Result<Deliveries, AllocError>
     ensures copies { IfOk result (λ m. copies_in m.copies
-        ≡ message_copies readers.now.access.now readers.now.sessions.now subscriptions.now.rows
+        ≡ message_copies view.now.access.now view.now.sessions.now subscriptions.now.rows
         (message_of message.now)) }
     ensures queued { IfOk result (λ m. map queue_item_of m.queued.items
-        ≡ queued_by limit readers.now.access.now readers.now.sessions.now subscriptions.now.rows
+        ≡ queued_by limit view.now.access.now view.now.sessions.now subscriptions.now.rows
         (message_of message.now)
         message.now.deadline) }
     ensures served { IfOk result (λ m. turns_in m.served
-        ≡ next_members readers.now.access.now readers.now.sessions.now subscriptions.now.rows
+        ≡ next_members view.now.access.now view.now.sessions.now subscriptions.now.rows
         (message_of message.now)) }
     ensures count { OnOk result (steps.new ≡ steps.old
         + length (met_by_name (levels message.now.topic.now) (prefixes subscriptions.now.keys))) }
@@ -79,9 +79,9 @@ pub(crate) fn make_copies(
     }
     let matches = matches_by_client(alloc, found, message)?;
     // Learns that the sessions are in order.
-    let _sessions = readers.sessions.len();
-    let served = members_served(alloc, readers, found, message)?;
-    made_for(alloc, readers, matches.as_slice(), served, message, limit)
+    let _sessions = view.sessions.len();
+    let served = members_served(alloc, view, found, message)?;
+    deliveries_for(alloc, view, matches.as_slice(), served, message, limit)
 }
 
 // How many subscriptions of clients in their own name there are at most. It is a measure of room alone.
@@ -115,18 +115,18 @@ fn matches_by_client<'a>(
 // The members that are served, by share name and filter.
 fn members_served(
     alloc: Global,
-    readers: &Readers,
+    view: &AccessView,
     found: &[&FilterEntry],
     message: &Message,
 ) -> Result<Vec<Turn>, AllocError>
-    requires { AreAtFilters message.now.topic.now (lent_values found.now) }
+    requires { AreEntriesFor message.now.topic.now (lent_values found.now) }
     ensures { IfOk result (λ served. turns_in served
-        ≡ next_members readers.now.access.now readers.now.sessions.now
+        ≡ next_members view.now.access.now view.now.sessions.now
         (rows_found (lent_values found.now))
         (message_of message.now)) }
 {
     let test = TopicReaders {
-        readers,
+        view,
         name: message.topic,
     };
     let mut served = Vec::new(alloc);
@@ -138,9 +138,9 @@ fn members_served(
 }
 
 // The copies for these clients and members, with texts that all of them share. Where there is no one no texts are made.
-fn made_for(
+fn deliveries_for(
     alloc: Global,
-    readers: &Readers,
+    view: &AccessView,
     matches: &[Match],
     served: Vec<Turn>,
     message: &Message,
@@ -148,11 +148,11 @@ fn made_for(
 ) -> Result<Deliveries, AllocError>
     requires { AreByClient (match_views matches.now) }
     ensures copies { IfOk result (λ m. copies_in m.copies
-        ≡ copies_by readers.now.access.now readers.now.sessions.now (message_of message.now)
+        ≡ copies_by view.now.access.now view.now.sessions.now (message_of message.now)
         (by_client (match_views matches.now))
         ++ map (member_copy (message_of message.now)) (turns_in served)) }
     ensures queued { IfOk result (λ m. map queue_item_of m.queued.items
-        ≡ queue_items_by limit readers.now.access.now readers.now.sessions.now
+        ≡ queue_items_by limit view.now.access.now view.now.sessions.now
         (message_of message.now)
         message.now.deadline
         (by_client (match_views matches.now))) }
@@ -165,9 +165,7 @@ fn made_for(
         });
     }
     let outgoing = Outgoing::new(alloc, message)?;
-    let Unshared { mut copies, queued } = unshared_copies(
-        alloc, readers, matches, &outgoing, limit,
-    )?;
+    let Unshared { mut copies, queued } = unshared_copies(alloc, view, matches, &outgoing, limit)?;
     add_group_copies(alloc, served.as_slice(), &outgoing, &mut copies)?;
     Ok(Deliveries {
         copies,

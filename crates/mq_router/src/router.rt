@@ -24,7 +24,7 @@ mod checks;
 mod ended;
 mod started;
 
-use crate::delivery::readers::Readers;
+use crate::delivery::access_view::AccessView;
 use crate::delivery::{Deliveries, make_copies};
 use crate::replies::{published, reason_to_leave, with_reason};
 use crate::texts::read_access;
@@ -369,13 +369,13 @@ impl Router {
         ensures count { OnOk result (steps.new ≡ steps.old + steps_to self.now
             (world.Publish (message_of message.now))) }
     {
-        let readers = Readers {
+        let view = AccessView {
             access: &self.access,
             sessions: &self.sessions,
         };
         make_copies(
             self.alloc,
-            &readers,
+            &view,
             &self.subscriptions,
             message,
             self.limits.queued,

@@ -25,7 +25,7 @@ use Rattle.mq_world.proofs.SameLemmas.{filter-swap}
 use Rattle.mq_world.proofs.OrderLemmas.{all_weaker, all_filtered}
 use Rattle.mq_world.proofs.OrderLemmas.{same_text-itself}
 use Rattle.mq_sessions.specs.Queue.{QueueItem, queue_copies, edit_session, queue_one}
-use Rattle.mq_sessions.specs.Ends.{end_of, ends_so, IsListed, AreListed, IsFirstLive, AreIndexed}
+use Rattle.mq_sessions.specs.Ends.{end_of, has_end, IsListed, AreListed, IsFirstLive, AreIndexed}
 use Rattle.mq_sessions.specs.Ends.{Entry, views_of}
 use Rattle.mq_sessions.specs.Views.{session_in, view_of}
 use Rattle.mq_sessions.specs.declared.sessions.session.Session as code
@@ -46,7 +46,7 @@ all_both P Q (x ∷ xs) h k = ((h.0, k.0), all_both P Q xs h.1 k.1)
 -- ## Whose end it is
 
 -- an end of one client is not that of another client's session
-pub ends-other : (due : Due) (s : Session) → has_id due.1 s ≡ false → ends_so due s ≡ false
+pub ends-other : (due : Due) (s : Session) → has_id due.1 s ≡ false → has_end due s ≡ false
 ends-other due s h =
     elim (end_of s) as (λ o. option_map_or (λ end. same_due (end, s.id) due) o false ≡ false) [
       | None ↦ refl
@@ -54,7 +54,7 @@ ends-other due s h =
     ]
 
 ends-own : (due : Due) (s : Session) → has_id due.1 s ≡ true
-    → ends_so due s ≡ option_map_or (λ end. end == due.0) (end_of s) false
+    → has_end due s ≡ option_map_or (λ end. end == due.0) (end_of s) false
 ends-own due s h =
     elim (end_of s) as (λ o. option_map_or (λ end. same_due (end, s.id) due) o false
     ≡ option_map_or (λ end. end == due.0) o false) [
@@ -63,13 +63,13 @@ ends-own due s h =
     ]
 
 -- a session that ends as the index has it is of the client that the index names
-pub ends-id : (due : Due) (s : Session) → ends_so due s ≡ true → has_id due.1 s ≡ true
+pub ends-id : (due : Due) (s : Session) → has_end due s ≡ true → has_id due.1 s ≡ true
 ends-id due s h = pick (has_id due.1 s) (λ t. t)
     (λ f. absurd (true≢false (sym h ∙ ends-other due s f)))
 
 -- a session whose end in the index has come has ended
 pub ends-moment : (moment : ℕ) (due : Due) (s : Session) → nat_le due.0 moment ≡ true
-    → ends_so due s ≡ true → has_ended moment s ≡ true
+    → has_end due s ≡ true → has_ended moment s ≡ true
 ends-moment moment due s h =
     elim s.presence as (λ p. option_map_or (λ end. same_due (end, s.id) due)
     (elim p [ Connected ↦ None | Away end ↦ end ]) false ≡ true
@@ -91,10 +91,10 @@ same-end (Some e) end = refl
 
 none-found : (end : ℕ) (bs : Text) (es : List Entry)
     → AllByRecursion (λ k. finds bs k ≡ false) (keys_of es)
-    → list_any (ends_so (end, bs)) (views_of es) ≡ false
+    → list_any (has_end (end, bs)) (views_of es) ≡ false
 none-found end bs [] h = refl
 none-found end bs (e ∷ es) h =
-    ap (λ b. b || list_any (ends_so (end, bs)) (views_of es))
+    ap (λ b. b || list_any (has_end (end, bs)) (views_of es))
     (ends-other (end, bs) (session_in e) (sym (finds-is bs e.0) ∙ h.0))
     ∙ none-found end bs es h.1
 
@@ -104,13 +104,13 @@ ends_then end u = option_map_or (λ e. e == end) (end_of (view_of u)) false
 -- a look-up tells whether a session ends so
 pub any-found : (end : ℕ) (bs : Text) (es : List Entry)
     → IsStrictlySortedBy key_cmp (keys_of es)
-    → list_any (ends_so (end, bs)) (views_of es)
+    → list_any (has_end (end, bs)) (views_of es)
     ≡ option_map_or (ends_then end) (lookup (finds bs) es) false
 unfolding IsStrictlySortedBy
 any-found end bs [] s = refl
 any-found end bs (e ∷ es) s =
-    let any : Bool = list_any (ends_so (end, bs)) (views_of es) in
-    let P : Bool → Type 0 = λ b. finds bs e.0 ≡ b → (ends_so (end, bs) (session_in e) || any)
+    let any : Bool = list_any (has_end (end, bs)) (views_of es) in
+    let P : Bool → Type 0 = λ b. finds bs e.0 ≡ b → (has_end (end, bs) (session_in e) || any)
     ≡ option_map_or (ends_then end) (cond b (Some e.1) (lookup (finds bs) es)) false in
     (elim (finds bs e.0) as P [
       | true ↦ λ h. (
@@ -165,16 +165,16 @@ some_due x y h = cc
 
 -- a first end that is no session's is taken out
 pub listed-rest : (f : Due) (dues rest : List Due) (ss : List Session) → Some f ≡ first_of dues
-    → AreRest dues rest → list_any (ends_so f) ss ≡ false → AreListed dues ss → AreListed rest ss
+    → AreRest dues rest → list_any (has_end f) ss ≡ false → AreListed dues ss → AreListed rest ss
 listed-rest f [] rest ss first left none listed = cc
 listed-rest f (d ∷ ds) rest ss first left none listed =
-    let gone : list_any (ends_so d) ss ≡ false =
-    subst (λ x. list_any (ends_so x) ss ≡ false) (some_due f d first) none in
-    all_weaker (λ s. (ends_so d s ≡ false) × IsListed (d ∷ ds) s) (IsListed rest) step ss
-    (all_both (λ s. ends_so d s ≡ false) (IsListed (d ∷ ds)) ss (none-any (ends_so d) ss gone)
+    let gone : list_any (has_end d) ss ≡ false =
+    subst (λ x. list_any (has_end x) ss ≡ false) (some_due f d first) none in
+    all_weaker (λ s. (has_end d s ≡ false) × IsListed (d ∷ ds) s) (IsListed rest) step ss
+    (all_both (λ s. has_end d s ≡ false) (IsListed (d ∷ ds)) ss (none-any (has_end d) ss gone)
     listed)
   where
-    step : (s : Session) → (ends_so d s ≡ false) × IsListed (d ∷ ds) s → IsListed rest s
+    step : (s : Session) → (has_end d s ≡ false) × IsListed (d ∷ ds) s → IsListed rest s
     step s h = (elim (end_of s)
         as (λ o. option_map_or (λ end. same_due (end, s.id) d) o false ≡ false
         → IfSome o (λ end. is_in (end, s.id) (d ∷ ds) ≡ true)
@@ -199,15 +199,15 @@ listed-taken f dues rest ss first left listed =
     (all_filtered (IsListed dues) (λ s. not (has_id f.1 s)) ss listed)
   where
     none : (xs : List Session)
-        → list_any (ends_so f) (filter (λ s. not (has_id f.1 s)) xs) ≡ false
+        → list_any (has_end f) (filter (λ s. not (has_id f.1 s)) xs) ≡ false
     none [] = refl
     none (x ∷ xs) =
         let others : List Session = filter (λ s. not (has_id f.1 s)) xs in
         let P : Bool → Type 0 = λ b. has_id f.1 x ≡ b
-        → list_any (ends_so f) (cond (not b) (x ∷ others) others) ≡ false in
+        → list_any (has_end f) (cond (not b) (x ∷ others) others) ≡ false in
         (elim (has_id f.1 x) as P [
           | true ↦ λ h. none xs
-          | false ↦ λ h. ap (λ b. b || list_any (ends_so f) others) (ends-other f x h) ∙ none xs
+          | false ↦ λ h. ap (λ b. b || list_any (has_end f) others) (ends-other f x h) ∙ none xs
         ]) refl
 
 -- a session without an end needs none in the index
@@ -267,14 +267,14 @@ indexed-queued limit b index ss h = record {
     f : Session → Session
     f = edit_session (queue_copies limit b.1) b.0
 
-    ends : (due : Due) (s : Session) → ends_so due (f s) ≡ ends_so due s
-    ends due s = queued-as limit b (λ t. ends_so due t ≡ ends_so due s) (λ t i. i) s refl
+    ends : (due : Due) (s : Session) → has_end due (f s) ≡ has_end due s
+    ends due s = queued-as limit b (λ t. has_end due t ≡ has_end due s) (λ t i. i) s refl
 
     first : (dues : List Due) → IsFirstLive dues ss → IsFirstLive dues (queue_one limit b ss)
     first [] live = tt
     first (d ∷ ds) live =
-        list_any-map f (ends_so d) ss
-        ∙ list_any-same (λ s. ends_so d (f s)) (ends_so d) (ends d) ss ∙ live
+        list_any-map f (has_end d) ss
+        ∙ list_any-same (λ s. has_end d (f s)) (has_end d) (ends d) ss ∙ live
 
     count : (xs : List Session)
         → length (connected (queue_one limit b xs)) ≡ length (connected xs)

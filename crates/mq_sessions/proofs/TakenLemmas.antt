@@ -19,7 +19,7 @@ use Rattle.mq_world.specs.Sessions.{has_ended, is_among}
 use Rattle.mq_world.proofs.BoolLemmas.{pick}
 use Rattle.mq_world.proofs.ListLemmas.{any-none}
 use Rattle.mq_world.proofs.OrderLemmas.{all_weaker, all_filtered, text_flip, same_text-is}
-use Rattle.mq_sessions.specs.Ends.{ends_so, IsListed, AreListed, IsFirstLive}
+use Rattle.mq_sessions.specs.Ends.{has_end, IsListed, AreListed, IsFirstLive}
 use Rattle.mq_sessions.proofs.EndLemmas.{ends-id, ends-moment, ends-other, listed-taken, or_right}
 
 -- ## Whether a session has ended
@@ -38,7 +38,7 @@ pub any-first : (moment : ℕ) (dues : List Due) (ss : List Session) → IsFirst
     → list_any (has_ended moment) ss ≡ true
 any-first moment [] ss live h = absurd (true≢false (sym h))
 any-first moment (d ∷ ds) ss live h =
-    any_weaker (ends_so d) (has_ended moment) (λ s. ends-moment moment d s h) ss live
+    any_weaker (has_end d) (has_ended moment) (λ s. ends-moment moment d s h) ss live
 
 in-late : (moment : ℕ) (d : Due) (dues : List Due) → is_in d dues ≡ true
     → list_any (λ due. nat_le due.0 moment) dues ≡ false → nat_le d.0 moment ≡ false
@@ -90,22 +90,22 @@ other_id id x y h less =
 
 -- the client of an end in the index that has come is among those whose sessions have ended
 pub among-ended : (moment : ℕ) (f : Due) (ss : List Session) → nat_le f.0 moment ≡ true
-    → list_any (ends_so f) ss ≡ true → is_among (filter (has_ended moment) ss) f.1 ≡ true
+    → list_any (has_end f) ss ≡ true → is_among (filter (has_ended moment) ss) f.1 ≡ true
 among-ended moment f [] h any = any
 among-ended moment f (x ∷ xs) h any =
     let ended : List Session = filter (has_ended moment) xs in
     let P : Bool → Type 0 = λ b. has_ended moment x ≡ b
     → list_any (has_id f.1) (cond b (x ∷ ended) ended) ≡ true in
     (elim (has_ended moment x) as P [
-      | true ↦ λ e. pick (ends_so f x)
+      | true ↦ λ e. pick (has_end f x)
           (λ t. ap (λ b. b || list_any (has_id f.1) ended) (ends-id f x t))
           (λ fails. ap (λ b. has_id f.1 x || b)
-          (among-ended moment f xs h (or_right (ends_so f x) (list_any (ends_so f) xs) fails any))
+          (among-ended moment f xs h (or_right (has_end f x) (list_any (has_end f) xs) fails any))
           ∙ or-true (has_id f.1 x))
-      | false ↦ λ e. pick (ends_so f x)
+      | false ↦ λ e. pick (has_end f x)
           (λ t. absurd (true≢false (sym (ends-moment moment f x h t) ∙ e)))
           (λ fails. among-ended moment f xs h
-          (or_right (ends_so f x) (list_any (ends_so f) xs) fails any))
+          (or_right (has_end f x) (list_any (has_end f) xs) fails any))
     ]) refl
 
 none-other : (q : Session → Bool) (id : Text) (x : Session) (ys : List Session)
@@ -118,27 +118,27 @@ none-other q id x ys h less =
     ys less))
 
 none-ends : (f : Due) (x : Session) (ys : List Session) → has_id f.1 x ≡ true
-    → AllByRecursion (λ y. session_cmp x y ≡ Less) ys → list_any (ends_so f) ys ≡ false
+    → AllByRecursion (λ y. session_cmp x y ≡ Less) ys → list_any (has_end f) ys ≡ false
 none-ends f x ys h less =
-    any-none (ends_so f) ys
-    (all_weaker (λ y. session_cmp x y ≡ Less) (λ y. ends_so f y ≡ false)
+    any-none (has_end f) ys
+    (all_weaker (λ y. session_cmp x y ≡ Less) (λ y. has_end f y ≡ false)
     (λ y l. ends-other f y (other_id f.1 x y h l)) ys less)
 
 -- none of the sessions that stay is of the client of an end in the index that has come
 pub only-ended : (moment : ℕ) (f : Due) (ss : List Session) → nat_le f.0 moment ≡ true
-    → IsStrictlySortedBy session_cmp ss → list_any (ends_so f) ss ≡ true
+    → IsStrictlySortedBy session_cmp ss → list_any (has_end f) ss ≡ true
     → is_among (filter (λ s. not (has_ended moment s)) ss) f.1 ≡ false
 unfolding IsStrictlySortedBy
 only-ended moment f [] h s any = refl
 only-ended moment f (x ∷ xs) h s any =
     let stay : List Session = filter (λ s. not (has_ended moment s)) xs in
-    pick (ends_so f x)
+    pick (has_end f x)
     (λ t. ap (λ b. list_any (has_id f.1) (cond (not b) (x ∷ stay) stay))
     (ends-moment moment f x h t)
     ∙ none-other (λ s. not (has_ended moment s)) f.1 x xs (ends-id f x t) s.0)
     (λ fails. (
-    let rest : list_any (ends_so f) xs ≡ true =
-    or_right (ends_so f x) (list_any (ends_so f) xs) fails any in
+    let rest : list_any (has_end f) xs ≡ true =
+    or_right (has_end f x) (list_any (has_end f) xs) fails any in
     let other : has_id f.1 x ≡ false = pick (has_id f.1 x)
     (λ t. absurd (true≢false (sym rest ∙ none-ends f x xs t s.0))) (λ e. e) in
     let left : list_any (has_id f.1) stay ≡ false = only-ended moment f xs h s.1 rest in

@@ -15,8 +15,8 @@ abbrev pub end_of : Session → Option ℕ
 end_of session = elim session.presence [ Connected ↦ None | Away end ↦ end ]
 
 -- the session ends as the index has it
-abbrev pub ends_so : Due → Session → Bool
-ends_so due session = option_map_or (λ end. same_due (end, session.id) due) (end_of session) false
+abbrev pub has_end : Due → Session → Bool
+has_end due session = option_map_or (λ end. same_due (end, session.id) due) (end_of session) false
 
 -- the end of each session is in the index
 abbrev pub IsListed : List Due → Session → Type 0
@@ -28,7 +28,7 @@ AreListed dues sessions = AllByRecursion (IsListed dues) sessions
 -- the first end in the index is that of a session: its client has not come back
 abbrev pub IsFirstLive : List Due → List Session → Type 0
 IsFirstLive dues sessions =
-    IfSome (first_of dues) (λ due. list_any (ends_so due) sessions ≡ true)
+    IfSome (first_of dues) (λ due. list_any (has_end due) sessions ≡ true)
 
 -- and there is room for the end of each session whose client is connected, which comes in without memory
 pub record AreIndexed (index : Dues) (sessions : List Session) : Type 0 where

@@ -1,5 +1,5 @@
 pub mod Views
-pub mod Ways
+pub mod Fates
 pub mod Queue
 pub mod Dues
 pub mod Ends

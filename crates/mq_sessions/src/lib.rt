@@ -5,5 +5,5 @@ mod sessions;
 
 pub use sessions::queue::queued_copy;
 pub use sessions::queued::QueuedCopy;
-pub use sessions::session::{Presence, Session, Waiting, Way};
+pub use sessions::session::{Fate, Presence, Session, Waiting};
 pub use sessions::{Client, Sessions};

@@ -27,7 +27,7 @@ use crate::sessions::queued::QueuedCopy;
 use crate::sessions::session::Session;
 use disconnection::disconnect;
 use end_heap::Ends;
-use ends::{add_end, make_room, settle};
+use ends::{drop_stale_ends, push_end, reserve_ends};
 use mq_world::{Clock, Delivery};
 use std::alloc::{AllocError, Global};
 use std::collections::BTreeMap;
@@ -178,10 +178,10 @@ impl Sessions {
         ensures err { OnErr result (self.new ≡ self.old) }
     {
         let kept = id.clone()?;
-        make_room(alloc, &mut self.ends, &self.by_id)?;
+        reserve_ends(alloc, &mut self.ends, &self.by_id)?;
         let session = Session::new(alloc, kept, user, interval);
         self.by_id.insert(id, session)?;
-        settle(&mut self.ends, &self.by_id);
+        drop_stale_ends(&mut self.ends, &self.by_id);
         Ok(())
     }
 
@@ -194,8 +194,8 @@ impl Sessions {
         let Some(disconnection) = disconnect(&mut self.by_id, id, clock) else {
             return;
         };
-        add_end(&mut self.ends, disconnection.end, disconnection.id);
-        settle(&mut self.ends, &self.by_id);
+        push_end(&mut self.ends, disconnection.end, disconnection.id);
+        drop_stale_ends(&mut self.ends, &self.by_id);
     }
 
     pub fn remove(&mut self, id: &str)
@@ -204,7 +204,7 @@ impl Sessions {
         // Learns that the ids are in order.
         let _count = self.by_id.len();
         let _ = self.by_id.remove(id);
-        settle(&mut self.ends, &self.by_id);
+        drop_stale_ends(&mut self.ends, &self.by_id);
     }
 
     /// Takes out a session that has ended, if there is one, and gives the id of its client. It takes no memory.
@@ -225,7 +225,7 @@ impl Sessions {
         let _count = self.by_id.len();
         let client = self.ends.pop()?;
         let _ = self.by_id.remove(client.as_str());
-        settle(&mut self.ends, &self.by_id);
+        drop_stale_ends(&mut self.ends, &self.by_id);
         Some(client)
     }
 

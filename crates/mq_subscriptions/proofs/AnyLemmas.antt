@@ -8,7 +8,7 @@ use Rattle.mq_world.specs.Lists.{Text, same_text}
 use Rattle.mq_world.specs.World.{Subscription, same_share, has_key, same_key}
 use Rattle.mq_world.specs.Turns.{SameInTurn}
 use Rattle.mq_subscriptions.specs.Turns.{put_last, upsert}
-use Rattle.mq_subscriptions.specs.Filters.{FilterKey, FilterLists, AtEntries, AreEntries, AreListed}
+use Rattle.mq_subscriptions.specs.Filters.{FilterKey, FilterLists, Entries, AreEntries, AreListed}
 use Rattle.mq_subscriptions.specs.Filters.{is_text, is_in_list, is_listed, all_rows}
 use Rattle.mq_subscriptions.specs.SubFilters.{ListsMore, ListsLess, ListsOthers}
 use Rattle.mq_world.proofs.ListLemmas.{list_any-map, list_any-same, any-append, filter-kept}
@@ -91,7 +91,7 @@ any-left test s rows =
 -- ## Tree and lists
 
 -- a subscription joins both the tree and the lists: they agree again
-pub listed-joined : (x : Subscription) (old new : AtEntries) (before after : FilterLists)
+pub listed-joined : (x : Subscription) (old new : Entries) (before after : FilterLists)
     → AreListed old before → AreEntries new → SameInTurn (all_rows new) (upsert x (all_rows old))
     → ListsMore x.client (x.share, x.filter) before after → AreListed new after
 listed-joined x old new before after h kept same adds = record {
@@ -100,7 +100,7 @@ listed-joined x old new before after h kept same adds = record {
 }
 
 -- a key that is there joins again
-pub listed-again : (x : Subscription) (old : AtEntries) (lists : FilterLists)
+pub listed-again : (x : Subscription) (old : Entries) (lists : FilterLists)
     → AreListed old lists → list_any (same_key x) (all_rows old) ≡ true
     → ListsMore x.client (x.share, x.filter) lists lists
 listed-again x old lists h found s =
@@ -108,7 +108,7 @@ listed-again x old lists h found s =
     (λ n. rw n)
 
 -- a key leaves both the tree and the lists: they agree again
-pub listed-left : (client : Text) (k : FilterKey) (old new : AtEntries)
+pub listed-left : (client : Text) (k : FilterKey) (old new : Entries)
     (before after : FilterLists) → AreListed old before → AreEntries new
     → all_rows new ≡ filter (λ s. not (has_key client k.0 k.1 s)) (all_rows old)
     → ListsLess client k before after → AreListed new after
@@ -121,7 +121,7 @@ listed-left client k old new before after h kept rows drops = record {
 
 -- a key that the tree doesn't have joined the lists, and left them again: where the tree stayed as
 -- it was meanwhile, it agrees with the lists again
-pub listed-undone : (client : Text) (k : FilterKey) (old new : AtEntries)
+pub listed-undone : (client : Text) (k : FilterKey) (old new : Entries)
     (before added after : FilterLists) → AreListed old before → new ≡ old
     → list_any (has_key client k.0 k.1) (all_rows old) ≡ false → ListsMore client k before added
     → ListsLess client k added after → AreListed new after
@@ -134,7 +134,7 @@ listed-undone client k old new before added after h same absent adds drops = rw 
 })
 
 -- where a subscription goes last in the tree, which stays well formed, the lists agree as they were
-pub listed-turned : (x : Subscription) (old new : AtEntries) (lists : FilterLists)
+pub listed-turned : (x : Subscription) (old new : Entries) (lists : FilterLists)
     → AreListed old lists → AreEntries new
     → SameInTurn (all_rows new) (put_last (same_key x) (all_rows old)) → AreListed new lists
 listed-turned x old new lists h kept same = record {
@@ -153,7 +153,7 @@ each_there (x ∷ rows) =
     (λ s. list_any (same_key s) (x ∷ rows) ≡ true) (λ s h. or_right _ _ h) rows (each_there rows) in
     (or_left _ _ (own_key_is x), rest)
 
-each_listed : (old : AtEntries) (lists : FilterLists) → AreListed old lists
+each_listed : (old : Entries) (lists : FilterLists) → AreListed old lists
     → AllByRecursion (λ s. is_listed lists s ≡ true) (all_rows old)
 each_listed old lists h =
     all_weaker (λ (s : Subscription). list_any (same_key s) (all_rows old) ≡ true)
@@ -172,13 +172,13 @@ leaving c lists v (s ∷ rows) found h =
     (λ n. rw (n, rest))
 
 -- where tree and lists agree, what is in a client's list is all that the client has
-pub all-leave : (c : Text) (lists : FilterLists) (v : List FilterKey) (old : AtEntries)
+pub all-leave : (c : Text) (lists : FilterLists) (v : List FilterKey) (old : Entries)
     → lookup (is_text c) lists ≡ Some v → AreListed old lists
     → filter (leaves c v) (all_rows old) ≡ filter (λ s. not (same_text s.client c)) (all_rows old)
 all-leave c lists v old found h = leaving c lists v (all_rows old) found (each_listed old lists h)
 
 -- where the client has no list, it has nothing
-pub none-had : (c : Text) (lists : FilterLists) (old : AtEntries)
+pub none-had : (c : Text) (lists : FilterLists) (old : Entries)
     → lookup (is_text c) lists ≡ None → AreListed old lists
     → all_rows old ≡ filter (λ s. not (same_text s.client c)) (all_rows old)
 none-had c lists old none h =
@@ -188,7 +188,7 @@ none-had c lists old none h =
     (sym (rw (same_text-is s.client c t, none) at e)))) (all_rows old) (each_listed old lists h)))
 
 -- a client's list goes, and all its subscriptions leave the tree: the two agree again
-pub listed-gone : (c : Text) (old new : AtEntries) (before after : FilterLists)
+pub listed-gone : (c : Text) (old new : Entries) (before after : FilterLists)
     → AreListed old before → AreEntries new
     → all_rows new ≡ filter (λ s. not (same_text s.client c)) (all_rows old)
     → ListsOthers c before after → AreListed new after

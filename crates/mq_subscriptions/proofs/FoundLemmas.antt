@@ -11,7 +11,7 @@ use Rattle.mq_world.specs.Lists.{Text, same_text}
 use Rattle.mq_world.specs.World.{Subscription, SubscriptionOptions, Message}
 use Rattle.mq_world.specs.Copies.{filter_matches}
 use Rattle.mq_world.proofs.BoolLemmas.{pick}
-use Rattle.mq_subscriptions.specs.Filters.{At, AtEntries, AllEntries, AreAtFilters, all_rows}
+use Rattle.mq_subscriptions.specs.Filters.{Entry, Entries, AllEntries, AreEntriesFor, all_rows}
 use Rattle.mq_subscriptions.specs.Filters.{Member, unshared_rows, group_rows, row, GroupList}
 use Rattle.std.specs.Rc.{rc_str_bytes}
 use Rattle.std.proofs.lemmas.Simd.{map-map}
@@ -21,9 +21,9 @@ use Rattle.mq_subscriptions.specs.Matches.{options_among, AreAscending, AreByCli
 use Rattle.mq_world.proofs.ListLemmas.{map-filter, filter-none}
 use Rattle.mq_subscriptions.specs.declared.subscriptions.matches.Match.{Match}
 use Rattle.mq_subscriptions.proofs.AscendingLemmas.{lt, ascending-sorted, stable-kept}
-use Rattle.mq_subscriptions.proofs.AtLemmas.{each_group}
+use Rattle.mq_subscriptions.proofs.EntryLemmas.{each_group}
 
-abbrev pub found_for : Text → AtEntries → List At
+abbrev pub found_for : Text → Entries → List Entry
 found_for topic es = values_of (filter (λ e. matches e.0 (levels topic)) es)
 
 -- subscriptions to one filter all match, or none does
@@ -40,8 +40,8 @@ all_alike topic f false (x ∷ xs) h e =
     rw is (all_alike topic f false xs h.1 e)
 
 -- in a well-formed tree, what is found for a name has just the rows whose filters match it
-pub found-rows : (topic : Text) (es : AtEntries) → AllEntries es
-    → flat_map (λ (a : At). a.rows) (found_for topic es)
+pub found-rows : (topic : Text) (es : Entries) → AllEntries es
+    → flat_map (λ (a : Entry). a.rows) (found_for topic es)
     ≡ filter (λ s. filter_matches s.filter topic) (all_rows es)
 found-rows topic [] h = refl
 found-rows topic (e ∷ es) h =
@@ -51,7 +51,7 @@ found-rows topic (e ∷ es) h =
     (λ t. rw (t, found-rows topic es h.1, all true e.1.rows h.0.here (rw h.0.key_is at t)))
     (λ n. rw (n, found-rows topic es h.1, all false e.1.rows h.0.here (rw h.0.key_is at n))))
 
-above : (topic : Text) (k : List Text) (es : AtEntries) → AllEntries es
+above : (topic : Text) (k : List Text) (es : Entries) → AllEntries es
     → AllByRecursion (λ y. level_order k y ≡ Less) (keys_of es)
     → AllByRecursion (λ y. level_order k y ≡ Less) (map (λ a. levels a.filter) (found_for topic es))
 above topic k [] h s = tt
@@ -60,8 +60,8 @@ above topic k (e ∷ es) h s =
     pick (matches e.0 (levels topic)) (λ t. rw t (rw (← h.0.key_is) s.0, rest)) (λ n. rw n rest)
 
 -- what a tree in order has for a name is in level order, each to its filter, and all of it matches
-pub found-order : (topic : Text) (es : AtEntries) → AllEntries es
-    → IsStrictlySortedBy level_order (keys_of es) → AreAtFilters topic (found_for topic es)
+pub found-order : (topic : Text) (es : Entries) → AllEntries es
+    → IsStrictlySortedBy level_order (keys_of es) → AreEntriesFor topic (found_for topic es)
 unfolding IsStrictlySortedBy
 found-order topic [] h s = record { ordered = tt; here = tt; match = tt }
 found-order topic (e ∷ es) h s =

@@ -9,7 +9,7 @@ use Rattle.mq_topic.specs.Levels.{levels, level_order}
 use Rattle.mq_world.specs.Lists.{Text, in_order, SameElements}
 use Rattle.mq_world.specs.World.{Subscription}
 use Rattle.mq_world.specs.Counts.{filters_among}
-use Rattle.mq_subscriptions.specs.Filters.{At, AtEntries, IsEntry, AllEntries, AreEntries, AreKeys}
+use Rattle.mq_subscriptions.specs.Filters.{Entry, Entries, IsEntry, AllEntries, AreEntries, AreKeys}
 use Rattle.mq_subscriptions.specs.Filters.{all_rows, entries_view, is_empty}
 use Rattle.mq_world.proofs.ListLemmas.{list_any-map, any-append}
 use Rattle.mq_world.proofs.SameLemmas.{list_any-SameElements}
@@ -46,7 +46,7 @@ any_here : (z : List (List ℕ)) (f : Text) (s : Subscription) (rows : List Subs
 any_here z f s [] e h = rw e (or-false (tie z (levels f)))
 any_here z f s (x ∷ rows) e h = rw (any_here z f x rows h.0 h.1, e) (or_self (tie z (levels f)))
 
-any_rows : (z key : List (List ℕ)) (a : At) → IsEntry key a → list_any (to z) a.rows ≡ tie z key
+any_rows : (z key : List (List ℕ)) (a : Entry) → IsEntry key a → list_any (to z) a.rows ≡ tie z key
 any_rows z key a k = go a.rows k.here k.live ∙ ap (tie z) (sym k.key_is)
   where
     go : (rows : List Subscription) → AllByRecursion (λ x. x.filter ≡ a.filter) rows
@@ -54,14 +54,14 @@ any_rows z key a k = go a.rows k.here k.live ∙ ap (tie z) (sym k.key_is)
     go [] h live = absurd (let no : true ≡ false = live in cc)
     go (s ∷ rows) h live = any_here z a.filter s rows h.0 h.1
 
-any_keys : (z : List (List ℕ)) (es : AtEntries) → AllEntries es
+any_keys : (z : List (List ℕ)) (es : Entries) → AllEntries es
     → list_any (tie z) (keys_of es) ≡ list_any (to z) (all_rows es)
 any_keys z [] h = refl
 any_keys z (e ∷ es) h =
     rw (any-append (to z) e.1.rows (all_rows es), any_rows z e.0 e.1 h.0, any_keys z es h.1)
 
 -- the keys of a well-formed tree are the filters of its subscriptions
-pub kept-keys : (es : AtEntries) → AreEntries es → AreKeys (entries_view es)
+pub kept-keys : (es : Entries) → AreEntries es → AreKeys (entries_view es)
 kept-keys es kept =
     let filters : List (List (List ℕ)) = map place (all_rows es) in
     same_sorted level_order levels_total levels_tied (keys_of es) (in_order level_order filters)

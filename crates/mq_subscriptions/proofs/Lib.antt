@@ -4,14 +4,14 @@ pub mod Cuts
 pub mod TextMaps
 pub mod Members
 pub mod KeyLemmas
-pub mod AtLemmas
+pub mod EntryLemmas
 pub mod TreeLemmas
 pub mod ListedLemmas
 pub mod JoinTurn
 pub mod OneServed
 pub mod AnyLemmas
 pub mod ClientFilterLemmas
-pub mod TurnsAtLemmas
+pub mod EntryTurnLemmas
 pub mod AscendingLemmas
 pub mod FoundLemmas
 pub mod Outcomes

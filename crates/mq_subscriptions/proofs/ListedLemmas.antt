@@ -23,7 +23,7 @@ use Rattle.mq_subscriptions.proofs.TextMaps.{is_text-is, lookup-texts, set_value
 use Rattle.mq_subscriptions.proofs.TextMaps.{remove_entry-texts, ordered-texts, removed-set}
 use Rattle.mq_world.proofs.Splits.{Put, put_gap, lookup-more, lookup-at}
 use Rattle.mq_world.proofs.OrderLemmas.{same_text-itself, text_flip}
-use Rattle.mq_subscriptions.proofs.AtLemmas.{keyed, empty_is}
+use Rattle.mq_subscriptions.proofs.EntryLemmas.{keyed, empty_is}
 use Rattle.mq_subscriptions.proofs.InTurn.{key_parts, same_share-itself}
 use Rattle.std.proofs.lemmas.Map.{lookup-set_value, lookup-remove_entry}
 use Rattle.std.proofs.lemmas.Map.Keys.{IsDistinct-from_sorted}

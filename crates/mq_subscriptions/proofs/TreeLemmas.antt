@@ -12,7 +12,8 @@ use Rattle.mq_world.specs.Lists.{Text, same_text}
 use Rattle.mq_world.specs.World.{Subscription, same_key, has_key}
 use Rattle.mq_world.specs.Turns.{SameInTurn}
 use Rattle.mq_subscriptions.specs.Turns.{put_last, upsert}
-use Rattle.mq_subscriptions.specs.Filters.{At, AtEntries, AreHere, IsEntry, AreEntries, Member, row}
+use Rattle.mq_subscriptions.specs.Filters.{Entry, Entries, AreHere, IsEntry, AreEntries, Member}
+use Rattle.mq_subscriptions.specs.Filters.{row}
 use Rattle.mq_subscriptions.specs.Filters.{all_rows, is_empty}
 use Rattle.mq_world.proofs.ListLemmas.{map-filter, map-insert_entry, remove_entry-filter}
 use Rattle.mq_world.proofs.OrderLemmas.{equal_from, same_levels, sorted-with_row, levels_total}
@@ -22,7 +23,7 @@ use Rattle.mq_subscriptions.proofs.InTurn.{Unlike, unlike-filter, joining, turni
 use Rattle.mq_subscriptions.proofs.InTurn.{LocalEdit}
 use Rattle.mq_subscriptions.proofs.Cuts.{Away, cut-edited, cut-out, cut-any, absent-any, put-edited}
 use Rattle.mq_subscriptions.proofs.Cuts.{absent-edited, live-set, live-out, live-put, live_at}
-use Rattle.mq_subscriptions.proofs.AtLemmas.{keyed, put_last-live, with_one-live, empty_is}
+use Rattle.mq_subscriptions.proofs.EntryLemmas.{keyed, put_last-live, with_one-live, empty_is}
 use Rattle.mq_subscriptions.proofs.KeyLemmas.{levels_tied}
 
 key-apart : (k x y : List Text) → is_key k x ≡ true → level_order x y ≡ Less → is_key k y ≡ false
@@ -30,30 +31,30 @@ key-apart k x y h less = ap is_eq (levels_total.congr k x y (equal_from _ h) ∙
 
 -- ## The keys stay in order
 
-set_order : (k : List Text) (es : AtEntries) (w : At) → AreInOrder es
+set_order : (k : List Text) (es : Entries) (w : Entry) → AreInOrder es
     → AreInOrder (set_value (is_key k) es w)
 set_order k es w s = rw (keys-set_value (is_key k) es w) s
 
-remove_order : (k : List Text) (es : AtEntries) → AreInOrder es
+remove_order : (k : List Text) (es : Entries) → AreInOrder es
     → AreInOrder (remove_entry (is_key k) es)
 remove_order k es s =
     rw (remove_entry-filter level_order (is_key k) (key-apart k) es s)
-    (rw (map-filter (λ (e : List Text × At). e.0) (λ j. not (is_key k j)) es)
+    (rw (map-filter (λ (e : List Text × Entry). e.0) (λ j. not (is_key k j)) es)
     (IsStrictlySortedBy-filter level_order (λ j. not (is_key k j)) (keys_of es) s))
 
-insert_order : (k : List Text) (es : AtEntries) (v : At) → AreInOrder es
+insert_order : (k : List Text) (es : Entries) (v : Entry) → AreInOrder es
     → AreInOrder (insert_entry level_order es k v)
 insert_order k es v s =
-    rw (map-insert_entry level_order levels_total (λ (e : List Text × At). e.0) level_order
+    rw (map-insert_entry level_order levels_total (λ (e : List Text × Entry). e.0) level_order
     (λ _ _. refl) (λ j e _ h. sym (levels_tied j e (ap is_eq h))) k v es s)
     (sorted-with_row level_order levels_total k (keys_of es) s)
 
 -- ## Rows at one key
 
-abbrev rows_of : List Text × At → List Subscription
+abbrev rows_of : List Text × Entry → List Subscription
 rows_of e = e.1.rows
 
-abbrev Fits : List Text × At → Type 0
+abbrev Fits : List Text × Entry → Type 0
 Fits e = IsEntry e.0 e.1
 
 -- what is the same in turn as a list with an element has one
@@ -64,7 +65,7 @@ live-same [] (y ∷ ys) h live =
     (let no : 0 ≡ suc (length (filter (λ _. true) ys)) = h.elements (λ _. true) in cc)
 live-same (x ∷ xs) ys h live = refl
 
-module _ (f : Text) (es : AtEntries) (kept : AreEntries es) where
+module _ (f : Text) (es : Entries) (kept : AreEntries es) where
   abbrev k : List Text
   k = levels f
 
@@ -77,7 +78,7 @@ module _ (f : Text) (es : AtEntries) (kept : AreEntries es) where
       all_weaker (λ x. x.filter ≡ e.1.filter) (Unlike s)
       (λ x is. unlike-filter s x (rw (is, own) other)) e.1.rows h.here)) es kept.each
 
-  module _ (v : At) (found : lookup (is_key k) es ≡ Some v) where
+  module _ (v : Entry) (found : lookup (is_key k) es ≡ Some v) where
     cut : Split (is_key k) es v
     cut = split level_order (is_key k) (key-apart k) es v kept.ordered found
 
@@ -91,7 +92,7 @@ module _ (f : Text) (es : AtEntries) (kept : AreEntries es) where
     found_filter : v.filter ≡ f
     found_filter = same_levels v.filter f (sym here.key_is ∙ key)
 
-    module _ (w : At) (same : w.filter ≡ v.filter) (w_here : AreHere w) (new : AtEntries)
+    module _ (w : Entry) (same : w.filter ≡ v.filter) (w_here : AreHere w) (new : Entries)
         (set : new ≡ set_value (is_key k) es w) where
       pub set-kept : is_empty w.rows ≡ false → AreEntries new
       set-kept live = rw set (record {
@@ -103,7 +104,7 @@ module _ (f : Text) (es : AtEntries) (kept : AreEntries es) where
         ordered = set_order k es w kept.ordered;
       })
 
-      pub out-kept : (out : AtEntries) → out ≡ remove_entry (is_key k) new → AreEntries out
+      pub out-kept : (out : Entries) → out ≡ remove_entry (is_key k) new → AreEntries out
       out-kept out o = rw (o, set) (record {
         each = live-out Fits (is_key k) es kept.each v cut w;
         ordered = remove_order k (set_value (is_key k) es w) (set_order k es w kept.ordered);
@@ -138,7 +139,7 @@ module _ (f : Text) (es : AtEntries) (kept : AreEntries es) where
             → all_rows new ≡ filter (λ x. not (has_key c share f x)) (all_rows es)
         tree-left h = edited s refl (leaving s) (rw found_filter at h)
 
-        pub tree-gone : (out : AtEntries) → out ≡ remove_entry (is_key k) new
+        pub tree-gone : (out : Entries) → out ≡ remove_entry (is_key k) new
             → is_empty w.rows ≡ true
             → w.rows ≡ filter (λ x. not (has_key c share v.filter x)) v.rows
             → all_rows out ≡ filter (λ x. not (has_key c share f x)) (all_rows es)
@@ -161,8 +162,9 @@ module _ (f : Text) (es : AtEntries) (kept : AreEntries es) where
       tree-absent_any = sym (absent-any rows_of (is_key k) (keyed c share f) es
           (away (keyed c share f) refl) (none_passes (is_key k) es none))
 
-    pub tree-added : (s : Subscription) → s.filter ≡ f → (one : At) → one.filter ≡ f → AreHere one
-        → (new : AtEntries) → new ≡ insert_entry level_order es k one
+    pub tree-added : (s : Subscription) → s.filter ≡ f → (one : Entry) → one.filter ≡ f
+        → AreHere one
+        → (new : Entries) → new ≡ insert_entry level_order es k one
         → SameInTurn one.rows (upsert s [])
         → AreEntries new × SameInTurn (all_rows new) (upsert s (all_rows es))
     tree-added s own one own_filter one_here new put h =

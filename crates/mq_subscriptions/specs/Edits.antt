@@ -5,15 +5,15 @@ use Rattle.mq_world.specs.Lists.{Text}
 use Rattle.mq_world.specs.World.{Subscription, has_key}
 use Rattle.mq_world.specs.Turns.{SameInTurn}
 use Rattle.mq_subscriptions.specs.Turns.{upsert, put_last}
-use Rattle.mq_subscriptions.specs.Filters.{Member, At, GroupList, row, group_rows}
+use Rattle.mq_subscriptions.specs.Filters.{Member, Entry, GroupList, row, group_rows}
 
 -- the subscription takes the place of the one with its key, or goes last
 abbrev pub Joins : Subscription → List Subscription → List Subscription → Type 0
 Joins s old new = SameInTurn new (upsert s old)
 
 -- the member joins at the filter, in its own name or in a group
-abbrev pub JoinsAt : Option Text → Member → At → List Subscription → Type 0
-JoinsAt share m old new = Joins (row share old.filter m) old.rows new
+abbrev pub JoinsEntry : Option Text → Member → Entry → List Subscription → Type 0
+JoinsEntry share m old new = Joins (row share old.filter m) old.rows new
 
 abbrev pub GroupJoins : Text → Member → GroupList → GroupList → Type 0
 GroupJoins share m old new =

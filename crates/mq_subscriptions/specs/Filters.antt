@@ -36,7 +36,7 @@ row share filter m = record {
 }
 
 -- a filter, and the subscriptions to it
-pub record At : Type 0 where
+pub record Entry : Type 0 where
   pub filter : Text
   pub rows : List Subscription
 
@@ -45,7 +45,7 @@ is_empty [] = true
 is_empty (x ∷ xs) = false
 
 -- each subscription is to the filter
-abbrev pub AreHere : At → Type 0
+abbrev pub AreHere : Entry → Type 0
 AreHere a = AllByRecursion (λ s. s.filter ≡ a.filter) a.rows
 
 -- the key of a map is the text
@@ -68,32 +68,32 @@ NoneEmpty lists = AllByRecursion (λ l. is_empty l.1 ≡ false) lists
 
 -- ## All filters
 
-abbrev pub AtEntries : Type 0
-AtEntries = List (List Text × At)
+abbrev pub Entries : Type 0
+Entries = List (List Text × Entry)
 
 -- what stands at a key is to its filter, and something
-pub record IsEntry (key : List Text) (a : At) : Type 0 where
+pub record IsEntry (key : List Text) (a : Entry) : Type 0 where
   pub key_is : key ≡ levels a.filter
   pub here : AreHere a
   pub live : is_empty a.rows ≡ false
 
-abbrev pub AllEntries : AtEntries → Type 0
+abbrev pub AllEntries : Entries → Type 0
 AllEntries es = AllByRecursion (λ e. IsEntry e.0 e.1) es
 
 -- so at each key, and the keys are in order
-pub record AreEntries (es : AtEntries) : Type 0 where
+pub record AreEntries (es : Entries) : Type 0 where
   pub each : AllEntries es
   pub ordered : AreInOrder es
 
-abbrev pub all_rows : AtEntries → List Subscription
-all_rows es = flat_map (λ (e : List Text × At). e.1.rows) es
+abbrev pub all_rows : Entries → List Subscription
+all_rows es = flat_map (λ (e : List Text × Entry). e.1.rows) es
 
 -- what the subscriptions show: themselves, and the keys of their tree
 pub record SubscriptionsView : Type 0 where
   pub rows : List Subscription
   pub keys : List (List Text)
 
-abbrev pub entries_view : AtEntries → SubscriptionsView
+abbrev pub entries_view : Entries → SubscriptionsView
 entries_view es = record { rows = all_rows es; keys = map (λ e. e.0) es }
 
 -- the keys are the filters of the subscriptions
@@ -101,7 +101,7 @@ abbrev pub AreKeys : SubscriptionsView → Type 0
 AreKeys kept = kept.keys ≡ filters_among kept.rows
 
 -- what is found for a name: matching filters in level order, each with what is to it
-pub record AreAtFilters (topic : Text) (found : List At) : Type 0 where
+pub record AreEntriesFor (topic : Text) (found : List Entry) : Type 0 where
   pub ordered : IsStrictlySortedBy level_order (map (λ a. levels a.filter) found)
   pub here : AllByRecursion AreHere found
   pub match : AllByRecursion (λ a. filter_matches a.filter topic ≡ true) found
@@ -136,6 +136,6 @@ is_listed lists s = option_map_or (λ list. is_in_list list s) (lookup (is_text 
     false
 
 -- the tree, with a list for each client that has subscriptions: in it stand those, and no others
-pub record AreListed (es : AtEntries) (lists : FilterLists) : Type 0 where
+pub record AreListed (es : Entries) (lists : FilterLists) : Type 0 where
   pub kept : AreEntries es
   pub listed : (s : Subscription) → is_listed lists s ≡ list_any (same_key s) (all_rows es)

@@ -4,15 +4,15 @@ use Rattle.std.specs.List.{filter, flat_map, AllByRecursion}
 use Rattle.mq_world.specs.Lists.{Text, same_text, text_cmp}
 use Rattle.mq_world.specs.World.{Subscription, SubscriptionOptions, Message}
 use Rattle.mq_world.specs.World as world
-use Rattle.mq_subscriptions.specs.Filters.{At}
+use Rattle.mq_subscriptions.specs.Filters.{Entry}
 use Rattle.std.specs.Rc.{rc_str_bytes}
 use Rattle.std.specs.Ordering.{is_lt}
 use denote.Ref.{Bor}
 use Rattle.mq_world.specs.Views.{options_of}
 use Rattle.mq_subscriptions.specs.declared.subscriptions.matches.Match.{Match}
 
-abbrev pub rows_found : List At → List Subscription
-rows_found found = flat_map (λ (a : At). a.rows) found
+abbrev pub rows_found : List Entry → List Subscription
+rows_found found = flat_map (λ (a : Entry). a.rows) found
 
 -- those in a client's own name that take part, whoever's they are
 abbrev pub is_unshared_match : Message → Subscription → Bool

@@ -5,7 +5,7 @@ use Rattle.std.specs.List.Sorted.{IsStrictlySortedBy}
 use Rattle.std.specs.Map.{keys_of}
 use Rattle.mq_world.specs.Keys.{Key, key_cmp}
 use Rattle.mq_world.specs.Lists.{Text}
-use Rattle.mq_subscriptions.specs.Filters.{Member, At, GroupList, unshared_rows, group_rows}
+use Rattle.mq_subscriptions.specs.Filters.{Member, Entry, GroupList, unshared_rows, group_rows}
 use Rattle.mq_subscriptions.specs.Filters.{NoneEmpty, FilterLists}
 use Rattle.mq_subscriptions.specs.Filters.{AreListed, SubscriptionsView, entries_view}
 use Rattle.mq_subscriptions.specs.declared.subscriptions.group.Group.TheInside as in_group
@@ -27,8 +27,8 @@ groups_of inside = texts inside.by_share.entries
 abbrev pub NoneIsEmpty : in_groups.Inside → Type 0
 NoneIsEmpty inside = NoneEmpty (groups_of inside)
 
-abbrev pub at_of : in_at.Inside → At
-at_of inside = record {
+abbrev pub entry_of : in_at.Inside → Entry
+entry_of inside = record {
   filter = inside.filter.value;
   rows = unshared_rows inside.filter.value (texts inside.unshared.entries)
       ++ group_rows inside.filter.value inside.groups;

@@ -15,7 +15,7 @@ ghost use Rattle.mq_world.specs.Copies.{filter_matches};
 ghost use Rattle.mq_world.specs.Retained.{asks_for_retained};
 ghost use Rattle.mq_world.specs.Turns.{SameInTurn};
 ghost use Rattle.mq_subscriptions.specs.Turns.{upsert, put_last, all_turned, turn_of};
-ghost use Rattle.mq_subscriptions.specs.Filters.{AreKeys, all_rows, AreEntries, AreAtFilters};
+ghost use Rattle.mq_subscriptions.specs.Filters.{AreKeys, all_rows, AreEntries, AreEntriesFor};
 ghost use Rattle.mq_subscriptions.specs.Filters.{is_in_list};
 ghost use Rattle.std.specs.Map.{lookup};
 ghost use Rattle.mq_topic.specs.Levels.{levels};
@@ -174,7 +174,7 @@ impl Subscriptions {
     ) -> Result<Vec<&FilterEntry>, AllocError>
         ensures rows { IfOk result (λ found. rows_found (lent_values found.items)
             ≡ filter (λ s. filter_matches s.filter name.now) self.now.rows) }
-        ensures order { IfOk result (λ found. AreAtFilters name.now (lent_values found.items)) }
+        ensures order { IfOk result (λ found. AreEntriesFor name.now (lent_values found.items)) }
         ensures count { OnOk result (steps.new ≡ steps.old + length
             (met_by_name (levels name.now) (prefixes self.now.keys))) }
     {

@@ -2,7 +2,7 @@
 #![tactic(auto)]
 
 use mq_cli::{UNREADABLE, start};
-use mq_script::{RUN_FAILED, StdSink, StdSource};
+use mq_run::{RUN_FAILED, StdSink, StdSource};
 use std::env;
 use std::io::{self, BufWriter, ErrorKind, IsTerminal, Write};
 use std::process::ExitCode;

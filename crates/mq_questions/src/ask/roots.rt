@@ -5,7 +5,7 @@ ghost use Rattle.mq_topic.specs.Levels.{levels};
 ghost use Rattle.mq_acl.specs.Access.{applies, concerns, begins_with_dollar, row_level_matches};
 ghost use Rattle.mq_topic.specs.Matching.{levels_match_by};
 ghost use Rattle.mq_acl.specs.Rows.{AclRow};
-ghost use Rattle.mq_acl.specs.Groups.{is_everyones};
+ghost use Rattle.mq_acl.specs.RowsByOwner.{is_everyones};
 ghost use Rattle.mq_acl.specs.Views.{owner_view, row_view, row_views};
 ghost use Rattle.mq_walk.specs.Remainders.{covers, hit, same, fits, remainder_fits};
 ghost use Rattle.mq_questions.specs.Fresh.{marks_of};

@@ -13,9 +13,9 @@ use Rattle.mq_world.specs.World as world
 use Rattle.mq_world.specs.Sessions.{is_reader, user_of}
 use Rattle.mq_router.specs.delivery.Summaries.{Summary, copy_from, summary_of}
 use Rattle.mq_sessions.specs.Queue.{QueueItem, room_for, queue_item}
-use Rattle.mq_sessions.specs.Ways.{is_sent, waits}
-use Rattle.mq_sessions.specs.declared.sessions.session.Way.{Way}
-use Rattle.mq_subscriptions.specs.Filters.{At}
+use Rattle.mq_sessions.specs.Fates.{is_sent, waits}
+use Rattle.mq_sessions.specs.declared.sessions.session.Fate.{Fate}
+use Rattle.mq_subscriptions.specs.Filters.{Entry}
 use Rattle.mq_subscriptions.specs.Turns.{next_in, turns_of}
 use Rattle.mq_subscriptions.specs.Matches.{clients_of, options_among}
 
@@ -62,19 +62,19 @@ queue_items_by limit access sessions m deadline summaries =
     filter_map (queue_item_for limit access sessions m deadline) summaries
 
 -- the copy, if it is sent
-abbrev pub sent_by_way : Way → Copy → Option Copy
-sent_by_way way copy = if is_sent way then Some copy else None
+abbrev pub sent_by_fate : Fate → Copy → Option Copy
+sent_by_fate fate copy = if is_sent fate then Some copy else None
 
 -- what begins to wait of the copy
-abbrev pub queued_by_way : Way → Option ℕ → Copy → Option QueueItem
-queued_by_way way deadline copy =
-    if waits way then option_map (queue_item copy.client deadline) (with_qos copy) else None
+abbrev pub queued_by_fate : Fate → Option ℕ → Copy → Option QueueItem
+queued_by_fate fate deadline copy =
+    if waits fate then option_map (queue_item copy.client deadline) (with_qos copy) else None
 
 -- the members in turn of the groups of a share name, by the filters that are found
-abbrev pub turns_at : Option (List AclRow) → List Session → Text → Text → List At
+abbrev pub turns_at : Option (List AclRow) → List Session → Text → Text → List Entry
     → List Subscription
 turns_at access sessions topic share found =
-    flat_map (λ (a : At). turns_of
+    flat_map (λ (a : Entry). turns_of
     (next_in access sessions a.rows topic (record { share = share; filter = a.filter })))
     found
 

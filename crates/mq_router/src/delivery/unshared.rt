@@ -7,7 +7,7 @@ ghost use Rattle.mq_world.specs.Views.{copies_in};
 ghost use Rattle.mq_subscriptions.specs.Matches.{match_views, AreByClient};
 ghost use Rattle.mq_router.specs.delivery.Copies.{by_client};
 ghost use Rattle.mq_router.specs.delivery.Copies.{copies_by, queue_items_by};
-ghost use Rattle.mq_router.specs.delivery.Copies.{sent_by_way, queued_by_way};
+ghost use Rattle.mq_router.specs.delivery.Copies.{sent_by_fate, queued_by_fate};
 ghost use Rattle.mq_router.specs.delivery.Summaries.{summary_of, copy_from};
 ghost use Rattle.mq_world.specs.Views.{copy_of};
 ghost use Rattle.mq_world.specs.Views.{message_of};
@@ -15,10 +15,10 @@ ghost use Rattle.mq_world.specs.Waiting.{with_qos};
 ghost use Rattle.mq_sessions.specs.Queue.{queue_item};
 ghost use Rattle.mq_sessions.specs.Views.{queue_item_of};
 
+use crate::delivery::access_view::AccessView;
 use crate::delivery::outgoing::Outgoing;
-use crate::delivery::readers::Readers;
 use crate::delivery::summary::Summary;
-use mq_sessions::{QueuedCopy, Way, queued_copy};
+use mq_sessions::{Fate, QueuedCopy, queued_copy};
 use mq_subscriptions::Match;
 use mq_world::Delivery;
 use std::alloc::{AllocError, Global};
@@ -35,30 +35,30 @@ pub(crate) struct Unshared {
 /// away and have room.
 pub(crate) fn unshared_copies(
     alloc: Global,
-    readers: &Readers,
+    view: &AccessView,
     matches: &[Match],
     outgoing: &Outgoing,
     limit: u32,
 ) -> Result<Unshared, AllocError>
     requires { AreByClient (match_views matches.now) }
     ensures copies { IfOk result (λ d. copies_in d.copies
-        ≡ copies_by readers.now.access.now readers.now.sessions.now
+        ≡ copies_by view.now.access.now view.now.sessions.now
         (message_of outgoing.now.message) (by_client (match_views matches.now))) }
     ensures queued { IfOk result (λ d. map queue_item_of d.queued.items
-        ≡ queue_items_by limit readers.now.access.now readers.now.sessions.now
+        ≡ queue_items_by limit view.now.access.now view.now.sessions.now
         (message_of outgoing.now.message) outgoing.now.message.deadline
         (by_client (match_views matches.now))) }
 {
     // A client gets a copy if it has a session.
-    let most = matches.len().min(readers.sessions.len());
+    let most = matches.len().min(view.sessions.len());
     let mut made = Unshared {
         copies: Vec::with_capacity(alloc, most)?,
         queued: Vec::new(alloc),
     };
     for chunk in matches.chunk_by(|a, b| a.client == b.client) {
         let client = chunk[0].client;
-        let way = readers.way(client, outgoing.message.topic, limit);
-        made.add(alloc, way, client, chunk, outgoing)?;
+        let fate = view.fate(client, outgoing.message.topic, limit);
+        made.add(alloc, fate, client, chunk, outgoing)?;
     }
     Ok(made)
 }
@@ -68,31 +68,31 @@ impl Unshared {
     fn add(
         &mut self,
         alloc: Global,
-        way: Way,
+        fate: Fate,
         client: &RcStr,
         matches: &[Match],
         outgoing: &Outgoing,
     ) -> Result<(), AllocError>
         ensures copies { OnOk result (copies_in self.new.copies
-            ≡ copies_in self.old.copies ++ option_to_list (sent_by_way way
+            ≡ copies_in self.old.copies ++ option_to_list (sent_by_fate fate
             (copy_from (rc_str_bytes client.now) None (message_of outgoing.now.message)
             (summary_of (map (λ x. options_of x.options) matches.now))))) }
         ensures queued { OnOk result (map queue_item_of self.new.queued.items
-            ≡ map queue_item_of self.old.queued.items ++ option_to_list (queued_by_way way
+            ≡ map queue_item_of self.old.queued.items ++ option_to_list (queued_by_fate fate
             outgoing.now.message.deadline
             (copy_from (rc_str_bytes client.now) None (message_of outgoing.now.message)
             (summary_of (map (λ x. options_of x.options) matches.now))))) }
     {
-        match way {
-            Way::Sent => {
+        match fate {
+            Fate::Sent => {
                 let copy = unshared_copy(alloc, client, matches, outgoing)?;
                 Ok(self.copies.push(copy)?)
             }
-            Way::Waits => {
+            Fate::Queued => {
                 let copy = unshared_copy(alloc, client, matches, outgoing)?;
                 self.queue(alloc, copy, outgoing.message.deadline)
             }
-            Way::Nowhere => Ok(()),
+            Fate::Dropped => Ok(()),
         }
     }
 

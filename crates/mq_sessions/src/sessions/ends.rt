@@ -4,7 +4,7 @@ ghost use Rattle.std.specs.Prelude.{◌≡◌, ◌+◌, ◌<◌, ◌≤◌, true
 ghost use Rattle.std.specs.List.{list_any};
 ghost use Rattle.std.specs.Rc.{rc_str_bytes};
 ghost use Rattle.mq_sessions.specs.Dues.{Due, is_in};
-ghost use Rattle.mq_sessions.specs.Ends.{AreListed, AreIndexed, IsFirstLive, ends_so, views_of};
+ghost use Rattle.mq_sessions.specs.Ends.{AreListed, AreIndexed, IsFirstLive, has_end, views_of};
 
 use crate::sessions::end_heap::Ends;
 use crate::sessions::session::Session;
@@ -13,8 +13,8 @@ use std::collections::BTreeMap;
 use std::rc::RcStr;
 
 // Whether the client has a session that ends then.
-fn ends_so(sessions: &BTreeMap<RcStr, Session>, end: u64, client: &RcStr) -> bool
-    ensures { result ≡ list_any (ends_so (end, rc_str_bytes client.now))
+fn has_end(sessions: &BTreeMap<RcStr, Session>, end: u64, client: &RcStr) -> bool
+    ensures { result ≡ list_any (has_end (end, rc_str_bytes client.now))
         (views_of sessions.now.entries) }
 {
     // Learns that the keys are in order.
@@ -26,7 +26,7 @@ fn ends_so(sessions: &BTreeMap<RcStr, Session>, end: u64, client: &RcStr) -> boo
 }
 
 /// Takes out what is first, as long as no session ends so.
-pub(crate) fn settle(ends: &mut Ends, sessions: &BTreeMap<RcStr, Session>)
+pub(crate) fn drop_stale_ends(ends: &mut Ends, sessions: &BTreeMap<RcStr, Session>)
     requires { AreListed ends.old.entries (views_of sessions.now.entries) }
     ensures listed { AreListed ends.new.entries (views_of sessions.now.entries) }
     ensures first { IsFirstLive ends.new.entries (views_of sessions.now.entries) }
@@ -34,7 +34,7 @@ pub(crate) fn settle(ends: &mut Ends, sessions: &BTreeMap<RcStr, Session>)
     ensures room { ends.new.room ≡ ends.old.room }
 {
     while let Some((end, client)) = ends.first() {
-        if ends_so(sessions, end, client) {
+        if has_end(sessions, end, client) {
             return;
         }
         let _ = ends.pop();
@@ -42,7 +42,7 @@ pub(crate) fn settle(ends: &mut Ends, sessions: &BTreeMap<RcStr, Session>)
 }
 
 /// Adds the end of a session, if it has one. It takes no memory.
-pub(crate) fn add_end(ends: &mut Ends, end: Option<u64>, client: RcStr)
+pub(crate) fn push_end(ends: &mut Ends, end: Option<u64>, client: RcStr)
     requires { length ends.old.entries < ends.old.room }
     ensures listed { IfSome end (λ at. is_in (at, rc_str_bytes client) ends.new.entries ≡ true) }
     ensures others { (due : Due) → is_in due ends.old.entries ≡ true
@@ -77,7 +77,7 @@ fn ends_of(
 
 /// Makes room for the end of one session more. What is made anew has thrice the room that the sessions take with one more, so
 /// this is done once in at least half as many connects as there are sessions.
-pub(crate) fn make_room(
+pub(crate) fn reserve_ends(
     alloc: Global,
     ends: &mut Ends,
     sessions: &BTreeMap<RcStr, Session>,
@@ -93,7 +93,7 @@ pub(crate) fn make_room(
     }
     let room = all.checked_mul(3).ok_or(AllocError)?;
     let mut anew = ends_of(alloc, sessions, room)?;
-    settle(&mut anew, sessions);
+    drop_stale_ends(&mut anew, sessions);
     *ends = anew;
     Ok(())
 }

@@ -13,7 +13,7 @@ use mq_world::Delivery;
 use std::alloc::{AllocError, Global};
 use std::collections::LinkedList;
 
-fn alone(alloc: Global, waiting: Waiting) -> Result<LinkedList<Waiting>, AllocError>
+fn list_of_one(alloc: Global, waiting: Waiting) -> Result<LinkedList<Waiting>, AllocError>
     ensures { IfOk result (λ list. list ≡ waiting ∷ []) }
 {
     let mut list = LinkedList::new(alloc);
@@ -37,6 +37,6 @@ pub fn queued_copy(
     let waiting = Waiting { copy, deadline };
     Ok(Some(QueuedCopy {
         client,
-        copies: alone(alloc, waiting)?,
+        copies: list_of_one(alloc, waiting)?,
     }))
 }

@@ -27,10 +27,10 @@ pub enum Presence {
 
 /// Where a copy for a client goes.
 #[derive(Clone, Copy)]
-pub enum Way {
+pub enum Fate {
     Sent,
-    Waits,
-    Nowhere,
+    Queued,
+    Dropped,
 }
 
 /// A copy that waits for its client, until its deadline if it has one.
@@ -72,7 +72,7 @@ impl Drop for Session {
 }
 
 impl Session {
-    ghost use Rattle.mq_sessions.specs.Ways.{is_sent, waits};
+    ghost use Rattle.mq_sessions.specs.Fates.{is_sent, waits};
 
     /// The session of a client that connects.
     pub fn new(alloc: Global, id: RcStr, user: Option<String>, interval: u32) -> Session
@@ -139,16 +139,16 @@ impl Session {
     }
 
     /// Where a copy for the client goes: a client that is away has to have room.
-    pub fn way(&self, limit: u32) -> Way
+    pub fn fate(&self, limit: u32) -> Fate
         ensures sent { is_sent result ≡ is_present (view_of self.now) }
         ensures waits { waits result ≡ has_room limit (view_of self.now) }
     {
         if self.is_present() {
-            Way::Sent
+            Fate::Sent
         } else if self.has_place(limit) {
-            Way::Waits
+            Fate::Queued
         } else {
-            Way::Nowhere
+            Fate::Dropped
         }
     }
 

@@ -12,7 +12,7 @@ ghost use Rattle.mq_world.specs.Views.{message_of};
 ghost use Rattle.mq_subscriptions.specs.Matches.{unshared_matches};
 ghost use Rattle.mq_subscriptions.specs.Matches.{match_views};
 ghost use Rattle.mq_subscriptions.specs.Turns.{GathersTurns};
-ghost use Rattle.mq_subscriptions.specs.Edits.{JoinsAt};
+ghost use Rattle.mq_subscriptions.specs.Edits.{JoinsEntry};
 ghost use Rattle.mq_world.specs.Lists.{same_text};
 
 use crate::subscriptions::client_test::ClientTest;
@@ -46,13 +46,13 @@ impl Drop for FilterEntry {
 }
 
 impl Model for FilterEntry {
-    ghost use Rattle.mq_subscriptions.specs.Filters.{At};
+    ghost use Rattle.mq_subscriptions.specs.Filters.{Entry};
 
-    ghost Value = { At };
+    ghost Value = { Entry };
 
-    ghost use Rattle.mq_subscriptions.specs.Views.{at_of};
+    ghost use Rattle.mq_subscriptions.specs.Views.{entry_of};
 
-    ghost view = { at_of };
+    ghost view = { entry_of };
 }
 
 impl FilterEntry {
@@ -84,7 +84,7 @@ impl FilterEntry {
     }
 
     /// Adds a subscription, in the place of the one with its key.
-    #[tactic(auto, using(crate::proofs::AtLemmas::is_here))]
+    #[tactic(auto, using(crate::proofs::EntryLemmas::is_here))]
     pub fn insert(
         &mut self,
         alloc: Global,
@@ -93,7 +93,7 @@ impl FilterEntry {
         options: SubscriptionOptions,
     ) -> Result<(), AllocError>
         ensures ok { OnOk result
-            (JoinsAt (option_copied share.entry) (rc_str_bytes client, options) self.old
+            (JoinsEntry (option_copied share.entry) (rc_str_bytes client, options) self.old
             self.new.rows) }
         ensures filter { self.new.filter ≡ self.old.filter }
         ensures here { AreHere self.new }
@@ -111,7 +111,7 @@ impl FilterEntry {
     }
 
     /// Takes a subscription out, and its group with its last member.
-    #[tactic(auto, using(crate::proofs::AtLemmas::is_here))]
+    #[tactic(auto, using(crate::proofs::EntryLemmas::is_here))]
     pub fn remove(&mut self, share: Option<&str>, client: &str)
         ensures rows { self.new.rows ≡ filter
             (λ s. not (has_key client.now (option_copied share.entry) self.old.filter s))
@@ -130,7 +130,7 @@ impl FilterEntry {
     }
 
     /// A member of a group goes last. It takes no memory.
-    #[tactic(auto, using(crate::proofs::AtLemmas::is_here))]
+    #[tactic(auto, using(crate::proofs::EntryLemmas::is_here))]
     pub fn serve(&mut self, share: &str, client: &str)
         ensures turned { SameInTurn self.new.rows
             (put_last (has_key client.now (Some share.now) self.old.filter) self.old.rows) }

@@ -1,6 +1,6 @@
 use Rattle.std.proofs.Common.{◌≡◌, drop}
 use Rattle.std.specs.Option.{option_copied}
-use Rattle.mq_acl.specs.Groups.{judged}
+use Rattle.mq_acl.specs.RowsByOwner.{judged}
 use Rattle.mq_acl.specs.Views.{row_views}
 use Rattle.mq_acl.proofs.check.judge.Given as goal
 

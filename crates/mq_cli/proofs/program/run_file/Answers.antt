@@ -1,6 +1,6 @@
 use Rattle.std.proofs.Common.{[], inr}
 use Rattle.mq_cli.specs.Program.{AnswersScript}
-use Rattle.mq_script.proofs.FrontLemmas.{AppendsSome-none}
+use Rattle.mq_run.proofs.FrontLemmas.{AppendsSome-none}
 use Rattle.mq_cli.proofs.ProgramLemmas.{IfOk-some, IfErr-map}
 use Rattle.mq_cli.proofs.program.run_file.Goals as goal
 

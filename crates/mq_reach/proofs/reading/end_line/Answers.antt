@@ -1,5 +1,5 @@
 use Rattle.std.proofs.Common.{◌∙◌, ◌++◌, ◌∷◌, []}
-use Rattle.mq_lines.proofs.LongLemmas.{kept_number}
+use Rattle.mq_jsonl.proofs.LongLemmas.{kept_number}
 use Rattle.std.proofs.lemmas.Result.{err_from_is_err_and}
 use Rattle.mq_reach.proofs.FaultLemmas.{FailsIn-line, FailsIn-memory}
 use Rattle.mq_reach.proofs.ScriptLemmas.{TakesBytes-line}

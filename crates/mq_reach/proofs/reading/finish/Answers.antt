@@ -1,7 +1,7 @@
 use Rattle.std.proofs.Common.{◌∙◌, sym, subst, arith, ◌∷◌, [], ◌++◌}
 use Rattle.std.proofs.lemmas.Result.{err_from_is_err_and}
-use Rattle.mq_lines.specs.Lines.{all_lines}
-use Rattle.mq_lines.proofs.LongLemmas.{nil_from_count, not_nil_from_count}
+use Rattle.mq_jsonl.specs.Lines.{all_lines}
+use Rattle.mq_jsonl.proofs.LongLemmas.{nil_from_count, not_nil_from_count}
 use Rattle.mq_reach.specs.Faults.{IsFaultAmong}
 use Rattle.mq_reach.specs.Search.{IsSearched}
 use Rattle.mq_reach.specs.Subscriptions.{subscriptions}

@@ -1,7 +1,7 @@
 use Rattle.std.proofs.Common.{◌≡◌, ◌+◌, ◌++◌, ◌∷◌, [], ℕ, List, length, arith, refl, ap, ◌∙◌}
 use Rattle.std.proofs.Common.{length-append}
-use Rattle.mq_lines.proofs.LongLemmas.{kept_number}
-use Rattle.mq_lines.proofs.PieceLemmas.{parted}
+use Rattle.mq_jsonl.proofs.LongLemmas.{kept_number}
+use Rattle.mq_jsonl.proofs.PieceLemmas.{parted}
 use Rattle.std.proofs.lemmas.Result.{err_from_is_err_and}
 use Rattle.mq_reach.proofs.FaultLemmas.{FailsIn-memory, FailsIn-more}
 use Rattle.mq_reach.proofs.ScriptLemmas.{TakesBytes-none, TakesBytes-then, TakesBytes-text}

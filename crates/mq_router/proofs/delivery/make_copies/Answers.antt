@@ -11,7 +11,7 @@ use Rattle.mq_router.specs.delivery.Copies.{gives_options}
 use Rattle.mq_router.specs.delivery.Summaries.{summary_for}
 use Rattle.mq_world.specs.Views.{message_of}
 use Rattle.mq_sessions.specs.Views.{queue_item_of}
-use Rattle.mq_subscriptions.specs.Filters.{AreAtFilters}
+use Rattle.mq_subscriptions.specs.Filters.{AreEntriesFor}
 use Rattle.mq_subscriptions.specs.Turns.{turns_in}
 use Rattle.mq_subscriptions.specs.Matches.{match_views, options_among, AreByClient}
 use Rattle.mq_router.specs.delivery.Copies.{by_client}
@@ -23,11 +23,11 @@ use Rattle.mq_router.proofs.delivery.make_copies.Goals as goal
 
 pub members_served-requires : goal.members_served-requires
 members_served-requires c =
-    subst (λ found. AreAtFilters c.args.message.now.topic.now (map (λ a. a.now) found))
+    subst (λ found. AreEntriesFor c.args.message.now.topic.now (map (λ a. a.now) found))
     (sym c.as_slice-found.ensures.value) c.in_ok-candidates.ensures.order
 
-pub made_for-requires : goal.made_for-requires
-made_for-requires c =
+pub deliveries_for-requires : goal.deliveries_for-requires
+deliveries_for-requires c =
     subst (λ ms. AreByClient (match_views ms)) (sym c.as_slice.ensures.value)
     c.in_ok-matches.ensures.sorted
 
@@ -41,7 +41,7 @@ returns-then-is_empty-clause-served c =
     (sym c.as_slice-found.ensures.value
     ∙ empty-is c.as_slice-found.result.now (sym c.is_empty.ensures ∙ c.if-is_empty.true)) in
     c.nothing.ensures.served
-    ∙ sym (no-members c.args.readers.now.access.now c.args.readers.now.sessions.now subs m none)
+    ∙ sym (no-members c.args.view.now.access.now c.args.view.now.sessions.now subs m none)
 
 pub returns-then-is_empty-clause-queued : goal.returns-then-is_empty-clause-queued
 returns-then-is_empty-clause-queued c =
@@ -53,14 +53,14 @@ returns-then-is_empty-clause-queued c =
     (sym c.as_slice-found.ensures.value
     ∙ empty-is c.as_slice-found.result.now (sym c.is_empty.ensures ∙ c.if-is_empty.true)) in
     ap (map queue_item_of) c.nothing.ensures.queued
-    ∙ sym (no-queued c.args.readers.now.access.now c.args.readers.now.sessions.now subs m none
+    ∙ sym (no-queued c.args.view.now.access.now c.args.view.now.sessions.now subs m none
     c.args.limit c.args.message.now.deadline)
 
 pub returns-then-is_empty-clause-copies : goal.returns-then-is_empty-clause-copies
 returns-then-is_empty-clause-copies c =
     let m = message_of c.args.message.now in
-    let A = c.args.readers.now.access.now in
-    let S = c.args.readers.now.sessions.now in
+    let A = c.args.view.now.access.now in
+    let S = c.args.view.now.sessions.now in
     let subs = c.args.subscriptions.now.rows in
     let none : filter (λ s. filter_matches s.filter m.topic) subs ≡ [] =
     sym c.in_ok-candidates.ensures.rows
@@ -76,24 +76,24 @@ pub returns-clause-served : goal.returns-clause-served
 returns-clause-served c =
     let m = message_of c.args.message.now in
     let members : List Subscription → List Subscription =
-    λ xs. next_members c.args.readers.now.access.now c.args.readers.now.sessions.now xs m in
-    IfOk-weaker c.made_for.result _ _
+    λ xs. next_members c.args.view.now.access.now c.args.view.now.sessions.now xs m in
+    IfOk-weaker c.deliveries_for.result _ _
     (λ made e. ap turns_in e
     ∙ c.in_ok-served.ensures
     ∙ ap (λ l. members (rows_found (map (λ a. a.now) l))) c.as_slice-found.ensures.value
     ∙ ap members c.in_ok-candidates.ensures.rows
-    ∙ members-matching c.args.readers.now.access.now c.args.readers.now.sessions.now
+    ∙ members-matching c.args.view.now.access.now c.args.view.now.sessions.now
     c.args.subscriptions.now.rows m)
-    c.made_for.ensures.served
+    c.deliveries_for.ensures.served
 
 pub returns-clause-queued : goal.returns-clause-queued
 returns-clause-queued c =
     let m = message_of c.args.message.now in
-    let A = c.args.readers.now.access.now in
-    let S = c.args.readers.now.sessions.now in
+    let A = c.args.view.now.access.now in
+    let S = c.args.view.now.sessions.now in
     let subs = c.args.subscriptions.now.rows in
     let ms = match_views c.as_slice.result.now in
-    IfOk-weaker c.made_for.result _ _
+    IfOk-weaker c.deliveries_for.result _ _
     (λ made e. e
     ∙ unshared-queued c.args.limit A S subs m c.args.message.now.deadline (by_client ms)
     c.len-sessions.ensures.ordered (sorted-by_client ms)
@@ -103,13 +103,13 @@ returns-clause-queued c =
     ∙ options-unshared m id (rows_found (map (λ a. a.now) c.as_slice-found.result.now))
     ∙ ap (λ l. gives_options m id (rows_found (map (λ a. a.now) l))) c.as_slice-found.ensures.value
     ∙ ap (gives_options m id) c.in_ok-candidates.ensures.rows ∙ options-matching m id subs)))
-    c.made_for.ensures.queued
+    c.deliveries_for.ensures.queued
 
 pub returns-clause-copies : goal.returns-clause-copies
 returns-clause-copies c =
     let m = message_of c.args.message.now in
-    let A = c.args.readers.now.access.now in
-    let S = c.args.readers.now.sessions.now in
+    let A = c.args.view.now.access.now in
+    let S = c.args.view.now.sessions.now in
     let subs = c.args.subscriptions.now.rows in
     let members : List Subscription → List Subscription = λ xs. next_members A S xs m in
     let ms = match_views c.as_slice.result.now in
@@ -121,7 +121,7 @@ returns-clause-copies c =
     ∙ options-unshared m id (rows_found (map (λ a. a.now) c.as_slice-found.result.now))
     ∙ ap (λ l. gives_options m id (rows_found (map (λ a. a.now) l))) c.as_slice-found.ensures.value
     ∙ ap (gives_options m id) c.in_ok-candidates.ensures.rows ∙ options-matching m id subs)) in
-    IfOk-weaker c.made_for.result _ _
+    IfOk-weaker c.deliveries_for.result _ _
     (λ made e. e
     ∙ ap (λ l. l ++ map (member_copy m) (turns_in c.in_ok-served.served)) own
     ∙ ap (λ l. unshared_copies A (connected S) subs m ++ map (member_copy m) l)
@@ -129,4 +129,4 @@ returns-clause-copies c =
     ∙ ap (λ l. members (rows_found (map (λ a. a.now) l))) c.as_slice-found.ensures.value
     ∙ ap members c.in_ok-candidates.ensures.rows
     ∙ members-matching A S subs m))
-    c.made_for.ensures.copies
+    c.deliveries_for.ensures.copies

@@ -7,5 +7,5 @@ use Rattle.mq_router.proofs.delivery.members_served.Given as goal
 abbrev pub invariant-loop-at : goal.invariant-loop-at
 invariant-loop-at l =
     (share : Text) → turns_listed share l.served.items
-    ≡ turns_at l.test.readers.now.access.now l.test.readers.now.sessions.now l.test.name.now share
+    ≡ turns_at l.test.view.now.access.now l.test.view.now.sessions.now l.test.name.now share
     (map (λ a. a.now) (take l.at-index l.found))

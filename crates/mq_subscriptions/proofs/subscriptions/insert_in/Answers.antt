@@ -5,7 +5,7 @@ use Rattle.std.proofs.lemmas.Result.{on_ok_weaker, on_err_weaker}
 use Rattle.std.proofs.lemmas.Map.Steps.{set_value_same}
 use Rattle.mq_topic.specs.Levels.{levels}
 use Rattle.mq_tree.specs.Entries.{is_key}
-use Rattle.mq_subscriptions.specs.Filters.{At}
+use Rattle.mq_subscriptions.specs.Filters.{Entry}
 use Rattle.mq_subscriptions.proofs.Outcomes.{by_outcome}
 use Rattle.mq_subscriptions.proofs.TreeLemmas.{tree-joined}
 use Rattle.mq_subscriptions.proofs.subscriptions.insert_in.Goals as goal
@@ -15,8 +15,8 @@ returns-in-Some c =
     let f = c.args.sub_filter.now.filter in
     let tree = c.args.tree.now in
     let key = is_key (levels f) in
-    let v : At = c.in-Some.at.now in
-    let w : At = c.insert.new.self in
+    let v : Entry = c.in-Some.at.now in
+    let w : Entry = c.insert.new.self in
     let found = rw c.in-Some.is at (sym c.get_mut.ensures.value) in
     let set = rw c.in-Some.is at (c.get_mut.follows.holds w) in
     let as_was = set_value_same key tree v found in

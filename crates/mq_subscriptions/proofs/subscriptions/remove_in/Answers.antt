@@ -5,7 +5,7 @@ use Rattle.mq_world.specs.World.{has_key}
 use Rattle.mq_subscriptions.specs.Filters.{all_rows}
 use Rattle.mq_subscriptions.proofs.TreeLemmas.{tree-any, tree-absent_any, tree-left, tree-gone}
 use Rattle.mq_subscriptions.proofs.TreeLemmas.{tree-absent, set-kept, out-kept}
-use Rattle.mq_subscriptions.proofs.AtLemmas.{keyed}
+use Rattle.mq_subscriptions.proofs.EntryLemmas.{keyed}
 use Rattle.mq_subscriptions.proofs.InTurn.{leaving}
 use Rattle.mq_subscriptions.proofs.subscriptions.remove_in.Goals as goal
 

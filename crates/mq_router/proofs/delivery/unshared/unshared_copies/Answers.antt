@@ -17,8 +17,8 @@ pub loop-chunk-preserved : goal.loop-chunk-preserved
 loop-chunk-preserved c =
     let m = message_of c.args.outgoing.now.message in
     let deadline = c.args.outgoing.now.message.deadline in
-    let A = c.args.readers.now.access.now in
-    let S = c.args.readers.now.sessions.now in
+    let A = c.args.view.now.access.now in
+    let S = c.args.view.now.sessions.now in
     let held = c.loop-chunk.invariant in
     let first =
     next-client _ c.loop-chunk.chunk-iterator c.next.new.self c.next.result c.in-Some.chunk
@@ -33,13 +33,13 @@ loop-chunk-preserved c =
     record {
       sorted = first.0;
       copies = ap (λ l. l ++ copies_by A S m left) c.in_ok-add.ensures.copies
-          ∙ copies-first c.args.limit A S m deadline l c.way-way.result c.way-way.ensures.sent
-          c.way-way.ensures.waits (map copy_of c.loop-chunk.made.copies.items) left all first.1
+          ∙ copies-first c.args.limit A S m deadline l c.fate-fate.result c.fate-fate.ensures.sent
+          c.fate-fate.ensures.waits (map copy_of c.loop-chunk.made.copies.items) left all first.1
           ∙ held.copies;
       queued = ap (λ l. l ++ queue_items_by c.args.limit A S m deadline left)
           c.in_ok-add.ensures.queued
-          ∙ begins-first c.args.limit A S m deadline l c.way-way.result c.way-way.ensures.sent
-          c.way-way.ensures.waits (map queue_item_of c.loop-chunk.made.queued.items) left all first.1
+          ∙ begins-first c.args.limit A S m deadline l c.fate-fate.result c.fate-fate.ensures.sent
+          c.fate-fate.ensures.waits (map queue_item_of c.loop-chunk.made.queued.items) left all first.1
           ∙ held.queued;
     }
 
@@ -47,8 +47,8 @@ pub loop-chunk-init : goal.loop-chunk-init
 loop-chunk-init c =
     let m = message_of c.args.outgoing.now.message in
     let deadline = c.args.outgoing.now.message.deadline in
-    let A = c.args.readers.now.access.now in
-    let S = c.args.readers.now.sessions.now in
+    let A = c.args.view.now.access.now in
+    let S = c.args.view.now.sessions.now in
     let rest : chunk_by_rest c.into_iter-chunk-iterator.result ≡ c.args.matches.now =
     ap chunk_by_rest c.into_iter-chunk-iterator.ensures.into_iter_gives
     ∙ c.chunk_by-chunk-items.ensures.rest in

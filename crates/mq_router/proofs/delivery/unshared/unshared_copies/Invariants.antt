@@ -11,14 +11,14 @@ use Rattle.mq_router.proofs.delivery.unshared.unshared_copies.Given as goal
 abbrev pub invariant-loop-chunk : goal.invariant-loop-chunk
 invariant-loop-chunk l = record {
   sorted : AreByClient (match_views (chunk_by_rest l.chunk-iterator));
-  copies : map copy_of l.made.copies.items ++ copies_by l.readers.access.now l.readers.sessions.now
+  copies : map copy_of l.made.copies.items ++ copies_by l.view.access.now l.view.sessions.now
       (message_of l.outgoing.message) (by_client (match_views (chunk_by_rest l.chunk-iterator)))
-      ≡ copies_by l.readers.access.now l.readers.sessions.now (message_of l.outgoing.message)
+      ≡ copies_by l.view.access.now l.view.sessions.now (message_of l.outgoing.message)
       (by_client (match_views l.fn.matches));
-  queued : map queue_item_of l.made.queued.items ++ queue_items_by l.limit l.readers.access.now
-      l.readers.sessions.now (message_of l.outgoing.message) l.outgoing.message.deadline
+  queued : map queue_item_of l.made.queued.items ++ queue_items_by l.limit l.view.access.now
+      l.view.sessions.now (message_of l.outgoing.message) l.outgoing.message.deadline
       (by_client (match_views (chunk_by_rest l.chunk-iterator)))
-      ≡ queue_items_by l.limit l.readers.access.now l.readers.sessions.now
+      ≡ queue_items_by l.limit l.view.access.now l.view.sessions.now
       (message_of l.outgoing.message) l.outgoing.message.deadline
       (by_client (match_views l.fn.matches));
 }

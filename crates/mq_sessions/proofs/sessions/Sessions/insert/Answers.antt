@@ -13,16 +13,16 @@ use Rattle.mq_sessions.proofs.EntryLemmas.{ids-put, length-put}
 use Rattle.mq_sessions.proofs.SessionLemmas.{put-is}
 use Rattle.mq_sessions.proofs.sessions.Sessions.insert.Goals as goal
 
-pub settle-requires : goal.settle-requires
-settle-requires c =
-    let dues = c.make_room.new.ends.entries in
+pub drop_stale_ends-requires : goal.drop_stale_ends-requires
+drop_stale_ends-requires c =
+    let dues = c.reserve_ends.new.ends.entries in
     let session = session_at (rc_str_bytes c.args.id) c.new-session.result in
     subst (AreListed dues) (sym (ap (map session_in) c.in_ok-insert.ensures.entries
     ∙ put-is c.args.id c.new-session.result c.self.inside.by_id.entries
     c.in_ok-insert.ensures.was_ordered))
     (all-with_row session_cmp session_total (IsListed dues) session (sessions_of c.self.inside)
     (no-end dues session (sym (ap end_of c.new-session.ensures.shown)))
-    c.make_room.ensures.indexed.listed)
+    c.reserve_ends.ensures.indexed.listed)
 
 pub invariant_of-self-2 : goal.invariant_of-self-2
 invariant_of-self-2 c =
@@ -30,8 +30,8 @@ invariant_of-self-2 c =
     let session = c.new-session.result in
     let keeps : KeepsId (c.args.id, session) = search rules in (
       record {
-        listed = c.settle.ensures.listed;
-        first = c.settle.ensures.first;
+        listed = c.drop_stale_ends.ensures.listed;
+        first = c.drop_stale_ends.ensures.first;
         room =
             let after = c.insert.new.self.entries in
             let count : length (views_of after) ≡ length after = length-map after session_in in
@@ -41,9 +41,9 @@ invariant_of-self-2 c =
             omega (
               arith,
               connected-most (views_of after),
-              c.in_ok-make_room.ensures.ok,
-              c.settle.ensures.count,
-              c.settle.ensures.room,
+              c.in_ok-reserve_ends.ensures.ok,
+              c.drop_stale_ends.ensures.count,
+              c.drop_stale_ends.ensures.room,
             );
       },
       subst KeepIds (sym c.in_ok-insert.ensures.entries)

@@ -11,8 +11,8 @@ use Rattle.mq_sessions.proofs.SessionLemmas.{removed-is}
 use Rattle.mq_world.proofs.TextKeys.{finds}
 use Rattle.mq_sessions.proofs.sessions.Sessions.remove.Goals as goal
 
-pub settle-requires : goal.settle-requires
-settle-requires c =
+pub drop_stale_ends-requires : goal.drop_stale_ends-requires
+drop_stale_ends-requires c =
     let dues = c.self.inside.ends.entries in
     subst (AreListed dues) (sym (ap (map session_in) c.remove.ensures.entries
     ∙ removed-is c.args.id.now c.self.inside.by_id.entries c.len-count.ensures.ordered))
@@ -22,14 +22,19 @@ settle-requires c =
 pub invariant_of-self : goal.invariant_of-self
 invariant_of-self c = (
   record {
-    listed = c.settle.ensures.listed;
-    first = c.settle.ensures.first;
+    listed = c.drop_stale_ends.ensures.listed;
+    first = c.drop_stale_ends.ensures.first;
     room =
         let fewer = connected-fewer (λ session. not (has_id c.args.id.now session))
         (sessions_of c.self.inside) in
         let count = ap (λ ss. length (connected ss)) (ap (map session_in) c.remove.ensures.entries
         ∙ removed-is c.args.id.now c.self.inside.by_id.entries c.len-count.ensures.ordered) in
-        omega (arith, c.self.invariant.0.room, c.settle.ensures.count, c.settle.ensures.room);
+        omega (
+          arith,
+          c.self.invariant.0.room,
+          c.drop_stale_ends.ensures.count,
+          c.drop_stale_ends.ensures.room,
+        );
   },
   subst KeepIds (sym c.remove.ensures.entries)
       (ids-removed (finds c.args.id.now) c.self.inside.by_id.entries c.self.invariant.1),

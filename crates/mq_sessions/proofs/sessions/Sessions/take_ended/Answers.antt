@@ -21,8 +21,8 @@ returns-then-not-any_until-clause-none c =
     c.any_until.ensures.all c.any_until.ensures.first
     ∙ ap (list_any (has_ended c.args.moment)) c.self.view_is)
 
-pub settle-requires : goal.settle-requires
-settle-requires c =
+pub drop_stale_ends-requires : goal.drop_stale_ends-requires
+drop_stale_ends-requires c =
     let sessions : List Session = sessions_of c.self.inside in
     let rest = c.pop.new.self.entries in
     subst (AreListed rest)
@@ -35,8 +35,8 @@ settle-requires c =
 pub invariant_of-self-2 : goal.invariant_of-self-2
 invariant_of-self-2 c = (
   record {
-    listed = c.settle.ensures.listed;
-    first = c.settle.ensures.first;
+    listed = c.drop_stale_ends.ensures.listed;
+    first = c.drop_stale_ends.ensures.first;
     room =
         let fewer = connected-fewer (λ session. not (has_id c.as_str.result.now session))
         (sessions_of c.self.inside) in
@@ -48,8 +48,8 @@ invariant_of-self-2 c = (
           arith,
           c.self.invariant.0.room,
           c.pop.ensures.room,
-          c.settle.ensures.count,
-          c.settle.ensures.room,
+          c.drop_stale_ends.ensures.count,
+          c.drop_stale_ends.ensures.room,
         );
   },
   subst KeepIds (sym c.remove.ensures.entries)

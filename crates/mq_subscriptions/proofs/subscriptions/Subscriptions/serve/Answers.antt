@@ -1,7 +1,7 @@
 use Rattle.std.proofs.Common.{[], sym, Some}
-use Rattle.mq_subscriptions.specs.Filters.{At}
+use Rattle.mq_subscriptions.specs.Filters.{Entry}
 use Rattle.mq_subscriptions.proofs.AnyLemmas.{listed-turned}
-use Rattle.mq_subscriptions.proofs.AtLemmas.{keyed}
+use Rattle.mq_subscriptions.proofs.EntryLemmas.{keyed}
 use Rattle.mq_subscriptions.proofs.KeyLemmas.{kept-keys}
 use Rattle.mq_subscriptions.proofs.TreeLemmas.{tree-turned, tree-absent}
 use Rattle.mq_subscriptions.proofs.InTurn.{turning, same-itself}
@@ -10,7 +10,7 @@ use Rattle.mq_subscriptions.proofs.subscriptions.Subscriptions.serve.Goals as go
 pub invariant_of-self-2 : goal.invariant_of-self-2
 invariant_of-self-2 c =
     let f = c.args.topic_filter.now in
-    let w : At = c.serve.new.self in
+    let w : Entry = c.serve.new.self in
     let new = c.get_mut.follows.lender w in
     let turned = tree-turned f c.self.inside.tree c.self.invariant.kept c.in-Some.at.now
     (rw c.in-Some.is at (sym c.get_mut.ensures.value)) w c.serve.ensures.filter
@@ -21,7 +21,7 @@ invariant_of-self-2 c =
 
 pub returns : goal.returns
 returns c =
-    let w : At = c.serve.new.self in
+    let w : Entry = c.serve.new.self in
     let new = c.get_mut.follows.lender w in
     let turned = tree-turned c.args.topic_filter.now c.self.inside.tree c.self.invariant.kept
     c.in-Some.at.now (rw c.in-Some.is at (sym c.get_mut.ensures.value)) w c.serve.ensures.filter

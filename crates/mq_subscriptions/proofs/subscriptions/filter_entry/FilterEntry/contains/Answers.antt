@@ -1,6 +1,6 @@
 use Rattle.std.proofs.Common.{◌∙◌}
 use Rattle.mq_subscriptions.specs.Views.{texts}
-use Rattle.mq_subscriptions.proofs.AtLemmas.{at-any-unshared, at-any-shared, unshared-any}
+use Rattle.mq_subscriptions.proofs.EntryLemmas.{at-any-unshared, at-any-shared, unshared-any}
 use Rattle.mq_subscriptions.proofs.subscriptions.filter_entry.FilterEntry.contains.Goals as goal
 
 pub returns-in-None : goal.returns-in-None

@@ -1,6 +1,6 @@
 use Rattle.std.proofs.lemmas.Result.{on_ok_weaker}
 use Rattle.mq_subscriptions.specs.Views.{texts}
-use Rattle.mq_subscriptions.proofs.TurnsAtLemmas.{next-at}
+use Rattle.mq_subscriptions.proofs.EntryTurnLemmas.{next-at}
 use Rattle.mq_subscriptions.proofs.subscriptions.filter_entry.FilterEntry.gather_turns.Goals as goal
 
 pub returns : goal.returns

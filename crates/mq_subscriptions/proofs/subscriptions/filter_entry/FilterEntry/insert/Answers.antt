@@ -4,7 +4,8 @@ use Rattle.std.proofs.lemmas.Result.{on_ok_weaker}
 use Rattle.mq_world.specs.World.{Subscription}
 use Rattle.mq_subscriptions.specs.Filters.{row}
 use Rattle.mq_subscriptions.specs.Views.{texts}
-use Rattle.mq_subscriptions.proofs.AtLemmas.{at-edited, at-edited_shared, unshared-joined, is_here}
+use Rattle.mq_subscriptions.proofs.EntryLemmas.{at-edited, at-edited_shared, unshared-joined}
+use Rattle.mq_subscriptions.proofs.EntryLemmas.{is_here}
 use Rattle.mq_subscriptions.proofs.InTurn.{joining}
 use Rattle.mq_subscriptions.proofs.subscriptions.filter_entry.FilterEntry.insert.Goals as goal
 

@@ -1,5 +1,5 @@
 use Rattle.std.proofs.Common.{◌∙◌, sym, true≢false}
-use Rattle.mq_subscriptions.proofs.AtLemmas.{empty-is, not_empty}
+use Rattle.mq_subscriptions.proofs.EntryLemmas.{empty-is, not_empty}
 use Rattle.mq_subscriptions.proofs.subscriptions.filter_entry.FilterEntry.is_empty.Goals as goal
 
 pub returns-then-is_empty : goal.returns-then-is_empty

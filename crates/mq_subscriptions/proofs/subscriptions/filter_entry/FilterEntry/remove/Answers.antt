@@ -1,7 +1,7 @@
 use Rattle.std.proofs.Common.{refl, None, Some}
 use Rattle.mq_world.specs.World.{Subscription}
 use Rattle.mq_subscriptions.specs.Views.{texts}
-use Rattle.mq_subscriptions.proofs.AtLemmas.{at-edited, at-edited_shared, unshared-left, keyed}
+use Rattle.mq_subscriptions.proofs.EntryLemmas.{at-edited, at-edited_shared, unshared-left, keyed}
 use Rattle.mq_subscriptions.proofs.InTurn.{leaving}
 use Rattle.mq_subscriptions.proofs.subscriptions.filter_entry.FilterEntry.remove.Goals as goal
 

@@ -1,7 +1,7 @@
 use Rattle.std.proofs.Common.{refl, Some}
 use Rattle.mq_world.specs.World.{Subscription}
 use Rattle.mq_subscriptions.specs.Views.{texts}
-use Rattle.mq_subscriptions.proofs.AtLemmas.{at-edited_shared, keyed}
+use Rattle.mq_subscriptions.proofs.EntryLemmas.{at-edited_shared, keyed}
 use Rattle.mq_subscriptions.proofs.InTurn.{turning}
 use Rattle.mq_subscriptions.proofs.subscriptions.filter_entry.FilterEntry.serve.Goals as goal
 

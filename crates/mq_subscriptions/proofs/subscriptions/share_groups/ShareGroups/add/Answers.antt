@@ -1,7 +1,7 @@
 use Rattle.std.proofs.Common.{◌∙◌, sym, ap}
 use Rattle.std.specs.Rc.{rc_str_bytes}
 use Rattle.mq_subscriptions.specs.Filters.{Member, has_client, is_empty}
-use Rattle.mq_subscriptions.proofs.AtLemmas.{group-added, with_one-live}
+use Rattle.mq_subscriptions.proofs.EntryLemmas.{group-added, with_one-live}
 use Rattle.mq_subscriptions.proofs.TextMaps.{lookup-texts, live-put}
 use Rattle.mq_subscriptions.proofs.subscriptions.share_groups.ShareGroups.add.Goals as goal
 

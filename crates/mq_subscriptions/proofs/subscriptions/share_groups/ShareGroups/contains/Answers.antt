@@ -1,5 +1,5 @@
 use Rattle.std.proofs.Common.{◌∙◌, sym, refl}
-use Rattle.mq_subscriptions.proofs.AtLemmas.{group-any, group-absent_any}
+use Rattle.mq_subscriptions.proofs.EntryLemmas.{group-any, group-absent_any}
 use Rattle.mq_subscriptions.proofs.subscriptions.share_groups.ShareGroups.contains.Goals as goal
 
 pub returns-in-Some : goal.returns-in-Some

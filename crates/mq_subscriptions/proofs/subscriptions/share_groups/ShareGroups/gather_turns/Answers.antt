@@ -5,7 +5,7 @@ use Rattle.std.proofs.lemmas.Map.Iter.{rest_more}
 use Rattle.mq_subscriptions.specs.Filters.{row}
 use Rattle.mq_subscriptions.specs.Views.{texts}
 use Rattle.mq_subscriptions.proofs.TextMaps.{ordered-texts}
-use Rattle.mq_subscriptions.proofs.TurnsAtLemmas.{turns-group, turns-more}
+use Rattle.mq_subscriptions.proofs.EntryTurnLemmas.{turns-group, turns-more}
 use Rattle.mq_subscriptions.proofs.subscriptions.share_groups.ShareGroups.gather_turns.Goals as goal
 
 pub loop-share-init : goal.loop-share-init

@@ -3,7 +3,7 @@ use Rattle.mq_world.specs.Lists.{Text}
 use Rattle.mq_subscriptions.specs.Filters.{group_rows}
 use Rattle.mq_subscriptions.specs.Turns.{next_by, turns_listed, turns_of}
 use Rattle.mq_subscriptions.specs.Views.{texts}
-use Rattle.mq_subscriptions.proofs.TurnsAtLemmas.{turns_left}
+use Rattle.mq_subscriptions.proofs.EntryTurnLemmas.{turns_left}
 use Rattle.mq_subscriptions.proofs.subscriptions.share_groups.ShareGroups.gather_turns.Given as goal
 
 abbrev pub invariant-loop-share : goal.invariant-loop-share

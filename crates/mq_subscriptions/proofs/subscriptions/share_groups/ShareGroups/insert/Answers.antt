@@ -7,7 +7,7 @@ use Rattle.mq_world.specs.World.{Subscription, same_key}
 use Rattle.mq_world.proofs.TextKeys.{finds}
 use Rattle.mq_subscriptions.specs.Filters.{Member, has_client, is_empty, row}
 use Rattle.mq_subscriptions.specs.Views.{texts}
-use Rattle.mq_subscriptions.proofs.AtLemmas.{group-edited, with_one-live, own_key}
+use Rattle.mq_subscriptions.proofs.EntryLemmas.{group-edited, with_one-live, own_key}
 use Rattle.mq_subscriptions.proofs.InTurn.{joining, map-with_one, same-is}
 use Rattle.mq_subscriptions.proofs.Outcomes.{by_outcome}
 use Rattle.mq_subscriptions.proofs.TextMaps.{lookup-texts, live-set}

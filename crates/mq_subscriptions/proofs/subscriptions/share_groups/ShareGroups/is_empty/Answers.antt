@@ -1,4 +1,4 @@
-use Rattle.mq_subscriptions.proofs.AtLemmas.{none-is}
+use Rattle.mq_subscriptions.proofs.EntryLemmas.{none-is}
 use Rattle.mq_subscriptions.proofs.subscriptions.share_groups.ShareGroups.is_empty.Goals as goal
 
 pub returns : goal.returns

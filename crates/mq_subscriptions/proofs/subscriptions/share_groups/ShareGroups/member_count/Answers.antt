@@ -3,7 +3,7 @@ use Rattle.std.specs.Map.{values_of}
 use Rattle.std.proofs.lemmas.List.Sums.{sum_by-cons}
 use Rattle.mq_topic.specs.Prefixes.{capped}
 use Rattle.mq_subscriptions.specs.Filters.{GroupList, group_rows}
-use Rattle.mq_subscriptions.proofs.AtLemmas.{group-number}
+use Rattle.mq_subscriptions.proofs.EntryLemmas.{group-number}
 use Rattle.mq_subscriptions.proofs.subscriptions.share_groups.ShareGroups.member_count.Goals as goal
 
 pub loop-group-init : goal.loop-group-init

@@ -4,8 +4,8 @@ use Rattle.mq_world.proofs.TextKeys.{finds}
 use Rattle.mq_subscriptions.specs.Edits.{GroupLeaves}
 use Rattle.mq_subscriptions.specs.Filters.{row}
 use Rattle.mq_subscriptions.specs.Views.{texts}
-use Rattle.mq_subscriptions.proofs.AtLemmas.{group-edited, group-out, group-absent, keyed}
-use Rattle.mq_subscriptions.proofs.AtLemmas.{left_rows, empty_is}
+use Rattle.mq_subscriptions.proofs.EntryLemmas.{group-edited, group-out, group-absent, keyed}
+use Rattle.mq_subscriptions.proofs.EntryLemmas.{left_rows, empty_is}
 use Rattle.mq_subscriptions.proofs.InTurn.{leaving}
 use Rattle.mq_subscriptions.proofs.TextMaps.{live-set, live-out, removed-set}
 use Rattle.mq_subscriptions.proofs.subscriptions.share_groups.ShareGroups.remove.Goals as goal

@@ -2,8 +2,8 @@ use Rattle.std.proofs.Common.{◌∙◌, [], sym, ap, refl, Some}
 use Rattle.mq_world.specs.World.{Subscription, same_key}
 use Rattle.mq_world.proofs.TextKeys.{finds}
 use Rattle.mq_subscriptions.specs.Filters.{has_client, is_empty, row}
-use Rattle.mq_subscriptions.proofs.AtLemmas.{group-edited, group-absent, keyed, own_key}
-use Rattle.mq_subscriptions.proofs.AtLemmas.{put_last-live, found_live}
+use Rattle.mq_subscriptions.proofs.EntryLemmas.{group-edited, group-absent, keyed, own_key}
+use Rattle.mq_subscriptions.proofs.EntryLemmas.{put_last-live, found_live}
 use Rattle.mq_subscriptions.proofs.InTurn.{turning, map-put_last, same-is, same-itself}
 use Rattle.mq_subscriptions.proofs.TextMaps.{live-set}
 use Rattle.mq_subscriptions.proofs.subscriptions.share_groups.ShareGroups.serve.Goals as goal

@@ -1,5 +1,5 @@
 use Rattle.std.specs.Rc.{rc_str_bytes}
-use Rattle.mq_subscriptions.proofs.TurnsAtLemmas.{same_turn}
+use Rattle.mq_subscriptions.proofs.EntryTurnLemmas.{same_turn}
 use Rattle.mq_subscriptions.proofs.subscriptions.turn.Turn.of.Goals as goal
 
 pub returns-clause-row : goal.returns-clause-row

@@ -1,8 +1,0 @@
-use Rattle.std.proofs.Common.{◌∙◌}
-use Rattle.mq_world.specs.Views.{copy_of}
-use Rattle.mq_lines.proofs.ObjectLemmas.{copy_fits}
-use Rattle.mq_lines.proofs.copies.print_copy.Goals as goal
-
-pub returns-clause-fits : goal.returns-clause-fits
-returns-clause-fits c = copy_fits c.args.line (copy_of c.args.delivery.now) _
-    (c.in_ok-print.ensures.same ∙ c.in_ok-set_line.ensures)

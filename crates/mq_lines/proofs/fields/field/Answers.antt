@@ -1,9 +1,0 @@
-use Rattle.std.proofs.Common.{sym, ◌∙◌}
-use Rattle.std.specs.Option.{option_copied}
-use Rattle.mq_lines.proofs.TakenLemmas.{seen, found}
-use Rattle.mq_lines.proofs.fields.field.Goals as goal
-
-pub returns : goal.returns
-returns c = seen c.get.result
-    ∙ sym (found c.args.name.now c.args.members.now.entries (option_copied c.get.result)
-    c.get.ensures.value)

@@ -1,7 +1,0 @@
-use Rattle.std.proofs.Common.{◌∙◌}
-use Rattle.mq_lines.proofs.ObjectLemmas.{reason_fits}
-use Rattle.mq_lines.proofs.printer.print_reason.Goals as goal
-
-pub returns-clause-kept : goal.returns-clause-kept
-returns-clause-kept c = reason_fits c.args.line c.args.reason _
-    (c.in_ok-print.ensures.same ∙ c.in_ok-set_reason.ensures)

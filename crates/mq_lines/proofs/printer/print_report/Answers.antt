@@ -1,8 +1,0 @@
-use Rattle.std.proofs.Common.{◌∙◌}
-use Rattle.mq_lines.specs.Printed.{report_of}
-use Rattle.mq_lines.proofs.ObjectLemmas.{report_fits}
-use Rattle.mq_lines.proofs.printer.print_report.Goals as goal
-
-pub returns-clause-kept : goal.returns-clause-kept
-returns-clause-kept c = report_fits c.args.line (report_of c.args.report) _
-    (c.in_ok-print.ensures.same ∙ c.in_ok-set_report.ensures)

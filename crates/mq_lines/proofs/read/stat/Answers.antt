@@ -1,8 +1,0 @@
-use Rattle.mq_lines.specs.Reading.{stat_fields}
-use Rattle.mq_lines.proofs.WalkLemmas.{begins, step, ends}
-use Rattle.mq_lines.proofs.read.stat.Goals as goal
-
-pub returns-clause-value : goal.returns-clause-value
-unfolding stat_fields
-returns-clause-value c =
-    simp (begins c.of-fields.ensures, step c.skip.ensures, ends) c.finish.ensures.value

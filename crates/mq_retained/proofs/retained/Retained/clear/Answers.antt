@@ -1,0 +1,44 @@
+use Rattle.std.proofs.Common.{◌∙◌, ap, sym, subst, not, Option}
+use Rattle.std.specs.List.{filter}
+use Rattle.mq_tree.specs.Entries.{Entries}
+use Rattle.mq_world.specs.Retained.{has_topic}
+use Rattle.mq_retained.specs.Deadlines.{Pair, Drops, deadline_at}
+use Rattle.mq_retained.specs.Stored.{retained_in, IsSound, RetainedView}
+use Rattle.mq_retained.proofs.FiledLemmas.{sound-filed}
+use Rattle.mq_retained.proofs.RetainedLemmas.{take-retained}
+use Rattle.mq_retained.proofs.IndexLemmas.{pair_at, taken-sound}
+use Rattle.mq_retained.specs.declared.retained.stored.Stored.{Stored}
+use Rattle.mq_retained.proofs.retained.Retained.clear.Goals as goal
+
+pub invariant_of-self : goal.invariant_of-self
+invariant_of-self c =
+    let topic = c.args.topic.now in
+    subst (λ (tree : Entries Stored). IsSound tree c.remove.new.self) (sym c.take.ensures.rest)
+    (taken-sound topic c.self.inside.tree c.self.inside.deadlines c.remove.new.self c.self.invariant
+    (subst (λ (older : Option Pair). Drops older c.self.inside.deadlines c.remove.new.self)
+    (c.in_ok-older.ensures
+    ∙ ap (λ d. pair_at d topic)
+    (c.deadline_at.ensures
+    ∙ ap (λ (k : RetainedView). deadline_at topic k.messages) (sym c.self.view_is)))
+    c.remove.ensures))
+
+pub returns-clause-ok : goal.returns-clause-ok
+returns-clause-ok c =
+    ap retained_in c.take.ensures.rest
+    ∙ take-retained c.args.topic.now c.self.inside.tree c.self.invariant.placed
+    c.self.invariant.ordered
+    ∙ ap (λ (k : RetainedView). filter (λ kept. not (has_topic c.args.topic.now kept)) k.messages)
+    c.self.view_is
+
+pub returns-clause-filed : goal.returns-clause-filed
+returns-clause-filed c =
+    let topic = c.args.topic.now in
+    sound-filed c.take.new.self c.remove.new.self
+    (subst (λ (tree : Entries Stored). IsSound tree c.remove.new.self) (sym c.take.ensures.rest)
+    (taken-sound topic c.self.inside.tree c.self.inside.deadlines c.remove.new.self c.self.invariant
+    (subst (λ (older : Option Pair). Drops older c.self.inside.deadlines c.remove.new.self)
+    (c.in_ok-older.ensures
+    ∙ ap (λ d. pair_at d topic)
+    (c.deadline_at.ensures
+    ∙ ap (λ (k : RetainedView). deadline_at topic k.messages) (sym c.self.view_is)))
+    c.remove.ensures)))

@@ -1,0 +1,17 @@
+use Rattle.std.proofs.Common.{◌≡◌, ◌≤◌, ◌+◌, ◌++◌, List, ℕ, length}
+use Rattle.mq_run.specs.Running.{TakesBytes}
+use Rattle.mq_run.proofs.progress.Progress.take.Given as goal
+
+abbrev pub invariant-lines : goal.invariant-lines
+invariant-lines g l =
+    let taken = g.W.Sink.taken in
+    record {
+      takes : (done : List ℕ) × (l.bytes ≡ done ++ l.rest)
+          × TakesBytes l.fn.self l.self done (taken l.fn.writer) (taken l.writer);
+      counted : g.W.Sink.failures l.writer ≡ g.W.Sink.failures l.fn.writer;
+      lines : l.self.summary.lines + length l.self.line.items + length l.rest
+          ≤ l.fn.self.summary.lines + length l.fn.self.line.items + length l.bytes;
+    }
+
+abbrev pub decreases-lines : goal.decreases-lines
+decreases-lines g l = length l.rest

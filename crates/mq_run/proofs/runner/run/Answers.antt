@@ -1,0 +1,7 @@
+use Rattle.mq_run.proofs.runner.run.Goals as goal
+
+pub returns-clause-ending : goal.returns-clause-ending
+returns-clause-ending g c = rw c.new.ensures at c.run_with.ensures.ending
+
+pub returns-clause-headline : goal.returns-clause-headline
+returns-clause-headline g c = rw c.new.ensures at c.run_with.ensures.headline

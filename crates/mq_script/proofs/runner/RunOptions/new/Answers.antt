@@ -1,7 +1,0 @@
-use Rattle.std.proofs.Common.{refl}
-use Rattle.mq_script.specs.Ending.{script_limit}
-use Rattle.mq_script.proofs.runner.RunOptions.new.Goals as goal
-
-pub returns : goal.returns
-unfolding script_limit
-returns c = refl
