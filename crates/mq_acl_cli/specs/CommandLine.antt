@@ -3,58 +3,20 @@ use Rattle.std.specs.Prelude.{◌≡◌, ◌≢◌, ◌⊎◌, ◌≤◌, ◌<�
 use Rattle.std.specs.Prelude.{Option, Some, None, option_and_then, option_map, codes, map, ⊤}
 use Rattle.std.specs.Option.{option_copied}
 use Rattle.std.specs.Str.{bytes_eq}
-use Rattle.clap.specs.Words.{App, Row, Rule, Text, Kinds, IsAmong, new_app, new_rule, with_rule}
-use Rattle.clap.specs.Words.{with_subcommand}
+use Rattle.clap.specs.Words.{App, Row, Rule, Text, Kinds, IsAmong, new_app, with_subcommand}
 use Rattle.clap.specs.Words.{all_of, first_of, one_of, subcommand_of}
-use Rattle.clap.specs.declared.builder.action.ArgAction.TheVariants.{Append, SetTrue}
 use Rattle.clap.specs.declared.error.ErrorKind.{ErrorKind}
 use Rattle.clap.specs.declared.error.ErrorKind.TheVariants.{DisplayHelp}
+use Rattle.mq_args.specs.Arguments.{flag, option, optional_argument, required_argument}
+use Rattle.mq_args.specs.Arguments.{several_arguments, rule_for, with_rules}
+use Rattle.mq_args.specs.declared.usage.UsageFault.{UsageFault}
+use Rattle.mq_args.specs.declared.usage.UsageFault.TheVariants.{Help, Usage, Memory}
 use Rattle.mq_acl_cli.specs.Files.{input_count}
-use Rattle.mq_acl_cli.specs.declared.command_line.Argument.{Argument}
-use Rattle.mq_acl_cli.specs.declared.command_line.ArgumentKind.{ArgumentKind}
-use Rattle.mq_acl_cli.specs.declared.command_line.ArgumentKind.TheVariants as takes
 use Rattle.mq_acl_cli.specs.declared.command_line.Subcommand.{Subcommand}
-use Rattle.mq_acl_cli.specs.declared.command_line.UsageFault.{UsageFault}
-use Rattle.mq_acl_cli.specs.declared.command_line.UsageFault.TheVariants.{Help, Usage, Memory}
 use Rattle.mq_acl_cli.specs.declared.request.Request.{Request}
 use Rattle.mq_acl_cli.specs.declared.request.Client.{Client}
 use Rattle.mq_acl_cli.specs.declared.request.Question.{Question}
 use Rattle.mq_acl_cli.specs.declared.request.Question.TheVariants as asks
-
--- an argument that has to be there
-abbrev pub argument : Text → Rule
-argument name = record (new_rule name) { value_names = 1; required = true }
-
--- one that has to be there, and may be there several times
-abbrev pub arguments : Text → Rule
-arguments name = record (argument name) { action = Some Append }
-
--- one that may be left out
-abbrev pub optional_argument : Text → Rule
-optional_argument name = record (new_rule name) { value_names = 1 }
-
--- `--NAME VALUE`
-abbrev pub option : Text → Rule
-option name = record (new_rule name) { long = Some name; value_names = 1 }
-
--- `--NAME`
-abbrev pub flag : Text → Rule
-flag name = record (new_rule name) { long = Some name; action = Some SetTrue }
-
-abbrev pub rule_of_kind : Text → ArgumentKind → Rule
-rule_of_kind name takes.Required = argument name
-rule_of_kind name takes.Several = arguments name
-rule_of_kind name takes.Optional = optional_argument name
-rule_of_kind name (takes.Option value) = option name
-rule_of_kind name takes.Flag = flag name
-
-abbrev pub rule_for : Argument → Rule
-rule_for argument = rule_of_kind argument.0.now argument.1
-
--- a command with these arguments too, in turn
-abbrev pub with_rules : App → List Rule → App
-with_rules a [] = a
-with_rules a (r ∷ rest) = with_rules (with_rule a r) rest
 
 abbrev pub app_for : Subcommand → App
 app_for subcommand =
@@ -81,24 +43,24 @@ script_option = option (codes "script")
 abbrev pub compare : App
 compare =
     with_rules (new_app (codes "compare"))
-    (argument (codes "OLD") ∷ json_flag ∷ argument (codes "NEW") ∷ [])
+    (required_argument (codes "OLD") ∷ json_flag ∷ required_argument (codes "NEW") ∷ [])
 
 -- `why FILE CLIENT TOPIC [--user NAME] [--json]`
 abbrev pub why : App
 why =
     with_rules (new_app (codes "why"))
-    (argument (codes "FILE") ∷ json_flag ∷ argument (codes "CLIENT") ∷ argument (codes "TOPIC")
+    (required_argument (codes "FILE") ∷ json_flag ∷ required_argument (codes "CLIENT") ∷ required_argument (codes "TOPIC")
     ∷ user_option ∷ [])
 
 -- `lint FILE.. [--json]`
 abbrev pub lint : App
-lint = with_rules (new_app (codes "lint")) (arguments (codes "FILE") ∷ json_flag ∷ [])
+lint = with_rules (new_app (codes "lint")) (several_arguments (codes "FILE") ∷ json_flag ∷ [])
 
 -- `reach FILE [CLIENT] [FILTER] [--user NAME] [--script SCRIPT] [--json]`
 abbrev pub reach : App
 reach =
     with_rules (new_app (codes "reach"))
-    (argument (codes "FILE") ∷ json_flag ∷ optional_argument (codes "CLIENT")
+    (required_argument (codes "FILE") ∷ json_flag ∷ optional_argument (codes "CLIENT")
     ∷ optional_argument (codes "FILTER") ∷ user_option ∷ script_option ∷ [])
 
 -- a command that wants a subcommand

@@ -8,8 +8,8 @@ use Rattle.mq_acl_cli.specs.Script.{AreTold}
 use Rattle.mq_acl_cli.specs.CommandLine.{Asked, Compare, Why, Lint, Reach, ReachAll}
 use Rattle.mq_acl_cli.specs.CommandLine.{ReadsInputOnce}
 use Rattle.mq_acl_cli.specs.Statuses.{outcome_status}
-use Rattle.mq_acl_cli.specs.declared.command_line.UsageFault.{UsageFault}
-use Rattle.mq_acl_cli.specs.declared.command_line.UsageFault.TheVariants.{Help, Usage, Memory}
+use Rattle.mq_args.specs.declared.usage.UsageFault.{UsageFault}
+use Rattle.mq_args.specs.declared.usage.UsageFault.TheVariants.{Help, Usage, Memory}
 use Rattle.mq_acl_cli.specs.declared.outcome.Outcome.{Outcome}
 use Rattle.mq_acl_cli.specs.declared.outcome.Outcome.TheVariants.{Clear}
 

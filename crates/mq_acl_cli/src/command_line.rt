@@ -1,10 +1,10 @@
 //! The command line.
 ghost use Rattle.std.specs.Prelude.{◌≡◌, List, [], false, map, string_bytes, IfOk};
 ghost use Rattle.std.specs.Prelude.{OnOk, IfErr};
-ghost use Rattle.clap.specs.Words.{Text, Kinds, app_of, rule_of, fault_of, subcommand_of};
-ghost use Rattle.clap.specs.Words.{subcommand_rows_of, new_app, FailsBy, HasKind};
+ghost use Rattle.clap.specs.Words.{Text, Kinds, app_of, fault_of, subcommand_of};
+ghost use Rattle.clap.specs.Words.{subcommand_rows_of, FailsBy};
 ghost use Rattle.clap.specs.declared.builder.command.Command.TheViews.{out-Command as fields_of};
-ghost use Rattle.mq_acl_cli.specs.CommandLine.{mqroute_acl, app_for, rule_for};
+ghost use Rattle.mq_acl_cli.specs.CommandLine.{mqroute_acl, app_for};
 ghost use Rattle.mq_acl_cli.specs.CommandLine.{wanting, with_apps};
 ghost use Rattle.mq_acl_cli.specs.CommandLine.{asked_by, AreGiven, CanNotBeAsked, IsGivenBy};
 ghost use Rattle.mq_acl_cli.specs.CommandLine.{IsFaultOf};
@@ -16,8 +16,8 @@ use crate::help::{
     WHY_AFTER_HELP,
 };
 use crate::request::{Request, request_in};
-use clap::error::ErrorKind;
-use clap::{Arg, ArgAction, ArgMatches, Command, Error};
+use clap::{ArgMatches, Command, Error};
+use mq_args::{Argument, ArgumentKind, UsageFault, described, with_arguments};
 use std::alloc::{AllocError, Global};
 
 // Said of words that ask nothing and that `clap` takes all the same, which `reach` alone has.
@@ -34,75 +34,6 @@ error: standard input can be only one of the files: - stands more than once
 For more information, try 'mqroute-acl --help'.
 ";
 
-/// Why the command line asks for nothing.
-#[derive(Drop)]
-pub enum UsageFault {
-    /// Help is asked for; the text is to be printed on standard output.
-    Help(String),
-    /// The words are not understood; the text says why.
-    Usage(String),
-    /// There was no memory.
-    Memory,
-}
-
-impl From<AllocError> for UsageFault {
-    ghost use Rattle.std.specs.Prelude.{◌≡◌};
-    ghost use Rattle.mq_acl_cli.specs.declared.command_line.UsageFault.TheVariants.{Memory};
-
-    ghost from_gives = { λ _ fault. fault ≡ Memory };
-
-    fn from(_: AllocError) -> UsageFault {
-        UsageFault::Memory
-    }
-}
-
-// An argument of a subcommand: its name, its kind, and its help.
-#[derive(Drop)]
-struct Argument<'a>(&'a str, ArgumentKind<'a>, &'a str);
-
-#[derive(Clone, Copy, Drop)]
-enum ArgumentKind<'a> {
-    // One that has to be there.
-    Required,
-    // One that has to be there, and may be there several times.
-    Several,
-    // One that may be left out.
-    Optional,
-    // `--NAME VALUE`
-    Option(&'a str),
-    // `--NAME`
-    Flag,
-}
-
-impl<'a> Argument<'a> {
-    // In the words of `clap`.
-    fn arg(&self, alloc: Global) -> Arg<'a>
-        ensures { (rule_of result ≡ rule_for self.now) × (result.global ≡ false) }
-    {
-        let Argument(name, kind, help) = *self;
-        let arg = Arg::new(alloc, name).help(help);
-        match kind {
-            ArgumentKind::Required => arg.value_name(name).required(true),
-            ArgumentKind::Several => arg
-                .value_name(name)
-                .required(true)
-                .action(ArgAction::Append),
-            ArgumentKind::Optional => arg.value_name(name),
-            ArgumentKind::Option(value) => arg.long(name).value_name(value),
-            ArgumentKind::Flag => arg.long(name).action(ArgAction::SetTrue),
-        }
-    }
-}
-
-// A command with its name and its help.
-fn described<'a>(alloc: Global, name: &'a str, about: &'a str, after_help: &'a str) -> Command<'a>
-    ensures { (app_of result ≡ new_app name.entry.now) × ((fields_of result).has_globals ≡ false) }
-{
-    Command::new(alloc, name)
-        .about(about)
-        .after_help(after_help)
-}
-
 // A subcommand with its arguments, in the order of help.
 struct Subcommand<'a> {
     name: &'a str,
@@ -114,14 +45,11 @@ struct Subcommand<'a> {
 impl<'a> Subcommand<'a> {
     // In the words of `clap`.
     fn command(&self, alloc: Global) -> Result<Command<'a>, AllocError>
-        ensures { IfOk result (λ c. (app_of c ≡ app_for self.now)
-            × ((fields_of c).has_globals ≡ false)) }
+        ensures app { IfOk result (λ c. app_of c ≡ app_for self.now) }
+        ensures local { IfOk result (λ c. (fields_of c).has_globals ≡ false) }
     {
-        let mut command = described(alloc, self.name, self.about, self.after_help);
-        for argument in self.arguments {
-            command = command.arg(argument.arg(alloc))?;
-        }
-        Ok(command)
+        let named = described(alloc, self.name, self.about, self.after_help);
+        with_arguments(alloc, named, self.arguments)
     }
 }
 
@@ -170,8 +98,8 @@ const REACH: Subcommand<'static> = Subcommand {
     arguments: &[
         Argument("FILE", ArgumentKind::Required, FILE_HELP),
         Argument("json", ArgumentKind::Flag, JSON_HELP),
-        Argument("CLIENT", ArgumentKind::Optional, SUBSCRIBER_HELP),
-        Argument("FILTER", ArgumentKind::Optional, FILTER_HELP),
+        Argument("CLIENT", ArgumentKind::Optional("CLIENT"), SUBSCRIBER_HELP),
+        Argument("FILTER", ArgumentKind::Optional("FILTER"), FILTER_HELP),
         Argument("user", ArgumentKind::Option("NAME"), USER_HELP),
         Argument("script", ArgumentKind::Option("SCRIPT"), SCRIPT_HELP),
     ],
@@ -237,21 +165,6 @@ fn asked<'a>(alloc: Global, matches: &ArgMatches<'a>) -> Result<Request<'a>, Usa
     Ok(request)
 }
 
-// Why `clap` refused the words.
-fn usage_fault(alloc: Global, error: &Error) -> UsageFault
-    ensures { (words : List Text) → (kinds : Kinds) → HasKind kinds error.now
-        → IsFaultOf words kinds result }
-{
-    let Ok(text) = error.to_string(alloc) else {
-        return UsageFault::Memory;
-    };
-    match error.kind() {
-        ErrorKind::DisplayHelp => UsageFault::Help(text),
-        ErrorKind::OutOfMemory => UsageFault::Memory,
-        _ => UsageFault::Usage(text),
-    }
-}
-
 /// What the words of a command line ask for; the first of them is the program's name.
 pub fn arguments<'a>(alloc: Global, words: &'a [String]) -> Result<Request<'a>, UsageFault>
     ensures ok { IfOk result (AreGiven (map string_bytes words.entry.now)) }
@@ -261,6 +174,6 @@ pub fn arguments<'a>(alloc: Global, words: &'a [String]) -> Result<Request<'a>, 
 {
     match matches_in(alloc, words) {
         Ok(matches) => asked(alloc, &matches),
-        Err(error) => Err(usage_fault(alloc, &error)),
+        Err(error) => Err(UsageFault::of(alloc, &error)),
     }
 }

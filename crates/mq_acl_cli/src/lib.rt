@@ -23,12 +23,13 @@ mod searched;
 mod why;
 
 pub use changes::{Changes, find_changes};
-pub use command_line::{UsageFault, arguments};
+pub use command_line::arguments;
 pub use compare::tell_changes;
 pub use explanation::{Explanation, explain};
 pub use failure::{FAILED, Failure, UNREADABLE};
 pub use lint::add_lint;
 pub use list_file::{FileFault, read_text};
+pub use mq_args::UsageFault;
 pub use outcome::Outcome;
 pub use program::start;
 pub use reach::tell_reach;

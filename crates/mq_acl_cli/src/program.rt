@@ -11,7 +11,7 @@ ghost use Rattle.mq_acl_cli.specs.CommandLine.{Asked, ReadsInputOnce, files_of};
 ghost use Rattle.mq_acl_cli.specs.Program.{IsAnswer, IsAnswered, TellsUsage};
 ghost use Rattle.mq_acl_cli.specs.Statuses.{failure_status, outcome_status};
 
-use crate::command_line::{UsageFault, arguments};
+use crate::command_line::arguments;
 use crate::compare::tell_changes;
 use crate::failure::{FAILED, Failure, UNREADABLE};
 use crate::files::{is_input, text_of};
@@ -23,6 +23,7 @@ use crate::request::{Client, Question, Request};
 use crate::script::tell_subscriptions;
 use crate::why::tell_why;
 use mq_acl_print::ListText;
+use mq_args::UsageFault;
 use std::alloc::{AllocError, Global};
 use std::fs;
 use std::io::{Read, Write};

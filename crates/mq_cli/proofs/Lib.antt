@@ -3,4 +3,3 @@ pub mod AclFileLemmas
 pub mod NumberLemmas
 pub mod FlagLemmas
 pub mod ProgramLemmas
-pub mod CommandLineLemmas

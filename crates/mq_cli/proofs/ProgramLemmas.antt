@@ -7,11 +7,12 @@ use Rattle.clap.specs.Words.{Kinds, IsAmong}
 use Rattle.clap.specs.declared.error.ErrorKind.TheVariants.{DisplayHelp}
 use Rattle.mq_world.specs.World.{World, Limits, fresh_world, empty_world, within}
 use Rattle.mq_cli.specs.declared.command_line.Options.{Options}
-use Rattle.mq_cli.specs.declared.command_line.UsageFault.{UsageFault}
-use Rattle.mq_cli.specs.declared.command_line.UsageFault.TheVariants.{Help, Usage, Memory}
+use Rattle.mq_args.specs.declared.usage.UsageFault.{UsageFault}
+use Rattle.mq_args.specs.declared.usage.UsageFault.TheVariants.{Help, Usage, Memory}
 use Rattle.mq_cli.specs.declared.failure.Failure.{Failure}
 use Rattle.mq_cli.specs.declared.failure.Failure.TheVariants as failure
-use Rattle.mq_cli.specs.CommandLine.{IsFaultOf, AreGiven, given}
+use Rattle.mq_args.specs.Usage.{IsFaultOf}
+use Rattle.mq_cli.specs.CommandLine.{AreGiven, given}
 use Rattle.mq_run.specs.Ending.{AppendsSome}
 use Rattle.mq_run.specs.Output.{output}
 use Rattle.mq_cli.specs.Program.{script_file, failure_status, limits_by, limits_given, BeginsIn}

@@ -1,56 +1,13 @@
 -- The command line of the program, in the words of `clap`.
-use Rattle.std.specs.Prelude.{◌≡◌, ◌≢◌, ◌↔◌, ℕ, ◌^◌, ◌&&◌, Bool, nat_lt, if◌then◌else◌, List}
-use Rattle.std.specs.Prelude.{[], ◌∷◌, length, Option, Some, None, option_map, option_and_then}
+use Rattle.std.specs.Prelude.{◌≡◌, ◌↔◌, ℕ, ◌^◌, ◌&&◌, Bool, nat_lt, if◌then◌else◌, List}
+use Rattle.std.specs.Prelude.{length, Option, Some, None, option_map, option_and_then}
 use Rattle.std.specs.Prelude.{codes, string_bytes, IsTrue}
 use Rattle.std.specs.List.{list_all}
 use Rattle.std.specs.Char.{digit_value}
 use Rattle.std.specs.Str.Parse.{digits_value, without_leading_plus}
-use Rattle.clap.specs.Words.{App, Rule, Text, Kinds, IsAmong, new_app, new_rule, with_rule}
-use Rattle.clap.specs.Words.{first_of, one_of, matches_of}
-use Rattle.clap.specs.declared.builder.action.ArgAction.TheVariants.{SetTrue}
-use Rattle.clap.specs.declared.builder.value_parser.ValueParser.TheVariants.{Unsigned}
-use Rattle.clap.specs.declared.error.ErrorKind.{ErrorKind}
-use Rattle.clap.specs.declared.error.ErrorKind.TheVariants.{DisplayHelp}
-use Rattle.mq_cli.specs.declared.command_line.Argument.{Argument}
-use Rattle.mq_cli.specs.declared.command_line.ArgumentKind.{ArgumentKind}
-use Rattle.mq_cli.specs.declared.command_line.ArgumentKind.TheVariants as takes
-use Rattle.mq_cli.specs.declared.command_line.UsageFault.{UsageFault}
-use Rattle.mq_cli.specs.declared.command_line.UsageFault.TheVariants.{Help, Usage, Memory}
+use Rattle.clap.specs.Words.{App, Rule, Text, new_app, with_rule, first_of, one_of, matches_of}
+use Rattle.mq_args.specs.Arguments.{flag, number_option, option, optional_argument}
 use Rattle.mq_cli.specs.declared.command_line.Options.{Options}
-
--- an argument that may be left out
-abbrev pub optional_argument : Text → Rule
-optional_argument name = record (new_rule name) { value_names = 1 }
-
--- `--NAME VALUE`
-abbrev pub option : Text → Rule
-option name = record (new_rule name) { long = Some name; value_names = 1 }
-
--- an option that takes a whole number of 32 bits, with no minus before it
-abbrev pub number_option : Text → Rule
-number_option name = record (new_rule name) {
-  long = Some name;
-  value_names = 1;
-  parser = Some (Unsigned 0 4294967295);
-}
-
--- `--NAME`
-abbrev pub flag : Text → Rule
-flag name = record (new_rule name) { long = Some name; action = Some SetTrue }
-
-abbrev pub rule_of_kind : Text → ArgumentKind → Rule
-rule_of_kind name (takes.Optional value) = optional_argument name
-rule_of_kind name (takes.Option value) = option name
-rule_of_kind name takes.Number = number_option name
-rule_of_kind name takes.Flag = flag name
-
-abbrev pub rule_for : Argument → Rule
-rule_for argument = rule_of_kind argument.0.now argument.1
-
--- a command with these arguments too, in turn
-abbrev pub with_rules : App → List Rule → App
-with_rules a [] = a
-with_rules a (r ∷ rest) = with_rules (with_rule a r) rest
 
 -- `--acl-file FILE`
 abbrev pub acl_file : Rule
@@ -100,9 +57,3 @@ pub record AreGiven (words : List Text) (options : Options) : Type 0 where
   pub max_queued : options.max_queued ≡ number_given (codes "max-queued") words
   pub unbuffered : IsTrue options.unbuffered ↔ IsGiven (codes "unbuffered") words
   pub script : option_map string_bytes options.script ≡ given (codes "script") words
-
--- why the words are refused, unless memory ran out: of some kind that they have
-abbrev pub IsFaultOf : Kinds → UsageFault → Type 0
-IsFaultOf kinds (Help text) = IsAmong DisplayHelp kinds
-IsFaultOf kinds (Usage text) = (k : ErrorKind) × (k ≢ DisplayHelp) × IsAmong k kinds
-IsFaultOf kinds Memory = Unit {0}

@@ -11,8 +11,8 @@ use Rattle.mq_run.specs.Output.{refused_from, output, Summarizes}
 use Rattle.mq_jsonl.specs.Lines.{all_lines}
 use Rattle.mq_cli.specs.AclFile.{IsAnswerTo}
 use Rattle.mq_run.specs.Ending.{AppendsSome}
-use Rattle.mq_cli.specs.declared.command_line.UsageFault.{UsageFault}
-use Rattle.mq_cli.specs.declared.command_line.UsageFault.TheVariants.{Help, Usage, Memory}
+use Rattle.mq_args.specs.declared.usage.UsageFault.{UsageFault}
+use Rattle.mq_args.specs.declared.usage.UsageFault.TheVariants.{Help, Usage, Memory}
 use Rattle.mq_cli.specs.declared.failure.Failure.{Failure}
 use Rattle.mq_cli.specs.declared.failure.Failure.TheVariants as failure
 

@@ -1,14 +1,13 @@
 //! The command line.
-ghost use Rattle.std.specs.Prelude.{◌≡◌, List, [], false, map, option_map, string_bytes, IfOk};
+ghost use Rattle.std.specs.Prelude.{◌≡◌, List, [], map, option_map, string_bytes, IfOk};
 ghost use Rattle.std.specs.Prelude.{OnOk, IfErr};
-ghost use Rattle.clap.specs.Words.{app_of, rule_of, rows_of, found_of, matches_of, fault_of};
-ghost use Rattle.clap.specs.Words.{Text, Kinds, FailsBy, HasKind};
-ghost use Rattle.mq_cli.specs.CommandLine.{mqroute, rule_for, with_rules};
-ghost use Rattle.mq_cli.specs.CommandLine.{AreGiven, IsFaultOf};
+ghost use Rattle.clap.specs.Words.{app_of, rows_of, found_of, matches_of, fault_of};
+ghost use Rattle.clap.specs.Words.{Text, FailsBy};
+ghost use Rattle.mq_args.specs.Usage.{IsFaultOf};
+ghost use Rattle.mq_cli.specs.CommandLine.{mqroute, AreGiven};
 
-use clap::builder::ValueParser;
-use clap::error::ErrorKind;
-use clap::{Arg, ArgAction, ArgMatches, Command, Error};
+use clap::{ArgMatches, Command, Error};
+use mq_args::{Argument, ArgumentKind, UsageFault, described, with_arguments};
 use std::alloc::{AllocError, Global};
 
 const ABOUT: &str = "Answers a script of MQTT 5.0 routing commands, line by line";
@@ -86,89 +85,14 @@ impl Drop for Options {
     }
 }
 
-/// Why the command line gives no options.
-#[derive(Debug, Drop)]
-pub enum UsageFault {
-    /// Help is asked for; the text is to be printed on standard output.
-    Help(String),
-    /// The words are not understood; the text says why.
-    Usage(String),
-    /// There was no memory.
-    Memory,
-}
-
-impl From<AllocError> for UsageFault {
-    ghost use Rattle.std.specs.Prelude.{◌≡◌};
-    ghost use Rattle.mq_cli.specs.declared.command_line.UsageFault.TheVariants.{Memory};
-
-    ghost from_gives = { λ _ fault. fault ≡ Memory };
-
-    fn from(_: AllocError) -> UsageFault {
-        UsageFault::Memory
-    }
-}
-
-// An argument: its name, its kind, and its help.
-#[derive(Drop)]
-struct Argument<'a>(&'a str, ArgumentKind<'a>, &'a str);
-
-#[derive(Clone, Copy, Drop)]
-enum ArgumentKind<'a> {
-    // One that may be left out.
-    Optional(&'a str),
-    // `--NAME VALUE`
-    Option(&'a str),
-    // `--NAME N`
-    Number,
-    // `--NAME`
-    Flag,
-}
-
-impl<'a> Argument<'a> {
-    // In the words of `clap`. The parser of an unsigned number refuses every minus sign; that of
-    // `u32` takes `-0` for 0.
-    fn arg(&self, alloc: Global) -> Arg<'a>
-        ensures { (rule_of result ≡ rule_for self.now) × (result.global ≡ false) }
-    {
-        let Argument(name, kind, help) = *self;
-        let arg = Arg::new(alloc, name).help(help);
-        match kind {
-            ArgumentKind::Optional(value) => arg.value_name(value),
-            ArgumentKind::Option(value) => arg.long(name).value_name(value),
-            ArgumentKind::Number => arg
-                .long(name)
-                .value_name("N")
-                .value_parser(ValueParser::unsigned(0, u64::from(u32::MAX))),
-            ArgumentKind::Flag => arg.long(name).action(ArgAction::SetTrue),
-        }
-    }
-}
-
-// The command with these arguments too, in the order of help.
-fn with_arguments<'a>(
-    alloc: Global,
-    mut command: Command<'a>,
-    arguments: &[Argument<'a>],
-) -> Result<Command<'a>, AllocError>
-    ensures { IfOk result (λ c. app_of c
-        ≡ with_rules (app_of command.entry) (map rule_for arguments.now)) }
-{
-    for argument in arguments {
-        command = command.arg(argument.arg(alloc))?;
-    }
-    Ok(command)
-}
-
 /// `mqroute [--acl-file FILE] [--max-retained N] [--max-queued N] [--unbuffered] [SCRIPT]`.
 fn command<'a>(alloc: Global) -> Result<Command<'a>, AllocError>
     ensures { IfOk result (λ c. app_of c ≡ mqroute) }
 {
-    let described = Command::new(alloc, "mqroute")
-        .about(ABOUT)
-        .after_help(AFTER_HELP);
+    let named = described(alloc, "mqroute", ABOUT, AFTER_HELP);
     with_arguments(
         alloc,
-        described,
+        named,
         &[
             Argument("acl-file", ArgumentKind::Option("FILE"), ACL_FILE_HELP),
             Argument("max-retained", ArgumentKind::Number, MAX_RETAINED_HELP),
@@ -214,20 +138,6 @@ fn options_in(alloc: Global, matches: &ArgMatches<'_>) -> Result<Options, UsageF
     })
 }
 
-// Why `clap` refused the words.
-fn usage_fault(alloc: Global, error: &Error) -> UsageFault
-    ensures { (kinds : Kinds) → HasKind kinds error.now → IsFaultOf kinds result }
-{
-    let Ok(text) = error.to_string(alloc) else {
-        return UsageFault::Memory;
-    };
-    match error.kind() {
-        ErrorKind::DisplayHelp => UsageFault::Help(text),
-        ErrorKind::OutOfMemory => UsageFault::Memory,
-        _ => UsageFault::Usage(text),
-    }
-}
-
 /// The options in the words of a command line, of which the first is the program's name.
 pub fn arguments(alloc: Global, words: &[String]) -> Result<Options, UsageFault>
     ensures ok { IfOk result (AreGiven (map string_bytes words.now)) }
@@ -236,6 +146,6 @@ pub fn arguments(alloc: Global, words: &[String]) -> Result<Options, UsageFault>
 {
     match matches_in(alloc, words) {
         Ok(matches) => options_in(alloc, &matches),
-        Err(error) => Err(usage_fault(alloc, &error)),
+        Err(error) => Err(UsageFault::of(alloc, &error)),
     }
 }

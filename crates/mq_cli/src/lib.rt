@@ -10,8 +10,9 @@ mod failure;
 mod program;
 
 pub use acl_file::{AclFileFault, read_acl};
-pub use command_line::{Options, UsageFault, arguments};
+pub use command_line::{Options, arguments};
 pub use failure::UNREADABLE;
+pub use mq_args::UsageFault;
 pub use mq_jsonl::{LineFault, print_answer, print_line_fault, print_refusal, read_line};
 pub use mq_run::{
     DeviceFault, RunFault, RunOptions, Sink, Source, StdSink, StdSource, Summary, exit_status, run,

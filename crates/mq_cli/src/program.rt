@@ -9,7 +9,8 @@ ghost use Rattle.mq_world.specs.World.{World, empty_world, within};
 ghost use Rattle.mq_world.specs.Views.{limits_of};
 ghost use Rattle.mq_router.specs.StandsFor.{StandsFor};
 ghost use Rattle.mq_cli.specs.AclFile.{IsAnswerTo};
-ghost use Rattle.mq_cli.specs.CommandLine.{mqroute, given, IsGiven, IsFaultOf};
+ghost use Rattle.mq_args.specs.Usage.{IsFaultOf};
+ghost use Rattle.mq_cli.specs.CommandLine.{mqroute, given, IsGiven};
 ghost use Rattle.mq_run.specs.Ending.{AppendsSome};
 ghost use Rattle.mq_run.specs.Output.{output};
 ghost use Rattle.mq_cli.specs.Program.{script_file, failure_status, limits_by, limits_given};
@@ -18,9 +19,10 @@ ghost use Rattle.mq_cli.specs.Program.{BeginsWith, BeginsIn, IsScript, AnswersSc
 ghost use Rattle.mq_cli.specs.Program.{WritesFront};
 
 use crate::acl_file::read_acl;
-use crate::command_line::{Options, UsageFault, arguments};
+use crate::command_line::{Options, arguments};
 use crate::failure::{Failure, UNREADABLE};
 use mq_acl::Acl;
+use mq_args::UsageFault;
 use mq_router::Router;
 use mq_run::{
     RUN_FAILED, RunFault, RunOptions, Sink, Source, StdSource, Summary, exit_status, flush,

@@ -9,5 +9,5 @@ returns c =
     IfOk-weaker c.wanting_one_of.result _ _
     (λ whole e. e ∙ ap (λ a. with_subcommand (with_subcommand (with_subcommand
     (with_subcommand (wanting a) compare.top) why.top) lint.top) reach.top)
-    c.described-named.ensures.0)
+    c.described-named.ensures.app)
     c.wanting_one_of.ensures

@@ -11,7 +11,7 @@ pub loop-subcommand-preserved : goal.loop-subcommand-preserved
 loop-subcommand-preserved c =
     subcommand_added c.loop-subcommand.command c.in_ok-command-2.command c.args.subcommands.now
     c.loop-subcommand.subcommand-index _ c.loop-subcommand-test.true c.in_ok-command-2.ensures
-    c.in_ok-command.ensures c.loop-subcommand.invariant
+    (c.in_ok-command.ensures.app, c.in_ok-command.ensures.local) c.loop-subcommand.invariant
 
 pub returns : goal.returns
 returns c =

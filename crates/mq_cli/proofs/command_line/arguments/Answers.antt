@@ -12,5 +12,5 @@ returns-in-Ok-clause-ok c =
 
 pub returns-in-Err-clause-err : goal.returns-in-Err-clause-err
 returns-in-Err-clause-err c =
-    c.usage_fault.ensures (fault_of mqroute (map string_bytes c.args.words.now))
+    c.of.ensures (fault_of mqroute (map string_bytes c.args.words.now))
     c.in-Err.ensures.kinds

@@ -1,0 +1,10 @@
+use Rattle.std.proofs.Common.{◌∙◌, ap}
+use Rattle.clap.specs.Simple.{app_of_fields}
+use Rattle.mq_args.proofs.argument.described.Goals as goal
+
+pub returns-clause-app : goal.returns-clause-app
+returns-clause-app c =
+    ap app_of_fields c.after_help.ensures ∙ ap app_of_fields c.about.ensures ∙ c.new.ensures.app
+
+pub returns-clause-local : goal.returns-clause-local
+returns-clause-local c = rw (c.after_help.ensures, c.about.ensures) c.new.ensures.local
