@@ -5,25 +5,25 @@ from worked import PROGRAM
 from mqroute import Oracle
 from mqroute_tools.live.broker_diff import (
     Acknowledged, copies_of, different_copies, different_order, different_reasons)
+from mqroute_tools.live.line_difference import LineDifference
 from mqroute_tools.live.wills import Wills
 from mqroute_tools.script.sessions import Sessions
-from mqroute_tools.search.difference_kinds import Difference, separate
 from mqroute_tools.search.finds import Script
-from mqroute_tools.search.random_scripts import Use
 
 
 class Fake:
     """`taken` gives what the broker takes the commands of a script for, line by line."""
 
-    def __init__(self, taken: Callable[[Script], Script], use: Use = Use()) -> None:
-        self.taken, self.use = taken, use
+    def __init__(self, taken: Callable[[Script], Script]) -> None:
+        self.taken = taken
         self.oracle = Oracle(program=str(PROGRAM))
         self.scripts: list[Script] = []
 
     def can_run(self, script: Script) -> bool:
         return True
 
-    def run(self, script: Script, blocks: list) -> list[Difference]:
+    def run(self, script: Script, blocks: list, until: float = 0,
+            patience: float | None = None) -> list[LineDifference]:
         """What a will does is compared where its connection ends."""
         self.scripts.append(script)
         sessions, found, answers = Sessions(), [], self.oracle.blocks(self.taken(script))
@@ -37,9 +37,10 @@ class Fake:
             sessions.follow(command)
             ours, copies = copies_of(block), copies_of(theirs)
             texts = different_copies(ours, copies, sessions) + different_order(ours, copies)
-            found += separate(
-                number, "will" if number in wills.due else command["do"],
-                texts + different_reasons(command, block, Acknowledged(theirs.reason), present))
+            texts += different_reasons(command, block, Acknowledged(theirs.reason), present)
+            if texts:
+                found.append(LineDifference(
+                    number, "will" if number in wills.due else command["do"], texts))
         return found
 
 

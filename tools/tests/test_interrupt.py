@@ -17,6 +17,7 @@ from test_replay import PAHO, OnABroker
 from worked import HERE, PROGRAM, wants_program
 from mqroute import Oracle
 from mqroute_tools.search.finds import Search
+from mqroute_tools.search.parts import Use
 from mqroute_tools.search.search import searched
 
 # What a tool reads while it waits for more of its standard input.
@@ -81,29 +82,25 @@ class Reading(unittest.TestCase):
 class Searching(unittest.TestCase):
     def test_what_was_found(self):
         """After the 30th script it is stopped."""
-        broker, scripts = Fake(expiry_0_is_none), []
-        one = Search(broker, Oracle(program=str(PROGRAM)))
+        one = Search(Fake(expiry_0_is_none), Oracle(program=str(PROGRAM)))
         all_of = one.all_of
 
         def stopped(script):
-            scripts.append(script)
-            if len(scripts) == 30:
+            if one.number == 30:
                 raise KeyboardInterrupt
             return all_of(script)
         one.all_of = stopped
-        options = argparse.Namespace(save=None, known=[], seed=1, without=[])
+        options = argparse.Namespace(save=None, seed=1, only=None, scripts=None, json=False)
         with (contextlib.redirect_stdout(io.StringIO()) as out,
               contextlib.redirect_stderr(io.StringIO()) as told,
-              unittest.mock.patch("mqroute_tools.search.search.KNOWN", []),
               self.assertRaises(KeyboardInterrupt)):
-            searched(one, options)
-        heads = [line.partition(", with")[0] for line in out.getvalue().splitlines()
-                 if line.startswith("find ")]
+            searched(one, Use(), [], options)
+        heads = [line for line in out.getvalue().splitlines() if line.startswith("find ")]
         self.assertGreater(len(heads), 0)
         lines = [line.partition(": ")[2] for line in told.getvalue().splitlines()]
-        self.assertEqual(lines[1:-1], heads)
-        self.assertRegex(lines[-1], rf"^30 scripts, \d+ runs in \d+ s; {len(heads)} new kinds? of "
-                         r"differences; \d+ not seen again$")
+        self.assertEqual(lines[:-1], heads)
+        self.assertRegex(lines[-1], rf"^29 scripts of seed 1, \d+ runs in \d+ s; {len(heads)} new "
+                         r"kinds? of differences; \d+ not seen again$")
 
 
 @unittest.skipUnless(PAHO, "there is no python3-paho-mqtt")

@@ -1,12 +1,14 @@
 """The random scripts, how they are made smaller, and which differences are of one kind."""
 import json
-import random
 import unittest
 
 from worked import PROGRAM, wants_program
 from mqroute import Oracle
-from mqroute_tools.search.difference_kinds import Kind, separate, uses
-from mqroute_tools.search.random_scripts import ACCESS, PARTS, Maker, Use, fresh, with_names
+from mqroute_tools.script.fresh_names import fresh, with_names
+from mqroute_tools.search.difference_kinds import Difference, Kind, separate, uses
+from mqroute_tools.search.exercised import Exercised
+from mqroute_tools.search.parts import ACCESS, CLOCK, PARTS, Use
+from mqroute_tools.search.random_scripts import Maker
 from mqroute_tools.search.shrinking import connected, shrink
 
 A = {"do": "connect", "client": "a"}
@@ -16,8 +18,8 @@ PUBLISH = {"do": "publish", "client": "a", "topic": "x", "payload": "1"}
 
 class Scripts(unittest.TestCase):
     def made(self, use: Use) -> str:
-        maker = Maker(random.Random(3), use)
-        return "\n".join(json.dumps(maker.script()) for _ in range(300))
+        maker = Maker(3, use)
+        return "\n".join(json.dumps(maker.script(number)) for number in range(300))
 
     SIGNS = {"groups": r"\$share", "retained": '"retain"', "wildcards": '"filter": "[^"]*[+#]',
              "identifiers": '"id"',
@@ -32,19 +34,40 @@ class Scripts(unittest.TestCase):
             self.assertNotRegex(self.made(Use().without([part])), sign)
 
     def test_same_seed_same_scripts(self):
-        self.assertEqual(self.made(Use()), self.made(Use()))
+        """Whichever were made before."""
+        maker = Maker(1, Use())
+        first = [maker.script(number) for number in (1, 2, 3)]
+        self.assertEqual(Maker(1, Use()).script(3), first[2])
+        self.assertNotEqual(Maker(2, Use()).script(3), first[2])
 
     @wants_program
     def test_every_line_is_accepted(self):
-        maker = Maker(random.Random(5), Use())
+        maker = Maker(5, Use(frozenset([*PARTS, CLOCK])))
         with Oracle(program=str(PROGRAM)) as oracle:
-            for _ in range(50):
-                for answers in oracle.run(fresh(maker.script(), "Z9Z")):
+            for number in range(60):
+                for answers in oracle.run(fresh(maker.script(number), "Z9Z")):
                     self.assertNotIn("refused", answers[-1])
+
+    @wants_program
+    def test_much_happens(self):
+        """In so many of a hundred scripts at least."""
+        exercised = Exercised()
+        with Oracle(program=str(PROGRAM)) as oracle:
+            for number in range(200):
+                script = Maker(1, Use()).script(number)
+                exercised.add(script, oracle.blocks(script))
+        for what, wanted in (("a message to three clients and more", 35),
+                             ("a group with two connected members served", 20),
+                             ("a copy with two identifiers", 4), ("a message that waited", 8),
+                             ("two messages that waited and more", 4),
+                             ("two retained messages and more at a subscribe", 5),
+                             ("a will sent", 4), ("a session resumed", 20)):
+            self.assertGreaterEqual(exercised.counts[what] / 2, wanted, what)
 
     def test_fresh_names(self):
         for name, wanted in (
                 ("x", "xZ"), ("x/+/#", "xZ/+/#"), ("/", "/"), ("#", "#"), ("$x/y", "$xZ/yZ"),
+                ("$SYS/x", "$SYS/xZ"),
                 ("$share/g/x/#", "$share/gZ/xZ/#"), ("$share/g/#", "$share/gZ/#")):
             self.assertEqual(fresh([{"do": "subscribe", "client": "a", "filter": name}], "Z"),
                              [{"do": "subscribe", "client": "aZ", "filter": wanted}])
@@ -54,13 +77,13 @@ class Scripts(unittest.TestCase):
 
 class Shrinks(unittest.TestCase):
     def test_to_what_is_needed(self):
-        maker = Maker(random.Random(2), Use())
+        maker = Maker(2, Use())
         tried = 0
 
         def still(script):
             return any(c["do"] == "publish" and c.get("retain") and c["topic"].startswith("$")
                        for c in script) and connected(script) == script
-        for script in (maker.script() for _ in range(200)):
+        for script in map(maker.script, range(200)):
             if still(script):
                 tried += 1
                 self.assertEqual(
@@ -97,6 +120,10 @@ class Kinds(unittest.TestCase):
                 (full.replace('"2"', '"3"'), ["payload"])):
             self.assertEqual(
                 self.whats(full, theirs), [f"publish: {what}" for what in wanted], theirs)
+        self.assertEqual(
+            self.whats(full.replace("expiry 0", "expiry 1000"),
+                       full.replace("expiry 0", "expiry 999").replace("[3, 7]", "[7]")),
+            ["publish: missing"])
         self.assertEqual(self.whats("nothing", full), ["publish: more"])
         self.assertEqual(self.whats("2 copies", "1 copy"), ["publish: missing"])
         self.assertEqual(self.whats("1 copy", "3 copies"), ["publish: more"])
@@ -109,6 +136,15 @@ class Kinds(unittest.TestCase):
                          ["publish: missing"] * 2)
         self.assertEqual([one.what for one in separate(3, "publish", [nobody])],
                          ["publish: reason: mqroute 0, broker 16"])
+
+    def test_as_stored(self):
+        """A little of an interval may be gone."""
+        one = Difference(3, "publish: retain", ["   a x", "retain true, expiry 1000"])
+        for texts, wanted in ((["   a x", "retain true, expiry 998"], True),
+                              (["   a x", "retain true, expiry 990"], False),
+                              (["   a x", "retain true"], False), (["   a x"], False)):
+            self.assertEqual(one.is_as(one._replace(texts=texts)), wanted, texts)
+        self.assertFalse(one.is_as(one._replace(line=4)))
 
     def test_covers(self):
         small, great = Kind("publish: missing", frozenset("ab")), Kind(
@@ -129,16 +165,17 @@ class Kinds(unittest.TestCase):
 class AccessLists(unittest.TestCase):
     def test_names(self):
         """A list speaks of the names that its script has."""
-        text = "topic read x/+\npattern write %c/y\ntopic #\n"
+        text = "topic read x/+\nuser u\npattern write %c/y\ntopic #\n"
         [made] = fresh([{"do": "acl", "text": text}], "Z")
-        self.assertEqual(made["text"], "topic read xZ/+\npattern write %c/yZ\ntopic #\n")
+        self.assertEqual(made["text"],
+                         "topic read xZ/+\nuser u\npattern write %c/yZ\ntopic #\n")
         self.assertEqual(with_names(made["text"], lambda name: name.replace("Z", "")), text)
 
     def test_only_where_they_are_asked_for(self):
         def lists(use: Use) -> int:
-            maker = Maker(random.Random(1), use)
-            return sum(
-                any(command["do"] == "acl" for command in maker.script()) for _ in range(100))
+            maker = Maker(1, use)
+            return sum(any(command["do"] == "acl" for command in maker.script(number))
+                       for number in range(100))
         self.assertEqual(lists(Use()), 0)
         self.assertGreater(lists(Use(frozenset([*PARTS, ACCESS]))), 50)
 

@@ -2,11 +2,9 @@
 mosquitto, where there is one."""
 import json
 import os
-import random
 import subprocess
 import tempfile
 import unittest
-import unittest.mock
 from pathlib import Path
 
 import mosquitto
@@ -17,11 +15,15 @@ from mosquitto import PAHO, wants_paho
 from worked import HERE, PROGRAM, wants_program
 from mqroute import Oracle
 from mqroute_tools.common.exit_status import Fault
-from mqroute_tools.search.difference_kinds import Difference, Kind
+from mqroute_tools.live.line_difference import LineDifference
+from mqroute_tools.live.run_ends import TimeIsUp
+from mqroute_tools.search.difference_kinds import Kind
 from mqroute_tools.search.finds import Find, Search
-from mqroute_tools.search.known_scripts import known_scripts, learn
-from mqroute_tools.search.random_scripts import Maker, Use
-from mqroute_tools.search.search import show
+from mqroute_tools.search.known import known_differences
+from mqroute_tools.search.parts import Use
+from mqroute_tools.search.random_scripts import Maker
+from mqroute_tools.search.search import learn
+from mqroute_tools.search.search_report import save
 
 A = {"do": "connect", "client": "a"}
 X = {"do": "subscribe", "client": "a", "filter": "x"}
@@ -29,16 +31,12 @@ PUBLISH = {"do": "publish", "client": "a", "topic": "x", "payload": "1"}
 CLEAR = {"payload": "", "qos": 1, "retain": True}
 
 
-def searched(broker: Fake, scripts: int, folders: list[Path] = [],
-             seed: int = 1) -> list[Find]:
-    """What so many scripts find."""
+def searched(broker: Fake, scripts: int, folders: list[Path] = []) -> tuple[Search, list[Find]]:
+    """What so many scripts find, beside what is known."""
     one = Search(broker, Oracle(program=str(PROGRAM)))
-    learn(one, folders)
-    maker, found = Maker(random.Random(seed), broker.use), []
-    for _ in range(scripts):
-        one.scripts += 1
-        found += one.all_of(maker.script())
-    return found
+    known = [it for folder in folders for it in known_differences(folder, False, False)]
+    found = list(learn(one, known))
+    return one, found + list(one.finds(Maker(1, Use()), iter(range(1, scripts + 1))))
 
 
 @wants_program
@@ -59,10 +57,8 @@ class Finds(unittest.TestCase):
 
     def first(self, bug, scripts: int) -> Find:
         one = Search(Fake(bug), Oracle(program=str(PROGRAM)))
-        maker = Maker(random.Random(1), one.broker.use)
-        for _ in range(scripts):
-            for find in one.all_of(maker.script()):
-                return find
+        for find in one.finds(Maker(1, Use()), iter(range(1, scripts + 1))):
+            return find
         raise AssertionError(f"{bug} isn't found")
 
     def test_each_bug_in_its_smallest_script(self):
@@ -83,7 +79,7 @@ class Finds(unittest.TestCase):
             {"disconnect", "will"} <= found.kind.uses and len(found.script) <= 5, found.script)
 
     def test_no_bug(self):
-        self.assertEqual(searched(Fake(lambda script: script), 60), [])
+        self.assertEqual(searched(Fake(lambda script: script), 60)[1], [])
 
     def test_a_find_stands_on_its_own(self):
         """Its answers are mqroute's to its script, and what is told is of its own names."""
@@ -95,21 +91,45 @@ class Finds(unittest.TestCase):
         self.assertEqual(find.report()[:2], [head, "   a x"])
         self.assertNotIn("Z", "".join(find.report() + find.lines()))
 
+    def saved(self, bug, folder: str) -> list[Find]:
+        """The finds of a broker with this bug, in a folder."""
+        found = searched(Fake(bug), 150)[1]
+        for number, find in enumerate(found, 1):
+            save(find, number, Path(folder))
+        return found
+
     def test_what_is_found_is_known_then(self):
-        """Saved finds are passed over; another bug isn't."""
+        """Saved finds are passed over, and are listed as seen; another bug isn't passed over."""
         with tempfile.TemporaryDirectory() as folder:
-            with open(os.devnull, "w") as nowhere, unittest.mock.patch("sys.stdout", nowhere):
-                for number, find in enumerate(searched(Fake(expiry_0_is_none), 150), 1):
-                    show(find, number, Path(folder))
-            self.assertTrue(number < 12 and Path(folder, "find-1.out").exists())
-            self.assertEqual(
-                [find.kind for find in searched(Fake(expiry_0_is_none), 150, [Path(folder)])], [])
+            number = len(self.saved(expiry_0_is_none, folder))
+            self.assertTrue(0 < number < 12 and Path(folder, "find-1.out").exists())
+            one, found = searched(Fake(expiry_0_is_none), 150, [Path(folder)])
+            self.assertEqual([find.kind for find in found], [])
+            states = [known.state() for known in one.known]
+            self.assertEqual(len(states), number)
+            self.assertTrue(all(state.startswith("seen, and in ") for state in states), states)
 
             def both(script):
                 return keeps_what_is_cleared(expiry_0_is_none(script))
-            found = searched(Fake(both), 400, [Path(folder)])
+            found = searched(Fake(both), 400, [Path(folder)])[1]
             self.assertTrue(
                 any("clear" in find.kind.uses for find in found), [find.kind for find in found])
+
+    def test_what_is_known_hides_nothing_else(self):
+        """A known script that differs in another way than it is stored is a find; what is no
+        longer seen is listed as that, and passes over nothing."""
+        with tempfile.TemporaryDirectory() as folder:
+            [A_find, *_] = self.saved(expiry_0_is_none, folder)
+            one, found = searched(Fake(lambda script: script), 20, [Path(folder)])
+            self.assertEqual({known.state() for known in one.known}, {"no longer seen as stored"})
+
+            def closes(script, *_):
+                return [LineDifference(len(script), "publish", ["   closed"], "closed")]
+            broker = Fake(expiry_0_is_none)
+            broker.run = closes
+            one, found = searched(broker, 0, [Path(folder)])
+            self.assertEqual(found[0].kind.what, "publish: closed")
+            self.assertIn("no longer seen as stored", one.known[0].state())
 
     def test_what_only_seems_known(self):
         """A difference may hide behind a known one with more in it; each tenth such script
@@ -117,9 +137,9 @@ class Finds(unittest.TestCase):
         seems = Kind(
             "publish: expiry", frozenset(["subscribe", "plain", "id", "publish", "expiry 0"]))
         small, great = [A, X, PUBLISH | {"expiry": 0}], [A, X | {"id": 3}, PUBLISH | {"expiry": 0}]
-        for scripts, wanted in ((11, []), (10, [small])):
+        for number, wanted in ((11, []), (10, [small])):
             one = Search(Fake(expiry_0_is_none), Oracle(program=str(PROGRAM)))
-            one.known, one.scripts = [seems], scripts
+            one.found, one.number = [seems], number
             self.assertEqual([find.script for find in one.all_of(great)], wanted)
 
     def test_a_broker_that_goes_away(self):
@@ -132,38 +152,83 @@ class Finds(unittest.TestCase):
 
     def test_a_difference_that_is_not_seen_again(self):
         broker = Fake(lambda script: script)
-        once = [[Difference(1, "connect: closed", ["   closed"])]]
+        once = [[LineDifference(1, "connect", ["   closed"], "closed")]]
         broker.run = lambda *_: once.pop() if once else []
         one = Search(broker, Oracle(program=str(PROGRAM)))
-        self.assertEqual((list(one.all_of([A])), one.passing), ([], 1))
+        self.assertEqual(list(one.all_of([A])), [])
+        self.assertEqual([(it.script, it.difference.what) for it in one.passing],
+                         [([A], "connect: closed")])
 
     def test_time_is_up(self):
         one = Search(Fake(expiry_0_is_none), Oracle(program=str(PROGRAM)), until=0)
-        self.assertEqual((list(one.finds(Maker(random.Random(1), Use()))), one.runs), ([], 0))
+        self.assertEqual((list(one.finds(Maker(1, Use()), iter([1]))), one.runs), ([], 0))
+        self.assertTrue(one.time_is_up)
+
+    def test_cut_off(self):
+        """What is being made small when the time is up is shown as far as it is."""
+        broker, runs = Fake(expiry_0_is_none), []
+        run = broker.run
+
+        def stopped(script, *more):
+            runs.append(script)
+            if len(runs) > 3:
+                raise TimeIsUp
+            return run(script, *more)
+        broker.run = stopped
+        one = Search(broker, Oracle(program=str(PROGRAM)))
+        [find] = one.all_of([A, {"do": "connect", "client": "b"}, X | {"id": 3},
+                             PUBLISH | {"expiry": 0}])
+        self.assertTrue(find.is_cut_off)
+        self.assertEqual(find.differences[0].what, "publish: expiry")
 
 
 class Known(unittest.TestCase):
-    def test_which_scripts(self):
-        with tempfile.TemporaryDirectory() as name:
-            folder = Path(name)
-            for script, more in (
-                    ("plain", {}), ("agrees", {".diff": ""}), ("differs", {".diff": "line 1: .."}),
-                    ("access", {".acl": "topic #\n"}),
-                    ("limits", {".options": ""})):
-                (folder / f"{script}.jsonl").write_text(
-                    as_lines([A | {"user": script}, {"do": "advance", "seconds": 9}, X]))
-                for end, text in more.items():
-                    (folder / f"{script}{end}").write_text(text)
-            (folder / "sets-a-list.jsonl").write_text(as_lines([{"do": "acl"}]))
-            self.assertEqual(list(known_scripts(folder)),
-                             [[A | {"user": "differs"}, X], [A | {"user": "plain"}, X]])
-            (folder / "bad.jsonl").write_text("{")
-            with self.assertRaisesRegex(Fault, "bad.jsonl:1: no JSON"):
-                list(known_scripts(folder))
+    DIFF = ('line 3: {"do": "publish", "client": "a", "topic": "x", "payload": "1"}\n   a x\n'
+            '      mqroute: qos 0, retain false, payload "1"\n      broker:  nothing\n')
 
-    def test_no_folder(self):
+    def known(self, more: dict[str, str], lists: bool = False, clock: bool = False,
+              script: list = [A, X, PUBLISH]) -> list:
+        with tempfile.TemporaryDirectory() as name:
+            Path(name, "one.jsonl").write_text(as_lines(script))
+            for end, text in more.items():
+                Path(name, f"one{end}").write_text(text)
+            return [(known.script, [(one.line, one.what) for one in known.stored], known.left_out)
+                    for known in known_differences(Path(name), lists, clock)]
+
+    def test_what_is_stored(self):
+        script = [A, X, PUBLISH]
+        self.assertEqual(self.known({".diff": self.DIFF}),
+                         [(script, [(3, "publish: missing")], "")])
+        for more in ({}, {".diff": ""}):
+            self.assertEqual(self.known(more), [])
+        closed = ('line 1: {"do": "connect", "client": "a"}\n   the broker closed the connection '
+                  'of a; the lines after this one are not run\n')
+        self.assertEqual(self.known({".diff": closed})[0][1], [(1, "connect: closed")])
+
+    def test_access_lists(self):
+        """The list beside a script is the script's first line."""
+        text = "topic read #\n"
+        [(script, stored, left_out)] = self.known({".diff": self.DIFF, ".acl": text}, lists=True)
+        self.assertEqual((script[0], stored), ({"do": "acl", "text": text},
+                                               [(4, "publish: missing")]))
+        self.assertEqual(left_out, "")
+        [(_, _, left_out)] = self.known({".diff": self.DIFF, ".acl": text})
+        self.assertIn("--on-acl", left_out)
+
+    def test_what_is_left_out(self):
+        waits = [A, X, PUBLISH, {"do": "advance", "seconds": 1}]
+        self.assertIn("--clock", self.known({".diff": self.DIFF}, script=waits)[0][2])
+        self.assertEqual(self.known({".diff": self.DIFF}, script=waits, clock=True)[0][2], "")
+        self.assertIn("options", self.known({".diff": self.DIFF, ".options": ""})[0][2])
+
+    def test_faults(self):
+        for more, said in (({".diff": "no\n"}, "one.diff:1: not of one.jsonl"),
+                           ({".diff": self.DIFF.replace("3", "4")}, "not of one.jsonl"),
+                           ({".jsonl": "{", ".diff": self.DIFF}, "one.jsonl:1: no JSON")):
+            with self.assertRaisesRegex(Fault, said):
+                self.known(more)
         with self.assertRaisesRegex(Fault, "there is no folder /nowhere"):
-            learn(None, [Path("/nowhere")])
+            list(known_differences(Path("/nowhere"), False, False))
 
 
 @wants_paho
@@ -191,12 +256,9 @@ class Live(unittest.TestCase):
         doesn't offer isn't asked for."""
         code = f"""if True:
             from mqroute_tools.live.options import BrokerOptions
-            from mqroute_tools.search.live_broker import LiveBroker
+            from mqroute_tools.live.live_broker import LiveBroker
             from mqroute import Oracle
-            options = BrokerOptions(
-                host="127.0.0.1", port={self.start()}, username=None, password=None, patience=5,
-                settle=0, on_acl=None)
-            broker = LiveBroker(options)
+            broker = LiveBroker(BrokerOptions("127.0.0.1", {self.start()}))
             subscribe = {{"do": "subscribe", "client": "a", "filter": "#"}}
             publish = {{"do": "publish", "client": "a", "topic": "x", "payload": "1"}}
             script = [{{"do": "connect", "client": "a", "clean": False, "session_expiry": 99}},
@@ -205,14 +267,14 @@ class Live(unittest.TestCase):
             blocks = Oracle().blocks(script)
             for _ in range(2):
                 assert broker.run(script, blocks) == []
-            assert broker.use.qos() == 1 and broker.can_run(script)
+            assert broker.held == [] and broker.can_run(script)
             assert not broker.can_run([script[2] | {{"qos": 2}}])
             not_own = subscribe | {{"no_local": True}}
             more = [script[0], not_own, script[2], not_own | {{"qos": 1}}]
             blocks = Oracle().blocks(more)
             for _ in range(2):
-                found = [(one.line, one.what) for one in broker.run(more, blocks)]
-                assert found == [(4, "subscribe: more")]
+                found = [(one.line, one.did) for one in broker.run(more, blocks)]
+                assert found == [(4, "subscribe")]
         """
         done = subprocess.run([PAHO, "-c", code], cwd=HERE, capture_output=True, text=True,
                               env=os.environ | {"MQROUTE": str(PROGRAM)})
@@ -221,10 +283,10 @@ class Live(unittest.TestCase):
     def test_the_tool(self):
         port = str(self.start())
         plain = "groups,retained,sessions,expiry,options,dollar,identifiers"
-        status, out, told = self.run_tool("--port", port, "--minutes", "0.1", "--without", plain)
+        status, out, told = self.run_tool("--port", port, "--scripts", "20", "--without", plain)
         self.assertEqual((status, out), (0, ""), told)
-        self.assertRegex(told, r"search: \d+ kinds of differences are known .*\n"
-                         r"search: \d+ scripts, \d+ runs in \d+ s; 0 new kinds")
+        self.assertRegex(told, r"search: exercised: \d+ of 20 scripts: .*\n"
+                         r"search: 20 scripts of seed 1, 20 runs in \d+ s; 0 new kinds")
 
     def test_faults(self):
         for words, said in ((("--port", "1"), "no broker at 127.0.0.1 port 1"),

@@ -22,7 +22,21 @@ class Copy(NamedTuple):
     payload: str
     ids: list[int]
     expiry: int | None
-    shared: bool = False  # of a group; the broker doesn't tell it
+    group: str = ""  # the shared subscription that it is for; the broker doesn't say it
+
+    def resembles(self, other: "Copy") -> bool:
+        """Whether all is the same but for the group, and a little of the interval."""
+        alike = self._replace(expiry=None, group="") == other._replace(expiry=None, group="")
+        return alike and are_near(self.expiry, other.expiry)
+
+    def __str__(self) -> str:
+        return str(together([self]))
+
+
+def are_near(expiry: int | None, other: int | None) -> bool:
+    if expiry is None or other is None:
+        return expiry == other
+    return abs(expiry - other) <= EXPIRY_SLACK
 
 
 @dataclass
@@ -33,7 +47,7 @@ class Joined:
     ids: list[int] = field(default_factory=list)
     payloads: set[str] = field(default_factory=set)
     expiry: int | None = None
-    count: int = 0
+    copies: list[Copy] = field(default_factory=list)
 
     def add(self, copy: Copy) -> None:
         self.qos = max(self.qos, copy.qos)
@@ -41,15 +55,31 @@ class Joined:
         self.ids = sorted(self.ids + copy.ids)
         self.payloads.add(copy.payload)
         self.expiry = copy.expiry
-        self.count += 1
+        self.copies.append(copy)
+
+    @property
+    def count(self) -> int:
+        return len(self.copies)
 
     def agrees(self, other: "Joined") -> bool:
-        if self.expiry is None or other.expiry is None:
-            near = self.expiry == other.expiry
-        else:
-            near = abs(self.expiry - other.expiry) <= EXPIRY_SLACK
         mine = (self.qos, self.retain, self.ids, self.payloads)
-        return near and mine == (other.qos, other.retain, other.ids, other.payloads)
+        return (are_near(self.expiry, other.expiry)
+                and mine == (other.qos, other.retain, other.ids, other.payloads))
+
+    def has_same_groups(self, other: "Joined") -> bool:
+        """Whether each copy of a group is among the others, and the rest joined is there too: no
+        copy of a group is joined with others."""
+        rest = list(other.copies)
+        for copy in self.copies:
+            same = [it for it in rest if copy.group and copy.resembles(it)]
+            if copy.group and not same:
+                return False
+            if same:
+                rest.remove(same[0])
+        return together(copy for copy in self.copies if not copy.group).agrees(together(rest))
+
+    def one_by_one(self) -> str:
+        return "; ".join(sorted(map(str, self.copies)))
 
     def __str__(self) -> str:
         parts = [f"qos {self.qos}", f"retain {str(self.retain).lower()}",
@@ -92,7 +122,8 @@ def pairs(ours: list[Copy], theirs: list[Copy]) -> Iterator[Pair]:
 
 def copies_of(block: Block) -> list[Copy]:
     return [Copy(c["client"], c["topic"], c["qos"], c["retain"], c["payload"], c.get("ids", []),
-                 c.get("expiry"), "share" in c) for c in map(read_json, block.copies)]
+                 c.get("expiry"), f"$share/{c['share']}/{c['filter']}" if "share" in c else "")
+            for c in map(read_json, block.copies)]
 
 
 class Acknowledged(NamedTuple):
@@ -102,17 +133,22 @@ class Acknowledged(NamedTuple):
     present: bool | None = None
 
 
+def both(head: str, mine: object, other: object) -> list[str]:
+    return [f"   {head}", f"      mqroute: {mine}", f"      broker:  {other}"]
+
+
 def different_copies(ours: list[Copy], theirs: list[Copy], sessions: Sessions) -> list[str]:
     """What differs of the copies, as texts to print. A broker may send one for each
     subscription, joined here."""
     found: list[str] = []
     for key, mine, other in pairs(ours, theirs):
+        head = f"{key[0]} {key[1]}"
         if mine is None or other is None or not mine.agrees(other):
-            found += [f"   {key[0]} {key[1]}", f"      mqroute: {mine or 'nothing'}",
-                      f"      broker:  {other or 'nothing'}"]
+            found += both(head, mine or "nothing", other or "nothing")
         elif not mine.count <= other.count <= mine.count * sessions.spread(*key):
-            found += [f"   {key[0]} {key[1]}", f"      mqroute: {counted(mine.count, 'copies')}",
-                      f"      broker:  {counted(other.count, 'copies')}"]
+            found += both(head, counted(mine.count, "copies"), counted(other.count, "copies"))
+        elif not mine.has_same_groups(other):
+            found += both(f"{head}, copy by copy", mine.one_by_one(), other.one_by_one())
     return found
 
 
@@ -120,16 +156,15 @@ def different_order(ours: list[Copy], theirs: list[Copy]) -> list[str]:
     """What waited for a client has to come in its order, of each QoS (4.6); repeats are of
     overlapping subscriptions."""
     found = []
-    both = {(c.client, c.qos) for c in ours} & {(c.client, c.qos) for c in theirs}
-    for client, qos in sorted(both):
+    common = {(c.client, c.qos) for c in ours} & {(c.client, c.qos) for c in theirs}
+    for client, qos in sorted(common):
         here, there = ([(c.topic, c.payload) for c in side if (c.client, c.qos) == (client, qos)]
                        for side in (ours, theirs))
         here, there = (list(dict.fromkeys(messages)) for messages in (here, there))
         if here != there and sorted(here) == sorted(there):
             shown = [", ".join(f"{topic} {json.dumps(payload)}" for topic, payload in messages)
                      for messages in (here, there)]
-            found += [f"   {client} order", f"      mqroute: {shown[0]}",
-                      f"      broker:  {shown[1]}"]
+            found += both(f"{client} order", *shown)
     return found
 
 

@@ -1,7 +1,9 @@
 """A run of commands on a live broker, one after another, with what differs
 from mqroute's answers."""
+import contextlib
 import os
 import select
+import ssl
 import subprocess
 import tempfile
 import time
@@ -11,13 +13,17 @@ from collections.abc import Callable
 from ..common.exit_status import Fault
 from ..script.output import Block, Command
 from ..script.sessions import Sessions
+from . import packets
 from .broker_diff import (
     Acknowledged, Copy, copies_of, different_copies, different_order, different_reasons)
+from .group_members import with_their_members
+from .offer import Offer
 from .options import BrokerOptions
-from .paho_client import Connection, Offer
+from .paho_client import Connection
+from .run_ends import NEVER, RunEnds, TimeIsUp
 from .wills import Wills
 
-# nobody subscribes to it; its UNSUBACK tells that all that was sent before has come
+# nobody subscribes to it; its UNSUBACK shows that all that was sent before has come
 FENCE = "mqroute/fence"
 QUIET_ROUNDS = 2  # a copy of QoS 2 wants two fences: one for PUBLISH, one for PUBREL
 ACL_PAUSE = 0.3  # seconds that a broker gets to read an access list
@@ -26,20 +32,18 @@ WILL_PAUSE = 0.1  # and to see that a connection is gone
 ALL_ALLOWED = "pattern readwrite #\npattern readwrite $SYS/#\n"  # in place of no access list
 
 
-class Closed(Exception):
-    """The broker closed a client's connection: a difference, and the end of the run."""
-
-
 class Replay:
-    def __init__(self, options: BrokerOptions) -> None:
-        self.options = options
+    def __init__(self, options: BrokerOptions, until: float = NEVER) -> None:
+        self.options, self.until = options, until
         self.live: dict[str, Connection] = {}
         self.sessions = Sessions()
-        self.offer = Offer()
+        self.offer = Offer(protocol=options.protocol)
         self.remarks: Counter[str] = Counter()  # what to say at the end, with {} for the number
         self.sys_topics: set[str] = set()  # under $SYS/, that the script publishes
         self.wills = Wills()
+        self.any_member = options.any_member
         self.line = 0
+        self.is_accepted = False  # whether the broker took the first connection
 
     # -- waiting
 
@@ -47,32 +51,42 @@ class Replay:
         """Reads and writes on all connections until `done`."""
         end = time.monotonic() + self.options.patience
         while not done():
+            self.look_at_clock()
             if time.monotonic() > end:
-                raise Fault(f"line {self.line}: no {what} within {self.options.patience:g} seconds")
+                raise RunEnds("no answer", f"no {what} within {self.options.patience:g} seconds")
             by_socket = {c.client.socket(): c for c in self.live.values() if c.client.socket()}
             for connection in by_socket.values():
                 connection.write()
-            ready, _, _ = select.select(list(by_socket), [], [], 0.02)
+            ready = [held for held, c in by_socket.items() if c.has_more()]
+            if not ready:
+                ready, _, _ = select.select(list(by_socket), [], [], 0.02)
             for readable in ready:
                 by_socket[readable].read()
+
+    def look_at_clock(self) -> None:
+        if time.monotonic() > self.until:
+            raise TimeIsUp
 
     def wait(self, connection: Connection, key: int | str, what: str) -> Acknowledged:
         self.pump(lambda: key in connection.answered or "closed" in connection.answered, what)
         if key not in connection.answered:
-            raise Closed(f"the broker closed the connection of {connection.name}; the lines after "
-                         "this one are not run")
+            raise RunEnds(*connection.why_ended())
         return connection.answered.pop(key)
 
     def fence(self) -> None:
-        marks = [(c, c.client.unsubscribe(FENCE)[1]) for c in self.live.values()]
+        marks = [(c, c.unsubscribe(FENCE)) for c in self.live.values()]
         for connection, mark in marks:
             self.wait(connection, mark, "UNSUBACK")
 
     def quiet(self) -> None:
         """Until nothing more comes."""
         idle, count = 0, -1
+        end = time.monotonic() + self.options.patience + self.options.settle
         time.sleep(self.options.settle)
         while idle < QUIET_ROUNDS:
+            if time.monotonic() > end:
+                raise RunEnds("no end", "it goes on sending after "
+                              f"{self.options.patience:g} seconds")
             self.fence()
             now = sum(len(c.got) for c in self.live.values())
             idle, count = (idle + 1, count) if now == count else (0, now)
@@ -84,7 +98,8 @@ class Replay:
         if seconds > LONGEST_PAUSE:
             raise Fault(f"line {self.line}: advance waits in real time, and {seconds} seconds "
                         f"are over a day")
-        time.sleep(seconds + 0.1)
+        time.sleep(min(seconds + 0.1, max(0, self.until - time.monotonic())))
+        self.look_at_clock()
 
     def do(self, command: Command) -> Acknowledged:
         """Sends one command; gives what its acknowledgement says."""
@@ -99,34 +114,43 @@ class Replay:
             return Acknowledged()
         connection = self.live[command["client"]]
         if do == "disconnect":
-            if self.line in self.wills.due:
-                connection.drop()
-                time.sleep(WILL_PAUSE)
-            else:
-                connection.client.disconnect()
-            self.pump(lambda: "closed" in connection.answered, "end of the connection")
-            del self.live[command["client"]]
-            return Acknowledged()
+            return self.disconnect(connection)
         if do == "publish":
             sent = connection.publish(command)
             said = self.wait(connection, sent, "acknowledgement of the PUBLISH")
             return said if command.get("qos", 0) else Acknowledged()
         if do == "subscribe":
             return self.wait(connection, connection.subscribe(command), "SUBACK")
-        sent = connection.client.unsubscribe(command["filter"])[1]
-        return self.wait(connection, sent, "UNSUBACK")
+        return self.wait(connection, connection.unsubscribe(command["filter"]), "UNSUBACK")
+
+    def disconnect(self, connection: Connection) -> Acknowledged:
+        if self.line in self.wills.due:
+            connection.drop()
+            time.sleep(WILL_PAUSE)
+        else:
+            connection.client.disconnect()
+        self.pump(lambda: "closed" in connection.answered, "end of the connection")
+        del self.live[connection.name]
+        return Acknowledged()
 
     def connect(self, command: Command) -> Acknowledged:
         self.live.pop(command["client"], None)  # the broker takes the old one's session over
-        options = self.options
-        connection = self.live[command["client"]] = Connection(
-            command, options.host, options.port, options.username, options.password, self.will())
+        connection = self.connected(command)
+        self.live[command["client"]] = connection
         said = self.wait(connection, "connect", "CONNACK")
-        if said.reason != 0:
-            raise Fault(
-                f"line {self.line}: the broker refused the connection, reason {said.reason}")
-        self.offer = connection.offer
+        if said.reason:
+            raise RunEnds("refused", "the broker refused the connection of "
+                          f"{connection.name}, reason {packets.in_words(said.reason)}")
+        self.offer, self.is_accepted = connection.offer, True
         return said
+
+    def connected(self, command: Command) -> Connection:
+        """A new connection."""
+        try:
+            return Connection(command, self.options, self.will())
+        except (ssl.SSLError, ValueError) as fault:  # of TLS, of websockets
+            raise Fault(f"line {self.line}: no connection to {self.options.place()}: "
+                        f"{fault}") from fault
 
     def will(self) -> Command | None:
         """What goes with the connection that this line makes."""
@@ -148,6 +172,8 @@ class Replay:
             raise Fault(
                 f"line {self.line}: the command of --on-acl ended with status {done.returncode}")
 
+    # -- comparing
+
     def answer(self, number: int, command: Command, block: Block) -> list[str]:
         """Runs a line, and gives what differs as texts to print."""
         self.line = number
@@ -160,9 +186,12 @@ class Replay:
         self.quiet()
         if not block.refused:
             self.sessions.follow(command)
+        message = command
         if number in self.wills.due:
-            block = self.wills.due[number].block
+            message, block = self.wills.due[number]
         theirs, ours = self.received(), copies_of(block)
+        if self.any_member and message["do"] == "publish":
+            ours = with_their_members(ours, theirs, message, self.sessions)
         found = different_copies(ours, theirs, self.sessions)
         if command["do"] == "connect":
             found += different_order(ours, theirs)
@@ -179,6 +208,7 @@ class Replay:
 
     def end(self) -> None:
         for connection in self.live.values():
-            if connection.client.socket():
-                connection.client.disconnect()
-                connection.write()
+            with contextlib.suppress(OSError):
+                if connection.client.socket():
+                    connection.client.disconnect()
+                    connection.write()

@@ -1,6 +1,6 @@
-"""One client of a live MQTT 5 broker, by paho-mqtt 1.6 or 2."""
+"""One client of a live broker, by paho-mqtt 1.6 or 2."""
+import math
 import socket
-import struct
 import sys
 import warnings
 from typing import Any
@@ -18,142 +18,243 @@ except ImportError:
     sys.exit(FAILED)
 
 from ..script.output import Command
+from . import packets
 from .broker_diff import Acknowledged, Copy
+from .offer import Offer
+from .options import BrokerOptions
 
-KEEP_ALIVE = 3600
+KEEP_ALIVE = 3600  # seconds
 
 
 class Client(mqtt.Client):
-    """Tells the reasons of PUBACK and PUBREC, which not every paho does."""
+    """Looks at each packet before paho does, which passes over some faults and fails in others;
+    tells the reasons of PUBACK, PUBREC and DISCONNECT, which not every paho does."""
 
-    def __init__(self, name: str, **more: Any) -> None:
+    def __init__(self, name: str, options: BrokerOptions, **more: Any) -> None:
         versions = getattr(mqtt, "CallbackAPIVersion", None)  # paho 2 wants to be told
         with warnings.catch_warnings():
             warnings.simplefilter("ignore", DeprecationWarning)
-            super().__init__(*([versions.VERSION1] if versions else []), name, **more)
+            super().__init__(
+                *([versions.VERSION1] if versions else []), name,
+                protocol=mqtt.MQTTv5 if options.protocol == packets.MQTT_5 else mqtt.MQTTv311,
+                transport="tcp" if options.websockets is None else "websockets",
+                reconnect_on_failure=False, **more)
+        self.options = options
         self.reasons: dict[int, int] = {}
+        self.awaited: set[tuple[int, int]] = set()  # kinds of packets, with their identifiers
+        self.is_accepted = False
+        self.fault = ""  # what was wrong with a packet of the broker
+        self.farewell: int | None = None  # the reason of its DISCONNECT
 
-    def keep_reason(self) -> None:
-        packet = bytes(self._in_packet["packet"])
-        mid, reason = struct.unpack("!HB", packet[:3].ljust(3, b"\0"))
-        self.reasons.setdefault(mid, reason)
+    def _send_connect(self, keepalive: int) -> Any:
+        """paho waits so long for TLS and websockets as the connection may be idle."""
+        return super()._send_connect(KEEP_ALIVE)
 
-    def _handle_pubackcomp(self, cmd: Any) -> Any:
-        self.keep_reason()
-        return super()._handle_pubackcomp(cmd)
+    def _packet_handle(self) -> Any:
+        first, body = self._in_packet["command"], bytes(self._in_packet["packet"])
+        is_5 = self.options.protocol == packets.MQTT_5
+        self.fault = (self.began_otherwise() or packets.fault(first, body, self.options.protocol)
+                      or self.out_of_place(first >> 4, body))
+        if self.fault:
+            return mqtt.MQTT_ERR_PROTOCOL
+        if first >> 4 == packets.DISCONNECT:
+            self.farewell = body[0] if body else 0
+            return mqtt.MQTT_ERR_CONN_LOST
+        if first >> 4 == packets.CONNACK and not is_5 and body[1]:
+            self.on_connect(self, None, {"session present": 0}, body[1])  # paho would try again
+            return mqtt.MQTT_ERR_SUCCESS
+        if first >> 4 in (packets.PUBACK, packets.PUBREC) and is_5:
+            mid = int.from_bytes(body[:2], "big")
+            self.reasons.setdefault(mid, body[2] if len(body) > 2 else 0)
+        return self.handled(packets.NAMES[first >> 4])
 
-    def _handle_pubrec(self) -> Any:
-        self.keep_reason()
-        return super()._handle_pubrec()
+    def handled(self, name: str) -> Any:
+        """What paho makes of the packet, if it can."""
+        try:
+            return super()._packet_handle()
+        except Exception as error:  # of any kind: they aren't documented
+            self.fault = f"a {name} that paho-mqtt can't read: {error!r}"
+            return mqtt.MQTT_ERR_PROTOCOL
 
+    def out_of_place(self, packet: int, body: bytes) -> str:
+        """What is wrong with a packet that comes now; empty where nothing is."""
+        name = packets.NAMES[packet]
+        if packet == packets.CONNACK:
+            second, self.is_accepted = self.is_accepted, True
+            return f"a second {name}" if second else ""
+        if packet in packets.AWAITED:
+            mid = int.from_bytes(body[:2], "big")
+            if (packet, mid) not in self.awaited:
+                return f"a {name} for packet {mid}, which doesn't await it"
+            self.awaited.discard((packet, mid))
+            if packet == packets.PUBREC:
+                self.awaited.add((packets.PUBCOMP, mid))
+        return ""
 
-class Offer:
-    """What a CONNACK says that the broker has."""
-
-    def __init__(self, properties: Any = None) -> None:
-        def has(name: str, otherwise: int = 1) -> int:
-            return getattr(properties, name, otherwise)
-        self.greatest_qos = has("MaximumQoS", 2)
-        self.retain = has("RetainAvailable")
-        self.shared = has("SharedSubscriptionAvailable")
-        self.wildcards = has("WildcardSubscriptionAvailable")
-        self.identifiers = has("SubscriptionIdentifierAvailable")
-
-    def lacks(self, command: Command) -> str:
-        """What the command asks for and the broker doesn't offer; empty if it has all."""
-        name = command.get("filter", "")
-        if command["do"] == "publish" and command.get("qos", 0) > self.greatest_qos:
-            return f"QoS over {self.greatest_qos}"
-        if command["do"] == "publish" and command.get("retain") and not self.retain:
-            return "retained messages"
-        if name.startswith("$share/") and not self.shared:
-            return "shared subscriptions"
-        if command["do"] == "subscribe" and not self.wildcards and ("+" in name or "#" in name):
-            return "wildcards in filters"
-        return "subscription identifiers" if "id" in command and not self.identifiers else ""
+    def began_otherwise(self) -> str:
+        """What came in place of a CONNACK, as far as its first byte shows."""
+        first = self._in_packet["command"]
+        if self.is_accepted or first in (0, packets.CONNACK << 4):
+            return ""
+        return f"what begins with the byte {first:02x} in place of a CONNACK"
 
 
 class Connection:
     """What it receives goes to `got`, acknowledgements to `answered`."""
 
-    def __init__(self, command: Command, host: str, port: int, user: str | None,
-                 password: str | None, will: Command | None = None) -> None:
+    def __init__(self, command: Command, options: BrokerOptions,
+                 will: Command | None = None) -> None:
         self.name = command["client"]
+        self.options = options
         self.got: list[mqtt.MQTTMessage] = []
         self.answered: dict[int | str, Acknowledged] = {}
         self.offer = Offer()
-        client = self.client = Client(self.name, protocol=mqtt.MQTTv5)
-        user = command.get("user", user)
+        clean = command.get("clean", True)
+        is_5 = options.protocol == packets.MQTT_5
+        client = self.client = Client(
+            self.name, options, **({} if is_5 else {"clean_session": clean}))
+        user = command.get("user", options.username)
         if user is not None:
-            client.username_pw_set(user, password)
+            client.username_pw_set(user, options.password)
         if will:
-            client.will_set(
-                will["topic"], will["payload"], will.get("qos", 0), will.get("retain", False),
-                message_properties(will, PacketTypes.WILLMESSAGE))
+            self.leave_will(will)
+        if options.tls:
+            self.use_tls()
+        if options.websockets is not None:
+            client.ws_set_options(path=options.websockets)
+        self.listen()
+        more: dict[str, Any] = {}
+        if is_5:
+            more["properties"] = properties = Properties(PacketTypes.CONNECT)
+            properties.SessionExpiryInterval = command.get("session_expiry", 0)
+            more["clean_start"] = clean
+        client.connect(options.host, options.port,
+                       keepalive=max(1, math.ceil(options.patience)), **more)
+        self.at_once()
+
+    # -- how it is made
+
+    def leave_will(self, will: Command) -> None:
+        more = {} if self.options.protocol != packets.MQTT_5 else {
+            "properties": message_properties(will, PacketTypes.WILLMESSAGE)}
+        self.client.will_set(will["topic"], will["payload"], will.get("qos", 0),
+                             will.get("retain", False), **more)
+
+    def use_tls(self) -> None:
+        tls = self.options.tls
+        assert tls
+        self.client.tls_set(tls.ca_file, tls.cert_file, tls.key_file)
+        self.client.tls_insecure_set(tls.insecure)
+
+    def listen(self) -> None:
+        """The arguments behind `mid` aren't the same in MQTT 3.1.1."""
+        client = self.client
         client.on_message = lambda _c, _u, message: self.got.append(message)
         client.on_connect = self.connected
         client.on_disconnect = lambda *_: self.answered.update(closed=Acknowledged())
-        client.on_subscribe = lambda _c, _u, mid, reasons, _p: self.answered.update(
-            {mid: Acknowledged(reasons[0].value)})
-        client.on_unsubscribe = lambda _c, _u, mid, _p, reasons: self.answered.update(
-            {mid: Acknowledged(first(reasons).value)})
+        client.on_subscribe = lambda _c, _u, mid, reasons, *_: self.answered.update(
+            {mid: Acknowledged(number(first(reasons)))})
+        client.on_unsubscribe = lambda _c, _u, mid, *more: self.answered.update(
+            {mid: Acknowledged(number(first(more[1])) if more else None)})
         client.on_publish = lambda c, _u, mid: self.answered.update(
             {mid: Acknowledged(c.reasons.pop(mid, None))})
-        properties = Properties(PacketTypes.CONNECT)
-        properties.SessionExpiryInterval = command.get("session_expiry", 0)
-        client.connect(host, port, keepalive=KEEP_ALIVE, clean_start=command.get("clean", True),
-                       properties=properties)
-        self.at_once()
 
-    def connected(self, _client: Any, _data: Any, flags: Any, reason: Any, properties: Any) -> None:
-        self.offer = Offer(properties)
+    def connected(self, _client: Any, _data: Any, flags: Any, reason: Any,
+                  properties: Any = None) -> None:
+        self.offer = Offer(properties, self.options.protocol)
         present = flags["session present"] if isinstance(flags, dict) else flags.session_present
-        self.answered["connect"] = Acknowledged(reason.value, bool(present))
+        self.answered["connect"] = Acknowledged(number(reason), bool(present))
+
+    # -- how it ends
+
+    def why_ended(self) -> tuple[str, str]:
+        """Of a connection that ended: in a word, and in words."""
+        if self.client.fault:
+            return "no MQTT", f"the broker sent {self.name} {self.client.fault}"
+        why = f"the broker closed the connection of {self.name}"
+        if self.client.farewell is not None:
+            why += f", with a DISCONNECT of reason {packets.in_words(self.client.farewell)}"
+        return "closed", why
+
+    def drop(self) -> None:
+        """Ends the connection without a DISCONNECT."""
+        self.client.socket().shutdown(socket.SHUT_RDWR)
+
+    # -- reading and writing
 
     def read(self) -> None:
-        self.client.loop_read()
+        status = self.client.loop_read()
+        if status == mqtt.MQTT_ERR_PROTOCOL and not self.client.fault:
+            self.client.fault = "a packet whose length has over 4 bytes"
+        otherwise = self.client.began_otherwise()
+        if otherwise and self.client.socket():
+            self.client.fault = otherwise
+            self.answered["closed"] = Acknowledged()
         self.at_once()
+
+    def has_more(self) -> bool:
+        """Whether TLS holds what the socket shows no more."""
+        held = getattr(self.client.socket(), "pending", None)
+        return bool(held and held())
 
     def at_once(self) -> None:
         """Neither side is to hold small packets back: that would cost 40 ms a line."""
-        if self.client.socket():
+        one = self.client.socket()
+        one = getattr(one, "_socket", one)  # that of websockets
+        if one:
             for option in ("TCP_NODELAY", "TCP_QUICKACK"):
                 if hasattr(socket, option):
-                    self.client.socket().setsockopt(socket.IPPROTO_TCP, getattr(socket, option), 1)
+                    one.setsockopt(socket.IPPROTO_TCP, getattr(socket, option), 1)
 
     def write(self) -> None:
         """What a connection that is gone still had to write is never written."""
         while self.client.socket() and self.client.want_write():
             self.client.loop_write()
 
+    # -- commands
+
     def publish(self, command: Command) -> int:
-        properties = message_properties(command, PacketTypes.PUBLISH)
-        sent = self.client.publish(
-            command["topic"], command.get("payload", ""), command.get("qos", 0),
-            command.get("retain", False), properties)
+        more = {} if self.options.protocol != packets.MQTT_5 else {
+            "properties": message_properties(command, PacketTypes.PUBLISH)}
+        qos = command.get("qos", 0)
+        sent = self.client.publish(command["topic"], command.get("payload", ""), qos,
+                                   command.get("retain", False), **more)
+        if qos:
+            self.client.awaited.add((packets.PUBREC if qos == 2 else packets.PUBACK, sent.mid))
         return int(sent.mid)
 
-    def drop(self) -> None:
-        """Ends the connection without a DISCONNECT."""
-        self.client.socket().shutdown(socket.SHUT_RDWR)
-
     def subscribe(self, command: Command) -> int:
-        properties = Properties(PacketTypes.SUBSCRIBE)
-        if "id" in command:
-            properties.SubscriptionIdentifier = command["id"]
-        options = SubscribeOptions(command.get("qos", 0), command.get("no_local", False),
-                                   command.get("rap", False), command.get("handling", 0))
-        _, mid = self.client.subscribe(command["filter"], options=options, properties=properties)
+        if self.options.protocol == packets.MQTT_5:
+            properties = Properties(PacketTypes.SUBSCRIBE)
+            if "id" in command:
+                properties.SubscriptionIdentifier = command["id"]
+            options = SubscribeOptions(command.get("qos", 0), command.get("no_local", False),
+                                       command.get("rap", False), command.get("handling", 0))
+            _, mid = self.client.subscribe(
+                command["filter"], options=options, properties=properties)
+        else:
+            _, mid = self.client.subscribe(command["filter"], command.get("qos", 0))
+        self.client.awaited.add((packets.SUBACK, mid))
+        return int(mid)
+
+    def unsubscribe(self, name: str) -> int:
+        _, mid = self.client.unsubscribe(name)
+        self.client.awaited.add((packets.UNSUBACK, mid))
         return int(mid)
 
     def copies(self) -> list[Copy]:
         """What has come since the last line, in its order."""
-        found = [
-            Copy(self.name, m.topic, m.qos, bool(m.retain), m.payload.decode("utf-8", "replace"),
-                 list(getattr(m.properties, "SubscriptionIdentifier", None) or []),
-                 getattr(m.properties, "MessageExpiryInterval", None)) for m in self.got]
+        found = [copy_of(self.name, message) for message in self.got]
         self.got.clear()
         return found
+
+
+def copy_of(name: str, message: Any) -> Copy:
+    properties = getattr(message, "properties", None)
+    return Copy(name, message.topic, message.qos, bool(message.retain),
+                message.payload.decode("utf-8", "replace"),
+                list(getattr(properties, "SubscriptionIdentifier", None) or []),
+                getattr(properties, "MessageExpiryInterval", None))
 
 
 def message_properties(command: Command, packet: int) -> Properties:
@@ -164,4 +265,9 @@ def message_properties(command: Command, packet: int) -> Properties:
 
 
 def first(reasons: Any) -> Any:
-    return reasons[0] if isinstance(reasons, list) else reasons
+    return reasons[0] if isinstance(reasons, (list, tuple)) else reasons
+
+
+def number(reason: Any) -> int:
+    """A reason code as paho has it, or as MQTT 3.1.1 has it."""
+    return int(getattr(reason, "value", reason))

@@ -16,12 +16,13 @@ from typing import TYPE_CHECKING
 from ..common.exit_status import Fault
 from ..common.files import at, keep_apart, open_input, refuse_stdin_twice
 from ..common.messages import counted, in_words, tell
-from ..common.option_values import port, whole_number
+from ..common.option_values import whole_number
 from ..common.progress import Progress
 from ..script.commands import Seen, line_faults
 from ..script.oracle import Oracle
 from ..script.output import Block, Command, blocks, by_key, is_blank, misfit
-from .options import BrokerOptions, add_waiting
+from .options import BrokerOptions, add_broker, add_waiting
+from .run_ends import RunEnds
 from .wills import Wills
 
 if TYPE_CHECKING:
@@ -81,21 +82,25 @@ def offered(replay: "Replay", options: argparse.Namespace, script: list[bytes],
 
 
 def answer(replay: "Replay", script: str, line: Line) -> list[str]:
-    """What differs at one line. A fault names the script and the line."""
+    """What differs at one line. A fault names the script and the line; that the broker takes no
+    connection at all is one."""
+    broker = replay.options.place()
     try:
         return replay.answer(*line)
+    except RunEnds as fault:
+        if replay.is_accepted:
+            raise
+        raise Fault(f"{at(script, line[0])}: {broker}: {fault.why}") from fault
     except Fault as fault:
         text = LINE.sub(lambda found: f"{at(script, int(found[1]))}: ", str(fault))
         raise Fault(text) from fault
     except OSError as fault:
-        broker = f"the broker at {replay.options.host} port {replay.options.port}"
         raise Fault(f"{at(script, line[0])}: {broker}: {in_words(fault)}") from fault
 
 
 def differences(replay: "Replay", options: argparse.Namespace,
                 progress: Progress) -> Iterator[list[str]]:
     """For each line that differs, the texts to print."""
-    from .broker_run import Closed
     with open_input(options.script) as stream:
         script = stream.readlines()
     given = list(blocks(options.output))
@@ -108,7 +113,7 @@ def differences(replay: "Replay", options: argparse.Namespace,
         head = f"line {number}: {json.dumps(command, ensure_ascii=False)}"
         try:
             found = answer(replay, options.script, line)
-        except Closed as fault:
+        except RunEnds as fault:
             yield [head, f"   {fault}"]
             return
         if found:
@@ -149,11 +154,7 @@ def add_arguments(parser: argparse.ArgumentParser) -> None:
     parser.description = "Runs a script on a live MQTT 5 broker and compares with mqroute's output."
     parser.add_argument("script")
     parser.add_argument("output")
-    parser.add_argument("--host", default="127.0.0.1")
-    parser.add_argument("--port", type=port, default=1883)
-    parser.add_argument(
-        "--username", metavar="NAME", help="user name of the clients for which the script has none")
-    parser.add_argument("--password", metavar="TEXT", help="password of all clients")
+    add_broker(parser, "user name of the clients for which the script has none")
     parser.add_argument("--on-acl", metavar="COMMAND",
                         help="what the shell does for an `acl` line: it lets the broker read the "
                         "access list in the file $MQROUTE_ACL, "
@@ -179,8 +180,6 @@ def run(options: argparse.Namespace) -> int:
     replay = Replay(BrokerOptions.of(options))
     try:
         status = 1 if compared(replay, options) else 0
-    except (ValueError, KeyError) as fault:
-        raise Fault(repr(fault)) from fault
     finally:
         replay.end()
     for what, count in replay.remarks.items():

@@ -7,14 +7,21 @@ from collections.abc import Iterable
 
 from ..common.exit_status import Fault
 from ..script.output import Block, Command, blocks_of, command_of
-from .paho_client import Offer
+from ..script.sessions import FOREVER
+from .offer import Offer
 
 LEFT_OUT = "left out"
+WITHOUT = "sent without"
+# What MQTT 3.1.1 doesn't have, by the fields of commands.
+NEW_FIELDS = {"no_local": "subscription options", "rap": "subscription options",
+              "handling": "subscription options", "expiry": "message expiry"}
+OLD_SESSION = "sessions that are kept for some time"
 
 
 def fitting(command: Command, offer: Offer) -> tuple[Command | None, list[tuple[str, str]]]:
     """What is sent in place of a command, None for nothing; what isn't offered, what was done."""
-    did, name = [], str(command.get("filter", ""))
+    did: list[tuple[str, str]] = []
+    name = str(command.get("filter", ""))
     if name.startswith("$share/") and not offer.shared:
         return None, [("shared subscriptions", LEFT_OUT)]
     if ("+" in name or "#" in name) and not offer.wildcards:
@@ -27,8 +34,27 @@ def fitting(command: Command, offer: Offer) -> tuple[Command | None, list[tuple[
         did.append(("retained messages", "sent without RETAIN"))
     if command["do"] == "subscribe" and "id" in command and not offer.identifiers:
         command = {field: value for field, value in command.items() if field != "id"}
-        did.append(("subscription identifiers", "sent without"))
-    return command, did
+        did.append(("subscription identifiers", WITHOUT))
+    return (command, did) if offer.is_5 else older(command, did)
+
+
+def older(command: Command, did: list[tuple[str, str]]) -> tuple[Command, list[tuple[str, str]]]:
+    """The same in MQTT 3.1.1, where a session is kept for ever or not at all."""
+    new = {field for field in NEW_FIELDS if command.get(field)}
+    if command["do"] == "publish" and "expiry" in command:
+        new.add("expiry")
+    if new:
+        command = {field: value for field, value in command.items() if field not in new}
+        did = did + [(what, WITHOUT) for what in sorted({NEW_FIELDS[field] for field in new})]
+    if command["do"] != "connect":
+        return command, did
+    is_kept = not command.get("clean", True) or bool(command.get("session_expiry"))
+    session = {"clean": not is_kept, "session_expiry": FOREVER if is_kept else 0}
+    before = {"clean": command.get("clean", True),
+              "session_expiry": command.get("session_expiry", 0)}
+    if session == before:
+        return command, did
+    return command | session, [*did, (OLD_SESSION, "sent with one that is kept for ever")]
 
 
 def fitted_script(lines: Iterable[bytes], sent: set[int],

@@ -15,7 +15,8 @@ class Sessions:
         # clients that are connected, and their Session Expiry Interval
         self.live: dict[str, int] = {}
         self.away: dict[str, int | None] = {}  # clients with a session, and until when they have it
-        self.filters: defaultdict[str, set[str]] = defaultdict(set)
+        # by client and filter, the commands that subscribed
+        self.filters: defaultdict[str, dict[str, Command]] = defaultdict(dict)
 
     def has(self, client: str) -> bool:
         if client in self.live:
@@ -34,6 +35,12 @@ class Sessions:
         client's subscriptions (3.3.4)."""
         return max(1, sum(matches(name, topic) for name in self.filters[client]))
 
+    def members(self, name: str) -> list[tuple[str, Command]]:
+        """The connected clients that have this filter, as of a shared subscription, each with the
+        command that subscribed."""
+        return [(client, self.filters[client][name])
+                for client in self.live if name in self.filters[client]]
+
     def follow(self, command: Command) -> None:
         do, client = command["do"], command.get("client", "")
         if do == "connect":
@@ -46,8 +53,8 @@ class Sessions:
             if expiry:
                 self.away[client] = None if expiry == FOREVER else self.now + expiry
         elif do == "subscribe":
-            self.filters[client].add(command["filter"])
+            self.filters[client][command["filter"]] = command
         elif do == "unsubscribe":
-            self.filters[client].discard(command["filter"])
+            self.filters[client].pop(command["filter"], None)
         elif do == "advance":
             self.now += command["seconds"]

@@ -4,18 +4,36 @@ import re
 from collections.abc import Iterator
 from typing import NamedTuple
 
+from ..live.broker_diff import EXPIRY_SLACK
 from ..live.wills import PAYLOAD
 from ..script.output import Command
 
 OURS, THEIRS = "      mqroute: ", "      broker:  "
 NOBODY = "   reason: mqroute 0, broker 16"
+INTERVAL = re.compile(r"expiry (\d+)")
+LONG = 1000  # bytes of a payload, from where on one is long
+DEEP = 5  # levels
+MANY = 40  # lines of a script
 PART = re.compile(r'(qos|retain|payload|ids|expiry) (\[[^]]*\]|"[^"]*"(?:, "[^"]*")*|[^,]+)')
 
 
 class Difference(NamedTuple):
     line: int
     what: str  # such as "publish: missing"
-    texts: list[str]  # as replay.py prints them
+    texts: list[str]  # as replay prints them
+
+    def is_as(self, other: "Difference") -> bool:
+        """Whether it's the same at the same line, but for a little of an interval."""
+        pairs = list(zip(self.texts, other.texts))
+        return (self.line == other.line and self.what == other.what
+                and len(self.texts) == len(other.texts)
+                and all(is_near(text, seen) for text, seen in pairs))
+
+
+def is_near(text: str, other: str) -> bool:
+    mine, theirs = ([int(n) for n in INTERVAL.findall(side)] for side in (text, other))
+    near = all(abs(a - b) <= EXPIRY_SLACK for a, b in zip(mine, theirs))
+    return near and INTERVAL.sub("expiry", text) == INTERVAL.sub("expiry", other)
 
 
 class Kind(NamedTuple):
@@ -53,7 +71,8 @@ def of_parts(ours: str, theirs: str) -> list[str]:
     found = set()
     for name in ("qos", "ids", "payload", "retain", "expiry"):
         mine, other = here.get(name, ""), there.get(name, "")
-        if mine != other:
+        if mine != other and not (name == "expiry" and is_near(f"expiry {mine}",
+                                                               f"expiry {other}")):
             found.add(of_part(name, mine, other))
     return sorted(found)
 
@@ -66,14 +85,19 @@ def of_copies(head: str, ours: str, theirs: str) -> list[str]:
         return ["missing"]
     if head.endswith(" order"):
         return ["order"]
+    if head.endswith(", copy by copy"):
+        return ["copies of groups"]
     if re.match(r"\d+ cop", ours):
         return ["missing" if fewer(ours, theirs) else "more"]
     return of_parts(ours, theirs) or ["differs"]
 
 
-def separate(line: int, do: str, texts: list[str]) -> Iterator[Difference]:
-    """What differs at a line, one by one. That nobody got a message says no more
-    than that a copy is missing."""
+def separate(line: int, do: str, texts: list[str], ended: str = "") -> Iterator[Difference]:
+    """What differs at a line, one by one; `ended` is what ended the run there. That nobody got a
+    message says no more than that a copy is missing."""
+    if ended:
+        yield Difference(line, f"{do}: {ended}", texts)
+        return
     rest, missing = list(texts), False
     while rest:
         if len(rest) > 2 and rest[1].startswith(OURS) and rest[2].startswith(THEIRS):
@@ -86,12 +110,21 @@ def separate(line: int, do: str, texts: list[str]) -> Iterator[Difference]:
         yield from (Difference(line, f"{do}: {what}", block) for what in found)
 
 
+def of_name(name: str) -> set[str]:
+    """What a topic or filter has beyond few short levels."""
+    return {use for use, has in (("upper case", name != name.lower()),
+                                 ("no ASCII", not name.isascii()),
+                                 ("empty level", "" in name.split("/")),
+                                 ("five levels", name.count("/") + 1 >= DEEP)) if has}
+
+
 def of_subscribe(command: Command, before: set[tuple[str, str]]) -> set[str]:
     name = command["filter"]
     shared = name.startswith("$share/")
     plain = name.split("/", 2)[2] if shared else name
     uses = {"subscribe", "group" if shared else "plain"} | {sign for sign in "#+" if sign in plain}
     uses |= {field for field in ("no_local", "rap", "id", "qos") if command.get(field)}
+    uses |= of_name(plain)
     if plain.startswith("$"):
         uses.add("$SYS filter" if plain.startswith("$SYS") else "$ filter")
     if command.get("handling"):
@@ -112,7 +145,9 @@ def of_connect(command: Command, live: set[str]) -> set[str]:
 
 
 def of_publish(command: Command) -> set[str]:
-    uses = {"publish"}
+    uses = {"publish"} | of_name(command["topic"])
+    if len(command.get("payload", "")) > LONG:
+        uses.add("long payload")
     if command.get("retain"):
         uses.add("retain")
     if command.get("qos"):
@@ -133,9 +168,9 @@ def of_publish(command: Command) -> set[str]:
 def of_access(text: str) -> set[str]:
     """What an access list says, and the signs that its names have."""
     lines = [line.split(" ") for line in text.splitlines()]
-    signs = {"acl " + sign for sign in ("#", "+", "%c")
+    signs = {"acl " + sign for sign in ("#", "+", "%c", "%u")
              for words in lines if sign in words[-1]}
-    return {"acl"} | {" ".join(words[:-1]) for words in lines} | signs
+    return {"acl"} | {" ".join(words[:-1]) or words[0] for words in lines} | signs
 
 
 def uses(script: list[Command]) -> frozenset[str]:
@@ -143,6 +178,8 @@ def uses(script: list[Command]) -> frozenset[str]:
     found: set[str] = set()
     live: set[str] = set()
     before: set[tuple[str, str]] = set()
+    if len(script) > MANY:
+        found.add("many lines")
     for command in script:
         do = command["do"]
         if do == "subscribe":

@@ -2,38 +2,49 @@
 import json
 import time
 from collections.abc import Iterator
+from dataclasses import dataclass, field
 from typing import Protocol
 
 from ..common.exit_status import Fault
 from ..common.messages import in_words
+from ..live.line_difference import LineDifference
+from ..live.run_ends import NEVER, TimeIsUp
+from ..script.fresh_names import Marks, fresh
 from ..script.oracle import Oracle
 from ..script.output import Block, Command
-from .difference_kinds import Difference, Kind, kind
-from .random_scripts import Maker, Use, fresh
+from .difference_kinds import Difference, Kind, kind, separate
+from .exercised import Exercised
+from .known import Known
+from .random_scripts import Maker
 from .shrinking import connected, shrink
 
-MARK = "Z"  # around numbers, behind the names of a script
 TRIES = 2  # a broker may do the same thing now and then
 # one in so many scripts whose differences all seem known is made small all the same
 LOOK_AGAIN = 10
+LONGEST_SHRINKING = 60  # seconds
+HURRIED = 0.5  # seconds that a broker gets, while a script that it doesn't answer is made small
+NO_ANSWER = ": no answer"
 Script = list[Command]
 
 
 class Broker(Protocol):
     """The other side."""
-    use: Use
 
     def can_run(self, script: Script) -> bool: ...
 
-    def run(self, script: Script, blocks: list[Block]) -> list[Difference]: ...
+    def run(self, script: Script, blocks: list[Block], until: float = ...,
+            patience: float | None = ...) -> list[LineDifference]: ...
 
 
+@dataclass
 class Find:
     """A script that differs, with both sides' answers."""
-
-    def __init__(self, found: Kind, script: Script, answers: list[Block],
-                 differences: list[Difference]) -> None:
-        self.kind, self.script, self.answers, self.differences = found, script, answers, differences
+    kind: Kind
+    script: Script
+    answers: list[Block]
+    differences: list[Difference]
+    number: int = 0  # of the random script that it was made of; 0 for a known one
+    is_cut_off: bool = False  # in shrinking: it may not be the smallest
 
     def lines(self) -> list[str]:
         return [as_json(command) for command in self.script]
@@ -42,99 +53,185 @@ class Find:
         return [text.rstrip("\n") for answer in self.answers for text in answer.texts()]
 
     def report(self) -> list[str]:
-        """What replay.py prints for it."""
-        found: dict[int, list[str]] = {}
-        for difference in self.differences:
-            head = (f"line {difference.line}: "
-                    f"{json.dumps(self.script[difference.line - 1], ensure_ascii=False)}")
-            texts = found.setdefault(difference.line, [head])
-            texts += [] if difference.texts[0] in texts else difference.texts
-        return [text for texts in found.values() for text in texts]
+        """What replay prints for it."""
+        return report(self.script, self.differences)
+
+
+def report(script: Script, differences: list[Difference]) -> list[str]:
+    found: dict[int, list[str]] = {}
+    for difference in differences:
+        command = json.dumps(script[difference.line - 1], ensure_ascii=False)
+        texts = found.setdefault(difference.line, [f"line {difference.line}: {command}"])
+        texts += [] if difference.texts[0] in texts else difference.texts
+    return [text for texts in found.values() for text in texts]
 
 
 def as_json(value: Command) -> str:
     return json.dumps(value, separators=(",", ":"), ensure_ascii=False)
 
 
-class Search:
-    def __init__(self, broker: Broker, oracle: Oracle, until: float = float("inf")) -> None:
-        self.broker, self.oracle, self.until = broker, oracle, until
-        # a broker may remember names of an earlier search
-        self.began = int(time.time()) % 0x1000000
-        self.known: list[Kind] = []
-        self.runs = self.scripts = self.passing = 0
+@dataclass
+class Unrepeated:
+    """A difference that was seen once and not again."""
+    number: int
+    script: Script
+    difference: Difference
 
-    def run(self, script: Script) -> list[Difference]:
+
+@dataclass
+class Search:
+    broker: Broker
+    oracle: Oracle
+    until: float = NEVER
+    known: list[Known] = field(default_factory=list)
+    found: list[Kind] = field(default_factory=list)
+    passing: list[Unrepeated] = field(default_factory=list)
+    exercised: Exercised = field(default_factory=Exercised)
+    runs: int = 0
+    scripts: int = 0  # that were run to their end
+    number: int = 0  # of the script that is looked at
+    time_is_up: bool = False
+
+    def __post_init__(self) -> None:
+        self.marks = Marks()
+        self.ran: tuple[Script, list[Block]] = [], []  # the last script, as it was sent
+
+    def run(self, script: Script, patience: float | None = None) -> list[Difference]:
         """What differs, with names that no script before had."""
         self.runs += 1
-        mark = f"{MARK}{self.began:x}{MARK}{self.runs}{MARK}"
+        mark = self.marks.next()
         marked = fresh(script, mark)
-        blocks = self.oracle.blocks(marked)
+        self.ran = marked, blocks = marked, self.oracle.blocks(marked)
         try:
-            found = self.broker.run(marked, blocks)
+            found = self.broker.run(marked, blocks, self.until, patience)
         except OSError as fault:
             text = "\n".join(map(as_json, script))
             raise Fault(f"the broker is gone ({in_words(fault)}) in this script, "
                         f"or after the one before:\n{text}") from fault
-        return [one._replace(texts=[text.replace(mark, "") for text in one.texts]) for one in found]
+        return [one for line in found
+                for one in separate(line.line, line.did, [text.replace(mark, "")
+                                                          for text in line.texts], line.ended)]
 
-    def is_known(self, found: Kind) -> bool:
-        return any(one.covers(found) for one in self.known)
+    # -- what is known
 
-    def differs(self, script: Script, what: str, but: list[Kind]) -> Difference | None:
-        """The script's first difference that is this one, and of none of these kinds."""
-        for difference in self.run(script):
-            if (difference.what == what
-                    and not any(one.covers(kind(script, difference)) for one in but)):
-                return difference
-        return None
+    def is_new(self, found: Kind) -> bool:
+        """Whether it is of no known kind; a known one is seen then."""
+        for one in self.known:
+            if one.covers(found):
+                one.seen_in |= {self.number} if self.number else set()
+                return False
+        return not any(one.covers(found) for one in self.found)
 
-    def smallest(self, script: Script, difference: Difference, but: list[Kind]) -> Script | None:
-        """The smallest script with this difference; None where it isn't seen again."""
-        def still(candidate: Script) -> bool:
-            return (time.monotonic() < self.until
-                    and self.differs(candidate, difference.what, but) is not None)
-        script = connected(script[:difference.line])
-        if not any(self.differs(script, difference.what, but) for _ in range(TRIES)):
-            return None
-        return shrink(script, still)
+    def kinds(self) -> list[Kind]:
+        return [*self.found, *(found for one in self.known for found in one.kinds)]
+
+    # -- making it small
+
+    def differs(self, script: Script, what: str, but: list[Kind],
+                patience: float | None = None) -> list[Difference]:
+        """The script's differences if one is this, of none of these kinds: it first."""
+        found = self.run(script, patience)
+        for one in found:
+            if one.what == what and not any(it.covers(kind(script, one)) for it in but):
+                return [one, *(other for other in found if other is not one)]
+        return []
 
     def find(self, script: Script, difference: Difference, but: list[Kind]) -> Find | None:
         """The difference in its smallest script, if it is of no kind that is known;
         from then on its kind is."""
-        small = self.smallest(script, difference, but) or []
-        for _ in range(TRIES if small else 0):
-            differences = self.run(small)
-            for one in differences:
-                if one.what == difference.what:
-                    return self.new(small, differences, one)
-        self.passing += 1
-        return None
-
-    def new(self, script: Script, differences: list[Difference],
-            difference: Difference) -> Find | None:
-        found = kind(script, difference)
-        if self.is_known(found):
+        what, small = difference.what, Smaller(self, difference.what, but)
+        script = connected(script[:difference.line])
+        found = small.made(script)
+        if found is None:
+            self.passing.append(Unrepeated(self.number, script, difference))
             return None
-        self.known.append(found)
-        return Find(found, script, self.oracle.blocks(script), differences)
+        script, differences = found
+        if not small.is_cut_off:
+            again = (self.differs(script, what, []) for _ in range(TRIES))
+            confirmed = next((one for one in again if one), None)
+            if confirmed is None:
+                self.passing.append(Unrepeated(self.number, script, difference))
+                return None
+            differences = confirmed
+        return self.new(script, differences, small.is_cut_off)
+
+    def new(self, script: Script, differences: list[Difference], is_cut_off: bool) -> Find | None:
+        found = kind(script, differences[0])
+        if not self.is_new(found):
+            return None
+        self.found.append(found)
+        return Find(found, script, self.oracle.blocks(script),
+                    sorted(differences, key=lambda one: one.line), self.number, is_cut_off)
+
+    # -- searching
 
     def all_of(self, script: Script) -> Iterator[Find]:
         """The kinds of differences in a script that are new."""
         differences = self.run(script)
-        new = [one for one in differences if not self.is_known(kind(script, one))]
-        if not new and differences and self.scripts % LOOK_AGAIN == 0:
-            found = self.find(
-                script, differences[self.scripts // LOOK_AGAIN % len(differences)], [])
-            if found:
-                yield found
+        self.exercised.add(*self.ran)
+        self.scripts += 1
+        new = [one for one in differences if self.is_new(kind(script, one))]
+        if not new and differences and self.number % LOOK_AGAIN == 0:
+            chosen = differences[self.number // LOOK_AGAIN % len(differences)]
+            yield from self.some(self.find(script, chosen, []))
         for difference in new:
-            if not self.is_known(kind(script, difference)) and time.monotonic() < self.until:
-                found = self.find(script, difference, self.known)
-                if found:
-                    yield found
+            yield from self.another(script, difference)
 
-    def finds(self, maker: Maker) -> Iterator[Find]:
-        while time.monotonic() < self.until:
-            self.scripts += 1
-            yield from self.all_of(maker.script())
+    def another(self, script: Script, difference: Difference) -> Iterator[Find]:
+        """What a difference of a script is, if it is of no kind that is known by now."""
+        if self.is_new(kind(script, difference)):
+            yield from self.some(self.find(script, difference, self.kinds()))
+
+    def some(self, find: Find | None) -> Iterator[Find]:
+        if find:
+            yield find
+
+    def finds(self, maker: Maker, numbers: Iterator[int]) -> Iterator[Find]:
+        """Those in the scripts of these numbers, until the time is up."""
+        return self.guarded(self.in_scripts(maker, numbers))
+
+    def in_scripts(self, maker: Maker, numbers: Iterator[int]) -> Iterator[Find]:
+        for self.number in numbers:
+            if time.monotonic() > self.until:
+                raise TimeIsUp
+            script = maker.script(self.number)
+            if self.broker.can_run(script):
+                yield from self.all_of(script)
+
+    def guarded(self, finds: Iterator[Find]) -> Iterator[Find]:
+        """The same, until the time is up."""
+        try:
+            yield from finds
+        except TimeIsUp:
+            self.time_is_up = True
+
+
+class Smaller:
+    """Makes a script smaller for as long as it differs in one way."""
+
+    def __init__(self, search: Search, what: str, but: list[Kind]) -> None:
+        self.search, self.what, self.but = search, what, but
+        self.end = min(search.until, time.monotonic() + LONGEST_SHRINKING)
+        self.patience = HURRIED if what.endswith(NO_ANSWER) else None
+        self.is_cut_off = False
+        self.last: list[Difference] = []
+
+    def still(self, script: Script) -> bool:
+        if time.monotonic() > self.end:
+            self.is_cut_off = True
+        if self.is_cut_off or not self.search.broker.can_run(script):
+            return False
+        try:
+            found = self.search.differs(script, self.what, self.but, self.patience)
+        except TimeIsUp:
+            self.is_cut_off = True
+            return False
+        self.last = found or self.last
+        return bool(found)
+
+    def made(self, script: Script) -> tuple[Script, list[Difference]] | None:
+        """The smallest script, and what differs; None where it isn't seen again."""
+        if not any(self.still(script) for _ in range(TRIES)) and not self.is_cut_off:
+            return None
+        small = shrink(script, self.still)
+        return (small, self.last) if self.last else None

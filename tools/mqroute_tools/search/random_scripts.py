@@ -1,173 +1,304 @@
-"""Random scripts of few names, in which much comes together; and what of MQTT they may use."""
+"""Random scripts of few names, in which much comes together."""
 import random
-from collections.abc import Callable, Iterable
+from collections.abc import Callable
 from typing import NamedTuple
 
 from ..live.wills import PAYLOAD
 from ..script.output import Command
+from ..script.sessions import FOREVER
+from .parts import ACCESS, CLOCK, OLD_SESSIONS, PARTS, Use
+from .random_lists import USERS, random_list
 
-CLIENTS = "abc"
-TOPICS = ["x", "x", "x/y", "x/y", "y", "/", "x/", "x/y/z"]
-FILTERS = ["x", "x/y", "x/y", "#", "x/#", "+/y", "+", "x/+", "+/+", "/#", "+/#", "y"]
-DOLLAR_TOPICS, DOLLAR_FILTERS = ["$x", "$x/y"], ["$x", "$x/#", "$x/+"]
-FEWEST, MOST = 6, 20  # lines
-# how often each command is made
-OFTEN = {"connect": 4, "disconnect": 3, "subscribe": 10, "unsubscribe": 2, "publish": 12}
+CLIENTS = "abcd"
+TOPICS = ["x", "x", "x/y", "x/y", "y", "/", "x/", "x/y/z", "X/y", "\u00e9/x", "x/y/z/v/w",
+          "x/y/z/v/u"]
+DOLLAR_TOPICS = ["$x", "$x/y", "$x"]
+IDENTIFIERS = [1, 2, 3, 127, 128, 16384, 268_435_455]  # at the edges of their encoding, too
+FEWEST, MOST = 8, 30  # commands behind the first connects
 MOST_NAMES = 4  # topics, and filters
 LEFT_OUT = 0.25  # how often a script leaves a part out
-KEPT = 1000  # seconds that a session or a message is kept; the clock isn't moved
-ACCESS = "access"  # lists that begin a script, where the broker can be given them
-PARTS = ("groups", "retained", "wildcards", "identifiers", "sessions", "expiry", "options",
-         "dollar", "wills", "qos2", "qos")
-
-
-class Use(NamedTuple):
-    """What the scripts use: the parts by name."""
-    parts: frozenset[str] = frozenset(PARTS)
-
-    def has(self, part: str) -> bool:
-        return part in self.parts
-
-    def without(self, parts: Iterable[str]) -> "Use":
-        left = self.parts - set(parts)
-        return Use(left - {"qos2"} if "qos" not in left else left)
-
-    def qos(self) -> int:
-        return 2 if self.has("qos2") else int(self.has("qos"))
+KEPT = 1000  # seconds that a session or a message is kept
+# Seconds after which it ends, and that are longer; and a part of those that it is kept, in which
+# more passes than replay grants.
+ENDS, LONGER, PART = 1, 2, 4
+LONG = 2000  # bytes of a long payload
+MANY = 60  # retained messages, where there are many
+# How often a script has a scene, of those that the parts allow; and how often one of the clock.
+SCENES, CLOCK_SCENES, MANY_SCENES = 0.45, 0.03, 0.015
 
 
 class Maker:
-    """Makes scripts in which every command is of a client that is connected. Each has few names, so
-    that they meet, and leaves out some parts, so that what goes wrong with one part doesn't hide
-    the others."""
+    """Makes scripts by number: the same for the same seed, whichever were made before."""
+
+    def __init__(self, seed: int, use: Use) -> None:
+        self.seed, self.use = seed, use
+
+    def script(self, number: int) -> list[Command]:
+        return RandomScript(random.Random(f"{self.seed}/{number}"), self.use).made()
+
+
+class Names(NamedTuple):
+    """Those of one script: few, so that they meet."""
+    clients: str
+    topics: list[str]
+    filters: list[str]  # made of the topics
+    shares: list[str]
+    users: dict[str, str]  # by client
+
+    @classmethod
+    def chosen(cls, chance: random.Random, use: Use) -> "Names":
+        all_topics = TOPICS + (DOLLAR_TOPICS if use.has("dollar") else [])
+        topics = [chance.choice(all_topics) for _ in range(chance.randint(1, MOST_NAMES))]
+        filters = [widened(chance, chance.choice(topics)) if use.has("wildcards")
+                   else chance.choice(topics) for _ in range(chance.randint(1, MOST_NAMES))]
+        users = {client: chance.choice(USERS) for client in CLIENTS
+                 if use.has(ACCESS) and chance.random() < 0.5}
+        return cls(CLIENTS if chance.random() < 0.7 else CLIENTS[:-1], topics, filters,
+                   chance.choice([["g"], ["g"], ["g", "h"]]), users)
+
+
+def widened(chance: random.Random, topic: str) -> str:
+    """A filter that matches the topic, unless that begins with `$`."""
+    levels = ["+" if chance.random() < 0.25 else level for level in topic.split("/")]
+    if chance.random() < 0.35:
+        levels[chance.randint(0, len(levels)):] = ["#"]
+    return "/".join(levels)
+
+
+class RandomScript:
+    """Every command is of a client that is connected. Some parts are left out, so that what goes
+    wrong with one doesn't hide the others."""
 
     def __init__(self, chance: random.Random, use: Use) -> None:
-        self.chance, self.all = chance, use
-        self.choose()
+        self.chance = chance
+        self.use = use.without([part for part in PARTS if chance.random() < LEFT_OUT])
+        self.names = Names.chosen(chance, self.use)
+        self.live: list[str] = []
+        self.away: list[str] = []
+        self.published = 0
+        self.lines: list[Command] = []
 
-    def access(self) -> Command:
-        """A list of a few lines that speak of the script's names."""
-        lines = []
-        for _ in range(self.chance.randint(1, MOST_NAMES)):
-            name = self.chance.choice(self.topics + self.filters)
-            keyword = self.chance.choice(["topic", "topic", "pattern"])
-            if keyword == "pattern" and self.chance.random() < 0.5:
-                levels = name.split("/")
-                levels[self.chance.randrange(len(levels))] = "%c"
-                name = "/".join(levels) if "#" not in levels[:-1] else name
-            access = self.chance.choice(["read ", "write ", "readwrite ", "deny ", ""])
-            lines.append(f"{keyword} {access}{name}")
-        return {"do": "acl", "text": "".join(line + "\n" for line in lines)}
-
-    def choose(self) -> None:
-        """What the next script has."""
+    def made(self) -> list[Command]:
         chance = self.chance
-        use = self.use = self.all.without([part for part in PARTS if chance.random() < LEFT_OUT])
-        topics = TOPICS + (DOLLAR_TOPICS if use.has("dollar") else [])
-        wildcards = FILTERS + (DOLLAR_FILTERS if use.has("dollar") else [])
-        filters = wildcards if use.has("wildcards") else topics
-        self.topics = [chance.choice(topics) for _ in range(chance.randint(1, MOST_NAMES))]
-        self.filters = [chance.choice(filters) for _ in range(chance.randint(1, MOST_NAMES))]
+        if self.use.has(ACCESS) and chance.random() > LEFT_OUT:
+            self.lines.append(self.access())
+        for client in self.names.clients:
+            if chance.random() < 0.9 or client == "a":
+                self.connect(client)
+            else:
+                self.away.append(client)
+        if self.use.has(CLOCK) and chance.random() < CLOCK_SCENES and self.clock_scene():
+            return self.lines
+        for _ in range(chance.randint(FEWEST, MOST)):
+            self.any_command()
+        if chance.random() < SCENES:
+            self.scene()
+        for _ in range(chance.randint(0, FEWEST)):
+            self.any_command()
+        return self.lines
+
+    # -- what is chosen
 
     def may(self, part: str, probability: float) -> bool:
         return self.chance.random() < probability and self.use.has(part)
 
+    def access(self) -> Command:
+        return random_list(self.chance, self.names.topics + self.names.filters)
+
     def filter(self) -> str:
-        name = self.chance.choice(self.filters)
-        return f"$share/{self.chance.choice('gh')}/{name}" if self.may("groups", 0.25) else name
+        name = self.chance.choice(self.names.filters)
+        return self.shared(name) if self.may("groups", 0.35) else name
+
+    def shared(self, name: str) -> str:
+        return f"$share/{self.chance.choice(self.names.shares)}/{name}"
 
     def with_qos(self, command: Command) -> Command:
         qos = self.chance.randint(0, self.use.qos())
         return command | ({"qos": qos} if qos else {})
 
-    def connect(self, away: list[str]) -> Command:
-        """Rather a client that comes back."""
-        back = bool(away) and self.chance.random() < 0.6
-        command: Command = {
-            "do": "connect", "client": self.chance.choice(away if back else CLIENTS)}
-        if self.may("sessions", 0.8 if back else 0.2):
-            command["clean"] = False
-        if self.may("sessions", 0.6):
-            command["session_expiry"] = KEPT
-        return command
+    def payload(self) -> str:
+        self.published += 1
+        return self.chance.choice(
+            [str(self.published)] * 5 + ["", "p" * LONG + str(self.published)])
 
-    def subscribe(self, client: str) -> Command:
+    # -- commands
+
+    def any_command(self) -> None:
+        chance = self.chance
+        often = {"connect": 2 if self.away else 0.4, "disconnect": 1.6, "subscribe": 9,
+                 "unsubscribe": 1.5, "publish": 14, "acl": 0.5 if self.use.has(ACCESS) else 0}
+        do = chance.choices([*often], [*often.values()])[0]
+        if do == "acl":
+            self.lines.append(self.access())
+        elif do == "connect" or not self.live:
+            self.connect(chance.choice(self.away or self.live))
+        else:
+            make: Callable[[str], None] = getattr(self, do)
+            make(chance.choice(self.live))
+
+    def connect(self, client: str, **more: object) -> None:
+        is_back = client in self.away or client in self.live
+        command: Command = {"do": "connect", "client": client}
+        if client in self.names.users:
+            command["user"] = self.names.users[client]
+        if self.use.has(OLD_SESSIONS):
+            if self.may("sessions", 0.7):
+                command |= {"clean": False, "session_expiry": FOREVER}
+        else:
+            if self.may("sessions", 0.8 if is_back else 0.2):
+                command["clean"] = False
+            if self.may("sessions", 0.7):
+                command["session_expiry"] = KEPT
+        self.lines.append(command | more)
+        self.live = sorted({*self.live, client})
+        self.away = [name for name in self.away if name != client]
+
+    def disconnect(self, client: str) -> None:
+        if self.may("wills", 0.4):
+            self.publish(client, payload=PAYLOAD)
+        self.leave(client)
+
+    def leave(self, client: str) -> None:
+        self.lines.append({"do": "disconnect", "client": client})
+        self.live.remove(client)
+        self.away = sorted({*self.away, client})
+
+    def subscribe(self, client: str, **more: object) -> None:
         command = self.with_qos({"do": "subscribe", "client": client, "filter": self.filter()})
+        command |= more
         if self.may("options", 0.2) and not command["filter"].startswith("$share/"):
             command["no_local"] = True
         if self.may("options", 0.25):
             command["rap"] = True
         if self.may("options", 0.3):
             command["handling"] = self.chance.randint(1, 2)
-        if self.may("identifiers", 0.3):
-            command["id"] = self.chance.randint(1, 9)
-        return command
+        if self.may("identifiers", 0.5):
+            command["id"] = self.chance.choice(IDENTIFIERS)
+        self.lines.append(command)
 
-    def publish(self, client: str, payloads: tuple[str, ...] = ("1", "2", "3", "")) -> Command:
+    def unsubscribe(self, client: str) -> None:
+        self.lines.append({"do": "unsubscribe", "client": client, "filter": self.filter()})
+
+    def publish(self, client: str, **more: object) -> None:
         command: Command = {
-            "do": "publish", "client": client, "topic": self.chance.choice(self.topics),
-            "payload": self.chance.choice(payloads)}
+            "do": "publish", "client": client, "topic": self.chance.choice(self.names.topics),
+            "payload": self.payload()}
         command = self.with_qos(command)
-        if self.may("retained", 0.45):
+        if self.may("retained", 0.4):
             command["retain"] = True
         if self.may("expiry", 0.15):
             command["expiry"] = self.chance.choice([0, KEPT])
-        return command
+        self.lines.append(command | more)
 
-    def script(self) -> list[Command]:
-        self.choose()
-        live: set[str] = set()
-        away: set[str] = set()
-        made: list[Command] = []
-        if self.use.has(ACCESS) and self.chance.random() > LEFT_OUT:
-            made.append(self.access())
-        for _ in range(self.chance.randint(FEWEST, MOST)):
-            do = self.chance.choices([*OFTEN], [*OFTEN.values()])[0]
-            if do == "connect" or not live:
-                made.append(self.connect(sorted(away)))
-                live.add(made[-1]["client"])
-                away.discard(made[-1]["client"])
-                continue
-            client = self.chance.choice(sorted(live))
-            if do == "disconnect":
-                made += [self.publish(client, (PAYLOAD,))] if self.may("wills", 0.4) else []
-                made.append({"do": do, "client": client})
-                live.discard(client)
-                away.add(client)
-            elif do == "unsubscribe":
-                made.append({"do": do, "client": client, "filter": self.filter()})
-            else:
-                made.append(self.subscribe(client) if do == "subscribe" else self.publish(client))
-        return made
+    # -- scenes: what random commands make too seldom
 
+    def scene(self) -> None:
+        scenes = [self.overlapping]
+        scenes += [self.leaves_and_returns] * 3 if self.use.has("sessions") else []
+        scenes += [self.group_of_several] * 2 if self.use.has("groups") else []
+        scenes += [self.retained_of_all] if self.use.has("retained") else []
+        if self.may("retained", MANY_SCENES / SCENES):
+            scenes = [self.many_retained]
+        self.chance.choice(scenes)()
 
-def fresh_name(name: str, mark: str) -> str:
-    """Each level of a topic or filter with the mark behind it, but for those
-    that have a meaning."""
-    levels = name.split("/")
-    if levels[0] == "$share" and len(levels) > 2:
-        return "/".join(["$share", *(fresh_name(level, mark) for level in levels[1:])])
-    return "/".join(level if level in ("", "+", "#", "%c") else level + mark for level in levels)
+    def someone(self) -> str:
+        """A client that is connected."""
+        if not self.live:
+            self.connect(self.chance.choice(self.names.clients))
+        return self.chance.choice(self.live)
 
+    def one_filter(self, topic: str) -> str:
+        return widened(self.chance, topic) if self.use.has("wildcards") else topic
 
-def with_names(text: str, named: Callable[[str], str]) -> str:
-    """An access list whose lines speak of other names."""
-    lines = [line.rsplit(" ", 1) for line in text.splitlines()]
-    return "".join(f"{words} {named(name)}\n" for words, name in lines)
+    def best_qos(self) -> Command:
+        return {"qos": self.use.qos()} if self.use.has("qos") else {}
 
+    def kept(self, seconds: int = KEPT) -> Command:
+        """A session that lasts, begun anew where the protocol can say so."""
+        if self.use.has(OLD_SESSIONS):
+            return {"clean": False, "session_expiry": FOREVER}
+        return {"clean": True, "session_expiry": seconds}
 
-def fresh(script: list[Command], mark: str) -> list[Command]:
-    """The script with names of its own, so that nothing that a broker still
-    keeps of others is met."""
-    return [command | fresh_fields(command, mark) for command in script]
+    def leaves_and_returns(self) -> None:
+        """With messages that wait, of each QoS."""
+        client = self.chance.choice(self.away or list(self.names.clients))
+        topic = self.names.topics[0]
+        self.connect(client, **self.kept())
+        for _ in range(self.chance.randint(1, 2)):
+            self.subscribe(client, filter=self.one_filter(topic), **self.best_qos())
+        self.leave(client)
+        for _ in range(self.chance.randint(1, 5)):
+            more = {"topic": topic} if self.chance.random() < 0.7 else {}
+            self.publish(self.someone(), **more)
+        self.connect(client, **self.kept() | {"clean": False})
 
+    def group_of_several(self) -> None:
+        topic = self.names.topics[0]
+        name = self.shared(self.one_filter(topic))
+        for client in self.live:
+            self.subscribe(client, filter=name)
+        for _ in range(self.chance.randint(2, 5)):
+            self.publish(self.someone(), topic=topic)
 
-def fresh_fields(command: Command, mark: str) -> Command:
-    """The command's names, each with the mark."""
-    fields = {field: fresh_name(command[field], mark)
-              for field in ("topic", "filter") if field in command}
-    if "client" in command:
-        fields["client"] = command["client"] + mark
-    if "text" in command:
-        fields["text"] = with_names(command["text"], lambda name: fresh_name(name, mark))
-    return fields
+    def overlapping(self) -> None:
+        """Plain subscriptions of one client that match one topic."""
+        client, topic = self.someone(), self.names.topics[0]
+        for _ in range(2):
+            self.subscribe(client, filter=self.one_filter(topic))
+        for _ in range(2):
+            self.publish(self.someone(), topic=topic)
+
+    def retained_of_all(self) -> None:
+        """One on each topic, and a filter for all."""
+        for topic in self.names.topics:
+            self.publish(self.someone(), topic=topic, retain=True)
+        more = {"filter": "#"} if self.use.has("wildcards") else {}
+        self.subscribe(self.someone(), **more)
+
+    def many_retained(self) -> None:
+        writer = self.someone()
+        self.lines += [{"do": "publish", "client": writer, "topic": f"m/{number}",
+                        "payload": str(number), "retain": True} for number in range(MANY)]
+        self.subscribe(self.someone(),
+                       filter="m/#" if self.use.has("wildcards") else "m/0")
+
+    # -- scenes in which a part of the time passes, or all of it
+
+    def clock_scene(self) -> bool:
+        """Whether there can be one."""
+        use = self.use
+        scenes = [self.session_ends] if use.has("sessions") and not use.has(OLD_SESSIONS) else []
+        if use.has("expiry"):
+            scenes += [self.waiting_message_expires] if use.has("sessions") else []
+            scenes += [self.retained_message_expires] if use.has("retained") else []
+        if scenes:
+            over = self.chance.random() < 0.6
+            self.chance.choice(scenes)(*((ENDS, LONGER) if over else (KEPT, PART)))
+        return bool(scenes)
+
+    def advance(self, seconds: int) -> None:
+        self.lines.append({"do": "advance", "seconds": seconds})
+
+    def session_ends(self, seconds: int, pause: int) -> None:
+        client, topic = self.someone(), self.names.topics[0]
+        self.connect(client, **self.kept(seconds))
+        self.subscribe(client, filter=topic)
+        self.leave(client)
+        self.advance(pause)
+        self.connect(client, clean=False)
+        self.publish(client, topic=topic)
+
+    def waiting_message_expires(self, seconds: int, pause: int) -> None:
+        client, topic = self.someone(), self.names.topics[0]
+        self.connect(client, **self.kept())
+        self.subscribe(client, filter=topic, **self.best_qos())
+        self.leave(client)
+        self.publish(self.someone(), topic=topic, payload="1", expiry=seconds, **self.best_qos())
+        self.advance(pause)
+        self.connect(client, **self.kept() | {"clean": False})
+
+    def retained_message_expires(self, seconds: int, pause: int) -> None:
+        topic = self.names.topics[0]
+        self.publish(self.someone(), topic=topic, payload="1", expiry=seconds, retain=True)
+        self.advance(pause)
+        self.subscribe(self.someone(), filter=topic)

@@ -1,114 +1,155 @@
-"""search: searches for differences between a live MQTT 5 broker and mqroute: random scripts on
+"""search: searches for differences between a live MQTT broker and mqroute: random scripts on
 both, each that differs made as small as it goes on differing in that way.
 
 The broker must be one that may be tried with anything, with no access list (but those of --on-acl)
 and no other clients: sessions and retained messages are made and removed. What its CONNACK doesn't
-offer isn't asked for. Differences that the scripts in differences/, or in FOLDER, show are passed
-over.
-Exit status: 0 nothing new was found; 1 something was; 2 usage, a file, the broker.
+offer isn't asked for. Differences that the scripts in a --known FOLDER show, as they are stored
+there, are passed over.
+Exit status: 0 nothing new was found; 1 something was; 2 usage, a file, the broker, or no script
+was run.
 """
 import argparse
-import random
-import re
+import itertools
 import time
+from collections.abc import Iterator
 from pathlib import Path
 
 from ..common.exit_status import Fault
-from ..common.files import whole
-from ..common.messages import counted, tell
-from ..common.option_values import amount, port, whole_number
-from ..live.options import BrokerOptions, add_waiting
+from ..common.messages import tell
+from ..common.option_values import amount, whole_number
+from ..live.offer import Offer
+from ..live.options import BrokerOptions, add_broker, add_waiting
 from ..script.oracle import Oracle, OracleFault
 from .finds import Find, Search
-from .known_scripts import KNOWN, learn
-from .random_scripts import ACCESS, PARTS, Maker
+from .known import Known, known_differences
+from .parts import ACCESS, ALL, CLOCK, OLD_SESSIONS, Use
+from .random_scripts import Maker
+from .search_report import Report
 
-
-def saved(folder: Path | None) -> int:
-    """The greatest number of a find that an earlier search saved there."""
-    names = [file.name for file in folder.iterdir()] if folder else []
-    found = (re.fullmatch(r"find-(\d+)\.(?:jsonl|out|diff)", name) for name in names)
-    return max((int(name[1]) for name in found if name), default=0)
-
-
-def show(find: Find, number: int, folder: Path | None) -> None:
-    print(f"find {number}: {find.kind.what}, with {', '.join(sorted(find.kind.uses))}")
-    print("\n".join([*find.lines(), "", *find.report(), ""]), flush=True)
-    if folder:
-        for end, lines in (
-                (".jsonl", find.lines()), (".out", find.output()), (".diff", find.report())):
-            with whole(str(folder / f"find-{number}{end}")) as out:
-                out.writelines((line + "\n").encode("utf-8") for line in lines)
+MINUTES = 10.0
+SHOWN = 5  # topics of a broker that isn't empty
 
 
 def parts(text: str) -> list[str]:
     names = text.split(",")
     for name in names:
-        if name not in (*PARTS, ACCESS):
-            raise argparse.ArgumentTypeError(f"{name!r} is none of {', '.join((*PARTS, ACCESS))}")
+        if name not in ALL:
+            raise argparse.ArgumentTypeError(f"{name!r} is none of {', '.join(ALL)}")
     return names
 
 
-def sums(search: Search, finds: int, seconds: float) -> str:
-    runs, kinds = counted(search.runs, "runs"), "kind" if finds == 1 else "kinds"
-    return (f"{counted(search.scripts, 'scripts')}, {runs} in {seconds:.0f} s; "
-            f"{finds} new {kinds} of differences; {search.passing} not seen again")
+def offered(offer: Offer, options: argparse.Namespace) -> Use:
+    """What the scripts may use: what the CONNACK says that the broker has, and the options let.
+    With access lists no topic that begins with `$` is for all."""
+    lacks = {"retained": not offer.retain, "groups": not offer.shared,
+             "wildcards": not offer.wildcards, "identifiers": not offer.identifiers,
+             "options": not offer.is_5, "expiry": not offer.is_5,
+             "qos2": offer.greatest_qos < 2, "qos": offer.greatest_qos < 1}
+    use = Use()
+    if options.on_acl:
+        use = use.with_part(ACCESS).without(["dollar"])
+    if options.clock:
+        use = use.with_part(CLOCK)
+    use = use.without(part for part, lacking in lacks.items() if lacking)
+    return (use if offer.is_5 else use.with_part(OLD_SESSIONS)).without(options.without)
 
 
-def searched(search: Search, options: argparse.Namespace) -> int:
-    """How many kinds are found, each shown."""
-    start, before, number = time.monotonic(), saved(options.save), 0
-    heads: list[str] = []
+def learn(search: Search, known: list[Known]) -> Iterator[Find]:
+    """Runs what is known. What differs there in another way than it is stored is new, unless it
+    is of a known kind."""
+    others = []
+    for one in known:
+        if not one.left_out and not search.broker.can_run(one.script):
+            one.left_out = "the broker doesn't offer what it uses"
+        if not one.left_out:
+            others.append((one, one.compare(search.run(one.script))))
+    search.known = known
+    for one, differences in others:
+        for difference in differences:
+            yield from search.another(one.script, difference)
+
+
+def numbers(options: argparse.Namespace) -> Iterator[int]:
+    """Those of the scripts that are run."""
+    if options.only:
+        return iter([options.only])
+    return iter(range(1, options.scripts + 1)) if options.scripts else itertools.count(1)
+
+
+def searched(search: Search, use: Use, known: list[Known], options: argparse.Namespace) -> Report:
+    """All that was found, each shown."""
+    report = Report(search, options)
     try:
-        known = learn(search, [*KNOWN, *options.known])
-        are = "is" if known == 1 else "are"
-        tell(f"{counted(known, 'kinds of differences')} {are} known of this broker "
-             f"({counted(search.runs, 'runs')})")
-        maker = Maker(random.Random(options.seed), search.broker.use.without(options.without))
-        for number, find in enumerate(search.finds(maker), 1):
-            show(find, before + number, options.save)
-            heads.append(f"find {before + number}: {find.kind.what}")
+        for find in itertools.chain(
+                search.guarded(learn(search, known)),
+                search.finds(Maker(options.seed, use), numbers(options))):
+            report.add(find)
     except KeyboardInterrupt:
-        for text in [*heads, sums(search, number, time.monotonic() - start)]:
-            tell(text)
+        report.interrupted()
         raise
-    tell(sums(search, number, time.monotonic() - start))
-    return number
+    report.end()
+    return report
 
 
-def add_arguments(parser: argparse.ArgumentParser) -> None:
-    parser.description = (
-        "Searches for differences between a live MQTT 5 broker, which may be tried with anything, "
-        "and mqroute.")
-    parser.add_argument("--host", default="127.0.0.1")
-    parser.add_argument("--port", type=port, default=1883)
-    parser.add_argument("--username", metavar="NAME", help="user name of all clients")
-    parser.add_argument("--password", metavar="TEXT", help="password of all clients")
+def tell_of_held(held: list[str]) -> None:
+    if held:
+        more = "" if len(held) <= SHOWN else f" and {len(held) - SHOWN} more"
+        tell(f"the broker isn't empty: it retains {', '.join(held[:SHOWN])}{more}: "
+             "what is found may be of these")
+
+
+def add_what(parser: argparse.ArgumentParser) -> None:
+    """The options that say what is tried."""
     parser.add_argument("--on-acl", metavar="COMMAND",
                         help="try access lists too: what the shell does to let the broker read the "
                         "one in the file $MQROUTE_ACL, "
                         "as by: cp \"$MQROUTE_ACL\" /tmp/acl && kill -HUP 123")
-    parser.add_argument("--minutes", type=amount, default=10, metavar="N",
-                        help="how long to search (default 10)")
+    parser.add_argument("--clock", action="store_true",
+                        help="let some scripts wait in real time, for sessions and messages that "
+                        "expire")
+    parser.add_argument("--minutes", type=amount, default=MINUTES, metavar="N",
+                        help="how long to search at most (default 10)")
+    parser.add_argument("--scripts", type=whole_number(1), metavar="N",
+                        help="run so many scripts, if the time allows")
     parser.add_argument("--seed", type=whole_number(0), default=1, metavar="N",
                         help="of the random scripts (default 1)")
+    parser.add_argument("--only", type=whole_number(1), metavar="N",
+                        help="run the script of this number alone")
     parser.add_argument("--without", type=parts, action="extend", default=[], metavar="PART,..",
-                        help=f"leave these out of the scripts: {', '.join((*PARTS, ACCESS))}")
+                        help=f"leave these out of the scripts: {', '.join(ALL)}")
     parser.add_argument("--known", type=Path, action="append", default=[], metavar="FOLDER",
-                        help="pass over what the scripts NAME.jsonl in it show, too")
+                        help="pass over what the scripts NAME.jsonl in it show as NAME.diff has it")
+
+
+def add_arguments(parser: argparse.ArgumentParser) -> None:
+    parser.description = (
+        "Searches for differences between a live MQTT broker, which may be tried with anything, "
+        "and mqroute.")
+    add_broker(parser, "user name of all clients")
+    add_what(parser)
     parser.add_argument("--save", type=Path, metavar="FOLDER",
                         help="write each find there as find-N.jsonl, .out and .diff")
+    parser.add_argument("--junit", metavar="FILE", help="write the finds as JUnit's XML, too")
+    parser.add_argument("--json", action="store_true",
+                        help="print each find, and last a summary, as JSON on a line")
+    parser.add_argument("--verbose", action="store_true",
+                        help="print what was not seen again, too")
     add_waiting(parser)
 
 
 def run(options: argparse.Namespace) -> int:
     if options.save:
         options.save.mkdir(parents=True, exist_ok=True)
-    from .live_broker import LiveBroker  # wants paho
+    known = [one for folder in options.known
+             for one in known_differences(folder, bool(options.on_acl), options.clock)]
+    from ..live.live_broker import LiveBroker  # wants paho
+    until = time.monotonic() + 60 * options.minutes
     try:
         with Oracle() as oracle:
-            until = time.monotonic() + 60 * options.minutes
             broker = LiveBroker(BrokerOptions.of(options))
-            return 1 if searched(Search(broker, oracle, until), options) else 0
+            tell_of_held(broker.held)
+            search = Search(broker, oracle, until)
+            report = searched(search, offered(broker.offer, options), known, options)
     except OracleFault as fault:
         raise Fault(str(fault)) from fault
+    return report.status()

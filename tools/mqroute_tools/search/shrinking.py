@@ -3,12 +3,12 @@ names and fields made simpler."""
 import json
 from collections.abc import Callable, Iterator
 
+from ..script.fresh_names import with_names
 from ..script.output import Command
-from .random_scripts import with_names
 
 Script = list[Command]
 Test = Callable[[Script], bool]
-OPTIONAL = {"connect": ("session_expiry", "clean"),
+OPTIONAL = {"connect": ("session_expiry", "clean", "user"),
             "subscribe": ("handling", "id", "rap", "no_local", "qos"),
             "publish": ("expiry", "qos", "retain")}
 SIMPLEST: dict[str, list[str | int]] = {

@@ -1,0 +1,103 @@
+"""A live broker on which many scripts are run, one after another."""
+import time
+from collections.abc import Iterator
+from dataclasses import replace
+
+from ..common.exit_status import Fault
+from ..common.messages import in_words
+from ..script.output import Block, Command
+from .broker_run import Replay
+from .line_difference import LineDifference
+from .options import BrokerOptions
+from .run_ends import NEVER, RunEnds, TimeIsUp
+from .wills import Wills
+
+CLEANER = "mqroute-cleaner"
+
+
+def sent(script: list[Command], blocks: list[Block]) -> Iterator[tuple[int, Command, Block]]:
+    """The lines that can be sent: all but those refused as no MQTT command can be."""
+    for number, (command, block) in enumerate(zip(script, blocks), 1):
+        if not block.refused or block.refused == "NotAuthorized":
+            yield number, command, block
+
+
+class LiveBroker:
+    """What a script leaves on it is removed."""
+
+    def __init__(self, options: BrokerOptions) -> None:
+        self.options = options
+        self.held: list[str] = []  # topics of what it retained at first, as far as it shows them
+        replay = Replay(options)
+        try:
+            replay.connect({"do": "connect", "client": CLEANER})
+            self.offer = replay.offer
+            if options.on_acl:
+                replay.set_access(None)
+            self.look_at_retained(replay)
+        except (OSError, RunEnds) as fault:
+            why = fault.why if isinstance(fault, RunEnds) else in_words(fault)
+            raise Fault(f"no broker at {options.host} port {options.port}: {why}") from fault
+        finally:
+            replay.end()
+
+    def look_at_retained(self, replay: Replay) -> None:
+        if self.offer.wildcards:
+            replay.do({"do": "subscribe", "client": CLEANER, "filter": "#"})
+            replay.quiet()
+            self.held = sorted({copy.topic for copy in replay.received()})
+
+    def can_run(self, script: list[Command]) -> bool:
+        return not any(self.offer.lacks(command) for command in script)
+
+    def run(self, script: list[Command], blocks: list[Block], until: float = NEVER,
+            patience: float | None = None, any_member: bool = False) -> list[LineDifference]:
+        """What differs. Afterwards the broker has forgotten the script's sessions and retained
+        messages; after TimeIsUp too."""
+        options = self.options if patience is None else replace(
+            self.options, patience=min(patience, self.options.patience))
+        replay, lines = Replay(options, until), list(sent(script, blocks))
+        replay.wills = Wills(lines)
+        replay.any_member = replay.any_member or any_member
+        try:
+            return list(self.answers(replay, lines))
+        finally:
+            replay.end()
+            self.clean(script)
+
+    def answers(self, replay: Replay, lines: list[tuple[int, Command, Block]]) \
+            -> Iterator[LineDifference]:
+        for number, command, block in lines:
+            did = "will" if number in replay.wills.due else command["do"]
+            try:
+                texts = replay.answer(number, command, block)
+            except RunEnds as fault:
+                yield LineDifference(number, did, [f"   {fault}"], fault.what)
+                return
+            if texts:
+                yield LineDifference(number, did, texts)
+
+    def clean(self, script: list[Command]) -> None:
+        """It takes no more than the patience, once for all."""
+        longest = time.monotonic() + self.options.patience
+        replay = Replay(self.options, longest)
+        try:
+            self.forget(replay, script)
+        except (RunEnds, TimeIsUp, Fault, OSError):
+            pass  # what the broker keeps stands under names that no other script has
+        finally:
+            replay.end()
+
+    def forget(self, replay: Replay, script: list[Command]) -> None:
+        if any(command["do"] == "acl" for command in script):
+            replay.set_access(None)
+        for client in sorted(
+                {command["client"] for command in script if command.get("session_expiry")}):
+            replay.do({"do": "connect", "client": client})
+            replay.do({"do": "disconnect", "client": client})
+        topics = sorted({command["topic"] for command in script if command.get("retain")})
+        if topics:
+            replay.do({"do": "connect", "client": CLEANER})
+        for topic in topics:
+            replay.do({"do": "publish", "client": CLEANER, "topic": topic, "retain": True,
+                       "qos": min(1, self.offer.greatest_qos)})
