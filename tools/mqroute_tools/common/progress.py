@@ -6,7 +6,8 @@ EVERY = 0.5  # seconds
 
 
 class Progress:
-    def __init__(self) -> None:
+    def __init__(self, things: str = "line") -> None:
+        self.things = things
         self.shown = sys.stderr.isatty()
         self.next = time.monotonic() + EVERY
         self.width = 0
@@ -15,7 +16,7 @@ class Progress:
     def at(self, line: int, of: int) -> None:
         self.of = of
         if self.shown and time.monotonic() >= self.next:
-            text = f"line {line} of {of}"
+            text = f"{self.things} {line} of {of}"
             self.next, self.width = time.monotonic() + EVERY, len(text)
             print(text, end="\r", file=sys.stderr, flush=True)
 

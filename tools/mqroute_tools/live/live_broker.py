@@ -37,7 +37,8 @@ class LiveBroker:
             self.look_at_retained(replay)
         except (OSError, RunEnds) as fault:
             why = fault.why if isinstance(fault, RunEnds) else in_words(fault)
-            raise Fault(f"no broker at {options.host} port {options.port}: {why}") from fault
+            where = options.place()
+            raise Fault(f"{where if replay.is_accepted else 'no ' + where[4:]}: {why}") from fault
         finally:
             replay.end()
 

@@ -245,6 +245,10 @@ def check(first: int, reader: Reader, protocol: str) -> None:
         raise Malformed(f"with {len(reader.data) - reader.at} bytes too many")
 
 
+def with_article(name: str) -> str:
+    return f"an {name}" if name.startswith("U") else f"a {name}"
+
+
 def fault(first: int, body: bytes, protocol: str) -> str:
     """What is wrong with the packet of this first byte; empty where nothing is."""
     name = NAMES.get(first >> 4)
@@ -253,5 +257,5 @@ def fault(first: int, body: bytes, protocol: str) -> str:
     try:
         check(first, Reader(body), protocol)
     except Malformed as malformed:
-        return f"a {name} {malformed}"
+        return f"{with_article(name)} {malformed}"
     return ""

@@ -73,7 +73,7 @@ class Client(mqtt.Client):
         try:
             return super()._packet_handle()
         except Exception as error:  # of any kind: they aren't documented
-            self.fault = f"a {name} that paho-mqtt can't read: {error!r}"
+            self.fault = f"{packets.with_article(name)} that paho-mqtt can't read: {error!r}"
             return mqtt.MQTT_ERR_PROTOCOL
 
     def out_of_place(self, packet: int, body: bytes) -> str:
@@ -81,11 +81,11 @@ class Client(mqtt.Client):
         name = packets.NAMES[packet]
         if packet == packets.CONNACK:
             second, self.is_accepted = self.is_accepted, True
-            return f"a second {name}" if second else ""
+            return "a second CONNACK" if second else ""
         if packet in packets.AWAITED:
             mid = int.from_bytes(body[:2], "big")
             if (packet, mid) not in self.awaited:
-                return f"a {name} for packet {mid}, which doesn't await it"
+                return f"{packets.with_article(name)} for packet {mid}, which doesn't await it"
             self.awaited.discard((packet, mid))
             if packet == packets.PUBREC:
                 self.awaited.add((packets.PUBCOMP, mid))
@@ -170,7 +170,7 @@ class Connection:
     def why_ended(self) -> tuple[str, str]:
         """Of a connection that ended: in a word, and in words."""
         if self.client.fault:
-            return "no MQTT", f"the broker sent {self.name} {self.client.fault}"
+            return "no MQTT", f"the broker sent to {self.name}: {self.client.fault}"
         why = f"the broker closed the connection of {self.name}"
         if self.client.farewell is not None:
             why += f", with a DISCONNECT of reason {packets.in_words(self.client.farewell)}"
@@ -186,8 +186,8 @@ class Connection:
         status = self.client.loop_read()
         if status == mqtt.MQTT_ERR_PROTOCOL and not self.client.fault:
             self.client.fault = "a packet whose length has over 4 bytes"
-        otherwise = self.client.began_otherwise()
-        if otherwise and self.client.socket():
+        otherwise = self.client.fault or self.client.began_otherwise()
+        if otherwise:
             self.client.fault = otherwise
             self.answered["closed"] = Acknowledged()
         self.at_once()

@@ -1,4 +1,5 @@
-"""replay: runs a script on a live MQTT 5 broker and compares who got what with mqroute's output.
+"""replay: runs a script on a live MQTT broker and compares who got what with mqroute's output; or
+all cases of a folder (replay_all).
 
 The broker has to have the access list that mqroute had, and no other clients. Copies of one client
 for one line and topic are joined: greatest QoS, any RETAIN, all identifiers; there may be as many
@@ -22,6 +23,7 @@ from ..script.commands import Seen, line_faults
 from ..script.oracle import Oracle
 from ..script.output import Block, Command, blocks, by_key, is_blank, misfit
 from .options import BrokerOptions, add_broker, add_waiting
+from .replay_options import add_all, look_at_options
 from .run_ends import RunEnds
 from .wills import Wills
 
@@ -151,9 +153,12 @@ def numbered(text: str, number: int) -> str:
 
 
 def add_arguments(parser: argparse.ArgumentParser) -> None:
-    parser.description = "Runs a script on a live MQTT 5 broker and compares with mqroute's output."
-    parser.add_argument("script")
-    parser.add_argument("output")
+    parser.description = (
+        "Runs a script on a live MQTT broker and compares with mqroute's output; or all cases of a "
+        "folder.")
+    parser.add_argument("script", nargs="?")
+    parser.add_argument("output", nargs="?")
+    add_all(parser)
     add_broker(parser, "user name of the clients for which the script has none")
     parser.add_argument("--on-acl", metavar="COMMAND",
                         help="what the shell does for an `acl` line: it lets the broker read the "
@@ -174,6 +179,14 @@ def add_arguments(parser: argparse.ArgumentParser) -> None:
 
 
 def run(options: argparse.Namespace) -> int:
+    look_at_options(options)
+    if options.all:
+        from .replay_all import run_all  # wants paho
+        return run_all(options)
+    return run_one(options)
+
+
+def run_one(options: argparse.Namespace) -> int:
     refuse_stdin_twice([options.script, options.output])
     keep_apart([options.script, options.output, options.acl_file])
     from .broker_run import Replay  # wants paho

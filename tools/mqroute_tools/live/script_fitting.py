@@ -75,6 +75,19 @@ def fitted_script(lines: Iterable[bytes], sent: set[int],
     return result, told
 
 
+def fitted_commands(script: Iterable[Command],
+                    offer: Offer) -> tuple[list[Command], set[str]]:
+    """The commands that the broker can run, and what it doesn't offer of those that were to be. In
+    place of one that is left out stands one that isn't sent."""
+    instead: list[Command] = []
+    lacking: set[str] = set()
+    for command in script:
+        now, did = fitting(command, offer)
+        instead.append({"do": "stat"} if now is None else now)
+        lacking |= {what for what, _ in did}
+    return instead, lacking
+
+
 def read_list(name: str) -> str:
     """The text of an access list."""
     with open(name, encoding="utf-8", newline="") as file:

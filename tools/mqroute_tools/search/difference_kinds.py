@@ -4,13 +4,12 @@ import re
 from collections.abc import Iterator
 from typing import NamedTuple
 
-from ..live.broker_diff import EXPIRY_SLACK
+from ..live.stored_diff import are_near, is_near
 from ..live.wills import PAYLOAD
 from ..script.output import Command
 
 OURS, THEIRS = "      mqroute: ", "      broker:  "
 NOBODY = "   reason: mqroute 0, broker 16"
-INTERVAL = re.compile(r"expiry (\d+)")
 LONG = 1000  # bytes of a payload, from where on one is long
 DEEP = 5  # levels
 MANY = 40  # lines of a script
@@ -24,16 +23,8 @@ class Difference(NamedTuple):
 
     def is_as(self, other: "Difference") -> bool:
         """Whether it's the same at the same line, but for a little of an interval."""
-        pairs = list(zip(self.texts, other.texts))
         return (self.line == other.line and self.what == other.what
-                and len(self.texts) == len(other.texts)
-                and all(is_near(text, seen) for text, seen in pairs))
-
-
-def is_near(text: str, other: str) -> bool:
-    mine, theirs = ([int(n) for n in INTERVAL.findall(side)] for side in (text, other))
-    near = all(abs(a - b) <= EXPIRY_SLACK for a, b in zip(mine, theirs))
-    return near and INTERVAL.sub("expiry", text) == INTERVAL.sub("expiry", other)
+                and are_near(self.texts, other.texts))
 
 
 class Kind(NamedTuple):

@@ -9,6 +9,7 @@ from ..common.exit_status import Fault
 from ..common.messages import in_words
 from ..live.line_difference import LineDifference
 from ..live.run_ends import NEVER, TimeIsUp
+from ..live.stored_diff import head
 from ..script.fresh_names import Marks, fresh
 from ..script.oracle import Oracle
 from ..script.output import Block, Command
@@ -60,8 +61,8 @@ class Find:
 def report(script: Script, differences: list[Difference]) -> list[str]:
     found: dict[int, list[str]] = {}
     for difference in differences:
-        command = json.dumps(script[difference.line - 1], ensure_ascii=False)
-        texts = found.setdefault(difference.line, [f"line {difference.line}: {command}"])
+        texts = found.setdefault(
+            difference.line, [head(difference.line, script[difference.line - 1])])
         texts += [] if difference.texts[0] in texts else difference.texts
     return [text for texts in found.values() for text in texts]
 
@@ -141,7 +142,7 @@ class Search:
         from then on its kind is."""
         what, small = difference.what, Smaller(self, difference.what, but)
         script = connected(script[:difference.line])
-        found = small.made(script)
+        found = small.made(script, difference)
         if found is None:
             self.passing.append(Unrepeated(self.number, script, difference))
             return None
@@ -229,9 +230,10 @@ class Smaller:
         self.last = found or self.last
         return bool(found)
 
-    def made(self, script: Script) -> tuple[Script, list[Difference]] | None:
-        """The smallest script, and what differs; None where it isn't seen again."""
-        if not any(self.still(script) for _ in range(TRIES)) and not self.is_cut_off:
-            return None
-        small = shrink(script, self.still)
-        return (small, self.last) if self.last else None
+    def made(self, script: Script,
+             difference: Difference) -> tuple[Script, list[Difference]] | None:
+        """The smallest script, and what differs; None where it isn't seen again. Where there is no
+        time to look, the script stands as it is."""
+        if not any(self.still(script) for _ in range(TRIES)):
+            return (script, [difference]) if self.is_cut_off else None
+        return shrink(script, self.still), self.last

@@ -1,20 +1,14 @@
 """Differences that are known: scripts in folders of the user's own, with what they showed."""
-import json
-import re
 from collections.abc import Iterator
 from dataclasses import dataclass, field
 from pathlib import Path
 
 from ..common.exit_status import Fault
-from ..common.files import at
 from ..common.messages import counted
-from ..script.commands import faults
+from ..live.cases import read_commands
+from ..live.stored_diff import read_differences
 from ..script.output import Command
 from .difference_kinds import Difference, Kind, kind, separate
-
-HEAD = re.compile(r"line (\d+): ")  # how what differs at a line begins
-ENDED = {"closed the connection": "closed", "refused the connection": "refused",
-         "within": "no answer", "goes on sending": "no end", "the broker sent": "no MQTT"}
 
 
 @dataclass
@@ -50,44 +44,9 @@ class Known:
         return f"seen, and in {counted(len(self.seen_in), 'random scripts')}"
 
 
-def read_script(file: Path) -> list[Command]:
-    with open(file, "rb") as lines:
-        for number, fault in faults(lines):
-            raise Fault(f"{at(str(file), number)}: {fault}")
-    return [json.loads(line) for line in file.read_text("utf-8").split("\n") if line.strip()]
-
-
 def stored_differences(file: Path, script: list[Command]) -> list[Difference]:
-    """What a .diff has, as replay prints it."""
-    found: list[Difference] = []
-    texts: list[str] = []
-    lines = file.read_text("utf-8").splitlines()
-    for number, line in reversed(list(enumerate(lines, 1))):
-        head = HEAD.match(line)
-        if line.startswith("   "):
-            texts.insert(0, line)
-        elif head and 0 < int(head[1]) <= len(script):
-            place = int(head[1])
-            found += separate(place, did(script, place), texts, ended(texts))
-            texts = []
-        else:
-            raise Fault(f"{at(str(file), number)}: not of {file.with_suffix('.jsonl').name}")
-    return sorted(found, key=lambda one: one.line)
-
-
-def did(script: list[Command], line: int) -> str:
-    """What the line does; where it publishes a will, that."""
-    command = script[line - 1]
-    before = script[line - 2] if line > 1 else {}
-    is_will = (command["do"] == "disconnect" and before.get("payload") == "will"
-               and before.get("client") == command["client"])
-    return "will" if is_will else str(command["do"])
-
-
-def ended(texts: list[str]) -> str:
-    last = texts[-1] if texts else ""
-    is_end = last.endswith("are not run")
-    return next((what for sign, what in ENDED.items() if is_end and sign in last), "")
+    return [one for line in read_differences(file, script)
+            for one in separate(line.line, line.did, line.texts, line.ended)]
 
 
 def with_list(script: list[Command], stored: list[Difference],
@@ -108,7 +67,7 @@ def known_differences(folder: Path, has_lists: bool, has_clock: bool) -> Iterato
         shown = file.with_suffix(".diff")
         if not shown.exists() or not shown.read_bytes().strip():
             continue
-        script = read_script(file)
+        script = read_commands(file)
         script, stored = with_list(script, stored_differences(shown, script),
                                    file.with_suffix(".acl"))
         yield Known(str(file), script, stored, why_left_out(file, script, has_lists, has_clock))

@@ -19,6 +19,7 @@ from ..common.messages import tell
 from ..common.option_values import amount, whole_number
 from ..live.offer import Offer
 from ..live.options import BrokerOptions, add_broker, add_waiting
+from ..live.started_broker import started
 from ..script.oracle import Oracle, OracleFault
 from .finds import Find, Search
 from .known import Known, known_differences
@@ -126,6 +127,8 @@ def add_arguments(parser: argparse.ArgumentParser) -> None:
         "Searches for differences between a live MQTT broker, which may be tried with anything, "
         "and mqroute.")
     add_broker(parser, "user name of all clients")
+    parser.add_argument("--start", metavar="COMMAND",
+                        help="begin a broker by the shell's COMMAND, and end it")
     add_what(parser)
     parser.add_argument("--save", type=Path, metavar="FOLDER",
                         help="write each find there as find-N.jsonl, .out and .diff")
@@ -142,14 +145,19 @@ def run(options: argparse.Namespace) -> int:
         options.save.mkdir(parents=True, exist_ok=True)
     known = [one for folder in options.known
              for one in known_differences(folder, bool(options.on_acl), options.clock)]
-    from ..live.live_broker import LiveBroker  # wants paho
-    until = time.monotonic() + 60 * options.minutes
+    where = BrokerOptions.of(options)
     try:
-        with Oracle() as oracle:
-            broker = LiveBroker(BrokerOptions.of(options))
-            tell_of_held(broker.held)
-            search = Search(broker, oracle, until)
-            report = searched(search, offered(broker.offer, options), known, options)
+        with Oracle() as oracle, started(options.start, where):
+            return on_broker(where, oracle, known, options).status()
     except OracleFault as fault:
         raise Fault(str(fault)) from fault
-    return report.status()
+
+
+def on_broker(where: BrokerOptions, oracle: Oracle, known: list[Known],
+              options: argparse.Namespace) -> Report:
+    from ..live.live_broker import LiveBroker  # wants paho
+    until = time.monotonic() + 60 * options.minutes
+    broker = LiveBroker(where)
+    tell_of_held(broker.held)
+    search = Search(broker, oracle, until)
+    return searched(search, offered(broker.offer, options), known, options)

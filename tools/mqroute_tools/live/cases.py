@@ -1,0 +1,110 @@
+"""Cases in folders: scripts with what is expected, by section."""
+import json
+from collections.abc import Iterator
+from dataclasses import dataclass, field
+from pathlib import Path
+from typing import Any
+
+from ..common.exit_status import Fault
+from ..common.files import at
+from ..script.commands import faults
+from ..script.output import Block, Command, blocks
+
+INDEX = "cases.json"  # of a section
+
+
+@dataclass(frozen=True)
+class Case:
+    section: str
+    name: str
+    script: list[Command]
+    expected: list[Block]
+    acl: str | None = None  # the text of the list that it begins with
+    has_limits: bool = False  # of which the broker would have to have the same
+    says: str = ""
+    sections: tuple[str, ...] = ()  # of the standard
+    any_member: bool = False
+    free: dict[int, str] = field(default_factory=dict)  # by line: why the answer is
+
+    @property
+    def path(self) -> str:
+        return f"{self.section}/{self.name}"
+
+    def has_lists(self) -> bool:
+        return self.acl is not None or any(command["do"] == "acl" for command in self.script)
+
+    def about(self) -> str:
+        """What it shows, and by which sections."""
+        where = f" ({', '.join(self.sections)})" if self.sections else ""
+        return f"{self.path}: {self.says or 'as mqroute answers'}{where}"
+
+
+@dataclass(frozen=True)
+class Section:
+    name: str
+    title: str
+    cases: list[Case]
+
+
+def read_commands(file: Path) -> list[Command]:
+    """The commands of a script in which no line is blank."""
+    with open(file, "rb") as lines:
+        for number, fault in faults(lines):
+            raise Fault(f"{at(str(file), number)}: {fault}")
+    lines_of = file.read_text("utf-8").removesuffix("\n").split("\n")
+    for number, line in enumerate(lines_of, 1):
+        if not line.strip():
+            raise Fault(f"{at(str(file), number)}: blank")
+    return [json.loads(line) for line in lines_of]
+
+
+def read_index(folder: Path) -> dict[str, Any]:
+    file = folder / INDEX
+    if not file.exists():
+        return {}
+    try:
+        index = json.loads(file.read_text("utf-8"))
+    except (ValueError, UnicodeDecodeError) as fault:
+        raise Fault(f"{file}: no JSON: {fault}") from fault
+    if not isinstance(index, dict) or not isinstance(index.get("cases", {}), dict):
+        raise Fault(f'{file}: wants an object with "title" and "cases"')
+    return index
+
+
+def read_case(file: Path, section: str, about: dict[str, Any]) -> Case:
+    output, acl = file.with_suffix(".out"), file.with_suffix(".acl")
+    if not output.exists():
+        raise Fault(f"{file}: there is no {output.name} beside it")
+    script, expected = read_commands(file), list(blocks(str(output)))
+    if [block.line for block in expected] != list(range(1, len(script) + 1)):
+        raise Fault(f"{output}: not of {file.name}: another number of lines")
+    try:
+        free = {int(line): str(why) for line, why in about.get("free", {}).items()}
+    except (ValueError, AttributeError) as fault:
+        raise Fault(f'{file.parent / INDEX}: {file.stem}: "free" wants lines') from fault
+    text = acl.read_bytes().decode("utf-8") if acl.exists() else None
+    return Case(section, file.stem, script, expected, text, file.with_suffix(".options").exists(),
+                str(about.get("says", "")), tuple(map(str, about.get("sections", []))),
+                bool(about.get("any_member")), free)
+
+
+def read_section(folder: Path) -> Section:
+    index, files = read_index(folder), sorted(folder.glob("*.jsonl"))
+    about = index.get("cases", {})
+    for name in about:
+        if folder / f"{name}.jsonl" not in files:
+            raise Fault(f"{folder / INDEX}: there is no {name}.jsonl")
+    cases = [read_case(file, folder.name, about.get(file.stem, {})) for file in files]
+    return Section(folder.name, str(index.get("title", folder.name)), cases)
+
+
+def read_sections(folder: Path) -> Iterator[Section]:
+    """The folder itself and those in it, as far as they have scripts."""
+    if not folder.is_dir():
+        raise Fault(f"there is no folder {folder}")
+    folder = folder.resolve()
+    held = (read_section(one) for one in (folder, *sorted(folder.glob("*/"))))
+    found = [section for section in held if section.cases]
+    if not found:
+        raise Fault(f"{folder}: there is no script NAME.jsonl in it")
+    yield from found

@@ -1,0 +1,70 @@
+"""What a run of many cases says: those that differ, and a table by section."""
+import json
+from collections import Counter
+from typing import Any
+
+from ..common.messages import counted
+from ..common.tables import table
+from ..common.test_results import Outcome as Tested, Result, tap_lines
+from .cases import Section
+from .corpus_run import CaseResult, Outcome
+
+SHOWN = (Outcome.AGREES, Outcome.FREE, Outcome.KNOWN, Outcome.DIFFERS, Outcome.LEFT_OUT)
+TESTED = {Outcome.AGREES: Tested.PASSED, Outcome.FREE: Tested.PASSED, Outcome.KNOWN: Tested.SKIPPED,
+          Outcome.DIFFERS: Tested.FAILED, Outcome.LEFT_OUT: Tested.SKIPPED}
+
+
+def as_text(result: CaseResult) -> str:
+    """A case that differs, with both sides."""
+    return "\n".join([result.case.about(), *result.lines(), ""])
+
+
+def as_object(result: CaseResult) -> dict[str, Any]:
+    case = result.case
+    return {"section": case.section, "case": case.name, "outcome": result.outcome.value,
+            "why": result.why, "says": case.says, "sections": list(case.sections),
+            "seconds": round(result.seconds, 3),
+            "differences": [{"line": one.line, "texts": [text.strip() for text in one.texts]}
+                            for one in result.differences]}
+
+
+def as_test(result: CaseResult) -> Result:
+    texts = {Outcome.DIFFERS: as_text(result).rstrip("\n"), Outcome.LEFT_OUT: result.why,
+             Outcome.KNOWN: "known: it differs as it is stored"}
+    return Result(result.case.section, result.case.name, TESTED[result.outcome],
+                  texts.get(result.outcome, result.why), result.seconds)
+
+
+def as_tap(results: list[CaseResult]) -> list[str]:
+    lines = [line for number, result in enumerate(results, 1)
+             for line in tap_lines(number, as_test(result))]
+    return ["TAP version 13", f"1..{len(results)}", *lines]
+
+
+def counts(results: list[CaseResult]) -> list[str]:
+    held = Counter(result.outcome for result in results)
+    return [str(len(results)), *(str(held[outcome]) for outcome in SHOWN)]
+
+
+def as_table(sections: list[Section], results: list[CaseResult]) -> str:
+    """How many cases of each section came to what."""
+    by_section = {section.name: [result for result in results
+                                 if result.case.section == section.name] for section in sections}
+    rows = [[section.title, *counts(by_section[section.name])] for section in sections]
+    head = ["section", "cases", *(outcome.value for outcome in SHOWN)]
+    return table(head, [*rows, ["all", *counts(results)]])
+
+
+def notes(results: list[CaseResult]) -> list[str]:
+    """What was left out, each reason once; and what is known and no longer seen."""
+    left_out = Counter(result.why for result in results if result.outcome is Outcome.LEFT_OUT)
+    gone = [f"{result.case.path}: {result.why}" for result in results
+            if result.why and result.outcome is not Outcome.LEFT_OUT]
+    return [f"{counted(number, 'cases')} left out: {why}"
+            for why, number in left_out.items()] + gone
+
+
+def as_json(results: list[CaseResult]) -> str:
+    """A line for the end."""
+    held = Counter(result.outcome.value for result in results)
+    return json.dumps({"cases": len(results), **{one.value: held[one.value] for one in SHOWN}})
