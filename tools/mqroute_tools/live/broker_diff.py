@@ -11,6 +11,7 @@ from ..script.sessions import Sessions
 
 EXPIRY_SLACK = 2  # seconds
 NOT_AUTHORIZED = 135  # the reason code of what mqroute refuses as NotAuthorized
+LONGEST_SHOWN = 60  # characters of a payload
 NO_SUBSCRIBERS = 16  # which a broker may leave at 0 (3.4.2.1)
 
 
@@ -31,6 +32,13 @@ class Copy(NamedTuple):
 
     def __str__(self) -> str:
         return str(together([self]))
+
+
+def shown(payload: str) -> str:
+    more = len(payload) - LONGEST_SHOWN
+    if more <= 0:
+        return json.dumps(payload)
+    return f"{json.dumps(payload[:LONGEST_SHOWN])} and {counted(more, 'characters more')}"
 
 
 def are_near(expiry: int | None, other: int | None) -> bool:
@@ -83,7 +91,7 @@ class Joined:
 
     def __str__(self) -> str:
         parts = [f"qos {self.qos}", f"retain {str(self.retain).lower()}",
-                 "payload " + ", ".join(map(json.dumps, sorted(self.payloads)))]
+                 "payload " + ", ".join(map(shown, sorted(self.payloads)))]
         parts += [f"ids {self.ids}"] if self.ids else []
         parts += [f"expiry {self.expiry}"] if self.expiry is not None else []
         return ", ".join(parts)

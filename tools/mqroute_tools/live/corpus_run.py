@@ -1,4 +1,5 @@
 """Runs cases on a broker: all on one, each with names of its own, or each on one begun anew."""
+import contextlib
 import time
 from collections.abc import Iterable, Iterator
 from dataclasses import dataclass, field
@@ -10,7 +11,9 @@ from ..common.messages import in_words
 from ..script.fresh_names import Marks, fresh
 from ..script.oracle import Oracle, OracleFault
 from ..script.output import Block, Command
+from ..script.topics import plain_filter
 from .broker_diff import copies_of
+from .broker_run import ALL_ALLOWED
 from .cases import Case
 from .line_difference import LineDifference
 from .live_broker import LiveBroker
@@ -104,10 +107,25 @@ class CorpusRun:
         if mark:
             whole = fresh(whole, mark)
             blocks = self.oracle.blocks(whole)
-        found = broker.run(whole, blocks, any_member=case.any_member)
+        with self.allowed(broker, case, whole):
+            found = broker.run(whole, blocks, any_member=case.any_member)
         return [LineDifference(one.line - len(before), one.did,
                                [text.replace(mark, "") if mark else text for text in one.texts],
                                one.ended) for one in found]
+
+    @contextlib.contextmanager
+    def allowed(self, broker: LiveBroker, case: Case, script: list[Command]) -> Iterator[None]:
+        """While it runs, a broker that has an access list by --on-acl allows all of a case that has
+        none: a line that allows all topics speaks of none that begins with `$`."""
+        names = first_levels(script) if self.options.on_acl and not case.has_lists() else []
+        if names:
+            lines = (f"pattern readwrite {name}{end}\n" for name in names for end in ("", "/#"))
+            broker.set_access(ALL_ALLOWED + "".join(lines))
+        try:
+            yield
+        finally:
+            if names:
+                broker.set_access(None)
 
     def fitting_mark(self, script: list[Command], blocks: list[Block]) -> str:
         """One with which the script means the same; empty where none does."""
@@ -138,6 +156,13 @@ class CorpusRun:
     def stored(self, folder: Path, case: Case, script: list[Command]) -> list[LineDifference]:
         file = folder / case.section / f"{case.name}.diff"
         return read_differences(file, script) if file.exists() else []
+
+
+def first_levels(script: list[Command]) -> list[str]:
+    """Those that begin with `$`, of topics and plain filters."""
+    names = (plain_filter(command[field]).split("/")[0] for command in script
+             for field in ("topic", "filter") if field in command)
+    return sorted({name for name in names if name.startswith("$") and name != "$SYS"})
 
 
 def is_as(one: LineDifference, other: LineDifference) -> bool:

@@ -48,6 +48,9 @@ class LiveBroker:
             replay.quiet()
             self.held = sorted({copy.topic for copy in replay.received()})
 
+    def set_access(self, text: str | None) -> None:
+        Replay(self.options).set_access(text)
+
     def can_run(self, script: list[Command]) -> bool:
         return not any(self.offer.lacks(command) for command in script)
 

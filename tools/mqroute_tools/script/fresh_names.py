@@ -6,6 +6,7 @@ from .output import Command
 
 MARK = "Z"  # around what is counted
 MEANT = ("", "+", "#", "%c", "%u")  # levels that stand for something
+FIRST = ("$share", "$SYS")  # and those that do where they are the first
 
 
 class Marks:
@@ -24,11 +25,8 @@ class Marks:
 def fresh_name(name: str, mark: str) -> str:
     """Each level of a topic or filter with the mark behind it, but for those that have a
     meaning."""
-    levels = name.split("/")
-    if levels[0] == "$share" and len(levels) > 2:
-        return "/".join(["$share", *(fresh_name(level, mark) for level in levels[1:])])
-    return "/".join(level if level in MEANT or (level == "$SYS" and at == 0) else level + mark
-                    for at, level in enumerate(levels))
+    return "/".join(level if level in MEANT or (at == 0 and level in FIRST) else level + mark
+                    for at, level in enumerate(name.split("/")))
 
 
 def with_names(text: str, named: Callable[[str], str]) -> str:
