@@ -149,8 +149,8 @@ class Replay:
         try:
             return Connection(command, self.options, self.will())
         except (ssl.SSLError, ValueError) as fault:  # of TLS, of websockets
-            raise Fault(f"line {self.line}: no connection to {self.options.place()}: "
-                        f"{fault}") from fault
+            where = f"line {self.line}: " if self.line else ""
+            raise Fault(f"{where}{self.options.place()}: {fault}") from fault
 
     def will(self) -> Command | None:
         """What goes with the connection that this line makes."""

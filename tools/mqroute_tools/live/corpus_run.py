@@ -18,11 +18,12 @@ from .cases import Case
 from .line_difference import LineDifference
 from .live_broker import LiveBroker
 from .options import BrokerOptions
-from .script_fitting import fitted_commands
+from .script_fitting import OLD_SESSION, fitted_commands
 from .started_broker import started
 from .stored_diff import are_near, read_differences, report
 
-LOWERED = "QoS over "  # how what isn't offered begins, where the script is run all the same
+# How what isn't offered begins, where the script is run all the same.
+LOWERED = ("QoS over ", OLD_SESSION)
 
 
 class Outcome(Enum):
@@ -90,7 +91,7 @@ class CorpusRun:
         left_out = sorted(what for what in lacking if not what.startswith(LOWERED))
         if left_out:
             return CaseResult(case, Outcome.LEFT_OUT,
-                              f"the broker doesn't offer {', '.join(left_out)}")
+                              f"{broker.offer.without()} {', '.join(left_out)}")
         found = self.compared(broker, case, script, bool(lacking))
         return self.judged(case, script, found)
 

@@ -20,6 +20,10 @@ class Offer:
         self.shared = has("SharedSubscriptionAvailable")
         self.identifiers = has("SubscriptionIdentifierAvailable")
 
+    def without(self) -> str:
+        """How it is said that there is something that it doesn't have."""
+        return "the broker doesn't offer" if self.is_5 else "MQTT 3.1.1 doesn't have"
+
     def lacks(self, command: Command) -> str:
         """What the command asks for and the broker doesn't offer; empty if it has all."""
         name = command.get("filter", "")

@@ -68,7 +68,7 @@ def fitted_script(lines: Iterable[bytes], sent: set[int],
         if command is not None:
             instead, did = fitting(command, offer)
             for what, how in did:
-                told[f"the broker doesn't offer {what}: {{}} lines {how}"] += 1
+                told[f"{offer.without()} {what}: {{}} lines {how}"] += 1
             if did:
                 line = b"\n" if instead is None else json.dumps(instead).encode() + b"\n"
         result.append(line)

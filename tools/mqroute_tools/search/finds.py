@@ -207,6 +207,10 @@ class Search:
             self.time_is_up = True
 
 
+class CutOff(Exception):
+    """There is no time to go on."""
+
+
 class Smaller:
     """Makes a script smaller for as long as it differs in one way."""
 
@@ -215,25 +219,30 @@ class Smaller:
         self.end = min(search.until, time.monotonic() + LONGEST_SHRINKING)
         self.patience = HURRIED if what.endswith(NO_ANSWER) else None
         self.is_cut_off = False
-        self.last: list[Difference] = []
+        # the smallest so far, and what differs in it
+        self.best: tuple[Script, list[Difference]] | None = None
 
     def still(self, script: Script) -> bool:
-        if time.monotonic() > self.end:
-            self.is_cut_off = True
-        if self.is_cut_off or not self.search.broker.can_run(script):
+        if not self.search.broker.can_run(script):
             return False
         try:
+            if time.monotonic() > self.end:
+                raise CutOff
             found = self.search.differs(script, self.what, self.but, self.patience)
-        except TimeIsUp:
-            self.is_cut_off = True
-            return False
-        self.last = found or self.last
+        except TimeIsUp as up:
+            raise CutOff from up
+        if found:
+            self.best = script, found
         return bool(found)
 
     def made(self, script: Script,
              difference: Difference) -> tuple[Script, list[Difference]] | None:
         """The smallest script, and what differs; None where it isn't seen again. Where there is no
         time to look, the script stands as it is."""
-        if not any(self.still(script) for _ in range(TRIES)):
-            return (script, [difference]) if self.is_cut_off else None
-        return shrink(script, self.still), self.last
+        try:
+            if any(self.still(script) for _ in range(TRIES)):
+                shrink(script, self.still)
+            return self.best
+        except CutOff:
+            self.is_cut_off = True
+            return self.best or (script, [difference])

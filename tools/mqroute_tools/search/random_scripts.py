@@ -24,7 +24,7 @@ ENDS, LONGER, PART = 1, 2, 4
 LONG = 2000  # bytes of a long payload
 MANY = 60  # retained messages, where there are many
 # How often a script has a scene, of those that the parts allow; and how often one of the clock.
-SCENES, CLOCK_SCENES, MANY_SCENES = 0.45, 0.03, 0.015
+SCENES, CLOCK_SCENES, MANY_SCENES = 0.45, 0.03, 0.03
 
 
 class Maker:
@@ -91,7 +91,9 @@ class RandomScript:
             return self.lines
         for _ in range(chance.randint(FEWEST, MOST)):
             self.any_command()
-        if chance.random() < SCENES:
+        if self.may("retained", MANY_SCENES):
+            self.many_retained()
+        elif chance.random() < SCENES:
             self.scene()
         for _ in range(chance.randint(0, FEWEST)):
             self.any_command()
@@ -195,10 +197,10 @@ class RandomScript:
     def scene(self) -> None:
         scenes = [self.overlapping]
         scenes += [self.leaves_and_returns] * 3 if self.use.has("sessions") else []
+        scenes += [self.leaves_with_will] if self.use.has("sessions") and self.use.has(
+            "wills") else []
         scenes += [self.group_of_several] * 2 if self.use.has("groups") else []
         scenes += [self.retained_of_all] if self.use.has("retained") else []
-        if self.may("retained", MANY_SCENES / SCENES):
-            scenes = [self.many_retained]
         self.chance.choice(scenes)()
 
     def someone(self) -> str:
@@ -232,12 +234,26 @@ class RandomScript:
             self.publish(self.someone(), **more)
         self.connect(client, **self.kept() | {"clean": False})
 
+    def leaves_with_will(self) -> None:
+        """Which it would get itself, but for No Local."""
+        client = self.chance.choice(self.away or list(self.names.clients))
+        topic = self.names.topics[0]
+        self.connect(client, **self.kept())
+        self.subscribe(client, filter=topic, **self.best_qos(),
+                       **({"no_local": True} if self.use.has("options") else {}))
+        self.publish(client, topic=topic, payload=PAYLOAD, **self.best_qos())
+        self.leave(client)
+        self.connect(client, **self.kept() | {"clean": False})
+
     def group_of_several(self) -> None:
         topic = self.names.topics[0]
         name = self.shared(self.one_filter(topic))
         for client in self.live:
             self.subscribe(client, filter=name)
         for _ in range(self.chance.randint(2, 5)):
+            self.publish(self.someone(), topic=topic)
+        self.lines.append({"do": "unsubscribe", "client": self.someone(), "filter": name})
+        for _ in range(2):
             self.publish(self.someone(), topic=topic)
 
     def overlapping(self) -> None:
@@ -252,15 +268,18 @@ class RandomScript:
         """One on each topic, and a filter for all."""
         for topic in self.names.topics:
             self.publish(self.someone(), topic=topic, retain=True)
-        more = {"filter": "#"} if self.use.has("wildcards") else {}
-        self.subscribe(self.someone(), **more)
+        self.look("#" if self.use.has("wildcards") else self.names.topics[0])
+
+    def look(self, name: str) -> None:
+        """A subscribe that is sent what is retained, whatever the options of others."""
+        self.lines.append(self.with_qos(
+            {"do": "subscribe", "client": self.someone(), "filter": name}))
 
     def many_retained(self) -> None:
         writer = self.someone()
         self.lines += [{"do": "publish", "client": writer, "topic": f"m/{number}",
                         "payload": str(number), "retain": True} for number in range(MANY)]
-        self.subscribe(self.someone(),
-                       filter="m/#" if self.use.has("wildcards") else "m/0")
+        self.look("m/#" if self.use.has("wildcards") else "m/0")
 
     # -- scenes in which a part of the time passes, or all of it
 

@@ -8,13 +8,15 @@ from ..script.output import Command
 
 Script = list[Command]
 Test = Callable[[Script], bool]
-OPTIONAL = {"connect": ("session_expiry", "clean", "user"),
+SESSION = ("session_expiry", "clean")  # MQTT 3.1.1 has one only with the other
+OPTIONAL = {"connect": (*SESSION, "user"),
             "subscribe": ("handling", "id", "rap", "no_local", "qos"),
             "publish": ("expiry", "qos", "retain")}
 SIMPLEST: dict[str, list[str | int]] = {
     "filter": ["x", "$x", "#", "+", "x/#", "$share/g/x", "$share/g/$x"],
     "topic": ["x", "$x"], "qos": [1], "payload": ["1"], "id": [1], "handling": [1]}
 PLAIN_NAMES = {"x", "$x", "x/y"}
+FEW = 8  # names that are tried in the place of another, the plainest
 
 
 def connected(script: Script) -> Script:
@@ -81,7 +83,7 @@ def with_simpler_names(script: Script) -> Iterator[Script]:
              for field in ("topic", "filter") if field in command}
     topics = {command["topic"] for command in script if "topic" in command}
     for name in sorted(names, key=weight, reverse=True):
-        for plain in sorted(topics | PLAIN_NAMES, key=weight):
+        for plain in sorted(topics | PLAIN_NAMES, key=weight)[:FEW]:
             if weight(plain) >= weight(name):
                 break
             yield [with_name(command, name, plain) for command in script]
@@ -99,10 +101,12 @@ def with_name(command: Command, name: str, plain: str) -> Command:
 
 
 def with_fewer_fields(script: Script) -> Iterator[Script]:
+    """One field less, or both that say how long a session is kept."""
     for at, command in enumerate(script):
-        for field in OPTIONAL.get(command["do"], ()):
-            if field in command:
-                fewer = {name: value for name, value in command.items() if name != field}
+        optional = OPTIONAL.get(command["do"], ())
+        for fields in (*((field,) for field in optional), SESSION):
+            if all(field in command for field in fields):
+                fewer = {name: value for name, value in command.items() if name not in fields}
                 yield [*script[:at], fewer, *script[at + 1:]]
 
 
@@ -131,16 +135,14 @@ WAYS = (with_fewer_lines, with_shorter_lists, with_fewer_clients, with_simpler_n
 
 def simplified(script: Script, way: Callable[[Script], Iterator[Script]], still: Test) -> Script:
     """All that one way gives, each tried on what those before it left."""
-    at = 0
-    while True:
-        tried = list(way(script))
-        if at >= len(tried):
-            return script
+    at, tried = 0, list(way(script))
+    while at < len(tried):
         candidate = connected(tried[at])
         if candidate and candidate != script and still(candidate):
-            script = candidate
+            script, tried = candidate, list(way(candidate))
         else:
             at += 1
+    return script
 
 
 def shrink(script: Script, still: Test) -> Script:
