@@ -197,8 +197,8 @@ class RandomScript:
     def scene(self) -> None:
         scenes = [self.overlapping]
         scenes += [self.leaves_and_returns] * 3 if self.use.has("sessions") else []
-        scenes += [self.leaves_with_will] if self.use.has("sessions") and self.use.has(
-            "wills") else []
+        if self.use.has("sessions") and self.use.has("wills"):
+            scenes += [self.leaves_with_will] * 2
         scenes += [self.group_of_several] * 2 if self.use.has("groups") else []
         scenes += [self.retained_of_all] if self.use.has("retained") else []
         self.chance.choice(scenes)()
@@ -241,7 +241,8 @@ class RandomScript:
         self.connect(client, **self.kept())
         self.subscribe(client, filter=topic, **self.best_qos(),
                        **({"no_local": True} if self.use.has("options") else {}))
-        self.publish(client, topic=topic, payload=PAYLOAD, **self.best_qos())
+        self.lines.append({"do": "publish", "client": client, "topic": topic, "payload": PAYLOAD,
+                           **self.best_qos()})
         self.leave(client)
         self.connect(client, **self.kept() | {"clean": False})
 
