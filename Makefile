@@ -73,15 +73,18 @@ install: programs
 	install -m 644 docs/mqroute.1 docs/mqroute-acl.1 $(TOOL_NAMES:%=docs/%.1) $(INSTALLED)/share/man/man1
 	install -D -m 644 docs/mqroute.bash-completion $(COMPLETIONS)/mqroute
 	install -m 644 docs/mqroute-acl.bash-completion $(COMPLETIONS)/mqroute-acl
-	install -d $(BROKERS:%=$(INSTALLED)/lib/mqroute/differences/%) $(INSTALLED)/share/mqroute/schemas
+	install -d $(BROKERS:%=$(INSTALLED)/share/mqroute/differences/%) $(INSTALLED)/share/mqroute/schemas
 	for module in $(TOOL_MODULES); do \
 	    install -D -m 644 tools/$$module $(INSTALLED)/lib/mqroute/$$module || exit 1; \
 	done
 	install -m 644 tools/mqroute.py $(INSTALLED)/lib/mqroute
 	install -m 755 $(TOOLS:%=tools/%.py) $(INSTALLED)/lib/mqroute
-	install -m 644 brokers/differences/*.* $(INSTALLED)/lib/mqroute/differences
+	install -m 644 brokers/differences/*.* $(INSTALLED)/share/mqroute/differences
 	for broker in $(BROKERS); do \
-	    install -m 644 brokers/differences/$$broker/* $(INSTALLED)/lib/mqroute/differences/$$broker || exit 1; \
+	    install -m 644 brokers/differences/$$broker/* $(INSTALLED)/share/mqroute/differences/$$broker || exit 1; \
+	done
+	for case in $(wildcard conformance/*/*); do \
+	    install -D -m 644 $$case $(INSTALLED)/share/mqroute/$$case || exit 1; \
 	done
 	install -m 644 schemas/*.json $(INSTALLED)/share/mqroute/schemas
 	for tool in $(TOOLS); do \

@@ -288,6 +288,51 @@ class Live(unittest.TestCase):
         self.assertRegex(told, r"search: exercised: \d+ of 20 scripts: .*\n"
                          r"search: 20 scripts of seed 1, 20 runs in \d+ s; 0 new kinds")
 
+    def test_repeatable(self):
+        """A find has the number of its script, which finds it again; saved, it is known."""
+        port, plain = str(self.start()), "groups,retained,sessions,expiry,wills,dollar"
+        words = ["--port", port, "--scripts", "10", "--without", plain]
+        with tempfile.TemporaryDirectory() as folder:
+            status, out, told = self.run_tool(
+                *words, "--json", "--junit", f"{folder}/xml", "--save", folder)
+            *finds, sums = map(json.loads, out.splitlines())
+            self.assertEqual((status, sums["finds"]), (1, len(finds)), told)
+            self.assertIn("subscribes again", finds[0]["uses"])
+            self.assertEqual((sums["scripts"], sums["time_is_up"]), (10, False))
+            self.assertEqual(Path(folder, "xml").read_text().count("<failure "), len(finds))
+            status, out, told = self.run_tool(*words, "--only", str(finds[0]["number"]))
+            self.assertEqual(status, 1, told)
+            self.assertTrue(out.startswith(f"find 1: {finds[0]['what']}; seed 1, script "), out)
+            status, out, told = self.run_tool(*words, "--known", folder)
+            self.assertEqual((status, out), (0, ""), told)
+            self.assertEqual(told.count("jsonl: seen, and in "), len(finds))
+
+    def test_one_that_it_begins(self):
+        with tempfile.TemporaryDirectory() as folder:
+            port, conf = mosquitto.free_port(), Path(folder, "conf")
+            conf.write_text(f"listener {port} 127.0.0.1\nallow_anonymous true\nlog_dest none\n")
+            status, _, told = self.run_tool(
+                "--port", str(port), "--start", f"exec {mosquitto.MOSQUITTO} -c {conf}",
+                "--scripts", "2", "--without", "qos,groups,retained,options,expiry,dollar")
+            self.assertEqual(status, 0, told)
+
+    def test_a_broker_that_holds_something(self):
+        port = str(self.start())
+        code = f"""if True:
+            from mqroute_tools.live.broker_run import Replay
+            from mqroute_tools.live.options import BrokerOptions
+            replay = Replay(BrokerOptions("127.0.0.1", {port}))
+            replay.do({{"do": "connect", "client": "a"}})
+            replay.do({{"do": "publish", "client": "a", "topic": "held/x", "payload": "1",
+                        "qos": 1, "retain": True}})
+        """
+        subprocess.run([PAHO, "-c", code], cwd=HERE, check=True)
+        _, _, told = self.run_tool("--port", port, "--minutes", "0", "--scripts", "1")
+        self.assertEqual(told, "search: the broker isn't empty: it retains held/x: what is found "
+                         "may be of these\nsearch: 0 scripts of seed 1, 0 runs in 0 s; 0 new kinds of "
+                         "differences; 0 not seen again\n"
+                         "search: no script was run to its end: the time was up\n")
+
     def test_faults(self):
         for words, said in ((("--port", "1"), "no broker at 127.0.0.1 port 1"),
                             (("--without", "groups,testaments"), "'testaments' is none of")):

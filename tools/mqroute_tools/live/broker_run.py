@@ -26,6 +26,7 @@ from .wills import Wills
 # nobody subscribes to it; its UNSUBACK shows that all that was sent before has come
 FENCE = "mqroute/fence"
 QUIET_ROUNDS = 2  # a copy of QoS 2 wants two fences: one for PUBLISH, one for PUBREL
+MOST_ROUNDS = 20  # in each of which more comes, before that may be too long
 ACL_PAUSE = 0.3  # seconds that a broker gets to read an access list
 LONGEST_PAUSE = 86_400  # seconds that an `advance` may take, in real time
 WILL_PAUSE = 0.1  # and to see that a connection is gone
@@ -80,11 +81,12 @@ class Replay:
 
     def quiet(self) -> None:
         """Until nothing more comes."""
-        idle, count = 0, -1
-        end = time.monotonic() + self.options.patience + self.options.settle
+        idle, count, rounds = 0, -1, 0
         time.sleep(self.options.settle)
+        end = time.monotonic() + self.options.patience
         while idle < QUIET_ROUNDS:
-            if time.monotonic() > end:
+            rounds += 1
+            if rounds > MOST_ROUNDS and time.monotonic() > end:
                 raise RunEnds("no end", "it goes on sending after "
                               f"{self.options.patience:g} seconds")
             self.fence()
