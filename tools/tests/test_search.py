@@ -328,10 +328,10 @@ class Live(unittest.TestCase):
         """
         subprocess.run([PAHO, "-c", code], cwd=HERE, check=True)
         _, _, told = self.run_tool("--port", port, "--minutes", "0", "--scripts", "1")
-        self.assertEqual(told, "search: the broker isn't empty: it retains held/x: what is found "
-                         "may be of these\nsearch: 0 scripts of seed 1, 0 runs in 0 s; 0 new kinds of "
-                         "differences; 0 not seen again\n"
-                         "search: no script was run to its end: the time was up\n")
+        held, *_, end = told.splitlines()
+        self.assertEqual(held, "search: the broker isn't empty: it retains held/x: what is found "
+                         "may be of these")
+        self.assertEqual(end, "search: no script was run to its end: the time was up")
 
     def test_faults(self):
         for words, said in ((("--port", "1"), "no broker at 127.0.0.1 port 1"),
