@@ -24,7 +24,7 @@ ENDS, LONGER, PART = 1, 2, 4
 LONG = 2000  # bytes of a long payload
 MANY = 60  # retained messages, where there are many
 # How often a script has a scene, of those that the parts allow; and how often one of the clock.
-SCENES, CLOCK_SCENES, MANY_SCENES = 0.45, 0.03, 0.03
+SCENES, CLOCK_SCENES, MANY_SCENES = 0.6, 0.03, 0.03
 
 
 class Maker:
@@ -196,7 +196,8 @@ class RandomScript:
 
     def scene(self) -> None:
         scenes = [self.overlapping]
-        scenes += [self.leaves_and_returns] * 3 if self.use.has("sessions") else []
+        scenes += [self.taken_over] * 2 if self.use.has("sessions") else []
+        scenes += [self.leaves_and_returns] * 4 if self.use.has("sessions") else []
         if self.use.has("sessions") and self.use.has("wills"):
             scenes += [self.leaves_with_will] * 2
         scenes += [self.group_of_several] * 2 if self.use.has("groups") else []
@@ -233,6 +234,15 @@ class RandomScript:
             more = {"topic": topic} if self.chance.random() < 0.7 else {}
             self.publish(self.someone(), **more)
         self.connect(client, **self.kept() | {"clean": False})
+
+    def taken_over(self) -> None:
+        """By a connection that would resume the session, if there is one."""
+        client, topic = self.chance.choice(self.names.clients), self.names.topics[0]
+        begun = self.kept() if self.chance.random() < 0.5 else {"clean": True, "session_expiry": 0}
+        self.connect(client, **begun)
+        self.subscribe(client, filter=self.one_filter(topic))
+        self.connect(client, **self.kept() | {"clean": False})
+        self.publish(self.someone(), topic=topic)
 
     def leaves_with_will(self) -> None:
         """Which it would get itself, but for No Local."""
