@@ -129,7 +129,7 @@ class Odd(unittest.TestCase):
             return acknowledged(kind, mid) if seen[thread] < 9 else b""
         began = time.monotonic()
         status, text = self.run_tool("search", stops, "--minutes", "0.1", "--patience", "2")
-        self.assertLess(time.monotonic() - began, 6 + 2 + 3)
+        self.assertLess(time.monotonic() - began, 6 + 2 + 20)  # a busy machine starts it late
         self.assertEqual(status, 1, text)
         self.assertIn("no answer; seed 1, script ", text)
 
