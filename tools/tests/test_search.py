@@ -93,7 +93,7 @@ class Finds(unittest.TestCase):
 
     def saved(self, bug, folder: str) -> list[Find]:
         """The finds of a broker with this bug, in a folder."""
-        found = searched(Fake(bug), 150)[1]
+        found = searched(Fake(bug), 80)[1]
         for number, find in enumerate(found, 1):
             save(find, number, Path(folder))
         return found
@@ -103,7 +103,7 @@ class Finds(unittest.TestCase):
         with tempfile.TemporaryDirectory() as folder:
             number = len(self.saved(expiry_0_is_none, folder))
             self.assertTrue(0 < number < 12 and Path(folder, "find-1.out").exists())
-            one, found = searched(Fake(expiry_0_is_none), 150, [Path(folder)])
+            one, found = searched(Fake(expiry_0_is_none), 80, [Path(folder)])
             self.assertEqual([find.kind for find in found], [])
             states = [known.state() for known in one.known]
             self.assertEqual(len(states), number)
@@ -111,7 +111,7 @@ class Finds(unittest.TestCase):
 
             def both(script):
                 return keeps_what_is_cleared(expiry_0_is_none(script))
-            found = searched(Fake(both), 400, [Path(folder)])[1]
+            found = searched(Fake(both), 150, [Path(folder)])[1]
             self.assertTrue(
                 any("clear" in find.kind.uses for find in found), [find.kind for find in found])
 
