@@ -4,7 +4,6 @@ from dataclasses import dataclass, field
 from pathlib import Path
 
 from ..common.exit_status import Fault
-from ..common.messages import counted
 from ..live.cases import read_commands
 from ..live.stored_diff import read_differences
 from ..script.output import Command
@@ -25,6 +24,10 @@ class Known:
     def covers(self, other: Kind) -> bool:
         return any(one.covers(other) for one in self.kinds)
 
+    def is_seen_in(self, differences: list[Difference]) -> bool:
+        """Whether all that is stored is among these."""
+        return all(any(one.is_as(seen) for seen in differences) for one in self.stored)
+
     def compare(self, differences: list[Difference]) -> list[Difference]:
         """What of these isn't stored. What is stored and seen is of a known kind from then on."""
         for one in self.stored:
@@ -41,7 +44,7 @@ class Known:
             lines = sorted({one.line for one in self.unseen})
             what = "" if not self.kinds else f" at line {', '.join(map(str, lines))}"
             return f"no longer seen as stored{what}"
-        return f"seen, and in {counted(len(self.seen_in), 'random scripts')}"
+        return f"seen, and in {len(self.seen_in)} of the random scripts"
 
 
 def stored_differences(file: Path, script: list[Command]) -> list[Difference]:

@@ -63,7 +63,10 @@ def learn(search: Search, known: list[Known]) -> Iterator[Find]:
         if not one.left_out and not search.broker.can_run(one.script):
             one.left_out = "the broker doesn't offer what it uses"
         if not one.left_out:
-            others.append((one, one.compare(search.run(one.script))))
+            differences = search.run(one.script)
+            if not one.is_seen_in(differences):  # a broker may do it now and then
+                differences = search.run(one.script)
+            others.append((one, one.compare(differences)))
     search.known = known
     for one, differences in others:
         for difference in differences:
