@@ -58,9 +58,10 @@ bench: programs
 	bench/run.sh
 	bench/acl.py bin/mqroute-acl
 
-# A clone whose bin/ was made by an older `make run` has a link in a crate's out/, at which the toolchain stops.
+# The toolchain stops at a link: an older `make run` left one in a crate's out/, an older `make` some in bin/.
 mended:
 	@find crates -mindepth 3 -maxdepth 3 -path '*/out/*' -type l -delete
+	@[ ! -d bin ] || find bin -maxdepth 1 -type l -delete
 
 # What is built, in bin/.
 programs:

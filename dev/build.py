@@ -63,11 +63,25 @@ def take_programs(folder):
     return True
 
 
-def link_tools():
+# A file and no link: the toolchain stops at a link anywhere in a repository.
+TOOL = """#!/usr/bin/python3
+# tools/{name}, by the name that it has when it is installed
+import sys
+from pathlib import Path
+
+tool = Path(__file__).resolve().parents[1] / "tools" / "{name}"
+sys.path.insert(0, str(tool.parent))
+exec(compile(tool.read_text("utf-8"), str(tool), "exec"))
+"""
+
+
+def put_tools():
     for path in sorted((TOP / "tools").glob("*.py")):
-        link = BIN / f"mqroute-{path.stem.replace('_', '-')}"
-        if os.access(path, os.X_OK) and not link.is_symlink():
-            link.symlink_to(f"../tools/{path.name}")
+        if os.access(path, os.X_OK):
+            named = BIN / f"mqroute-{path.stem.replace('_', '-')}"
+            named.unlink(missing_ok=True)
+            named.write_text(TOOL.format(name=path.name), encoding="utf-8")
+            named.chmod(0o755)
 
 
 class NotProved(Exception):
@@ -158,7 +172,7 @@ def build():
         except OSError as error:
             print(f"build: {error.filename or 'rt'}: {error.strerror}", file=sys.stderr)
             return 1
-    link_tools()
+    put_tools()
     print("bin/mqroute and bin/mqroute-acl are proved and built: "
           f"{(time.monotonic() - began) / 60:.1f} min")
     return 0
@@ -173,7 +187,7 @@ def main():
     if not take_programs(TOP):
         print("build: the gate has not built the programs here", file=sys.stderr)
         return 1
-    link_tools()
+    put_tools()
     return 0
 
 

@@ -31,9 +31,16 @@ echo "3 passed, 0 failed"
 """
 
 
+TOOL = """import sys
+print(sys.argv)
+"""
+
+
 def lay_out(top):
     shutil.copytree(TOP / "dev", top / "dev")
     (top / "tools").mkdir()
+    (top / "tools/who_hears.py").write_text(TOOL)
+    (top / "tools/who_hears.py").chmod(0o755)
     (top / "crates.txt").write_text(CRATES)
     (top / "HANDLES").write_text("Handles allowed: none.\n")
     for line in CRATES.splitlines():
@@ -63,6 +70,11 @@ def check(top):
     assert [line.split(" after ")[0] for line in out.splitlines()[:3]] == [
         " 1 of 3  words           ", " 2 of 3  mqroute         ", " 3 of 3  mqroute_acl     "], out
     assert (top / "bin/mqroute-acl").read_text() == "mqroute_acl\n"
+    # a tool has its own name, and is no link, at which the toolchain would stop
+    tool = top / "bin/mqroute-who-hears"
+    assert not tool.is_symlink()
+    told = subprocess.run([tool, "x"], capture_output=True, text=True, check=True).stdout
+    assert told == f"{[str(tool), 'x']}\n", told
     assert (top / "seen").read_text().split() == ["mqroute", "mqroute_acl", "words"]
 
     status, out, _ = ended(top, "is kept: an earlier run proved the same")

@@ -16,6 +16,7 @@ here.
 A crate's out/ is the toolchain's: it stops at a link there, and it may take away whatever else it
 finds.
 """
+import os
 import pathlib
 import re
 import sys
@@ -250,18 +251,26 @@ def struct_faults():
 KEPT = r"rlib|incremental|c|{crate}(_tests)?(\.[\w-]+)*|lib{crate}\.\w+|std(in|out|err)(\.[\w-]+)*"
 
 
+def link_faults():
+    """The toolchain stops at a link, wherever it stands."""
+    for folder, folders, files in os.walk(TOP):
+        folders[:] = [name for name in folders if name != ".git"]
+        for path in (pathlib.Path(folder, name) for name in [*folders, *files]):
+            if path.is_symlink():
+                yield f"{path.relative_to(TOP)} is a link, at which `rt ci` stops"
+
+
 def out_faults():
     for path in sorted((TOP / "crates").glob("*/out/*")):
         crate = path.parts[-3]
-        if path.is_symlink():
-            yield f"{path.relative_to(TOP)} is a link: `make run` and `make test` take it away"
-        elif not re.fullmatch(KEPT.replace("{crate}", crate), path.name):
+        if not path.is_symlink() and not re.fullmatch(KEPT.replace("{crate}", crate), path.name):
             yield (f"{path.relative_to(TOP)} is not the toolchain's: out/ is no place for files of "
                    "ours")
 
 
 def main():
-    faults = [*steps_faults(), *counting_faults(), *struct_faults(), *out_faults()]
+    faults = [*steps_faults(), *counting_faults(), *struct_faults(), *out_faults(),
+              *link_faults()]
     sums = f"{len(MADE_OF)} structs and enums of a router, {len(faults)} faults"
     return status_of("sources", faults, sums)
 
