@@ -1,0 +1,305 @@
+-- What a question answers of rows.
+use Rattle.std.proofs.Common.{◌≡◌, ℕ, Bool, true, false, cond, not, ◌&&◌, ◌||◌, List, [], ◌∷◌}
+use Rattle.std.proofs.Common.{length, Option, Some, None, codes, bytes_eq, refl, ap, sym, ◌∙◌, subst}
+use Rattle.std.proofs.Common.{Bor, ◌==◌}
+use Rattle.std.specs.List.{list_all, list_any}
+use Rattle.std.proofs.lemmas.Bool.{and_parts, and_from, and_left, not-true}
+use Rattle.std.proofs.lemmas.List.{map-id}
+use Rattle.mq_topic.proofs.ByteLemmas.{text_is, text_itself}
+use Rattle.mq_topic.specs.Levels.{levels, levels_left}
+use Rattle.mq_topic.specs.Matching.{level_matches, levels_match_by}
+use Rattle.mq_topic.specs.Texts.{is_name}
+use Rattle.mq_acl.specs.Access.{applies, begins_with_dollar, concerns, is_user}
+use Rattle.mq_acl.specs.Rows.{AclRow, Who}
+use Rattle.mq_acl.specs.Rows as rows
+use Rattle.mq_cover.specs.Names.{can_be_level}
+use Rattle.mq_cover.specs.Remainders.{covers, fits, hits, mark_passes, passes, remainders_fit}
+use Rattle.mq_cover.specs.declared.remainder.Remainder.{Remainder}
+use Rattle.mq_witness.specs.Answers.{Asks, HitsOther, HitsUser, IsFoundBy, Misses}
+use Rattle.mq_witness.specs.Answers.{MissesOthers, MissesUser}
+use Rattle.mq_witness.specs.Clients.{can_be_id, is_of, name_passes}
+use Rattle.mq_witness.specs.Decided.{decides}
+use Rattle.mq_witness.specs.Fresh.{fresh_pass, is_literal}
+use Rattle.mq_witness.specs.Literals.{is_named}
+use Rattle.mq_witness.specs.Ready.{IsReady, all_listed, clients_fit, is_listed, stand_in}
+use Rattle.mq_witness.specs.Roots.{alike, marks_of, same, NoneConcerned}
+use Rattle.mq_witness.specs.Texts.{level_of}
+use Rattle.mq_witness.specs.declared.clients.Clients.{Clients}
+use Rattle.mq_witness.specs.declared.clients.Clients.TheVariants.{Anonymous, Named, Others}
+use Rattle.mq_witness.specs.declared.fresh.Fresh.{Fresh}
+use Rattle.mq_witness.specs.declared.literals.Literals.{Literals}
+use Rattle.mq_witness.specs.declared.question.Found.{Found}
+use Rattle.mq_witness.specs.declared.question.Question.{Question}
+use Rattle.mq_witness.proofs.MoveLemmas.{match_same}
+use Rattle.mq_witness.proofs.NameLemmas.{name_is, name_suits}
+use Rattle.mq_witness.proofs.OtherLemmas.{others_none}
+use Rattle.mq_witness.proofs.TriedLemmas.{fixed_none}
+
+-- ---- an id that can't be a level
+same_user : (user : Option (List ℕ)) (l : List ℕ) → can_be_level l ≡ true
+    → is_user l user ≡ is_user l (level_of user)
+same_user None l h = refl
+same_user (Some u) l h = at (can_be_level u) refl
+  where
+    differs : (b : Bool) → bytes_eq l u ≡ b → can_be_level u ≡ false → bytes_eq l u ≡ false
+    differs true e k = absurd (let n : true ≡ false = sym h ∙ ap can_be_level (text_is l u e) ∙ k in
+        cc)
+    differs false e k = e
+
+    at : (b : Bool) → can_be_level u ≡ b → bytes_eq l u ≡ is_user l (cond b (Some u) None)
+    at true e = refl
+    at false e = differs (bytes_eq l u) refl e
+
+same_passes : (pattern : Bool) (client : List ℕ) (user : Option (List ℕ)) (w l : List ℕ)
+    → can_be_level l ≡ true → passes pattern (marks_of client user) w l
+    ≡ passes pattern (marks_of client (level_of user)) w l
+same_passes pattern client user w l h =
+    ap (λ b. cond (pattern && bytes_eq w (codes "%c")) (bytes_eq l client)
+    (cond (pattern && bytes_eq w (codes "%u")) b (level_matches w l))) (same_user user l h)
+
+-- what passes as a user name passes as a level
+level_known : (p : List ℕ → Bool) (user : Option (List ℕ)) → mark_passes p user ≡ true
+    → mark_passes p (level_of user) ≡ true
+level_known p None h = h
+level_known p (Some u) h = at (can_be_level u)
+  where
+    at : (b : Bool) → mark_passes p (cond b (Some u) None) ≡ true
+    at true = h
+    at false = refl
+
+-- any levels fit the test that all pass
+any_fits : (ws : List (List ℕ)) → fits (λ w. true) ws ≡ true
+any_fits [] = refl
+any_fits (w ∷ ws) = rw (any_fits ws)
+    (or_true (bytes_eq w (codes "+") || (bytes_eq w (codes "#") && (length ws == 0))))
+  where
+    or_true : (b : Bool) → ((b || true) && true) ≡ true
+    or_true true = refl
+    or_true false = refl
+
+module _ (client : List ℕ) (user : Option (List ℕ)) (ls : List (List ℕ))
+    (can : list_all can_be_level ls ≡ true) where
+  level_covers : (r : Remainder) → covers (marks_of client user) ls r
+      ≡ covers (marks_of client (level_of user)) ls r
+  level_covers r =
+      match_same (passes r.pattern (marks_of client user))
+      (passes r.pattern (marks_of client (level_of user))) (λ l. l) (λ w. true) can_be_level
+      (λ w l e k. same_passes r.pattern client user w l k) (levels_left r.rest) ls
+      (any_fits (levels_left r.rest)) can
+      ∙ ap (levels_match_by (passes r.pattern (marks_of client (level_of user)))
+      (levels_left r.rest)) (map-id ls)
+
+  level_all : (rs : List Remainder) → list_all (covers (marks_of client user) ls) rs
+      ≡ list_all (covers (marks_of client (level_of user)) ls) rs
+  level_all [] = refl
+  level_all (r ∷ rs) = (λ i. level_covers r i && level_all rs i)
+
+  level_any : (rs : List Remainder) → list_any (covers (marks_of client user) ls) rs
+      ≡ list_any (covers (marks_of client (level_of user)) ls) rs
+  level_any [] = refl
+  level_any (r ∷ rs) = (λ i. level_covers r i || level_any rs i)
+
+  -- whether a name is hit depends on a user name only as a level, if it can be one
+  level_hits : (must cover : List Remainder) → hits (marks_of client user) ls must cover
+      ≡ hits (marks_of client (level_of user)) ls must cover
+  level_hits must cover = (λ i. level_all must i && not (level_any cover i))
+
+-- ---- whom rows apply to
+same_self : (b : Bool) → same b b ≡ true
+same_self true = refl
+same_self false = refl
+
+alike_self : (user : Option (List ℕ)) (all : List AclRow) → alike user user all ≡ true
+alike_self user [] = refl
+alike_self user (row ∷ all) = rw (same_self (applies user row.who)) (alike_self user all)
+
+-- a row applies to neither of two user names that aren't listed, or to both
+unlisted_alike : (users : Literals) (u v : List ℕ) → is_named u users ≡ false
+    → is_named v users ≡ false → (all : List AclRow) → all_listed users all ≡ true
+    → alike (Some u) (Some v) all ≡ true
+unlisted_alike users u v e g [] h = refl
+unlisted_alike users u v e g (row ∷ all) h =
+    let parts = and_parts (is_listed users row.who) (all_listed users all) h in
+    and_from (same (applies (Some u) row.who) (applies (Some v) row.who))
+    (alike (Some u) (Some v) all) (one row.who parts.0)
+    (unlisted_alike users u v e g all parts.1)
+  where
+    no : (t n : List ℕ) → is_named t users ≡ false → is_named n users ≡ true
+        → bytes_eq t n ≡ false
+    no t n e h = at (bytes_eq t n) refl
+      where
+        at : (b : Bool) → bytes_eq t n ≡ b → b ≡ false
+        at true k = absurd (let m : true ≡ false = sym h
+            ∙ ap (λ x. is_named x users) (sym (text_is t n k)) ∙ e in cc)
+        at false k = refl
+
+    one : (who : Who) → is_listed users who ≡ true
+        → same (applies (Some u) who) (applies (Some v) who) ≡ true
+    one rows.Anonymous k = refl
+    one (rows.Named n) k = rw (no u n e k, no v n g k) refl
+    one rows.Everyone k = refl
+
+-- rows apply to each client that is asked about as to the user name that stands for all
+pub alike_all : (f : Fresh) (users : Literals) (clients : Clients) (all : List AclRow)
+    (user : Option (List ℕ)) → is_named f.user.now users ≡ false → all_listed users all ≡ true
+    → is_of (λ u. is_named u users) clients user ≡ true → alike user (stand_in f clients) all ≡ true
+alike_all f users Anonymous all None n h e = alike_self None all
+alike_all f users Anonymous all (Some u) n h e = absurd (let k : false ≡ true = e in cc)
+alike_all f users (Named name) all None n h e = absurd (let k : false ≡ true = e in cc)
+alike_all f users (Named name) all (Some u) n h e =
+    ap (λ t. alike (Some t) (Some name.now) all)
+    (text_is u name.now (and_parts (bytes_eq u name.now) (can_be_id u) e).0)
+    ∙ alike_self (Some name.now) all
+alike_all f users Others all None n h e = absurd (let k : false ≡ true = e in cc)
+alike_all f users Others all (Some u) n h e =
+    unlisted_alike users u f.user.now
+    (not-true (is_named u users) (and_parts (can_be_id u) (not (is_named u users)) e).1) n all h
+
+-- ---- a question that is posed of rows
+pub record IsPosed (f : Fresh) (users : Literals) (clients : Clients) (dollar : Bool)
+    (must cover : List AclRow) (q : Question) : Type 0 where
+  pub ready : IsReady f users clients must cover
+  pub asks : Asks f (stand_in f clients) dollar must cover q
+
+-- there is no such name for any client that is asked about
+abbrev pub NoneFor : Literals → Clients → Bool → (must cover : List AclRow) → Type 0
+NoneFor users clients dollar must cover =
+    (client name : List ℕ) (user : Option (List ℕ)) → can_be_id client ≡ true
+    → is_of (λ u. is_named u users) clients user ≡ true → is_name name ≡ true
+    → begins_with_dollar name ≡ dollar → decides client user name must cover ≡ false
+
+-- where a row concerns none of the names
+pub none_concerned : (f : Fresh) (users : Literals) (clients : Clients) (dollar : Bool)
+    (must cover : List AclRow) → IsReady f users clients must cover
+    → NoneConcerned must (stand_in f clients) dollar → NoneFor users clients dollar must cover
+none_concerned f users clients dollar must cover ready none client name user id of valid kind =
+    and_left (list_all (concerns client user name) must)
+    (not (list_any (concerns client user name) cover))
+    (none client name user
+    (alike_all f users clients must user ready.unlisted ready.must_listed of) kind)
+
+module _ (f : Fresh) (users : Literals) (clients : Clients) (dollar : Bool)
+    (must cover : List AclRow) (q : Question) (posed : IsPosed f users clients dollar must cover q)
+  where
+    -- what is decided of rows is what the question hits
+    decides_is : (client name : List ℕ) (user : Option (List ℕ))
+        → is_of (λ u. is_named u users) clients user ≡ true → is_name name ≡ true
+        → begins_with_dollar name ≡ dollar
+        → decides client user name must cover
+        ≡ hits (marks_of client (level_of user)) (levels name) q.must.items q.cover.items
+    decides_is client name user of valid kind =
+        sym (posed.asks.decides client name user
+        (alike_all f users clients must user posed.ready.unlisted posed.ready.must_listed of)
+        (alike_all f users clients cover user posed.ready.unlisted posed.ready.cover_listed of)
+        kind)
+        ∙ level_hits client user (levels name) (name_is name valid).can q.must.items q.cover.items
+
+    missed : ((client : List ℕ) (user : Option (List ℕ)) → can_be_id client ≡ true
+        → is_of (λ u. is_named u users) clients user ≡ true → Misses q client (level_of user))
+        → NoneFor users clients dollar must cover
+    missed misses client name user id of valid kind =
+        let is = name_is name valid in
+        decides_is client name user of valid kind
+        ∙ misses client user id of (levels name)
+        (name_suits name q.dollar is.some (kind ∙ sym posed.asks.kind)) is.few
+
+    hit : (user : Option (List ℕ)) (found : Found)
+        → is_of (λ u. is_named u users) clients user ≡ true → HitsUser q user found
+        → ((p : List ℕ → Bool) → fresh_pass p q.fresh ≡ true
+        → remainders_fit p q.must.items ≡ true → name_passes p clients ≡ true
+        → mark_passes p user ≡ true)
+        → IsFoundBy f (λ u. is_named u users) clients must cover found
+    hit user found of h user_known = record {
+      client_fits = h.client_fits;
+      user_fits = ap (is_of (λ u. is_named u users) clients) h.user_is ∙ of;
+      valid = h.hits_name.valid;
+      decided = ap (λ u. decides found.client.now u found.name must cover) h.user_is
+          ∙ decides_is found.client.now found.name user of h.hits_name.valid
+          (h.hits_name.kind ∙ posed.asks.kind)
+          ∙ h.hits_name.hit;
+      known = λ p fresh fit name.
+          let all = ap (fresh_pass p) posed.asks.fresh ∙ fresh in
+          let left = posed.asks.fit p fit in
+          let known = user_known p all left name in
+          let level = level_known p user known in
+          let client = h.client_known p all left level in
+          record {
+            client = client;
+            user = ap (mark_passes p) h.user_is ∙ known;
+            name = h.hits_name.known p all left client level;
+          };
+    }
+
+    -- ---- one user name, or none
+    fixed_misses : (user : Option (List ℕ))
+        → mark_passes (is_literal q.fresh) (level_of user) ≡ true → MissesUser q user
+        → (client : List ℕ) → can_be_id client ≡ true
+        → Misses q client (level_of user)
+    fixed_misses user fit misses client id =
+        fixed_none q.fresh q.dollar q.must.items q.cover.items q.can_ask (level_of user) fit client
+        id
+        misses
+
+    pub anonymous_none : clients ≡ Anonymous → MissesUser q None
+        → NoneFor users clients dollar must cover
+    anonymous_none e misses = missed (λ client user id of. at user client id
+        (sym (ap (λ k. is_of (λ u. is_named u users) k user) e) ∙ of))
+      where
+        at : (user : Option (List ℕ)) (client : List ℕ) → can_be_id client ≡ true
+            → is_of (λ u. is_named u users) Anonymous user ≡ true → Misses q client (level_of user)
+        at None client id of = fixed_misses None refl misses client id
+        at (Some u) client id of = absurd (let n : false ≡ true = of in cc)
+
+    pub anonymous_hit : clients ≡ Anonymous → (found : Found) → HitsUser q None found
+        → IsFoundBy f (λ u. is_named u users) clients must cover found
+    anonymous_hit e found h =
+        hit None found (ap (λ k. is_of (λ u. is_named u users) k None) e) h
+        (λ p fresh fit name. refl)
+
+    pub named_none : (name : Bor (List ℕ)) → clients ≡ Named name → MissesUser q (Some name.now)
+        → NoneFor users clients dollar must cover
+    named_none name e misses = missed (λ client user id of. at user client id
+        (sym (ap (λ k. is_of (λ u. is_named u users) k user) e) ∙ of))
+      where
+        fit : mark_passes (is_literal q.fresh) (level_of (Some name.now)) ≡ true
+        fit = ap (λ g. mark_passes (is_literal g) (level_of (Some name.now))) posed.asks.fresh
+            ∙ sym (ap (clients_fit f) e) ∙ posed.ready.user_fits
+
+        at : (user : Option (List ℕ)) (client : List ℕ) → can_be_id client ≡ true
+            → is_of (λ u. is_named u users) (Named name) user ≡ true
+            → Misses q client (level_of user)
+        at None client id of = absurd (let n : false ≡ true = of in cc)
+        at (Some u) client id of =
+            subst (λ t. Misses q client (level_of (Some t)))
+            (sym (text_is u name.now (and_parts (bytes_eq u name.now) (can_be_id u) of).0))
+            (fixed_misses (Some name.now) fit misses client id)
+
+    pub named_hit : (name : Bor (List ℕ)) → clients ≡ Named name → can_be_id name.now ≡ true
+        → (found : Found) → HitsUser q (Some name.now) found
+        → IsFoundBy f (λ u. is_named u users) clients must cover found
+    named_hit name e id found h =
+        hit (Some name.now) found (ap (λ k. is_of (λ u. is_named u users) k (Some name.now)) e
+        ∙ and_from (bytes_eq name.now name.now) (can_be_id name.now) (text_itself name.now) id) h
+        (λ p fresh fit known. sym (ap (name_passes p) e) ∙ known)
+
+    -- ---- all user names that aren't listed
+    pub others_missed : clients ≡ Others → MissesOthers q users
+        → NoneFor users clients dollar must cover
+    others_missed e misses = missed (λ client user id of. at user client id
+        (sym (ap (λ k. is_of (λ u. is_named u users) k user) e) ∙ of))
+      where
+        at : (user : Option (List ℕ)) (client : List ℕ) → can_be_id client ≡ true
+            → is_of (λ u. is_named u users) Others user ≡ true → Misses q client (level_of user)
+        at None client id of = absurd (let n : false ≡ true = of in cc)
+        at (Some u) client id of =
+            others_none q.fresh q.dollar q.must.items q.cover.items q.can_ask users
+            (ap (λ g. is_named g.user.now users) posed.asks.fresh ∙ posed.ready.unlisted) client u
+            of
+            id misses
+
+    pub others_hit : clients ≡ Others → (found : Found) → HitsOther q users found
+        → IsFoundBy f (λ u. is_named u users) clients must cover found
+    others_hit e found h =
+        hit (Some h.user) found (ap (λ k. is_of (λ u. is_named u users) k (Some h.user)) e
+        ∙ and_from (can_be_id h.user) (not (is_named h.user users)) h.user_fits
+        (ap not h.unlisted)) h.hits_user (λ p fresh fit name. h.user_known p fresh fit)

@@ -1,0 +1,92 @@
+-- The names that a question finds.
+use Rattle.std.proofs.Common.{◌≡◌, ℕ, Bool, true, false, ◌&&◌, List, refl, ap, sym}
+use Rattle.std.proofs.Common.{◌∙◌, Option}
+use Rattle.std.specs.List.{list_all}
+use Rattle.mq_topic.specs.Levels.{levels}
+use Rattle.mq_topic.specs.Texts.{is_memory, is_name}
+use Rattle.mq_topic.specs.declared.fault.TopicFault.{TopicFault}
+use Rattle.mq_topic.specs.declared.fault.TopicFault.TheVariants.{Empty, TooLong, Nul, Wildcard}
+use Rattle.mq_topic.specs.declared.fault.TopicFault.TheVariants.{Levels, Share, Memory}
+use Rattle.mq_cover.specs.Names.{is_choice, start_of, suits}
+use Rattle.mq_cover.specs.Choices.{known_pass}
+use Rattle.mq_cover.specs.Remainders.{hits, mark_passes, remainders_fit, IsFound}
+use Rattle.mq_cover.specs.declared.remainder.Remainder.{Remainder}
+use Rattle.mq_cover.specs.declared.start.Start.{Start}
+use Rattle.mq_witness.specs.Answers.{Hits}
+use Rattle.mq_witness.specs.Fresh.{fresh_pass, is_literal}
+use Rattle.mq_witness.specs.Roots.{marks_of}
+use Rattle.mq_witness.specs.Texts.{join_levels}
+use Rattle.mq_witness.specs.declared.fresh.Fresh.{Fresh}
+use Rattle.mq_witness.specs.declared.question.Question.{Question}
+use Rattle.mq_witness.proofs.FreshMoves.{literal_is_choice}
+use Rattle.mq_witness.proofs.LiteralLemmas.{all_fit_mono}
+use Rattle.mq_witness.proofs.NameLemmas.{joined_is_name, levels_of_joined, some_name, suits_dollar}
+
+-- filters that name no text that stands for others name no level that does
+pub choices_fit : (f : Fresh) (rs lent : List Remainder) → lent ≡ rs
+    → remainders_fit (is_literal f) rs ≡ true → remainders_fit (is_choice f.others) lent ≡ true
+choices_fit f rs lent e h = ap (remainders_fit (is_choice f.others)) e
+    ∙ all_fit_mono (is_literal f) (is_choice f.others) rs (literal_is_choice f) h
+
+-- what a walk for a question finds, and the text of its name
+pub record IsWalk (q : Question) (start : Start) (must cover : List Remainder) : Type 0 where
+  pub start_is : start ≡ start_of q.dollar
+  pub must_is : must ≡ q.must.items
+  pub cover_is : cover ≡ q.cover.items
+
+-- the name on a path that is found is valid
+pub found_is_name : (q : Question) (start : Start) (must cover : List Remainder)
+    (client : List ℕ) (user : Option (List ℕ)) (ls : List (List ℕ)) → IsWalk q start must cover
+    → IsFound start 200 (marks_of client user) must cover ls → is_name (join_levels ls) ≡ true
+found_is_name q start must cover client user ls w h =
+    joined_is_name ls q.dollar h.valid h.few
+    (sym (ap (λ s. suits s ls) w.start_is) ∙ h.suitable)
+
+-- each of its levels passes what the levels that a walk is given do
+abbrev pub IsKnown : Question → List Remainder → List ℕ → Option (List ℕ) → List (List ℕ) → Type 0
+IsKnown q must client user ls = (p : List ℕ → Bool)
+    → known_pass p (marks_of client user) q.fresh.others ≡ true → remainders_fit p must ≡ true
+    → list_all p ls ≡ true
+
+-- what all texts that stand for others pass, and both marks, the levels that a walk is given do
+all_known : (p : List ℕ → Bool) (f : Fresh) (client : List ℕ) (user : Option (List ℕ))
+    → fresh_pass p f ≡ true → p client ≡ true → mark_passes p user ≡ true
+    → known_pass p (marks_of client user) f.others ≡ true
+all_known p f client user h c u =
+    at (p f.others.plain.now) (p f.others.dollar.now) (p f.client.now) (p f.user.now) (p client)
+    (mark_passes p user) h c u
+  where
+    at : (a b d e g k : Bool) → (a && b && d && e) ≡ true → g ≡ true → k ≡ true
+        → (a && b && (g && k)) ≡ true
+    at true true d e g k h i j = rw (i, j) refl
+    at false b d e g k h i j = absurd (let n : false ≡ true = h in cc)
+    at true false d e g k h i j = absurd (let n : false ≡ true = h in cc)
+
+-- and the question hits it
+pub found_hits : (q : Question) (start : Start) (must cover : List Remainder) (client : List ℕ)
+    (user : Option (List ℕ)) (ls : List (List ℕ)) (name : List ℕ) → IsWalk q start must cover
+    → name ≡ join_levels ls → IsFound start 200 (marks_of client user) must cover ls
+    → IsKnown q must client user ls → Hits q client user name
+found_hits q start must cover client user ls name w e h known =
+    let suit = sym (ap (λ s. suits s ls) w.start_is) ∙ h.suitable in
+    let same = ap levels e ∙ levels_of_joined ls q.dollar h.valid suit in
+    let fit = ap (suits (start_of q.dollar)) same ∙ suit in
+    record {
+      valid = ap is_name e ∙ found_is_name q start must cover client user ls w h;
+      kind = suits_dollar name q.dollar (some_name name q.dollar fit) fit;
+      hit = ap (λ k. hits (marks_of client user) k q.must.items q.cover.items) same
+          ∙ (λ i. hits (marks_of client user) ls (sym w.must_is i) (sym w.cover_is i)) ∙ h.hit;
+      known = λ p fresh fit c u. ap (list_all p) same
+          ∙ known p (all_known p q.fresh client user fresh c u)
+          (ap (remainders_fit p) w.must_is ∙ fit);
+    }
+
+-- a fault of which no text can be told is want of memory
+pub memory_is : (fault : TopicFault) → is_memory fault ≡ true → fault ≡ Memory
+memory_is Empty e = absurd (let f : false ≡ true = e in cc)
+memory_is TooLong e = absurd (let f : false ≡ true = e in cc)
+memory_is Nul e = absurd (let f : false ≡ true = e in cc)
+memory_is Wildcard e = absurd (let f : false ≡ true = e in cc)
+memory_is Levels e = absurd (let f : false ≡ true = e in cc)
+memory_is Share e = absurd (let f : false ≡ true = e in cc)
+memory_is Memory e = refl

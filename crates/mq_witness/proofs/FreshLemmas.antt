@@ -1,0 +1,173 @@
+-- Texts that are made to be named by no row.
+use Rattle.std.proofs.Common.{◌≡◌, ℕ, ◌==◌, Bool, true, false, not, ◌&&◌, ◌||◌, List, ◌++◌}
+use Rattle.std.proofs.Common.{length, codes, bytes_eq, refl, ap, sym, ◌∙◌, arith, ◌+◌, ◌<◌, ◌≤◌}
+use Rattle.std.proofs.Common.{replicate, zero, suc, length-append, subst}
+use Rattle.std.proofs.Common.{string_bytes}
+use Rattle.std.specs.Prelude.{nat_le}
+use Rattle.std.specs.List.{list_any}
+use Rattle.std.proofs.lemmas.List.{length-replicate}
+use Rattle.std.proofs.lemmas.List.Folds.{list_any-append}
+use Rattle.std.proofs.lemmas.Bool.{and_parts, not-true, leb-true, le-leb}
+use Rattle.std.proofs.Math.Dec.{eqb-suc-zero}
+use Rattle.mq_topic.proofs.ByteLemmas.{text_is}
+use Rattle.mq_topic.specs.Texts.{contains_byte, is_plain}
+use Rattle.mq_acl.specs.Access.{begins_with_dollar}
+use Rattle.mq_cover.specs.Names.{is_name_level, is_choice}
+use Rattle.mq_witness.specs.Fresh.{is_literal, AreFresh}
+use Rattle.mq_witness.specs.FreshTexts.{is_base, AreNew, AreShort, IsPadded, IsSeen}
+use Rattle.mq_witness.specs.FreshTexts.{fresh_texts}
+use Rattle.mq_witness.specs.declared.fresh.Fresh.{Fresh}
+use Rattle.mq_witness.specs.declared.texts.FreshTexts.{FreshTexts}
+use Rattle.mq_cover.proofs.TextLemmas.{or_cases}
+
+many_lack : (b n : ℕ) → (120 == b) ≡ false → contains_byte b (replicate n 120) ≡ false
+many_lack b zero h = refl
+many_lack b (suc n) h = (λ i. h i || many_lack b n h i)
+
+made_lacks : (b : ℕ) (base text : List ℕ) → (120 == b) ≡ false → not (contains_byte b base) ≡ true
+    → IsPadded base text → not (contains_byte b text) ≡ true
+made_lacks b base text n h m =
+    ap (λ t. not (contains_byte b t)) m.is
+    ∙ ap not (list_any-append (λ c. c == b) base (replicate m.count 120))
+    ∙ ap (λ k. not (contains_byte b base || k)) (many_lack b m.count n)
+    ∙ ap (λ k. not (k || false)) (not-true (contains_byte b base) h)
+
+made_level : (base text : List ℕ) → is_base base ≡ true → IsPadded base text
+    → is_name_level text ≡ true
+made_level base text h m =
+    let e2 = (and_parts (is_plain base && not (contains_byte 0 base) && not (contains_byte 47 base))
+    (nat_le (length base) 20) h).0 in
+    let e1 = (and_parts (is_plain base && not (contains_byte 0 base)) (not (contains_byte 47 base))
+    e2).0 in
+    let plain = (and_parts (is_plain base) (not (contains_byte 0 base)) e1).0 in
+    let short = leb-true (length base) 20
+    (and_parts (is_plain base && not (contains_byte 0 base) && not (contains_byte 47 base))
+    (nat_le (length base) 20) h).1 in
+    let few = m.few in
+    let size = ap length m.is ∙ length-append base (replicate m.count 120)
+    ∙ ap (λ n. length base + n) (length-replicate m.count 120) in
+    rw (
+      made_lacks 43 base text refl
+          (and_parts (not (contains_byte 43 base)) (not (contains_byte 35 base)) plain).0 m,
+      made_lacks 35 base text refl
+          (and_parts (not (contains_byte 43 base)) (not (contains_byte 35 base)) plain).1 m,
+      made_lacks 0 base text refl (and_parts (is_plain base) (not (contains_byte 0 base)) e1).1 m,
+      made_lacks 47 base text refl
+          (and_parts (is_plain base && not (contains_byte 0 base)) (not (contains_byte 47 base))
+          e2).1 m,
+    )
+    (le-leb (length text) 321 (omega (arith, size, short, few)))
+
+-- texts of bases that differ at the front differ
+made_apart : (a b s t : List ℕ) → ((x y : List ℕ) → bytes_eq (a ++ x) (b ++ y) ≡ false)
+    → IsPadded a s
+    → IsPadded b t → not (bytes_eq s t) ≡ true
+made_apart a b s t h m n =
+    ap not ((λ i. bytes_eq (m.is i) (n.is i)) ∙ h (replicate m.count 120) (replicate n.count 120))
+
+-- a text that is longer than what is named isn't named
+pub too_long : (named : Bool) (n : ℕ) → (named ≡ true → n ≤ 300) → 300 < n → named ≡ false
+too_long true n f h = absurd (let g = f refl in omega arith)
+too_long false n f h = refl
+
+-- each of the texts that stand for others is made of a base of its own
+pub record AreMade (f : Fresh) : Type 0 where
+  pub plain : IsPadded (codes "x") f.others.plain.now
+  pub dollar : IsPadded (codes "$x") f.others.dollar.now
+  pub client : IsPadded (codes "client") f.client.now
+  pub user : IsPadded (codes "user") f.user.now
+
+module _ (f : Fresh) (made : AreMade f) where
+  choice : (base text : List ℕ) → is_base base ≡ true
+      → ((x y : List ℕ) → bytes_eq (base ++ x) (codes "x" ++ y) ≡ false)
+      → ((x y : List ℕ) → bytes_eq (base ++ x) (codes "$x" ++ y) ≡ false)
+      → IsPadded base text → is_choice f.others text ≡ true
+  choice base text h s t m =
+      rw (
+        made_level base text h m,
+        made_apart base (codes "x") text f.others.plain.now s m made.plain,
+        made_apart base (codes "$x") text f.others.dollar.now t m made.dollar,
+      ) refl
+
+-- texts that are made so are fresh
+pub are_fresh : (f : Fresh) → AreMade f → AreFresh f
+are_fresh f made = record {
+  others = rw (
+    made_level (codes "x") f.others.plain.now refl made.plain,
+    made_level (codes "$x") f.others.dollar.now refl made.dollar,
+  )
+      ((λ i. not (length (made.plain.is i) == 0) && not (begins_with_dollar (made.plain.is i))
+      && true && begins_with_dollar (made.dollar.is i) && true)
+      ∙ ap (λ b. not b && true && true && true && true)
+      (eqb-suc-zero (length (replicate made.plain.count 120))));
+  client = record {
+    choice = choice f made (codes "client") f.client.now refl (λ x y. refl) (λ x y. refl)
+        made.client;
+    some = ap (λ t. length t == 0) made.client.is
+        ∙ eqb-suc-zero (length (codes "lient" ++ replicate made.client.count 120));
+    plain = ap begins_with_dollar made.client.is;
+  };
+  user = record {
+    choice = choice f made (codes "user") f.user.now refl (λ x y. refl) (λ x y. refl) made.user;
+    some = ap (λ t. length t == 0) made.user.is
+        ∙ eqb-suc-zero (length (codes "ser" ++ replicate made.user.count 120));
+    plain = ap begins_with_dollar made.user.is;
+  };
+  apart = not-true (bytes_eq f.user.now f.client.now)
+      (made_apart (codes "user") (codes "client") f.user.now f.client.now (λ x y. refl)
+      made.user made.client);
+}
+
+-- new texts, seen as those that stand for others, are fresh
+pub seen_fresh : (t : FreshTexts) (f : Fresh) (named : List ℕ → Bool) → AreNew t named
+    → IsSeen t f → AreFresh f
+seen_fresh t f named m s =
+    are_fresh f (record {
+      plain = subst (IsPadded (codes "x")) (sym s.plain) m.plain.made;
+      dollar = subst (IsPadded (codes "$x")) (sym s.dollar) m.dollar.made;
+      client = subst (IsPadded (codes "client")) (sym s.client) m.client.made;
+      user = subst (IsPadded (codes "user")) (sym s.user) m.user.made;
+    })
+
+-- a text that is named is none of them
+apart_from : (named : List ℕ → Bool) (l t u : List ℕ) → named l ≡ true → u ≡ t
+    → named t ≡ false → not (bytes_eq l u) ≡ true
+apart_from named l t u h e n = at (bytes_eq l u) refl
+  where
+    at : (b : Bool) → bytes_eq l u ≡ b → not b ≡ true
+    at true k = absurd (let f : true ≡ false = sym h
+        ∙ ap named (text_is l u k ∙ e) ∙ n in cc)
+    at false k = refl
+
+-- a level that is named, and can be one of a name, is one that a row may name
+pub named_is_literal : (t : FreshTexts) (f : Fresh) (named : List ℕ → Bool) → AreShort named
+    → AreNew t named → IsSeen t f → (l : List ℕ) → is_name_level l ≡ true → named l ≡ true
+    → is_literal f l ≡ true
+named_is_literal t f named short m s l level h =
+    rw (
+      level,
+      apart_from named l (string_bytes t.plain) f.others.plain.now h s.plain
+          (m.plain.unnamed short),
+      apart_from named l (string_bytes t.dollar) f.others.dollar.now h s.dollar
+          (m.dollar.unnamed short),
+      apart_from named l (string_bytes t.client) f.client.now h s.client (m.client.unnamed short),
+      apart_from named l (string_bytes t.user) f.user.now h s.user (m.user.unnamed short),
+    ) refl
+
+-- none of them is named
+pub made_unnamed : (t : FreshTexts) (named : List ℕ → Bool) → AreShort named → AreNew t named
+    → (text : List ℕ) → list_any (bytes_eq text) (fresh_texts t) ≡ true → named text ≡ false
+made_unnamed t named short m text h =
+    or_cases (bytes_eq text (string_bytes t.plain)) _ h
+    (same (string_bytes t.plain) (m.plain.unnamed short))
+    (λ k. or_cases (bytes_eq text (string_bytes t.dollar)) _ k
+    (same (string_bytes t.dollar) (m.dollar.unnamed short))
+    (λ k. or_cases (bytes_eq text (string_bytes t.client)) _ k
+    (same (string_bytes t.client) (m.client.unnamed short))
+    (λ k. or_cases (bytes_eq text (string_bytes t.user)) false k
+    (same (string_bytes t.user) (m.user.unnamed short))
+    (λ e. absurd (let n : false ≡ true = e in cc)))))
+  where
+    same : (other : List ℕ) → named other ≡ false → bytes_eq text other ≡ true
+        → named text ≡ false
+    same other n e = ap named (text_is text other e) ∙ n

@@ -1,0 +1,158 @@
+-- When lists can be asked, and what a search of them knows.
+use Rattle.std.proofs.Common.{◌≡◌, ℕ, ◌≤◌, Bool, true, false, cond, List, [], ◌∷◌}
+use Rattle.std.proofs.Common.{length, Some, None, bytes_eq, refl, ap, sym, ◌∙◌, arith}
+use Rattle.std.proofs.Common.{string_bytes}
+use Rattle.std.specs.Prelude.{nat_le, All, Contains}
+use Rattle.std.specs.List.{list_all, list_any}
+use Rattle.std.proofs.lemmas.Bool.{and_parts, and_from, le-leb, leb-true, or_left, or_right}
+use Rattle.std.proofs.lemmas.List.Elements.{All-contains, All-weaker}
+use Rattle.std.proofs.lemmas.List.Sums.{AllPass-from_list_all, list_all-from_AllPass}
+use Rattle.mq_topic.proofs.ByteLemmas.{text_itself}
+use Rattle.mq_topic.specs.Levels.{levels}
+use Rattle.mq_acl.specs.Rows.{AclRow, Who}
+use Rattle.mq_acl.specs.Rows as rows
+use Rattle.mq_cover.specs.Names.{can_be_level, is_name_level}
+use Rattle.mq_cover.specs.Remainders.{fits, mark_passes}
+use Rattle.mq_cover.proofs.TextLemmas.{false_is}
+use Rattle.mq_witness.specs.Asked.{AskedRows, IsListed}
+use Rattle.mq_witness.specs.Fresh.{is_literal}
+use Rattle.mq_witness.specs.FreshTexts.{AreNew, AreShort, IsSeen, fresh_texts}
+use Rattle.mq_witness.specs.Limits.{is_short_level, short_who, usable}
+use Rattle.mq_witness.specs.Literals.{is_literal_in, is_named}
+use Rattle.mq_witness.specs.Ready.{CanBeAsked, IsReady, all_listed, clients_fit, is_listed}
+use Rattle.mq_witness.specs.Roots.{rows_fit}
+use Rattle.mq_witness.specs.Rows.{is_name_of, is_user_of, row_names, rows_name}
+use Rattle.mq_witness.specs.declared.clients.Clients.{Clients}
+use Rattle.mq_witness.specs.declared.clients.Clients.TheVariants.{Anonymous, Named, Others}
+use Rattle.mq_witness.specs.declared.fresh.Fresh.{Fresh}
+use Rattle.mq_witness.specs.declared.literals.Literals.{Literals}
+use Rattle.mq_witness.specs.declared.texts.FreshTexts.{FreshTexts}
+use Rattle.mq_witness.proofs.FreshLemmas.{made_unnamed, named_is_literal, seen_fresh}
+use Rattle.mq_witness.proofs.LimitLemmas.{names_short, user_is_named}
+use Rattle.mq_witness.proofs.LiteralLemmas.{fits_named, level_is_no_wildcard}
+
+-- ---- rows that name no text that stands for others
+short_is_name : (w : List ℕ) → is_short_level w ≡ true → is_name_level w ≡ true
+short_is_name w h =
+    let parts = and_parts (can_be_level w) (nat_le (length w) 300) h in
+    let short = leb-true (length w) 300 parts.1 in
+    and_from (can_be_level w) (nat_le (length w) 321) parts.0
+    (le-leb (length w) 321 (omega arith))
+
+rows_literal : (f : Fresh) (all : List AclRow) → list_all usable all ≡ true
+    → ((l : List ℕ) → is_name_level l ≡ true → rows_name l all ≡ true → is_literal f l ≡ true)
+    → rows_fit (is_literal f) all ≡ true
+rows_literal f [] u h = refl
+rows_literal f (row ∷ all) u h =
+    let parts = and_parts (usable row) (list_all usable all) u in
+    let first = (and_parts (fits is_short_level (levels row.filter)) (short_who row.who) parts.0).0
+    in
+    and_from (fits (is_literal f) (levels row.filter)) (rows_fit (is_literal f) all)
+    (fits_named is_short_level (is_literal f)
+    (λ w k. level_is_no_wildcard w (short_is_name w k)) (levels row.filter) first
+    (λ l k i. h l (short_is_name l k)
+    (or_left (row_names l row) (rows_name l all)
+    (or_left (is_literal_in l (levels row.filter)) (is_name_of l row.who) i))))
+    (rows_literal f all parts.1 (λ l k i. h l k (or_right (row_names l row) (rows_name l all) i)))
+
+-- what the names in rows are, and which rows they are
+pub record AreNames (all : List AclRow) (names users : Literals) : Type 0 where
+  pub named : (l : List ℕ) → is_named l names ≡ rows_name l all
+  pub users_named : (l : List ℕ) → is_named l users ≡ is_user_of l all
+  pub all_usable : list_all usable all ≡ true
+
+-- rows that keep to the limit can be asked, with texts that are new to all that they name
+pub can_be_asked : (all : List AclRow) (texts : FreshTexts) (names users : Literals)
+    → AreNames all names users → AreNew texts (λ l. is_named l names)
+    → CanBeAsked all texts users
+can_be_asked all texts names users are new = record {
+  fresh = λ f seen. seen_fresh texts f (λ l. is_named l names) new seen;
+  fits = λ f seen. rows_literal f all are.all_usable (λ l level h. literal f seen l level h);
+  named = are.users_named;
+  level = λ f seen user h. at f seen user (sym (are.users_named user) ∙ h) (can_be_level user) refl;
+  unnamed = λ text h. sym (are.named text)
+      ∙ made_unnamed texts (λ l. is_named l names) short new text h;
+}
+  where
+    short : AreShort (λ l. is_named l names)
+    short l h = names_short all are.all_usable l (sym (are.named l) ∙ h)
+
+    literal : (f : Fresh) → IsSeen texts f → (l : List ℕ) → is_name_level l ≡ true
+        → rows_name l all ≡ true → is_literal f l ≡ true
+    literal f seen l level h = named_is_literal texts f (λ l. is_named l names)
+        (λ l h. names_short all are.all_usable l (sym (are.named l) ∙ h)) new seen l level
+        (are.named l ∙ h)
+
+    size : (user : List ℕ) → length user ≤ 300 → nat_le (length user) 321 ≡ true
+    size user h = le-leb (length user) 321 (omega arith)
+
+    at : (f : Fresh) → IsSeen texts f → (user : List ℕ) → is_user_of user all ≡ true → (b : Bool)
+        → can_be_level user ≡ b → mark_passes (is_literal f) (cond b (Some user) None) ≡ true
+    at f seen user h false e = refl
+    at f seen user h true e =
+        let name = user_is_named all user h in
+        named_is_literal texts f (λ l. is_named l names)
+        (λ l h. names_short all are.all_usable l (sym (are.named l) ∙ h)) new seen user
+        (and_from (can_be_level user) (nat_le (length user) 321) e
+        (le-leb (length user) 321 (let s = names_short all are.all_usable user name in omega arith)))
+        (are.named user ∙ name)
+
+-- ---- a search of them
+-- rows that stand in a list pass what all of the list do
+pub all_contained : (p : AclRow → Bool) (all some : List AclRow) → list_all p all ≡ true
+    → All (Contains all) some → list_all p some ≡ true
+all_contained p all some h c =
+    list_all-from_AllPass p some
+    (All-weaker (Contains all) (λ row. p row ≡ true)
+    (λ row k. All-contains (λ row. p row ≡ true) all row (AllPass-from_list_all p all h) k) some c)
+
+-- the user names of rows are listed
+rows_listed : (users : Literals) (all : List AclRow)
+    → ((l : List ℕ) → is_user_of l all ≡ true → is_named l users ≡ true)
+    → all_listed users all ≡ true
+rows_listed users [] h = refl
+rows_listed users (row ∷ all) h =
+    and_from (is_listed users row.who) (all_listed users all)
+    (one row.who (λ l e. h l (or_left (is_name_of l row.who) (is_user_of l all) e)))
+    (rows_listed users all (λ l e. h l (or_right (is_name_of l row.who) (is_user_of l all) e)))
+  where
+    one : (who : Who) → ((l : List ℕ) → is_name_of l who ≡ true → is_named l users ≡ true)
+        → is_listed users who ≡ true
+    one rows.Anonymous k = refl
+    one (rows.Named name) k = k name (text_itself name)
+    one rows.Everyone k = refl
+
+-- what is asked of rows that can be asked can be searched
+pub search_ready : (asked : AskedRows) (texts : FreshTexts) (users : Literals) (f : Fresh)
+    (clients : Clients) (must cover : List AclRow) → CanBeAsked asked.rows texts users
+    → IsSeen texts f → IsListed asked clients → All (Contains asked.rows) must
+    → All (Contains asked.rows) cover → IsReady f users clients must cover
+search_ready asked texts users f clients must cover can seen listed must_in cover_in =
+    let fit = can.fits f seen in
+    let all = rows_listed users asked.rows (λ l e. can.named l ∙ e) in
+    record {
+      fresh = can.fresh f seen;
+      must_fits = all_contained (λ row. fits (is_literal f) (levels row.filter)) asked.rows must fit
+          must_in;
+      cover_fits = all_contained (λ row. fits (is_literal f) (levels row.filter)) asked.rows cover
+          fit cover_in;
+      must_listed = all_contained (λ row. is_listed users row.who) asked.rows must all must_in;
+      cover_listed = all_contained (λ row. is_listed users row.who) asked.rows cover all cover_in;
+      unlisted = can.named f.user.now
+          ∙ false_is (is_user_of f.user.now asked.rows) (rows_name f.user.now asked.rows)
+          (user_is_named asked.rows f.user.now) (can.unnamed f.user.now made_up);
+      user_fits = by clients listed;
+    }
+  where
+    made_up : list_any (bytes_eq f.user.now) (fresh_texts texts) ≡ true
+    made_up =
+        or_right (bytes_eq f.user.now (string_bytes texts.plain)) _
+        (or_right (bytes_eq f.user.now (string_bytes texts.dollar)) _
+        (or_right (bytes_eq f.user.now (string_bytes texts.client)) _
+        (or_left (bytes_eq f.user.now (string_bytes texts.user)) false
+        (ap (bytes_eq f.user.now) (sym seen.user) ∙ text_itself f.user.now))))
+
+    by : (k : Clients) → IsListed asked k → clients_fit f k ≡ true
+    by Anonymous e = refl
+    by (Named name) e = can.level f seen name.now (can.named name.now ∙ e)
+    by Others e = refl

@@ -1,0 +1,97 @@
+-- What is asked of the rows of lists, and what is answered.
+use Rattle.std.specs.Prelude.{◌≡◌, ◌||◌, ℕ, Bool, true, false, List, Option, String}
+use Rattle.std.specs.Prelude.{string_bytes}
+use Rattle.std.specs.List.{list_any, list_all}
+use Rattle.std.specs.Option.{option_map}
+use Rattle.std.specs.Str.{bytes_eq}
+use Rattle.std.specs.declared.alloc.Global.{Global}
+use Rattle.mq_topic.specs.Levels.{levels}
+use Rattle.mq_topic.specs.Texts.{is_name}
+use Rattle.mq_acl.specs.Access.{begins_with_dollar}
+use Rattle.mq_acl.specs.Rows.{AclRow}
+use Rattle.mq_cover.specs.Names.{can_be_level}
+use Rattle.mq_cover.specs.Remainders.{mark_passes}
+use Rattle.mq_witness.specs.Clients.{can_be_id, is_of}
+use Rattle.mq_witness.specs.Decided.{decides}
+use Rattle.mq_witness.specs.Rows.{is_user_of, rows_name}
+use Rattle.mq_witness.specs.Swaps.{swap, swap_user, swap_name}
+use Rattle.mq_witness.specs.declared.clients.Clients.{Clients}
+use Rattle.mq_witness.specs.declared.clients.Clients.TheVariants.{Anonymous, Named, Others}
+use Rattle.mq_witness.specs.declared.witness.Witness.{Witness}
+
+-- the rows of all lists, and the texts that stand for those that no row names
+pub record AskedRows : Type 0 where
+  pub rows : List AclRow
+  pub made_up : List (List ℕ)
+
+abbrev pub is_made_up : List ℕ → AskedRows → Bool
+is_made_up text asked = list_any (bytes_eq text) asked.made_up
+
+-- whether the clients of this user name, or without one, are among those that are asked about
+abbrev pub is_client_of : AskedRows → Clients → Option (List ℕ) → Bool
+is_client_of asked clients user = is_of (λ u. is_user_of u asked.rows) clients user
+
+-- a row names the user name, if there is one
+abbrev pub IsListed : AskedRows → Clients → Type 0
+IsListed asked Anonymous = Unit {0}
+IsListed asked (Named name) = is_user_of name.now asked.rows ≡ true
+IsListed asked Others = Unit {0}
+
+-- of no client that is asked about, each first row concerns a topic and no other does
+abbrev pub FindsNone : AskedRows → Clients → (must cover : List AclRow) → Type 0
+FindsNone asked clients must cover = (client name : List ℕ) (user : Option (List ℕ))
+    → can_be_id client ≡ true → is_client_of asked clients user ≡ true → is_name name ≡ true
+    → decides client user name must cover ≡ false
+
+-- of this client each first row concerns this topic and no other does
+pub record IsShown (asked : AskedRows) (clients : Clients) (must cover : List AclRow)
+    (client : List ℕ) (user : Option (List ℕ)) (name : List ℕ) : Type 0 where
+  pub client_fits : can_be_id client ≡ true
+  pub user_fits : is_client_of asked clients user ≡ true
+  pub valid : is_name name ≡ true
+  pub decided : decides client user name must cover ≡ true
+
+-- a text that is made up stands for this other one: no row names that, and where the one can be an
+-- id or a level, so can the other
+pub record StandsFor (asked : AskedRows) (text other : List ℕ) : Type 0 where
+  pub made_up : is_made_up text asked ≡ true
+  pub unnamed : rows_name other asked.rows ≡ false
+  pub apart : is_made_up other asked ≡ false
+  pub id : can_be_id other ≡ true
+  pub level : can_be_level other ≡ true
+  pub dollar : begins_with_dollar other ≡ begins_with_dollar text
+
+-- what is shown is shown too with any text in the place of one that stands for it, where the topic
+-- isn't too long then
+abbrev pub ShowsOthers : AskedRows → Clients → (must cover : List AclRow) → List ℕ
+    → Option (List ℕ) → List ℕ → Type 0
+ShowsOthers asked clients must cover client user name = (text other : List ℕ)
+    → StandsFor asked text other → is_name (swap_name text other name) ≡ true
+    → IsShown asked clients must cover (swap text other client) (swap_user text other user)
+    (swap_name text other name)
+
+-- a row names the text, or it is made up
+abbrev pub is_known : AskedRows → List ℕ → Bool
+is_known asked text = rows_name text asked.rows || is_made_up text asked
+
+-- so it is of the client id, the user name and each level of the topic
+pub record AreKnown (asked : AskedRows) (client : List ℕ) (user : Option (List ℕ))
+    (name : List ℕ) : Type 0 where
+  pub client_known : is_known asked client ≡ true
+  pub user_known : mark_passes (is_known asked) user ≡ true
+  pub levels_known : list_all (is_known asked) (levels name) ≡ true
+
+abbrev pub user_view : Option (String Global) → Option (List ℕ)
+user_view user = option_map string_bytes user
+
+-- the same of a witness
+abbrev pub Shows : AskedRows → Clients → (must cover : List AclRow) → Witness → Type 0
+Shows asked clients must cover w =
+    IsShown asked clients must cover (string_bytes w.client) (user_view w.user) w.name
+
+abbrev pub Knows : AskedRows → Witness → Type 0
+Knows asked w = AreKnown asked (string_bytes w.client) (user_view w.user) w.name
+
+abbrev pub Stands : AskedRows → Clients → (must cover : List AclRow) → Witness → Type 0
+Stands asked clients must cover w =
+    ShowsOthers asked clients must cover (string_bytes w.client) (user_view w.user) w.name

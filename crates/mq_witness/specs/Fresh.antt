@@ -1,0 +1,28 @@
+-- Texts that no row names.
+use Rattle.std.specs.Prelude.{◌≡◌, ℕ, Bool, true, false, List, length, ◌&&◌, not, ◌==◌}
+use Rattle.std.specs.Str.{bytes_eq}
+use Rattle.mq_acl.specs.Access.{begins_with_dollar}
+use Rattle.mq_cover.specs.Names.{are_others, is_choice}
+use Rattle.mq_witness.specs.declared.fresh.Fresh.{Fresh}
+
+-- a level that a row may name: neither of the levels, nor the ids, that stand for others
+abbrev pub is_literal : Fresh → List ℕ → Bool
+is_literal f text = is_choice f.others text && not (bytes_eq text f.client.now)
+    && not (bytes_eq text f.user.now)
+
+-- all of them pass the test
+abbrev pub fresh_pass : (List ℕ → Bool) → Fresh → Bool
+fresh_pass p f = p f.others.plain.now && p f.others.dollar.now && p f.client.now && p f.user.now
+
+-- an id that stands for others can be a level at the front of a name that begins with no `$`
+pub record IsFreshId (f : Fresh) (id : List ℕ) : Type 0 where
+  pub choice : is_choice f.others id ≡ true
+  pub some : (length id == 0) ≡ false
+  pub plain : begins_with_dollar id ≡ false
+
+-- each can be a level where it is to stand, and no two are the same
+pub record AreFresh (f : Fresh) : Type 0 where
+  pub others : are_others f.others ≡ true
+  pub client : IsFreshId f f.client.now
+  pub user : IsFreshId f f.user.now
+  pub apart : bytes_eq f.user.now f.client.now ≡ false

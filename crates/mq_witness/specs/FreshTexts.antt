@@ -1,0 +1,43 @@
+-- Texts that are made to be named by no row.
+use Rattle.std.specs.Prelude.{◌≡◌, ◌≤◌, ℕ, Bool, true, false, List, [], ◌∷◌, ◌++◌, length, codes}
+use Rattle.std.specs.Prelude.{string_bytes, ◌&&◌, not, nat_le, replicate}
+use Rattle.mq_topic.specs.Texts.{contains_byte, is_plain}
+use Rattle.mq_witness.specs.declared.fresh.Fresh.{Fresh}
+use Rattle.mq_witness.specs.declared.texts.FreshTexts.{FreshTexts}
+
+-- a text that a few bytes can be added to
+abbrev pub is_base : List ℕ → Bool
+is_base base = is_plain base && not (contains_byte 0 base) && not (contains_byte 47 base)
+    && nat_le (length base) 20
+
+-- a base, and as many `x` behind it
+pub record IsPadded (base text : List ℕ) : Type 0 where
+  pub count : ℕ
+  pub few : count ≤ 301
+  pub is : text ≡ base ++ replicate count 120
+
+-- no longer than 300 bytes
+abbrev pub AreShort : (List ℕ → Bool) → Type 0
+AreShort named = (text : List ℕ) → named text ≡ true → length text ≤ 300
+
+-- a text that is made of a base, and is not named, unless longer ones are
+pub record IsNew (base : List ℕ) (named : List ℕ → Bool) (text : List ℕ) : Type 0 where
+  pub made : IsPadded base text
+  pub unnamed : AreShort named → named text ≡ false
+
+pub record AreNew (t : FreshTexts) (named : List ℕ → Bool) : Type 0 where
+  pub plain : IsNew (codes "x") named (string_bytes t.plain)
+  pub dollar : IsNew (codes "$x") named (string_bytes t.dollar)
+  pub client : IsNew (codes "client") named (string_bytes t.client)
+  pub user : IsNew (codes "user") named (string_bytes t.user)
+
+pub record IsSeen (t : FreshTexts) (f : Fresh) : Type 0 where
+  pub plain : f.others.plain.now ≡ string_bytes t.plain
+  pub dollar : f.others.dollar.now ≡ string_bytes t.dollar
+  pub client : f.client.now ≡ string_bytes t.client
+  pub user : f.user.now ≡ string_bytes t.user
+
+-- all of them
+abbrev pub fresh_texts : FreshTexts → List (List ℕ)
+fresh_texts t =
+    string_bytes t.plain ∷ string_bytes t.dollar ∷ string_bytes t.client ∷ string_bytes t.user ∷ []

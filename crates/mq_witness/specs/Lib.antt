@@ -1,0 +1,15 @@
+pub mod Texts
+pub mod Literals
+pub mod Rows
+pub mod Clients
+pub mod Decided
+pub mod Swaps
+pub mod Asked
+pub mod Limits
+pub mod Fresh
+pub mod FreshTexts
+pub mod Roots
+pub mod Tried
+pub mod Ready
+pub mod Answers
+pub mod Overlaps

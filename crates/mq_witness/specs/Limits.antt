@@ -1,0 +1,52 @@
+-- The limit that lists have to keep to, and what is told of one that doesn't.
+use Rattle.std.specs.Prelude.{◌≡◌, ℕ, Bool, true, List, ◌&&◌, not, length, nat_le, find, ⊤}
+use Rattle.std.specs.Prelude.{Option, Some, slice_get}
+use denote.Ref.{Bor}
+use Rattle.std.specs.List.{list_all}
+use Rattle.std.specs.Option.{option_map}
+use Rattle.mq_topic.specs.Levels.{levels}
+use Rattle.mq_acl.specs.Rows.{Who, Anonymous, Named, Everyone, AclRow}
+use Rattle.mq_acl.specs.Views.{row_view}
+use Rattle.mq_acl.specs.declared.row.Row.{Row}
+use Rattle.mq_cover.specs.Names.{can_be_level}
+use Rattle.mq_cover.specs.Remainders.{fits}
+use Rattle.mq_witness.specs.declared.fault.ListFault.{ListFault}
+use Rattle.mq_witness.specs.declared.fault.ListFault.TheVariants.{Memory, Line}
+
+-- no longer than 300 bytes
+abbrev pub is_short : List ℕ → Bool
+is_short text = nat_le (length text) 300
+
+abbrev pub has_short_levels : List ℕ → Bool
+has_short_levels text = list_all is_short (levels text)
+
+abbrev pub short_who : Who → Bool
+short_who Anonymous = true
+short_who (Named name) = is_short name
+short_who Everyone = true
+
+-- no level of the filter is longer than 300 bytes, nor is the user name
+abbrev pub is_short_row : AclRow → Bool
+is_short_row row = has_short_levels row.filter && short_who row.who
+
+-- the line of the first row that doesn't keep to it
+abbrev pub long_line : List Row → Option ℕ
+long_line rows = option_map (λ row. row.line) (find (λ row. not (is_short_row (row_view row))) rows)
+
+abbrev pub is_short_level : List ℕ → Bool
+is_short_level level = can_be_level level && is_short level
+
+-- the same of a row with a valid filter: but for wildcards each level can be one of a name
+abbrev pub usable : AclRow → Bool
+usable row = fits is_short_level (levels row.filter) && short_who row.who
+
+-- the list at this place has this line as its first that doesn't keep to it
+pub record IsLongLine (lists : List (Bor (List Row))) (place line : ℕ) : Type 0 where
+  pub list : Bor (List Row)
+  pub placed : slice_get lists place ≡ Some list
+  pub long : long_line list.now ≡ Some line
+
+-- what is told of the lists is so
+abbrev pub IsFault : List (Bor (List Row)) → ListFault → Type 0
+IsFault lists Memory = ⊤
+IsFault lists (Line place line) = IsLongLine lists place line

@@ -1,0 +1,22 @@
+use std::alloc::AllocError;
+
+/// Why lists can't be asked.
+#[derive(Clone, Copy, Debug, PartialEq, Eq)]
+pub enum ListFault {
+    /// There was no memory.
+    Memory,
+    /// The list at the first number, counted from 0, has a row with a level, or a user name, of more than 300 bytes,
+    /// and its line is the second: a topic name made of such levels could be too long.
+    Line(usize, u64),
+}
+
+impl From<AllocError> for ListFault {
+    ghost use Rattle.std.specs.Prelude.{◌≡◌};
+    ghost use Rattle.mq_witness.specs.declared.fault.ListFault.TheVariants.{Memory};
+
+    ghost from_gives = { λ _ fault. fault ≡ Memory };
+
+    fn from(_: AllocError) -> Self {
+        ListFault::Memory
+    }
+}

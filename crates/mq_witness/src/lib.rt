@@ -1,0 +1,22 @@
+//! The search that questions to access lists stand on: is there a client id, a user name of some kind and a topic
+//! name that each of some rows concerns and none of some others does?
+#![tactic(auto)]
+
+mod asked;
+mod clients;
+mod fault;
+mod fresh;
+mod ids;
+mod limits;
+mod literals;
+mod overlap;
+mod question;
+mod roots;
+mod search;
+mod texts;
+mod witness;
+
+pub use asked::Asked;
+pub use clients::Clients;
+pub use fault::ListFault;
+pub use witness::Witness;

@@ -1,0 +1,116 @@
+//! The rows that have to do with a question, with all of their filters left.
+ghost use Rattle.std.specs.Prelude.{◌≡◌, ℕ, Bool, List, true, false, IfOk, IfSome, IfNone, Option};
+ghost use Rattle.std.specs.Option.{option_copied};
+ghost use Rattle.mq_topic.specs.Levels.{levels};
+ghost use Rattle.mq_topic.specs.Matching.{levels_match_by};
+ghost use Rattle.mq_acl.specs.Access.{applies, concerns, begins_with_dollar, row_level_matches};
+ghost use Rattle.mq_acl.specs.RowsByOwner.{is_everyones};
+ghost use Rattle.mq_acl.specs.Views.{owner_view, row_view};
+ghost use Rattle.mq_cover.specs.Remainders.{covers, fits, remainder_fits};
+ghost use Rattle.mq_witness.specs.Roots.{marks_of, left_begins, AreCover, AreMust, NoneConcerned};
+ghost use Rattle.mq_witness.specs.Rows.{lent_rows};
+
+use crate::overlap::may_meet_all;
+use mq_acl::{Owner, Row, applies};
+use mq_cover::Remainder;
+use mq_topic::LevelText;
+use std::alloc::{AllocError, Global};
+
+fn is_pattern(owner: &Owner) -> bool
+    ensures { result ≡ is_everyones (owner_view owner.now) }
+{
+    matches!(owner, Owner::Everyone)
+}
+
+fn begins_with_dollar(text: &str) -> bool
+    ensures { result ≡ begins_with_dollar text.now }
+{
+    text.starts_with('$')
+}
+
+fn whole<'a>(row: &'a Row) -> Remainder<'a>
+    ensures covers { (client name : List ℕ) (user : Option (List ℕ))
+        → covers (marks_of client user) (levels name) result
+        ≡ levels_match_by (row_level_matches (owner_view row.now.owner) client user)
+        (levels row.now.filter) (levels name) }
+    ensures fits { (p : List ℕ → Bool) → remainder_fits p result ≡ fits p (levels row.now.filter) }
+    ensures begins { left_begins result.rest ≡ begins_with_dollar row.now.filter }
+{
+    Remainder {
+        pattern: is_pattern(&row.owner),
+        rest: Some(row.filter.text()),
+    }
+}
+
+/// The row, with all of its filter left, where it applies to this user name, or to none, and can cover a name that
+/// begins with `$`, or one that doesn't.
+pub(crate) fn root<'a>(row: &'a Row, user: Option<&str>, dollar: bool) -> Option<Remainder<'a>>
+    ensures none { IfNone result ((client name : List ℕ) (other : Option (List ℕ))
+        → applies other (row_view row.now).who
+        ≡ applies (option_copied user.entry) (row_view row.now).who
+        → begins_with_dollar name ≡ dollar
+        → concerns client other name (row_view row.now) ≡ false) }
+    ensures covers { IfSome result (λ r. (client name : List ℕ) (other : Option (List ℕ))
+        → applies other (row_view row.now).who
+        ≡ applies (option_copied user.entry) (row_view row.now).who
+        → begins_with_dollar name ≡ dollar
+        → covers (marks_of client other) (levels name) r
+        ≡ concerns client other name (row_view row.now)) }
+    ensures fits { IfSome result (λ r. (p : List ℕ → Bool)
+        → remainder_fits p r ≡ fits p (levels row.now.filter)) }
+    ensures begins { IfSome result (λ r. dollar ≡ true → left_begins r.rest ≡ true) }
+{
+    if !applies(user, &row.owner) {
+        return None;
+    }
+    if dollar && !begins_with_dollar(row.filter.text()) {
+        return None;
+    }
+    Some(whole(row))
+}
+
+/// The roots of rows of which each has to concern a name; none where one of them can't.
+pub(crate) fn must_roots<'a>(
+    alloc: Global,
+    rows: &[&'a Row],
+    user: Option<&str>,
+    dollar: bool,
+) -> Result<Option<Vec<Remainder<'a>>>, AllocError>
+    ensures none { IfOk result (λ roots. IfNone roots
+        (NoneConcerned (lent_rows rows.now) (option_copied user.entry) dollar)) }
+    ensures some { IfOk result (λ roots. IfSome roots (λ roots.
+        AreMust (lent_rows rows.now) (option_copied user.entry) dollar roots.items)) }
+{
+    let mut roots = Vec::new(alloc);
+    for row in rows {
+        let Some(root) = root(row, user, dollar) else {
+            return Ok(None);
+        };
+        roots.push(root)?;
+    }
+    Ok(Some(roots))
+}
+
+/// The roots of rows of which none may concern a name, but for those that can't concern one that all of `must` cover.
+pub(crate) fn cover_roots<'a>(
+    alloc: Global,
+    rows: &[&'a Row],
+    user: Option<&str>,
+    dollar: bool,
+    must: &[Remainder<'a>],
+) -> Result<Vec<Remainder<'a>>, AllocError>
+    ensures { IfOk result (λ roots.
+        AreCover (lent_rows rows.now) (option_copied user.entry) dollar must.now roots.items) }
+{
+    let mut roots = Vec::new(alloc);
+    for row in rows {
+        let Some(root) = root(row, user, dollar) else {
+            continue;
+        };
+        if !may_meet_all(must, &root) {
+            continue;
+        }
+        roots.push(root)?;
+    }
+    Ok(roots)
+}

@@ -1,0 +1,67 @@
+ghost use Rattle.std.specs.Prelude.{◌≡◌, IfOk};
+ghost use Rattle.std.specs.List.{list_any};
+ghost use Rattle.std.specs.Str.{bytes_eq};
+ghost use Rattle.mq_witness.specs.Literals.{is_named};
+ghost use Rattle.mq_witness.specs.FreshTexts.{AreNew, IsSeen, fresh_texts};
+
+use crate::fresh::{Fresh, fresh_text};
+use crate::literals::Literals;
+use mq_cover::Others;
+use std::alloc::{AllocError, Global};
+
+/// The texts that `Fresh` lends.
+pub(crate) struct FreshTexts {
+    plain: String,
+    dollar: String,
+    client: String,
+    user: String,
+}
+
+// One step where it is dropped, and not one for each thing inside.
+impl Drop for FreshTexts {
+    fn drop(self) {
+        let FreshTexts {
+            plain: _,
+            dollar: _,
+            client: _,
+            user: _,
+        } = self;
+    }
+}
+
+impl FreshTexts {
+    /// Texts that are none of these, of which none is longer than 300 bytes.
+    pub fn find(alloc: Global, literals: &Literals) -> Result<FreshTexts, AllocError>
+        ensures { IfOk result (λ texts. AreNew texts (λ l. is_named l literals.now)) }
+    {
+        Ok(FreshTexts {
+            plain: fresh_text(alloc, "x", literals)?,
+            dollar: fresh_text(alloc, "$x", literals)?,
+            client: fresh_text(alloc, "client", literals)?,
+            user: fresh_text(alloc, "user", literals)?,
+        })
+    }
+
+    /// Whether the text is one of them.
+    pub fn has(&self, text: &str) -> bool
+        ensures { result ≡ list_any (bytes_eq text.now) (fresh_texts self.now) }
+    {
+        text == self.plain.as_str()
+            || text == self.dollar.as_str()
+            || text == self.client.as_str()
+            || text == self.user.as_str()
+    }
+
+    pub fn fresh(&self) -> Fresh<'_>
+        ensures { IsSeen self.now result }
+    {
+        Fresh {
+            others: Others {
+                plain: self.plain.as_str(),
+                dollar: self.dollar.as_str(),
+            },
+            client: self.client.as_str(),
+            user: self.user.as_str(),
+        }
+    }
+}

@@ -1,0 +1,12 @@
+use mq_topic::TopicName;
+
+/// A client and a topic.
+#[derive(Debug, Drop)]
+pub struct Witness {
+    /// The client id.
+    pub client: String,
+    /// The user name, or none.
+    pub user: Option<String>,
+    /// The topic.
+    pub name: TopicName,
+}
