@@ -1,74 +1,122 @@
 #!/usr/bin/env python3
-"""Times mqroute-acl on made lists: compare on equal ones, on one with a line more and on one with a
-pattern more, lint, and reach on a script with as many subscribes as the list has lines.
+"""Times mqroute-acl on made lists (acl_lists.py).
 
-usage: acl.py PROGRAM. Prints a table: user seconds (best of three) and peak memory of each.
+usage: acl.py PROGRAM. Prints a table: user seconds (best of three, or one that takes over five
+seconds) and peak memory of each question. A run is stopped after 60 seconds.
 """
+import os
 import pathlib
 import resource
+import signal
 import subprocess
 import sys
 import tempfile
 
-SIZES = ((1_000, 50), (10_000, 1_000))  # lines, and users
-HALLS = 97
+import acl_lists as lists
+
+ENOUGH = 5.0  # seconds of one run after which it isn't repeated
+LIMIT = 60  # seconds after which one is stopped
 
 
-def made(lines: int, users: int) -> str:
-    """Each user's lines grant it machines of its own."""
-    text, machine = ["topic read $SYS/#"], 0
-    for user in range(users):
-        text.append(f"user u{user}")
-        for access in range(lines // users - 1):
-            machine += 1
-            text.append(f"topic {('read', 'write', 'readwrite')[access % 3]} "
-                        f"plant/hall-{machine % HALLS}/m{machine}/#")
-    return "\n".join(text) + "\n"
+def subscribes(users: list[str | None], filters: list[str]) -> list[str]:
+    """A client of each user, and subscribes of these in turn."""
+    script = []
+    for place, user in enumerate(users):
+        of_user = "" if user is None else f',"user":"{user}"'
+        script.append(f'{{"do":"connect","client":"c{place}"{of_user}}}')
+    for place, wanted in enumerate(filters):
+        client = f"c{place % len(users)}"
+        script.append(f'{{"do":"subscribe","client":"{client}","filter":"{wanted}"}}')
+    return script
 
 
-def made_script(subscribes: int, users: int) -> str:
-    """A client of each user name, whose subscribes are granted in part."""
-    text = [f'{{"do":"connect","client":"c{user}","user":"u{user}"}}' for user in range(users)]
-    for machine in range(subscribes):
-        wanted = (f"plant/hall-{machine % HALLS}/m{machine}/#", f"plant/+/m{machine}",
-                  f"plant/hall-{machine % HALLS}/#")[machine % 3]
-        text.append(f'{{"do":"subscribe","client":"c{machine % users}","filter":"{wanted}"}}')
-    return "\n".join(text) + "\n"
+def machine_filters(count: int) -> list[str]:
+    """Filters that are granted in part by the lists of `lists.made`."""
+    halls = lists.HALLS
+    return [(f"plant/hall-{machine % halls}/m{machine}/#", f"plant/+/m{machine}",
+             f"plant/hall-{machine % halls}/#")[machine % 3] for machine in range(count)]
 
 
-def measured(words: list[str]) -> tuple[float, int]:
-    """User seconds and peak memory in KB. The peak is that of all children so
-    far: the cheapest come first."""
-    best = float("inf")
-    for _ in range(3):
-        before = resource.getrusage(resource.RUSAGE_CHILDREN).ru_utime
-        done = subprocess.run(words, stdout=subprocess.DEVNULL)
-        if done.returncode > 1:
-            sys.exit(f"acl: {' '.join(words)} ended with status {done.returncode}")
-        best = min(best, resource.getrusage(resource.RUSAGE_CHILDREN).ru_utime - before)
-    return best, resource.getrusage(resource.RUSAGE_CHILDREN).ru_maxrss
+def questions() -> list[tuple[str, str, list[str], list[str] | None]]:
+    """What is asked: the question, the list in words, the list, and a second list or a script."""
+    plant, areas = lists.made(10_000, 1_000), lists.areas(10_000)
+    plant_users: list[str | None] = [f"u{user}" for user in range(1_000)]
+    service, many = lists.building(20, 800), lists.building(1_000)
+    pattern = "pattern readwrite clients/%c/#"
+    one_user = [pattern, "user ops", *lists.areas(200)]
+    users = lists.of_users("area", 4_500, 10)
+    hard = lists.reversed_pair
+    return [
+        ("compare", "10,000 lines, 1,000 users, equal", plant, plant),
+        ("compare", "one line more", plant, [*plant, "topic read other/#"]),
+        ("compare", "one `%c` pattern more", plant, [*plant, "pattern read plant/%c/#"]),
+        ("compare", "a service user of 800 lines, 1,027 in all, one changed",
+         *lists.changed(service)),
+        ("compare", "11,006 lines, 1,000 users, one changed", *lists.changed(many)),
+        ("compare", "10,000 lines without a user, a `%c` pattern more", areas,
+         [*areas, "pattern read status/%c/#"]),
+        ("compare", "49,500 lines, 4,500 users, one line more", users,
+         [*users, "topic read other/#"]),
+        ("compare", "10,000 users of one line, all differ", lists.of_users("area", 10_000, 1),
+         lists.of_users("zone", 10_000, 1)),
+        ("compare", "`#` and 60 denies that meet, reversed", *hard(lists.denies_below(60))),
+        ("compare", "160 lines of one name at four levels, reversed",
+         *hard(lists.one_named(160, 4))),
+        ("lint", "10,000 lines, 1,000 users", plant, None),
+        ("lint", "a service user of 800 lines, 1,027 in all", service, None),
+        ("lint", "11,006 lines, 1,000 users", many, None),
+        ("lint", "a user of 200 lines, and a `%c` pattern", one_user, None),
+        ("lint", "60 lines that meet below each other", lists.grants_below(60), None),
+        ("lint", "160 lines of one name at four levels", lists.one_named(160, 4), None),
+        ("reach", "10,000 subscribes, 10,000 lines, 1,000 users", plant,
+         subscribes(plant_users, machine_filters(10_000))),
+        ("reach", "10,000 subscribes, 10,000 lines of one owner", areas,
+         subscribes([None], [f"area/{place}/+" for place in range(10_000)])),
+    ]
+
+
+def limited() -> None:
+    resource.setrlimit(resource.RLIMIT_CPU, (LIMIT, LIMIT + 1))
+
+
+def run_once(words: list[str]) -> tuple[float, int] | None:
+    """User seconds and peak memory in KB, or none of a run that was stopped."""
+    child = subprocess.Popen(words, stdout=subprocess.DEVNULL, preexec_fn=limited)
+    _, status, usage = os.wait4(child.pid, 0)
+    ended = os.waitstatus_to_exitcode(status)
+    if ended == -signal.SIGXCPU:
+        return None
+    if ended not in (0, 1):
+        sys.exit(f"acl: {' '.join(words)} ended with status {ended}")
+    return usage.ru_utime, usage.ru_maxrss
+
+
+def measured(words: list[str]) -> str:
+    """The two cells of the table."""
+    run = run_once(words)
+    if run is None:
+        return f"over {LIMIT} | "
+    best, peak = run
+    for _ in range(2 if best < ENOUGH else 0):
+        again = run_once(words)
+        if again is not None:
+            best, peak = min(best, again[0]), max(peak, again[1])
+    return f"{best:.2f} | {peak:,}"
 
 
 def main() -> int:
     program = sys.argv[1]
-    print("| Question | Lines | Users | Seconds | Peak KB |\n|---|---|---|---|---|")
+    print("| Question | List | Seconds | Peak KB |\n|---|---|---|---|")
     with tempfile.TemporaryDirectory() as name:
         folder = pathlib.Path(name)
-        for lines, users in SIZES:
-            text = made(lines, users)
-            for file, more in (("old", ""), ("line", "topic read other/#\n"),
-                               ("pattern", "pattern read plant/%c/#\n")):
-                (folder / file).write_text(text + more)
-            old, script = str(folder / "old"), str(folder / "script")
-            (folder / "script").write_text(made_script(lines, users))
-            for what, words in (
-                    ("compare, equal", ["compare", old, old]),
-                    ("compare, one line more", ["compare", old, str(folder / "line")]),
-                    ("compare, one pattern more", ["compare", old, str(folder / "pattern")]),
-                    ("lint", ["lint", old]),
-                    ("reach, a script", ["reach", old, "--script", script])):
-                seconds, peak = measured([program, *words])
-                print(f"| {what} | {lines:,} | {users:,} | {seconds:.2f} | {peak:,} |", flush=True)
+        old, other = folder / "old", folder / "other"
+        for question, what, rows, second in questions():
+            old.write_text("\n".join(rows) + "\n")
+            words = [program, question, str(old)]
+            if second is not None:
+                other.write_text("\n".join(second) + "\n")
+                words += ["--script", str(other)] if question == "reach" else [str(other)]
+            print(f"| {question} | {what} | {measured(words)} |", flush=True)
     return 0
 
 
