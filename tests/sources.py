@@ -72,10 +72,22 @@ UNREAD = re.compile(
     r"""//[^\n]*|r(\#*)"[\s\S]*?"\1|"(?:\\.|[^"\\])*"|'(?:\\[^\n]{1,8}?|[^'\\\n])'""")
 
 
+def stands_on():
+    """Of each crate those that its line in crates.txt names."""
+    lines = (TOP / "crates.txt").read_text(encoding="utf-8").splitlines()
+    return {line.split(":")[0]: line.split(":")[1].split() for line in lines if ":" in line}
+
+
 def crates():
-    return [
-        line.split(":")[0]
-        for line in (TOP / "crates.txt").read_text(encoding="utf-8").splitlines() if ":" in line]
+    return list(stands_on())
+
+
+def crates_above(low):
+    """The crate, and all that stand on it, whatever is between."""
+    above, uses = {low}, stands_on()
+    while more := {crate for crate in uses if crate not in above and above & set(uses[crate])}:
+        above |= more
+    return above
 
 
 def sources(crate):
@@ -128,10 +140,10 @@ def other_forms(line):
 
 
 def lines_with_steps():
-    """Where `Steps` stands in another form outside tests and its own file: the path, the place of
-    the line, and the lines of the file."""
-    for crate in crates():
-        for path, text in sources(crate) if crate != TESTS else ():
+    """Where `Steps` stands in another form outside tests and its own file, in crates that can name
+    it: the path, the place of the line, and the lines of the file."""
+    for crate in sorted(crates_above("mq_tree") - {TESTS}):
+        for path, text in sources(crate):
             lines = text.split("\n")
             if not str(path).endswith(COUNTING):
                 yield from ((path, place, lines) for place, line in enumerate(lines)
