@@ -36,7 +36,7 @@ use Rattle.mq_witness.proofs.OtherLemmas.{others_none}
 use Rattle.mq_witness.proofs.TriedLemmas.{fixed_none}
 
 -- ---- an id that can't be a level
-same_user : (user : Option (List ℕ)) (l : List ℕ) → can_be_level l ≡ true
+pub same_user : (user : Option (List ℕ)) (l : List ℕ) → can_be_level l ≡ true
     → is_user l user ≡ is_user l (level_of user)
 same_user None l h = refl
 same_user (Some u) l h = at (can_be_level u) refl
@@ -68,7 +68,7 @@ level_known p (Some u) h = at (can_be_level u)
     at false = refl
 
 -- any levels fit the test that all pass
-any_fits : (ws : List (List ℕ)) → fits (λ w. true) ws ≡ true
+pub any_fits : (ws : List (List ℕ)) → fits (λ w. true) ws ≡ true
 any_fits [] = refl
 any_fits (w ∷ ws) = rw (any_fits ws)
     (or_true (bytes_eq w (codes "+") || (bytes_eq w (codes "#") && (length ws == 0))))
@@ -109,7 +109,7 @@ same_self : (b : Bool) → same b b ≡ true
 same_self true = refl
 same_self false = refl
 
-alike_self : (user : Option (List ℕ)) (all : List AclRow) → alike user user all ≡ true
+pub alike_self : (user : Option (List ℕ)) (all : List AclRow) → alike user user all ≡ true
 alike_self user [] = refl
 alike_self user (row ∷ all) = rw (same_self (applies user row.who)) (alike_self user all)
 

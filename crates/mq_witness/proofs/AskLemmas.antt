@@ -1,6 +1,6 @@
 -- The names that a question finds.
 use Rattle.std.proofs.Common.{◌≡◌, ℕ, Bool, true, false, ◌&&◌, List, refl, ap, sym}
-use Rattle.std.proofs.Common.{◌∙◌, Option}
+use Rattle.std.proofs.Common.{◌∙◌}
 use Rattle.std.specs.List.{list_all}
 use Rattle.mq_topic.specs.Levels.{levels}
 use Rattle.mq_topic.specs.Texts.{is_memory, is_name}
@@ -9,12 +9,11 @@ use Rattle.mq_topic.specs.declared.fault.TopicFault.TheVariants.{Empty, TooLong,
 use Rattle.mq_topic.specs.declared.fault.TopicFault.TheVariants.{Levels, Share, Memory}
 use Rattle.mq_cover.specs.Names.{is_choice, start_of, suits}
 use Rattle.mq_cover.specs.Choices.{known_pass}
-use Rattle.mq_cover.specs.Remainders.{hits, mark_passes, remainders_fit, IsFound}
+use Rattle.mq_cover.specs.Remainders.{MarkLevels, hits, marks_pass, remainders_fit, IsFound}
 use Rattle.mq_cover.specs.declared.remainder.Remainder.{Remainder}
 use Rattle.mq_cover.specs.declared.start.Start.{Start}
-use Rattle.mq_witness.specs.Answers.{Hits}
+use Rattle.mq_witness.specs.Answers.{IsHit}
 use Rattle.mq_witness.specs.Fresh.{fresh_pass, is_literal}
-use Rattle.mq_witness.specs.Roots.{marks_of}
 use Rattle.mq_witness.specs.Texts.{join_levels}
 use Rattle.mq_witness.specs.declared.fresh.Fresh.{Fresh}
 use Rattle.mq_witness.specs.declared.question.Question.{Question}
@@ -36,48 +35,46 @@ pub record IsWalk (q : Question) (start : Start) (must cover : List Remainder) :
 
 -- the name on a path that is found is valid
 pub found_is_name : (q : Question) (start : Start) (must cover : List Remainder)
-    (client : List ℕ) (user : Option (List ℕ)) (ls : List (List ℕ)) → IsWalk q start must cover
-    → IsFound start 200 (marks_of client user) must cover ls → is_name (join_levels ls) ≡ true
-found_is_name q start must cover client user ls w h =
+    (marks : MarkLevels) (ls : List (List ℕ)) → IsWalk q start must cover
+    → IsFound start 200 marks must cover ls → is_name (join_levels ls) ≡ true
+found_is_name q start must cover marks ls w h =
     joined_is_name ls q.dollar h.valid h.few
     (sym (ap (λ s. suits s ls) w.start_is) ∙ h.suitable)
 
 -- each of its levels passes what the levels that a walk is given do
-abbrev pub IsKnown : Question → List Remainder → List ℕ → Option (List ℕ) → List (List ℕ) → Type 0
-IsKnown q must client user ls = (p : List ℕ → Bool)
-    → known_pass p (marks_of client user) q.fresh.others ≡ true → remainders_fit p must ≡ true
+abbrev pub IsKnown : Question → List Remainder → MarkLevels → List (List ℕ) → Type 0
+IsKnown q must marks ls = (p : List ℕ → Bool)
+    → known_pass p marks q.fresh.others ≡ true → remainders_fit p must ≡ true
     → list_all p ls ≡ true
 
 -- what all texts that stand for others pass, and both marks, the levels that a walk is given do
-all_known : (p : List ℕ → Bool) (f : Fresh) (client : List ℕ) (user : Option (List ℕ))
-    → fresh_pass p f ≡ true → p client ≡ true → mark_passes p user ≡ true
-    → known_pass p (marks_of client user) f.others ≡ true
-all_known p f client user h c u =
-    at (p f.others.plain.now) (p f.others.dollar.now) (p f.client.now) (p f.user.now) (p client)
-    (mark_passes p user) h c u
+all_known : (p : List ℕ → Bool) (f : Fresh) (marks : MarkLevels) → fresh_pass p f ≡ true
+    → marks_pass p marks ≡ true → known_pass p marks f.others ≡ true
+all_known p f marks h m =
+    at (p f.others.plain.now) (p f.others.dollar.now) (p f.client.now) (p f.user.now)
+    (marks_pass p marks) h m
   where
-    at : (a b d e g k : Bool) → (a && b && d && e) ≡ true → g ≡ true → k ≡ true
-        → (a && b && (g && k)) ≡ true
-    at true true d e g k h i j = rw (i, j) refl
-    at false b d e g k h i j = absurd (let n : false ≡ true = h in cc)
-    at true false d e g k h i j = absurd (let n : false ≡ true = h in cc)
+    at : (a b d e g : Bool) → (a && b && d && e) ≡ true → g ≡ true → (a && b && g) ≡ true
+    at true true d e g h i = i
+    at false b d e g h i = absurd (let n : false ≡ true = h in cc)
+    at true false d e g h i = absurd (let n : false ≡ true = h in cc)
 
 -- and the question hits it
-pub found_hits : (q : Question) (start : Start) (must cover : List Remainder) (client : List ℕ)
-    (user : Option (List ℕ)) (ls : List (List ℕ)) (name : List ℕ) → IsWalk q start must cover
-    → name ≡ join_levels ls → IsFound start 200 (marks_of client user) must cover ls
-    → IsKnown q must client user ls → Hits q client user name
-found_hits q start must cover client user ls name w e h known =
+pub found_hits : (q : Question) (start : Start) (must cover : List Remainder) (marks : MarkLevels)
+    (ls : List (List ℕ)) (name : List ℕ) → IsWalk q start must cover
+    → name ≡ join_levels ls → IsFound start 200 marks must cover ls
+    → IsKnown q must marks ls → IsHit q marks name
+found_hits q start must cover marks ls name w e h known =
     let suit = sym (ap (λ s. suits s ls) w.start_is) ∙ h.suitable in
     let same = ap levels e ∙ levels_of_joined ls q.dollar h.valid suit in
     let fit = ap (suits (start_of q.dollar)) same ∙ suit in
     record {
-      valid = ap is_name e ∙ found_is_name q start must cover client user ls w h;
+      valid = ap is_name e ∙ found_is_name q start must cover marks ls w h;
       kind = suits_dollar name q.dollar (some_name name q.dollar fit) fit;
-      hit = ap (λ k. hits (marks_of client user) k q.must.items q.cover.items) same
-          ∙ (λ i. hits (marks_of client user) ls (sym w.must_is i) (sym w.cover_is i)) ∙ h.hit;
-      known = λ p fresh fit c u. ap (list_all p) same
-          ∙ known p (all_known p q.fresh client user fresh c u)
+      hit = ap (λ k. hits marks k q.must.items q.cover.items) same
+          ∙ (λ i. hits marks ls (sym w.must_is i) (sym w.cover_is i)) ∙ h.hit;
+      known = λ p fresh fit m. ap (list_all p) same
+          ∙ known p (all_known p q.fresh marks fresh m)
           (ap (remainders_fit p) w.must_is ∙ fit);
     }
 

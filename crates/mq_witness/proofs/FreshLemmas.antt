@@ -1,11 +1,11 @@
 -- Texts that are made to be named by no row.
 use Rattle.std.proofs.Common.{◌≡◌, ℕ, ◌==◌, Bool, true, false, not, ◌&&◌, ◌||◌, List, ◌++◌}
 use Rattle.std.proofs.Common.{length, codes, bytes_eq, refl, ap, sym, ◌∙◌, arith, ◌+◌, ◌<◌, ◌≤◌}
-use Rattle.std.proofs.Common.{replicate, zero, suc, length-append, subst}
-use Rattle.std.proofs.Common.{string_bytes}
+use Rattle.std.proofs.Common.{replicate, zero, suc, length-append, append_assoc, subst}
+use Rattle.std.proofs.Common.{string_bytes, ◌∷◌, []}
 use Rattle.std.specs.Prelude.{nat_le}
 use Rattle.std.specs.List.{list_any}
-use Rattle.std.proofs.lemmas.List.{length-replicate}
+use Rattle.std.proofs.lemmas.List.{length-replicate, replicate_more}
 use Rattle.std.proofs.lemmas.List.Folds.{list_any-append}
 use Rattle.std.proofs.lemmas.Bool.{and_parts, not-true, leb-true, le-leb}
 use Rattle.std.proofs.Math.Dec.{eqb-suc-zero}
@@ -14,7 +14,8 @@ use Rattle.mq_topic.specs.Texts.{contains_byte, is_plain}
 use Rattle.mq_acl.specs.Access.{begins_with_dollar}
 use Rattle.mq_cover.specs.Names.{is_name_level, is_choice}
 use Rattle.mq_witness.specs.Fresh.{is_literal, AreFresh}
-use Rattle.mq_witness.specs.FreshTexts.{is_base, AreNew, AreShort, IsPadded, IsSeen}
+use Rattle.mq_witness.specs.FreshTexts.{is_base, AreNew, AreShort, IsLong, IsNew, IsPadded}
+use Rattle.mq_witness.specs.FreshTexts.{IsSeen}
 use Rattle.mq_witness.specs.FreshTexts.{fresh_texts}
 use Rattle.mq_witness.specs.declared.fresh.Fresh.{Fresh}
 use Rattle.mq_witness.specs.declared.texts.FreshTexts.{FreshTexts}
@@ -65,10 +66,24 @@ made_apart : (a b s t : List ℕ) → ((x y : List ℕ) → bytes_eq (a ++ x) (b
 made_apart a b s t h m n =
     ap not ((λ i. bytes_eq (m.is i) (n.is i)) ∙ h (replicate m.count 120) (replicate n.count 120))
 
+-- one more `x` behind a base
+pub padded_more : (base : List ℕ) (n : ℕ)
+    → (base ++ replicate n 120) ++ 120 ∷ [] ≡ base ++ replicate (n + 1) 120
+padded_more base n = append_assoc base (replicate n 120) (120 ∷ [])
+    ∙ ap (λ t. base ++ t) (replicate_more n 120)
+
 -- a text that is longer than what is named isn't named
 pub too_long : (named : Bool) (n : ℕ) → (named ≡ true → n ≤ 300) → 300 < n → named ≡ false
 too_long true n f h = absurd (let g = f refl in omega arith)
 too_long false n f h = refl
+
+-- a text that is longer than any of at most 300 bytes is new, whatever is named
+pub long_is_new : (base text : List ℕ) → IsLong base text → (named : List ℕ → Bool)
+    → IsNew base named text
+long_is_new base text long named = record {
+  made = long.made;
+  unnamed = λ short. too_long (named text) (length text) (short text) long.long;
+}
 
 -- each of the texts that stand for others is made of a base of its own
 pub record AreMade (f : Fresh) : Type 0 where

@@ -16,3 +16,4 @@ pub mod ReadyLemmas
 pub mod SortLemmas
 pub mod SwapLemmas
 pub mod ShowLemmas
+pub mod TopicLemmas

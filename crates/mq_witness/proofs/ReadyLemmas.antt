@@ -32,7 +32,7 @@ use Rattle.mq_witness.proofs.LimitLemmas.{names_short, user_is_named}
 use Rattle.mq_witness.proofs.LiteralLemmas.{fits_named, level_is_no_wildcard}
 
 -- ---- rows that name no text that stands for others
-short_is_name : (w : List ℕ) → is_short_level w ≡ true → is_name_level w ≡ true
+pub short_is_name : (w : List ℕ) → is_short_level w ≡ true → is_name_level w ≡ true
 short_is_name w h =
     let parts = and_parts (can_be_level w) (nat_le (length w) 300) h in
     let short = leb-true (length w) 300 parts.1 in

@@ -7,7 +7,8 @@ use Rattle.mq_topic.specs.Texts.{is_name}
 use Rattle.mq_acl.specs.Access.{begins_with_dollar}
 use Rattle.mq_acl.specs.Rows.{AclRow}
 use Rattle.mq_cover.specs.Names.{start_of}
-use Rattle.mq_cover.specs.Remainders.{hits, mark_passes, remainders_fit, FindsNothing}
+use Rattle.mq_cover.specs.Remainders.{MarkLevels, hits, mark_passes, marks_pass, remainders_fit}
+use Rattle.mq_cover.specs.Remainders.{FindsNothing}
 use Rattle.mq_witness.specs.Clients.{can_be_id, is_of, name_passes}
 use Rattle.mq_witness.specs.Decided.{decides}
 use Rattle.mq_witness.specs.Fresh.{fresh_pass}
@@ -39,7 +40,17 @@ abbrev pub Misses : Question → List ℕ → Option (List ℕ) → Type 0
 Misses q client user =
     FindsNothing (start_of q.dollar) 200 (marks_of client user) q.must.items q.cover.items
 
--- this is such a name, and each of its levels passes what all texts that the question knows do
+-- this is such a name, where the marks stand for these levels, and each of its levels passes what
+-- all texts that the question knows do
+pub record IsHit (q : Question) (marks : MarkLevels) (name : List ℕ) : Type 0 where
+  pub valid : is_name name ≡ true
+  pub kind : begins_with_dollar name ≡ q.dollar
+  pub hit : hits marks (levels name) q.must.items q.cover.items ≡ true
+  pub known : (p : List ℕ → Bool) → fresh_pass p q.fresh ≡ true
+      → remainders_fit p q.must.items ≡ true → marks_pass p marks ≡ true
+      → list_all p (levels name) ≡ true
+
+-- the same with this client id, and this level for a user name
 pub record Hits (q : Question) (client : List ℕ) (user : Option (List ℕ)) (name : List ℕ) :
     Type 0 where
   pub valid : is_name name ≡ true

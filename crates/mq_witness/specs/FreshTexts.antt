@@ -1,5 +1,5 @@
 -- Texts that are made to be named by no row.
-use Rattle.std.specs.Prelude.{◌≡◌, ◌≤◌, ℕ, Bool, true, false, List, [], ◌∷◌, ◌++◌, length, codes}
+use Rattle.std.specs.Prelude.{◌≡◌, ◌≤◌, ◌<◌, ℕ, Bool, true, false, List, [], ◌∷◌, ◌++◌, length, codes}
 use Rattle.std.specs.Prelude.{string_bytes, ◌&&◌, not, nat_le, replicate}
 use Rattle.mq_topic.specs.Texts.{contains_byte, is_plain}
 use Rattle.mq_witness.specs.declared.fresh.Fresh.{Fresh}
@@ -30,6 +30,15 @@ pub record AreNew (t : FreshTexts) (named : List ℕ → Bool) : Type 0 where
   pub dollar : IsNew (codes "$x") named (string_bytes t.dollar)
   pub client : IsNew (codes "client") named (string_bytes t.client)
   pub user : IsNew (codes "user") named (string_bytes t.user)
+
+-- a text that is made of a base, and longer than any of at most 300 bytes
+pub record IsLong (base text : List ℕ) : Type 0 where
+  pub made : IsPadded base text
+  pub long : 300 < length text
+
+-- whatever is named, none of these is, unless longer texts are
+abbrev pub AreLonger : FreshTexts → Type 0
+AreLonger t = (named : List ℕ → Bool) → AreNew t named
 
 pub record IsSeen (t : FreshTexts) (f : Fresh) : Type 0 where
   pub plain : f.others.plain.now ≡ string_bytes t.plain

@@ -13,3 +13,4 @@ pub mod Tried
 pub mod Ready
 pub mod Answers
 pub mod Overlaps
+pub mod Topics

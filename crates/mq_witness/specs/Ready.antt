@@ -8,7 +8,8 @@ use Rattle.mq_cover.specs.Remainders.{mark_passes, remainders_fit}
 use Rattle.mq_cover.specs.declared.remainder.Remainder.{Remainder}
 use Rattle.mq_witness.specs.Clients.{can_be_id}
 use Rattle.mq_witness.specs.Fresh.{is_literal, AreFresh}
-use Rattle.mq_witness.specs.FreshTexts.{IsSeen, fresh_texts}
+use Rattle.mq_witness.specs.FreshTexts.{AreLonger, IsSeen, fresh_texts}
+use Rattle.mq_witness.specs.Limits.{usable}
 use Rattle.mq_witness.specs.Literals.{is_named}
 use Rattle.mq_witness.specs.Roots.{all_begin, rows_fit}
 use Rattle.mq_witness.specs.Rows.{is_user_of, rows_name}
@@ -29,6 +30,13 @@ pub record CanBeAsked (asked : List AclRow) (texts : FreshTexts) (users : Litera
       → mark_passes (is_literal f) (level_of (Some user)) ≡ true
   pub unnamed : (text : List ℕ) → list_any (bytes_eq text) (fresh_texts texts) ≡ true
       → rows_name text asked ≡ false
+
+-- and with longer texts they can be asked about one client
+pub record CanAnswer (asked : List AclRow) (texts longest : FreshTexts) (users : Literals) :
+    Type 0 where
+  pub asked_can : CanBeAsked asked texts users
+  pub all_usable : list_all usable asked ≡ true
+  pub longer : AreLonger longest
 
 -- ---- a search
 abbrev pub is_listed : Literals → Who → Bool

@@ -1,4 +1,5 @@
-ghost use Rattle.std.specs.Prelude.{◌≡◌, ℕ, List, true, false, IfOk, IfErr, IfNone, IfSome, All};
+ghost use Rattle.std.specs.Prelude.{◌≡◌, ℕ, List, true, false, Option, IfOk, IfErr, IfNone};
+ghost use Rattle.std.specs.Prelude.{IfSome, All};
 ghost use Rattle.std.specs.Prelude.{Contains, map, None};
 ghost use Rattle.std.specs.Cmp.Lexicographic.{slice_cmp};
 ghost use Rattle.std.specs.Ordering.{nat_cmp};
@@ -7,16 +8,20 @@ ghost use Rattle.mq_witness.specs.Asked.{FindsNone, IsListed, Knows, Shows, Stan
 ghost use Rattle.mq_witness.specs.Limits.{IsFault, long_line};
 ghost use Rattle.mq_witness.specs.Literals.{is_among, is_named};
 ghost use Rattle.mq_witness.specs.Rows.{all_rows, is_user_of, lent_rows, rows_name};
+ghost use Rattle.mq_witness.specs.Topics.{FindsNoTopic, IsLimitFault, IsTopic};
+ghost use Rattle.std.specs.Option.{option_copied};
 
 use crate::clients::Clients;
-use crate::fault::ListFault;
-use crate::limits::first_long;
+use crate::fault::{LimitFault, ListFault};
+use crate::limits::{first_long, limit_fault};
 use crate::literals::Literals;
+use crate::one::OneClient;
 use crate::question::Found;
 use crate::search::Search;
 use crate::texts::FreshTexts;
 use crate::witness::Witness;
 use mq_acl::Row;
+use mq_topic::TopicName;
 use std::alloc::{AllocError, Global};
 use std::marker::Model;
 
@@ -24,6 +29,8 @@ use std::marker::Model;
 pub struct Asked<'a> {
     lists: Vec<&'a [Row]>,
     texts: FreshTexts,
+    // Longer than what a question about one client may name.
+    longest: FreshTexts,
     users: Literals<'a>,
 }
 
@@ -33,6 +40,7 @@ impl Drop for Asked<'_> {
         let Asked {
             lists: _,
             texts: _,
+            longest: _,
             users: _,
         } = self;
     }
@@ -41,14 +49,15 @@ impl Drop for Asked<'_> {
 impl<'a> Model for Asked<'a> {
     ghost use Rattle.mq_witness.specs.Asked.{AskedRows};
     ghost use Rattle.mq_witness.specs.FreshTexts.{fresh_texts};
-    ghost use Rattle.mq_witness.specs.Ready.{CanBeAsked};
+    ghost use Rattle.mq_witness.specs.Ready.{CanAnswer};
     ghost use Rattle.mq_witness.specs.Rows.{all_rows};
 
     ghost Value = { AskedRows };
 
     ghost view = { λ a. record { rows = all_rows a.lists.items; made_up = fresh_texts a.texts } };
 
-    ghost invariant = { λ a. CanBeAsked (all_rows a.lists.items) a.texts a.users };
+    ghost invariant = { λ a. CanAnswer (all_rows a.lists.items) a.texts a.longest
+        a.users };
 }
 
 // The levels and the user names of the lists.
@@ -90,9 +99,11 @@ impl<'a> Asked<'a> {
         let names = names_in(alloc, &lists)?;
         let users = users_in(alloc, &lists)?;
         let texts = FreshTexts::find(alloc, &names)?;
+        let longest = FreshTexts::longest(alloc)?;
         Ok(Asked {
             lists,
             texts,
+            longest,
             users,
         })
     }
@@ -151,5 +162,41 @@ impl<'a> Asked<'a> {
             Some(found) => Ok(Some(found.show(alloc)?)),
             None => Ok(None),
         }
+    }
+
+    /// A topic that each row of `must` concerns and no row of `cover` does for the client with this client id, and with
+    /// this user name or none; or that there is none, of all topic names. Neither they nor `must` need be named by the
+    /// lists. It takes a few steps for each row of `cover`, and more only for those that may concern what `must` does.
+    pub fn find_topic<'q>(
+        &'q self,
+        alloc: Global,
+        client: &'q str,
+        user: Option<&'q str>,
+        must: &'q [&'q Row],
+        cover: &'q [&'q Row],
+    ) -> Result<Option<TopicName>, LimitFault>
+        requires cover { All (Contains self.now.rows) (lent_rows cover.now) }
+        ensures none { IfOk result (λ found. IfNone found (FindsNoTopic client.entry.now
+            (option_copied user.entry) (lent_rows must.entry.now) (lent_rows cover.entry.now))) }
+        ensures some { IfOk result (λ found. IfSome found (IsTopic client.entry.now
+            (option_copied user.entry) (lent_rows must.entry.now) (lent_rows cover.entry.now))) }
+        ensures fault { IfErr result (IsLimitFault client.entry.now (option_copied user.entry)
+            (lent_rows must.entry.now)) }
+    {
+        if let Some(fault) = limit_fault(client, user, must) {
+            return Err(fault);
+        }
+        let one = OneClient {
+            fresh: self.longest.fresh(),
+            client,
+            user,
+            must,
+            cover,
+        };
+        if let Some(topic) = one.topic(alloc, false)? {
+            return Ok(Some(topic));
+        }
+        let topic = one.topic(alloc, true)?;
+        Ok(topic)
     }
 }

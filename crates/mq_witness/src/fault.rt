@@ -20,3 +20,27 @@ impl From<AllocError> for ListFault {
         ListFault::Memory
     }
 }
+
+/// Why no topic is told of one client. A topic name made of levels of more than 300 bytes could be too long.
+#[derive(Clone, Copy, Debug, PartialEq, Eq)]
+pub enum LimitFault {
+    /// There was no memory.
+    Memory,
+    /// The client id has more than 300 bytes.
+    Client,
+    /// The user name has more than 300 bytes.
+    User,
+    /// A row that has to concern the topic has a level of more than 300 bytes.
+    Row,
+}
+
+impl From<AllocError> for LimitFault {
+    ghost use Rattle.std.specs.Prelude.{◌≡◌};
+    ghost use Rattle.mq_witness.specs.declared.fault.LimitFault.TheVariants.{Memory};
+
+    ghost from_gives = { λ _ fault. fault ≡ Memory };
+
+    fn from(_: AllocError) -> Self {
+        LimitFault::Memory
+    }
+}

@@ -1,5 +1,5 @@
 ghost use Rattle.std.specs.Prelude.{IfOk, string_bytes};
-ghost use Rattle.mq_witness.specs.FreshTexts.{IsNew};
+ghost use Rattle.mq_witness.specs.FreshTexts.{IsLong, IsNew};
 ghost use Rattle.mq_witness.specs.Literals.{is_named};
 
 use crate::literals::Literals;
@@ -28,6 +28,17 @@ pub(crate) fn fresh_text(
         if !literals.names(text.as_str()) {
             return Ok(text);
         }
+        text.push('x')?;
+    }
+    Ok(text)
+}
+
+/// The base with 301 `x` behind it: longer than any text of at most 300 bytes.
+pub(crate) fn longest_text(alloc: Global, base: &str) -> Result<String, AllocError>
+    ensures { IfOk result (λ text. IsLong base.now (string_bytes text)) }
+{
+    let mut text = String::from_str(alloc, base)?;
+    for _count in 0..301u32 {
         text.push('x')?;
     }
     Ok(text)

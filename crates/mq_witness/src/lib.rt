@@ -9,7 +9,9 @@ mod fresh;
 mod ids;
 mod limits;
 mod literals;
+mod one;
 mod overlap;
+mod pose;
 mod question;
 mod roots;
 mod search;
@@ -18,5 +20,6 @@ mod witness;
 
 pub use asked::Asked;
 pub use clients::Clients;
-pub use fault::ListFault;
+pub use fault::{LimitFault, ListFault};
+pub use roots::may_overlap;
 pub use witness::Witness;

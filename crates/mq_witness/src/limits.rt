@@ -1,11 +1,17 @@
-//! The limit that a list has to keep to.
+//! The limit that lists, and what is asked of one client, have to keep to.
 ghost use Rattle.std.specs.Prelude.{◌≡◌, true, IfNone, IfSome, All, None};
 ghost use Rattle.std.specs.List.{list_all};
 ghost use Rattle.mq_acl.specs.Views.{owner_view, row_view, row_views};
 ghost use Rattle.mq_witness.specs.Limits.{has_short_levels, is_short_row, long_line, short_who};
-ghost use Rattle.mq_witness.specs.Limits.{usable, IsLongLine};
-ghost use Rattle.mq_witness.specs.Rows.{all_rows};
+ghost use Rattle.mq_witness.specs.Limits.{is_short_level, usable, is_short, IsLongLine};
+ghost use Rattle.mq_witness.specs.Roots.{rows_fit};
+ghost use Rattle.mq_witness.specs.Rows.{all_rows, lent_rows};
+ghost use Rattle.mq_witness.specs.Topics.{AreWithin, IsLimitFault};
+ghost use Rattle.mq_cover.specs.Remainders.{fits, mark_passes};
+ghost use Rattle.mq_topic.specs.Levels.{levels};
+ghost use Rattle.std.specs.Option.{option_copied};
 
+use crate::fault::LimitFault;
 use mq_acl::{Owner, Row};
 use mq_topic::LevelText;
 
@@ -64,6 +70,54 @@ pub(crate) fn first_long(lists: &[&[Row]]) -> Option<LongLine>
         if let Some(line) = long_line(rows) {
             return Some(LongLine { place, line });
         }
+    }
+    None
+}
+
+fn is_short_user(user: Option<&str>) -> bool
+    ensures { result ≡ mark_passes is_short (option_copied user.entry) }
+{
+    match user {
+        Some(name) => name.len() <= 300,
+        None => true,
+    }
+}
+
+fn is_short_filter(row: &Row) -> bool
+    ensures short { result ≡ has_short_levels (row_view row.now).filter }
+    ensures usable { result ≡ true → fits is_short_level (levels (row_view row.now).filter)
+        ≡ true }
+{
+    has_short_levels(row.filter.text())
+}
+
+fn are_short_filters(rows: &[&Row]) -> bool
+    ensures short { result ≡ list_all (λ row. has_short_levels row.filter) (lent_rows rows.now) }
+    ensures usable { result ≡ true → rows_fit is_short_level (lent_rows rows.now) ≡ true }
+{
+    for row in rows {
+        if !is_short_filter(row) {
+            return false;
+        }
+    }
+    true
+}
+
+/// What is too long, if anything is: the client id, the user name, or a level of a row.
+pub(crate) fn limit_fault(client: &str, user: Option<&str>, rows: &[&Row]) -> Option<LimitFault>
+    ensures none { IfNone result (AreWithin client.now (option_copied user.entry)
+        (lent_rows rows.now)) }
+    ensures some { IfSome result (IsLimitFault client.now (option_copied user.entry)
+        (lent_rows rows.now)) }
+{
+    if client.len() > 300 {
+        return Some(LimitFault::Client);
+    }
+    if !is_short_user(user) {
+        return Some(LimitFault::User);
+    }
+    if !are_short_filters(rows) {
+        return Some(LimitFault::Row);
     }
     None
 }

@@ -2,9 +2,9 @@
 ghost use Rattle.std.specs.Prelude.{◌≡◌, ℕ, List, Option, true, IfOk, IfNone, IfSome, Some};
 ghost use Rattle.std.specs.Prelude.{string_bytes};
 ghost use Rattle.std.specs.Option.{option_copied};
-ghost use Rattle.mq_cover.specs.Names.{is_choice};
+ghost use Rattle.mq_cover.specs.Names.{is_choice, start_of};
 ghost use Rattle.mq_cover.specs.Paths.{levels_of};
-ghost use Rattle.mq_cover.specs.Remainders.{mark_passes, marks_pass};
+ghost use Rattle.mq_cover.specs.Remainders.{FindsNothing, mark_passes, marks_pass, marks_view};
 ghost use Rattle.mq_witness.specs.Literals.{is_among};
 ghost use Rattle.mq_witness.specs.Ready.{CanAsk};
 ghost use Rattle.mq_witness.specs.Roots.{marks_of};
@@ -68,8 +68,8 @@ fn text_on(alloc: Global, path: &Path) -> Result<String, AllocError>
 }
 
 impl<'a> Question<'a> {
-    ghost use Rattle.mq_witness.specs.Answers.{Hits, HitsOther, HitsUser, Misses, MissesOthers};
-    ghost use Rattle.mq_witness.specs.Answers.{MissesUser};
+    ghost use Rattle.mq_witness.specs.Answers.{Hits, HitsOther, HitsUser, IsHit, Misses};
+    ghost use Rattle.mq_witness.specs.Answers.{MissesOthers, MissesUser};
 
     // The client ids to try, with this level for a user name: one that stands for all others, and where one of the
     // first filters has `%c` all that another may demand for it.
@@ -99,6 +99,29 @@ impl<'a> Question<'a> {
         named.list_behind(alloc, self.fresh.user)
     }
 
+    /// A name, where `%c` and `%u` stand for these levels, or for none; or that there is none.
+    pub fn name(&self, alloc: Global, marks: Marks<'a>) -> Result<Option<TopicName>, AllocError>
+        requires { marks_pass (is_choice self.now.fresh.others) (marks_view marks) ≡ true }
+        ensures none { IfOk result (λ found. IfNone found (FindsNothing (start_of self.now.dollar)
+            200 (marks_view marks.entry) self.now.must.items self.now.cover.items)) }
+        ensures some { IfOk result (λ found. IfSome found
+            (IsHit self.now (marks_view marks.entry))) }
+    {
+        let start = Start::of(self.dollar);
+        let others = self.fresh.others;
+        let Some(path) = find(alloc, marks, others, start, 200, &self.must, &self.cover)? else {
+            return Ok(None);
+        };
+        let text = text_on(alloc, &path)?;
+        match TopicName::parse(alloc, text.as_str()) {
+            Ok(name) => Ok(Some(name)),
+            Err(fault) => match fault {
+                TopicFault::Memory => Err(AllocError),
+                _ => unreachable!(),
+            },
+        }
+    }
+
     // A name for this client id and this level for a user name, or that there is none.
     fn ask(
         &self,
@@ -117,19 +140,7 @@ impl<'a> Question<'a> {
             client: Some(client),
             user,
         };
-        let start = Start::of(self.dollar);
-        let others = self.fresh.others;
-        let Some(path) = find(alloc, marks, others, start, 200, &self.must, &self.cover)? else {
-            return Ok(None);
-        };
-        let text = text_on(alloc, &path)?;
-        match TopicName::parse(alloc, text.as_str()) {
-            Ok(name) => Ok(Some(name)),
-            Err(fault) => match fault {
-                TopicFault::Memory => Err(AllocError),
-                _ => unreachable!(),
-            },
-        }
+        self.name(alloc, marks)
     }
 
     /// A client of this user name, or without one, and a name, or that there is none for a client id that is tried.

@@ -10,7 +10,7 @@ ghost use Rattle.mq_cover.specs.Remainders.{covers, fits, remainder_fits};
 ghost use Rattle.mq_witness.specs.Roots.{marks_of, left_begins, AreCover, AreMust, NoneConcerned};
 ghost use Rattle.mq_witness.specs.Rows.{lent_rows};
 
-use crate::overlap::may_meet_all;
+use crate::overlap::{may_meet, may_meet_all};
 use mq_acl::{Owner, Row, applies};
 use mq_cover::Remainder;
 use mq_topic::LevelText;
@@ -40,6 +40,16 @@ fn whole<'a>(row: &'a Row) -> Remainder<'a>
         pattern: is_pattern(&row.owner),
         rest: Some(row.filter.text()),
     }
+}
+
+/// Whether some client may have a topic that both rows concern. It is quick, and takes no memory; where there is no such
+/// topic it may still say that there may be one.
+pub fn may_overlap(one: &Row, other: &Row) -> bool
+    ensures { result ≡ false → (client name : List ℕ) (user : Option (List ℕ))
+        → concerns client user name (row_view one.now) ≡ true
+        → concerns client user name (row_view other.now) ≡ false }
+{
+    may_meet(&whole(one), &whole(other))
 }
 
 /// The row, with all of its filter left, where it applies to this user name, or to none, and can cover a name that

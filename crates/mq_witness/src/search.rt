@@ -13,8 +13,8 @@ use crate::clients::Clients;
 use crate::fresh::Fresh;
 use crate::ids::can_be_id;
 use crate::literals::Literals;
+use crate::pose::pose;
 use crate::question::{Found, Question};
-use crate::roots::{cover_roots, must_roots};
 use mq_acl::Row;
 use std::alloc::{AllocError, Global};
 
@@ -54,16 +54,7 @@ impl<'a, 'b> Search<'a, 'b> {
             (lent_rows self.now.must.now) (lent_rows self.now.cover.now))) }
     {
         let user = self.user();
-        let Some(must) = must_roots(alloc, self.must, user, dollar)? else {
-            return Ok(None);
-        };
-        let cover = cover_roots(alloc, self.cover, user, dollar, &must)?;
-        Ok(Some(Question {
-            fresh: self.fresh,
-            dollar,
-            must,
-            cover,
-        }))
+        pose(alloc, self.fresh, user, dollar, self.must, self.cover)
     }
 
     // Whether no client can have the user name that is asked about.

@@ -2,9 +2,9 @@ ghost use Rattle.std.specs.Prelude.{◌≡◌, IfOk};
 ghost use Rattle.std.specs.List.{list_any};
 ghost use Rattle.std.specs.Str.{bytes_eq};
 ghost use Rattle.mq_witness.specs.Literals.{is_named};
-ghost use Rattle.mq_witness.specs.FreshTexts.{AreNew, IsSeen, fresh_texts};
+ghost use Rattle.mq_witness.specs.FreshTexts.{AreLonger, AreNew, IsSeen, fresh_texts};
 
-use crate::fresh::{Fresh, fresh_text};
+use crate::fresh::{Fresh, fresh_text, longest_text};
 use crate::literals::Literals;
 use mq_cover::Others;
 use std::alloc::{AllocError, Global};
@@ -39,6 +39,18 @@ impl FreshTexts {
             dollar: fresh_text(alloc, "$x", literals)?,
             client: fresh_text(alloc, "client", literals)?,
             user: fresh_text(alloc, "user", literals)?,
+        })
+    }
+
+    /// Texts that are longer than all of at most 300 bytes.
+    pub fn longest(alloc: Global) -> Result<FreshTexts, AllocError>
+        ensures { IfOk result AreLonger }
+    {
+        Ok(FreshTexts {
+            plain: longest_text(alloc, "x")?,
+            dollar: longest_text(alloc, "$x")?,
+            client: longest_text(alloc, "client")?,
+            user: longest_text(alloc, "user")?,
         })
     }
 

@@ -2,7 +2,7 @@ use Rattle.std.proofs.Common.{ap, sym, subst, string_bytes}
 use Rattle.mq_witness.specs.Answers.{IsFoundBy}
 use Rattle.mq_witness.specs.Asked.{AskedRows, user_view}
 use Rattle.mq_witness.specs.Literals.{is_named}
-use Rattle.mq_witness.specs.Ready.{CanBeAsked}
+use Rattle.mq_witness.specs.Ready.{CanAnswer}
 use Rattle.mq_witness.specs.Rows.{lent_rows}
 use Rattle.mq_witness.proofs.ReadyLemmas.{search_ready}
 use Rattle.mq_witness.proofs.ShowLemmas.{found_known, found_shown}
@@ -14,8 +14,8 @@ pub invariant_of-search : goal.invariant_of-search
 invariant_of-search c = record {
   ready = search_ready c.args.self.now c.self.inside.texts c.self.inside.users c.fresh.result
       c.args.clients (lent_rows c.args.must.now) (lent_rows c.args.cover.now)
-      (subst (λ (s : AskedRows). CanBeAsked s.rows c.self.inside.texts c.self.inside.users)
-      c.self.view_is c.self.invariant)
+      (subst (λ (s : AskedRows). CanAnswer s.rows c.self.inside.texts c.self.inside.longest
+      c.self.inside.users) c.self.view_is c.self.invariant).asked_can
       c.fresh.ensures c.requires.user c.requires.must c.requires.cover;
 }
 
@@ -23,8 +23,8 @@ pub returns-in-Some-clause-stands : goal.returns-in-Some-clause-stands
 returns-in-Some-clause-stands c =
     let asked = c.args.self.now in
     let w = c.in_ok-show.field-0 in
-    let can = subst (λ (s : AskedRows). CanBeAsked s.rows c.self.inside.texts c.self.inside.users)
-    c.self.view_is c.self.invariant in
+    let can = (subst (λ (s : AskedRows). CanAnswer s.rows c.self.inside.texts c.self.inside.longest
+    c.self.inside.users) c.self.view_is c.self.invariant).asked_can in
     let must = lent_rows c.args.must.now in
     let cover = lent_rows c.args.cover.now in
     shows_others asked c.self.inside.texts c.self.inside.users c.fresh.result c.args.clients must
@@ -47,8 +47,8 @@ pub returns-in_ok-show-in-Some-2-clause-stands : goal.returns-in_ok-show-in-Some
 returns-in_ok-show-in-Some-2-clause-stands c =
     let asked = c.args.self.now in
     let w = c.in_ok-show-in-Some-2.field-0 in
-    let can = subst (λ (s : AskedRows). CanBeAsked s.rows c.self.inside.texts c.self.inside.users)
-    c.self.view_is c.self.invariant in
+    let can = (subst (λ (s : AskedRows). CanAnswer s.rows c.self.inside.texts c.self.inside.longest
+    c.self.inside.users) c.self.view_is c.self.invariant).asked_can in
     let must = lent_rows c.args.must.now in
     let cover = lent_rows c.args.cover.now in
     shows_others asked c.self.inside.texts c.self.inside.users c.fresh.result c.args.clients must
@@ -70,8 +70,8 @@ returns-in_ok-show-in-Some-2-clause-stands c =
 pub returns-in-Some-clause-known : goal.returns-in-Some-clause-known
 returns-in-Some-clause-known c =
     let asked = c.args.self.now in
-    let can = subst (λ (s : AskedRows). CanBeAsked s.rows c.self.inside.texts c.self.inside.users)
-    c.self.view_is c.self.invariant in
+    let can = (subst (λ (s : AskedRows). CanAnswer s.rows c.self.inside.texts c.self.inside.longest
+    c.self.inside.users) c.self.view_is c.self.invariant).asked_can in
     let must = lent_rows c.args.must.now in
     let cover = lent_rows c.args.cover.now in
     found_known asked c.self.inside.texts c.self.inside.users c.fresh.result c.args.clients must
@@ -89,8 +89,8 @@ returns-in-Some-clause-known c =
 pub returns-in_ok-show-in-Some-2-clause-known : goal.returns-in_ok-show-in-Some-2-clause-known
 returns-in_ok-show-in-Some-2-clause-known c =
     let asked = c.args.self.now in
-    let can = subst (λ (s : AskedRows). CanBeAsked s.rows c.self.inside.texts c.self.inside.users)
-    c.self.view_is c.self.invariant in
+    let can = (subst (λ (s : AskedRows). CanAnswer s.rows c.self.inside.texts c.self.inside.longest
+    c.self.inside.users) c.self.view_is c.self.invariant).asked_can in
     let must = lent_rows c.args.must.now in
     let cover = lent_rows c.args.cover.now in
     found_known asked c.self.inside.texts c.self.inside.users c.fresh.result c.args.clients must

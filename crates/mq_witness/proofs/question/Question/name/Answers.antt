@@ -1,9 +1,9 @@
 use Rattle.std.proofs.Common.{ap, ◌∙◌}
-use Rattle.std.specs.Option.{option_copied}
 use Rattle.mq_topic.specs.Texts.{is_name}
 use Rattle.mq_cover.specs.Paths.{levels_of}
+use Rattle.mq_cover.specs.Remainders.{marks_view}
 use Rattle.mq_witness.proofs.AskLemmas.{choices_fit, found_hits, found_is_name, memory_is}
-use Rattle.mq_witness.proofs.question.Question.ask.Goals as goal
+use Rattle.mq_witness.proofs.question.Question.name.Goals as goal
 
 pub find-requires-clause-must : goal.find-requires-clause-must
 find-requires-clause-must c = choices_fit c.args.self.now.fresh c.args.self.now.must.items
@@ -16,7 +16,7 @@ find-requires-clause-cover c = choices_fit c.args.self.now.fresh c.args.self.now
 pub returns-in-Ok-clause-some : goal.returns-in-Ok-clause-some
 returns-in-Ok-clause-some c =
     found_hits c.args.self.now c.of-start.result c.deref.result.now c.deref-2.result.now
-    c.args.client.now (option_copied c.args.user) (levels_of c.in-Some.path) c.in-Ok.name
+    (marks_view c.args.marks) (levels_of c.in-Some.path) c.in-Ok.name
     (record {
       start_is = c.of-start.ensures;
       must_is = c.deref.ensures.value;
@@ -30,7 +30,7 @@ pub unreachable-requires : goal.unreachable-requires
 unreachable-requires c =
     let valid = ap is_name (c.as_str.ensures.value ∙ c.in_ok-text.ensures)
     ∙ found_is_name c.args.self.now c.of-start.result c.deref.result.now c.deref-2.result.now
-    c.args.client.now (option_copied c.args.user) (levels_of c.in-Some.path)
+    (marks_view c.args.marks) (levels_of c.in-Some.path)
     (record {
       start_is = c.of-start.ensures;
       must_is = c.deref.ensures.value;

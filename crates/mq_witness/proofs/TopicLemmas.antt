@@ -1,0 +1,179 @@
+-- The topics of one client.
+use Rattle.std.proofs.Common.{◌≡◌, ℕ, Bool, true, false, cond, not, ◌&&◌, ◌||◌, List, [], ◌∷◌}
+use Rattle.std.proofs.Common.{length, Option, Some, None, codes, bytes_eq, refl, ap, sym, ◌∙◌}
+use Rattle.std.specs.List.{list_all, list_any}
+use Rattle.std.proofs.lemmas.Bool.{and_parts, and_from, and_left, leb-true}
+use Rattle.std.proofs.lemmas.List.{map-id}
+use Rattle.mq_topic.specs.Levels.{levels, levels_left}
+use Rattle.mq_topic.specs.Matching.{level_matches, levels_match_by}
+use Rattle.mq_topic.specs.Texts.{is_name}
+use Rattle.mq_acl.specs.Access.{begins_with_dollar, concerns}
+use Rattle.mq_acl.specs.Rows.{AclRow}
+use Rattle.mq_cover.specs.Names.{can_be_level, is_choice, start_of}
+use Rattle.mq_cover.specs.Remainders.{FindsNothing, covers, fits, hits, mark_passes}
+use Rattle.mq_cover.specs.Remainders.{MarkLevels, passes}
+use Rattle.mq_cover.specs.declared.remainder.Remainder.{Remainder}
+use Rattle.mq_witness.specs.Answers.{Asks, IsHit}
+use Rattle.mq_witness.specs.Decided.{decides}
+use Rattle.mq_witness.specs.Fresh.{is_literal}
+use Rattle.mq_witness.specs.FreshTexts.{AreLonger, AreShort, IsSeen}
+use Rattle.mq_witness.specs.Limits.{is_short, is_short_level, short_who, usable}
+use Rattle.mq_witness.specs.Roots.{NoneConcerned, marks_of, rows_fit}
+use Rattle.mq_witness.specs.Texts.{level_of}
+use Rattle.mq_witness.specs.Topics.{AreWithin, FindsNoTopic, IsReadyFor, IsTopic}
+use Rattle.mq_witness.specs.Topics.{level_marks}
+use Rattle.mq_witness.specs.declared.fresh.Fresh.{Fresh}
+use Rattle.mq_witness.specs.declared.question.Question.{Question}
+use Rattle.mq_witness.specs.declared.texts.FreshTexts.{FreshTexts}
+use Rattle.mq_witness.proofs.AnswerLemmas.{alike_self, any_fits, same_user}
+use Rattle.mq_witness.proofs.FreshLemmas.{named_is_literal, seen_fresh}
+use Rattle.mq_witness.proofs.FreshMoves.{literal_is_choice}
+use Rattle.mq_witness.proofs.LiteralLemmas.{fits_mono}
+use Rattle.mq_witness.proofs.MoveLemmas.{match_same}
+use Rattle.mq_witness.proofs.NameLemmas.{name_is, name_suits}
+use Rattle.mq_witness.proofs.ReadyLemmas.{short_is_name}
+
+-- ---- ids that can't be levels
+both_passes : (pattern : Bool) (client : List ℕ) (user : Option (List ℕ)) (w l : List ℕ)
+    → can_be_level l ≡ true → passes pattern (marks_of client user) w l
+    ≡ passes pattern (level_marks client user) w l
+both_passes pattern client user w l h =
+    (λ i. cond (pattern && bytes_eq w (codes "%c")) (same_user (Some client) l h i)
+    (cond (pattern && bytes_eq w (codes "%u")) (same_user user l h i) (level_matches w l)))
+
+pub marks_are : (c u : Option (List ℕ)) (client : List ℕ) (user : Option (List ℕ))
+    → c ≡ level_of (Some client) → u ≡ level_of user
+    → record { client = c; user = u } ≡ level_marks client user
+marks_are c u client user e g = λ i. record { client = e i; user = g i }
+
+module _ (client : List ℕ) (user : Option (List ℕ)) (ls : List (List ℕ))
+    (can : list_all can_be_level ls ≡ true) where
+  both_covers : (r : Remainder) → covers (marks_of client user) ls r
+      ≡ covers (level_marks client user) ls r
+  both_covers r =
+      match_same (passes r.pattern (marks_of client user))
+      (passes r.pattern (level_marks client user)) (λ l. l) (λ w. true) can_be_level
+      (λ w l e k. both_passes r.pattern client user w l k) (levels_left r.rest) ls
+      (any_fits (levels_left r.rest)) can
+      ∙ ap (levels_match_by (passes r.pattern (level_marks client user)) (levels_left r.rest))
+      (map-id ls)
+
+  both_all : (rs : List Remainder) → list_all (covers (marks_of client user) ls) rs
+      ≡ list_all (covers (level_marks client user) ls) rs
+  both_all [] = refl
+  both_all (r ∷ rs) = (λ i. both_covers r i && both_all rs i)
+
+  both_any : (rs : List Remainder) → list_any (covers (marks_of client user) ls) rs
+      ≡ list_any (covers (level_marks client user) ls) rs
+  both_any [] = refl
+  both_any (r ∷ rs) = (λ i. both_covers r i || both_any rs i)
+
+  -- whether a name is hit depends on the ids only as levels, where they can be such
+  both_hits : (must cover : List Remainder) → hits (marks_of client user) ls must cover
+      ≡ hits (level_marks client user) ls must cover
+  both_hits must cover = (λ i. both_all must i && not (both_any cover i))
+
+-- ---- what a question answers
+-- where a row concerns none of the names
+pub no_topic : (client : List ℕ) (user : Option (List ℕ)) (dollar : Bool)
+    (must cover : List AclRow) → NoneConcerned must user dollar → (name : List ℕ)
+    → is_name name ≡ true → begins_with_dollar name ≡ dollar
+    → decides client user name must cover ≡ false
+no_topic client user dollar must cover none name valid kind =
+    and_left (list_all (concerns client user name) must)
+    (not (list_any (concerns client user name) cover))
+    (none client name user (alike_self user must) kind)
+
+module _ (f : Fresh) (client : List ℕ) (user : Option (List ℕ)) (dollar : Bool)
+    (must cover : List AclRow) (q : Question) (asks : Asks f user dollar must cover q) where
+  decided_is : (name : List ℕ) → is_name name ≡ true → begins_with_dollar name ≡ dollar
+      → decides client user name must cover
+      ≡ hits (level_marks client user) (levels name) q.must.items q.cover.items
+  decided_is name valid kind =
+      sym (asks.decides client name user (alike_self user must) (alike_self user cover) kind)
+      ∙ both_hits client user (levels name) (name_is name valid).can q.must.items q.cover.items
+
+  pub topic_missed : (marks : MarkLevels) → marks ≡ level_marks client user
+      → FindsNothing (start_of q.dollar) 200 marks q.must.items q.cover.items → (name : List ℕ)
+      → is_name name ≡ true → begins_with_dollar name ≡ dollar
+      → decides client user name must cover ≡ false
+  topic_missed marks e misses name valid kind =
+      let is = name_is name valid in
+      decided_is name valid kind
+      ∙ ap (λ (m : MarkLevels). hits m (levels name) q.must.items q.cover.items) (sym e)
+      ∙ misses (levels name) (name_suits name q.dollar is.some (kind ∙ sym asks.kind)) is.few
+
+  pub topic_hit : (marks : MarkLevels) → marks ≡ level_marks client user → (name : List ℕ)
+      → IsHit q marks name → IsTopic client user must cover name
+  topic_hit marks e name h = record {
+    valid = h.valid;
+    decided = decided_is name h.valid (h.kind ∙ asks.kind)
+        ∙ ap (λ (m : MarkLevels). hits m (levels name) q.must.items q.cover.items) (sym e)
+        ∙ h.hit;
+  }
+
+-- ---- longer texts
+short_size : AreShort is_short
+short_size l h = leb-true (length l) 300 h
+
+module _ (longest : FreshTexts) (f : Fresh) (longer : AreLonger longest)
+    (seen : IsSeen longest f) where
+  short_literal : (l : List ℕ) → is_short_level l ≡ true → is_literal f l ≡ true
+  short_literal l h = named_is_literal longest f is_short short_size (longer is_short) seen l
+      (short_is_name l h) (and_parts (can_be_level l) (is_short l) h).1
+
+  short_rows : (rows : List AclRow) → rows_fit is_short_level rows ≡ true
+      → rows_fit (is_literal f) rows ≡ true
+  short_rows [] h = refl
+  short_rows (row ∷ rows) h =
+      let parts = and_parts (fits is_short_level (levels row.filter))
+      (rows_fit is_short_level rows) h in
+      and_from (fits (is_literal f) (levels row.filter)) (rows_fit (is_literal f) rows)
+      (fits_mono is_short_level (is_literal f) (levels row.filter) short_literal parts.0)
+      (short_rows rows parts.1)
+
+  short_mark : (user : Option (List ℕ)) → mark_passes is_short user ≡ true
+      → mark_passes (is_choice f.others) (level_of user) ≡ true
+  short_mark None h = refl
+  short_mark (Some u) h = at (can_be_level u) refl
+    where
+      at : (b : Bool) → can_be_level u ≡ b
+          → mark_passes (is_choice f.others) (cond b (Some u) None) ≡ true
+      at false e = refl
+      at true e = literal_is_choice f u
+          (short_literal u (and_from (can_be_level u) (is_short u) e h))
+
+  -- what keeps to the limit names none of them
+  pub ready_for : (client : List ℕ) (user : Option (List ℕ)) (must cover : List AclRow)
+      → AreWithin client user must → list_all usable cover ≡ true
+      → IsReadyFor f client user must cover
+  ready_for client user must cover within cover_usable = record {
+    fresh = seen_fresh longest f is_short (longer is_short) seen;
+    must_fits = short_rows must within.must_short;
+    cover_fits = short_rows cover (levels_usable cover cover_usable);
+    marks_fit = and_from (mark_passes (is_choice f.others) (level_of (Some client)))
+        (mark_passes (is_choice f.others) (level_of user))
+        (short_mark (Some client) within.client_short) (short_mark user within.user_short);
+  }
+    where
+      levels_usable : (rows : List AclRow) → list_all usable rows ≡ true
+          → rows_fit is_short_level rows ≡ true
+      levels_usable [] h = refl
+      levels_usable (row ∷ rows) h =
+          let parts = and_parts (usable row) (list_all usable rows) h in
+          and_from (fits is_short_level (levels row.filter)) (rows_fit is_short_level rows)
+          (and_parts (fits is_short_level (levels row.filter)) (short_who row.who) parts.0).0
+          (levels_usable rows parts.1)
+
+-- ---- both kinds of names
+pub both_kinds : (client : List ℕ) (user : Option (List ℕ)) (must cover : List AclRow)
+    → ((name : List ℕ) → is_name name ≡ true → begins_with_dollar name ≡ false
+    → decides client user name must cover ≡ false)
+    → ((name : List ℕ) → is_name name ≡ true → begins_with_dollar name ≡ true
+    → decides client user name must cover ≡ false)
+    → FindsNoTopic client user must cover
+both_kinds client user must cover plain dollar name valid = at (begins_with_dollar name) refl
+  where
+    at : (b : Bool) → begins_with_dollar name ≡ b → decides client user name must cover ≡ false
+    at true e = dollar name valid e
+    at false e = plain name valid e
