@@ -1,0 +1,261 @@
+-- All that changes from one list to another.
+use Rattle.std.proofs.Common.{◌≡◌, ◌+◌, ◌<◌, ◌≤◌, ℕ, Bool, true, false, not, ◌&&◌, cond, List}
+use Rattle.std.proofs.Common.{[], ◌∷◌, ◌++◌, Option, Some, None, All, length, get_or, ltb, refl, ap}
+use Rattle.std.proofs.Common.{sym, ◌∙◌, subst, arith, Bor, bytes_eq, zero, suc}
+use Rattle.std.specs.List.{filter, list_any}
+use Rattle.std.proofs.lemmas.Bool.{ltb-true, ltb-false}
+use Rattle.std.proofs.lemmas.List.Elements.{All-filter, All-nil, All-weaker}
+use Rattle.std.proofs.lemmas.List.Folds.{list_any_at}
+use Rattle.mq_topic.proofs.ByteLemmas.{text_is, text_itself}
+use Rattle.mq_topic.specs.Texts.{is_name}
+use Rattle.mq_acl.specs.Access.{allowed, is_deny, grants}
+use Rattle.mq_acl.specs.Views.{access_view, owner_view, row_view, row_views}
+use Rattle.mq_acl.specs.declared.access.Direction.{Direction}
+use Rattle.mq_acl.specs.declared.row.Row.{Row}
+use Rattle.mq_witness.specs.Asked.{AskedRows}
+use Rattle.mq_witness.specs.Clients.{can_be_id}
+use Rattle.mq_witness.specs.Literals.{is_among}
+use Rattle.mq_witness.specs.Rows.{is_user_of}
+use Rattle.mq_witness.specs.declared.clients.Clients.{Clients}
+use Rattle.mq_witness.specs.declared.clients.Clients.TheVariants as clients
+use Rattle.mq_findings.specs.ByOwner.{IsGrouped, is_for}
+use Rattle.mq_findings.specs.Changes.{TellsIn, TellsUser}
+use Rattle.mq_findings.specs.Classes.{can_be_user}
+use Rattle.mq_findings.specs.Differences.{AreMarked, AreUnnamed, IsKnown, IsMarked, IsReal}
+use Rattle.mq_findings.specs.Differences.{ShowsOthers, TellsAll, is_told_of}
+use Rattle.mq_findings.specs.Marks.{ArePlaced, IsKept, rows_of}
+use Rattle.mq_findings.specs.Questions.{AreJudges, AreRowsFor, IsList}
+use Rattle.mq_findings.specs.Reports.{Grows, IsReport, IsSound}
+use Rattle.mq_findings.specs.declared.by_owner.ByOwner.{ByOwner}
+use Rattle.mq_findings.specs.declared.difference.Difference.{Difference}
+use Rattle.mq_findings.specs.declared.judges.Judges.{Judges}
+use Rattle.mq_findings.specs.declared.lists.Lists.{Lists}
+use Rattle.mq_findings.specs.declared.marks.Marked.{Marked}
+use Rattle.mq_findings.specs.declared.way.Way.{Way}
+use Rattle.mq_findings.specs.declared.way.Way.TheVariants.{Gained, Lost}
+use Rattle.mq_findings.proofs.FirstLemmas.{first_place}
+use Rattle.mq_findings.proofs.ReportLemmas.{grows_both}
+
+-- ---- rows that are filtered
+filter_rows : (p : Row → Bool) (ms : List Marked)
+    → rows_of (filter (λ m. p m.row.now) ms) ≡ filter p (rows_of ms)
+filter_rows p [] = refl
+filter_rows p (m ∷ ms) = at (p m.row.now) (filter_rows p ms)
+  where
+    at : (b : Bool) → rows_of (filter (λ m. p m.row.now) ms) ≡ filter p (rows_of ms)
+        → rows_of (cond b (m ∷ filter (λ m. p m.row.now) ms) (filter (λ m. p m.row.now) ms))
+        ≡ cond b (m.row.now ∷ filter p (rows_of ms)) (filter p (rows_of ms))
+    at true e = ap (λ l. m.row.now ∷ l) e
+    at false e = e
+
+filter_both : {X : Type 0} (p q : X → Bool) (xs : List X)
+    → filter q (filter p xs) ≡ filter (λ x. p x && q x) xs
+filter_both p q [] = refl
+filter_both p q (x ∷ xs) = at (p x) (q x) refl (filter_both p q xs)
+  where
+    at : (a b : Bool) → q x ≡ b → filter q (filter p xs) ≡ filter (λ x. p x && q x) xs
+        → filter q (cond a (x ∷ filter p xs) (filter p xs))
+        ≡ cond (a && b) (x ∷ filter (λ x. p x && q x) xs) (filter (λ x. p x && q x) xs)
+    at true true e f = rw e (ap (λ l. x ∷ l) f)
+    at true false e f = rw e f
+    at false b e f = f
+
+-- the rows of a list for some clients
+pub rows_for : (rows others : List Row) (by_owner : ByOwner) (c : Clients) (all : List Marked)
+    → IsList rows others by_owner
+    → ((marked : List Marked) → IsGrouped marked by_owner → ArePlaced marked
+    → all ≡ filter (λ m. is_for c (row_view m.row.now).who) marked)
+    → AreRowsFor rows others c all
+rows_for rows others by_owner c all l f =
+    let is = f l.all l.grouped l.placed in
+    record {
+      are = ap rows_of is ∙ filter_rows (λ (r : Row). is_for c (owner_view r.owner)) l.all
+          ∙ ap (filter (λ (r : Row). is_for c (owner_view r.owner))) l.are;
+      kept = subst (All (IsKept (row_views others))) (sym is)
+          (All-filter (λ (m : Marked). is_for c (row_view m.row.now).who)
+          (IsKept (row_views others)) l.all l.kept);
+    }
+
+-- those of them that decide
+pub judges_of : (rows others : List Row) (c : Clients) (direction : Direction)
+    (all : List Marked) (judges : Judges) → AreRowsFor rows others c all
+    → judges.denies.items ≡ filter (λ m. is_deny (row_view m.row.now).access) all
+    → judges.grants.items ≡ filter (λ m. grants direction (row_view m.row.now).access) all
+    → AreJudges rows others c direction judges
+judges_of rows others c direction all judges a d g = record {
+  denies = ap rows_of d ∙ filter_rows (λ (r : Row). is_deny (access_view r.access)) all
+      ∙ ap (filter (λ (r : Row). is_deny (access_view r.access))) a.are
+      ∙ filter_both (λ (r : Row). is_for c (owner_view r.owner))
+      (λ (r : Row). is_deny (access_view r.access)) rows;
+  grants = ap rows_of g ∙ filter_rows (λ (r : Row). grants direction (access_view r.access)) all
+      ∙ ap (filter (λ (r : Row). grants direction (access_view r.access))) a.are
+      ∙ filter_both (λ (r : Row). is_for c (owner_view r.owner))
+      (λ (r : Row). grants direction (access_view r.access)) rows;
+  denies_kept = subst (All (IsKept (row_views others))) (sym d)
+      (All-filter (λ (m : Marked). is_deny (row_view m.row.now).access)
+      (IsKept (row_views others)) all a.kept);
+  grants_kept = subst (All (IsKept (row_views others))) (sym g)
+      (All-filter (λ (m : Marked). grants direction (row_view m.row.now).access)
+      (IsKept (row_views others)) all a.kept);
+}
+
+-- ---- what was told stays told
+pub tells_kept : (lists : Lists) (c : Clients) (way : Way) (direction : Direction)
+    (before after : List Difference)
+    → Grows lists.old.now lists.new.now lists.asked before after
+    → TellsIn lists c way direction before → TellsIn lists c way direction after
+tells_kept lists c way direction before after g t client topic user p e =
+    g.kept (is_told_of lists.old.now lists.new.now way direction client user topic)
+    (t client topic user p e)
+
+user_kept : (lists : Lists) (user : Option (List ℕ)) (before after : List Difference)
+    → Grows lists.old.now lists.new.now lists.asked before after
+    → TellsUser lists user before → TellsUser lists user after
+user_kept lists user before after g t way direction client topic c u v e =
+    g.kept (is_told_of lists.old.now lists.new.now way direction client user topic)
+    (t way direction client topic c u v e)
+
+-- ---- the clients of each user name
+-- all is told of the clients of the first names
+pub record AreUsersDone (lists : Lists) (names : List (Bor (List ℕ))) (n : ℕ)
+    (first told : List Difference) : Type 0 where
+  pub grows : Grows lists.old.now lists.new.now lists.asked first told
+  pub users : (place : ℕ) (d : Bor (List ℕ)) → place < n → place < length names
+      → TellsUser lists (Some (get_or names place d).now) told
+
+pub same_name : (names : List (Bor (List ℕ))) (k : ℕ) (a b : Bor (List ℕ)) → k < length names
+    → get_or names k a ≡ get_or names k b
+same_name [] k a b h = absurd (omega arith)
+same_name (r ∷ rs) zero a b h = refl
+same_name (r ∷ rs) (suc k) a b h = same_name rs k a b (omega arith)
+
+-- what is told of the clients of a user name is told of each with that name
+pub tells_user : (lists : Lists) (name : Bor (List ℕ)) (told : List Difference)
+    → ((way : Way) (direction : Direction)
+    → TellsIn lists (clients.Named name) way direction told)
+    → TellsUser lists (Some name.now) told
+tells_user lists name told t way direction client topic c u v e =
+    t way direction client topic (Some name.now)
+    (record { client_fits = c; user_fits = rw (text_itself name.now, u) refl; valid = v }) e
+
+pub users_one : (lists : Lists) (names : List (Bor (List ℕ))) (n : ℕ) (name : Bor (List ℕ))
+    (first told more : List Difference) → n < length names → name ≡ get_or names n name
+    → Grows lists.old.now lists.new.now lists.asked told more
+    → TellsUser lists (Some name.now) more → AreUsersDone lists names n first told
+    → AreUsersDone lists names (n + 1) first more
+users_one lists names n name first told more low is g here s = record {
+  grows = grows_both lists.old.now lists.new.now lists.asked first told more s.grows g;
+  users = λ place d below in_range. at place d below in_range (ltb place n) refl;
+}
+  where
+    at : (place : ℕ) (d : Bor (List ℕ)) → place < n + 1 → place < length names
+        → (b : Bool) → ltb place n ≡ b
+        → TellsUser lists (Some (get_or names place d).now) more
+    at place d below in_range true e =
+        user_kept lists (Some (get_or names place d).now) told more g
+        (s.users place d (ltb-true place n e) in_range)
+    at place d below in_range false e =
+        let above = ltb-false place n e in
+        let same : n ≡ place = omega arith in
+        subst (λ k. TellsUser lists (Some (get_or names k d).now) more) same
+        (subst (λ m. TellsUser lists (Some m.now) more) (is ∙ same_name names n name d low) here)
+
+-- a name of the list is one that a row names
+pub name_listed : (asked : AskedRows) (names : List (Bor (List ℕ))) (n : ℕ) (name : Bor (List ℕ))
+    → n < length names → name ≡ get_or names n name
+    → ((user : List ℕ) → is_among user names ≡ is_user_of user asked.rows)
+    → is_user_of name.now asked.rows ≡ true
+name_listed asked names n name low is all =
+    sym (all name.now)
+    ∙ list_any_at (λ (other : Bor (List ℕ)). bytes_eq name.now other.now) names n name low
+    (ap (λ (other : Bor (List ℕ)). bytes_eq name.now other.now) (sym is) ∙ text_itself name.now)
+
+-- all that a row names are among them
+pub users_all : (lists : Lists) (names : List (Bor (List ℕ))) (n : ℕ)
+    (first told : List Difference) → length names ≤ n
+    → ((user : List ℕ) → is_among user names ≡ is_user_of user lists.asked.rows)
+    → AreUsersDone lists names n first told
+    → (user : List ℕ) → is_user_of user lists.asked.rows ≡ true → TellsUser lists (Some user) told
+users_all lists names n first told end all s user listed =
+    let at = first_place (λ (other : Bor (List ℕ)). bytes_eq user other.now) names
+    (all user ∙ listed) in
+    let low = at.in_range in
+    subst (λ t. TellsUser lists (Some t) told)
+    (sym (text_is user (get_or names at.place at.item).now (at.here at.item)))
+    (s.users at.place at.item (omega arith) low)
+
+-- ---- all clients
+pub tells_all_clients : (lists : Lists) (anonymous users told : List Difference)
+    → Grows lists.old.now lists.new.now lists.asked anonymous users
+    → Grows lists.old.now lists.new.now lists.asked users told
+    → ((way : Way) (direction : Direction)
+    → TellsIn lists clients.Anonymous way direction anonymous)
+    → ((user : List ℕ) → is_user_of user lists.asked.rows ≡ true
+    → TellsUser lists (Some user) users)
+    → ((way : Way) (direction : Direction) → TellsIn lists clients.Others way direction told)
+    → TellsAll lists.old.now lists.new.now told
+tells_all_clients lists anonymous users told g h a u o way direction client topic None c f v e =
+    h.kept (is_told_of lists.old.now lists.new.now way direction client None topic)
+    (g.kept (is_told_of lists.old.now lists.new.now way direction client None topic)
+    (a way direction client topic None
+    (record { client_fits = c; user_fits = refl; valid = v }) e))
+tells_all_clients lists anonymous users told g h a u o way direction client topic (Some name) c f v
+    e =
+    at (is_user_of name lists.asked.rows) refl
+  where
+    at : (b : Bool) → is_user_of name lists.asked.rows ≡ b
+        → list_any (is_told_of lists.old.now lists.new.now way direction client (Some name) topic)
+        told ≡ true
+    at true k =
+        h.kept (is_told_of lists.old.now lists.new.now way direction client (Some name) topic)
+        (u name k way direction client topic c f v e)
+    at false k =
+        o way direction client topic (Some name)
+        (record { client_fits = c; user_fits = rw (f, k) refl; valid = v }) e
+
+-- ---- the answer
+pub report_none : (old new : List Row) (asked : AskedRows) (told : List Difference) → told ≡ []
+    → IsReport old new asked told
+report_none old new asked told e =
+    subst (IsReport old new asked) (sym e)
+    (record {
+      sound = All-nil (IsSound old new asked);
+      apart = λ i j d low in_range. absurd (omega arith);
+    })
+
+pub report_marked : (old new : List Row) (asked : AskedRows) (told : List Difference)
+    → asked.rows ≡ row_views old ++ row_views new → IsReport old new asked told
+    → AreMarked old new told
+report_marked old new asked told is r = record {
+  asked = asked;
+  rows = is;
+  marked = All-weaker (IsSound old new asked) (IsMarked asked) (λ d s. s.marked) told r.sound;
+  unnamed = All-weaker (IsSound old new asked) (AreUnnamed asked) (λ d s. s.unnamed) told r.sound;
+  known = All-weaker (IsSound old new asked) (IsKnown asked) (λ d s. s.known) told r.sound;
+  stands = All-weaker (IsSound old new asked) (ShowsOthers old new asked) (λ d s. s.stands) told
+      r.sound;
+}
+
+pub report_real : (old new : List Row) (asked : AskedRows) (told : List Difference)
+    → IsReport old new asked told → All (IsReal old new) told
+report_real old new asked told r =
+    All-weaker (IsSound old new asked) (IsReal old new) (λ d s. s.real) told r.sound
+
+-- where nothing is told, nothing changed
+pub same_allowed : (old new : List Row) (told : List Difference) → TellsAll old new told
+    → told ≡ [] → (client topic : List ℕ) (user : Option (List ℕ)) (direction : Direction)
+    → can_be_id client ≡ true → can_be_user user ≡ true → is_name topic ≡ true
+    → allowed (Some (row_views old)) client user topic direction
+    ≡ allowed (Some (row_views new)) client user topic direction
+same_allowed old new told t e client topic user direction c f v =
+    let none = subst (TellsAll old new) e t in
+    at (allowed (Some (row_views old)) client user topic direction)
+    (allowed (Some (row_views new)) client user topic direction)
+    (none Gained direction client topic user c f v) (none Lost direction client topic user c f v)
+  where
+    at : (a b : Bool) → ((b && not a) ≡ true → false ≡ true) → ((a && not b) ≡ true → false ≡ true)
+        → a ≡ b
+    at true true f g = refl
+    at true false f g = absurd (let q = g refl in cc)
+    at false true f g = absurd (let q = f refl in cc)
+    at false false f g = refl

@@ -1,0 +1,20 @@
+use Rattle.mq_findings.proofs.ChangeLemmas.{rows_for}
+use Rattle.mq_findings.proofs.changes.add_clients.Goals as goal
+
+pub add_direction-requires-clause-rows : goal.add_direction-requires-clause-rows
+add_direction-requires-clause-rows c = record {
+  listed = c.requires.listed;
+  old_rows = rows_for c.args.lists.now.old.now c.args.lists.now.new.now c.args.lists.now.old_rows
+      c.args.clients c.in_ok-old.old.items c.requires.lists.old_rows c.in_ok-old.ensures;
+  new_rows = rows_for c.args.lists.now.new.now c.args.lists.now.old.now c.args.lists.now.new_rows
+      c.args.clients c.in_ok-new.new.items c.requires.lists.new_rows c.in_ok-new.ensures;
+}
+
+pub add_direction-requires-2-clause-rows : goal.add_direction-requires-2-clause-rows
+add_direction-requires-2-clause-rows c = record {
+  listed = c.requires.listed;
+  old_rows = rows_for c.args.lists.now.old.now c.args.lists.now.new.now c.args.lists.now.old_rows
+      c.args.clients c.in_ok-old.old.items c.requires.lists.old_rows c.in_ok-old.ensures;
+  new_rows = rows_for c.args.lists.now.new.now c.args.lists.now.old.now c.args.lists.now.new_rows
+      c.args.clients c.in_ok-new.new.items c.requires.lists.new_rows c.in_ok-new.ensures;
+}

@@ -1,0 +1,48 @@
+use Rattle.std.proofs.Common.{◌≡◌, ◌<◌, ◌≤◌, length, take, get_or, ap, sym, ◌∙◌, subst, arith, List}
+use Rattle.mq_acl.specs.Views.{row_views}
+use Rattle.mq_findings.specs.Marks.{IsKept}
+use Rattle.mq_findings.specs.Questions.{AreToldBy, IsSplit, rows_without}
+use Rattle.mq_findings.specs.declared.marks.Marked.{Marked}
+use Rattle.mq_findings.proofs.EveryLemmas.{tells_all}
+use Rattle.mq_findings.proofs.MarkLemmas.{split_at}
+use Rattle.mq_findings.proofs.ReportLemmas.{are_done_one}
+use Rattle.mq_findings.proofs.gains.add_gains.Goals as goal
+
+pub add_by_grant-requires-clause-split : goal.add_by_grant-requires-clause-split
+add_by_grant-requires-clause-split c =
+    let grants = c.args.question.now.to.now.grants.items in
+    let m = c.index-grants-place.result in
+    let value = c.as_slice-grants.ensures.value in
+    let low : c.loop-place.place < length grants =
+    subst (λ (ms : List Marked). c.loop-place.place < length ms) value c.loop-place-test.true in
+    let is : m ≡ get_or grants c.loop-place.place m =
+    c.index-grants-place.is ∙ ap (λ (ms : List Marked). get_or ms c.loop-place.place m) value in
+    record {
+      split = subst (λ (ms : List Marked). IsSplit grants (take c.loop-place.place ms) m.row.now)
+          (sym value) (split_at grants c.loop-place.place m low is);
+      kept = subst (IsKept (row_views (rows_without c.args.question.now.way
+          c.args.question.now.lists.now.old.now c.args.question.now.lists.now.new.now))) (sym is)
+          (c.requires.to.grants_kept c.loop-place.place m low);
+    }
+
+pub loop-place-preserved : goal.loop-place-preserved
+loop-place-preserved c =
+    let grants = c.args.question.now.to.now.grants.items in
+    let m = c.index-grants-place.result in
+    let value = c.as_slice-grants.ensures.value in
+    are_done_one c.args.question.now c.loop-place.place m c.args.report.now.differences.items
+    c.loop-place.report.differences.items c.add_by_grant.new.report.differences.items
+    (subst (λ (ms : List Marked). c.loop-place.place < length ms) value c.loop-place-test.true)
+    (c.index-grants-place.is ∙ ap (λ (ms : List Marked). get_or ms c.loop-place.place m) value)
+    c.in_ok-add_by_grant.ensures.grows
+    (subst (λ (ms : List Marked). AreToldBy c.args.question.now (take c.loop-place.place ms) m
+    c.add_by_grant.new.report.differences.items) value c.in_ok-add_by_grant.ensures.told)
+    c.loop-place.invariant
+
+pub returns-clause-told : goal.returns-clause-told
+returns-clause-told c =
+    let end : length c.args.question.now.to.now.grants.items ≤ c.loop-place.place =
+    subst (λ (ms : List Marked). length ms ≤ c.loop-place.place) c.as_slice-grants.ensures.value
+    (omega arith) in
+    tells_all c.args.question.now c.loop-place.report.differences.items c.requires
+    (λ place d low. c.loop-place.invariant.granted place d (omega arith) low)

@@ -1,0 +1,30 @@
+use Rattle.std.proofs.Common.{ap, sym, ◌∙◌, String, Global, List, ℕ, All, subst}
+use Rattle.std.proofs.lemmas.List.Elements.{All-push}
+use Rattle.mq_witness.specs.Rows.{rows_name}
+use Rattle.mq_findings.specs.Differences.{IsUnnamed, has_text}
+use Rattle.mq_findings.proofs.MadeUpLemmas.{text_added, text_not, text_there}
+use Rattle.mq_findings.proofs.made_up.add_made_up.Goals as goal
+
+pub returns-then-not-is_made_up-clause-told : goal.returns-then-not-is_made_up-clause-told
+returns-then-not-is_made_up-clause-told c = λ other. text_not c.args.made_up.now.items c.args.text.now other
+    c.args.asked.now (sym c.if-not-is_made_up.ensures.made_up)
+
+pub returns-then-has_text-clause-told : goal.returns-then-has_text-clause-told
+returns-then-has_text-clause-told c = λ other. text_there c.args.made_up.now.items c.args.text.now other
+    c.args.asked.now
+    (ap (λ (texts : List (String Global)). has_text texts c.args.text.now)
+    (sym c.deref.ensures.value) ∙ sym c.if-has_text.ensures)
+
+pub returns-clause-told : goal.returns-clause-told
+returns-clause-told c = λ other.
+    ap (λ (texts : List (String Global)). has_text texts other) c.in_ok-push.ensures.items
+    ∙ text_added c.args.made_up.now.items c.in_ok-from_str.field-0 c.args.text.now other
+    c.args.asked.now c.in_ok-from_str.ensures.ok (sym c.if-not-is_made_up.ensures.made_up)
+
+pub returns-clause-unnamed : goal.returns-clause-unnamed
+returns-clause-unnamed c = λ all.
+    subst (All (IsUnnamed c.args.asked.now)) (sym c.in_ok-push.ensures.items)
+    (All-push (IsUnnamed c.args.asked.now) c.args.made_up.now.items c.in_ok-from_str.field-0 all
+    (ap (λ (t : List ℕ). rows_name t c.args.asked.now.rows) c.in_ok-from_str.ensures.ok
+    ∙ c.is_made_up.ensures.unnamed (c.is_made_up.ensures.made_up
+    ∙ sym c.if-not-is_made_up.ensures.made_up)))

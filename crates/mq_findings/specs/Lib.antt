@@ -1,0 +1,11 @@
+pub mod Reasons
+pub mod Classes
+pub mod Differences
+pub mod Steps
+pub mod Faults
+pub mod Groups
+pub mod Marks
+pub mod ByOwner
+pub mod Reports
+pub mod Questions
+pub mod Changes

@@ -1,0 +1,31 @@
+-- What is told of two lists, difference by difference.
+use Rattle.std.specs.Prelude.{◌≡◌, Bool, true, List, [], ◌∷◌, ◌++◌, if◌then◌else◌, All}
+use Rattle.std.specs.List.{list_any}
+use Rattle.mq_acl.specs.declared.row.Row.{Row}
+use Rattle.mq_witness.specs.Asked.{AskedRows}
+use Rattle.mq_findings.specs.Differences.{is_like, IsReal, IsMarked, ShowsOthers, AreApart}
+use Rattle.mq_findings.specs.Differences.{AreUnnamed, IsKnown}
+use Rattle.mq_findings.specs.declared.difference.Difference.{Difference}
+
+-- one more difference, unless one is told that is like it
+abbrev pub added : List Difference → Difference → List Difference
+added told d = if list_any (λ e. is_like e d) told then told else told ++ d ∷ []
+
+-- it is so, it calls made up what is, and that stands for others
+pub record IsSound (old new : List Row) (asked : AskedRows) (d : Difference) : Type 0 where
+  pub real : IsReal old new d
+  pub marked : IsMarked asked d
+  pub unnamed : AreUnnamed asked d
+  pub known : IsKnown asked d
+  pub stands : ShowsOthers old new asked d
+
+-- all are so, and no two alike
+pub record IsReport (old new : List Row) (asked : AskedRows) (told : List Difference) : Type 0 where
+  pub sound : All (IsSound old new asked) told
+  pub apart : AreApart told
+
+-- what is told stays told, and what is added may be told
+pub record Grows (old new : List Row) (asked : AskedRows) (before after : List Difference)
+    : Type 0 where
+  pub report : IsReport old new asked before → IsReport old new asked after
+  pub kept : (p : Difference → Bool) → list_any p before ≡ true → list_any p after ≡ true
