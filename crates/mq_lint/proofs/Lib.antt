@@ -1,0 +1,9 @@
+pub mod CaseLemmas
+pub mod ClassLemmas
+pub mod KindLemmas
+pub mod LintLemmas
+pub mod ListLemmas
+pub mod LoopLemmas
+pub mod MakerLemmas
+pub mod PointLemmas
+pub mod SameLemmas

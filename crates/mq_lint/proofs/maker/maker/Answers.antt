@@ -1,0 +1,34 @@
+use Rattle.std.proofs.Common.{◌∙◌, sym}
+use Rattle.std.proofs.lemmas.Bool.{both_ways}
+use Rattle.mq_acl.specs.Views.{row_view}
+use Rattle.mq_lint.specs.Needless.{same_row}
+use Rattle.mq_lint.proofs.ListLemmas.{row_inside}
+use Rattle.mq_lint.proofs.MakerLemmas.{makes_none_more, skipped}
+use Rattle.mq_lint.proofs.maker.maker.Goals as goal
+
+pub loop-other-preserved-then-same_row : goal.loop-other-preserved-then-same_row
+loop-other-preserved-then-same_row c =
+    makes_none_more c.args.lint.now.rows.now (row_view c.args.row.now) c.loop-other.other-index
+    c.other-item.result c.loop-other-test.true c.other-item.is
+    (λ apart _. absurd (both_ways
+    (same_row (row_view c.other-item.result) (row_view c.args.row.now)) apart
+    (sym c.same_row.ensures ∙ c.if-same_row.true)))
+    c.loop-other.invariant
+
+pub loop-other-preserved-then-not-may_be_for : goal.loop-other-preserved-then-not-may_be_for
+loop-other-preserved-then-not-may_be_for c =
+    makes_none_more c.args.lint.now.rows.now (row_view c.args.row.now) c.loop-other.other-index
+    c.other-item.result c.loop-other-test.true c.other-item.is
+    (λ _. skipped c.args.lint.now.asked c.in_ok-clients.clients (row_view c.args.row.now)
+    (row_view c.other-item.result)
+    (row_inside c.args.lint.now.rows.now c.args.lint.now.asked c.loop-other.other-index
+    c.other-item.result c.args.lint.now.is_lint.rows_are c.loop-other-test.true c.other-item.is)
+    c.in_ok-clients.ensures.some (sym c.may_be_for.ensures ∙ c.if-not-may_be_for.true))
+    c.loop-other.invariant
+
+pub loop-other-preserved : goal.loop-other-preserved
+loop-other-preserved c =
+    makes_none_more c.args.lint.now.rows.now (row_view c.args.row.now) c.loop-other.other-index
+    c.other-item.result c.loop-other-test.true c.other-item.is
+    (λ _. c.in_ok-makes_needless.ensures.other c.if-branch.false)
+    c.loop-other.invariant

@@ -1,0 +1,116 @@
+-- A row of a list, for clients of one class.
+use Rattle.std.specs.Prelude.{◌≡◌, ℕ, Bool, true, false, List, [], ◌∷◌, ◌++◌, ◌&&◌, ◌||◌, not}
+use Rattle.std.specs.Prelude.{Option, Some, None, All, Contains, if◌then◌else◌}
+use Rattle.std.specs.List.{filter, list_all, list_any}
+use Rattle.mq_acl.specs.Access.{allowed, applies, grants, is_deny}
+use Rattle.mq_acl.specs.Lines.{Access}
+use Rattle.mq_acl.specs.Rows.{AclRow, Everyone, Who}
+use Rattle.mq_acl.specs.RowsByOwner.{is_everyones}
+use Rattle.mq_acl.specs.Views.{row_views}
+use Rattle.mq_acl.specs.declared.access.Direction.{Direction}
+use Rattle.mq_acl.specs.declared.access.Direction.TheVariants.{Reading, Writing}
+use Rattle.mq_acl.specs.declared.row.Row.{Row}
+use Rattle.mq_witness.specs.Asked.{AskedRows, FindsNone, IsShown, is_client_of}
+use Rattle.mq_witness.specs.Clients.{name_passes}
+use Rattle.mq_witness.specs.Rows.{is_user_of}
+use Rattle.mq_witness.specs.declared.clients.Clients.{Clients}
+use Rattle.mq_findings.specs.ByOwner.{everyones, is_for, is_own, own_rows}
+use Rattle.mq_findings.specs.Classes.{can_be_user}
+use Rattle.mq_findings.specs.Marks.{views_of}
+use Rattle.mq_findings.specs.Questions.{IsPoint}
+use Rattle.mq_findings.specs.declared.by_owner.ByOwner.{ByOwner}
+use Rattle.mq_lint.specs.Needless.{Differ, Meet, granted_access, same_row, without}
+
+-- ---- a question
+-- a row of the list says the same
+abbrev pub has_row : AclRow → List AclRow → Bool
+has_row row rows = list_any (λ r. same_row r row) rows
+
+-- the user name that is asked about is one that a row names, and the row is one of the list
+pub record CanAsk (asked : AskedRows) (clients : Clients) (row : AclRow) : Type 0 where
+  pub listed : name_passes (λ u. is_user_of u asked.rows) clients ≡ true
+  pub inside : has_row row asked.rows ≡ true
+
+-- of a client that is asked about, each first row concerns a topic and no other does
+pub record Finds (asked : AskedRows) (clients : Clients) (must cover : List AclRow) : Type 0 where
+  pub client : List ℕ
+  pub user : Option (List ℕ)
+  pub name : List ℕ
+  pub shown : IsShown asked clients must cover client user name
+
+-- ---- the other rows
+-- the rows for all clients and those for these alone, but for those that say the same as this one
+abbrev pub others_of : Clients → AclRow → List AclRow → List AclRow
+others_of clients row rows = without row (filter (λ r. is_everyones r.who) rows)
+    ++ without row (filter (λ r. is_own clients r.who) rows)
+
+-- it denies, or grants the direction
+abbrev pub judges : Direction → Access → Bool
+judges direction access = is_deny access || grants direction access
+
+-- the rows of the list that deny
+abbrev pub denies_in : List AclRow → List AclRow
+denies_in rows = filter (λ r. is_deny r.access) rows
+
+-- ---- what the list allows without the row
+-- some client may do something else
+abbrev pub IsNeeded : AskedRows → AclRow → Type 0
+IsNeeded asked row = Differ asked.rows (without row asked.rows)
+
+-- these clients may do the same, in this direction
+abbrev pub IsNeedlessIn : AskedRows → Clients → AclRow → Direction → Type 0
+IsNeedlessIn asked clients row direction = (client name : List ℕ) (user : Option (List ℕ))
+    → IsPoint asked clients client user name
+    → allowed (Some asked.rows) client user name direction
+    ≡ allowed (Some (without row asked.rows)) client user name direction
+
+-- these clients may do the same
+abbrev pub IsNeedlessTo : AskedRows → Clients → AclRow → Type 0
+IsNeedlessTo asked clients row = (direction : Direction) → IsNeedlessIn asked clients row direction
+
+-- none of these that grants concerns a topic that the row does and no row of the cover, for a client
+-- that is asked about
+abbrev pub NoneMeets : AskedRows → Clients → AclRow → (cover others : List AclRow) → Type 0
+NoneMeets asked clients row cover others =
+    All (λ r. is_deny r.access ≡ false → FindsNone asked clients (row ∷ (r ∷ [])) cover) others
+
+-- a row that grants concerns a topic that this one does
+pub record MeetsGrant (rows : List AclRow) (row : AclRow) : Type 0 where
+  pub other : AclRow
+  pub inside : Contains rows other
+  pub grants_it : is_deny other.access ≡ false
+  pub meets : Meet row other
+
+-- ---- the classes of a row
+-- each client that the row may concern is of one of these classes, and rows name their user names
+pub record AreClasses (asked : AskedRows) (who : Who) (classes : List Clients) : Type 0 where
+  pub covers : (user : Option (List ℕ)) → can_be_user user ≡ true → applies user who ≡ true
+      → list_any (λ c. is_client_of asked c user) classes ≡ true
+  pub listed : list_all (name_passes (λ u. is_user_of u asked.rows)) classes ≡ true
+
+-- ---- a list
+pub record IsLint (rows : List Row) (asked : AskedRows) (by_owner : ByOwner)
+    (classes : List Clients) : Type 0 where
+  pub rows_are : asked.rows ≡ row_views rows
+  pub classes_are : AreClasses asked Everyone classes
+  pub everyones_are : views_of (everyones by_owner) ≡ filter (λ r. is_everyones r.who) asked.rows
+  pub own_are : (clients : Clients) → views_of (own_rows clients by_owner)
+      ≡ filter (λ r. is_own clients r.who) asked.rows
+
+-- ---- a row that makes another needless
+-- taken for rows that grant, the other grants each direction that the row does
+abbrev pub grants_as_much : (row other : Access) → Direction → Bool
+grants_as_much row other direction =
+    not (grants direction (granted_access row)) || grants direction (granted_access other)
+
+abbrev pub covers_access : (row other : Access) → Bool
+covers_access row other = grants_as_much row other Reading && grants_as_much row other Writing
+
+-- the row that is to concern whatever the first does
+abbrev pub maker_cover : (row other : AclRow) → List AclRow
+maker_cover row other = if covers_access row.access other.access then other ∷ [] else []
+
+-- a row of these clients may concern those, if any are given
+abbrev pub may_be_for : Option Clients → Who → Bool
+may_be_for None who = true
+may_be_for (Some clients) who = is_for clients who

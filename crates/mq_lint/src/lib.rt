@@ -1,0 +1,19 @@
+//! What is said of the lines of one access list: what is odd, and which lines it doesn't need.
+#![tactic(auto)]
+
+mod blanks;
+mod case;
+mod fault;
+mod lint;
+mod linted;
+mod maker;
+mod needless_lines;
+mod question;
+mod remark;
+mod same;
+mod steps;
+
+pub use fault::NeedlessFault;
+pub use lint::remarks;
+pub use needless_lines::needless;
+pub use remark::{Remark, RemarkKind};

@@ -1,0 +1,102 @@
+//! What is odd about the lines of an access list.
+ghost use Rattle.std.specs.Prelude.{◌≡◌, ◌++◌, ◌∷◌, [], ◌&&◌, ◌||◌, List, IfOk, OnOk, not, codes};
+ghost use Rattle.std.specs.List.{list_any};
+ghost use Rattle.std.specs.Str.{bytes_eq};
+ghost use Rattle.mq_topic.specs.Levels.{levels};
+ghost use Rattle.mq_acl.specs.Lines.{lines, entry_of};
+ghost use Rattle.mq_acl.specs.Rows.{faults_of};
+ghost use Rattle.mq_acl.specs.Views.{row_view};
+ghost use Rattle.mq_lint.specs.Blanks.{is_indented_comment, is_tabbed};
+ghost use Rattle.mq_lint.specs.Remarks.{has_mark, is_unmarked, entry_kind, kind_if, remark_on};
+ghost use Rattle.mq_lint.specs.Remarks.{line_remarks, remarks_of, faults_told};
+
+use crate::blanks::{is_indented_comment, is_tabbed};
+use crate::remark::{Remark, RemarkKind};
+use mq_acl::{AclKind, Owner, Row, read_rows};
+use mq_topic::LevelText;
+use std::alloc::{AllocError, Global};
+
+// Whether `%c` or `%u` is a level of the topic.
+fn has_mark(topic: &str) -> bool
+    ensures { result ≡ has_mark topic.now }
+{
+    topic.split('/').any(|level| level == "%c" || level == "%u")
+}
+
+// Whether it is the row of a `pattern` line without a mark.
+fn is_unmarked(row: &Row) -> bool
+    ensures { result ≡ is_unmarked (row_view row.now) }
+{
+    matches!(row.owner, Owner::Everyone) && !has_mark(row.filter.text())
+}
+
+fn has_unmarked(rows: &[Row]) -> bool
+    ensures { result ≡ list_any (λ row. is_unmarked (row_view row)) rows.now }
+{
+    rows.iter().any(|row| is_unmarked(row))
+}
+
+fn kind_if(holds: bool, kind: RemarkKind) -> Option<RemarkKind>
+    ensures { result ≡ kind_if holds kind }
+{
+    holds.then_some(kind)
+}
+
+// What is odd about what the line says.
+fn entry_kind(alloc: Global, line: &str) -> Result<Option<RemarkKind>, AllocError>
+    requires { lines line.now ≡ line.now ∷ [] }
+    ensures { IfOk result (λ kind. kind ≡ entry_kind (entry_of line.now)) }
+{
+    match read_rows(alloc, line) {
+        Ok(rows) => Ok(kind_if(has_unmarked(&rows), RemarkKind::NoMark)),
+        Err(fault) => match fault.kind {
+            AclKind::Memory => Err(AllocError),
+            kind => Ok(Some(RemarkKind::Fault(kind))),
+        },
+    }
+}
+
+fn add(remarks: &mut Vec<Remark>, line: u64, kind: Option<RemarkKind>) -> Result<(), AllocError>
+    ensures { OnOk result (remarks.new.items ≡ remarks.old.items ++ remark_on line kind) }
+{
+    let Some(kind) = kind else {
+        return Ok(());
+    };
+    remarks.push(Remark { line, kind })?;
+    Ok(())
+}
+
+// Adds what is odd about the line.
+fn add_line(
+    alloc: Global,
+    remarks: &mut Vec<Remark>,
+    line: &str,
+    number: u64,
+) -> Result<(), AllocError>
+    requires { lines line.now ≡ line.now ∷ [] }
+    ensures { OnOk result (remarks.new.items ≡ remarks.old.items ++ line_remarks number line.now) }
+{
+    let bytes = line.as_bytes();
+    let entry = entry_kind(alloc, line)?;
+    let comment = kind_if(is_indented_comment(bytes), RemarkKind::IndentedComment);
+    let tab = kind_if(is_tabbed(bytes), RemarkKind::Tab);
+    add(remarks, number, entry)?;
+    add(remarks, number, comment)?;
+    add(remarks, number, tab)
+}
+
+/// What is odd about the lines of the access list with this text, in their order: each fault, and not the first alone;
+/// `pattern` lines without a mark; and what mosquitto 2.0 reads otherwise, or doesn't start with.
+pub fn remarks(alloc: Global, text: &str) -> Result<Vec<Remark>, AllocError>
+    ensures all { IfOk result (λ remarks. remarks.items ≡ remarks_of text.now) }
+    ensures faults { IfOk result (λ remarks. faults_told remarks.items
+        ≡ faults_of (lines text.now)) }
+{
+    let mut remarks = Vec::new(alloc);
+    let mut number = 0u64;
+    for line in text.split('\n') {
+        number += 1;
+        add_line(alloc, &mut remarks, line, number)?;
+    }
+    Ok(remarks)
+}

@@ -1,0 +1,92 @@
+//! What is asked about a row, for clients of one class.
+ghost use Rattle.std.specs.Prelude.{◌≡◌, ◌∷◌, [], IfOk, IfErr, true, false, All, Contains};
+ghost use Rattle.mq_acl.specs.Views.{row_view};
+ghost use Rattle.mq_witness.specs.Asked.{FindsNone};
+ghost use Rattle.mq_witness.specs.Rows.{lent_rows};
+ghost use Rattle.mq_lint.specs.Cases.{CanAsk, Finds};
+
+use crate::fault::NeedlessFault;
+use crate::steps::Steps;
+use mq_acl::Row;
+use mq_witness::{Asked, Clients};
+use std::alloc::Global;
+
+/// A row of a list, and clients of one class.
+#[derive(Clone, Copy, Drop)]
+pub(crate) struct Question<'q, 'a> {
+    pub asked: &'q Asked<'a>,
+    pub clients: Clients<'q>,
+    pub row: &'q Row,
+    /// Whether the steps are.
+    pub limited: bool,
+    ghost can_ask: { CanAsk asked.now clients (row_view row.now) },
+}
+
+impl<'q, 'a> Question<'q, 'a> {
+    ghost use Rattle.mq_lint.specs.NeedlessFault.{IsStop};
+
+    // Whether each of the first rows concerns a topic of these clients, and none of the others does.
+    fn meets(
+        &self,
+        alloc: Global,
+        steps: &mut Steps,
+        must: &[&Row],
+        cover: &[&Row],
+    ) -> Result<bool, NeedlessFault>
+        requires must { All (Contains self.now.asked.now.rows) (lent_rows must.now) }
+        requires cover { All (Contains self.now.asked.now.rows) (lent_rows cover.now) }
+        ensures found { IfOk result (λ met. met ≡ true → Finds self.now.asked.now
+            self.now.clients (lent_rows must.entry.now) (lent_rows cover.entry.now)) }
+        ensures none { IfOk result (λ met. met ≡ false → FindsNone self.now.asked.now
+            self.now.clients (lent_rows must.entry.now) (lent_rows cover.entry.now)) }
+        ensures fault { IfErr result (IsStop self.now.row.now.line self.now.limited) }
+    {
+        let others = (must.len() as u64).saturating_add(cover.len() as u64);
+        if !steps.spend(self.limited, others) {
+            return Err(NeedlessFault::GaveUp(self.row.line, others.saturating_sub(1)));
+        }
+        let found = self.asked.find(alloc, self.clients, must, cover)?;
+        if found.is_none() {
+            return Ok(false);
+        }
+        Ok(true)
+    }
+
+    /// Whether the row concerns a topic that none of these does.
+    pub(crate) fn stands_out(
+        &self,
+        alloc: Global,
+        steps: &mut Steps,
+        cover: &[&Row],
+    ) -> Result<bool, NeedlessFault>
+        requires { All (Contains self.now.asked.now.rows) (lent_rows cover.now) }
+        ensures found { IfOk result (λ met. met ≡ true → Finds self.now.asked.now
+            self.now.clients (row_view self.now.row.now ∷ []) (lent_rows cover.entry.now)) }
+        ensures none { IfOk result (λ met. met ≡ false → FindsNone self.now.asked.now
+            self.now.clients (row_view self.now.row.now ∷ []) (lent_rows cover.entry.now)) }
+        ensures fault { IfErr result (IsStop self.now.row.now.line self.now.limited) }
+    {
+        self.meets(alloc, steps, &[self.row], cover)
+    }
+
+    /// Whether the row and another concern a topic that none of these does.
+    pub(crate) fn stands_out_with(
+        &self,
+        alloc: Global,
+        steps: &mut Steps,
+        other: &Row,
+        cover: &[&Row],
+    ) -> Result<bool, NeedlessFault>
+        requires other { Contains self.now.asked.now.rows (row_view other.now) }
+        requires cover { All (Contains self.now.asked.now.rows) (lent_rows cover.now) }
+        ensures found { IfOk result (λ met. met ≡ true → Finds self.now.asked.now
+            self.now.clients (row_view self.now.row.now ∷ (row_view other.now ∷ []))
+            (lent_rows cover.entry.now)) }
+        ensures none { IfOk result (λ met. met ≡ false → FindsNone self.now.asked.now
+            self.now.clients (row_view self.now.row.now ∷ (row_view other.now ∷ []))
+            (lent_rows cover.entry.now)) }
+        ensures fault { IfErr result (IsStop self.now.row.now.line self.now.limited) }
+    {
+        self.meets(alloc, steps, &[self.row, other], cover)
+    }
+}
