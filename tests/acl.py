@@ -26,13 +26,15 @@ no user name; user plc; other users  may now read        mill/notes
 no user name                         may no longer read  mill/energy
     current.acl:4    topic read mill/energy/#
     proposed.acl     no line allows it
-user plc                             may now write       mill/x/x/state  x: any other level
+user plc                             may now write       mill/x/x/state  x: any other level \
+that doesn't begin with $
     current.acl      no line allows it
     proposed.acl:10  topic write mill/+/+/state
 3 differences
 """),
     (["compare", "current.acl", "current.acl"], 0,
-     "both lists allow the same to every client, user and topic\n"),
+     "both lists allow the same, on every topic, to every client id and user name a broker can "
+     "have\n"),
     (["why", "current.acl", "screen", "mill/energy/east"], 0, """\
 may read: current.acl:4  topic read mill/energy/#
 may not write: no line allows it
@@ -51,9 +53,10 @@ may not write: current.acl:13  topic deny mill/+/+/secret
 """),
     (["lint", "current.acl"], 0, ""),
     (["lint", "proposed.acl"], 1,
-     "proposed.acl:15: a pattern line without %c and %u is for all clients alike\n"),
+     "proposed.acl:15: a pattern line without %c and %u is for all clients alike\n"
+     "    pattern read mill/notes\n"),
     (["lint", "--json", "proposed.acl"], 1, """\
-{"file":"proposed.acl","kind":"no mark","line":15,"text":"pattern read mill/notes",\
+{"file":"proposed.acl","kind":"no mark","line":15,"other":null,"text":"pattern read mill/notes",\
 "words":"a pattern line without %c and %u is for all clients alike"}
 """),
     (["reach", "current.acl", "screen", "mill/+/east"], 0, "mill/energy/east\n"),
@@ -102,10 +105,15 @@ user
 """
 REMARKS = """\
 a.acl:1: "rw" is no access: read, write, readwrite or deny
+    topic rw a
 a.acl:2: a pattern line without %c and %u is for all clients alike
+    pattern read a
 a.acl:3: mosquitto 2.0 takes # for a comment in the first column alone
+    # indented
 a.acl:4: mosquitto 2.0 parts words at spaces alone, not at tabs
+    topic\tread b
 a.acl:5: the user name is missing
+    user
 """
 NEEDLESS = """\
 topic read a/#
@@ -143,7 +151,9 @@ MISUSED = [
     (["why", "current.acl", "c", "a/#"], '"a/#" is no topic name'),
     (["reach", "current.acl", "c", "a/#/b"], '"a/#/b" is no topic filter'),
     (["reach", "current.acl", "c", "$share/g"], '"$share/g" is no topic filter'),
-    (["reach", "current.acl", "c" * 301, "a"],
+    (["reach", "current.acl", "c" * 301, "mill/energy/#"],
+     "a client id, a user name or a level of more than 300 bytes"),
+    (["reach", "current.acl", "c", "mill/energy/" + "b" * 301],
      "a client id, a user name or a level of more than 300 bytes"),
     (["why", "nowhere.acl", "c", "a"], f"mqroute-acl: nowhere.acl: {NO_FILE}\n"),
     (["compare", "current.acl", "."], f"mqroute-acl: .: {A_FOLDER}\n"),
@@ -155,6 +165,9 @@ MISUSED = [
     (["compare", "-", "-"], TWICE),
     (["lint", "-", "current.acl", "-"], TWICE),
     (["reach", "-", "--script", "-"], TWICE),
+    (["compare", "--steps", "few", "current.acl", "proposed.acl"], "'few' for '--steps <N>'"),
+    (["lint", "--steps", "-1", "current.acl"], "'-1'"),
+    (["why", "--steps", "1", "current.acl", "c", "a"], "--steps"),
     (["reach", "current.acl"], "either CLIENT and FILTER, or --script SCRIPT"),
     (["reach", "current.acl", "c"], "either CLIENT and FILTER, or --script SCRIPT"),
     (["reach", "current.acl", "c", "a", "--script", "day.jsonl"],
@@ -205,7 +218,7 @@ def faults_of_several(folder):
     files = {"a.acl": REMARKED, "b.acl": "topic read a\n", "-": "topic\n"}
     for name in ("a.acl", "b.acl"):
         pathlib.Path(folder, name).write_text(files[name])
-    missing = "-:1: the topic is missing\n"
+    missing = "-:1: the topic is missing\n    topic\n"
     cases = [(["b.acl"], 0, ""), (["b.acl", "b.acl"], 0, ""),
              (["a.acl", "-"], 1, REMARKS + missing), (["-", "a.acl"], 1, missing + REMARKS),
              (["b.acl", "a.acl", "b.acl"], 1, REMARKS), (["a.acl", "b.acl"], 1, REMARKS)]
@@ -220,7 +233,8 @@ def faults_of_several(folder):
             yield f"lint {' '.join(names)}: status {done.returncode}:\n{done.stdout}{done.stderr}"
     pathlib.Path(folder, "-").write_text("\ntopic\n")
     done = run(["lint", "./-"], folder)
-    if (done.returncode, done.stdout, done.stderr) != (1, "./-:2: the topic is missing\n", ""):
+    wanted = "./-:2: the topic is missing\n    topic\n"
+    if (done.returncode, done.stdout, done.stderr) != (1, wanted, ""):
         yield f"lint ./-: status {done.returncode}:\n{done.stdout}{done.stderr}"
 
 
@@ -495,33 +509,75 @@ def is_reached(rows, client, user, text):
                for topics in (TOPICS, DEEP) for topic in topics)
 
 
+class Sessions:
+    """The sessions of clients, and each subscription with the user names of its session while that
+    keeps it."""
+
+    def __init__(self):
+        self.users, self.kept, self.connected, self.stays = {}, {}, set(), set()
+        self.subscriptions = []
+
+    def connect(self, client, user, resumes, stays):
+        self.disconnect(client)
+        if not resumes:
+            self.kept.pop(client, None)
+        self.users[client] = user
+        self.connected.add(client)
+        (self.stays.add if stays else self.stays.discard)(client)
+        for subscription in self.kept.setdefault(client, {}).values():
+            subscription[-1].append(user)
+
+    def disconnect(self, client):
+        if client in self.connected and client not in self.stays:
+            self.kept.pop(client, None)
+        self.connected.discard(client)
+
+    def subscribe(self, number, client, text):
+        if client in self.connected:
+            user = self.users[client]
+            self.kept[client][text] = (number, client, user, text, [user])
+            self.subscriptions.append(self.kept[client][text])
+
+    def unsubscribe(self, client, text):
+        if client in self.connected:
+            self.kept[client].pop(text, None)
+
+
 def random_script(chance):
-    """The lines of a script, its subscriptions, each with its line, client, user and
-    filter, and its faulty lines."""
-    lines, users, subscriptions, faulty = [], {}, [], []
-    for number in range(1, chance.randint(2, 14)):
+    """The lines of a script, its subscriptions, each with its line, client, user, filter and the
+    user names of its session, and its faulty lines."""
+    lines, sessions, faulty = [], Sessions(), []
+    for number in range(1, chance.randint(2, 18)):
         client, user = chance.choice(CLIENTS), chance.choice(USERS)
+        known = [each[3] for each in sessions.subscriptions if each[1] == client]
         kind = chance.random()
         if kind < 0.35:
-            users[client] = user
+            resumes, stays = chance.random() < 0.7, chance.random() < 0.7
+            sessions.connect(client, user, resumes, stays)
             lines.append(
-                {"do": "connect", "client": client} | ({} if user is None else {"user": user}))
-        elif kind < 0.45:
-            users.pop(client, None)
+                {"do": "connect", "client": client} | ({} if user is None else {"user": user})
+                | ({"clean": False} if resumes else {}) | ({"session_expiry": 9} if stays else {}))
+        elif kind < 0.42:
+            sessions.disconnect(client)
             lines.append({"do": "disconnect", "client": client})
+        elif kind < 0.47 and known:
+            text = chance.choice(known)
+            sessions.unsubscribe(client, text)
+            lines.append({"do": "unsubscribe", "client": client, "filter": text})
         elif kind < 0.8:
             text = chance.choice(["", "", "$share/g/"]) + random_filter(chance, False)
+            if known and chance.random() < 0.2:
+                text = chance.choice(known)
             lines.append({"do": "subscribe", "client": client, "filter": text})
-            if client in users:
-                subscriptions.append((number, client, users[client], text))
+            sessions.subscribe(number, client, text)
         elif kind < 0.9:
             lines.append(chance.choice([{"do": "acl", "text": "topic deny #"},
                                         {"do": "publish", "client": client, "topic": "a"}, ""]))
         else:
             lines.append(chance.choice(FAULTY_LINES))
             faulty.append(number)
-    return ([line if isinstance(line, str) else json.dumps(line) for line in lines], subscriptions,
-            faulty)
+    return ([line if isinstance(line, str) else json.dumps(line) for line in lines],
+            sessions.subscriptions, faulty)
 
 
 def no_command(name, script):
@@ -535,7 +591,8 @@ def faults_of_script(folder, chance, text):
     lines, subscriptions, faulty = random_script(chance)
     script = "\n".join(lines) + chance.choice(["", "\n", "\n\n"])
     pathlib.Path(folder, "s.jsonl").write_text(script)
-    vain = [each for each in subscriptions if not is_reached(rows, *each[1:])]
+    vain = [(number, client, user, text) for number, client, user, text, users in subscriptions
+            if not any(is_reached(rows, client, name, text) for name in users)]
     done = run(["reach", "--json", "old.acl", "--script", "s.jsonl"], folder)
     if all(line in ("", *FAULTY_LINES) for line in lines):
         if (done.returncode, done.stdout, done.stderr) != (2, "", no_command("s.jsonl", script)):
@@ -555,7 +612,8 @@ def faults_of_script(folder, chance, text):
 def faults_of_odd_scripts(folder):
     """Lines that a broker refuses, that are no commands or too long, and a script
     without a last line feed."""
-    pathlib.Path(folder, "a.acl").write_text("topic read a\ntopic read b/" + "c" * 300 + "\n")
+    pathlib.Path(folder, "a.acl").write_text(
+        "topic read a\ntopic read b/" + "c" * 300 + "\ntopic read d/+\n")
     cases = [
         (ODD_SCRIPT, 0, "0 of 3 subscriptions in vain\n", ""),
         ('{"do":"stat"}', 0, "0 of 0 subscriptions in vain\n", ""),
@@ -572,9 +630,13 @@ def faults_of_odd_scripts(folder):
         (" " * 1_048_576
          + '\n{"do":"connect","client":"c"}\n{"do":"subscribe","client":"c","filter":"a"}\nx', 0,
          "s.jsonl:4 is no command\n0 of 1 subscriptions in vain\n", ""),
-        ('{"do":"connect","client":"c"}\n{"do":"subscribe","client":"c","filter":"' + "b" * 301
+        ('{"do":"connect","client":"c"}\n{"do":"subscribe","client":"c","filter":"d/' + "b" * 301
          + '"}', 2, "",
          "s.jsonl:2: a client id, a user name or a level of more than 300 bytes\n"),
+        # of what no line can grant it is known all the same
+        ('{"do":"connect","client":"c"}\n{"do":"subscribe","client":"c","filter":"' + "b" * 301
+         + '"}', 1,
+         "s.jsonl:2  c  no user name  " + "b" * 301 + "\n1 of 1 subscriptions in vain\n", ""),
     ]
     for script, status, told, failed in cases:
         pathlib.Path(folder, "s.jsonl").write_text(script, encoding="utf-8")
@@ -601,18 +663,40 @@ def faults_of_logs(folder):
 
 
 def faults_of_needless(folder, lines):
-    """Without a line that is told as needless a list allows the same."""
+    """Lines that repeat others are listed, and no others as such. What a line denies that is listed
+    as denying nothing, no line grants. Without a line that is listed as needless, and those that
+    repeat it, a list allows the same."""
     done = run(["lint", "--json", "old.acl"], folder)
     told = [json.loads(line) for line in done.stdout.splitlines()]
-    if (done.returncode != (1 if told else 0)
-            or any(each["kind"] not in ("needless", "no mark") for each in told)):
+    counted = [each for each in told if each["kind"] not in ("denies nothing", "empty")]
+    if (done.returncode != (1 if counted else 0)
+            or any(each["kind"] not in ("needless", "repeats", "no mark") for each in counted)):
         yield f"lint: status {done.returncode}: {done.stdout}{done.stderr}"
     rows = rows_of("\n".join(lines))
-    for number in (each["line"] for each in told if each["kind"] == "needless"):
-        others = [row for row in rows if row[0] != number]
+    if [each for each in told if each["kind"] == "empty"] and rows:
+        yield f"lint: {lines} allow something"
+    of_kind = {kind: {each["line"]: each["other"] for each in told if each["kind"] == kind}
+               for kind in ("needless", "repeats", "denies nothing")}
+    repeats = {}
+    for place, row in enumerate(rows):
+        first = next((other[0] for other in rows[:place] if other[1:] == row[1:]), None)
+        if first is not None:
+            repeats[row[0]] = first
+    if of_kind["repeats"] != repeats:
+        yield f"lint: {of_kind['repeats']}, not {repeats}"
+    for row in rows:
+        others = [other for other in rows if other[1:] != row[1:]]
+        grants = [other for other in others if other[3] != "deny"]
         for user, client, topic in itertools.product(USERS, CLIENTS, TOPICS):
-            if accesses(rows, client, user, topic) != accesses(others, client, user, topic):
-                yield f"lint: line {number} isn't needless: {user} {topic} as {client}"
+            levels = topic.split("/")
+            if (row[0] in of_kind["denies nothing"] and covers(row, client, user, levels)
+                    and any(covers(other, client, user, levels) for other in grants)):
+                yield f"lint: line {row[0]} denies {user} {topic} as {client}"
+                break
+            if (row[0] in of_kind["needless"]
+                    and accesses(rows, client, user, topic)
+                    != accesses(others, client, user, topic)):
+                yield f"lint: line {row[0]} isn't needless: {user} {topic} as {client}"
                 break
 
 

@@ -1,6 +1,7 @@
--- A command that its subcommands are added to.
+-- What the words of a command line ask for.
 use Rattle.std.proofs.Common.{◌≡◌, ◌∙◌, ◌+◌, ◌<◌, ◌≤◌, ℕ, List, ap, drop, false}
-use Rattle.std.proofs.Common.{get_or, inl, length, map, sym}
+use Rattle.std.proofs.Common.{Option, Some, None, get_or, inl, length, map, refl, sym}
+use Rattle.std.specs.Prelude.{unwrap_or}
 use Rattle.std.proofs.lemmas.List.{at_drop_more, drop_all}
 use Rattle.clap.specs.Words.{App, AddsSubcommand, Kinds, Text, app_of, with_subcommand}
 use Rattle.clap.specs.declared.builder.command.Command.{Command}
@@ -8,7 +9,7 @@ use Rattle.clap.specs.declared.builder.command.Command.TheViews.{out-Command as 
 use Rattle.mq_args.specs.Usage as usage
 use Rattle.mq_args.specs.declared.usage.UsageFault.{UsageFault}
 use Rattle.mq_args.specs.declared.usage.UsageFault.TheVariants.{Help, Usage, Memory}
-use Rattle.mq_acl_cli.specs.CommandLine.{IsFaultOf, app_for, with_apps}
+use Rattle.mq_acl_cli.specs.CommandLine.{IsFaultOf, app_for, steps_or_usual, usual_steps, with_apps}
 use Rattle.mq_acl_cli.specs.declared.command_line.Subcommand.{Subcommand}
 
 -- a command with one more subcommand, which has no argument for subcommands too: those that are
@@ -37,3 +38,9 @@ pub of_usage : (words : List Text) (kinds : Kinds) (fault : UsageFault) → usag
 of_usage words kinds (Help text) h = h
 of_usage words kinds (Usage text) h = inl h
 of_usage words kinds Memory h = h
+
+-- the usual number of steps where none is given
+pub steps-unless : (o : Option ℕ) → unwrap_or o 20000000 ≡ steps_or_usual o
+unfolding usual_steps
+steps-unless None = refl
+steps-unless (Some n) = refl

@@ -7,7 +7,7 @@ use Rattle.mq_topic.specs.Texts.{filter_part, is_name}
 use Rattle.mq_acl.specs.Rows.{AclRow}
 use Rattle.mq_acl.specs.Views.{row_views}
 use Rattle.mq_acl.specs.declared.row.Row.{Row}
-use Rattle.mq_questions.specs.Reach.{Reads, ReadsNone}
+use Rattle.mq_reach.specs.Reach.{Reads, ReadsNone}
 use Rattle.mq_acl_cli.specs.Answers.{AreRows, IsReach, IsReached}
 use Rattle.mq_acl_cli.specs.declared.outcome.Outcome.{Outcome}
 use Rattle.mq_acl_cli.specs.declared.outcome.Outcome.TheVariants.{Clear, Remark}

@@ -6,8 +6,9 @@ use Rattle.std.specs.Io.KnownBytes.{Consumes, IsAtEnd}
 use Rattle.mq_acl.specs.Views.{row_views}
 use Rattle.mq_acl.specs.declared.row.Row.{Row}
 use Rattle.mq_jsonl.specs.Lines.{all_lines}
-use Rattle.mq_reach.specs.Search.{AreCounted, IsFound, subscription_views}
+use Rattle.mq_reach.specs.Search.{AreCounted, IsFound}
 use Rattle.mq_reach.specs.Subscriptions.{commands_of}
+use Rattle.mq_reach.specs.Tracked.{subscription_views}
 use Rattle.mq_reach.specs.declared.search.Findings.{Findings}
 use Rattle.mq_reach.specs.declared.subscription.Subscription.{Subscription}
 use Rattle.mq_acl_cli.specs.Answers.{AreRows}

@@ -1,24 +1,21 @@
 -- What is true of the lists that are asked about.
 use Rattle.std.specs.Prelude.{◌≡◌, ℕ, List, [], All, IsTrue, true, false, Option, Some, None, Ok}
-use Rattle.std.specs.Prelude.{slice_get}
+use Rattle.std.specs.Option.{option_map}
 use Rattle.mq_topic.specs.Levels.{levels}
 use Rattle.mq_topic.specs.Matching.{matches}
 use Rattle.mq_topic.specs.Texts.{filter_part, is_name}
 use Rattle.mq_acl.specs.Access.{allowed}
 use Rattle.mq_acl.specs.Rows.{AclRow, rows_of, row_lines}
 use Rattle.mq_acl.specs.Views.{row_views, line_views}
-use Rattle.mq_acl.specs.declared.access.Direction.{Direction}
 use Rattle.mq_acl.specs.declared.access.Direction.TheVariants.{Reading, Writing}
 use Rattle.mq_acl.specs.declared.row.Row.{Row}
-use Rattle.mq_report.specs.Reasons.{is_grant, reason_of}
-use Rattle.mq_report.specs.Differences.{IsReal, Tells}
-use Rattle.mq_report.specs.declared.difference.Difference.{Difference}
-use Rattle.mq_questions.specs.Differ.{AllowSame, Differ}
-use Rattle.mq_questions.specs.declared.way.Way.{Way}
-use Rattle.mq_acl_cli.specs.declared.changes.Changes.{Changes}
+use Rattle.mq_findings.specs.Reasons.{first_grant, is_grant, reason_of}
+use Rattle.mq_findings.specs.Differences.{TellsAll, IsReal, AreApart, AreMarked}
+use Rattle.mq_lint.specs.Needless.{AllowSame, Differ}
+use Rattle.mq_acl_cli.specs.declared.commands.compare.Changes.{Changes}
 use Rattle.mq_acl_cli.specs.declared.outcome.Outcome.{Outcome}
 use Rattle.mq_acl_cli.specs.declared.outcome.Outcome.TheVariants.{Clear, Remark}
-use Rattle.mq_acl_cli.specs.declared.explanation.Explanation.{Explanation}
+use Rattle.mq_acl_cli.specs.declared.commands.why.Explanation.{Explanation}
 
 -- the rows are those of the text, each with the number of its line
 pub record AreRows (text : List ℕ) (rows : List Row) : Type 0 where
@@ -32,32 +29,29 @@ pub record Explains (text client : List ℕ) (user : Option (List ℕ)) (topic :
   pub are_rows : AreRows text rows
   pub reading : e.reading.reason ≡ reason_of rows client user topic Reading
   pub writing : e.writing.reason ≡ reason_of rows client user topic Writing
+  pub reading_grant : e.reading.grant
+      ≡ option_map (λ row. row.line) (first_grant rows client user topic Reading)
+  pub writing_grant : e.writing.grant
+      ≡ option_map (λ row. row.line) (first_grant rows client user topic Writing)
   pub may_read : is_grant e.reading.reason ≡ allowed (Some (row_views rows)) client user topic
       Reading
   pub may_write : is_grant e.writing.reason
       ≡ allowed (Some (row_views rows)) client user topic Writing
 
--- every client may read and write the same topics by both, whatever its user name
-abbrev pub AllowAllSame : List AclRow → List AclRow → Type 0
-AllowAllSame old new = (user : Option (List ℕ)) → AllowSame old new user
-
--- the lists with these texts differ so, and not otherwise
+-- the lists with these texts differ so, and not otherwise: all that changes for a client that a broker
+-- can have is told, and once
 pub record AreChanges (old new : List ℕ) (c : Changes) : Type 0 where
   pub old_rows : AreRows old c.old.items
   pub new_rows : AreRows new c.new.items
-  pub told : (way : Way) (direction : Direction) (user : Option (List ℕ))
-      → Tells (row_views c.old.items) (row_views c.new.items) way direction user c.differences.items
+  pub every : TellsAll c.old.items c.new.items c.differences.items
   pub real : All (IsReal c.old.items c.new.items) c.differences.items
-  pub same : c.differences.items ≡ [] → AllowAllSame (row_views c.old.items) (row_views c.new.items)
+  pub once : AreApart c.differences.items
+  pub marked : AreMarked c.old.items c.new.items c.differences.items
+  pub same : c.differences.items ≡ [] → AllowSame (row_views c.old.items) (row_views c.new.items)
 
--- there is a first difference, and its topic is valid
-abbrev pub HasDifference : List Difference → Type 0
-HasDifference all = (first : Difference) × (slice_get all 0 ≡ Some first)
-    × IsTrue (is_name first.topic)
-
--- whether the rows allow the same is told
+-- whether the rows allow the same to the clients that a broker can have is told
 abbrev pub TellsWhetherSame : List AclRow → List AclRow → Outcome → Type 0
-TellsWhetherSame old new Clear = AllowAllSame old new
+TellsWhetherSame old new Clear = AllowSame old new
 TellsWhetherSame old new Remark = Differ old new
 
 -- and so is it of the lists with these texts

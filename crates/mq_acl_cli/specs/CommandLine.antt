@@ -1,14 +1,17 @@
 -- The command line of the program, in the words of `clap`.
 use Rattle.std.specs.Prelude.{◌≡◌, ◌≢◌, ◌⊎◌, ◌≤◌, ◌<◌, true, false, if◌then◌else◌, List, [], ◌∷◌}
 use Rattle.std.specs.Prelude.{Option, Some, None, option_and_then, option_map, codes, map, ⊤}
+use Rattle.std.specs.Prelude.{ℕ}
 use Rattle.std.specs.Option.{option_copied}
 use Rattle.std.specs.Str.{bytes_eq}
 use Rattle.clap.specs.Words.{App, Row, Rule, Text, Kinds, IsAmong, new_app, with_subcommand}
 use Rattle.clap.specs.Words.{all_of, first_of, one_of, subcommand_of}
 use Rattle.clap.specs.declared.error.ErrorKind.{ErrorKind}
 use Rattle.clap.specs.declared.error.ErrorKind.TheVariants.{DisplayHelp}
-use Rattle.mq_args.specs.Arguments.{flag, option, optional_argument, required_argument}
+use Rattle.mq_args.specs.Arguments.{flag, number_option, option, optional_argument}
+use Rattle.mq_args.specs.Arguments.{required_argument}
 use Rattle.mq_args.specs.Arguments.{several_arguments, rule_for, with_rules}
+use Rattle.mq_args.specs.Numbers.{number_in}
 use Rattle.mq_args.specs.declared.usage.UsageFault.{UsageFault}
 use Rattle.mq_args.specs.declared.usage.UsageFault.TheVariants.{Help, Usage, Memory}
 use Rattle.mq_acl_cli.specs.Files.{input_count}
@@ -31,6 +34,10 @@ with_apps a (s ∷ rest) = with_apps (with_subcommand a s.top) rest
 abbrev pub json_flag : Rule
 json_flag = flag (codes "json")
 
+-- `--steps N`
+abbrev pub steps_option : Rule
+steps_option = number_option (codes "steps")
+
 -- `--user NAME`
 abbrev pub user_option : Rule
 user_option = option (codes "user")
@@ -39,11 +46,12 @@ user_option = option (codes "user")
 abbrev pub script_option : Rule
 script_option = option (codes "script")
 
--- `compare OLD NEW [--json]`
+-- `compare OLD NEW [--steps N] [--json]`
 abbrev pub compare : App
 compare =
     with_rules (new_app (codes "compare"))
-    (required_argument (codes "OLD") ∷ json_flag ∷ required_argument (codes "NEW") ∷ [])
+    (required_argument (codes "OLD") ∷ json_flag ∷ required_argument (codes "NEW")
+    ∷ steps_option ∷ [])
 
 -- `why FILE CLIENT TOPIC [--user NAME] [--json]`
 abbrev pub why : App
@@ -52,9 +60,11 @@ why =
     (required_argument (codes "FILE") ∷ json_flag ∷ required_argument (codes "CLIENT") ∷ required_argument (codes "TOPIC")
     ∷ user_option ∷ [])
 
--- `lint FILE.. [--json]`
+-- `lint FILE.. [--steps N] [--json]`
 abbrev pub lint : App
-lint = with_rules (new_app (codes "lint")) (several_arguments (codes "FILE") ∷ json_flag ∷ [])
+lint =
+    with_rules (new_app (codes "lint"))
+    (several_arguments (codes "FILE") ∷ json_flag ∷ steps_option ∷ [])
 
 -- `reach FILE [CLIENT] [FILTER] [--user NAME] [--script SCRIPT] [--json]`
 abbrev pub reach : App
@@ -151,6 +161,18 @@ abbrev pub values_of : Option (Text × List Row) → List Row
 values_of None = []
 values_of (Some met) = met.1
 
+-- how many steps may be taken where nothing is said of them
+unfoldable pub usual_steps : ℕ
+usual_steps = 20000000
+
+abbrev pub steps_or_usual : Option ℕ → ℕ
+steps_or_usual (Some steps) = steps
+steps_or_usual None = usual_steps
+
+-- how many steps may be taken by these values
+abbrev pub steps_given : List Row → ℕ
+steps_given rows = steps_or_usual (option_and_then number_in (one_of (codes "steps") rows))
+
 -- the request is what a subcommand with its values asks
 pub record IsAskedBy (subcommand : Option (Text × List Row)) (request : Request) : Type 0 where
   pub question : asked_by subcommand ≡ Some (question_view request.question)
@@ -158,6 +180,7 @@ pub record IsAskedBy (subcommand : Option (Text × List Row)) (request : Request
       → request.json ≡ true
   pub no_json : one_of (codes "json") (values_of subcommand) ≡ Some (codes "false")
       → request.json ≡ false
+  pub steps : request.steps ≡ steps_given (values_of subcommand)
 
 -- the request is what a subcommand with its values asks, and where there is none it asks nothing
 abbrev pub GivesAsked : Option (Text × List Row) → Option Request → Type 0

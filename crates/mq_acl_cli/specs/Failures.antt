@@ -1,15 +1,18 @@
 -- Why nothing is answered about lists.
-use Rattle.std.specs.Prelude.{◌≡◌, ◌⊎◌, ◌<◌, ℕ, List, [], false, true, length, ⊤, Option, Some}
-use Rattle.std.specs.Prelude.{Err, IfSome}
+use Rattle.std.specs.Prelude.{◌≡◌, ◌⊎◌, ◌<◌, ◌+◌, ℕ, List, [], false, true, length, ⊤, Option, Some}
+use Rattle.std.specs.Prelude.{Contains, Err, IfSome}
 use Rattle.std.specs.Io.KnownBytes.{Consumes, IsAtEnd}
 use Rattle.mq_topic.specs.Texts.{filter_part, is_name, is_subscription}
 use Rattle.mq_acl.specs.Rows.{rows_of}
+use Rattle.mq_acl.specs.Views.{line_views}
 use Rattle.mq_acl.specs.declared.fault.AclFault.{AclFault}
 use Rattle.mq_acl.specs.declared.row.Row.{Row}
 use Rattle.mq_acl_print.specs.declared.list.ListText.{ListText}
-use Rattle.mq_questions.specs.Limits.{has_short_levels, is_short, is_short_user, long_line}
+use Rattle.mq_findings.specs.Steps.{enough_steps}
+use Rattle.mq_witness.specs.Limits.{has_short_levels, is_short, long_line}
 use Rattle.mq_jsonl.specs.Lines.{all_lines}
 use Rattle.mq_reach.specs.Faults.{has_long_at}
+use Rattle.mq_reach.specs.Reach.{is_short_user}
 use Rattle.mq_reach.specs.Script.{script_limit}
 use Rattle.mq_reach.specs.Subscriptions.{commands_of, subscriptions}
 use Rattle.mq_acl_cli.specs.Answers.{AreRows}
@@ -32,6 +35,34 @@ IsListFailure list (failure.Long file line) =
     (file.now ≡ list.file.now) × IsLongLine list.text.now line
 IsListFailure list failure.Memory = ⊤
 IsListFailure list other = ⊥
+
+-- it is the line of a row of the list in this file
+abbrev pub IsRowLine : ListText → List Row → (file : List ℕ) → (line : ℕ) → Type 0
+IsRowLine list rows file line = (file ≡ list.file.now) × Contains (line_views rows) line
+
+-- so many steps didn't suffice to know whether a row of the list is needed; more are enough
+abbrev pub IsGivenUp : ListText → (steps : ℕ) → Failure → Type 0
+IsGivenUp list steps (failure.GaveUp file line others) = (rows : List Row)
+    × AreRows list.text.now rows × IsRowLine list rows file.now line
+    × (steps < enough_steps (length rows))
+IsGivenUp list steps other = ⊥
+
+-- what is told of a list that is linted is so
+abbrev pub IsLintFailure : ListText → (steps : ℕ) → Failure → Type 0
+IsLintFailure list steps failure = IsListFailure list failure ⊎ IsGivenUp list steps failure
+
+-- so many steps didn't suffice to know what a row of one of the lists changes; more are enough
+abbrev pub IsGivenUpOfTwo : (old new : ListText) → (steps : ℕ) → Failure → Type 0
+IsGivenUpOfTwo old new steps (failure.GaveUp file line others) = (old_rows new_rows : List Row)
+    × AreRows old.text.now old_rows × AreRows new.text.now new_rows
+    × (IsRowLine old old_rows file.now line ⊎ IsRowLine new new_rows file.now line)
+    × (steps < enough_steps (length old_rows + length new_rows))
+IsGivenUpOfTwo old new steps other = ⊥
+
+-- what is told of lists that are compared is so
+abbrev pub IsComparisonFailure : (old new : ListText) → (steps : ℕ) → Failure → Type 0
+IsComparisonFailure old new steps failure =
+    IsListFailure old failure ⊎ IsListFailure new failure ⊎ IsGivenUpOfTwo old new steps failure
 
 -- what is to be a topic is none
 abbrev pub IsTopicFailure : (topic : List ℕ) → Failure → Type 0

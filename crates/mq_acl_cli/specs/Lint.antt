@@ -1,44 +1,74 @@
 -- What is odd or needless in a list.
-use Rattle.std.specs.Prelude.{◌≡◌, ◌≢◌, ◌⊎◌, ◌<◌, ℕ, List, [], length, All, Any, Option}
-use Rattle.mq_acl.specs.Views.{row_views}
+use Rattle.std.specs.Prelude.{◌≡◌, ◌≢◌, ◌⊎◌, ◌<◌, ℕ, Bool, true, false, List, [], length, All, Any}
+use Rattle.std.specs.Prelude.{Option, Some, None, Ok, slice_index_or}
+use Rattle.std.specs.List.{list_any}
+use Rattle.mq_acl.specs.Rows.{rows_of}
 use Rattle.mq_acl.specs.declared.row.Row.{Row}
-use Rattle.mq_questions.specs.Differ.{Differ, without}
-use Rattle.mq_report.specs.Needless.{AreRest, IsNeedlessLine}
-use Rattle.mq_report.specs.Remarks.{remarks_of}
-use Rattle.mq_report.specs.declared.remark.Remark.{Remark}
+use Rattle.mq_lint.specs.Needless.{AreNeedless, IsKind}
+use Rattle.mq_lint.specs.Remarks.{remarks_of}
+use Rattle.mq_lint.specs.declared.remark.Remark.{Remark}
+use Rattle.mq_lint.specs.declared.remark.RemarkKind.{RemarkKind}
+use Rattle.mq_lint.specs.declared.remark.RemarkKind.TheVariants.{Fault, DeniesNothing}
 use Rattle.mq_acl_cli.specs.Answers.{AreRows}
 use Rattle.mq_acl_cli.specs.Files.{IsTextOf}
 use Rattle.mq_acl_cli.specs.declared.outcome.Outcome.{Outcome}
 use Rattle.mq_acl_cli.specs.declared.outcome.Outcome.TheVariants.{Clear, Remark as Told}
-use Rattle.mq_acl_cli.specs.declared.remarks.Remarks.{Remarks}
+use Rattle.mq_acl_cli.specs.declared.commands.lint.Remarks.{Remarks}
 
--- these are the needless lines of the text
+abbrev pub is_fault : RemarkKind → Bool
+is_fault (Fault kind) = true
+is_fault kind = false
+
+-- the remark says more than that a line denies nothing: such a line may guard
+abbrev pub matters : RemarkKind → Bool
+matters DeniesNothing = false
+matters kind = true
+
+abbrev pub has_fault : List Remark → Bool
+has_fault all = list_any (λ remark. is_fault remark.kind) all
+
+abbrev pub has_needless : List Remark → Bool
+has_needless all = list_any (λ remark. matters remark.kind) all
+
+-- these are the lines of the text that repeat another, deny nothing or are needless
 pub record IsNeedlessIn (text : List ℕ) (told : List Remark) : Type 0 where
   pub rows : List Row
   pub are_rows : AreRows text rows
-  pub each : All (IsNeedlessLine rows) told
-  pub rest : AreRest rows (length rows) told
+  pub told_of : AreNeedless rows told
 
--- these are the remarks on the text; needless lines are told of one without faults
+-- these are the remarks on the text; needless lines are told of one without faults, and whether it has
+-- no rows
 pub record AreRemarks (text : List ℕ) (r : Remarks) : Type 0 where
   pub odd : r.odd.items ≡ remarks_of text
-  pub some : (r.needless.items ≡ []) ⊎ IsNeedlessIn text r.needless.items
-  pub all : r.odd.items ≡ [] → IsNeedlessIn text r.needless.items
+  pub none : has_fault r.odd.items ≡ true → r.needless.items ≡ []
+  pub all : has_fault r.odd.items ≡ false → IsNeedlessIn text r.needless.items
+  pub empty : r.is_empty ≡ true → rows_of text ≡ Ok []
+  pub full : has_fault r.odd.items ≡ false → r.is_empty ≡ false → rows_of text ≢ Ok []
 
--- nothing is odd about the lines of the text, they have no fault, and none is needless
+-- the row at the place is needed, or it denies, and nothing that a row grants
+abbrev pub IsRight : List Row → ℕ → Row → Type 0
+IsRight rows place row = IsKind rows place row None ⊎ IsKind rows place row (Some DeniesNothing)
+
+-- nothing is odd about the lines of the text, they have no fault, and each row is needed, or it denies
+-- nothing
 pub record IsClean (text : List ℕ) : Type 0 where
   pub even : remarks_of text ≡ []
   pub rows : List Row
   pub are_rows : AreRows text rows
-  pub needed : (place : ℕ) → Row → place < length rows
-      → Differ (row_views rows) (without place (row_views rows))
+  pub right : (place : ℕ) (d : Row) → place < length rows
+      → IsRight rows place (slice_index_or rows place d)
 
--- some line of the text is needless
+-- some line of the text repeats another, or is needless
 pub record HasNeedless (text : List ℕ) : Type 0 where
   pub rows : List Row
   pub are_rows : AreRows text rows
-  pub remark : Remark
-  pub needless : IsNeedlessLine rows remark
+  pub place : ℕ
+  pub row : Row
+  pub kind : RemarkKind
+  pub in_range : place < length rows
+  pub is : row ≡ slice_index_or rows place row
+  pub told : IsKind rows place row (Some kind)
+  pub counts : matters kind ≡ true
 
 -- whether something is odd, faulty or needless is told
 abbrev pub IsLinted : List ℕ → Outcome → Type 0

@@ -23,6 +23,7 @@ failure_status (failure.Utf8 file line) = 2
 failure_status (failure.Line file line words) = 2
 failure_status (failure.Long file line) = 2
 failure_status failure.LongWord = 2
+failure_status (failure.GaveUp file line others) = 2
 failure_status (failure.Topic text) = 2
 failure_status (failure.Filter text) = 2
 failure_status (failure.LongScript file) = 2

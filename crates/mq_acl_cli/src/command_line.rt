@@ -12,7 +12,7 @@ ghost use Rattle.mq_acl_cli.specs.CommandLine.{IsFaultOf};
 use crate::help::{
     ABOUT, AFTER_HELP, CLIENT_HELP, COMPARE_ABOUT, COMPARE_AFTER_HELP, FILE_HELP, FILES_HELP,
     FILTER_HELP, JSON_HELP, LINT_ABOUT, LINT_AFTER_HELP, NEW_HELP, OLD_HELP, REACH_ABOUT,
-    REACH_AFTER_HELP, SCRIPT_HELP, SUBSCRIBER_HELP, TOPIC_HELP, USER_HELP, WHY_ABOUT,
+    REACH_AFTER_HELP, SCRIPT_HELP, STEPS_HELP, SUBSCRIBER_HELP, TOPIC_HELP, USER_HELP, WHY_ABOUT,
     WHY_AFTER_HELP,
 };
 use crate::request::{Request, request_in};
@@ -53,7 +53,7 @@ impl<'a> Subcommand<'a> {
     }
 }
 
-// `compare OLD NEW [--json]`
+// `compare OLD NEW [--steps N] [--json]`
 const COMPARE: Subcommand<'static> = Subcommand {
     name: "compare",
     about: COMPARE_ABOUT,
@@ -62,6 +62,7 @@ const COMPARE: Subcommand<'static> = Subcommand {
         Argument("OLD", ArgumentKind::Required, OLD_HELP),
         Argument("json", ArgumentKind::Flag, JSON_HELP),
         Argument("NEW", ArgumentKind::Required, NEW_HELP),
+        Argument("steps", ArgumentKind::Number, STEPS_HELP),
     ],
 };
 
@@ -79,7 +80,7 @@ const WHY: Subcommand<'static> = Subcommand {
     ],
 };
 
-// `lint FILE.. [--json]`
+// `lint FILE.. [--steps N] [--json]`
 const LINT: Subcommand<'static> = Subcommand {
     name: "lint",
     about: LINT_ABOUT,
@@ -87,6 +88,7 @@ const LINT: Subcommand<'static> = Subcommand {
     arguments: &[
         Argument("FILE", ArgumentKind::Several, FILES_HELP),
         Argument("json", ArgumentKind::Flag, JSON_HELP),
+        Argument("steps", ArgumentKind::Number, STEPS_HELP),
     ],
 };
 

@@ -43,6 +43,13 @@ pub enum Failure<'a> {
     /// The client id, the user name or a level of the filter has over 300 bytes.
     #[error("mqroute-acl: a client id, a user name or a level of more than 300 bytes")]
     LongWord,
+    /// The steps don't suffice: so many rows have to be seen together with the one on this line.
+    #[error("mqroute-acl: {file}: gave up: line {line} and {others} others overlap in too many ways")]
+    GaveUp {
+        file: &'a str,
+        line: u64,
+        others: u64,
+    },
     /// What is to be a topic is no topic name.
     #[error("mqroute-acl: {0:?} is no topic name")]
     Topic(&'a str),

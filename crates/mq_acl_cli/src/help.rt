@@ -5,15 +5,16 @@ pub(crate) const ABOUT: &str =
 
 pub(crate) const AFTER_HELP: &str = "\
 An access list is a file in the form of mosquitto.conf(5)'s acl_file. What is
-answered holds for every client id, every user name or none, and every topic.
-A file - is standard input.
+answered holds for every client id that a broker can have, every user name that
+it can have or none, and every topic. A file - is standard input.
 
 Exit status:
-  0  both lists allow the same, no line is remarked on, each subscription can
-     be sent a topic, or why was answered
+  0  both lists allow the same, no line is remarked on other than lines that
+     deny nothing, each subscription can be sent a topic, or why was answered
   1  the lists differ, a line is remarked on, or a subscription is in vain
   2  the arguments aren't understood, an access list can't be opened, read or
-     understood, or a script can't be opened or read or has no command
+     understood, a script can't be opened or read or has no command, or the
+     steps don't suffice
   3  a write failed, or memory ran out
 
 Example:
@@ -35,14 +36,21 @@ pub(crate) const FILTER_HELP: &str = "The topic filter of the subscription; $sha
 
 pub(crate) const USER_HELP: &str = "The user name of the client (none)";
 
+pub(crate) const STEPS_HELP: &str = "Give up after so many steps (20,000,000: some ten seconds)";
+
 pub(crate) const JSON_HELP: &str = "Write JSON, one object a line";
 
-pub(crate) const COMPARE_ABOUT: &str = "Tells what one list allows and the other doesn't";
+pub(crate) const COMPARE_ABOUT: &str = "Shows what one list allows and the other doesn't";
 
 pub(crate) const COMPARE_AFTER_HELP: &str = "\
-Each difference is told with a topic, and with the line of each list that
-decides it. A level, a client id or a user name that no line names stands for
-any other.
+Each difference is shown with a topic, and with the line of each list that
+decides it. All are listed: for the clients without a user name, for those of
+each user name that has lines of its own, and for all others, each pair of
+lines that decides. A level, a client id or a user name that no line names
+stands for any other of its kind that no line names.
+
+Long lists that overlap in many ways can take long. A step is a line that is
+looked at for one question. When the steps are spent nothing is answered.
 
 With --json each difference is an object with
   access    read or write
@@ -55,25 +63,34 @@ With --json each difference is an object with
             no line allows it";
 
 pub(crate) const WHY_ABOUT: &str =
-    "Tells whether a client may read and write a topic, and by which line";
+    "Shows whether a client may read and write a topic, and by which line";
 
 pub(crate) const WHY_AFTER_HELP: &str = "\
-With --json one object tells of reading and one of writing, each with
+With --json one object is about reading and one about writing, each with
   access   read or write
   allowed  true or false
   deny     the first line that denies it, with file, line and text; or null
   grant    the first line that grants it, or null";
 
-pub(crate) const LINT_ABOUT: &str = "Tells lines that have a fault, are odd or are needless";
+pub(crate) const LINT_ABOUT: &str = "Lists lines that have a fault, are odd or are needless";
 
 pub(crate) const LINT_AFTER_HELP: &str = "\
-The remarks on each file stand in the order of the files. Where one of them
-can't be read, nothing is written.
+The remarks on each file stand in the order of the files, each with the text of
+its line. Where one of them can't be read, nothing is written. A needless line
+is one without which the list allows the same. A line that denies nothing that
+a line grants may be there to guard: alone, such lines don't make the status 1.
+
+A step is a line that is looked at for one question. When the steps are spent
+nothing is answered. Each file has as many.
 
 With --json each remark is an object with
   file, line, text  the line
-  kind              fault, no mark, indented comment, tab or needless
-  words             what is told of it";
+  kind              fault, no mark, indented comment, tab, repeats,
+                    denies nothing or needless; or empty, of a list without a
+                    topic or pattern line (line and text are null)
+  other             the number of the line that it repeats, or that makes it
+                    needless; or null
+  words             the remark in words";
 
 pub(crate) const SUBSCRIBER_HELP: &str = "The client id of the subscriber";
 
@@ -81,18 +98,18 @@ pub(crate) const SCRIPT_HELP: &str =
     "Ask about all subscriptions of this script, or of standard input (-)";
 
 pub(crate) const REACH_ABOUT: &str =
-    "Tells whether a subscription, or each of a script, is in vain";
+    "Shows whether a subscription, or each of a script, is in vain";
 
 pub(crate) const REACH_AFTER_HELP: &str = "\
 A client is sent what its filter matches and the list lets it read. A topic
-that a subscription to FILTER can be sent is told, or that there is none.
+that a subscription to FILTER can be sent is shown, or that there is none.
 
 With --script SCRIPT, in place of CLIENT and FILTER, those subscriptions of the
-script are told that can be sent nothing: line, client, user name and filter. A
-client's user name is that of its last connect; a subscribe of a client that
-isn't connected is none. Lines acl of the script say nothing here. Lines that
-are no commands are passed over, and told; a script without a command is
-refused.
+script are listed that can be sent nothing: line, client, user name and filter.
+The user name is that of the client as it subscribes; each other that its
+session has while it keeps the subscription is looked at too. A subscribe that a
+broker refuses is none. Lines acl of the script say nothing here. Lines that are
+no commands are passed over, and shown; a script without a command is refused.
 
 With --json the answer is an object with
   filter  the subscription
@@ -100,7 +117,7 @@ With --json the answer is an object with
 With --json and --script each subscription in vain is an object with
   file, line  the script, and the line of its subscribe
   client      the client id
-  user        its user name, or null
+  user        its user name as it subscribes, or null
   filter      the subscription
 and the last object has
   in_vain           how many they are

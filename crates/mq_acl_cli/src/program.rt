@@ -12,16 +12,16 @@ ghost use Rattle.mq_acl_cli.specs.Program.{IsAnswer, IsAnswered, TellsUsage};
 ghost use Rattle.mq_acl_cli.specs.Statuses.{failure_status, outcome_status};
 
 use crate::command_line::arguments;
-use crate::compare::tell_changes;
+use crate::commands::compare::tell_changes;
+use crate::commands::lint::answer_lint;
+use crate::commands::reach::tell_reach;
+use crate::commands::script::tell_subscriptions;
+use crate::commands::why::tell_why;
 use crate::failure::{FAILED, Failure, UNREADABLE};
 use crate::files::{is_input, text_of};
-use crate::lint::answer_lint;
 use crate::outcome::Outcome;
 use crate::print::print;
-use crate::reach::tell_reach;
 use crate::request::{Client, Question, Request};
-use crate::script::tell_subscriptions;
-use crate::why::tell_why;
 use mq_acl_print::ListText;
 use mq_args::UsageFault;
 use std::alloc::{AllocError, Global};
@@ -34,6 +34,7 @@ fn answer_compare<'a, R: Files, I: Read, W: Write>(
     alloc: Global,
     files: (&'a str, &'a str),
     json: bool,
+    steps: u64,
     input: &mut I,
     out: &mut W,
 ) -> Result<Outcome, Failure<'a>>
@@ -55,7 +56,7 @@ fn answer_compare<'a, R: Files, I: Read, W: Write>(
         file: files.1,
         text: new_text.as_str(),
     };
-    tell_changes(alloc, old, new, json, out)
+    tell_changes(alloc, old, new, json, steps, out)
 }
 
 /// Of a client and a topic.
@@ -173,14 +174,19 @@ fn answer<'a, R: Files, I: Read, W: Write>(
         → input.new ≡ input.old }
 {
     let json = request.json;
+    let steps = request.steps;
     match request.question {
-        Question::Compare { old, new } => answer_compare(rt, alloc, (old, new), json, input, out),
+        Question::Compare { old, new } => {
+            answer_compare(rt, alloc, (old, new), json, steps, input, out)
+        }
         Question::Why {
             file,
             client,
             topic,
         } => answer_why(rt, alloc, file, (client, topic), json, input, out),
-        Question::Lint { files } => answer_lint(rt, alloc, files.as_slice(), json, input, out),
+        Question::Lint { files } => {
+            answer_lint(rt, alloc, files.as_slice(), json, steps, input, out)
+        }
         Question::Reach {
             file,
             client,
@@ -236,8 +242,8 @@ fn report_usage<W: Write, E: Write>(
 
 /// Runs the program: `words` are its name and its arguments, `input` is read for the file `-`, answers go to `out`, and a
 /// line on `err` says what failed. Answers the exit status: 0 where nothing is to be remarked or help was asked for, 1
-/// where something is, 2 where the words are not understood, or a file can't be opened, read or understood, and 3 where a
-/// write failed or memory ran out, even if only for the line on `err`.
+/// where something is, 2 where the words are not understood, a file can't be opened, read or understood, or an answer takes
+/// more steps than are given, and 3 where a write failed or memory ran out, even if only for the line on `err`.
 pub fn start<R: Files, I: Read, W: Write, E: Write>(
     rt: &R,
     alloc: Global,

@@ -4,7 +4,7 @@ ghost use Rattle.std.specs.Option.{option_copied};
 ghost use Rattle.clap.specs.Words.{all_of, first_of, rows_of, found_of, subcommand_rows_of};
 ghost use Rattle.mq_acl_cli.specs.CommandLine.{question_view, asked, files_of, GivesAsked};
 ghost use Rattle.mq_acl_cli.specs.CommandLine.{all_asked, compare_asked, lint_asked, one_asked};
-ghost use Rattle.mq_acl_cli.specs.CommandLine.{reach_asked_by, why_asked_by};
+ghost use Rattle.mq_acl_cli.specs.CommandLine.{reach_asked_by, steps_given, why_asked_by};
 ghost use Rattle.mq_acl_cli.specs.Files.{input_count};
 
 use crate::files::inputs_among;
@@ -78,7 +78,12 @@ pub struct Request<'a> {
     pub question: Question<'a>,
     /// Whether the answer is to be JSON.
     pub json: bool,
+    /// How many steps may be taken to compare lists, or to know which lines are needless.
+    pub steps: u64,
 }
+
+/// How many steps may be taken where nothing is said of them: some ten seconds.
+const USUAL_STEPS: u32 = 20_000_000;
 
 // The value with this id.
 fn value<'a>(matches: &ArgMatches<'a>, id: &str) -> Option<&'a str>
@@ -197,7 +202,14 @@ fn question_in<'a>(
     }
 }
 
-// The same, with whether JSON is asked for.
+// How many steps may be taken.
+fn steps_in(matches: &ArgMatches<'_>) -> u64
+    ensures { result ≡ steps_given (rows_of (found_of matches.now)) }
+{
+    u64::from(matches.get_one("steps").unwrap_or(USUAL_STEPS))
+}
+
+// The same, with whether JSON is asked for, and the steps.
 fn request_of<'a>(
     alloc: Global,
     name: &str,
@@ -206,8 +218,13 @@ fn request_of<'a>(
     ensures { IfOk result (GivesAsked (Some (name.now, rows_of (found_of matches.now)))) }
 {
     let json = matches.get_flag("json");
+    let steps = steps_in(matches);
     match question_in(alloc, name, matches)? {
-        Some(question) => Ok(Some(Request { question, json })),
+        Some(question) => Ok(Some(Request {
+            question,
+            json,
+            steps,
+        })),
         None => Ok(None),
     }
 }

@@ -1,12 +1,11 @@
 //! Where two lists differ, in words and as JSON.
 use crate::json::{Datum, add_object};
-use crate::list::ListText;
+use crate::list::{Line, Lines, ListText, lines_of};
 use crate::notes::notes_on;
 use crate::table::{add_cell, widened};
 use crate::who::who_text;
 use mq_acl::Direction;
-use mq_questions::Way;
-use mq_report::{Difference, Group, Reason, gather};
+use mq_findings::{Difference, Group, Reason, Way, gather};
 use mq_topic::LevelText;
 use std::alloc::{AllocError, Global};
 
@@ -71,16 +70,25 @@ fn deciding_line(reason: Reason) -> Option<u64> {
     }
 }
 
+fn line_if<'a>(lines: Lines<'a, 'a, 'a>, reason: Reason) -> Option<Line<'a>> {
+    let number = deciding_line(reason)?;
+    Some(Line {
+        file: lines.file,
+        number,
+        text: lines.line(number),
+    })
+}
+
 fn decision<'a>(
     alloc: Global,
-    list: ListText<'a, 'a>,
+    lines: Lines<'a, 'a, 'a>,
     reason: Reason,
 ) -> Result<Side<'a>, AllocError> {
-    let file = list.file;
+    let file = lines.file;
     match deciding_line(reason) {
         Some(line) => Ok(Side {
             place: format!(in alloc; "{file}:{line}")?,
-            words: list.line(line),
+            words: lines.line(line),
         }),
         None => Ok(Side {
             place: String::from_str(alloc, file)?,
@@ -91,8 +99,8 @@ fn decision<'a>(
 
 fn change_row<'a>(
     alloc: Global,
-    old: ListText<'a, 'a>,
-    new: ListText<'a, 'a>,
+    old: Lines<'a, 'a, 'a>,
+    new: Lines<'a, 'a, 'a>,
     group: &'a Group,
 ) -> Result<ChangeRow<'a>, AllocError> {
     let difference = &group.first;
@@ -163,8 +171,8 @@ fn table(alloc: Global, rows: &[ChangeRow<'_>]) -> Result<String, AllocError> {
 fn add_json<'a>(
     alloc: Global,
     text: &mut String,
-    old: ListText<'a, 'a>,
-    new: ListText<'a, 'a>,
+    old: Lines<'a, 'a, 'a>,
+    new: Lines<'a, 'a, 'a>,
     difference: &'a Difference,
 ) -> Result<(), AllocError> {
     let access = match difference.direction {
@@ -175,8 +183,8 @@ fn add_json<'a>(
         Way::Gained => "gained",
         Way::Lost => "lost",
     };
-    let old_line = deciding_line(difference.old_reason);
-    let new_line = deciding_line(difference.new_reason);
+    let old_line = line_if(old, difference.old_reason);
+    let new_line = line_if(new, difference.new_reason);
     add_object(
         alloc,
         text,
@@ -185,8 +193,8 @@ fn add_json<'a>(
             ("change", Datum::Text(change)),
             ("client", Datum::Text(difference.client.as_str())),
             ("made_up", Datum::Texts(&difference.made_up)),
-            ("new", Datum::LineIf(new, new_line)),
-            ("old", Datum::LineIf(old, old_line)),
+            ("new", Datum::LineIf(new_line)),
+            ("old", Datum::LineIf(old_line)),
             ("topic", Datum::Text(difference.topic.text())),
             ("user", Datum::TextIf(difference.class.user())),
         ],
@@ -195,8 +203,8 @@ fn add_json<'a>(
 
 fn json_lines(
     alloc: Global,
-    old: ListText<'_, '_>,
-    new: ListText<'_, '_>,
+    old: Lines<'_, '_, '_>,
+    new: Lines<'_, '_, '_>,
     differences: &[Difference],
 ) -> Result<String, AllocError> {
     let mut text = String::new(alloc);
@@ -208,8 +216,8 @@ fn json_lines(
 
 fn words<'a>(
     alloc: Global,
-    old: ListText<'a, 'a>,
-    new: ListText<'a, 'a>,
+    old: Lines<'a, 'a, 'a>,
+    new: Lines<'a, 'a, 'a>,
     groups: &'a [Group],
 ) -> Result<String, AllocError> {
     let mut rows = Vec::new(alloc);
@@ -227,6 +235,16 @@ pub fn changes_text(
     differences: Vec<Difference>,
     json: bool,
 ) -> Result<String, AllocError> {
+    let old_lines = lines_of(alloc, old.text)?;
+    let new_lines = lines_of(alloc, new.text)?;
+    let old = Lines {
+        file: old.file,
+        lines: &old_lines,
+    };
+    let new = Lines {
+        file: new.file,
+        lines: &new_lines,
+    };
     if json {
         return json_lines(alloc, old, new, &differences);
     }
@@ -237,4 +255,5 @@ pub fn changes_text(
     words(alloc, old, new, &groups)
 }
 
-const SAME: &str = "both lists allow the same to every client, user and topic\n";
+const SAME: &str =
+    "both lists allow the same, on every topic, to every client id and user name a broker can have\n";

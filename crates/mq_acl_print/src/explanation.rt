@@ -1,8 +1,8 @@
 //! Which lines decide whether a client may read and write a topic, in words and as JSON.
 use crate::json::{Datum, add_object};
 use crate::lines::add_line;
-use crate::list::ListText;
-use mq_report::{Reason, Verdict};
+use crate::list::{Line, ListText};
+use mq_findings::{Reason, Verdict};
 use std::alloc::{AllocError, Global};
 
 fn add_grant(
@@ -41,6 +41,15 @@ fn add_words(
     }
 }
 
+fn line_if<'a>(list: ListText<'a, 'a>, number: Option<u64>) -> Option<Line<'a>> {
+    let number = number?;
+    Some(Line {
+        file: list.file,
+        number,
+        text: list.line(number),
+    })
+}
+
 fn add_json<'a>(
     alloc: Global,
     text: &mut String,
@@ -58,8 +67,8 @@ fn add_json<'a>(
         &[
             ("access", Datum::Text(verb)),
             ("allowed", Datum::Flag(verdict.is_allowed())),
-            ("deny", Datum::LineIf(list, deny)),
-            ("grant", Datum::LineIf(list, verdict.grant)),
+            ("deny", Datum::LineIf(line_if(list, deny))),
+            ("grant", Datum::LineIf(line_if(list, verdict.grant))),
         ],
     )
 }

@@ -1,19 +1,25 @@
 //! JSON objects, one a line.
-use crate::list::ListText;
+use crate::list::Line;
 use serde_json::{Map, Value};
 use std::alloc::{AllocError, Global};
 
 /// What stands under a name; where there is none, it is null.
 #[derive(Clone, Copy)]
-pub(crate) enum Datum<'a> {
+pub enum Datum<'a> {
+    /// A text.
     Text(&'a str),
+    /// A text, if there is one.
     TextIf(Option<&'a str>),
+    /// An array of texts.
     Texts(&'a [String]),
+    /// A number.
     Number(u64),
+    /// A number, if there is one.
     NumberIf(Option<u64>),
+    /// True or false.
     Flag(bool),
-    /// A line of a list: its file, its number, and the line as it stands.
-    LineIf(ListText<'a, 'a>, Option<u64>),
+    /// A line of a list, if there is one: its file, its number, and the line as it stands.
+    LineIf(Option<Line<'a>>),
 }
 
 fn push_text(alloc: Global, texts: &mut Vec<Value>, text: &str) -> Result<(), AllocError> {
@@ -51,11 +57,11 @@ fn put_text(
     put(alloc, members, name, text)
 }
 
-fn line_value(alloc: Global, list: ListText<'_, '_>, number: u64) -> Result<Value, AllocError> {
+fn line_value(alloc: Global, line: Line<'_>) -> Result<Value, AllocError> {
     let mut members = Map::new(alloc);
-    put_text(alloc, &mut members, "file", list.file)?;
-    put(alloc, &mut members, "line", Value::from(number))?;
-    put_text(alloc, &mut members, "text", list.line(number))?;
+    put_text(alloc, &mut members, "file", line.file)?;
+    put(alloc, &mut members, "line", Value::from(line.number))?;
+    put_text(alloc, &mut members, "text", line.text)?;
     Ok(Value::Object(members))
 }
 
@@ -65,8 +71,8 @@ fn datum_value(alloc: Global, datum: Datum<'_>) -> Result<Value, AllocError> {
         Datum::Texts(texts) => texts_value(alloc, texts),
         Datum::Number(number) | Datum::NumberIf(Some(number)) => Ok(Value::from(number)),
         Datum::Flag(flag) => Ok(Value::Bool(flag)),
-        Datum::LineIf(list, Some(number)) => line_value(alloc, list, number),
-        Datum::TextIf(None) | Datum::NumberIf(None) | Datum::LineIf(_, None) => Ok(Value::Null),
+        Datum::LineIf(Some(line)) => line_value(alloc, line),
+        Datum::TextIf(None) | Datum::NumberIf(None) | Datum::LineIf(None) => Ok(Value::Null),
     }
 }
 
@@ -92,8 +98,8 @@ fn object_text(alloc: Global, data: &[(&str, Datum<'_>)]) -> Result<String, Allo
     object(alloc, data)?.to_string(alloc)
 }
 
-/// Adds an object of these data under their names, and a line feed.
-pub(crate) fn add_object(
+/// Adds an object of these data under their names, and a line feed. The only error is that memory is refused.
+pub fn add_object(
     alloc: Global,
     text: &mut String,
     data: &[(&str, Datum<'_>)],

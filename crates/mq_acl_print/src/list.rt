@@ -1,4 +1,5 @@
 //! Access lists as they stand in files.
+use std::alloc::{AllocError, Global};
 
 /// An access list: the name of its file, and its text.
 #[derive(Clone, Copy, Drop)]
@@ -14,5 +15,45 @@ impl<'a, 't> ListText<'a, 't> {
     pub fn line(self, number: u64) -> &'t str {
         let before = usize::try_from(number.saturating_sub(1)).unwrap_or(0);
         self.text.split('\n').nth(before).unwrap_or("").trim()
+    }
+}
+
+/// A line of a list.
+#[derive(Clone, Copy, Drop)]
+pub struct Line<'a> {
+    /// The name of the list's file.
+    pub file: &'a str,
+    /// Its number, from 1.
+    pub number: u64,
+    /// Its text without the blanks round it.
+    pub text: &'a str,
+}
+
+/// The lines of a text.
+pub fn lines_of(alloc: Global, text: &str) -> Result<Vec<&str>, AllocError> {
+    let mut lines = Vec::new(alloc);
+    for line in text.split('\n') {
+        lines.push(line)?;
+    }
+    Ok(lines)
+}
+
+/// An access list of which many lines are looked up: the name of its file, and its lines.
+#[derive(Clone, Copy, Drop)]
+pub struct Lines<'a, 'l, 't> {
+    /// The name of its file, as it is told.
+    pub file: &'a str,
+    /// Its lines.
+    pub lines: &'l [&'t str],
+}
+
+impl<'a, 'l, 't> Lines<'a, 'l, 't> {
+    /// The line with this number, from 1, without the blanks round it; empty where there is none.
+    pub fn line(self, number: u64) -> &'t str {
+        let place = usize::try_from(number.saturating_sub(1)).unwrap_or(0);
+        match self.lines.get(place) {
+            Some(line) => line.trim(),
+            None => "",
+        }
     }
 }

@@ -1,27 +1,36 @@
 //! What stands for others in a difference.
-use mq_report::{Class, Difference};
+use crate::made_up::is_made_up;
+use mq_findings::Difference;
 use mq_topic::LevelText;
 use std::alloc::{AllocError, Global};
 
-// Whether the text stands for any that no line names.
-fn is_made_up(difference: &Difference, text: &str) -> bool {
-    difference
-        .made_up
-        .iter()
-        .any(|other| other.as_str() == text)
+// What the text stands for, of which it is known that it stands for others.
+fn kind_words(difference: &Difference, text: &str) -> &'static str {
+    let is_client = text == difference.client.as_str();
+    let is_user = match difference.class.user() {
+        Some(user) => user == text,
+        None => false,
+    };
+    match (is_client, is_user) {
+        (true, true) => "any other client id that is the user name too",
+        (true, false) => "any other client id",
+        (false, true) => "any other user name",
+        (false, false) => ANY_LEVEL,
+    }
 }
 
-// What a level stands for, if it stands for others.
-fn meaning(difference: &Difference, level: &str) -> Option<&'static str> {
-    if !is_made_up(difference, level) {
-        return None;
+const ANY_LEVEL: &str = "any other level";
+
+// Which of them it stands for, where it matters: a level that begins with `$` stands for others that do, and one that
+// doesn't for others that don't. So does a client id or a user name that is the first level of the topic.
+fn start_words(level: &str, place: usize, kind: &str) -> &'static str {
+    if place != 0 && kind != ANY_LEVEL {
+        return "";
     }
-    if level == difference.client.as_str() {
-        return Some("any client id");
-    }
-    match &difference.class {
-        Class::Others(name) if name.as_str() == level => Some("any other user name"),
-        _ => Some("any other level"),
+    if level.starts_with('$') {
+        " that begins with $"
+    } else {
+        " that doesn't begin with $"
     }
 }
 
@@ -34,18 +43,31 @@ fn add_note(notes: &mut String, text: &str, meaning: &str) -> Result<(), AllocEr
     notes.push_str(meaning)
 }
 
+// Adds what the level at this place of the topic stands for, if it stands for others.
+fn add_level(
+    notes: &mut String,
+    difference: &Difference,
+    place: usize,
+    level: &str,
+) -> Result<(), AllocError> {
+    if !is_made_up(difference, level) {
+        return Ok(());
+    }
+    let kind = kind_words(difference, level);
+    add_note(notes, level, kind)?;
+    notes.push_str(start_words(level, place, kind))
+}
+
 /// What stands for others in a difference, in words, and the client id where it stands for itself alone.
 pub(crate) fn notes_on(alloc: Global, difference: &Difference) -> Result<String, AllocError> {
     let mut notes = String::new(alloc);
     let mut seen = Vec::new(alloc);
-    for level in difference.topic.text().split('/') {
+    for (place, level) in difference.topic.text().split('/').enumerate() {
         if seen.contains(&level) {
             continue;
         }
         seen.push(level)?;
-        if let Some(meaning) = meaning(difference, level) {
-            add_note(&mut notes, level, meaning)?;
-        }
+        add_level(&mut notes, difference, place, level)?;
     }
     let client = difference.client.as_str();
     if !is_made_up(difference, client) {

@@ -1,5 +1,6 @@
 //! Whom differences concern.
-use mq_report::{Class, Group};
+use crate::made_up::is_made_up;
+use mq_findings::{Class, Difference, Group};
 use std::alloc::{AllocError, Global};
 
 /// How many user names are told in a row.
@@ -13,27 +14,35 @@ fn has_anonymous(group: &Group) -> bool {
             .any(|other| matches!(other.class, Class::Anonymous))
 }
 
-fn has_others(group: &Group) -> bool {
-    matches!(group.first.class, Class::Others(_))
-        || group
-            .others
-            .iter()
-            .any(|other| matches!(other.class, Class::Others(_)))
+// Whether it is of all user names that no line is for: the one that it tells stands for them.
+fn is_of_others(difference: &Difference) -> bool {
+    match &difference.class {
+        Class::Others(name) => is_made_up(difference, name.as_str()),
+        _ => false,
+    }
 }
 
-fn push_name<'a>(names: &mut Vec<&'a str>, class: &'a Class) -> Result<(), AllocError> {
-    if let Class::User(name) = class {
-        names.push(name.as_str())?;
+fn has_others(group: &Group) -> bool {
+    is_of_others(&group.first) || group.others.iter().any(|other| is_of_others(other))
+}
+
+// The user name of a difference that is of this one alone: a line is for it, or names it as a level.
+fn push_name<'a>(names: &mut Vec<&'a str>, difference: &'a Difference) -> Result<(), AllocError> {
+    if is_of_others(difference) {
+        return Ok(());
+    }
+    if let Some(name) = difference.class.user() {
+        names.push(name)?;
     }
     Ok(())
 }
 
-// The user names among the classes of a group.
+// The user names in a group that it is of, each for itself.
 fn names<'a>(alloc: Global, group: &'a Group) -> Result<Vec<&'a str>, AllocError> {
     let mut names = Vec::new(alloc);
-    push_name(&mut names, &group.first.class)?;
+    push_name(&mut names, &group.first)?;
     for other in &group.others {
-        push_name(&mut names, &other.class)?;
+        push_name(&mut names, other)?;
     }
     Ok(names)
 }

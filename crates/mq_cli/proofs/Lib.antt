@@ -1,5 +1,4 @@
 pub mod ScriptLemmas
 pub mod AclFileLemmas
-pub mod NumberLemmas
 pub mod FlagLemmas
 pub mod ProgramLemmas

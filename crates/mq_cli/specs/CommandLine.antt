@@ -1,12 +1,9 @@
 -- The command line of the program, in the words of `clap`.
-use Rattle.std.specs.Prelude.{◌≡◌, ◌↔◌, ℕ, ◌^◌, ◌&&◌, Bool, nat_lt, if◌then◌else◌, List}
-use Rattle.std.specs.Prelude.{length, Option, Some, None, option_map, option_and_then}
+use Rattle.std.specs.Prelude.{◌≡◌, ◌↔◌, ℕ, List, Option, Some, option_map, option_and_then}
 use Rattle.std.specs.Prelude.{codes, string_bytes, IsTrue}
-use Rattle.std.specs.List.{list_all}
-use Rattle.std.specs.Char.{digit_value}
-use Rattle.std.specs.Str.Parse.{digits_value, without_leading_plus}
 use Rattle.clap.specs.Words.{App, Rule, Text, new_app, with_rule, first_of, one_of, matches_of}
 use Rattle.mq_args.specs.Arguments.{flag, number_option, option, optional_argument}
+use Rattle.mq_args.specs.Numbers.{number_in}
 use Rattle.mq_cli.specs.declared.command_line.Options.{Options}
 
 -- `--acl-file FILE`
@@ -30,17 +27,6 @@ mqroute =
 -- the value of an option in the words
 abbrev pub given : Text → List Text → Option Text
 given id words = first_of id (matches_of mqroute words)
-
--- one digit or more, of a number below 2 ^ 32
-abbrev pub is_word : Text → Bool
-is_word digits =
-    nat_lt 0 (length digits) && list_all (λ d. nat_lt (digit_value d) 10) digits
-    && nat_lt (digits_value 10 digits) (2 ^ 32)
-
--- the number that a text writes, with or without a plus before it
-unfoldable pub number_in : Text → Option ℕ
-number_in text = let digits = without_leading_plus text in if is_word digits then
-    Some (digits_value 10 digits) else None
 
 -- the number of an option in the words
 abbrev pub number_given : Text → List Text → Option ℕ

@@ -1,14 +1,17 @@
 -- What is told of a script that isn't searched to its end.
-use Rattle.std.proofs.Common.{◌≡◌, ℕ, ◌-◌, ◌&&◌, Bool, true, false, List, [], ◌∷◌, ◌++◌, Option}
-use Rattle.std.proofs.Common.{length, take, refl, sym, ap, subst, ◌∙◌, append_assoc}
-use Rattle.std.specs.Option.{option_to_list}
-use Rattle.std.proofs.lemmas.Bool.{or_left, or_right}
-use Rattle.std.proofs.lemmas.Bool.Decides.{Decides-eqb}
-use Rattle.std.proofs.lemmas.List.Folds.{list_any-append}
-use Rattle.mq_topic.specs.Texts.{filter_part}
+use Rattle.std.proofs.Common.{◌≡◌, ℕ, ◌-◌, ◌==◌, ◌&&◌, ◌||◌, Bool, true, false, cond, not, List, []}
+use Rattle.std.proofs.Common.{◌∷◌, ◌++◌, Option, Some, None, length, map, take, refl, sym, ap, subst}
+use Rattle.std.proofs.Common.{◌∙◌, append_assoc, append-nil, inl, inr}
+use Rattle.std.specs.List.{list_all}
+use Rattle.std.proofs.Math.Bool.{or-true}
+use Rattle.std.proofs.lemmas.Bool.{and_from, and_parts, not-true, or_cases}
+use Rattle.std.proofs.lemmas.List.Folds.{list_all-append}
 use Rattle.mq_acl.specs.Rows.{AclRow}
 use Rattle.mq_acl.specs.declared.row.Row.{Row}
-use Rattle.mq_questions.specs.Limits.{has_short_levels, is_short, is_short_user}
+use Rattle.mq_world.specs.After.{next}
+use Rattle.mq_world.specs.Lists.{Text}
+use Rattle.mq_world.specs.Sessions.{user_of}
+use Rattle.mq_world.specs.World.{Request, World}
 use Rattle.mq_jsonl.specs.Lines.{all_lines, command_in, kept, last_piece, piece_line, pieces}
 use Rattle.mq_jsonl.specs.Lines.{whole_lines}
 use Rattle.mq_jsonl.specs.Reading.{reading}
@@ -16,92 +19,71 @@ use Rattle.mq_jsonl.proofs.LongLemmas.{some_piece}
 use Rattle.mq_jsonl.proofs.PieceLemmas.{last_piece-text, whole_lines-feed, whole_lines-grown}
 use Rattle.mq_jsonl.proofs.PieceLemmas.{whole_lines-text}
 use Rattle.mq_reach.specs.Faults.{FailsIn, IsFaultAmong, IsScriptFault, IsSearchFault, StopsWith}
-use Rattle.mq_reach.specs.Faults.{has_long_at, is_long_at, is_short_subscription}
+use Rattle.mq_reach.specs.Faults.{has_long_at, is_long_at, is_short_question}
 use Rattle.mq_reach.specs.Script.{HoldsScript, TakesBytes}
-use Rattle.mq_reach.specs.Search.{IsSearched, made_by}
-use Rattle.mq_reach.specs.Subscriptions.{Subscription, subscriptions}
+use Rattle.mq_reach.specs.Search.{IsSearched}
+use Rattle.mq_reach.specs.Subscriptions.{Kept, stays, subscriptions, world_of}
 use Rattle.mq_reach.specs.declared.question.SearchFault.{SearchFault}
 use Rattle.mq_reach.specs.declared.question.SearchFault.TheVariants as search
 use Rattle.mq_reach.specs.declared.reading.Reading.{Reading}
 use Rattle.mq_reach.specs.declared.reading.ScriptFault.{ScriptFault}
 use Rattle.mq_reach.specs.declared.reading.ScriptFault.TheVariants as script
-use Rattle.mq_reach.specs.declared.search.Search.{Search}
-use Rattle.mq_reach.proofs.PushLemmas.{subscriptions-grown, subscriptions-push}
+use Rattle.mq_reach.proofs.AmongLemmas.{grown_fault}
+use Rattle.mq_reach.proofs.GrownLemmas.{grown}
 use Rattle.mq_reach.proofs.ScriptLemmas.{kept_line, subscriptions-kept}
-use Rattle.mq_reach.proofs.SearchLemmas.{made-is}
+use Rattle.mq_reach.proofs.SearchLemmas.{says}
+use Rattle.mq_reach.proofs.KeyLemmas.{key_of}
 
--- ## Of one subscription
+-- ## Among more lines
 
-one_long : (s : Subscription) (line : ℕ) → s.line ≡ line → is_short_subscription s ≡ false
-    → has_long_at line (s ∷ []) ≡ true
-one_long s line e long = rw ((Decides-eqb s.line line).1 e, long) refl
+grown-long : (line : ℕ) (w : World) (command : Option Request) (one : Kept)
+    → is_long_at line one ≡ true → is_long_at line (grown w command one) ≡ true
+grown-long line w None one long = long
+grown-long line w (Some request) one long =
+    let short : Option Text → Bool = is_short_question one.told in
+    let user : Option Text = user_of (next w request).sessions one.told.client in
+    let both = and_parts (one.told.line == line) (not (list_all short one.users)) long in
+    elim (one.is_open && stays (key_of one.told) w request) as (λ b. is_long_at line
+    (cond b (record one { users = one.users ++ user ∷ [] })
+    (record one { is_open = false })) ≡ true) [
+      | true ↦ and_from (one.told.line == line)
+          (not (list_all short (one.users ++ user ∷ []))) both.0
+          (ap not (list_all-append short one.users (user ∷ [])
+          ∙ ap (λ b. b && list_all short (user ∷ []))
+          (not-true (list_all short one.users) both.1)))
+      | false ↦ long
+    ]
 
-first_false : (a b c : Bool) → a ≡ false → (a && b && c) ≡ false
-first_false a b c e = rw e refl
+all-grown : (line : ℕ) (w : World) (command : Option Request) (all : List Kept)
+    → has_long_at line all ≡ true → has_long_at line (map (grown w command) all) ≡ true
+all-grown line w command [] long = long
+all-grown line w command (kept ∷ all) long =
+    elim (or_cases (is_long_at line kept) (has_long_at line all) long)
+    as (λ _. has_long_at line (map (grown w command) (kept ∷ all)) ≡ true) [
+      | inl e ↦ ap (λ b. b || has_long_at line (map (grown w command) all))
+          (grown-long line w command kept e)
+      | inr e ↦ ap (λ b. is_long_at line (grown w command kept) || b)
+          (all-grown line w command all e)
+          ∙ or-true (is_long_at line (grown w command kept))
+    ]
 
-second_false : (a b c : Bool) → b ≡ false → (a && b && c) ≡ false
-second_false true b c e = rw e refl
-second_false false b c e = refl
-
-third_false : (a b c : Bool) → c ≡ false → (a && b && c) ≡ false
-third_false true true c e = e
-third_false true false c e = refl
-third_false false b c e = refl
-
--- a subscription of this line is too long if its client id is
-pub client_long : (s : Subscription) (line : ℕ) → s.line ≡ line → is_short s.client ≡ false
-    → has_long_at line (s ∷ []) ≡ true
-client_long s line e long = one_long s line e (first_false (is_short s.client)
-    (is_short_user s.user) (has_short_levels (filter_part s.filter)) long)
-
--- a subscription of this line is too long if its user name is
-pub user_long : (s : Subscription) (line : ℕ) → s.line ≡ line
-    → is_short_user s.user ≡ false → has_long_at line (s ∷ []) ≡ true
-user_long s line e long = one_long s line e (second_false (is_short s.client)
-    (is_short_user s.user) (has_short_levels (filter_part s.filter)) long)
-
--- a subscription of this line is too long if a level of its filter is
-pub filter_long : (s : Subscription) (line : ℕ) → s.line ≡ line
-    → has_short_levels (filter_part s.filter) ≡ false → has_long_at line (s ∷ []) ≡ true
-filter_long s line e long = one_long s line e (third_false (is_short s.client)
-    (is_short_user s.user) (has_short_levels (filter_part s.filter)) long)
-
--- ## Among more of them
-
-front_fault : (xs ys : List Subscription) (fault : SearchFault) → IsFaultAmong xs fault
-    → IsFaultAmong (xs ++ ys) fault
-front_fault xs ys search.Memory is = tt
-front_fault xs ys (search.Row line) is = is
-front_fault xs ys (search.Subscription line) is =
-    list_any-append (is_long_at line) xs ys
-    ∙ or_left (has_long_at line xs) (has_long_at line ys) is
-
-back_fault : (xs ys : List Subscription) (fault : SearchFault) → IsFaultAmong ys fault
-    → IsFaultAmong (xs ++ ys) fault
-back_fault xs ys search.Memory is = tt
-back_fault xs ys (search.Row line) is = is
-back_fault xs ys (search.Subscription line) is =
-    list_any-append (is_long_at line) xs ys
-    ∙ or_right (has_long_at line xs) (has_long_at line ys) is
-
--- a fault of what the next line subscribes to is one of the script
-pub next_fault : (rows : List AclRow) (lines : List (List ℕ)) (line : List ℕ) (s : Search)
-    (fault : SearchFault) → IsSearched rows lines s
-    → IsFaultAmong (option_to_list (made_by s (command_in (reading line)))) fault
-    → IsFaultAmong (subscriptions (lines ++ line ∷ [])) fault
-next_fault rows lines line s fault is at =
-    let made = made-is rows lines s (command_in (reading line)) is in
-    subst (λ all. IsFaultAmong all fault)
-    (ap (λ o. subscriptions lines ++ option_to_list o) made ∙ sym (subscriptions-push lines line))
-    (back_fault (subscriptions lines) (option_to_list (made_by s (command_in (reading line))))
-    fault at)
+grown-fault : (w : World) (command : Option Request) (all : List Kept) (fault : SearchFault)
+    → IsFaultAmong all fault → IsFaultAmong (map (grown w command) all) fault
+grown-fault w command all search.Memory is = tt
+grown-fault w command all (search.Row line) is = is
+grown-fault w command all (search.Subscription line) is = all-grown line w command all is
 
 -- one of the first lines is one of all
-grown_fault : (xs ys : List (List ℕ)) (fault : SearchFault)
+pub more_fault : (xs ys : List (List ℕ)) (fault : SearchFault)
     → IsFaultAmong (subscriptions xs) fault → IsFaultAmong (subscriptions (xs ++ ys)) fault
-grown_fault xs ys fault is =
-    subst (λ all. IsFaultAmong all fault) (sym (subscriptions-grown xs ys))
-    (front_fault (subscriptions xs) _ fault is)
+more_fault xs [] fault is = subst (λ ls. IsFaultAmong (subscriptions ls) fault)
+    (sym (append-nil xs)) is
+more_fault xs (y ∷ ys) fault is =
+    let c : Option Request = command_in (reading y) in
+    subst (λ ls. IsFaultAmong (subscriptions ls) fault) (append_assoc xs (y ∷ []) ys)
+    (more_fault (xs ++ y ∷ []) ys fault
+    (grown_fault xs y c fault (says y c refl)
+    (grown-fault (world_of xs) c (subscriptions xs) fault is)))
 
 -- ## Of bytes
 
@@ -146,7 +128,7 @@ FailsIn-more rows p q taken bytes others all fault takes same fails = λ given h
     ∙ ap whole_lines (sym (append_assoc given taken (bytes ++ others))
     ∙ sym (append_assoc (given ++ taken) bytes others)) ∙ grown.1 in
     subst (λ l. IsFaultAmong (subscriptions l) fault) (sym is)
-    (grown_fault (whole_lines ((given ++ taken) ++ bytes)) grown.0 fault
+    (more_fault (whole_lines ((given ++ taken) ++ bytes)) grown.0 fault
     (fails (given ++ taken) (takes given holds)))
 
 -- a fault of the last line
@@ -179,7 +161,7 @@ pub read_fault : (rows : List Row) (list : List AclRow) (r : Reading) (given : L
     → IsSearchFault rows given fault
 unfolding FailsIn
 read_fault rows list r given fault holds fails =
-    script_fault rows given fault (grown_fault (whole_lines given) (piece_line (last_piece given))
+    script_fault rows given fault (more_fault (whole_lines given) (piece_line (last_piece given))
     fault (fails [] holds))
 
 -- where reading began with nothing read, what it stops with may be told of the script

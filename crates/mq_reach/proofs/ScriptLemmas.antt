@@ -1,26 +1,29 @@
 -- A script that is read piece by piece.
 use Rattle.std.proofs.Common.{◌≡◌, ◌<◌, ◌+◌, ◌-◌, ℕ, Option, Some, None, IfSome, List, [], ◌∷◌}
-use Rattle.std.proofs.Common.{◌++◌, length, take, sym, ap, subst, ◌∙◌, append_assoc, append-nil}
+use Rattle.std.proofs.Common.{◌++◌, length, map, take, sym, ap, subst, ◌∙◌, append_assoc, append-nil}
 use Rattle.std.proofs.Common.{arith, length-append}
 use Rattle.std.specs.Prelude.{slice_get}
 use Rattle.std.specs.Io.KnownBytes.{Consumes}
 use Rattle.std.specs.List.{cons_option}
-use Rattle.std.specs.Option.{option_and_then, option_to_list}
+use Rattle.std.specs.Option.{option_to_list}
 use Rattle.std.proofs.lemmas.List.{take_all}
 use Rattle.mq_acl.specs.Rows.{AclRow}
+use Rattle.mq_world.specs.After.{replay}
+use Rattle.mq_world.specs.World.{Request, empty_world}
 use Rattle.mq_jsonl.specs.Lines.{all_lines, command_in, kept, last_piece, piece_line, pieces}
 use Rattle.mq_jsonl.specs.Lines.{whole_lines}
 use Rattle.mq_jsonl.proofs.LongLemmas.{kept_more, no_piece, reading-kept, some_piece}
 use Rattle.mq_jsonl.proofs.PieceLemmas.{whole_lines-feed, last_piece-feed, whole_lines-text}
 use Rattle.mq_jsonl.proofs.PieceLemmas.{last_piece-text}
 use Rattle.mq_reach.specs.Script.{HoldsScript, TakesBytes}
-use Rattle.mq_reach.specs.Search.{IsSearched, subscription_views}
-use Rattle.mq_reach.specs.Subscriptions.{commands_of, connection, fault_at, faulty_lines}
-use Rattle.mq_reach.specs.Subscriptions.{subscription_by, subscriptions}
-use Rattle.mq_reach.specs.Vain.{AreVain}
+use Rattle.mq_reach.specs.Search.{AreTracked, IsSearched, IsWorldOf}
+use Rattle.mq_reach.specs.Subscriptions.{commands_of, fault_at, faulty_lines, subscriptions}
+use Rattle.mq_reach.specs.Subscriptions.{world_of}
 use Rattle.mq_reach.specs.declared.reading.Reading.{Reading}
 use Rattle.mq_reach.specs.declared.search.Search.{Search}
-use Rattle.mq_reach.proofs.PushLemmas.{commands_of-push, faulty_lines-push, subscriptions-push}
+use Rattle.mq_reach.proofs.CountLemmas.{faulty_lines-push}
+use Rattle.mq_reach.proofs.GrownLemmas.{commands_of-push, grown, subscriptions-push}
+use Rattle.mq_reach.proofs.StepLemmas.{makes_at}
 
 -- a reading that takes no bytes stays as it is
 pub TakesBytes-none : (rows : List AclRow) (r : Reading) → TakesBytes rows r r []
@@ -44,14 +47,13 @@ commands-kept lines p =
     ∙ ap (λ said. commands_of lines ++ cons_option (command_in said) []) (reading-kept p)
     ∙ sym (commands_of-push lines p)
 
--- a last line subscribes to the same if only what is kept of it is read
+-- a last line makes the same if only what is kept of it is read
 pub subscriptions-kept : (lines : List (List ℕ)) (p : List ℕ)
     → subscriptions (lines ++ take kept p ∷ []) ≡ subscriptions (lines ++ p ∷ [])
 subscriptions-kept lines p =
     subscriptions-push lines (take kept p)
-    ∙ ap (λ said. subscriptions lines ++ option_to_list
-    (option_and_then (subscription_by (length lines + 1)
-    (λ client. connection client (commands_of lines))) (command_in said))) (reading-kept p)
+    ∙ ap (λ said. map (grown (world_of lines) (command_in said)) (subscriptions lines)
+    ++ makes_at lines (command_in said)) (reading-kept p)
     ∙ sym (subscriptions-push lines p)
 
 faulty-kept : (lines : List (List ℕ)) (p : List ℕ)
@@ -69,9 +71,9 @@ length-kept lines p = length-append lines (take kept p ∷ []) ∙ sym (length-a
 IsSearched-kept : (rows : List AclRow) (lines : List (List ℕ)) (p : List ℕ) (s : Search)
     → IsSearched rows (lines ++ take kept p ∷ []) s → IsSearched rows (lines ++ p ∷ []) s
 IsSearched-kept rows lines p s is = record {
-  clients = λ id. is.clients id ∙ ap (connection id) (commands-kept lines p);
-  vain = subst (λ all. AreVain rows all (subscription_views s.vain.items))
-      (subscriptions-kept lines p) is.vain;
+  is_world = subst (λ (cs : List Request). IsWorldOf (replay empty_world cs) s)
+      (commands-kept lines p) is.is_world;
+  tracked = subst (λ all. AreTracked rows all s.tracked) (subscriptions-kept lines p) is.tracked;
   counts = record {
     lines = is.counts.lines ∙ length-kept lines p;
     commands = is.counts.commands ∙ ap length (commands-kept lines p);

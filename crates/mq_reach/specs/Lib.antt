@@ -1,6 +1,10 @@
+pub mod Reach
+pub mod ByOwner
 pub mod Subscriptions
 pub mod Vain
-pub mod Clients
+pub mod Tracked
+pub mod Unqueued
+pub mod Connects
 pub mod Counts
 pub mod Search
 pub mod Script

@@ -1,34 +1,25 @@
 -- What is found in a script.
-use Rattle.std.specs.Prelude.{◌≡◌, ◌⊎◌, ◌+◌, ℕ, List, [], ◌∷◌, ◌++◌, length, map, Option, Some}
-use Rattle.std.specs.Prelude.{None, Result, Ok, Err, slice_get, string_bytes, if◌then◌else◌}
-use Rattle.std.specs.Option.{option_and_then, option_map}
+use Rattle.std.specs.Prelude.{◌≡◌, ◌⊎◌, ℕ, List, [], ◌∷◌, ◌++◌, length, Option, Some}
+use Rattle.std.specs.Prelude.{None, Result, Ok, Err, slice_get, if◌then◌else◌, ◌&&◌, not}
+use Rattle.std.specs.Option.{option_to_list}
+use Rattle.mq_topic.specs.Texts.{is_shared, is_subscription}
 use Rattle.mq_acl.specs.Rows.{AclRow}
-use Rattle.mq_world.specs.Lists.{Text}
-use Rattle.mq_world.specs.World.{Request}
-use Rattle.mq_jsonl.specs.Lines.{command_in}
+use Rattle.mq_world.specs.Refusals.{is_client_id}
+use Rattle.mq_world.specs.Sessions.{is_connected, user_of}
+use Rattle.mq_world.specs.World.{Request, Session, Subscribe, World}
 use Rattle.mq_jsonl.specs.declared.fault.LineFault.{LineFault}
-use Rattle.mq_reach.specs.Clients.{user_at}
-use Rattle.mq_reach.specs.Subscriptions.{commands_of, concerns, connected_by, connection}
-use Rattle.mq_reach.specs.Subscriptions.{faulty_lines, subscription_by, subscriptions}
+use Rattle.mq_reach.specs.Subscriptions.{Kept, commands_of, faulty_lines, subscriptions}
+use Rattle.mq_reach.specs.Subscriptions.{world_of, world_then}
 use Rattle.mq_reach.specs.Subscriptions as spec
+use Rattle.mq_reach.specs.Tracked.{TrackedSubscription, subscription_views}
+use Rattle.mq_reach.specs.Unqueued.{unqueued}
 use Rattle.mq_reach.specs.Vain.{AreVain, IsReached, IsVain}
 use Rattle.mq_reach.specs.declared.counts.Counts.{Counts}
 use Rattle.mq_reach.specs.declared.counts.LineKind.{LineKind}
 use Rattle.mq_reach.specs.declared.counts.LineKind.TheVariants as kinds
 use Rattle.mq_reach.specs.declared.search.Findings.{Findings}
 use Rattle.mq_reach.specs.declared.search.Search.{Search}
-use Rattle.mq_reach.specs.declared.subscription.Subscription.{Subscription}
-
-abbrev pub subscription_view : Subscription → spec.Subscription
-subscription_view s = record {
-  line = s.line;
-  client = string_bytes s.client;
-  user = option_map string_bytes s.user;
-  filter = string_bytes s.filter;
-}
-
-abbrev pub subscription_views : List Subscription → List spec.Subscription
-subscription_views all = map subscription_view all
+use Rattle.mq_reach.specs.declared.tracked.State.TheVariants as states
 
 -- the lines are counted: all, the commands, those that make subscriptions, and those that are no commands, with the
 -- first of these
@@ -46,42 +37,53 @@ pub record IsFound (rows : List AclRow) (lines : List (List ℕ)) (f : Findings)
 
 -- ## A search on its way
 
+-- this is how it is with a subscription: it is reached; or it is in vain so far, and open just where its session keeps it
+abbrev pub IsTracked : List AclRow → Kept → TrackedSubscription → Type 0
+IsTracked rows kept t = (t.told ≡ kept.told)
+    × (((t.state ≡ states.Reached) × IsReached rows kept)
+    ⊎ ((t.state ≡ (if kept.is_open then states.Open else states.Closed)) × IsVain rows kept))
+
+-- of all these subscriptions those are tracked that were in vain as they were made; the others are reached
+abbrev pub AreTracked : List AclRow → (all : List Kept) → List TrackedSubscription → Type 0
+AreTracked rows [] tracked = tracked ≡ []
+AreTracked rows (kept ∷ all) tracked =
+    (IsReached rows kept × AreTracked rows all tracked)
+    ⊎ ((t : TrackedSubscription) × (later : List TrackedSubscription) × (tracked ≡ t ∷ later)
+    × IsTracked rows kept t × AreTracked rows all later)
+
+-- the sessions and the clock are those of this world
+pub record IsWorldOf (w : World) (s : Search) : Type 0 where
+  pub sessions : s.sessions ≡ unqueued w.sessions
+  pub moment : s.clock.moment ≡ w.moment
+
 -- these lines are searched
 pub record IsSearched (rows : List AclRow) (lines : List (List ℕ)) (s : Search) : Type 0 where
-  pub clients : (id : Text) → user_at s.clients id ≡ connection id (commands_of lines)
-  pub vain : AreVain rows (subscriptions lines) (subscription_views s.vain.items)
+  pub is_world : IsWorldOf (world_of lines) s
+  pub tracked : AreTracked rows (subscriptions lines) s.tracked
   pub counts : AreCounted lines s.counts
 
--- how a client is connected after one more command
-abbrev pub connection_then : Text → Option Request → Option (Option Text) → Option (Option Text)
-connection_then id None before = before
-connection_then id (Some request) before =
-    if concerns id request then connected_by (Some request) else before
+-- a command behind these lines is taken in, but its line isn't counted yet; where it makes a subscription, that stands
+-- behind the others
+pub record Applies (rows : List AclRow) (command : Option Request) (old new : Search) :
+    Type 0 where
+  pub follows : (w : World) → IsWorldOf w old → IsWorldOf (world_then w command) new
+  pub tracked : (lines : List (List ℕ)) (line : List ℕ) → commands_of (line ∷ [])
+      ≡ option_to_list command → IsWorldOf (world_of lines) old → AreTracked rows
+      (subscriptions lines) old.tracked → length lines ≡ old.counts.lines
+      → AreTracked rows (subscriptions (lines ++ line ∷ [])) new.tracked
+  pub counts : new.counts ≡ old.counts
 
--- what a command of the next line subscribes to
-abbrev pub made_by : Search → Option Request → Option spec.Subscription
-made_by s command =
-    option_and_then (subscription_by (s.counts.lines + 1) (user_at s.clients)) command
-
--- a subscription is told where it is in vain, and no other
-abbrev pub Tells : List AclRow → Option spec.Subscription → (old new : List spec.Subscription)
-    → Type 0
-Tells rows None old new = new ≡ old
-Tells rows (Some s) old new =
-    (IsReached rows s × (new ≡ old)) ⊎ (IsVain rows s × (new ≡ old ++ s ∷ []))
+-- what is told of what a command of this line makes, where these are the sessions
+abbrev pub told_by : ℕ → List Session → Request → Option spec.Subscription
+told_by line sessions (Subscribe client text options) =
+    if is_client_id client && is_connected sessions client && is_subscription text
+    && not (is_shared text && options.no_local)
+    then Some (record { line = line; client = client; user = user_of sessions client; filter = text })
+    else None
+told_by line sessions request = None
 
 abbrev pub kind_of : Option spec.Subscription → Result (Option Request) LineFault → LineKind
 kind_of made (Err fault) = kinds.NoCommand
 kind_of made (Ok None) = kinds.Blank
 kind_of (Some s) (Ok (Some command)) = kinds.Subscription
 kind_of None (Ok (Some command)) = kinds.Command
-
--- what the next line says is taken in, but isn't counted yet
-pub record Applies (rows : List AclRow) (said : Result (Option Request) LineFault)
-    (old new : Search) (counted_as : LineKind) : Type 0 where
-  pub clients : (id : Text)
-      → user_at new.clients id ≡ connection_then id (command_in said) (user_at old.clients id)
-  pub told : Tells rows (made_by old (command_in said)) (subscription_views old.vain.items)
-      (subscription_views new.vain.items)
-  pub kind : counted_as ≡ kind_of (made_by old (command_in said)) said
-  pub counts : new.counts ≡ old.counts

@@ -1,16 +1,21 @@
-//! The subscriptions of a script, and which of them are in vain: whose client may read no topic that the filter matches.
+//! The subscriptions of a script, and which of them are in vain: whose client may read no topic that the filter matches,
+//! under none of the user names that its session has while it keeps them.
 #![tactic(auto)]
 
-mod clients;
+mod by_owner;
+mod connections;
 mod counts;
 mod log;
 mod question;
+mod reach;
 mod reading;
 mod search;
 mod subscription;
+mod tracked;
 
 pub use counts::Counts;
 pub use question::SearchFault;
+pub use reach::{Reach, ReachFault};
 pub use reading::{ScriptFault, find_vain};
 pub use search::Findings;
 pub use subscription::Subscription;

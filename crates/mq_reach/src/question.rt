@@ -1,16 +1,19 @@
 //! Whether one subscription is in vain.
-ghost use Rattle.std.specs.Prelude.{◌≡◌, ◌&&◌, ◌∷◌, [], not, true, false, IfOk, IfErr};
+ghost use Rattle.std.specs.Prelude.{◌≡◌, ◌&&◌, ℕ, List, [], not, true, false, Option};
+ghost use Rattle.std.specs.Prelude.{IfOk, IfErr, IsTrue, string_bytes};
 ghost use Rattle.mq_topic.specs.Texts.{filter_part, is_shared, is_subscription};
 ghost use Rattle.mq_acl.specs.Views.{row_views};
-ghost use Rattle.mq_questions.specs.Limits.{IsReachFault};
-ghost use Rattle.mq_reach.specs.Faults.{IsFaultAmong, IsSearchFault};
-ghost use Rattle.mq_reach.specs.Search.{subscription_view};
-ghost use Rattle.mq_reach.specs.Vain.{IsReached, IsVain};
+ghost use Rattle.std.specs.Option.{option_copied};
+ghost use Rattle.mq_topic.specs.Texts.{is_name};
+ghost use Rattle.mq_reach.specs.Faults.{IsAskFault, IsSearchFault};
+ghost use Rattle.mq_reach.specs.Reach.{IsReachFault, Reads, ReadsNone};
+ghost use Rattle.mq_reach.specs.Tracked.{subscription_view};
 
+use crate::reach::{Reach, ReachFault};
 use crate::subscription::Subscription;
 use mq_acl::Row;
-use mq_questions::{ListFault, Reach, ReachFault};
 use mq_topic::{SubFilter, TopicFilter};
+use mq_witness::ListFault;
 use std::alloc::{AllocError, Global};
 
 /// Why it isn't told whether a subscription is in vain. `Memory` may stand in place of any answer.
@@ -55,8 +58,8 @@ fn filter_in(alloc: Global, text: &str) -> Result<TopicFilter, SearchFault>
 }
 
 fn fault_of(subscription: &Subscription, fault: ReachFault) -> SearchFault
-    ensures { let s = subscription_view subscription.now in
-        IsReachFault s.client s.user (filter_part s.filter) fault → IsFaultAmong (s ∷ []) result }
+    ensures { (user : Option (List ℕ)) → let s = subscription_view subscription.now in
+        IsReachFault s.client user (filter_part s.filter) fault → IsAskFault s user result }
 {
     match fault {
         ReachFault::Memory => SearchFault::Memory,
@@ -74,25 +77,28 @@ pub(crate) fn list_of(alloc: Global, rows: &[Row]) -> Result<Reach<'_>, SearchFa
     match Reach::new(alloc, rows) {
         Ok(list) => Ok(list),
         Err(ListFault::Memory) => Err(SearchFault::Memory),
-        Err(ListFault::Line(row)) => Err(SearchFault::Row(row)),
+        Err(ListFault::Line(_, row)) => Err(SearchFault::Row(row)),
     }
 }
 
-/// Whether the client of a subscription may read no topic that its filter matches.
+/// Whether the client of a subscription, under this user name or none, may read no topic that its filter matches.
 pub(crate) fn is_vain(
     alloc: Global,
     list: &Reach,
     subscription: &Subscription,
+    user: Option<&str>,
 ) -> Result<bool, SearchFault>
-    ensures vain { IfOk result (λ vain. vain ≡ true
-        → IsVain list.now (subscription_view subscription.now)) }
-    ensures reached { IfOk result (λ vain. vain ≡ false
-        → IsReached list.now (subscription_view subscription.now)) }
-    ensures err { IfErr result (IsFaultAmong (subscription_view subscription.now ∷ [])) }
+    ensures vain { IfOk result (λ vain. vain ≡ true → ReadsNone list.now
+        (string_bytes subscription.now.client) (option_copied user.entry)
+        (filter_part (string_bytes subscription.now.filter))) }
+    ensures reached { IfOk result (λ vain. vain ≡ false → (topic : List ℕ)
+        × IsTrue (is_name topic) × Reads list.now (string_bytes subscription.now.client)
+        (option_copied user.entry) (filter_part (string_bytes subscription.now.filter)) topic) }
+    ensures err { IfErr result (IsAskFault (subscription_view subscription.now)
+        (option_copied user.entry)) }
 {
     let filter = filter_in(alloc, subscription.filter.as_str())?;
     let client = subscription.client.as_str();
-    let user = subscription.user.as_deref();
     match list.is_vain(alloc, client, user, &filter) {
         Ok(vain) => Ok(vain),
         Err(fault) => Err(fault_of(subscription, fault)),

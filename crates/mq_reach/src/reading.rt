@@ -11,10 +11,10 @@ ghost use Rattle.mq_reach.specs.Script.{HoldsScript, TakesBytes, script_limit};
 ghost use Rattle.mq_reach.specs.Subscriptions.{subscriptions};
 
 use crate::question::{SearchFault, list_of};
+use crate::reach::Reach;
 use crate::search::{Findings, Search};
 use mq_acl::Row;
 use mq_jsonl::{LINE_ROOM, keep_front, split_line};
-use mq_questions::Reach;
 use std::alloc::Global;
 use std::io::{self, Read};
 
@@ -106,12 +106,12 @@ fn finish(mut reading: Reading, alloc: Global, list: &Reach) -> Result<Findings,
         → IfErr result (IsFaultAmong (subscriptions (all_lines script))) }
 {
     if reading.line.is_empty() {
-        return Ok(reading.search.findings());
+        return Ok(reading.search.findings(alloc)?);
     }
     reading
         .search
         .take_line(alloc, list, reading.line.as_slice())?;
-    Ok(reading.search.findings())
+    Ok(reading.search.findings(alloc)?)
 }
 
 // Reads the script, and searches its whole lines.

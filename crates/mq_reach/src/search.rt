@@ -1,20 +1,28 @@
 //! The search of a script, line by line.
-ghost use Rattle.std.specs.Prelude.{◌≡◌, ◌+◌, ◌<◌, ◌^◌, ◌≤◌, IfOk, IfErr, OnOk, Ok, Some, None};
+ghost use Rattle.std.specs.Prelude.{◌≡◌, ◌≢◌, ◌+◌, ◌<◌, ◌^◌, ◌≤◌, ◌&&◌, IfOk, IfErr, OnOk, Ok, Some, None};
 ghost use Rattle.std.specs.Prelude.{string_bytes, option_map, length};
-ghost use Rattle.mq_world.specs.World.{SubscriptionOptions, Subscribe};
+ghost use Rattle.std.specs.Option.{option_copied};
+ghost use Rattle.mq_world.specs.Refusals.{is_client_id};
+ghost use Rattle.mq_world.specs.Sessions.{is_connected};
+ghost use Rattle.mq_world.specs.World.{Advance, Connect, Disconnect, Subscribe};
+ghost use Rattle.mq_world.specs.World.{SubscriptionOptions, Unsubscribe};
 ghost use Rattle.mq_world.specs.Views.{request_of};
 ghost use Rattle.mq_jsonl.specs.Lines.{command_in};
 ghost use Rattle.mq_jsonl.specs.Reading.{reading};
 
-use crate::clients::Clients;
+use crate::connections::{end_sessions, take_over};
 use crate::counts::{Counts, LineKind};
 use crate::log::begins_as_log;
 use crate::question::{SearchFault, is_taken, is_vain};
+use crate::reach::Reach;
 use crate::subscription::Subscription;
+use crate::tracked::Tracked;
 use mq_jsonl::{LineFault, read_line};
-use mq_questions::Reach;
-use mq_world::Command;
+use mq_sessions::Sessions;
+use mq_topic::SubFilter;
+use mq_world::{Clock, Command, is_client_id, is_user_name};
 use std::alloc::{AllocError, Global};
+use std::rc::RcStr;
 
 /// What is found in a script.
 pub struct Findings {
@@ -39,8 +47,9 @@ impl Drop for Findings {
 
 /// How far a search has come.
 pub(crate) struct Search {
-    clients: Clients,
-    vain: Vec<Subscription>,
+    sessions: Sessions,
+    clock: Clock,
+    tracked: Tracked,
     pub counts: Counts,
     is_log: bool,
     ghost commands: { counts.commands ≤ counts.lines },
@@ -52,57 +61,146 @@ pub(crate) struct Search {
 impl Drop for Search {
     fn drop(self) {
         let Search {
-            clients: _,
-            vain: _,
+            sessions: _,
+            clock: _,
+            tracked: _,
             counts: _,
             is_log: _,
         } = self;
     }
 }
 
+// What a line is counted as that says no command, for this fault.
+fn no_command(fault: LineFault) -> Result<LineKind, SearchFault>
+    ensures ok { IfOk result (λ kind. (kind ≡ LineKind.NoCommand) × (fault ≢ LineFault.Memory)) }
+    ensures err { IfErr result (λ told. told ≡ SearchFault.Memory) }
+{
+    match fault {
+        LineFault::Memory => Err(SearchFault::Memory),
+        _ => Ok(LineKind::NoCommand),
+    }
+}
+
+fn copied(alloc: Global, text: Option<&str>) -> Result<Option<String>, AllocError>
+    ensures { IfOk result (λ copy. option_map string_bytes copy ≡ option_copied text.entry) }
+{
+    match text {
+        None => Ok(None),
+        Some(text) => Ok(Some(String::from_str(alloc, text)?)),
+    }
+}
+
 impl Search {
     ghost use Rattle.std.specs.Prelude.{List, ℕ, ◌++◌, ◌∷◌, [], map};
-    ghost use Rattle.std.specs.Option.{option_to_list};
+    ghost use Rattle.std.specs.Option.{option_and_then};
     ghost use Rattle.mq_acl.specs.Rows.{AclRow};
-    ghost use Rattle.mq_reach.specs.Faults.{IsFaultAmong};
-    ghost use Rattle.mq_reach.specs.Subscriptions.{subscription_by, subscriptions};
-    ghost use Rattle.mq_reach.specs.Clients.{user_at};
-    ghost use Rattle.mq_reach.specs.Search.{Applies, IsFound, IsSearched, made_by};
-    ghost use Rattle.mq_reach.specs.Search.{subscription_view};
+    ghost use Rattle.mq_reach.specs.Faults.{FailsBy, IsFaultAmong};
+    ghost use Rattle.mq_reach.specs.Subscriptions.{subscriptions};
+    ghost use Rattle.mq_reach.specs.Search.{Applies, IsFound, IsSearched, kind_of, told_by};
+    ghost use Rattle.mq_reach.specs.Tracked.{subscription_view};
 
     pub fn new(alloc: Global) -> Search
         ensures searched { (rows : List AclRow) → IsSearched rows [] result }
         ensures lines { result.counts.lines ≡ 0 }
     {
         Search {
-            clients: Clients::new(alloc),
-            vain: Vec::new(alloc),
+            sessions: Sessions::new(alloc),
+            clock: Clock::start(),
+            tracked: Tracked::new(alloc),
             counts: Counts::new(),
             is_log: false,
         }
     }
 
+    // A client connects, unless its client id or its user name can't be one.
+    fn connect(
+        &mut self,
+        alloc: Global,
+        list: &Reach,
+        client: &str,
+        user: Option<String>,
+        clean: bool,
+        session_expiry: u32,
+    ) -> Result<(), SearchFault>
+        ensures ok { OnOk result (Applies list.now (Some (Connect client.now
+            (option_map string_bytes user) clean session_expiry)) self.old self.new) }
+        ensures err { IfErr result (FailsBy list.now (Some (Connect client.now
+            (option_map string_bytes user) clean session_expiry)) self.old) }
+    {
+        if !is_client_id(client) {
+            return Ok(());
+        }
+        if !is_user_name(user.as_deref()) {
+            return Ok(());
+        }
+        take_over(
+            &mut self.tracked,
+            &self.sessions,
+            alloc,
+            list,
+            client,
+            user.as_deref(),
+            clean,
+        )?;
+        let id = RcStr::from_str(alloc, client)?;
+        self.sessions.insert(alloc, id, user, session_expiry)?;
+        Ok(())
+    }
+
+    // Whether a command of this client may act: it is one, and connected.
+    fn is_connected(&self, client: &str) -> bool
+        ensures { result ≡ (is_client_id client.now && is_connected self.now.sessions client.now) }
+    {
+        is_client_id(client) && self.sessions.connected(client).is_some()
+    }
+
+    // A connection ends, if there is one. It takes no memory.
+    fn disconnect(&mut self, client: &str)
+        ensures { (rows : List AclRow) → Applies rows (Some (Disconnect client.now)) self.old self.new }
+    {
+        if !self.is_connected(client) {
+            return;
+        }
+        if self.sessions.outlives(client) {
+            self.sessions.disconnect(client, self.clock);
+            return;
+        }
+        self.sessions.remove(client);
+        self.tracked.close_all(client);
+    }
+
+    // The clock moves, unless past its last moment. It takes no memory.
+    fn advance(&mut self, seconds: u64)
+        ensures { (rows : List AclRow) → Applies rows (Some (Advance seconds)) self.old self.new }
+    {
+        let Some(clock) = self.clock.later(seconds) else {
+            return;
+        };
+        self.clock = clock;
+        end_sessions(&mut self.sessions, &mut self.tracked, clock.moment);
+    }
+
     // The subscription that a subscribe makes, if a broker takes it.
     fn subscription(
         &self,
+        alloc: Global,
         client: String,
         filter: String,
         no_local: bool,
     ) -> Result<Option<Subscription>, AllocError>
         requires { self.now.counts.lines + 1 < 2 ^ 64 }
         ensures { (options : SubscriptionOptions) → options.no_local ≡ no_local
-            → IfOk result (λ made.
-            option_map subscription_view made ≡ subscription_by (self.now.counts.lines + 1)
-            (user_at self.now.clients)
+            → IfOk result (λ made. option_map subscription_view made
+            ≡ told_by (self.now.counts.lines + 1) self.now.sessions
             (Subscribe (string_bytes client) (string_bytes filter) options)) }
     {
+        if !self.is_connected(client.as_str()) {
+            return Ok(None);
+        }
         if !is_taken(filter.as_str(), no_local) {
             return Ok(None);
         }
-        let Some(user) = self.clients.user(client.as_str()) else {
-            return Ok(None);
-        };
-        let user = user.clone()?;
+        let user = copied(alloc, self.sessions.user(client.as_str()))?;
         Ok(Some(Subscription {
             line: self.counts.lines + 1,
             client,
@@ -121,23 +219,42 @@ impl Search {
         no_local: bool,
     ) -> Result<LineKind, SearchFault>
         requires { self.old.counts.lines + 1 < 2 ^ 64 }
-        ensures ok { (options : SubscriptionOptions) → options.no_local ≡ no_local → IfOk result
-            (Applies list.now (Ok (Some (Subscribe (string_bytes client)
-            (string_bytes filter) options))) self.old self.new) }
+        ensures ok { (options : SubscriptionOptions) → options.no_local ≡ no_local → OnOk result
+            (Applies list.now (Some (Subscribe (string_bytes client) (string_bytes filter) options))
+            self.old self.new) }
+        ensures kind { (options : SubscriptionOptions) → options.no_local ≡ no_local
+            → let request = Subscribe (string_bytes client) (string_bytes filter) options in
+            IfOk result (λ kind. kind ≡ kind_of (told_by (self.old.counts.lines + 1)
+            self.old.sessions request) (Ok (Some request))) }
         ensures err { (options : SubscriptionOptions) → options.no_local ≡ no_local
-            → IfErr result (IsFaultAmong (option_to_list (made_by self.old
-            (Some (Subscribe (string_bytes client) (string_bytes filter) options))))) }
+            → IfErr result (FailsBy list.now (Some (Subscribe (string_bytes client)
+            (string_bytes filter) options)) self.old) }
     {
-        let Some(subscription) = self.subscription(client, filter, no_local)? else {
+        let Some(subscription) = self.subscription(alloc, client, filter, no_local)? else {
             return Ok(LineKind::Command);
         };
-        if !is_vain(alloc, list, &subscription)? {
+        self.tracked
+            .close(subscription.client.as_str(), subscription.filter.as_str());
+        let vain = is_vain(alloc, list, &subscription, subscription.user.as_deref())?;
+        if !vain {
             return Ok(LineKind::Subscription);
         }
-        match self.vain.push(subscription) {
-            Ok(()) => Ok(LineKind::Subscription),
-            Err(_) => Err(SearchFault::Memory),
+        self.tracked.add(subscription)?;
+        Ok(LineKind::Subscription)
+    }
+
+    // A client unsubscribes, if it is connected. It takes no memory.
+    fn unsubscribe(&mut self, client: &str, filter: &str)
+        ensures { (rows : List AclRow) → Applies rows (Some (Unsubscribe client.now filter.now)) self.old
+            self.new }
+    {
+        if !self.is_connected(client) {
+            return;
         }
+        if !SubFilter::is_valid(filter) {
+            return;
+        }
+        self.tracked.close(client, filter);
     }
 
     fn apply(
@@ -147,18 +264,23 @@ impl Search {
         command: Command,
     ) -> Result<LineKind, SearchFault>
         requires { self.old.counts.lines + 1 < 2 ^ 64 }
-        ensures ok { IfOk result (Applies list.now (Ok (Some (request_of command)))
-            self.old self.new) }
-        ensures err { IfErr result (IsFaultAmong
-            (option_to_list (made_by self.old (Some (request_of command))))) }
+        ensures ok { OnOk result (Applies list.now (Some (request_of command)) self.old self.new) }
+        ensures kind { IfOk result (λ kind. kind ≡ kind_of (told_by (self.old.counts.lines + 1)
+            self.old.sessions (request_of command)) (Ok (Some (request_of command)))) }
+        ensures err { IfErr result (FailsBy list.now (Some (request_of command)) self.old) }
     {
         match command {
-            Command::Connect { client, user, .. } => {
-                self.clients.connect(client, user)?;
+            Command::Connect {
+                client,
+                user,
+                clean,
+                session_expiry,
+            } => {
+                self.connect(alloc, list, client.as_str(), user, clean, session_expiry)?;
                 Ok(LineKind::Command)
             }
             Command::Disconnect { client } => {
-                self.clients.disconnect(client.as_str());
+                self.disconnect(client.as_str());
                 Ok(LineKind::Command)
             }
             Command::Subscribe {
@@ -167,22 +289,35 @@ impl Search {
                 no_local,
                 ..
             } => self.subscribe(alloc, list, client, filter, no_local),
-            _ => Ok(LineKind::Command),
+            Command::Unsubscribe { client, filter } => {
+                self.unsubscribe(client.as_str(), filter.as_str());
+                Ok(LineKind::Command)
+            }
+            Command::Advance { seconds } => {
+                self.advance(seconds);
+                Ok(LineKind::Command)
+            }
+            Command::Publish { .. } => Ok(LineKind::Command),
+            Command::SetAcl { .. } => Ok(LineKind::Command),
+            Command::Stat => Ok(LineKind::Command),
         }
     }
 
     // What the line is counted as.
     fn read(&mut self, alloc: Global, list: &Reach, line: &[u8]) -> Result<LineKind, SearchFault>
         requires { self.old.counts.lines + 1 < 2 ^ 64 }
-        ensures ok { IfOk result (Applies list.now (reading line.now) self.old self.new) }
-        ensures err { IfErr result (IsFaultAmong
-            (option_to_list (made_by self.old (command_in (reading line.now))))) }
+        ensures ok { OnOk result (Applies list.now (command_in (reading line.now)) self.old
+            self.new) }
+        ensures kind { IfOk result (λ kind. kind ≡ kind_of (option_and_then
+            (told_by (self.old.counts.lines + 1) self.old.sessions) (command_in (reading line.now)))
+            (reading line.now)) }
+        ensures err { (before : List (List ℕ)) → IsSearched list.now before self.old
+            → IfErr result (IsFaultAmong (subscriptions (before ++ line.now ∷ []))) }
     {
         match read_line(alloc, line) {
             Ok(None) => Ok(LineKind::Blank),
             Ok(Some(command)) => self.apply(alloc, list, command),
-            Err(LineFault::Memory) => Err(SearchFault::Memory),
-            Err(_) => Ok(LineKind::NoCommand),
+            Err(fault) => no_command(fault),
         }
     }
 
@@ -205,20 +340,21 @@ impl Search {
     }
 
     /// What is found so far.
-    pub fn findings(self) -> Findings
+    pub fn findings(self, alloc: Global) -> Result<Findings, AllocError>
         ensures { (rows : List AclRow) (lines : List (List ℕ)) → IsSearched rows lines self
-            → IsFound rows lines result }
+            → IfOk result (IsFound rows lines) }
     {
         let Search {
-            clients: _,
-            vain,
+            sessions: _,
+            clock: _,
+            tracked,
             counts,
             is_log,
         } = self;
-        Findings {
-            vain,
+        Ok(Findings {
+            vain: tracked.vain(alloc)?,
             counts,
             is_log,
-        }
+        })
     }
 }

@@ -10,4 +10,5 @@ returns-in-Some c =
       question = sym (rw c.in-Some.is at c.in_ok-question.ensures);
       json = λ e. c.get_flag-json.ensures.value (read ∙ e);
       no_json = λ e. c.get_flag-json.ensures.other (read ∙ e);
+      steps = c.steps_in-steps.ensures;
     }

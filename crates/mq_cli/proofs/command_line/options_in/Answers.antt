@@ -2,8 +2,8 @@ use Rattle.std.proofs.Common.{◌∙◌, ap, sym, codes}
 use Rattle.std.specs.Prelude.{option_and_then}
 use Rattle.clap.specs.Words.{first_of, one_of, found_of}
 use Rattle.clap.proofs.WalkLemmas.{first_value-rows, one_text-rows}
-use Rattle.mq_cli.specs.CommandLine.{number_in}
-use Rattle.mq_cli.proofs.NumberLemmas.{number-given}
+use Rattle.mq_args.specs.Numbers.{number_in}
+use Rattle.mq_args.proofs.NumberLemmas.{number-given}
 use Rattle.mq_cli.proofs.FlagLemmas.{flag-given}
 use Rattle.mq_cli.proofs.command_line.options_in.Goals as goal
 

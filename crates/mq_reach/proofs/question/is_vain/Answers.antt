@@ -1,5 +1,16 @@
-use Rattle.std.proofs.Common.{rules}
+use Rattle.std.proofs.Common.{◌∙◌, ap, subst, string_bytes}
+use Rattle.std.specs.Option.{option_copied}
+use Rattle.mq_topic.specs.Texts.{filter_part}
+use Rattle.mq_reach.specs.Reach.{IsReachFault}
 use Rattle.mq_reach.proofs.question.is_vain.Goals as goal
 
-pub returns-in-Ok-clause-reached : goal.returns-in-Ok-clause-reached
-returns-in-Ok-clause-reached c = search rules
+pub returns-clause-err : goal.returns-clause-err
+returns-clause-err c =
+    let user = option_copied c.args.user in
+    let client = string_bytes c.args.subscription.now.client in
+    let fault = c.in-Err.fault in
+    c.fault_of.ensures user
+    (subst (λ f. IsReachFault client user f fault)
+    (c.in_ok-filter.ensures.ok ∙ ap filter_part c.as_str.ensures.value)
+    (subst (λ l. IsReachFault l user c.in_ok-filter.filter fault) c.as_str-client.ensures.value
+    c.in-Err.ensures.fault))

@@ -11,7 +11,7 @@ use Rattle.mq_reach.proofs.reading.finish.Goals as goal
 
 pub returns-then-is_empty-clause-ok : goal.returns-then-is_empty-clause-ok
 returns-then-is_empty-clause-ok c = λ script holds.
-    c.findings.ensures c.args.list.now (all_lines script)
+    c.in_ok-findings.ensures c.args.list.now (all_lines script)
     (whole-empty c.args.list.now script c.args.reading holds
     (nil_from_count c.args.reading.line.len c.args.reading.line.items
     (let v = c.args.reading.line.ok.0 in omega arith)
@@ -19,7 +19,7 @@ returns-then-is_empty-clause-ok c = λ script holds.
 
 pub returns-clause-ok : goal.returns-clause-ok
 returns-clause-ok c = λ script holds.
-    c.findings-2.ensures c.args.list.now (all_lines script)
+    c.in_ok-findings-2.ensures c.args.list.now (all_lines script)
     (whole-piece c.args.list.now script c.args.reading c.take_line.new.self holds
     (not_nil_from_count c.args.reading.line.len c.args.reading.line.items
     (let v = c.args.reading.line.ok.0 in omega arith)
@@ -30,7 +30,8 @@ returns-clause-ok c = λ script holds.
 
 pub returns-in_err-take_line-clause-err : goal.returns-in_err-take_line-clause-err
 returns-in_err-take_line-clause-err c = λ script holds.
-    let fault = err_from_is_err_and c.from_residual.result c.from_residual.ensures.1 in
+    let fault = err_from_is_err_and c.from_residual-in_err-take_line.result
+    c.from_residual-in_err-take_line.ensures.1 in
     rw (fault.1, fault.2) (last_fault c.args.list.now script c.args.reading _ holds
     (not_nil_from_count c.args.reading.line.len c.args.reading.line.items
     (let v = c.args.reading.line.ok.0 in omega arith)

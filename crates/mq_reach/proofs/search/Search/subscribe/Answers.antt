@@ -1,50 +1,82 @@
-use Rattle.std.proofs.Common.{◌∙◌, inl, inr, refl, subst, sym, ap, string_bytes}
-use Rattle.std.specs.Option.{option_map, option_to_list}
+use Rattle.std.proofs.Common.{◌≡◌, ◌∙◌, ◌++◌, ◌∷◌, [], Some, Ok, ap, sym, subst}
+use Rattle.std.proofs.Common.{refl, rules, map, string_bytes}
+use Rattle.std.specs.Option.{option_copied, option_map}
 use Rattle.std.proofs.lemmas.Result.{err_from_is_err_and}
-use Rattle.mq_reach.specs.Faults.{IsFaultAmong}
-use Rattle.mq_reach.specs.Search.{subscription_view, subscription_views}
-use Rattle.mq_reach.proofs.SearchLemmas.{Applies-none, Applies-some, views-push}
+use Rattle.mq_topic.specs.Texts.{filter_part}
+use Rattle.mq_world.specs.World.{Request, Subscribe}
+use Rattle.mq_reach.specs.Faults.{IsAskFault}
+use Rattle.mq_reach.specs.Reach.{Reads, ReadsNone}
+use Rattle.mq_reach.specs.Search.{kind_of}
+use Rattle.mq_reach.specs.Tracked.{closed_one, subscription_view, tracked_of}
+use Rattle.mq_reach.proofs.SubscribeLemmas.{subscribe-fails, subscribe-reached, subscribe-refused}
+use Rattle.mq_reach.proofs.SubscribeLemmas.{subscribe-vain}
 use Rattle.mq_reach.proofs.search.Search.subscribe.Goals as goal
 
 pub returns-in_default-clause-ok : goal.returns-in_default-clause-ok
-returns-in_default-clause-ok c = λ options h.
-    Applies-none c.args.list.now (string_bytes c.args.client)
-    (string_bytes c.args.filter) options c.args.self.now
-    (sym (c.in_ok-subscription.ensures options h)
-    ∙ ap (option_map subscription_view) c.in_default.is)
+returns-in_default-clause-ok c = λ options e.
+    subscribe-refused c.args.list.now (string_bytes c.args.client) (string_bytes c.args.filter)
+    options c.args.self.now
+    (ap (option_map subscription_view) (sym c.in_default.is) ∙ c.in_ok-subscription.ensures options
+    e)
 
-pub returns-then-not-branch-clause-ok : goal.returns-then-not-branch-clause-ok
-returns-then-not-branch-clause-ok c = λ options h.
-    Applies-some c.args.list.now (string_bytes c.args.client)
-    (string_bytes c.args.filter) options c.args.self.now c.args.self.now
-    (subscription_view c.in-Some.subscription)
-    (sym (c.in_ok-subscription.ensures options h) ∙ ap (option_map subscription_view) c.in-Some.is)
+pub returns-in_default-clause-kind : goal.returns-in_default-clause-kind
+returns-in_default-clause-kind c = λ options e.
+    let request : Request =
+    Subscribe (string_bytes c.args.client) (string_bytes c.args.filter) options in
+    ap (λ o. kind_of o (Ok (Some request)))
+    (ap (option_map subscription_view) (sym c.in_default.is) ∙ c.in_ok-subscription.ensures options
+    e)
+
+pub returns-in_err-vain-clause-err : goal.returns-in_err-vain-clause-err
+returns-in_err-vain-clause-err c = λ options e.
+    let told = subscription_view c.in-Some.subscription in
+    let user : option_copied c.as_deref.result ≡ told.user = search rules in
+    let fault = err_from_is_err_and c.from_residual-in_err-vain.result
+    c.from_residual-in_err-vain.ensures.1 in
+    rw (fault.1, fault.2) (subscribe-fails c.args.list.now (string_bytes c.args.client)
+    (string_bytes c.args.filter) options c.args.self.now told c.in_err-vain.field-0.0
+    (ap (option_map subscription_view) (sym c.in-Some.is) ∙ c.in_ok-subscription.ensures options e)
+    (subst (λ u. IsAskFault told u c.in_err-vain.field-0.0) user c.in_err-vain.ensures.err))
+
+pub returns-then-not-vain-clause-ok : goal.returns-then-not-vain-clause-ok
+returns-then-not-vain-clause-ok c = λ options e.
+    let told = subscription_view c.in-Some.subscription in
+    let user : option_copied c.as_deref.result ≡ told.user = search rules in
+    let reached = c.in_ok-vain.ensures.reached c.if-not-vain.true in
+    subscribe-reached c.args.list.now (string_bytes c.args.client) (string_bytes c.args.filter)
+    options c.args.self.now _ told
+    (ap (option_map subscription_view) (sym c.in-Some.is) ∙ c.in_ok-subscription.ensures options e)
+    reached.0 reached.1
+    (subst (λ u. Reads c.args.list.now told.client u (filter_part told.filter) reached.0) user
+    reached.2)
     refl refl
-    (inl (c.in_ok-is_vain.ensures.reached c.if-not-branch.true, refl))
+    (c.close.ensures ∙ (λ i. map (closed_one (c.as_str.ensures.value i) (c.as_str-2.ensures.value i))
+    c.args.self.now.tracked)) refl
+
+pub returns-then-not-vain-clause-kind : goal.returns-then-not-vain-clause-kind
+returns-then-not-vain-clause-kind c = λ options e.
+    let request : Request =
+    Subscribe (string_bytes c.args.client) (string_bytes c.args.filter) options in
+    ap (λ o. kind_of o (Ok (Some request)))
+    (ap (option_map subscription_view) (sym c.in-Some.is) ∙ c.in_ok-subscription.ensures options e)
 
 pub returns-clause-ok : goal.returns-clause-ok
-returns-clause-ok c = λ options h. elim c.match-push.branch [
-  | goal.in-Ok w ↦
-      rw w.result-is
-      (Applies-some c.args.list.now (string_bytes c.args.client)
-      (string_bytes c.args.filter) options c.args.self.now _
-      (subscription_view c.in-Some.subscription)
-      (sym (c.in_ok-subscription.ensures options h)
-      ∙ ap (option_map subscription_view) c.in-Some.is) refl refl
-      (inr (
-        c.in_ok-is_vain.ensures.vain c.if-not-branch.false,
-        ap subscription_views w.in-Ok.ensures.items
-            ∙ views-push c.args.self.now.vain.items c.in-Some.subscription,
-      )))
-  | goal.in-Err w ↦ rw w.result-is tt
-]
+returns-clause-ok c = λ options e.
+    let told = subscription_view c.in-Some.subscription in
+    let user : option_copied c.as_deref.result ≡ told.user = search rules in
+    let none = c.in_ok-vain.ensures.vain c.if-not-vain.false in
+    subscribe-vain c.args.list.now (string_bytes c.args.client) (string_bytes c.args.filter)
+    options c.args.self.now _ told
+    (ap (option_map subscription_view) (sym c.in-Some.is) ∙ c.in_ok-subscription.ensures options e)
+    (subst (λ u. ReadsNone c.args.list.now told.client u (filter_part told.filter)) user none)
+    refl refl
+    (c.in_ok-add.ensures.ok ∙ ap (λ l. l ++ tracked_of c.in-Some.subscription ∷ [])
+    (c.close.ensures ∙ (λ i. map (closed_one (c.as_str.ensures.value i) (c.as_str-2.ensures.value i))
+    c.args.self.now.tracked))) refl
 
-pub returns-in_err-is_vain-clause-err : goal.returns-in_err-is_vain-clause-err
-returns-in_err-is_vain-clause-err c = λ options h.
-    let fault = err_from_is_err_and c.from_residual-in_err-is_vain.result
-    c.from_residual-in_err-is_vain.ensures.1 in
-    let made = sym (c.in_ok-subscription.ensures options h)
-    ∙ ap (option_map subscription_view) c.in-Some.is in
-    rw (fault.1, fault.2)
-    (subst (λ all. IsFaultAmong (option_to_list all) c.in_err-is_vain.field-0.0) (sym made)
-    c.in_err-is_vain.ensures.err)
+pub returns-clause-kind : goal.returns-clause-kind
+returns-clause-kind c = λ options e.
+    let request : Request =
+    Subscribe (string_bytes c.args.client) (string_bytes c.args.filter) options in
+    ap (λ o. kind_of o (Ok (Some request)))
+    (ap (option_map subscription_view) (sym c.in-Some.is) ∙ c.in_ok-subscription.ensures options e)

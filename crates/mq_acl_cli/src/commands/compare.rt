@@ -1,0 +1,138 @@
+//! The answer to `compare`.
+ghost use Rattle.std.specs.Prelude.{◌≡◌, ◌≢◌, ℕ, [], IfOk, IfErr};
+ghost use Rattle.mq_findings.specs.Faults.{IsComparisonFault};
+ghost use Rattle.mq_acl_cli.specs.Answers.{AreChanges, AreRows, IsCompared};
+ghost use Rattle.mq_acl_cli.specs.Failures.{IsComparisonFailure};
+ghost use Rattle.mq_acl_cli.specs.Statuses.{failure_status};
+
+use crate::failure::Failure;
+use crate::list::rows_in;
+use crate::outcome::Outcome;
+use crate::print::print_outcome;
+use mq_acl::Row;
+use mq_acl_print::{ListText, changes_text};
+use mq_findings::{ComparisonFault, Difference, Side, compare};
+use std::alloc::Global;
+use std::io::Write;
+
+/// Two lists, and where they differ.
+pub struct Changes {
+    /// The rows of the old list.
+    pub old: Vec<Row>,
+    /// The rows of the new list.
+    pub new: Vec<Row>,
+    /// Where they differ.
+    pub differences: Vec<Difference>,
+}
+
+// One step where it is dropped, and not one for each thing inside.
+impl Drop for Changes {
+    fn drop(self) {
+        let Changes {
+            old: _,
+            new: _,
+            differences: _,
+        } = self;
+    }
+}
+
+impl Changes {
+    /// Where the lists differ, without their rows.
+    pub fn into_differences(self) -> Vec<Difference>
+        ensures { result ≡ self.differences }
+    {
+        let Changes {
+            old: _,
+            new: _,
+            differences,
+        } = self;
+        differences
+    }
+}
+
+fn comparison_failure<'a>(
+    old: ListText<'a, '_>,
+    new: ListText<'a, '_>,
+    old_rows: &[Row],
+    new_rows: &[Row],
+    fault: ComparisonFault,
+) -> Failure<'a>
+    requires old { AreRows old.text.now old_rows.now }
+    requires new { AreRows new.text.now new_rows.now }
+    ensures { (steps : ℕ) → IsComparisonFault old_rows.now new_rows.now steps fault
+        → IsComparisonFailure old.entry new.entry steps result }
+{
+    match fault {
+        ComparisonFault::Memory => Failure::Memory,
+        ComparisonFault::OldLine(line) => Failure::Long {
+            file: old.file,
+            line,
+        },
+        ComparisonFault::NewLine(line) => Failure::Long {
+            file: new.file,
+            line,
+        },
+        ComparisonFault::GaveUp(Side::Old, line, others) => Failure::GaveUp {
+            file: old.file,
+            line,
+            others,
+        },
+        ComparisonFault::GaveUp(Side::New, line, others) => Failure::GaveUp {
+            file: new.file,
+            line,
+            others,
+        },
+    }
+}
+
+/// Where the lists with these texts differ. Where so many steps don't suffice to know it, it is given up: what is answered
+/// is always the whole.
+pub fn find_changes<'a>(
+    alloc: Global,
+    old: ListText<'a, '_>,
+    new: ListText<'a, '_>,
+    steps: u64,
+) -> Result<Changes, Failure<'a>>
+    ensures ok { IfOk result (AreChanges old.entry.text.now new.entry.text.now) }
+    ensures err { IfErr result (IsComparisonFailure old.entry new.entry steps) }
+{
+    let old_rows = rows_in(alloc, old)?;
+    let new_rows = rows_in(alloc, new)?;
+    match compare(alloc, &old_rows, &new_rows, steps) {
+        Ok(differences) => Ok(Changes {
+            old: old_rows,
+            new: new_rows,
+            differences,
+        }),
+        Err(fault) => Err(comparison_failure(old, new, &old_rows, &new_rows, fault)),
+    }
+}
+
+// Whether there are differences.
+fn outcome_of(differences: &[Difference]) -> Outcome
+    ensures clear { result ≡ Outcome.Clear → differences.now ≡ [] }
+    ensures remark { result ≡ Outcome.Remark → differences.now ≢ [] }
+{
+    if differences.is_empty() {
+        return Outcome::Clear;
+    }
+    Outcome::Remark
+}
+
+/// Shows where the lists with these texts differ, if so many steps suffice to know it.
+pub fn tell_changes<'a, W: Write>(
+    alloc: Global,
+    old: ListText<'a, '_>,
+    new: ListText<'a, '_>,
+    json: bool,
+    steps: u64,
+    out: &mut W,
+) -> Result<Outcome, Failure<'a>>
+    ensures ok { IfOk result (IsCompared old.entry.text.now new.entry.text.now) }
+    ensures unread { IfErr result (λ failure. failure_status failure ≡ 2 → out.new ≡ out.old) }
+{
+    let changes = find_changes(alloc, old, new, steps)?;
+    let outcome = outcome_of(&changes.differences);
+    let text = changes_text(alloc, old, new, changes.into_differences(), json);
+    print_outcome(out, text, outcome)
+}

@@ -1,0 +1,136 @@
+//! The answer to `reach`.
+ghost use Rattle.std.specs.Prelude.{◌≡◌, ◌⊎◌, ℕ, List, IfOk, IfErr, Some, None, IsTrue, false};
+ghost use Rattle.std.specs.Option.{option_copied};
+ghost use Rattle.mq_topic.specs.Texts.{filter_part, is_name, is_subscription};
+ghost use Rattle.mq_acl.specs.Views.{row_views};
+ghost use Rattle.mq_acl_cli.specs.Answers.{AreRows, IsReach, IsReached};
+ghost use Rattle.mq_acl_cli.specs.Failures.{IsListFailure, IsWordFailure};
+ghost use Rattle.mq_acl_cli.specs.Statuses.{failure_status};
+
+use crate::commands::short_topic::shown_topic;
+use crate::failure::Failure;
+use crate::list::rows_in;
+use crate::outcome::Outcome;
+use crate::print::print_outcome;
+use crate::request::Client;
+use mq_acl::Row;
+use mq_acl_print::{ListText, topic_text};
+use mq_reach::{Reach, ReachFault};
+use mq_topic::{LevelText, SubFilter, TopicFault, TopicFilter, TopicName};
+use mq_witness::ListFault;
+use std::alloc::Global;
+use std::io::Write;
+
+fn filter_in(alloc: Global, subscription: &str) -> Result<TopicFilter, Failure<'_>>
+    ensures ok { IfOk result (λ filter. filter ≡ filter_part subscription.entry.now) }
+    ensures err { IfErr result (λ failure. (failure ≡ Failure.Memory)
+        ⊎ ((failure ≡ Failure.Filter subscription.entry)
+        × (is_subscription subscription.entry.now ≡ false))) }
+{
+    match SubFilter::parse(alloc, subscription) {
+        Ok(parts) => Ok(parts.filter),
+        Err(TopicFault::Memory) => Err(Failure::Memory),
+        Err(_) => Err(Failure::Filter(subscription)),
+    }
+}
+
+fn reach_of<'a, 'r>(
+    alloc: Global,
+    list: ListText<'a, '_>,
+    rows: &'r [Row],
+) -> Result<Reach<'r>, Failure<'a>>
+    requires { AreRows list.text.now rows.now }
+    ensures ok { IfOk result (λ reach. reach ≡ row_views rows.entry.now) }
+    ensures err { IfErr result (IsListFailure list.entry) }
+{
+    match Reach::new(alloc, rows) {
+        Ok(reach) => Ok(reach),
+        Err(ListFault::Memory) => Err(Failure::Memory),
+        Err(ListFault::Line(_, line)) => Err(Failure::Long {
+            file: list.file,
+            line,
+        }),
+    }
+}
+
+// A topic that the filter matches and that these rows, which are the list's, let the client read.
+fn topic_in<'a>(
+    alloc: Global,
+    list: ListText<'a, '_>,
+    rows: &[Row],
+    client: Client<'a>,
+    filter: &TopicFilter,
+) -> Result<Option<TopicName>, Failure<'a>>
+    requires { AreRows list.text.now rows.now }
+    ensures ok { IfOk result (λ found. (subscription : List ℕ)
+        → filter.now ≡ filter_part subscription → IsReach list.entry.text.now
+        client.entry.id.now (option_copied client.entry.user) subscription found) }
+    ensures err { IfErr result (λ failure. (subscription : List ℕ)
+        → filter.now ≡ filter_part subscription → IsListFailure list.entry failure
+        ⊎ IsWordFailure client.entry.id.now (option_copied client.entry.user)
+        subscription failure) }
+{
+    let reach = reach_of(alloc, list, rows)?;
+    match reach.topic(alloc, client.id, client.user, filter) {
+        Ok(None) => Ok(None),
+        Ok(Some(topic)) => {
+            let shown = shown_topic(alloc, rows, client, filter, topic)?;
+            Ok(Some(shown))
+        }
+        Err(ReachFault::Memory) => Err(Failure::Memory),
+        Err(_) => Err(Failure::LongWord),
+    }
+}
+
+/// A topic that a subscription of this client can be sent by the list, or that there is none. A subscription is a topic
+/// filter, or `$share/NAME/FILTER`.
+pub fn find_topic<'a>(
+    alloc: Global,
+    list: ListText<'a, '_>,
+    client: Client<'a>,
+    subscription: &'a str,
+) -> Result<Option<TopicName>, Failure<'a>>
+    ensures ok { IfOk result (IsReach list.entry.text.now client.entry.id.now
+        (option_copied client.entry.user) subscription.entry.now) }
+    ensures err { IfErr result (λ failure. IsListFailure list.entry failure
+        ⊎ IsWordFailure client.entry.id.now (option_copied client.entry.user)
+        subscription.entry.now failure) }
+{
+    let filter = filter_in(alloc, subscription)?;
+    let rows = rows_in(alloc, list)?;
+    topic_in(alloc, list, &rows, client, &filter)
+}
+
+// Whether there is a topic.
+fn outcome_of(found: &Option<TopicName>) -> Outcome
+    ensures clear { result ≡ Outcome.Clear
+        → (topic : List ℕ) × (found.now ≡ Some topic) × IsTrue (is_name topic) }
+    ensures remark { result ≡ Outcome.Remark → found.now ≡ None }
+{
+    match found {
+        None => Outcome::Remark,
+        Some(topic) => {
+            let _text = topic.text();
+            Outcome::Clear
+        }
+    }
+}
+
+/// Shows a topic that a subscription of this client can be sent, or that it is in vain.
+pub fn tell_reach<'a, W: Write>(
+    alloc: Global,
+    list: ListText<'a, '_>,
+    client: Client<'a>,
+    subscription: &'a str,
+    json: bool,
+    out: &mut W,
+) -> Result<Outcome, Failure<'a>>
+    ensures ok { IfOk result (IsReached list.entry.text.now client.entry.id.now
+        (option_copied client.entry.user) subscription.entry.now) }
+    ensures unread { IfErr result (λ failure. failure_status failure ≡ 2 → out.new ≡ out.old) }
+{
+    let found = find_topic(alloc, list, client, subscription)?;
+    let outcome = outcome_of(&found);
+    let text = topic_text(alloc, subscription, &found, json);
+    print_outcome(out, text, outcome)
+}

@@ -1,0 +1,119 @@
+//! The answer to `reach --script`.
+ghost use Rattle.std.specs.Prelude.{◌≡◌, ◌≢◌, ◌⊎◌, ◌<◌, [], ℕ, List, Option, IfOk, IfErr};
+ghost use Rattle.std.specs.Io.KnownBytes.{Consumes, IsAtEnd};
+ghost use Rattle.mq_reach.specs.Faults.{IsScriptFault};
+ghost use Rattle.mq_acl_cli.specs.Answers.{AreRows};
+ghost use Rattle.mq_acl_cli.specs.Failures.{IsListFailure, IsScriptFailure};
+ghost use Rattle.mq_acl_cli.specs.Script.{FindsVain, AreTold};
+ghost use Rattle.mq_acl_cli.specs.Statuses.{failure_status};
+
+use crate::failure::Failure;
+use crate::list::rows_in;
+use crate::outcome::Outcome;
+use crate::print::print_outcome;
+use mq_acl::Row;
+use mq_acl_print::{ListText, subscriptions_text};
+use mq_reach::{Findings, ScriptFault, SearchFault, find_vain};
+use std::alloc::Global;
+use std::io::{Read, Write};
+
+fn script_failure<'a>(
+    list: ListText<'a, '_>,
+    rows: &[Row],
+    script: &'a str,
+    fault: ScriptFault,
+) -> Failure<'a>
+    requires { AreRows list.text.now rows.now }
+    ensures { (before after : Option (List ℕ)) → IsScriptFault rows.now before after fault
+        → IsListFailure list.entry result
+        ⊎ IsScriptFailure script.entry.now before after result }
+{
+    match fault {
+        ScriptFault::Read(error) => Failure::of_io(script, error),
+        ScriptFault::TooLong => Failure::LongScript(script),
+        ScriptFault::Search(SearchFault::Memory) => Failure::Memory,
+        ScriptFault::Search(SearchFault::Row(line)) => Failure::Long {
+            file: list.file,
+            line,
+        },
+        ScriptFault::Search(SearchFault::Subscription(line)) => {
+            Failure::LongSubscription { file: script, line }
+        }
+    }
+}
+
+// The findings, unless no line of the script is a command.
+fn unless_no_command<'a>(findings: Findings, script: &'a str) -> Result<Findings, Failure<'a>>
+    ensures ok { IfOk result (λ kept. (kept ≡ findings) × (0 < findings.counts.commands)) }
+    ensures err { IfErr result (λ failure. (findings.counts.commands ≡ 0)
+        × ((failure ≡ Failure.NoCommand script.entry findings.counts.lines)
+        ⊎ (failure ≡ Failure.Log script.entry findings.counts.lines))) }
+{
+    if findings.counts.commands > 0 {
+        return Ok(findings);
+    }
+    let lines = findings.counts.lines;
+    if findings.is_log {
+        return Err(Failure::Log {
+            file: script,
+            lines,
+        });
+    }
+    Err(Failure::NoCommand {
+        file: script,
+        lines,
+    })
+}
+
+/// The subscriptions of the script that this reader gives, with this name, that are in vain under the list. A script of
+/// which no line is a command is a failure: it is another file than was meant.
+pub fn find_subscriptions<'a, R: Read>(
+    alloc: Global,
+    list: ListText<'a, '_>,
+    script: &'a str,
+    reader: &mut R,
+) -> Result<Findings, Failure<'a>>
+    ensures ok { IfOk result (λ findings. (given : List ℕ)
+        × Consumes (R.remaining reader.old) (R.remaining reader.new) given
+        × IsAtEnd (R.remaining reader.new) × FindsVain list.entry.text.now given findings) }
+    ensures err { IfErr result (λ failure. IsListFailure list.entry failure
+        ⊎ IsScriptFailure script.entry.now (R.remaining reader.old)
+        (R.remaining reader.new) failure) }
+{
+    let rows = rows_in(alloc, list)?;
+    match find_vain(alloc, &rows, reader) {
+        Ok(findings) => unless_no_command(findings, script),
+        Err(fault) => Err(script_failure(list, &rows, script, fault)),
+    }
+}
+
+// Whether there are any.
+fn outcome_of(findings: &Findings) -> Outcome
+    ensures clear { result ≡ Outcome.Clear → findings.now.vain.items ≡ [] }
+    ensures remark { result ≡ Outcome.Remark → findings.now.vain.items ≢ [] }
+{
+    if findings.vain.is_empty() {
+        return Outcome::Clear;
+    }
+    Outcome::Remark
+}
+
+/// Shows the subscriptions of the script that this reader gives, with this name, that are in vain under the list.
+pub fn tell_subscriptions<'a, R: Read, W: Write>(
+    alloc: Global,
+    list: ListText<'a, '_>,
+    script: &'a str,
+    reader: &mut R,
+    json: bool,
+    out: &mut W,
+) -> Result<Outcome, Failure<'a>>
+    ensures ok { IfOk result (λ outcome. (given : List ℕ)
+        × Consumes (R.remaining reader.old) (R.remaining reader.new) given
+        × IsAtEnd (R.remaining reader.new) × AreTold list.entry.text.now given outcome) }
+    ensures unread { IfErr result (λ failure. failure_status failure ≡ 2 → out.new ≡ out.old) }
+{
+    let findings = find_subscriptions(alloc, list, script, reader)?;
+    let outcome = outcome_of(&findings);
+    let text = subscriptions_text(alloc, script, &findings, json);
+    print_outcome(out, text, outcome)
+}

@@ -1,0 +1,264 @@
+-- A client subscribes.
+use Rattle.std.proofs.Common.{◌≡◌, ℕ, ◌+◌, ◌<◌, Bool, true, false, cond, ◌&&◌, ◌||◌, not, List, [], ◌∷◌}
+use Rattle.std.proofs.Common.{◌++◌, length, map, Option, Some, None, Contains, refl, sym, ◌∙◌, ap, subst}
+use Rattle.std.proofs.Common.{inl, inr, arith, append-nil, ◌==◌}
+use Rattle.std.specs.Prelude.{IsTrue}
+use Rattle.std.specs.Option.{option_to_list}
+use Rattle.std.proofs.Math.Bool.{and_assoc}
+use Rattle.std.proofs.lemmas.Bool.Decides.{Decides-eqb}
+use Rattle.std.proofs.lemmas.List.Elements.{Contains-push, Contains-push_cases}
+use Rattle.mq_topic.specs.Texts.{filter_part, is_name, is_shared, is_subscription}
+use Rattle.mq_acl.specs.Rows.{AclRow}
+use Rattle.mq_world.specs.After.{after, next}
+use Rattle.mq_world.specs.Lists.{Text, same_text}
+use Rattle.mq_world.specs.Refusals.{is_client_id}
+use Rattle.mq_world.specs.Sessions.{is_connected, user_of}
+use Rattle.mq_world.specs.World.{Session, Subscribe, SubscriptionOptions, World}
+use Rattle.mq_world.specs.declared.clock.Clock.{Clock}
+use Rattle.mq_reach.specs.Faults.{FailsBy, IsAskFault, IsFaultAmong, is_short_question}
+use Rattle.mq_reach.specs.Reach.{Reads, ReadsNone}
+use Rattle.mq_reach.specs.Search.{Applies, AreTracked, IsWorldOf, told_by}
+use Rattle.mq_reach.specs.Subscriptions.{Kept, commands_of, is_taken, made_by, subscriptions}
+use Rattle.mq_reach.specs.Subscriptions.{world_of}
+use Rattle.mq_reach.specs.Subscriptions as spec
+use Rattle.mq_reach.specs.Tracked.{TrackedSubscription, closed_if, closed_one, is_open}
+use Rattle.mq_reach.specs.Vain.{IsReached, IsVain}
+use Rattle.mq_reach.specs.declared.question.SearchFault.{SearchFault}
+use Rattle.mq_reach.specs.declared.question.SearchFault.TheVariants as search
+use Rattle.mq_reach.specs.declared.search.Search.{Search}
+use Rattle.mq_reach.specs.declared.tracked.State.TheVariants.{Open}
+use Rattle.mq_reach.proofs.AmongLemmas.{made_fault}
+use Rattle.mq_reach.proofs.CommandLemmas.{can_act-is}
+use Rattle.mq_reach.proofs.GrownLemmas.{all_sound}
+use Rattle.mq_reach.proofs.SessionLemmas.{user-kept, user-unqueued}
+use Rattle.mq_reach.proofs.StayLemmas.{next-taken, taken-subscribe}
+use Rattle.mq_reach.proofs.StepLemmas.{Applies-refused, kept-all, makes_at, taken-world, tracked-push}
+
+-- ## What is made
+
+-- a broker takes it
+abbrev pub takes_it : Search → Text → Text → SubscriptionOptions → Bool
+takes_it s id text options =
+    is_client_id id && is_connected s.sessions id && is_subscription text
+    && not (is_shared text && options.no_local)
+
+abbrev pub told_now : Search → Text → Text → spec.Subscription
+told_now s id text =
+    record { line = s.counts.lines + 1; client = id; user = user_of s.sessions id; filter = text }
+
+takes-is : (s : Search) (id text : Text) (options : SubscriptionOptions) (w : World)
+    → IsWorldOf w s → is_taken w (Subscribe id text options) ≡ takes_it s id text options
+takes-is s id text options w is =
+    taken-subscribe w id text options
+    ∙ ap (λ b. b && is_subscription text && not (is_shared text && options.no_local))
+    (sym (can_act-is s id w is))
+
+-- nothing is told where it isn't taken
+none_taken : (b : Bool) (told : spec.Subscription) → None ≡ cond b (Some told) None → b ≡ false
+none_taken true told e = cc
+none_taken false told e = refl
+
+some_taken : (b : Bool) (told s : spec.Subscription) → Some s ≡ cond b (Some told) None
+    → (b ≡ true) × (s ≡ told)
+some_taken true told s e = (refl, cc)
+some_taken false told s e = cc
+
+pub subscribe-refused : (rows : List AclRow) (id text : Text) (options : SubscriptionOptions)
+    (s : Search) → None ≡ told_by (s.counts.lines + 1) s.sessions (Subscribe id text options)
+    → Applies rows (Some (Subscribe id text options)) s s
+subscribe-refused rows id text options s e =
+    Applies-refused rows (Subscribe id text options) s
+    (λ w is. takes-is s id text options w is
+    ∙ none_taken (takes_it s id text options) (told_now s id text) e)
+
+-- what it makes, as it stands behind these lines
+abbrev made : List (List ℕ) → Text → Text → SubscriptionOptions → Kept
+made lines id text options = record {
+  told = record {
+    line = length lines + 1;
+    client = id;
+    user = user_of (world_of lines).sessions id;
+    filter = text;
+  };
+  users = user_of (next (world_of lines) (Subscribe id text options)).sessions id ∷ [];
+  is_open = true;
+}
+
+-- as much as it takes to prove what follows of a subscribe that is taken
+module _ (id text : Text) (options : SubscriptionOptions) (s : Search)
+    (takes : takes_it s id text options ≡ true) where
+  taken : (w : World) → IsWorldOf w s → is_taken w (Subscribe id text options) ≡ true
+  taken w is = takes-is s id text options w is ∙ takes
+
+  makes-it : (lines : List (List ℕ)) → IsWorldOf (world_of lines) s
+      → makes_at lines (Some (Subscribe id text options)) ≡ made lines id text options ∷ []
+  makes-it lines is = ap (λ b. option_to_list (cond b (Some (made lines id text options)) None))
+      (taken (world_of lines) is)
+
+  told-is : (lines : List (List ℕ)) → IsWorldOf (world_of lines) s
+      → length lines ≡ s.counts.lines → (made lines id text options).told ≡ told_now s id text
+  told-is lines is count =
+      (λ i. record {
+        line = ap (λ (n : ℕ). n + 1) count i;
+        client = id;
+        user = user-is (world_of lines) is i;
+        filter = text;
+      })
+    where
+      user-is : (w : World) → IsWorldOf w s → user_of w.sessions id ≡ user_of s.sessions id
+      user-is w is = sym (ap (λ (ss : List Session). user_of ss id) is.sessions
+          ∙ user-unqueued w.sessions id)
+
+  -- the client has the same user name behind it
+  user-now : (w : World) → IsWorldOf w s
+      → user_of (next w (Subscribe id text options)).sessions id ≡ user_of s.sessions id
+  unfolding after
+  user-now w is =
+      ap (λ (v : World). user_of v.sessions id)
+      (next-taken w (Subscribe id text options) (taken w is))
+      ∙ sym (ap (λ (ss : List Session). user_of ss id) is.sessions ∙ user-unqueued w.sessions id)
+
+  vain-now : (rows : List AclRow) (lines : List (List ℕ)) → IsWorldOf (world_of lines) s
+      → ReadsNone rows id (user_of s.sessions id) (filter_part text)
+      → IsVain rows (made lines id text options)
+  vain-now rows lines is none = λ user has.
+      let user-is : user_of (next (world_of lines) (Subscribe id text options)).sessions id ≡ user =
+      only _ user has in
+      subst (λ (u : Option Text). ReadsNone rows id u (filter_part text))
+      (sym (user-now (world_of lines) is) ∙ user-is) none
+    where
+      only : (u user : Option Text) → Contains (u ∷ []) user → u ≡ user
+      only u user has = elim (Contains-push_cases [] u user has) as (λ _. u ≡ user)
+          [ inl h ↦ absurd (let none : h.0 < 0 = h.1 in omega arith) | inr e ↦ e ]
+
+  reached-now : (rows : List AclRow) (lines : List (List ℕ)) → IsWorldOf (world_of lines) s
+      → (topic : List ℕ) → IsTrue (is_name topic)
+      → Reads rows id (user_of s.sessions id) (filter_part text) topic
+      → IsReached rows (made lines id text options)
+  reached-now rows lines is topic valid reads = record {
+    user = user_of (next (world_of lines) (Subscribe id text options)).sessions id;
+    had = Contains-push [] (user_of (next (world_of lines) (Subscribe id text options)).sessions id);
+    topic = topic;
+    valid = valid;
+    reads = subst (λ (u : Option Text). Reads rows id u (filter_part text) topic)
+        (sym (user-now (world_of lines) is)) reads;
+  }
+
+  applies : (rows : List AclRow) (new : Search) (us : List TrackedSubscription)
+      → ((lines : List (List ℕ)) → IsWorldOf (world_of lines) s → length lines ≡ s.counts.lines
+      → AreTracked rows (made lines id text options ∷ []) us)
+      → new.sessions ≡ s.sessions → new.clock ≡ s.clock
+      → new.tracked ≡ map (closed_one id text) s.tracked ++ us → new.counts ≡ s.counts
+      → Applies rows (Some (Subscribe id text options)) s new
+  unfolding after
+  applies rows new us one sessions clock tracked counts = record {
+    follows = λ w is. taken-world w (Subscribe id text options) new (taken w is) (record {
+      sessions = sessions ∙ is.sessions;
+      moment = ap (λ (c : Clock). c.moment) clock ∙ is.moment;
+    });
+    tracked = λ lines line says is are count.
+        (let w : World = world_of lines in
+        subst (AreTracked rows (subscriptions (lines ++ line ∷ []))) (sym tracked)
+        (tracked-push rows lines line (Some (Subscribe id text options))
+        (map (closed_one id text) s.tracked) us says
+        (kept-all rows w (Subscribe id text options) (subscriptions lines) s.tracked
+        (closed_one id text) (taken w is)
+        (λ client own e. user-kept w (Subscribe id text options) client own (taken w is) e refl)
+        (λ t. ap (λ b. closed_if b t)
+        (and_assoc (is_open t.state) (same_text t.told.client id) (same_text t.told.filter text)))
+        (all_sound lines) are)
+        (subst (λ all. AreTracked rows all us) (sym (makes-it lines is)) (one lines is count))));
+    counts = counts;
+  }
+
+-- what it makes is reached
+pub subscribe-reached : (rows : List AclRow) (id text : Text) (options : SubscriptionOptions)
+    (old new : Search) (told : spec.Subscription)
+    → Some told ≡ told_by (old.counts.lines + 1) old.sessions (Subscribe id text options)
+    → (topic : List ℕ) → IsTrue (is_name topic)
+    → Reads rows told.client told.user (filter_part told.filter) topic
+    → new.sessions ≡ old.sessions → new.clock ≡ old.clock
+    → new.tracked ≡ map (closed_one told.client told.filter) old.tracked
+    → new.counts ≡ old.counts
+    → Applies rows (Some (Subscribe id text options)) old new
+subscribe-reached rows id text options old new told e topic valid reads sessions clock tracked
+    counts =
+    let some = some_taken (takes_it old id text options) (told_now old id text) told e in
+    let here : Reads rows id (user_of old.sessions id) (filter_part text) topic =
+    subst (λ (t : spec.Subscription). Reads rows t.client t.user (filter_part t.filter) topic)
+    some.1 reads in
+    applies id text options old some.0 rows new []
+    (λ lines is count. inl (
+      reached-now id text options old some.0 rows lines is topic valid here,
+      refl,
+    )) sessions clock
+    (tracked ∙ ap (λ (t : spec.Subscription). map (closed_one t.client t.filter) old.tracked) some.1
+    ∙ sym (append-nil (map (closed_one id text) old.tracked)))
+    counts
+
+-- what it makes is in vain
+pub subscribe-vain : (rows : List AclRow) (id text : Text) (options : SubscriptionOptions)
+    (old new : Search) (told : spec.Subscription)
+    → Some told ≡ told_by (old.counts.lines + 1) old.sessions (Subscribe id text options)
+    → ReadsNone rows told.client told.user (filter_part told.filter)
+    → new.sessions ≡ old.sessions → new.clock ≡ old.clock
+    → new.tracked ≡ map (closed_one told.client told.filter) old.tracked
+    ++ record { told = told; state = Open } ∷ []
+    → new.counts ≡ old.counts
+    → Applies rows (Some (Subscribe id text options)) old new
+subscribe-vain rows id text options old new told e none sessions clock tracked counts =
+    let some = some_taken (takes_it old id text options) (told_now old id text) told e in
+    let here : ReadsNone rows id (user_of old.sessions id) (filter_part text) =
+    subst (λ (t : spec.Subscription). ReadsNone rows t.client t.user (filter_part t.filter))
+    some.1 none in
+    applies id text options old some.0 rows new (record { told = told; state = Open } ∷ [])
+    (λ lines is count. inr (
+      record { told = told; state = Open },
+      [],
+      refl,
+      (
+        some.1 ∙ sym (told-is id text options old some.0 lines is count),
+        inr (refl, vain-now id text options old some.0 rows lines is here),
+      ),
+      refl,
+    )) sessions clock
+    (tracked ∙ ap (λ (t : spec.Subscription). map (closed_one t.client t.filter) old.tracked
+    ++ record { told = told; state = Open } ∷ []) some.1)
+    counts
+
+long_now : (lines : List (List ℕ)) (id text : Text) (options : SubscriptionOptions)
+    (told : spec.Subscription) (fault : SearchFault) → told ≡ (made lines id text options).told
+    → told.user ≡ user_of (next (world_of lines) (Subscribe id text options)).sessions id
+    → IsAskFault told told.user fault
+    → IsFaultAmong (made lines id text options ∷ []) fault
+long_now lines id text options told search.Memory same user is = tt
+long_now lines id text options told (search.Row line) same user is = absurd is
+long_now lines id text options told (search.Subscription line) same user is =
+    let kept : Kept = made lines id text options in
+    let now : Option Text =
+    user_of (next (world_of lines) (Subscribe id text options)).sessions id in
+    let here : (kept.told.line == line) ≡ true =
+    (Decides-eqb kept.told.line line).1
+    (ap (λ (t : spec.Subscription). t.line) (sym same) ∙ is.0) in
+    let long : is_short_question kept.told now ≡ false =
+    ap (is_short_question kept.told) (sym user)
+    ∙ ap (λ (t : spec.Subscription). is_short_question t told.user) (sym same) ∙ is.1 in
+    ap (λ b. (b && not (is_short_question kept.told now && true)) || false) here
+    ∙ ap (λ b. not (b && true) || false) long
+
+-- what is told of what it makes is so
+pub subscribe-fails : (rows : List AclRow) (id text : Text) (options : SubscriptionOptions)
+    (old : Search) (told : spec.Subscription) (fault : SearchFault)
+    → Some told ≡ told_by (old.counts.lines + 1) old.sessions (Subscribe id text options)
+    → IsAskFault told told.user fault
+    → FailsBy rows (Some (Subscribe id text options)) old fault
+subscribe-fails rows id text options old told fault e is = λ lines line says searched.
+    let some = some_taken (takes_it old id text options) (told_now old id text) told e in
+    let w-is : IsWorldOf (world_of lines) old = searched.is_world in
+    let same : told ≡ (made lines id text options).told =
+    some.1 ∙ sym (told-is id text options old some.0 lines w-is (sym searched.counts.lines)) in
+    made_fault lines line (Some (Subscribe id text options)) fault says
+    (subst (λ all. IsFaultAmong all fault) (sym (makes-it id text options old some.0 lines w-is))
+    (long_now lines id text options told fault same
+    (ap (λ (t : spec.Subscription). t.user) some.1
+    ∙ sym (user-now id text options old some.0 (world_of lines) w-is)) is))
