@@ -1,6 +1,0 @@
-use Rattle.mq_report.specs.Groups.{IsGathering}
-use Rattle.mq_report.proofs.group.gather.Given as goal
-
--- those that came are gathered
-abbrev pub invariant-loop-difference : goal.invariant-loop-difference
-invariant-loop-difference l = IsGathering l.yielded l.groups.items

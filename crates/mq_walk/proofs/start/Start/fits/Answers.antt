@@ -1,5 +1,0 @@
-use Rattle.std.proofs.Common.{rules}
-use Rattle.mq_walk.proofs.start.Start.fits.Goals as goal
-
-pub returns-in-Slash : goal.returns-in-Slash
-returns-in-Slash c = search rules

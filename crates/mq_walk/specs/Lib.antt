@@ -1,7 +1,0 @@
-pub mod Names
-pub mod Remainders
-pub mod Paths
-pub mod Choices
-pub mod Nexts
-pub mod Branches
-pub mod Ends
