@@ -6,6 +6,7 @@ pub mod EveryLemmas
 pub mod FirstLemmas
 pub mod GainLemmas
 pub mod GroupLemmas
+pub mod LastLemmas
 pub mod MadeUpLemmas
 pub mod MarkLemmas
 pub mod OrderLemmas

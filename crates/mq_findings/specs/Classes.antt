@@ -1,7 +1,10 @@
 -- The clients that a difference concerns.
 use Rattle.std.specs.Prelude.{ℕ, Bool, true, false, List, ◌||◌, ◌&&◌, not, Option, Some, None}
-use Rattle.std.specs.Prelude.{string_bytes}
+use Rattle.std.specs.Prelude.{string_bytes, [], ◌∷◌}
+use Rattle.std.specs.Cmp.Lexicographic.{slice_cmp}
+use Rattle.std.specs.Ordering.{nat_cmp}
 use Rattle.std.specs.Str.{bytes_eq}
+use Rattle.std.specs.declared.cmp.Ordering.{Ordering}
 use Rattle.mq_acl.specs.Rows.{AclRow}
 use Rattle.mq_witness.specs.Clients.{can_be_id}
 use Rattle.mq_witness.specs.Rows.{is_user_of}
@@ -30,3 +33,13 @@ is_in old new None (User name) = false
 is_in old new (Some user) (User name) = bytes_eq user (string_bytes name) && is_listed old new user
 is_in old new None (Others name) = false
 is_in old new (Some user) (Others name) = not (is_listed old new user)
+
+-- those without a user name come first, then those of each user name in the order of their bytes, then
+-- all others
+abbrev pub rank : Class → List ℕ
+rank Anonymous = []
+rank (User name) = 0 ∷ string_bytes name
+rank (Others name) = 1 ∷ []
+
+abbrev pub class_order : Class → Class → Ordering
+class_order class other = slice_cmp nat_cmp (rank class) (rank other)

@@ -1,8 +1,12 @@
 -- What is told of two lists, difference by difference.
-use Rattle.std.specs.Prelude.{◌≡◌, Bool, true, List, [], ◌∷◌, ◌++◌, if◌then◌else◌, All}
+use Rattle.std.specs.Prelude.{◌≡◌, ◌≤◌, ◌-◌, ℕ, Bool, true, false, List, [], ◌∷◌, ◌++◌, All, take}
+use Rattle.std.specs.Prelude.{if◌then◌else◌, length, slice_index_or}
 use Rattle.std.specs.List.{list_any}
+use Rattle.std.specs.Ordering.{is_gt}
+use Rattle.std.specs.declared.cmp.Ordering.TheVariants.{Less}
 use Rattle.mq_acl.specs.declared.row.Row.{Row}
 use Rattle.mq_witness.specs.Asked.{AskedRows}
+use Rattle.mq_findings.specs.Classes.{class_order}
 use Rattle.mq_findings.specs.Differences.{is_like, IsReal, IsMarked, ShowsOthers, AreApart}
 use Rattle.mq_findings.specs.Differences.{AreUnnamed, IsKnown}
 use Rattle.mq_findings.specs.declared.difference.Difference.{Difference}
@@ -29,3 +33,11 @@ pub record Grows (old new : List Row) (asked : AskedRows) (before after : List D
     : Type 0 where
   pub report : IsReport old new asked before → IsReport old new asked after
   pub kept : (p : Difference → Bool) → list_any p before ≡ true → list_any p after ≡ true
+
+-- the difference at this place is of the last class, and those before it are of classes before it
+pub record IsLast (told : List Difference) (last : ℕ) : Type 0 where
+  pub within : last ≤ length told - 1
+  pub before : (d : Difference)
+      → All (λ e. class_order e.class (slice_index_or told last d).class ≡ Less) (take last told)
+  pub none_behind : (d : Difference)
+      → All (λ e. is_gt (class_order e.class (slice_index_or told last d).class) ≡ false) told

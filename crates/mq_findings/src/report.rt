@@ -1,16 +1,20 @@
 //! What is told of two lists.
-ghost use Rattle.std.specs.Prelude.{◌≡◌, [], OnOk, true, false};
+ghost use Rattle.std.specs.Prelude.{◌≡◌, ◌++◌, ◌∷◌, [], OnOk, true, false};
 ghost use Rattle.std.specs.List.{list_any};
 ghost use Rattle.mq_findings.specs.Differences.{is_like};
-ghost use Rattle.mq_findings.specs.Reports.{added};
+ghost use Rattle.mq_findings.specs.Reports.{IsLast, added};
 
 use crate::difference::Difference;
 use std::alloc::{AllocError, Global};
+use std::cmp::Ordering;
 
 /// The differences that are told, and the steps that are left.
 pub(crate) struct Report {
     pub differences: Vec<Difference>,
     pub steps: u64,
+    // The place of the first one of the last class: those before it are of classes before that.
+    last: usize,
+    ghost is_last: { IsLast differences.items last },
 }
 
 // One step where it is dropped, and not one for each thing inside.
@@ -19,8 +23,15 @@ impl Drop for Report {
         let Report {
             differences: _,
             steps: _,
+            last: _,
         } = self;
     }
+}
+
+fn has_like(differences: &[Difference], difference: &Difference) -> bool
+    ensures { result ≡ list_any (λ other. is_like other difference.now) differences.now }
+{
+    differences.iter().any(|other| other.is_like(difference))
 }
 
 impl Report {
@@ -30,6 +41,7 @@ impl Report {
         Report {
             differences: Vec::new(alloc),
             steps,
+            last: 0,
         }
     }
 
@@ -48,13 +60,40 @@ impl Report {
         true
     }
 
+    // Those of the differences that are told that this one may be like. They come class by class, so that these are few.
+    fn same_class(&self, difference: &Difference) -> &[Difference]
+        ensures { list_any (λ other. is_like other difference.now) result.now
+            ≡ list_any (λ other. is_like other difference.now) self.now.differences.items }
+    {
+        let all = self.differences.as_slice();
+        let Some(last) = all.get(self.last) else {
+            return all;
+        };
+        match difference.class.order(&last.class) {
+            Ordering::Less => all,
+            Ordering::Equal => &all[self.last..],
+            Ordering::Greater => &all[..0],
+        }
+    }
+
     fn has_like(&self, difference: &Difference) -> bool
         ensures { result
             ≡ list_any (λ other. is_like other difference.now) self.now.differences.items }
     {
-        self.differences
-            .iter()
-            .any(|other| other.is_like(difference))
+        has_like(self.same_class(difference), difference)
+    }
+
+    // The place of the first one of the last class, when this one is added.
+    fn last_with(&self, difference: &Difference) -> usize
+        ensures { IsLast (self.now.differences.items ++ difference.now ∷ []) result }
+    {
+        let Some(last) = self.differences.get(self.last) else {
+            return self.last;
+        };
+        match difference.class.order(&last.class) {
+            Ordering::Greater => self.differences.len(),
+            _ => self.last,
+        }
     }
 
     /// Adds a difference, unless one is told that is like it.
@@ -65,7 +104,9 @@ impl Report {
         if self.has_like(&difference) {
             return Ok(());
         }
+        let last = self.last_with(&difference);
         self.differences.push(difference)?;
+        self.last = last;
         Ok(())
     }
 
@@ -75,6 +116,7 @@ impl Report {
         let Report {
             differences,
             steps: _,
+            last: _,
         } = self;
         differences
     }
