@@ -52,7 +52,7 @@ direction_is Writing Writing e = refl
 line_is : (a b : ℕ) → (a == b) ≡ true → a ≡ b
 line_is a b e = grind (arith, nat_tests)
 
-reason_is : (a b : Reason) → same_reason a b ≡ true → a ≡ b
+pub reason_is : (a b : Reason) → same_reason a b ≡ true → a ≡ b
 reason_is (Deny line) (Deny other) e = ap Deny (line_is line other e)
 reason_is (Deny line) (Grant other) e = absurd (let k : false ≡ true = e in cc)
 reason_is (Deny line) NoGrant e = absurd (let k : false ≡ true = e in cc)
