@@ -23,7 +23,7 @@ use Rattle.mq_findings.proofs.PointLemmas.{client_user}
 use Rattle.mq_lint.specs.Needless.{MakesNeedless, MakesNone, as_grant, granted_access}
 use Rattle.mq_lint.specs.Needless.{same_row}
 use Rattle.mq_lint.specs.Cases.{AreClasses, Finds, covers_access, grants_as_much, maker_cover}
-use Rattle.mq_lint.specs.Cases.{may_be_for}
+use Rattle.mq_lint.specs.Cases.{MissesRow, may_be_for}
 use Rattle.mq_lint.proofs.KindLemmas.{same_item}
 use Rattle.mq_lint.proofs.ListLemmas.{class_of}
 use Rattle.mq_lint.proofs.PointLemmas.{for_clients, grants_some}
@@ -242,6 +242,18 @@ pub skipped : (asked : AskedRows) (clients : Option Clients) (row other : AclRow
     → may_be_for clients other.who ≡ false → MakesNeedless other row → ⊥
 skipped asked None row other inside f e = absurd (let q : true ≡ false = e in cc)
 skipped asked (Some c) row other inside f e = others_make_nothing asked c row other inside e f
+
+-- nor does one that concerns nothing that the row does
+pub misses : (asked : AskedRows) (clients : Option Clients) (row other : AclRow)
+    → IfSome clients (λ c. Finds asked c (row ∷ []) []) → MissesRow clients row other
+    → MakesNeedless other row → ⊥
+misses asked None row other f apart = absurd apart
+misses asked (Some c) row other f apart =
+    let some = grants_some (granted_access row.access) (never_denies row.access) in
+    let here = (concerned_by asked c row [] f).0 in
+    gained asked c row other [] f some.0 here some.1
+    (and_left (concerns f.client f.user f.name other)
+    (grants some.0 (granted_access other.access)) (apart f.client f.name f.user here))
 
 -- ---- row by row
 pub makes_none_more : (rows : List Row) (row : AclRow) (n : ℕ) (other : Row) → n < length rows

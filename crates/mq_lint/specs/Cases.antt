@@ -2,7 +2,7 @@
 use Rattle.std.specs.Prelude.{◌≡◌, ℕ, Bool, true, false, List, [], ◌∷◌, ◌++◌, ◌&&◌, ◌||◌, not}
 use Rattle.std.specs.Prelude.{Option, Some, None, All, Contains, if◌then◌else◌}
 use Rattle.std.specs.List.{filter, list_all, list_any}
-use Rattle.mq_acl.specs.Access.{allowed, applies, grants, is_deny}
+use Rattle.mq_acl.specs.Access.{allowed, applies, concerns, grants, is_deny}
 use Rattle.mq_acl.specs.Lines.{Access}
 use Rattle.mq_acl.specs.Rows.{AclRow, Everyone, Who}
 use Rattle.mq_acl.specs.RowsByOwner.{is_everyones}
@@ -114,3 +114,9 @@ maker_cover row other = if covers_access row.access other.access then other ∷ 
 abbrev pub may_be_for : Option Clients → Who → Bool
 may_be_for None who = true
 may_be_for (Some clients) who = is_for clients who
+
+-- the other row concerns nothing that the row does, of which something concerns clients
+abbrev pub MissesRow : Option Clients → (row other : AclRow) → Type 0
+MissesRow None row other = ⊥
+MissesRow (Some clients) row other = (client name : List ℕ) (user : Option (List ℕ))
+    → concerns client user name row ≡ true → concerns client user name other ≡ false

@@ -9,14 +9,14 @@ ghost use Rattle.mq_findings.specs.ByOwner.{is_for};
 ghost use Rattle.mq_lint.specs.Needless.{IsBy, MakesNeedless, granted_access};
 ghost use Rattle.mq_lint.specs.NeedlessFault.{IsStop};
 ghost use Rattle.mq_lint.specs.Cases.{Finds, covers_access, grants_as_much, has_row, maker_cover};
-ghost use Rattle.mq_lint.specs.Cases.{may_be_for};
+ghost use Rattle.mq_lint.specs.Cases.{MissesRow, may_be_for};
 
 use crate::fault::NeedlessFault;
 use crate::linted::Lint;
 use crate::same::same_row;
 use crate::steps::Steps;
 use mq_acl::{Access, Direction, Owner, Row, grants, is_deny};
-use mq_witness::Clients;
+use mq_witness::{Clients, may_overlap};
 use std::alloc::{AllocError, Global};
 
 // The access of a row that grants what a row with this one denies, or grants.
@@ -133,6 +133,18 @@ fn may_be_for(clients: Option<Clients>, row: &Row) -> bool
     }
 }
 
+// Whether the other row may concern something that the row does, which concerns something that the clients have, if any
+// are given.
+fn may_meet(clients: Option<Clients>, row: &Row, other: &Row) -> bool
+    ensures { result ≡ false
+        → MissesRow clients.entry (row_view row.now) (row_view other.now) }
+{
+    match clients {
+        Some(_) => may_overlap(row, other),
+        None => true,
+    }
+}
+
 /// The line of the first other row that makes the row needless.
 pub(crate) fn maker(
     alloc: Global,
@@ -150,6 +162,12 @@ pub(crate) fn maker(
             continue;
         }
         if !may_be_for(clients, other) {
+            continue;
+        }
+        if !steps.spend(lint.limited, 1) {
+            return Err(NeedlessFault::GaveUp(row.line, 1));
+        }
+        if !may_meet(clients, row, other) {
             continue;
         }
         if makes_needless(alloc, lint, steps, row, other)? {
