@@ -498,7 +498,7 @@ def faults_of_reach(folder, chance, text):
 # Topics with all that small lists and filters tell apart: no row has more than three levels, %c and
 # %u are names.
 NAMES = sorted({*LEVELS, *CLIENTS, *(user for user in USERS if user), "x", "$x"})
-DEEP = ["/".join(levels) for levels in itertools.product(NAMES, repeat=3)]
+DEEP = ["/".join(levels) for count in (2, 3) for levels in itertools.product(NAMES, repeat=count)]
 DEEP += [topic + "/x" for topic in DEEP]
 
 
