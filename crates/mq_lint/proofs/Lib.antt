@@ -6,4 +6,5 @@ pub mod ListLemmas
 pub mod LoopLemmas
 pub mod MakerLemmas
 pub mod PointLemmas
+pub mod RepeatLemmas
 pub mod SameLemmas

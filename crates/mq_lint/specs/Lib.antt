@@ -1,5 +1,6 @@
 pub mod Blanks
-pub mod Remarks
+pub mod Cases
 pub mod Needless
 pub mod NeedlessFault
-pub mod Cases
+pub mod Remarks
+pub mod Repeats

@@ -10,6 +10,7 @@ mod maker;
 mod needless_lines;
 mod question;
 mod remark;
+mod repeats;
 mod same;
 mod steps;
 

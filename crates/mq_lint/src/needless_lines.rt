@@ -1,6 +1,6 @@
 //! Lines without which a list allows the same.
 ghost use Rattle.std.specs.Prelude.{◌≡◌, ◌<◌, ◌++◌, ◌∷◌, [], OnOk, IfOk, IfErr, ℕ, Option, true};
-ghost use Rattle.std.specs.Prelude.{false, length, find, slice_index_or};
+ghost use Rattle.std.specs.Prelude.{false, length, slice_index_or};
 ghost use Rattle.std.specs.List.{filter_map, zip};
 ghost use Rattle.std.specs.Option.{option_map};
 ghost use Rattle.mq_acl.specs.Access.{is_deny};
@@ -8,7 +8,7 @@ ghost use Rattle.mq_acl.specs.Views.{row_view};
 ghost use Rattle.mq_acl.specs.declared.row.Row.{Row};
 ghost use Rattle.mq_lint.specs.Cases.{IsNeeded, MeetsGrant, has_row};
 ghost use Rattle.mq_lint.specs.Needless.{AllowSame, AreNeedless, DeniesNone, IsKind, IsKindAlone};
-ghost use Rattle.mq_lint.specs.Needless.{remarks_of_kinds, same_row, without};
+ghost use Rattle.mq_lint.specs.Needless.{remarks_of_kinds, repeated, without};
 ghost use Rattle.mq_lint.specs.NeedlessFault.{IsNeedlessFault, IsStop, IsStopIn};
 ghost use Rattle.mq_lint.specs.declared.remark.RemarkKind.{RemarkKind};
 
@@ -16,21 +16,10 @@ use crate::fault::NeedlessFault;
 use crate::linted::Lint;
 use crate::maker::maker;
 use crate::remark::{Remark, RemarkKind};
-use crate::same::same_row;
+use crate::repeats::Seen;
 use crate::steps::Steps;
 use mq_acl::{Row, is_deny};
 use std::alloc::{AllocError, Global};
-
-// The line of the first of these rows that says the same as this one.
-fn repeated(before: &[Row], row: &Row) -> Option<u64>
-    ensures { result ≡ option_map (λ r. r.line)
-        (find (λ r. same_row (row_view r) (row_view row.now)) before.now) }
-{
-    before
-        .iter()
-        .find(|other| same_row(other, row))
-        .map(|other| other.line)
-}
 
 // Whether the list without the row allows some clients something else.
 fn is_needed(
@@ -123,20 +112,22 @@ fn kind_alone(
     Ok(Some(RemarkKind::Needless(by)))
 }
 
-// What is told of the row at this place, if anything is.
+// What is told of the row at this place, if anything is, where this is the line that it repeats.
 fn kind_of(
     alloc: Global,
     lint: &Lint,
     steps: &mut Steps,
     place: usize,
     row: &Row,
+    line: Option<u64>,
 ) -> Result<Option<RemarkKind>, NeedlessFault>
     requires place { place < length lint.now.rows.now }
     requires row { row.now ≡ slice_index_or lint.now.rows.now place row.now }
+    requires line { line ≡ repeated lint.now.rows.now place (row_view row.now) }
     ensures kind { IfOk result (IsKind lint.now.rows.now place row.now) }
     ensures fault { IfErr result (IsStop row.now.line lint.now.limited) }
 {
-    if let Some(line) = repeated(&lint.rows[..place], row) {
+    if let Some(line) = line {
         return Ok(Some(RemarkKind::Repeats(line)));
     }
     kind_alone(alloc, lint, steps, row)
@@ -162,8 +153,10 @@ fn kinds_of(
     ensures fault { IfErr result (IsStopIn lint.now.rows.now lint.now.limited) }
 {
     let mut kinds = Vec::new(alloc);
+    let mut seen = Seen::new(alloc);
     for (place, row) in lint.rows.iter().enumerate() {
-        let kind = match kind_of(alloc, lint, steps, place, row) {
+        let line = seen.repeated(alloc, &lint.rows[..place], row)?;
+        let kind = match kind_of(alloc, lint, steps, place, row, line) {
             Ok(kind) => kind,
             Err(fault) => return Err(fault),
         };
