@@ -6,7 +6,8 @@ It has no tree, no index and no queue of turns: each command looks at every row 
 is slow, and its answers owe nothing to mqroute's code. What tests/rows wants is written by it where
 it is too long to be written by hand.
 
-    dev/plain_router.py [--acl-file FILE] [--max-retained N] [--max-queued N] [SCRIPT]
+    dev/plain_router.py [--acl-file FILE] [--rules RULES] [--max-retained N] [--max-queued N]
+                        [SCRIPT]
     dev/plain_router.py --check      answers each row of tests/rows, each conformance case and each
                                      example, and compares
 """
@@ -15,10 +16,13 @@ import json
 import pathlib
 import sys
 
-from plain.access_lists import rows_of
+from plain import access_lists, mosquitto_lists
 from plain.lines import reading
 from plain.refusals import CODES, Refused
 from plain.world import World
+
+
+LISTS = {"own": access_lists, "mosquitto": mosquitto_lists}
 
 
 def printed(line, values):
@@ -54,20 +58,21 @@ def output(world, script):
 def run(words, script, folder="."):
     parser = argparse.ArgumentParser()
     parser.add_argument("--acl-file")
+    parser.add_argument("--rules", choices=LISTS, default="own")
     parser.add_argument("--max-retained", type=int)
     parser.add_argument("--max-queued", type=int, default=1000)
     parser.add_argument("script", nargs="?", default="-")
     options = parser.parse_args(words)
-    rows = None
+    rows, lists = None, LISTS[options.rules]
     if options.acl_file is not None:
-        rows = rows_of(pathlib.Path(folder, options.acl_file).read_bytes().decode())
+        rows = lists.rows_of(pathlib.Path(folder, options.acl_file).read_bytes().decode())
         if isinstance(rows, tuple):
             sys.exit(f"plain_router: access list {options.acl_file} line {rows[0]}: {rows[1]}")
     if options.script != "-":
         script = pathlib.Path(folder, options.script).read_bytes()
     if script is None:
         script = sys.stdin.buffer.read()
-    return output(World(rows, options.max_retained, options.max_queued), script)
+    return output(World(rows, options.max_retained, options.max_queued, lists), script)
 
 
 def cases(top):

@@ -38,10 +38,12 @@ use Rattle.std.specs.Prelude.{◌≡◌, ℕ, Bool, true, false, List, [], ◌�
 is_some, Result, Ok, Err, codes, slice_index_or, if◌then◌else◌}
 use Rattle.std.proofs.Common.{refl}
 use Rattle.std.specs.Option.{option_map_or}
-use Rattle.mq_acl.specs.Access.{allowed}
+use Rattle.mq_acl.specs.AccessLists.{allowed}
+use Rattle.mq_acl.specs.declared.rules.Rules.TheVariants.{Mosquitto}
 use Rattle.mq_world.specs.Lists.{Text, with_row}
 use Rattle.mq_world.specs.World.{World, Request, Connect, Disconnect, Subscribe, Unsubscribe, \
-Publish, SetAcl, Advance, Stat, Group, Copy, Reply, fresh_world, empty_world, within}
+Publish, SetAcl, Advance, Stat, Group, Copy, Reply, fresh_world, empty_world, \
+ruled, within}
 use Rattle.mq_world.specs.Refusals.{refusal}
 use Rattle.mq_world.specs.Copies.{unshared_copies}
 use Rattle.mq_world.specs.Groups.{groups_of, served_rows}
@@ -171,15 +173,15 @@ def answered(lines):
     return f"ok {listed([copy(c) for c in lines[:-1]])} {last['reason']}"
 
 
-# The world that a script starts in: one with other limits where the row has arguments.
+# The world that a script starts in: one with other limits or rules where the row has arguments.
 def start_of(path):
-    if not path.with_suffix(".args").exists():
-        return "empty_world"
-    words = path.with_suffix(".args").read_text().split()
+    world, args = "empty_world", path.with_suffix(".args")
+    words = args.read_text().split() if args.exists() else []
     value = dict(zip(words[::2], words[1::2]))
-    retained = maybe(value.get("--max-retained"), str)
-    return (f"(within (record {{ retained = {retained}; queued = {value.get('--max-queued', 1000)} "
-            f"}}) empty_world)")
+    if value.keys() & {"--max-retained", "--max-queued"}:
+        retained, queued = maybe(value.get("--max-retained"), str), value.get("--max-queued", 1000)
+        world = f"(within (record {{ retained = {retained}; queued = {queued} }}) {world})"
+    return f"(ruled Mosquitto {world})" if value.get("--rules") == "mosquitto" else world
 
 
 def row(path):

@@ -22,7 +22,9 @@ SCRIPT = f'{CONNECT}\n{{"do":"publish","client":"a","topic":"b"}}\n'
 ALLOWED = ANSWER + '{"line":2,"reason":16}\n'
 DENIED = ANSWER + '{"code":11,"line":2,"refused":"NotAuthorized"}\n'
 FILES = {"script": SCRIPT.encode(), "list": b"topic a\n", "faulty": b"# c\n\ntopic a b",
-         "bytes": b"\xff"}
+         "bytes": b"\xff", "marks": b"pattern x%c/%u%c\n", "tab": b"\ttopic b\n"}
+UNKNOWN_RULES = "error: {}\n  [possible values: own, mosquitto]\n\n" \
+    "For more information, try '--help'.\n"
 
 # Arguments; what is written, what is told, and the status. The script is on standard input too.
 CASES = [
@@ -38,10 +40,19 @@ CASES = [
     ("--acl-file .", "", "mqroute: cannot read access list .\n", 2),
     ("--acl-file bytes", "", "mqroute: access list bytes is not UTF-8\n", 2),
     ("--acl-file faulty", "", "mqroute: access list faulty line 3: Access\n", 2),
+    ("--acl-file marks", "", "mqroute: access list marks line 1: Pattern\n", 2),
+    ("--rules own --acl-file marks", "", "mqroute: access list marks line 1: Pattern\n", 2),
+    ("--rules mosquitto --acl-file marks", DENIED, "", 1),
+    ("--rules=mosquitto --acl-file tab", "", "mqroute: access list tab line 1: Keyword\n", 2),
+    ("--rules mosquitto", ALLOWED, "", 0),
+    ("--rules x", "", UNKNOWN_RULES.format("invalid value 'x' for '--rules <RULES>'"), 2),
+    ("--rules=", "",
+     UNKNOWN_RULES.format("a value is required for '--rules <RULES>' but none was supplied"), 2),
     ("--acl-file long", "", "mqroute: access list long is too long\n", 2),
 ]
-MISUSED = ["--bad", "a b", "--acl-file", "--max-retained x", "--max-retained 4294967296",
-           "--max-queued=-1", "--max-retained=-0", "--max-queued=-00"]
+MISUSED = ["--bad", "a b", "--acl-file", "--rules", "--rules Own", "--rules own --rules own",
+           "--max-retained x", "--max-retained 4294967296", "--max-queued=-1",
+           "--max-retained=-0", "--max-queued=-00"]
 
 # Lines that are refused, with their code.
 LINES = [
@@ -111,6 +122,39 @@ ACCESS = [
     ("pattern %c/#", "$c", None, "$c/z", False, False),
 ]
 
+# The same by mosquitto's rules.
+LISTS_OF_MOSQUITTO = [
+    ("allow a", 1), ("topic read a+", 1), ("topic a b", 1), ("user", 1), ("pattern %c+", 1),
+    ("\ttopic a", 1), ("topic\ta", 1), (" # c", 1), ("a\n#c\ntopic a b", 1),
+    ("#\n\ntopic a b", 3),
+    ("pattern read x%u/%c%c", None), ("  topic a", None), ("topic read\ta", None), ("# c", None),
+    ("topic read \ta\t \r", None), ("user  b c ", None), ("", None)]
+TOPIC_LINES_FIRST = "pattern deny a/#\ntopic read a/b\ntopic deny a/c\npattern write a/b\n"
+ACCESS_OF_MOSQUITTO = [
+    ("pattern deny a/b\ntopic a/#\n", "w", None, "a/b", True, True),
+    (TOPIC_LINES_FIRST, "w", None, "a/b", True, False),
+    (TOPIC_LINES_FIRST, "w", None, "a/c", False, False),
+    (TOPIC_LINES_FIRST, "w", "b", "a/b", False, False),
+    ("topic a/#\ntopic deny a/b\n", "w", None, "a/b", False, False),
+    ("pattern deny a/b\npattern a/#\ntopic read x\n", "w", None, "a/b", False, False),
+    ("topic read a\npattern write a\n", "w", None, "a", True, True),
+    ("user b\ntopic a\n", "w", None, "a", False, False),
+    ("user b\ntopic a\n", "w", "", "a", False, False),
+    ("topic a\n", "w", "", "a", True, True),
+    ("pattern x%c/y", "a", None, "xa/y", True, True),
+    ("pattern x%c/y", "a", None, "x/y", False, False),
+    ("pattern %u%c/%c", "a", "b", "ba/a", True, True),
+    ("pattern %c/x", "a/b", None, "a/b/x", True, True),
+    ("pattern %c/#", "a/b", None, "a/b", True, True),
+    ("pattern %c", "+", None, "q", False, False), ("pattern q", "+", None, "q", False, False),
+    ("topic q", "+", None, "q", True, True), ("pattern q", "w", "a#", "q", False, False),
+    ("pattern %u/x", "w", None, "/x", False, False), ("pattern %u/x", "w", "", "/x", False, False),
+    ("pattern %c/x", "$c", None, "$c/x", True, True),
+    ("pattern +/x", "$c", None, "$c/x", False, False),
+    ("pattern %c/x\ntopic x/%c", "%u", "b", "%u/x", True, True),
+    ("topic x/%c", "c", None, "x/c", False, False), ("topic x/%c", "c", None, "x/%c", True, True),
+]
+
 
 def text_of(**fields):
     return json.dumps(fields, separators=(",", ":"))
@@ -124,10 +168,10 @@ def run(arguments, script, folder="."):
     return done.stdout.decode(), done.stderr.decode(), done.returncode
 
 
-def answers(lines):
+def answers(lines, arguments=""):
     """The last answer to each line."""
-    written = run(
-        "", b"\n".join(line if isinstance(line, bytes) else line.encode() for line in lines))[0]
+    script = b"\n".join(line if isinstance(line, bytes) else line.encode() for line in lines)
+    written = run(arguments, script)[0]
     found = [json.loads(text) for text in written.splitlines()]
     last = {answer["line"]: answer for answer in found}
     return [last.get(number) for number in range(1, len(lines) + 1)]
@@ -227,12 +271,12 @@ def faults_of_topics():
             yield f"whether {text} matches {topic}"
 
 
-def faults_of_access():
-    for text, line in LISTS:
-        answer = answers([text_of(do="acl", text=text)])[0]
+def faults_of_access(arguments, lists, access):
+    for text, line in lists:
+        answer = answers([text_of(do="acl", text=text)], arguments)[0]
         if (refused(answer), answer.get("acl_line")) != (refusal(line and 12), line):
-            yield f"the list {text!r} is answered {answer}"
-    for text, client, user, topic, *wanted in ACCESS:
+            yield f"the list {text!r} is answered {answer}, {arguments}"
+    for text, client, user, topic, *wanted in access:
         user_name = {} if user is None else {"user": user}
         lines = [text_of(do="connect", client=client, **user_name),
                  text_of(do="subscribe", client=client, filter=topic),
@@ -241,12 +285,13 @@ def faults_of_access():
                  text_of(do="acl", text=text),
                  text_of(do="subscribe", client=client, filter=topic),
                  text_of(do="publish", client=client, topic=topic)]
-        written = [json.loads(answer) for answer in run("", "\n".join(lines))[0].splitlines()]
+        written = [json.loads(answer)
+                   for answer in run(arguments, "\n".join(lines))[0].splitlines()]
         found = [any(answer["line"] == 6 and "payload" in answer for answer in written),
                  written[-1].get("code") != 11]
         if found != wanted:
             yield (f"{client!r}, user {user!r}, topic {topic!r}, list {text!r}: read and write "
-                   f"{found}")
+                   f"{found}, {arguments}")
 
 
 def faults_of_prefixes():
@@ -278,8 +323,11 @@ def main():
         os.chmod(folder, 0o755)
         faults = [
             *faults_of_arguments(folder), *faults_of_devices(folder), *faults_of_pieces(folder),
-            *faults_of_lines(), *faults_of_topics(), *faults_of_access(), *faults_of_prefixes()]
-    tables = (CASES, MISUSED, LINES, COMMANDS, BLANK, TOPICS, FILTERS, MATCHES, LISTS, ACCESS)
+            *faults_of_lines(), *faults_of_topics(), *faults_of_access("", LISTS, ACCESS),
+            *faults_of_access("--rules mosquitto", LISTS_OF_MOSQUITTO, ACCESS_OF_MOSQUITTO),
+            *faults_of_prefixes()]
+    tables = (CASES, MISUSED, LINES, COMMANDS, BLANK, TOPICS, FILTERS, MATCHES, LISTS, ACCESS,
+              LISTS_OF_MOSQUITTO, ACCESS_OF_MOSQUITTO)
     tried = sum(map(len, tables)) + 11  # which no table has
     return status_of("program", faults, f"{tried - len(faults)} passed, {len(faults)} failed")
 

@@ -32,11 +32,12 @@ ROUTER = [
 TESTS = "mq_tests"
 
 MADE_OF = {
-    "Router": "alloc: Global, limits: Limits, clock: Clock, access: Option<Acl>, sessions: "
-    "Sessions, subscriptions: Subscriptions, retained: Retained",
+    "Router": "alloc: Global, limits: Limits, rules: Rules, clock: Clock, access: Option<Acl>, "
+    "sessions: Sessions, subscriptions: Subscriptions, retained: Retained",
     "Limits": "retained: Option<u32>, queued: u32",
     "Clock": "moment: u64",
-    "Acl": "by_owner: RowsByOwner, order: Snapshot<Vec<Row>>",
+    "Acl": "rules: Rules, by_owner: RowsByOwner, order: Snapshot<Vec<Row>>",
+    "Rules": "Own, Mosquitto",
     "Sessions": "by_id: BTreeMap<RcStr, Session>, ends: Ends",
     "Ends": "heap: BinaryHeap<(Reverse<u64>, RcStr)>",
     "Subscriptions": "alloc: Global, tree: LevelTree<FilterEntry>, lists: ClientLists",

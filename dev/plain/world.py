@@ -1,7 +1,7 @@
 """What a broker knows, and what each command makes of it."""
 from dataclasses import dataclass, field
 
-from .access_lists import allowed, rows_of
+from . import access_lists
 from .lines import U32, U64
 from .refusals import Refused, refuse_if
 from .topics import LONGEST_TEXT, is_name, level_order, levels, matches, subscription
@@ -49,8 +49,9 @@ def prefixes(texts):
 
 
 class World:
-    def __init__(self, rows=None, max_retained=None, max_queued=1000):
+    def __init__(self, rows=None, max_retained=None, max_queued=1000, lists=access_lists):
         self.rows = rows
+        self.lists = lists  # how they are read, and decide
         self.max_retained = max_retained
         self.max_queued = max_queued
         self.moment = 0
@@ -78,7 +79,7 @@ class World:
         return session
 
     def may_read(self, client, topic):
-        return allowed(self.rows, client, self.session(client).user, topic, "read")
+        return self.lists.allowed(self.rows, client, self.session(client).user, topic, "read")
 
     def end(self, session):
         self.sessions.remove(session)
@@ -150,7 +151,8 @@ class World:
     def publish(self, client, topic, payload, qos, retain, expiry):
         publisher = self.check_connected(client)
         refuse_if(not is_name(topic), "TopicName")
-        refuse_if(not allowed(self.rows, client, publisher.user, topic, "write"), "NotAuthorized")
+        may_write = self.lists.allowed(self.rows, client, publisher.user, topic, "write")
+        refuse_if(not may_write, "NotAuthorized")
         others = [message for message in self.retained if message.topic != topic]
         stores = retain and payload != "" and expiry != 0
         is_new = len(others) == len(self.retained)
@@ -207,7 +209,7 @@ class World:
         return self.session(client).is_connected and self.may_read(client, topic)
 
     def acl(self, text):
-        rows = None if text is None else rows_of(text)
+        rows = None if text is None else self.lists.rows_of(text)
         if isinstance(rows, tuple):
             raise Refused("AclLine", rows[0])
         self.rows = rows

@@ -3,9 +3,10 @@ use Rattle.std.proofs.Common.{◌≡◌, ℕ, Bool, true, false, not, ◌&&◌, 
 use Rattle.std.proofs.Common.{◌∷◌, Option, Some, None, refl, ap, sym, ◌∙◌}
 use Rattle.std.specs.List.{list_any, filter}
 use Rattle.std.specs.Option.{unwrap_or}
+use Rattle.mq_acl.specs.AccessLists.{AccessList, allow_by, allowed}
 use Rattle.mq_acl.specs.Rows.{AclRow}
 use Rattle.mq_acl.specs.declared.access.Direction.{Direction}
-use Rattle.mq_acl.specs.Access.{is_deny, grants, concerns, covers, applies, rows_allow, allowed}
+use Rattle.mq_acl.specs.Access.{is_deny, grants, concerns, covers, applies, rows_allow}
 use Rattle.mq_acl.specs.declared.rows_by_owner.RowsByOwner.{RowsByOwner}
 use Rattle.mq_acl.specs.RowsByOwner.{is_own, is_everyones, IsGrouped, everyones, own_rows, judged}
 use Rattle.mq_acl.proofs.RowsByOwnerLemmas.{any_of_groups}
@@ -77,8 +78,8 @@ judged_in_turn client user name direction rows by_owner first all own g a o e =
     grant rs = list_any (λ row. concerns client user name row && grants direction row.access) rs
 
 -- with a list its rows decide
-pub allowed_by_list : (rows : List AclRow) (client : List ℕ) (user : Option (List ℕ))
-    (name : List ℕ) (direction : Direction) → allowed (Some rows) client user name direction
-    ≡ rows_allow rows client user name direction
+pub allowed_by_list : (list : AccessList) (client : List ℕ) (user : Option (List ℕ))
+    (name : List ℕ) (direction : Direction) → allowed (Some list) client user name direction
+    ≡ allow_by list.rules list.rows client user name direction
 unfolding allowed
-allowed_by_list rows client user name direction = refl
+allowed_by_list list client user name direction = refl

@@ -2,15 +2,19 @@
 use Rattle.std.proofs.Common.{◌≡◌, ◌≢◌, ℕ, ◌+◌, ◌<◌, ◌≤◌, subst, Bool, true, false, cond, List, []}
 use Rattle.std.proofs.Common.{◌∷◌, length, Option, Some, None, Result, Ok, Err, IfErr, refl, arith}
 use Rattle.std.proofs.Common.{codes, ◌==◌, ◌||◌, not, slice_index, bytes_eq}
-use Rattle.std.specs.List.{list_all, filter_map, cons_option, enumerate_from}
+use Rattle.std.specs.List.{before_first, list_all, filter_map, cons_option, enumerate_from}
 use Rattle.mq_topic.specs.Levels.{levels}
 use Rattle.mq_topic.specs.Texts.{is_filter}
-use Rattle.mq_acl.specs.Words.{trimmed, first_word, after_word}
+use Rattle.mq_acl.specs.Words.{trimmed, first_word, after_word, without_leading, without_trailing}
 use Rattle.mq_acl.specs.Lines.{Access, ReadWrite, Entry, Skipped, User, Topic, Pattern}
 use Rattle.mq_acl.specs.Lines.{access_named, with_access, access_and_topic, is_pattern_level}
 use Rattle.mq_acl.specs.Lines.{topic_entry, pattern_entry, keyword_entry, entry_of, lines}
-use Rattle.mq_acl.specs.Rows.{AclRow, rows_in, entries_of, fault_at, faults_of, unless_faulty}
-use Rattle.mq_acl.specs.Rows.{rows_of}
+use Rattle.mq_acl.specs.MosquittoLines.{access_then_topic, behind_word, filled_entry, is_space}
+use Rattle.mq_acl.specs.MosquittoLines.{is_white, mosquitto_entry, word_entry}
+use Rattle.mq_acl.specs.Rows.{AclRow, entry_by, entries_by, fault_at, faults_by, rows_by, rows_in}
+use Rattle.mq_acl.specs.Rows.{unless_faulty}
+use Rattle.mq_acl.specs.declared.rules.Rules.{Rules}
+use Rattle.mq_acl.specs.declared.rules.Rules.TheVariants.{Own, Mosquitto}
 use Rattle.mq_acl.specs.declared.fault.AclFault.{AclFault}
 use Rattle.mq_acl.specs.declared.fault.AclKind.{AclKind}
 use Rattle.mq_acl.specs.declared.fault.AclKind.TheVariants as kinds
@@ -76,6 +80,41 @@ own_entry line =
     choice (length text == 0 || slice_index text 0 == 35) (Ok Skipped) _ tt
     (own_keyword (first_word text) (after_word text))
 
+own_filled : (parts : Result (Access × List ℕ) AclKind) → IsOwn parts → IsOwn (filled_entry parts)
+own_filled (Err kind) h = h
+own_filled (Ok parts) h = choice (is_filter parts.1) (Ok (Pattern parts.0 parts.1)) (Err kinds.Topic)
+    tt topic_is
+
+own_access_then_topic : (rest : List ℕ) → IsOwn (access_then_topic rest)
+own_access_then_topic rest =
+    choice (length rest == 0) (Err kinds.Topic) _ topic_is
+    (choice (length (behind_word rest) == 0) (Ok (ReadWrite, rest)) _ tt
+    (own_with_access (access_named (before_first is_space rest))
+    (without_leading is_white (behind_word rest))))
+
+own_word : (word rest : List ℕ) → IsOwn (word_entry word rest)
+own_word word rest =
+    let after = without_leading is_space rest in
+    let name = without_leading is_white rest in
+    choice (bytes_eq word (codes "topic")) _ _
+    (own_topic (access_then_topic after) (own_access_then_topic after))
+    (choice (bytes_eq word (codes "pattern")) _ _
+    (own_filled (access_then_topic after) (own_access_then_topic after))
+    (choice (bytes_eq word (codes "user")) _ _
+    (choice (length name == 0) (Err kinds.User) (Ok (User name)) user_is tt) keyword_is))
+
+mosquitto_own : (line : List ℕ) → IsOwn (mosquitto_entry line)
+mosquitto_own line =
+    let text = without_leading is_space (without_trailing is_white line) in
+    choice (slice_index line 0 == 35) (Ok Skipped) _ tt
+    (choice (length text == 0) (Ok Skipped) _ tt
+    (own_word (before_first is_space text) (behind_word text)))
+
+-- by whatever rules the line is read
+pub own_entry_by : (rules : Rules) (line : List ℕ) → IsOwn (entry_by rules line)
+own_entry_by Own line = own_entry line
+own_entry_by Mosquitto line = mosquitto_own line
+
 -- no kind of lack of memory, and a line from n on
 abbrev IsFrom : ℕ → AclFault → Type 0
 IsFrom n fault = (fault.kind ≢ kinds.Memory) × (n ≤ fault.line)
@@ -88,35 +127,37 @@ err_is : (first fault : AclFault) (answer : Result (List AclRow) AclFault) → a
     → answer ≡ Err fault → first ≡ fault
 err_is first fault answer e f = cc
 
-own_faults : (n : ℕ) (ls : List (List ℕ)) (fault : AclFault) (later : List AclFault)
-    → filter_map (λ numbered. fault_at numbered.0 (entry_of numbered.1)) (enumerate_from n ls)
-    ≡ fault ∷ later → IsFrom n fault
-own_faults n [] fault later e = absurd (cc)
-own_faults n (line ∷ ls) fault later e =
-    at (entry_of line) (own_entry line) (own_faults (n + 1) ls fault later) e
-  where
-    rest : List AclFault
-    rest = filter_map (λ numbered. fault_at numbered.0 (entry_of numbered.1))
-        (enumerate_from (n + 1) ls)
+module _ (rules : Rules) where
+  own_faults : (n : ℕ) (ls : List (List ℕ)) (fault : AclFault) (later : List AclFault)
+      → filter_map (λ numbered. fault_at numbered.0 (entry_by rules numbered.1))
+      (enumerate_from n ls)
+      ≡ fault ∷ later → IsFrom n fault
+  own_faults n [] fault later e = absurd (cc)
+  own_faults n (line ∷ ls) fault later e =
+      at (entry_by rules line) (own_entry_by rules line) (own_faults (n + 1) ls fault later) e
+    where
+      rest : List AclFault
+      rest = filter_map (λ numbered. fault_at numbered.0 (entry_by rules numbered.1))
+          (enumerate_from (n + 1) ls)
 
-    at : (r : Result Entry AclKind) → IsOwn r → (rest ≡ fault ∷ later → IsFrom (n + 1) fault)
-        → cons_option (fault_at n r) rest ≡ fault ∷ later → IsFrom n fault
-    at (Ok entry) h next e = let f = next e in (f.0, omega arith)
-    at (Err kind) h next e = subst (IsFrom n)
-        (first_is (record { line = n; kind = kind }) fault rest later e) (h, omega arith)
+      at : (r : Result Entry AclKind) → IsOwn r → (rest ≡ fault ∷ later → IsFrom (n + 1) fault)
+          → cons_option (fault_at n r) rest ≡ fault ∷ later → IsFrom n fault
+      at (Ok entry) h next e = let f = next e in (f.0, omega arith)
+      at (Err kind) h next e = subst (IsFrom n)
+          (first_is (record { line = n; kind = kind }) fault rest later e) (h, omega arith)
 
--- a text's own fault
-pub text_fault : (text : List ℕ) (fault : AclFault) → rows_of text ≡ Err fault
-    → (fault.kind ≢ kinds.Memory) × (0 < fault.line)
-text_fault text fault e = at (faults_of (lines text)) (own_faults 1 (lines text)) e
-  where
-    rows : List AclRow
-    rows = rows_in (entries_of (lines text))
+  -- a text's own fault
+  pub text_fault : (text : List ℕ) (fault : AclFault) → rows_by rules text ≡ Err fault
+      → (fault.kind ≢ kinds.Memory) × (0 < fault.line)
+  text_fault text fault e = at (faults_by rules (lines text)) (own_faults 1 (lines text)) e
+    where
+      rows : List AclRow
+      rows = rows_in (entries_by rules (lines text))
 
-    at : (faults : List AclFault)
-        → ((first : AclFault) (later : List AclFault) → faults ≡ first ∷ later → IsFrom 1 first)
-        → unless_faulty faults rows ≡ Err fault → (fault.kind ≢ kinds.Memory) × (0 < fault.line)
-    at [] h e = absurd (cc)
-    at (first ∷ later) h e = subst (λ f. (f.kind ≢ kinds.Memory) × (0 < f.line))
-        (err_is first fault (unless_faulty (first ∷ later) rows) refl e)
-        (let f = h first later refl in (f.0, omega arith))
+      at : (faults : List AclFault)
+          → ((first : AclFault) (later : List AclFault) → faults ≡ first ∷ later → IsFrom 1 first)
+          → unless_faulty faults rows ≡ Err fault → (fault.kind ≢ kinds.Memory) × (0 < fault.line)
+      at [] h e = absurd (cc)
+      at (first ∷ later) h e = subst (λ f. (f.kind ≢ kinds.Memory) × (0 < f.line))
+          (err_is first fault (unless_faulty (first ∷ later) rows) refl e)
+          (let f = h first later refl in (f.0, omega arith))

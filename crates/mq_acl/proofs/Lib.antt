@@ -3,3 +3,5 @@ pub mod FaultLemmas
 pub mod RowsByOwnerLemmas
 pub mod RowLemmas
 pub mod WordLemmas
+pub mod FilledLemmas
+pub mod MosquittoLemmas

@@ -68,8 +68,3 @@ abbrev pub rows_allow : List AclRow → List ℕ → Option (List ℕ) → List 
 rows_allow rows client user name direction =
     not (list_any (λ row. concerns client user name row && is_deny row.access) rows)
     && list_any (λ row. concerns client user name row && grants direction row.access) rows
-
--- without an access list everything is allowed (mosquitto.conf(5))
-unfoldable pub allowed : Option (List AclRow) → List ℕ → Option (List ℕ) → List ℕ → Direction → Bool
-allowed None client user name direction = true
-allowed (Some rows) client user name direction = rows_allow rows client user name direction

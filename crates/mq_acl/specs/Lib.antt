@@ -4,3 +4,7 @@ pub mod Rows
 pub mod Views
 pub mod Access
 pub mod RowsByOwner
+pub mod Filled
+pub mod Mosquitto
+pub mod MosquittoLines
+pub mod AccessLists

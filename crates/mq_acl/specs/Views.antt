@@ -3,9 +3,9 @@ use Rattle.std.specs.Prelude.{◌≡◌, ℕ, List, [], ◌++◌, map, Option, S
 use Rattle.std.specs.Prelude.{string_bytes}
 use denote.Ref.{Bor}
 use Rattle.std.specs.Option.{option_to_list, option_copied}
-use Rattle.mq_acl.specs.Lines.{entry_of}
 use Rattle.mq_acl.specs.Lines as lines
-use Rattle.mq_acl.specs.Rows.{Who, AclRow, who_of, row_of, row_line, out_of_memory}
+use Rattle.mq_acl.specs.Rows.{Who, AclRow, entry_by, who_of, row_of, row_line, out_of_memory}
+use Rattle.mq_acl.specs.declared.rules.Rules.{Rules}
 use Rattle.mq_acl.specs.Rows as rows
 use Rattle.mq_acl.specs.declared.fault.AclFault.{AclFault}
 use Rattle.mq_acl.specs.declared.row.Row.{Row}
@@ -82,10 +82,10 @@ Answers (Ok entry) answer = answer ≡ Ok (entry_view entry)
 Answers (Err kind) answer = Fails kind answer
 
 -- the line with this number has no fault; its row is added, and later `topic` lines are for `next`
-pub record IsAdded (line : List ℕ) (number : ℕ) (who next : Who) (old : List AclRow)
+pub record IsAdded (rules : Rules) (line : List ℕ) (number : ℕ) (who next : Who) (old : List AclRow)
     (old_lines : List ℕ) (new : List AclRow) (new_lines : List ℕ) : Type 0 where
   pub entry : lines.Entry
-  pub says : entry_of line ≡ Ok entry
+  pub says : entry_by rules line ≡ Ok entry
   pub added : new ≡ old ++ option_to_list (row_of who entry)
   pub numbered : new_lines ≡ old_lines ++ option_to_list (row_line number (Ok entry))
   pub user : next ≡ who_then who entry

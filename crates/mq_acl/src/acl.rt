@@ -1,16 +1,18 @@
 ghost use Rattle.std.specs.Prelude.{◌≡◌, ◌≢◌, ◌⊎◌, ◌<◌, MatchResult, IfOk, IfErr, Ok, Err, Some};
 ghost use Rattle.std.specs.Option.{option_copied};
-ghost use Rattle.mq_acl.specs.Rows.{rows_of, out_of_memory};
-ghost use Rattle.mq_acl.specs.Access.{allowed};
+ghost use Rattle.mq_acl.specs.Rows.{out_of_memory, rows_by, rows_of};
+ghost use Rattle.mq_acl.specs.AccessLists.{allowed};
 ghost use Rattle.mq_acl.specs.Views.{row_views};
 ghost use Rattle.mq_acl.specs.declared.access.Direction.TheVariants.{Reading, Writing};
 
 use crate::access::Direction;
 use crate::check::rows_allow;
 use crate::fault::{AclFault, AclKind};
-use crate::read::read_rows;
+use crate::mosquitto::mosquitto_allows;
+use crate::read::read_rows_by;
 use crate::row::Row;
 use crate::rows_by_owner::RowsByOwner;
+use crate::rules::Rules;
 use mq_topic::TopicName;
 use std::alloc::{AllocError, Global};
 use std::fmt;
@@ -19,6 +21,7 @@ use std::snapshot::Snapshot;
 
 /// An access list: rows that grant topics to clients or deny them (mosquitto.conf(5), `acl_file`).
 pub struct Acl {
+    rules: Rules,
     by_owner: RowsByOwner,
     /// The rows as they stand in the text, for contracts alone.
     order: Snapshot<Vec<Row>>,
@@ -28,6 +31,7 @@ pub struct Acl {
 impl Drop for Acl {
     fn drop(self) {
         let Acl {
+            rules: _,
             by_owner: _,
             order: _,
         } = self;
@@ -35,33 +39,48 @@ impl Drop for Acl {
 }
 
 impl Model for Acl {
-    ghost use Rattle.std.specs.Prelude.{List};
-    ghost use Rattle.mq_acl.specs.Rows.{AclRow};
+    ghost use Rattle.mq_acl.specs.AccessLists.{AccessList};
     ghost use Rattle.mq_acl.specs.Views.{row_views};
 
-    ghost Value = { List AclRow };
+    ghost Value = { AccessList };
 
     ghost use Rattle.mq_acl.specs.RowsByOwner.{IsGrouped};
 
-    ghost view = { λ acl. row_views acl.order.value.items };
+    ghost view = { λ acl. record { rules = acl.rules; rows = row_views acl.order.value.items } };
 
     ghost invariant = { λ acl. IsGrouped (row_views acl.order.value.items) acl.by_owner };
 }
 
 impl Acl {
-    /// The access list with this text, or its first faulty line. A line is empty, a comment (`#`), `user NAME`, or
-    /// `topic` or `pattern` with an access (`read`, `write`, `readwrite`, `deny`; without one, read and write) and a
-    /// topic filter. How lines and words are cut, and which faults there are, is our own.
+    /// The access list with this text, read by our own rules, or its first faulty line. A line is empty, a comment (`#`),
+    /// `user NAME`, or `topic` or `pattern` with an access (`read`, `write`, `readwrite`, `deny`; without one, read and
+    /// write) and a topic filter. How lines and words are cut, and which faults there are, is our own.
     pub fn read(alloc: Global, text: &str) -> Result<Acl, AclFault>
-        ensures rows { MatchResult result (λ acl. rows_of text.now ≡ Ok acl)
+        ensures rules { IfOk result (λ acl. acl.rules ≡ Rules.Own) }
+        ensures rows { MatchResult result (λ acl. rows_of text.now ≡ Ok acl.rows)
             (λ fault. (fault ≡ out_of_memory) ⊎ (rows_of text.now ≡ Err fault)) }
         ensures memory { IfErr result
             (λ fault. fault.kind ≡ AclKind.Memory → fault ≡ out_of_memory) }
         ensures line { IfErr result (λ fault. fault.kind ≢ AclKind.Memory
             → (rows_of text.now ≡ Err fault) × (0 < fault.line)) }
     {
-        let rows = read_rows(alloc, text)?;
-        match Acl::of(alloc, rows) {
+        Acl::read_by(alloc, Rules::Own, text)
+    }
+
+    /// The access list with this text, read by these rules, or its first faulty line. By those of mosquitto words are
+    /// parted by spaces alone, a comment begins at the first byte of its line, and the marks of a `pattern` line may stand
+    /// within levels.
+    pub fn read_by(alloc: Global, rules: Rules, text: &str) -> Result<Acl, AclFault>
+        ensures rules { IfOk result (λ acl. acl.rules ≡ rules) }
+        ensures rows { MatchResult result (λ acl. rows_by rules text.now ≡ Ok acl.rows)
+            (λ fault. (fault ≡ out_of_memory) ⊎ (rows_by rules text.now ≡ Err fault)) }
+        ensures memory { IfErr result
+            (λ fault. fault.kind ≡ AclKind.Memory → fault ≡ out_of_memory) }
+        ensures line { IfErr result (λ fault. fault.kind ≢ AclKind.Memory
+            → (rows_by rules text.now ≡ Err fault) × (0 < fault.line)) }
+    {
+        let rows = read_rows_by(alloc, rules, text)?;
+        match Acl::of(alloc, rules, rows) {
             Ok(acl) => Ok(acl),
             Err(_) => Err(AclFault {
                 line: 0,
@@ -70,33 +89,53 @@ impl Acl {
         }
     }
 
-    /// The access list with these rows.
-    pub fn of(alloc: Global, rows: Vec<Row>) -> Result<Acl, AllocError>
-        ensures { IfOk result (λ acl. acl ≡ row_views rows.items) }
+    /// The access list with these rows, which decide by these rules.
+    pub fn of(alloc: Global, rules: Rules, rows: Vec<Row>) -> Result<Acl, AllocError>
+        ensures { IfOk result (λ acl. acl ≡ record { rules = rules; rows = row_views rows.items }) }
     {
         let order = Snapshot::of(&rows);
         let by_owner = RowsByOwner::of(alloc, rows)?;
-        Ok(Acl { by_owner, order })
+        Ok(Acl {
+            rules,
+            by_owner,
+            order,
+        })
     }
 
-    /// Whether the client with this client id, and with this user name or none, may read the topic: no row denies
-    /// it, and one grants it. It takes no memory, and looks at the rows for all clients and at those for this user
-    /// name, or for clients without one, alone.
-    #[tactic(auto, unfolding(crate::specs::Access::allowed))]
+    // Whether the rows allow it by the list's rules.
+    #[tactic(auto, unfolding(crate::specs::AccessLists::allowed))]
+    fn allows(
+        &self,
+        client: &str,
+        user: Option<&str>,
+        name: &TopicName,
+        direction: Direction,
+    ) -> bool
+        ensures { result ≡ allowed (Some self.now) client.now (option_copied user.entry) name.now
+            direction }
+    {
+        match self.rules {
+            Rules::Own => rows_allow(&self.by_owner, client, user, name, direction),
+            Rules::Mosquitto => mosquitto_allows(&self.by_owner, client, user, name, direction),
+        }
+    }
+
+    /// Whether the client with this client id, and with this user name or none, may read the topic by the list's rules. It
+    /// takes no memory, and looks at the rows for all clients and at those for this user name, or for clients without
+    /// one, alone.
     pub fn may_read(&self, client: &str, user: Option<&str>, name: &TopicName) -> bool
         ensures { result ≡ allowed (Some self.now) client.now (option_copied user.entry) name.now
             Reading }
     {
-        rows_allow(&self.by_owner, client, user, name, Direction::Reading)
+        self.allows(client, user, name, Direction::Reading)
     }
 
     /// Whether this client may write the topic, as `may_read`.
-    #[tactic(auto, unfolding(crate::specs::Access::allowed))]
     pub fn may_write(&self, client: &str, user: Option<&str>, name: &TopicName) -> bool
         ensures { result ≡ allowed (Some self.now) client.now (option_copied user.entry) name.now
             Writing }
     {
-        rows_allow(&self.by_owner, client, user, name, Direction::Writing)
+        self.allows(client, user, name, Direction::Writing)
     }
 }
 

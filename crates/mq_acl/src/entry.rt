@@ -22,7 +22,7 @@ pub(crate) enum Entry<'a> {
     Pattern(Access, TopicFilter),
 }
 
-fn access_named(word: &str) -> Option<Access>
+pub(crate) fn access_named(word: &str) -> Option<Access>
     ensures { option_map access_view result ≡ access_named word.now }
 {
     match word {
@@ -65,7 +65,7 @@ fn is_pattern(topic: &str) -> bool
     topic.split('/').all(|level| is_pattern_level(level))
 }
 
-fn parse_topic(alloc: Global, topic: &str) -> Result<TopicFilter, AclKind>
+pub(crate) fn parse_topic(alloc: Global, topic: &str) -> Result<TopicFilter, AclKind>
     ensures ok { IfOk result (λ filter. (filter ≡ topic.now) × IsTrue (is_filter topic.now)) }
     ensures fault { IfErr result (λ kind. (kind ≡ AclKind.Memory)
         ⊎ ((kind ≡ AclKind.Topic) × (is_filter topic.now ≡ false))) }

@@ -1,14 +1,17 @@
 ghost use Rattle.std.specs.Prelude.{◌≡◌, ℕ, ◌+◌, List, ◌++◌, ◌∷◌, ◌⊎◌, IfOk, IfErr, OnOk};
 ghost use Rattle.std.specs.Prelude.{MatchResult, Ok, Err, Some};
 ghost use Rattle.std.specs.Option.{option_to_list};
-ghost use Rattle.mq_acl.specs.Lines.{lines, entry_of};
-ghost use Rattle.mq_acl.specs.Rows.{rows_of, row_of, row_line, row_lines, fault_at, out_of_memory};
-ghost use Rattle.mq_acl.specs.Views.{entry_view, lines_left, user_who, who_then, fault_of};
+ghost use Rattle.mq_acl.specs.Lines.{lines};
+ghost use Rattle.mq_acl.specs.Rows.{entry_by, fault_at, out_of_memory, row_line, row_lines, row_lines_by};
+ghost use Rattle.mq_acl.specs.Rows.{row_of, rows_by, rows_of};
+ghost use Rattle.mq_acl.specs.Views.{Answers, entry_view, lines_left, user_who, who_then, fault_of};
 ghost use Rattle.mq_acl.specs.Views.{owner_view, row_views, line_views, IsAdded};
 
-use crate::entry::{Entry, read_entry};
+use crate::entry::{self, Entry};
 use crate::fault::{AclFault, AclKind};
+use crate::mosquitto_lines;
 use crate::row::{Owner, Row};
+use crate::rules::Rules;
 use std::alloc::{AllocError, Global};
 
 // The first line, and what follows its LF, if there is one.
@@ -79,32 +82,44 @@ fn fault_of(line: u64, kind: AclKind) -> AclFault
     }
 }
 
+// What the line says, as these rules read it.
+fn read_entry<'a>(alloc: Global, rules: Rules, line: &'a str) -> Result<Entry<'a>, AclKind>
+    ensures { Answers result (entry_by rules line.now) }
+{
+    match rules {
+        Rules::Own => entry::read_entry(alloc, line),
+        Rules::Mosquitto => mosquitto_lines::read_entry(alloc, line),
+    }
+}
+
 // Reads a line: adds its row, and answers the user that later topic lines belong to.
 fn read_line_into<'a>(
     alloc: Global,
+    rules: Rules,
     rows: &mut Vec<Row>,
     user: Option<&'a str>,
     line: &'a str,
     number: u64,
 ) -> Result<Option<&'a str>, AclFault>
-    ensures ok { IfOk result (λ next. IsAdded line.now number (user_who user.entry) (user_who next)
-        (row_views rows.old.items) (line_views rows.old.items) (row_views rows.new.items)
+    ensures ok { IfOk result (λ next. IsAdded rules line.now number (user_who user.entry)
+        (user_who next) (row_views rows.old.items) (line_views rows.old.items) (row_views rows.new.items)
         (line_views rows.new.items)) }
     ensures fault { IfErr result (λ fault. (fault ≡ out_of_memory)
-        ⊎ (fault_at number (entry_of line.now) ≡ Some fault)) }
+        ⊎ (fault_at number (entry_by rules line.now) ≡ Some fault)) }
 {
-    let entry = read_entry(alloc, line).map_err(|kind| fault_of(number, kind))?;
+    let entry = read_entry(alloc, rules, line).map_err(|kind| fault_of(number, kind))?;
     let next = user_after(user, &entry);
     add_row(alloc, rows, user, entry, number).map_err(|_| fault_of(number, AclKind::Memory))?;
     Ok(next)
 }
 
-/// The rows of the access list with this text, in the order of their lines and each with the number of its line, or the
-/// first faulty line, as `Acl::read`.
-pub fn read_rows(alloc: Global, text: &str) -> Result<Vec<Row>, AclFault>
-    ensures rows { MatchResult result (λ rows. rows_of text.now ≡ Ok (row_views rows.items))
-        (λ fault. (fault ≡ out_of_memory) ⊎ (rows_of text.now ≡ Err fault)) }
-    ensures lines { IfOk result (λ rows. line_views rows.items ≡ row_lines text.now) }
+/// The rows of the access list with this text, read by these rules, in the order of their lines and each with the number
+/// of its line, or the first faulty line.
+pub fn read_rows_by(alloc: Global, rules: Rules, text: &str) -> Result<Vec<Row>, AclFault>
+    ensures rows { MatchResult result
+        (λ rows. rows_by rules text.now ≡ Ok (row_views rows.items))
+        (λ fault. (fault ≡ out_of_memory) ⊎ (rows_by rules text.now ≡ Err fault)) }
+    ensures lines { IfOk result (λ rows. line_views rows.items ≡ row_lines_by rules text.now) }
 {
     let mut rows = Vec::new(alloc);
     let mut user = None;
@@ -113,8 +128,18 @@ pub fn read_rows(alloc: Global, text: &str) -> Result<Vec<Row>, AclFault>
     while let Some(text) = rest {
         let (line, after) = split_line(text);
         number += 1;
-        user = read_line_into(alloc, &mut rows, user, line, number)?;
+        user = read_line_into(alloc, rules, &mut rows, user, line, number)?;
         rest = after;
     }
     Ok(rows)
+}
+
+/// The rows of the access list with this text, read by our own rules, in the order of their lines and each with the
+/// number of its line, or the first faulty line, as `Acl::read`.
+pub fn read_rows(alloc: Global, text: &str) -> Result<Vec<Row>, AclFault>
+    ensures rows { MatchResult result (λ rows. rows_of text.now ≡ Ok (row_views rows.items))
+        (λ fault. (fault ≡ out_of_memory) ⊎ (rows_of text.now ≡ Err fault)) }
+    ensures lines { IfOk result (λ rows. line_views rows.items ≡ row_lines text.now) }
+{
+    read_rows_by(alloc, Rules::Own, text)
 }

@@ -1,7 +1,8 @@
 -- What a list of differences says of two lists.
 use Rattle.std.proofs.Common.{◌≡◌, ◌≢◌, ◌<◌, ◌&&◌, suc, length, arith, ℕ, Bool, true, false, not}
 use Rattle.std.proofs.Common.{List, [], ◌∷◌, Option, Some, All, refl, sym, string_bytes, true≢false}
-use Rattle.mq_acl.specs.Access.{allowed}
+use Rattle.mq_acl.specs.AccessLists.{allow_by}
+use Rattle.mq_acl.specs.declared.rules.Rules.TheVariants.{Own}
 use Rattle.mq_acl.specs.Rows.{AclRow}
 use Rattle.mq_acl.specs.Views.{row_views}
 use Rattle.mq_acl.specs.declared.access.Direction.{Direction}
@@ -27,14 +28,14 @@ not_same false false e same = true≢false (sym e)
 differs : (way : Way) (old new : List AclRow) (client : List ℕ) (user : Option (List ℕ))
     (topic : List ℕ) (direction : Direction)
     → is_change way old new client user topic direction ≡ true
-    → ¬ (allowed (Some old) client user topic direction
-    ≡ allowed (Some new) client user topic direction)
+    → ¬ (allow_by Own old client user topic direction
+    ≡ allow_by Own new client user topic direction)
 differs Gained old new client user topic direction e same =
-    not_same (allowed (Some old) client user topic direction)
-    (allowed (Some new) client user topic direction) e same
+    not_same (allow_by Own old client user topic direction)
+    (allow_by Own new client user topic direction) e same
 differs Lost old new client user topic direction e same =
-    not_same (allowed (Some new) client user topic direction)
-    (allowed (Some old) client user topic direction) e (sym same)
+    not_same (allow_by Own new client user topic direction)
+    (allow_by Own old client user topic direction) e (sym same)
 
 -- where a difference is told the lists do differ
 differ_of : (old new : List Row) (all : List Difference) → all ≢ [] → All (IsReal old new) all

@@ -4,7 +4,8 @@ use Rattle.std.specs.Option.{option_map}
 use Rattle.mq_topic.specs.Levels.{levels}
 use Rattle.mq_topic.specs.Matching.{matches}
 use Rattle.mq_topic.specs.Texts.{filter_part, is_name}
-use Rattle.mq_acl.specs.Access.{allowed}
+use Rattle.mq_acl.specs.AccessLists.{allow_by}
+use Rattle.mq_acl.specs.declared.rules.Rules.TheVariants.{Own}
 use Rattle.mq_acl.specs.Rows.{AclRow, rows_of, row_lines}
 use Rattle.mq_acl.specs.Views.{row_views, line_views}
 use Rattle.mq_acl.specs.declared.access.Direction.TheVariants.{Reading, Writing}
@@ -33,10 +34,10 @@ pub record Explains (text client : List ℕ) (user : Option (List ℕ)) (topic :
       ≡ option_map (λ row. row.line) (first_grant rows client user topic Reading)
   pub writing_grant : e.writing.grant
       ≡ option_map (λ row. row.line) (first_grant rows client user topic Writing)
-  pub may_read : is_grant e.reading.reason ≡ allowed (Some (row_views rows)) client user topic
+  pub may_read : is_grant e.reading.reason ≡ allow_by Own (row_views rows) client user topic
       Reading
   pub may_write : is_grant e.writing.reason
-      ≡ allowed (Some (row_views rows)) client user topic Writing
+      ≡ allow_by Own (row_views rows) client user topic Writing
 
 -- the lists with these texts differ so, and not otherwise: all that changes for a client that a broker
 -- can have is told, and once
@@ -70,14 +71,14 @@ IsReach text client user subscription (Some topic) = record {
   rows : List AclRow;
   read : rows_of text ≡ Ok rows;
   matched : matches (levels (filter_part subscription)) (levels topic) ≡ true;
-  may_read : allowed (Some rows) client user topic Reading ≡ true;
+  may_read : allow_by Own rows client user topic Reading ≡ true;
 }
 IsReach text client user subscription None = record {
   rows : List AclRow;
   read : rows_of text ≡ Ok rows;
   no_topic : (topic : List ℕ) → IsTrue (is_name topic)
       → matches (levels (filter_part subscription)) (levels topic) ≡ true
-      → allowed (Some rows) client user topic Reading ≡ false;
+      → allow_by Own rows client user topic Reading ≡ false;
 }
 
 -- whether there is a topic is told

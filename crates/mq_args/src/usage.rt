@@ -1,4 +1,4 @@
-ghost use Rattle.clap.specs.Words.{Kinds, HasKind};
+ghost use Rattle.clap.specs.Words.{Kinds, HasKind, IsAmong};
 ghost use Rattle.mq_args.specs.Usage.{IsFaultOf};
 
 use clap::Error;
@@ -41,4 +41,31 @@ impl UsageFault {
             _ => UsageFault::Usage(text),
         }
     }
+
+    /// Why the value of an option is refused that is none of these words, in the form of `clap`.
+    pub fn of_value(alloc: Global, value: &str, option: &str, words: &str) -> UsageFault
+        ensures { (kinds : Kinds) → IsAmong ErrorKind.InvalidValue kinds → IsFaultOf kinds result }
+    {
+        match value_text(alloc, value, option, words) {
+            Ok(text) => UsageFault::Usage(text),
+            Err(_) => UsageFault::Memory,
+        }
+    }
+}
+
+fn value_text(alloc: Global, value: &str, option: &str, words: &str) -> Result<String, AllocError> {
+    let mut text = String::from_str(alloc, "error: ")?;
+    if value.is_empty() {
+        write!(
+            text,
+            "a value is required for '{option}' but none was supplied"
+        )?;
+    } else {
+        write!(text, "invalid value '{value}' for '{option}'")?;
+    }
+    write!(
+        text,
+        "\n  [possible values: {words}]\n\nFor more information, try '--help'.\n"
+    )?;
+    Ok(text)
 }

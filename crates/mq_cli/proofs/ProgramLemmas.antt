@@ -1,18 +1,22 @@
 -- What the program's options and faults say.
 use Rattle.std.proofs.Common.{◌≡◌, ◌∙◌, ◌⊎◌, inl, inr, [], ℕ, List, Option, Some, None, Result, Ok}
 use Rattle.std.proofs.Common.{Err, refl, sym, ap, ap₂, subst, arith, codes, string_bytes}
-use Rattle.std.specs.Prelude.{IfOk, IfErr, option_map}
+use Rattle.std.specs.Prelude.{IfOk, IfErr, option_map, unwrap_or}
 use Rattle.std.proofs.lemmas.Str.{IsUtf8-nil}
 use Rattle.clap.specs.Words.{Kinds, IsAmong}
 use Rattle.clap.specs.declared.error.ErrorKind.TheVariants.{DisplayHelp}
-use Rattle.mq_world.specs.World.{World, Limits, fresh_world, empty_world, within}
+use Rattle.mq_acl.specs.AccessLists.{AccessList}
+use Rattle.mq_acl.specs.Rows.{rows_by}
+use Rattle.mq_acl.specs.declared.rules.Rules.{Rules}
+use Rattle.mq_acl.specs.declared.rules.Rules.TheVariants.{Own, Mosquitto}
+use Rattle.mq_world.specs.World.{World, Limits, fresh_world, empty_world, ruled, within}
 use Rattle.mq_cli.specs.declared.command_line.Options.{Options}
 use Rattle.mq_args.specs.declared.usage.UsageFault.{UsageFault}
 use Rattle.mq_args.specs.declared.usage.UsageFault.TheVariants.{Help, Usage, Memory}
 use Rattle.mq_cli.specs.declared.failure.Failure.{Failure}
 use Rattle.mq_cli.specs.declared.failure.Failure.TheVariants as failure
 use Rattle.mq_args.specs.Usage.{IsFaultOf}
-use Rattle.mq_cli.specs.CommandLine.{AreGiven, given}
+use Rattle.mq_cli.specs.CommandLine.{AreGiven, given, rules_given}
 use Rattle.mq_run.specs.Ending.{AppendsSome}
 use Rattle.mq_run.specs.Output.{output}
 use Rattle.mq_cli.specs.Program.{script_file, failure_status, limits_by, limits_given, BeginsIn}
@@ -87,12 +91,12 @@ usage_done Memory status before after flushed tells two three = absurd (three te
 
 -- ## The world and the script of a run
 
--- a run without an ACL file begins in the empty world, within its limits
-pub begins_empty : (file : Option (List ℕ)) (limits : Limits) (w : World) → file ≡ None
-    → BeginsIn file limits w → w ≡ within limits empty_world
-begins_empty None limits w e begins = begins.2
-    ∙ ap (λ access. within limits (fresh_world access)) begins.1
-begins_empty (Some x) limits w e begins = absurd (let bad : Some x ≡ None = e in cc)
+-- a run without an ACL file begins in the empty world, within its limits and with its rules
+pub begins_empty : (rules : Rules) (file : Option (List ℕ)) (limits : Limits) (w : World)
+    → file ≡ None → BeginsIn rules file limits w → w ≡ ruled rules (within limits empty_world)
+begins_empty rules None limits w e begins = begins.2
+    ∙ ap (λ access. ruled rules (within limits (fresh_world access))) begins.1
+begins_empty rules (Some x) limits w e begins = absurd (let bad : Some x ≡ None = e in cc)
 
 -- where no script file is named, the script is the input, if that is known
 pub script_told : (file to_come : Option (List ℕ)) (script bytes : List ℕ) → file ≡ None
@@ -103,13 +107,14 @@ script_told None (Some xs) script bytes e f is = let same : xs ≡ bytes =
 script_told (Some x) to_come script bytes e f is = absurd (let bad : Some x ≡ None = e in cc)
 
 -- what is told of a world that the run begins in is told of some world that it begins in
-pub IfOk-begun : {T E : Type 0} (result : Result T E) (file : Option (List ℕ)) (limits : Limits)
-    (w : World) (Q : List ℕ → Type 0) (P : World → List ℕ → T → Type 0)
-    → BeginsIn file limits w → IfOk result (λ x. (script : List ℕ) × Q script × P w script x)
-    → IfOk result (λ x. (v : World) × BeginsIn file limits v × (script : List ℕ) × Q script
-    × P v script x)
-IfOk-begun (Ok x) file limits w Q P begins h = (w, begins, h.0, h.1, h.2)
-IfOk-begun (Err e) file limits w Q P begins h = tt
+pub IfOk-begun : {T E : Type 0} (result : Result T E) (rules : Rules) (file : Option (List ℕ))
+    (limits : Limits) (w : World) (Q : List ℕ → Type 0) (P : World → List ℕ → T → Type 0)
+    → BeginsIn rules file limits w
+    → IfOk result (λ x. (script : List ℕ) × Q script × P w script x)
+    → IfOk result (λ x. (v : World) × BeginsIn rules file limits v × (script : List ℕ)
+    × Q script × P v script x)
+IfOk-begun (Ok x) rules file limits w Q P begins h = (w, begins, h.0, h.1, h.2)
+IfOk-begun (Err e) rules file limits w Q P begins h = tt
 
 -- where a script file is named, any script may be its text: what is told of some script stays so
 pub IfOk-file : {T E : Type 0} (result : Result T E) (name : List ℕ)
@@ -156,27 +161,52 @@ WritesFront-none w file to_come before =
     let script = some_script file to_come in
     (script.0, script.1, AppendsSome-none before (output w script.0))
 
+-- an empty text has no rows, and no fault
+rows_by-nil : (rules : Rules) → rows_by rules [] ≡ Ok []
+rows_by-nil Own = refl
+rows_by-nil Mosquitto = refl
+
 -- some world is one that a run may begin in: an empty file is an access list without rows
-pub BeginsIn-some : (file : Option (List ℕ)) (limits : Limits) → (w : World)
-    × BeginsIn file limits w
-BeginsIn-some None limits = (within limits (fresh_world None), (None, refl, refl))
-BeginsIn-some (Some file) limits =
-    (within limits (fresh_world (Some [])), (Some [], ([], [], (IsUtf8-nil, refl), refl), refl))
+pub BeginsIn-some : (rules : Rules) (file : Option (List ℕ)) (limits : Limits) → (w : World)
+    × BeginsIn rules file limits w
+BeginsIn-some rules None limits =
+    (ruled rules (within limits (fresh_world None)), (None, refl, refl))
+BeginsIn-some rules (Some file) limits =
+    let list : AccessList = record { rules = rules; rows = [] } in (
+      ruled rules (within limits (fresh_world (Some list))),
+      (Some list, ([], list, (IsUtf8-nil, refl, rows_by-nil rules), refl), refl),
+    )
+
+-- the rules of the options are those in the words
+pub rules_are : (words : List (List ℕ)) (options : Options) → AreGiven words options
+    → options.rules ≡ rules_given words
+rules_are words options are = ap (λ asked. unwrap_or asked Own) are.rules
+
+-- a world that a run begins in by its options is one by the words that they are of
+pub begins_given : (words : List (List ℕ)) (options : Options) (w : World) → AreGiven words options
+    → BeginsIn options.rules (option_map string_bytes options.acl_file)
+    (limits_by options.max_retained options.max_queued) w
+    → BeginsIn (rules_given words) (given (codes "acl-file") words) (limits_given words) w
+begins_given words options w are begins =
+    let file = given (codes "acl-file") words in
+    let limits = limits_by options.max_retained options.max_queued in
+    subst (λ (l : Limits). BeginsIn (rules_given words) file l w)
+    (ap₂ limits_by are.max_retained are.max_queued)
+    (subst (λ (rules : Rules). BeginsIn rules file limits w) (rules_are words options are)
+    (subst (λ (f : Option (List ℕ)). BeginsIn options.rules f limits w) are.acl_file begins))
 
 -- what is said of options is said of the words that they are of
 pub prefix_given : (words : List (List ℕ)) (options : Options)
     (to_come before after : Option (List ℕ)) → AreGiven words options
-    → (w : World) × BeginsIn (option_map string_bytes options.acl_file)
+    → (w : World) × BeginsIn options.rules (option_map string_bytes options.acl_file)
     (limits_by options.max_retained options.max_queued) w
     × WritesFront w (script_file (option_map string_bytes options.script)) to_come before after
-    → (w : World) × BeginsIn (given (codes "acl-file") words) (limits_given words) w
+    → (w : World) × BeginsIn (rules_given words) (given (codes "acl-file") words)
+    (limits_given words) w
     × WritesFront w (script_file (given (codes "script") words)) to_come before after
-prefix_given words options to_come before after are begun =
-    let limits = limits_by options.max_retained options.max_queued in (
-      begun.0,
-      subst (λ (l : Limits). BeginsIn (given (codes "acl-file") words) l begun.0)
-          (ap₂ limits_by are.max_retained are.max_queued)
-          (subst (λ (file : Option (List ℕ)). BeginsIn file limits begun.0) are.acl_file begun.1),
-      subst (λ (file : Option (List ℕ)). WritesFront begun.0 (script_file file) to_come before
-          after) are.script begun.2,
-    )
+prefix_given words options to_come before after are begun = (
+  begun.0,
+  begins_given words options begun.0 are begun.1,
+  subst (λ (file : Option (List ℕ)). WritesFront begun.0 (script_file file) to_come before
+      after) are.script begun.2,
+)

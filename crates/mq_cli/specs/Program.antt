@@ -3,8 +3,9 @@ use Rattle.std.specs.Prelude.{◌≡◌, ◌⊎◌, ℕ, ◌==◌, List, [], ◌
 use Rattle.std.specs.Prelude.{Ok, unwrap_or, codes, string_bytes, ⊤}
 use Rattle.std.specs.Io.KnownBytes.{Appends}
 use Rattle.std.specs.Str.{bytes_eq}
-use Rattle.mq_acl.specs.Rows.{AclRow}
-use Rattle.mq_world.specs.World.{World, Limits, default_limits, fresh_world, within}
+use Rattle.mq_acl.specs.AccessLists.{AccessList}
+use Rattle.mq_acl.specs.declared.rules.Rules.{Rules}
+use Rattle.mq_world.specs.World.{World, Limits, default_limits, fresh_world, ruled, within}
 use Rattle.mq_cli.specs.CommandLine.{number_given}
 use Rattle.mq_run.specs.declared.outcome.Summary.{Summary}
 use Rattle.mq_run.specs.Output.{refused_from, output, Summarizes}
@@ -43,16 +44,16 @@ abbrev pub limits_given : List (List ℕ) → Limits
 limits_given words = limits_by (number_given (codes "max-retained") words)
     (number_given (codes "max-queued") words)
 
--- the access list that a run begins with: where a file of one is named, the rows of some text without a fault
-abbrev pub BeginsWith : (acl_file : Option (List ℕ)) → Option (List AclRow) → Type 0
-BeginsWith None access = access ≡ None
-BeginsWith (Some file) access = (text : List ℕ) × (rows : List AclRow) × IsAnswerTo text (Ok rows)
-    × (access ≡ Some rows)
+-- the access list that a run begins with: where a file of one is named, that of some text without a fault, by these rules
+abbrev pub BeginsWith : Rules → (acl_file : Option (List ℕ)) → Option AccessList → Type 0
+BeginsWith rules None access = access ≡ None
+BeginsWith rules (Some file) access =
+    (text : List ℕ) × (list : AccessList) × IsAnswerTo rules text (Ok list) × (access ≡ Some list)
 
--- the world that a run begins in
-abbrev pub BeginsIn : (acl_file : Option (List ℕ)) → Limits → World → Type 0
-BeginsIn acl_file limits w = (access : Option (List AclRow)) × BeginsWith acl_file access
-    × (w ≡ within limits (fresh_world access))
+-- the world that a run begins in, where the rules are those of commands too
+abbrev pub BeginsIn : Rules → (acl_file : Option (List ℕ)) → Limits → World → Type 0
+BeginsIn rules acl_file limits w = (access : Option AccessList) × BeginsWith rules acl_file access
+    × (w ≡ ruled rules (within limits (fresh_world access)))
 
 -- the script: where no file is named, all that the input tells
 abbrev pub IsScript : (file to_come : Option (List ℕ)) → List ℕ → Type 0

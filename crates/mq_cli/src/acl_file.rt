@@ -4,7 +4,7 @@ ghost use Rattle.std.specs.Io.KnownBytes.{Consumes};
 ghost use Rattle.mq_cli.specs.AclFile.{AclFileEnds, IsAnswerTo, IsWholeFile, acl_file_limit};
 ghost use Rattle.mq_run.specs.Ending.{watch};
 
-use mq_acl::{Acl, AclFault, AclKind};
+use mq_acl::{Acl, AclFault, AclKind, Rules};
 use mq_run::{PIECE, Source};
 use std::alloc::{AllocError, Global};
 use std::str;
@@ -57,7 +57,7 @@ fn read_file<R: Source>(
         IfOk result (λ bytes. Consumes seen.before seen.after bytes.items
         × IsWholeFile limit bytes.items seen.after seen.calls) }
     ensures err { IfErr result
-        (λ fault. AclFileEnds limit (Err fault)
+        (λ fault. (rules : Rules) → AclFileEnds limit rules (Err fault)
         (watch R.to_come R.failures reader.old reader.new)) }
 {
     let mut bytes = Vec::new(alloc);
@@ -76,15 +76,15 @@ fn read_file<R: Source>(
     }
 }
 
-/// The access list that the bytes of a file are.
-fn parse_acl(alloc: Global, bytes: &[u8]) -> Result<Acl, AclFileFault>
-    ensures { IsAnswerTo bytes.now result }
+/// The access list that the bytes of a file are, by these rules.
+fn parse_acl(alloc: Global, rules: Rules, bytes: &[u8]) -> Result<Acl, AclFileFault>
+    ensures { IsAnswerTo rules bytes.now result }
 {
     let text = match str::from_utf8(bytes) {
         Ok(text) => text,
         Err(_) => return Err(AclFileFault::Utf8),
     };
-    match Acl::read(alloc, text) {
+    match Acl::read_by(alloc, rules, text) {
         Ok(acl) => Ok(acl),
         Err(fault) => match fault.kind {
             AclKind::Memory => Err(AclFileFault::Memory),
@@ -93,14 +93,15 @@ fn parse_acl(alloc: Global, bytes: &[u8]) -> Result<Acl, AclFileFault>
     }
 }
 
-/// Reads an access list from the bytes that a reader gives, in whatever pieces. Memory is that of the file and of its
-/// access list.
-pub fn read_acl<R: Source>(alloc: Global, reader: &mut R) -> Result<Acl, AclFileFault>
-    ensures { AclFileEnds acl_file_limit result (watch R.to_come R.failures reader.old reader.new) }
+/// Reads an access list by these rules from the bytes that a reader gives, in whatever pieces. Memory is that of the file
+/// and of its access list.
+pub fn read_acl<R: Source>(alloc: Global, rules: Rules, reader: &mut R) -> Result<Acl, AclFileFault>
+    ensures { AclFileEnds acl_file_limit rules result
+        (watch R.to_come R.failures reader.old reader.new) }
 {
     let Ok(mut piece) = vec![in alloc; 0u8; PIECE] else {
         return Err(AclFileFault::Memory);
     };
     let bytes = read_file(alloc, reader, piece.as_mut_slice(), FILE_LIMIT)?;
-    parse_acl(alloc, bytes.as_slice())
+    parse_acl(alloc, rules, bytes.as_slice())
 }

@@ -1,18 +1,22 @@
 //! The command line.
 ghost use Rattle.std.specs.Prelude.{◌≡◌, List, [], map, option_map, string_bytes, IfOk};
-ghost use Rattle.std.specs.Prelude.{OnOk, IfErr};
+ghost use Rattle.std.specs.Prelude.{OnOk, IfErr, Some, None};
 ghost use Rattle.clap.specs.Words.{app_of, rows_of, found_of, matches_of, fault_of};
-ghost use Rattle.clap.specs.Words.{Text, FailsBy};
+ghost use Rattle.clap.specs.Words.{Text, FailsBy, IsAmong, Kinds};
 ghost use Rattle.mq_args.specs.Usage.{IsFaultOf};
-ghost use Rattle.mq_cli.specs.CommandLine.{mqroute, AreGiven};
+ghost use Rattle.mq_cli.specs.CommandLine.{mqroute, AreGiven, faults_in, rules_asked, rules_named};
 
+use clap::error::ErrorKind;
 use clap::{ArgMatches, Command, Error};
+use mq_acl::Rules;
 use mq_args::{Argument, ArgumentKind, UsageFault, described, with_arguments};
 use std::alloc::{AllocError, Global};
 
 const ABOUT: &str = "Answers a script of MQTT 5.0 routing commands, line by line";
 
 const ACL_FILE_HELP: &str = "Begin with this access list, in mosquitto's form";
+
+const RULES_HELP: &str = "By whose rules access lists decide: own or mosquitto (own)";
 
 const MAX_RETAINED_HELP: &str = "Let up to N messages be retained (no limit)";
 
@@ -62,6 +66,8 @@ Example:
 pub struct Options {
     /// The file of the access list.
     pub acl_file: Option<String>,
+    /// By whose rules access lists are read, and decide.
+    pub rules: Rules,
     /// How many messages may be retained; without it, any number.
     pub max_retained: Option<u32>,
     /// How many copies may wait for a client that is away; without it, 1,000.
@@ -77,6 +83,7 @@ impl Drop for Options {
     fn drop(self) {
         let Options {
             acl_file: _,
+            rules: _,
             max_retained: _,
             max_queued: _,
             unbuffered: _,
@@ -85,7 +92,7 @@ impl Drop for Options {
     }
 }
 
-/// `mqroute [--acl-file FILE] [--max-retained N] [--max-queued N] [--unbuffered] [SCRIPT]`.
+/// `mqroute [--acl-file FILE] [--rules RULES] [--max-retained N] [--max-queued N] [--unbuffered] [SCRIPT]`.
 fn command<'a>(alloc: Global) -> Result<Command<'a>, AllocError>
     ensures { IfOk result (λ c. app_of c ≡ mqroute) }
 {
@@ -95,6 +102,7 @@ fn command<'a>(alloc: Global) -> Result<Command<'a>, AllocError>
         named,
         &[
             Argument("acl-file", ArgumentKind::Option("FILE"), ACL_FILE_HELP),
+            Argument("rules", ArgumentKind::Option("RULES"), RULES_HELP),
             Argument("max-retained", ArgumentKind::Number, MAX_RETAINED_HELP),
             Argument("max-queued", ArgumentKind::Number, MAX_QUEUED_HELP),
             Argument("unbuffered", ArgumentKind::Flag, UNBUFFERED_HELP),
@@ -121,16 +129,54 @@ fn copied(alloc: Global, text: Option<&str>) -> Result<Option<String>, AllocErro
     }
 }
 
-// The options in the values that `clap` took.
-fn options_in(alloc: Global, matches: &ArgMatches<'_>) -> Result<Options, UsageFault>
+fn rules_named(word: &str) -> Option<Rules>
+    ensures { result ≡ rules_named word.now }
+{
+    match word {
+        "own" => Some(Rules::Own),
+        "mosquitto" => Some(Rules::Mosquitto),
+        _ => None,
+    }
+}
+
+fn rules_of(alloc: Global, word: &str) -> Result<Rules, UsageFault>
+    ensures ok { IfOk result (λ rules. Some rules ≡ rules_named word.now) }
+    ensures err { IfErr result (λ fault. (rules_named word.now ≡ None)
+        × ((kinds : Kinds) → IsAmong ErrorKind.InvalidValue kinds → IsFaultOf kinds fault)) }
+{
+    match rules_named(word) {
+        Some(rules) => Ok(rules),
+        None => Err(UsageFault::of_value(alloc, word, "--rules <RULES>", "own, mosquitto")),
+    }
+}
+
+// The rules in the values that `clap` took.
+fn rules_in(alloc: Global, matches: &ArgMatches<'_>) -> Result<Rules, UsageFault>
+    ensures ok { IfOk result (λ rules. (words : List Text)
+        → rows_of (found_of matches.now) ≡ matches_of mqroute words
+        → Some rules ≡ rules_asked words) }
+    ensures err { IfErr result (λ fault. (words : List Text)
+        → rows_of (found_of matches.now) ≡ matches_of mqroute words → fault_of mqroute words ≡ []
+        → IsFaultOf (faults_in words) fault) }
+{
+    match matches.get_str("rules") {
+        Some(word) => rules_of(alloc, word),
+        None => Ok(Rules::Own),
+    }
+}
+
+// The options in these values, with the rules in them.
+fn options_by(alloc: Global, matches: &ArgMatches<'_>, rules: Rules) -> Result<Options, UsageFault>
     ensures ok { IfOk result (λ options. (words : List Text)
-        → rows_of (found_of matches.now) ≡ matches_of mqroute words → AreGiven words options) }
+        → rows_of (found_of matches.now) ≡ matches_of mqroute words
+        → Some rules ≡ rules_asked words → AreGiven words options) }
     ensures err { IfErr result (λ fault. fault ≡ UsageFault.Memory) }
 {
     let acl_file = copied(alloc, matches.get_str("acl-file"))?;
     let script = copied(alloc, matches.get_str("script"))?;
     Ok(Options {
         acl_file,
+        rules,
         max_retained: matches.get_one("max-retained"),
         max_queued: matches.get_one("max-queued"),
         unbuffered: matches.get_one("unbuffered").unwrap_or(false),
@@ -138,11 +184,25 @@ fn options_in(alloc: Global, matches: &ArgMatches<'_>) -> Result<Options, UsageF
     })
 }
 
+// The options in the values that `clap` took.
+fn options_in(alloc: Global, matches: &ArgMatches<'_>) -> Result<Options, UsageFault>
+    ensures ok { IfOk result (λ options. (words : List Text)
+        → rows_of (found_of matches.now) ≡ matches_of mqroute words → AreGiven words options) }
+    ensures err { IfErr result (λ fault. (words : List Text)
+        → rows_of (found_of matches.now) ≡ matches_of mqroute words → fault_of mqroute words ≡ []
+        → IsFaultOf (faults_in words) fault) }
+{
+    match rules_in(alloc, matches) {
+        Ok(rules) => options_by(alloc, matches, rules),
+        Err(fault) => Err(fault),
+    }
+}
+
 /// The options in the words of a command line, of which the first is the program's name.
 pub fn arguments(alloc: Global, words: &[String]) -> Result<Options, UsageFault>
     ensures ok { IfOk result (AreGiven (map string_bytes words.now)) }
-    ensures no_fault { OnOk result (fault_of mqroute (map string_bytes words.now) ≡ []) }
-    ensures err { IfErr result (IsFaultOf (fault_of mqroute (map string_bytes words.now))) }
+    ensures no_fault { OnOk result (faults_in (map string_bytes words.now) ≡ []) }
+    ensures err { IfErr result (IsFaultOf (faults_in (map string_bytes words.now))) }
 {
     match matches_in(alloc, words) {
         Ok(matches) => options_in(alloc, &matches),

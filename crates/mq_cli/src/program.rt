@@ -4,13 +4,12 @@ ghost use Rattle.std.specs.Prelude.{if◌then◌else◌};
 ghost use Rattle.std.specs.Prelude.{OnOk, OnErr, IfOk, IsOk, IfErr, IsTrue, is_ok, map, option_map};
 ghost use Rattle.std.specs.Prelude.{string_bytes, codes};
 ghost use Rattle.std.specs.Io.KnownBytes.{Appends};
-ghost use Rattle.clap.specs.Words.{fault_of};
-ghost use Rattle.mq_world.specs.World.{World, empty_world, within};
+ghost use Rattle.mq_world.specs.World.{World, empty_world, ruled, within};
 ghost use Rattle.mq_world.specs.Views.{limits_of};
 ghost use Rattle.mq_router.specs.StandsFor.{StandsFor};
 ghost use Rattle.mq_cli.specs.AclFile.{IsAnswerTo};
 ghost use Rattle.mq_args.specs.Usage.{IsFaultOf};
-ghost use Rattle.mq_cli.specs.CommandLine.{mqroute, given, IsGiven};
+ghost use Rattle.mq_cli.specs.CommandLine.{faults_in, given, rules_given, IsGiven};
 ghost use Rattle.mq_run.specs.Ending.{AppendsSome};
 ghost use Rattle.mq_run.specs.Output.{output};
 ghost use Rattle.mq_cli.specs.Program.{script_file, failure_status, limits_by, limits_given};
@@ -21,7 +20,7 @@ ghost use Rattle.mq_cli.specs.Program.{WritesFront};
 use crate::acl_file::read_acl;
 use crate::command_line::{Options, arguments};
 use crate::failure::{Failure, UNREADABLE};
-use mq_acl::Acl;
+use mq_acl::{Acl, Rules};
 use mq_args::UsageFault;
 use mq_router::Router;
 use mq_run::{
@@ -47,12 +46,17 @@ fn open<'a, R: Files>(
     }
 }
 
-/// The access list in a file.
-fn acl_in<'a, R: Files>(rt: &R, alloc: Global, file: &'a str) -> Result<Acl, Failure<'a>>
-    ensures { IfOk result (λ acl. (text : List ℕ) × IsAnswerTo text (Ok acl)) }
+/// The access list in a file, by these rules.
+fn acl_in<'a, R: Files>(
+    rt: &R,
+    alloc: Global,
+    rules: Rules,
+    file: &'a str,
+) -> Result<Acl, Failure<'a>>
+    ensures { IfOk result (λ acl. (text : List ℕ) × IsAnswerTo rules text (Ok acl)) }
 {
     let mut source = open(rt, file, Failure::AclRead(file))?;
-    match read_acl(alloc, &mut source) {
+    match read_acl(alloc, rules, &mut source) {
         Ok(acl) => Ok(acl),
         Err(fault) => Err(Failure::of_acl(file, fault)),
     }
@@ -64,12 +68,12 @@ fn access_list<'a, R: Files>(
     alloc: Global,
     options: &'a Options,
 ) -> Result<Option<Acl>, Failure<'a>>
-    ensures ok { IfOk result (λ access. BeginsWith (option_map string_bytes options.now.acl_file)
-        access) }
+    ensures ok { IfOk result (λ access. BeginsWith options.now.rules
+        (option_map string_bytes options.now.acl_file) access) }
     ensures none { options.now.acl_file ≡ None → IsOk result }
 {
     match &options.acl_file {
-        Some(file) => Ok(Some(acl_in(rt, alloc, file.as_str())?)),
+        Some(file) => Ok(Some(acl_in(rt, alloc, options.rules, file.as_str())?)),
         None => Ok(None),
     }
 }
@@ -149,7 +153,7 @@ fn run_file<'a, R: Files, W: Sink>(
     run_source(alloc, router, unbuffered, &mut source, out)
 }
 
-/// Runs the script that the options ask for, with their access list and limits.
+/// Runs the script that the options ask for, with their access list, rules and limits.
 fn run_options<'a, R: Files, S: Source, W: Sink>(
     rt: &R,
     alloc: Global,
@@ -158,12 +162,13 @@ fn run_options<'a, R: Files, S: Source, W: Sink>(
     out: &mut W,
 ) -> Result<Summary, Failure<'a>>
     ensures ok { (before : List ℕ) → W.taken out.old ≡ Some before → IfOk result (λ summary.
-        (w : World) × BeginsIn (option_map string_bytes options.now.acl_file)
+        (w : World) × BeginsIn options.now.rules (option_map string_bytes options.now.acl_file)
         (limits_by options.now.max_retained options.now.max_queued) w
         × (script : List ℕ) × IsScript (script_file (option_map string_bytes options.now.script))
         (S.to_come input.old) script
         × AnswersScript w script before (W.taken out.new) summary) }
-    ensures prefix { (w : World) × BeginsIn (option_map string_bytes options.now.acl_file)
+    ensures prefix { (w : World)
+        × BeginsIn options.now.rules (option_map string_bytes options.now.acl_file)
         (limits_by options.now.max_retained options.now.max_queued) w
         × WritesFront w (script_file (option_map string_bytes options.now.script))
         (S.to_come input.old)
@@ -181,7 +186,7 @@ fn run_options<'a, R: Files, S: Source, W: Sink>(
         → W.flushed out.new ≡ W.taken out.new }
 {
     let access = access_list(rt, alloc, options)?;
-    let router = Router::with_limits(alloc, access, limits(options));
+    let router = Router::with_limits(alloc, access, limits(options)).with_rules(options.rules);
     match script_of(options) {
         Some(file) => run_file(rt, alloc, router, file, options.unbuffered, out),
         None => run_source(alloc, router, options.unbuffered, input, out),
@@ -254,27 +259,29 @@ pub fn start<R: Files, S: Source, W: Sink, E: Sink>(
     ensures bound { result ≤ 3 }
 
     // Where the words are understood and name no file, and input and output tell their bytes, all of the input is
-    // answered, under the limits in the words, unless the run failed.
+    // answered, under the limits and the rules in the words, unless the run failed.
     ensures answered { (script before : List ℕ) → let given_words = map string_bytes words.now in
-        fault_of mqroute given_words ≡ [] → given (codes "acl-file") given_words ≡ None
+        faults_in given_words ≡ [] → given (codes "acl-file") given_words ≡ None
         → script_file (given (codes "script") given_words) ≡ None
         → S.to_come input.old ≡ Some script → W.taken out.old ≡ Some before
-        → result ≢ 3 → AnswersAll (within (limits_given given_words) empty_world) script before
-        (W.taken out.new) result }
+        → result ≢ 3 → AnswersAll (ruled (rules_given given_words)
+        (within (limits_given given_words) empty_world)) script before (W.taken out.new) result }
 
     // Where they may name files, a status of 0 or 1 says the same of some script, which is the input's where no file is
-    // named, and of the world that the access list and the limits make.
+    // named, and of the world that the access list, the rules and the limits make.
     ensures with_files { (before : List ℕ) → let given_words = map string_bytes words.now in
-        fault_of mqroute given_words ≡ [] → W.taken out.old ≡ Some before → result ≢ 2 → result ≢ 3
-        → (w : World) × BeginsIn (given (codes "acl-file") given_words) (limits_given given_words) w
+        faults_in given_words ≡ [] → W.taken out.old ≡ Some before → result ≢ 2 → result ≢ 3
+        → (w : World) × BeginsIn (rules_given given_words) (given (codes "acl-file") given_words)
+        (limits_given given_words) w
         × (script : List ℕ) × IsScript (script_file (given (codes "script") given_words))
         (S.to_come input.old) script
         × AnswersAll w script before (W.taken out.new) result }
 
     // Whatever the status, what was written is a front of the answers to such a script in such a world.
     ensures prefix { let given_words = map string_bytes words.now in
-        fault_of mqroute given_words ≡ []
-        → (w : World) × BeginsIn (given (codes "acl-file") given_words) (limits_given given_words) w
+        faults_in given_words ≡ []
+        → (w : World) × BeginsIn (rules_given given_words) (given (codes "acl-file") given_words)
+        (limits_given given_words) w
         × WritesFront w (script_file (given (codes "script") given_words)) (S.to_come input.old)
         (W.taken out.old) (W.taken out.new) }
 
@@ -294,9 +301,9 @@ pub fn start<R: Files, S: Source, W: Sink, E: Sink>(
     // Of words that are not understood a fault that they have is told, or that memory ran out: of help the status is 0,
     // or 3 where it can't be written, of another fault 2, and of a lack of memory 3.
     ensures usage { let given_words = map string_bytes words.now in
-        fault_of mqroute given_words ≢ []
+        faults_in given_words ≢ []
         → (input.new ≡ input.old)
-        × ((fault : UsageFault) × IsFaultOf (fault_of mqroute given_words) fault
+        × ((fault : UsageFault) × IsFaultOf (faults_in given_words) fault
         × TellsUsage fault result (W.taken out.old) (W.taken out.new) (W.flushed out.new)) }
 
     // At a status of 0 or 1 all that was written is handed on, and nothing is told.

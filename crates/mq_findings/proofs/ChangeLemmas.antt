@@ -8,7 +8,9 @@ use Rattle.std.proofs.lemmas.List.Elements.{All-filter, All-nil, All-weaker}
 use Rattle.std.proofs.lemmas.List.Folds.{list_any_at}
 use Rattle.mq_topic.proofs.ByteLemmas.{text_is, text_itself}
 use Rattle.mq_topic.specs.Texts.{is_name}
-use Rattle.mq_acl.specs.Access.{allowed, is_deny, grants}
+use Rattle.mq_acl.specs.AccessLists.{allow_by}
+use Rattle.mq_acl.specs.declared.rules.Rules.TheVariants.{Own}
+use Rattle.mq_acl.specs.Access.{is_deny, grants}
 use Rattle.mq_acl.specs.Views.{access_view, owner_view, row_view, row_views}
 use Rattle.mq_acl.specs.declared.access.Direction.{Direction}
 use Rattle.mq_acl.specs.declared.row.Row.{Row}
@@ -245,12 +247,12 @@ report_real old new asked told r =
 pub same_allowed : (old new : List Row) (told : List Difference) → TellsAll old new told
     → told ≡ [] → (client topic : List ℕ) (user : Option (List ℕ)) (direction : Direction)
     → can_be_id client ≡ true → can_be_user user ≡ true → is_name topic ≡ true
-    → allowed (Some (row_views old)) client user topic direction
-    ≡ allowed (Some (row_views new)) client user topic direction
+    → allow_by Own (row_views old) client user topic direction
+    ≡ allow_by Own (row_views new) client user topic direction
 same_allowed old new told t e client topic user direction c f v =
     let none = subst (TellsAll old new) e t in
-    at (allowed (Some (row_views old)) client user topic direction)
-    (allowed (Some (row_views new)) client user topic direction)
+    at (allow_by Own (row_views old) client user topic direction)
+    (allow_by Own (row_views new) client user topic direction)
     (none Gained direction client topic user c f v) (none Lost direction client topic user c f v)
   where
     at : (a b : Bool) → ((b && not a) ≡ true → false ≡ true) → ((a && not b) ≡ true → false ≡ true)

@@ -6,12 +6,13 @@ use Rattle.std.specs.List.{filter, list_any, list_all}
 use Rattle.std.proofs.lemmas.Bool.{and_parts}
 use Rattle.std.proofs.lemmas.List.Elements.{All-weaker}
 use Rattle.std.proofs.lemmas.List.Elements.{filter_passes}
-use Rattle.mq_acl.specs.Access.{allowed, concerns, is_deny, grants}
+use Rattle.mq_acl.specs.AccessLists.{allow_by}
+use Rattle.mq_acl.specs.declared.rules.Rules.TheVariants.{Own}
+use Rattle.mq_acl.specs.Access.{concerns, is_deny, grants}
 use Rattle.mq_acl.specs.Rows.{AclRow}
 use Rattle.mq_acl.specs.Views.{access_view, owner_view, row_view, row_views}
 use Rattle.mq_acl.specs.declared.access.Direction.{Direction}
 use Rattle.mq_acl.specs.declared.row.Row.{Row}
-use Rattle.mq_acl.proofs.AccessLemmas.{allowed_by_list}
 use Rattle.mq_witness.specs.Decided.{decides}
 use Rattle.mq_findings.specs.ByOwner.{is_for}
 use Rattle.mq_findings.specs.Differences.{is_change, is_gained}
@@ -82,8 +83,8 @@ decides_at : (q : Question) (client : List ℕ) (user : Option (List ℕ)) (topi
 decides_at q client user topic k p change =
     let c = concerns client user topic in
     let for = question_for q client user topic k p in
-    let parts = and_parts (allowed (Some (row_views (to_rows q))) client user topic q.direction)
-    (not (allowed (Some (row_views (from_rows q))) client user topic q.direction))
+    let parts = and_parts (allow_by Own (row_views (to_rows q)) client user topic q.direction)
+    (not (allow_by Own (row_views (from_rows q)) client user topic q.direction))
     (gained_is q.way q.lists.now.old.now q.lists.now.new.now client user topic q.direction change)
     in
     let to_denies = judges_any is_deny q.clients client user topic (to_rows q)
@@ -97,14 +98,13 @@ decides_at q client user topic k p change =
     let yes = allows (list_any c (views_of q.to.now.denies.items))
     (list_any c (views_of q.to.now.grants.items))
     ((λ i. not (sym to_denies i) && sym to_grants i)
-    ∙ sym (allowed_by_list (row_views (to_rows q)) client user topic q.direction) ∙ parts.0) in
+    ∙ parts.0) in
     record {
       denied = yes.0;
       granted = yes.1;
       refused = refuses (list_any c (views_of q.from.now.denies.items))
           (list_any c (views_of q.from.now.grants.items))
           ((λ i. not (not (sym from_denies i) && sym from_grants i))
-          ∙ ap not (sym (allowed_by_list (row_views (from_rows q)) client user topic q.direction))
           ∙ parts.1);
     }
 

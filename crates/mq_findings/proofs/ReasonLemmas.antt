@@ -3,13 +3,14 @@ use Rattle.std.proofs.Common.{◌≡◌, ℕ, Bool, true, false, not, ◌&&◌, 
 use Rattle.std.proofs.Common.{Option, Some, None, All, refl, ap, sym, ◌∙◌}
 use Rattle.std.specs.Prelude.{find, is_some}
 use Rattle.std.specs.List.{filter, list_any}
-use Rattle.mq_acl.specs.Access.{allowed, concerns, is_deny, grants}
+use Rattle.mq_acl.specs.AccessLists.{allow_by}
+use Rattle.mq_acl.specs.declared.rules.Rules.TheVariants.{Own}
+use Rattle.mq_acl.specs.Access.{concerns, is_deny, grants}
 use Rattle.mq_acl.specs.Lines.{Access}
 use Rattle.mq_acl.specs.Rows.{AclRow}
 use Rattle.mq_acl.specs.Views.{access_view, owner_view, row_view, row_views}
 use Rattle.mq_acl.specs.declared.access.Direction.{Direction}
 use Rattle.mq_acl.specs.declared.row.Row.{Row}
-use Rattle.mq_acl.proofs.AccessLemmas.{allowed_by_list}
 use Rattle.mq_witness.specs.declared.clients.Clients.{Clients}
 use Rattle.mq_findings.specs.ByOwner.{is_for}
 use Rattle.mq_findings.specs.Marks.{rows_of, views_of}
@@ -131,10 +132,9 @@ grant_is None None = refl
 
 -- a client may just where a row that grants decides
 pub allowed_is : (rows : List Row) (client : List ℕ) (user : Option (List ℕ)) (name : List ℕ)
-    (direction : Direction) → allowed (Some (row_views rows)) client user name direction
+    (direction : Direction) → allow_by Own (row_views rows) client user name direction
     ≡ is_grant (reason_of rows client user name direction)
 allowed_is rows client user name direction =
-    allowed_by_list (row_views rows) client user name direction
-    ∙ (λ i. not (any_found (λ row. concerns client user name row && is_deny row.access) rows i)
+    (λ i. not (any_found (λ row. concerns client user name row && is_deny row.access) rows i)
     && any_found (λ row. concerns client user name row && grants direction row.access) rows i)
     ∙ grant_is (first_deny rows client user name) (first_grant rows client user name direction)

@@ -4,12 +4,13 @@ use Rattle.std.proofs.Common.{Option, Some, None, refl, ap, sym, ◌∙◌, Bor}
 use Rattle.std.specs.Prelude.{find, is_some, is_none}
 use Rattle.std.specs.List.{list_any}
 use Rattle.std.specs.Option.{option_copied}
+use Rattle.mq_acl.specs.AccessLists.{allow_by}
+use Rattle.mq_acl.specs.declared.rules.Rules.TheVariants.{Own}
 use Rattle.mq_acl.specs.Rows.{AclRow}
-use Rattle.mq_acl.specs.Access.{allowed, concerns, is_deny, grants}
+use Rattle.mq_acl.specs.Access.{concerns, is_deny, grants}
 use Rattle.mq_acl.specs.Views.{row_view, row_views}
 use Rattle.mq_acl.specs.declared.row.Row.{Row}
 use Rattle.mq_acl.specs.declared.access.Direction.{Direction}
-use Rattle.mq_acl.proofs.AccessLemmas.{allowed_by_list}
 
 pub any_found : (p : AclRow → Bool) (rows : List Row)
     → list_any p (row_views rows) ≡ is_some (find (λ row. p (row_view row)) rows)
@@ -37,10 +38,9 @@ pub decided : (rows : List Row) (client : List ℕ) (user : Option (List ℕ)) (
     && is_deny (row_view row).access) rows
     → option_copied grant ≡ find (λ row. concerns client user name (row_view row)
     && grants direction (row_view row).access) rows
-    → allowed (Some (row_views rows)) client user name direction ≡ (is_none deny && is_some grant)
+    → allow_by Own (row_views rows) client user name direction ≡ (is_none deny && is_some grant)
 decided rows client user name direction deny grant e f =
-    allowed_by_list (row_views rows) client user name direction
-    ∙ (λ i. not (any_found (λ row. concerns client user name row && is_deny row.access) rows i)
+    (λ i. not (any_found (λ row. concerns client user name row && is_deny row.access) rows i)
     && any_found (λ row. concerns client user name row && grants direction row.access) rows i)
     ∙ (λ i. not ((ap is_some (sym e) ∙ copied_some deny) i)
     && (ap is_some (sym f) ∙ copied_some grant) i)

@@ -6,7 +6,9 @@ use Rattle.std.specs.List.{list_any}
 use Rattle.std.specs.Str.{bytes_eq}
 use Rattle.mq_topic.specs.Levels.{levels}
 use Rattle.mq_topic.specs.Texts.{is_name}
-use Rattle.mq_acl.specs.Access.{allowed, begins_with_dollar}
+use Rattle.mq_acl.specs.AccessLists.{allow_by}
+use Rattle.mq_acl.specs.declared.rules.Rules.TheVariants.{Own}
+use Rattle.mq_acl.specs.Access.{begins_with_dollar}
 use Rattle.mq_acl.specs.Rows.{AclRow}
 use Rattle.mq_acl.specs.Views.{row_views}
 use Rattle.mq_acl.specs.declared.row.Row.{Row}
@@ -30,8 +32,8 @@ use Rattle.mq_findings.specs.declared.way.Way.TheVariants.{Gained, Lost}
 abbrev pub is_gained : (from to : List AclRow) → List ℕ → Option (List ℕ) → List ℕ → Direction
     → Bool
 is_gained from to client user topic direction =
-    allowed (Some to) client user topic direction
-    && not (allowed (Some from) client user topic direction)
+    allow_by Own to client user topic direction
+    && not (allow_by Own from client user topic direction)
 
 -- the new list allows it and the old one doesn't, or the other way round
 abbrev pub is_change : Way → List AclRow → List AclRow → List ℕ → Option (List ℕ) → List ℕ

@@ -1,7 +1,8 @@
 //! Where two lists differ.
 ghost use Rattle.std.specs.Prelude.{◌≡◌, ℕ, List, [], All, IfOk, IfErr, OnOk, true, Option, Some};
 ghost use Rattle.mq_topic.specs.Texts.{is_name};
-ghost use Rattle.mq_acl.specs.Access.{allowed};
+ghost use Rattle.mq_acl.specs.AccessLists.{allow_by};
+ghost use Rattle.mq_acl.specs.declared.rules.Rules.TheVariants.{Own};
 ghost use Rattle.mq_acl.specs.Views.{row_views};
 ghost use Rattle.mq_acl.specs.declared.access.Direction.{Direction};
 ghost use Rattle.mq_witness.specs.Asked.{IsListed};
@@ -154,8 +155,8 @@ pub fn compare<'a>(
     ensures same { IfOk result (λ all. all.items ≡ []
         → (client topic : List ℕ) (user : Option (List ℕ)) (direction : Direction)
         → can_be_id client ≡ true → can_be_user user ≡ true → is_name topic ≡ true
-        → allowed (Some (row_views old.entry.now)) client user topic direction
-        ≡ allowed (Some (row_views new.entry.now)) client user topic direction) }
+        → allow_by Own (row_views old.entry.now) client user topic direction
+        ≡ allow_by Own (row_views new.entry.now) client user topic direction) }
     ensures fault { IfErr result (IsComparisonFault old.entry.now new.entry.now steps) }
 {
     let lists = Lists::of(alloc, old, new, steps)?;

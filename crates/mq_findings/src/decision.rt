@@ -1,6 +1,8 @@
 ghost use Rattle.std.specs.Prelude.{◌≡◌, ◌&&◌, Some, find, is_some, is_none};
 ghost use Rattle.std.specs.Option.{option_copied};
-ghost use Rattle.mq_acl.specs.Access.{allowed, concerns, is_deny, grants};
+ghost use Rattle.mq_acl.specs.AccessLists.{allow_by};
+ghost use Rattle.mq_acl.specs.declared.rules.Rules.TheVariants.{Own};
+ghost use Rattle.mq_acl.specs.Access.{concerns, is_deny, grants};
 ghost use Rattle.mq_acl.specs.Views.{row_view, row_views};
 
 use mq_acl::{Direction, Row, concerns, grants, is_deny};
@@ -56,7 +58,7 @@ pub(crate) fn decide<'a>(
     ensures grant { option_copied result.grant
         ≡ find (λ row. concerns client.now (option_copied user.entry) name.now (row_view row)
         && grants direction (row_view row).access) rows.entry.now }
-    ensures allowed { allowed (Some (row_views rows.entry.now)) client.now
+    ensures allowed { allow_by Own (row_views rows.entry.now) client.now
         (option_copied user.entry) name.now direction
         ≡ (is_none result.deny && is_some result.grant) }
 {

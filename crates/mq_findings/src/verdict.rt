@@ -1,6 +1,7 @@
 ghost use Rattle.std.specs.Prelude.{◌≡◌, Some};
 ghost use Rattle.std.specs.Option.{option_copied, option_map};
-ghost use Rattle.mq_acl.specs.Access.{allowed};
+ghost use Rattle.mq_acl.specs.AccessLists.{allow_by};
+ghost use Rattle.mq_acl.specs.declared.rules.Rules.TheVariants.{Own};
 ghost use Rattle.mq_acl.specs.Views.{row_views};
 ghost use Rattle.mq_findings.specs.Reasons.{first_grant, is_grant, reason_of};
 
@@ -41,7 +42,7 @@ pub fn why(
         ≡ option_map (λ row. row.line)
         (first_grant rows.now client.now (option_copied user.entry) topic.now direction) }
     ensures allowed { is_grant result.reason
-        ≡ allowed (Some (row_views rows.now)) client.now
+        ≡ allow_by Own (row_views rows.now) client.now
         (option_copied user.entry) topic.now direction }
 {
     let decision = decide(rows, client, user, topic, direction);

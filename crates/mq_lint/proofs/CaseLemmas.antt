@@ -13,6 +13,7 @@ use Rattle.mq_acl.specs.Views.{row_view}
 use Rattle.mq_acl.specs.declared.row.Row.{Row}
 use Rattle.mq_acl.specs.RowsByOwner.{is_everyones}
 use Rattle.mq_acl.specs.declared.access.Direction.{Direction}
+use Rattle.mq_acl.specs.declared.access.Direction.TheVariants.{Reading, Writing}
 use Rattle.mq_witness.specs.Asked.{AskedRows, FindsNone}
 use Rattle.mq_witness.specs.Decided.{decides}
 use Rattle.mq_witness.specs.Rows.{lent_rows}
@@ -222,3 +223,10 @@ deny_needless asked c row cover h so is f direction client name user p =
             (g (grant_denies direction r.access e) client name user p.client_fits p.user_fits
             p.valid))
         at false e = and_false (concerns client user name r)
+
+-- in both directions
+pub needless_to : (asked : AskedRows) (c : Clients) (row : AclRow)
+    → IsNeedlessIn asked c row Reading → IsNeedlessIn asked c row Writing
+    → IsNeedlessTo asked c row
+needless_to asked c row r w Reading = r
+needless_to asked c row r w Writing = w

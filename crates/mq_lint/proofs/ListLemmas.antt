@@ -5,7 +5,9 @@ use Rattle.std.proofs.Common.{refl, ap, sym, ◌∙◌, subst, arith}
 use Rattle.std.proofs.lemmas.Bool.{and_parts, both_ways}
 use Rattle.std.proofs.lemmas.List.Elements.{All-contains, All-contains_itself}
 use Rattle.std.proofs.lemmas.List.Folds.{list_any_at}
-use Rattle.mq_acl.specs.Access.{allowed, applies, concerns, covers, is_deny}
+use Rattle.mq_acl.specs.AccessLists.{allow_by}
+use Rattle.mq_acl.specs.declared.rules.Rules.TheVariants.{Own}
+use Rattle.mq_acl.specs.Access.{applies, concerns, covers, is_deny}
 use Rattle.mq_acl.specs.Rows.{AclRow}
 use Rattle.mq_acl.specs.Views.{row_view, row_views}
 use Rattle.mq_acl.specs.declared.row.Row.{Row}
@@ -43,8 +45,8 @@ needless_all asked row classes h are each client name user direction cf uf v =
     at (concerns client user name row) refl
   where
     at : (b : Bool) → concerns client user name row ≡ b
-        → allowed (Some asked.rows) client user name direction
-        ≡ allowed (Some (without row asked.rows)) client user name direction
+        → allow_by Own asked.rows client user name direction
+        ≡ allow_by Own (without row asked.rows) client user name direction
     at true e =
         let class = class_of asked row classes client user name are uf e in
         each class.place class.item class.in_range direction client name user

@@ -7,14 +7,15 @@ use Rattle.std.specs.List.{list_any}
 use Rattle.std.proofs.lemmas.Bool.{and_cases, and_left, and_parts, both_ways, ltb-true, ltb-false}
 use Rattle.std.proofs.lemmas.Bool.{not-true}
 use Rattle.std.proofs.lemmas.List.Elements.{All-contains}
-use Rattle.mq_acl.specs.Access.{allowed, concerns, grants, is_deny}
+use Rattle.mq_acl.specs.AccessLists.{allow_by}
+use Rattle.mq_acl.specs.declared.rules.Rules.TheVariants.{Own}
+use Rattle.mq_acl.specs.Access.{concerns, grants, is_deny}
 use Rattle.mq_acl.specs.Lines.{Access, Read, Write, ReadWrite, Deny}
 use Rattle.mq_acl.specs.Rows.{AclRow}
 use Rattle.mq_acl.specs.Views.{row_view}
 use Rattle.mq_acl.specs.declared.row.Row.{Row}
 use Rattle.mq_acl.specs.declared.access.Direction.{Direction}
 use Rattle.mq_acl.specs.declared.access.Direction.TheVariants.{Reading, Writing}
-use Rattle.mq_acl.proofs.AccessLemmas.{allowed_by_list}
 use Rattle.mq_witness.specs.Asked.{AskedRows, FindsNone}
 use Rattle.mq_witness.specs.Decided.{decides}
 use Rattle.mq_witness.specs.declared.clients.Clients.{Clients}
@@ -58,21 +59,19 @@ both_are false false false false a b e f = refl
 
 alone_allows : (other : AclRow) (client : List ℕ) (user : Option (List ℕ)) (name : List ℕ)
     (direction : Direction)
-    → allowed (Some (as_grant other ∷ [])) client user name direction
+    → allow_by Own (as_grant other ∷ []) client user name direction
     ≡ (concerns client user name other && grants direction (granted_access other.access))
 alone_allows other client user name direction =
-    allowed_by_list (as_grant other ∷ []) client user name direction
-    ∙ alone_is (concerns client user name other) (is_deny (granted_access other.access))
+    alone_is (concerns client user name other) (is_deny (granted_access other.access))
     (grants direction (granted_access other.access)) (never_denies other.access)
 
 both_allow : (row other : AclRow) (client : List ℕ) (user : Option (List ℕ)) (name : List ℕ)
     (direction : Direction)
-    → allowed (Some (as_grant row ∷ (as_grant other ∷ []))) client user name direction
+    → allow_by Own (as_grant row ∷ (as_grant other ∷ [])) client user name direction
     ≡ ((concerns client user name row && grants direction (granted_access row.access))
     || (concerns client user name other && grants direction (granted_access other.access)))
 both_allow row other client user name direction =
-    allowed_by_list (as_grant row ∷ (as_grant other ∷ [])) client user name direction
-    ∙ both_are (concerns client user name row) (concerns client user name other)
+    both_are (concerns client user name row) (concerns client user name other)
     (is_deny (granted_access row.access)) (is_deny (granted_access other.access))
     (grants direction (granted_access row.access))
     (grants direction (granted_access other.access))

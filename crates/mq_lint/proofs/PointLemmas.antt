@@ -5,13 +5,14 @@ use Rattle.std.specs.List.{filter, list_any}
 use Rattle.std.proofs.lemmas.Bool.{and_parts}
 use Rattle.std.proofs.lemmas.List.Elements.{All-head, All-tail}
 use Rattle.std.proofs.lemmas.List.Folds.{list_any-append}
-use Rattle.mq_acl.specs.Access.{allowed, applies, concerns, covers, grants, is_deny}
+use Rattle.mq_acl.specs.AccessLists.{allow_by}
+use Rattle.mq_acl.specs.declared.rules.Rules.TheVariants.{Own}
+use Rattle.mq_acl.specs.Access.{applies, concerns, covers, grants, is_deny}
 use Rattle.mq_acl.specs.Lines.{Access, Read, Write, ReadWrite, Deny}
 use Rattle.mq_acl.specs.Rows.{AclRow}
 use Rattle.mq_acl.specs.RowsByOwner.{is_everyones}
 use Rattle.mq_acl.specs.declared.access.Direction.{Direction}
 use Rattle.mq_acl.specs.declared.access.Direction.TheVariants.{Reading, Writing}
-use Rattle.mq_acl.proofs.AccessLemmas.{allowed_by_list}
 use Rattle.mq_witness.specs.Asked.{AskedRows, is_client_of}
 use Rattle.mq_witness.specs.Decided.{decides}
 use Rattle.mq_witness.specs.Rows.{is_name_of}
@@ -129,12 +130,11 @@ pub record Point (rows : List AclRow) (row : AclRow) (client : List ℕ) (user :
 pub with_row : (rows : List AclRow) (row : AclRow) (client : List ℕ) (user : Option (List ℕ))
     (name : List ℕ) (direction : Direction) (d g p : Bool) → has_row row rows ≡ true
     → Point rows row client user name direction d g p
-    → allowed (Some rows) client user name direction
+    → allow_by Own rows client user name direction
     ≡ (not (d || (p && is_deny row.access)) && (g || (p && grants direction row.access)))
 with_row rows row client user name direction d g p h is =
     let c = concerns client user name in
-    allowed_by_list rows client user name direction
-    ∙ (λ i. not (any_with (λ r. c r && is_deny r.access) row rows h i)
+    (λ i. not (any_with (λ r. c r && is_deny r.access) row rows h i)
     && any_with (λ r. c r && grants direction r.access) row rows h i)
     ∙ (λ i. not (is.denied_is i || (is.concerned_is i && is_deny row.access))
     && (is.granted_is i || (is.concerned_is i && grants direction row.access)))
@@ -142,10 +142,9 @@ with_row rows row client user name direction d g p h is =
 pub without_row : (rows : List AclRow) (row : AclRow) (client : List ℕ) (user : Option (List ℕ))
     (name : List ℕ) (direction : Direction) (d g p : Bool)
     → Point rows row client user name direction d g p
-    → allowed (Some (without row rows)) client user name direction ≡ (not d && g)
+    → allow_by Own (without row rows) client user name direction ≡ (not d && g)
 without_row rows row client user name direction d g p is =
-    allowed_by_list (without row rows) client user name direction
-    ∙ (λ i. not (is.denied_is i) && is.granted_is i)
+    (λ i. not (is.denied_is i) && is.granted_is i)
 
 pub point : (rows : List AclRow) (row : AclRow) (client : List ℕ) (user : Option (List ℕ))
     (name : List ℕ) (direction : Direction)
@@ -163,8 +162,8 @@ point rows row client user name direction = record {
 pub unconcerned : (rows : List AclRow) (row : AclRow) (client : List ℕ)
     (user : Option (List ℕ)) (name : List ℕ) (direction : Direction) → has_row row rows ≡ true
     → concerns client user name row ≡ false
-    → allowed (Some rows) client user name direction
-    ≡ allowed (Some (without row rows)) client user name direction
+    → allow_by Own rows client user name direction
+    ≡ allow_by Own (without row rows) client user name direction
 unconcerned rows row client user name direction h e =
     let is = point rows row client user name direction in
     let d = list_any (λ r. concerns client user name r && is_deny r.access) (without row rows) in
@@ -233,8 +232,8 @@ pub grant_differs : (asked : AskedRows) (c : Clients) (row : AclRow) (client nam
     → grants direction row.access ≡ true
     → decides client user name (row ∷ [])
     (filter (λ r. judges direction r.access) (others_of c row asked.rows)) ≡ true
-    → allowed (Some asked.rows) client user name direction
-    ≢ allowed (Some (without row asked.rows)) client user name direction
+    → allow_by Own asked.rows client user name direction
+    ≢ allow_by Own (without row asked.rows) client user name direction
 grant_differs asked c row client name user direction h fits permits so e same =
     let is = point asked.rows row client user name direction in
     let d = list_any (λ r. concerns client user name r && is_deny r.access)
@@ -253,8 +252,8 @@ pub grant_same : (asked : AskedRows) (c : Clients) (row : AclRow) (client name :
     → is_client_of asked c user ≡ true → is_deny row.access ≡ false
     → (grants direction row.access ≡ true → decides client user name (row ∷ [])
     (filter (λ r. judges direction r.access) (others_of c row asked.rows)) ≡ false)
-    → allowed (Some asked.rows) client user name direction
-    ≡ allowed (Some (without row asked.rows)) client user name direction
+    → allow_by Own asked.rows client user name direction
+    ≡ allow_by Own (without row asked.rows) client user name direction
 grant_same asked c row client name user direction h fits permits f =
     let is = point asked.rows row client user name direction in
     let d = list_any (λ r. concerns client user name r && is_deny r.access)
@@ -337,8 +336,8 @@ pub deny_differs : (asked : AskedRows) (c : Clients) (row : AclRow) (client name
     → list_any (concerns client user name) (denies_in (others_of c row asked.rows)) ≡ false
     → list_any (λ r. concerns client user name r && grants direction r.access)
     (others_of c row asked.rows) ≡ true
-    → allowed (Some asked.rows) client user name direction
-    ≢ allowed (Some (without row asked.rows)) client user name direction
+    → allow_by Own asked.rows client user name direction
+    ≢ allow_by Own (without row asked.rows) client user name direction
 deny_differs asked c row client name user direction h fits so here none granted same =
     let is = point asked.rows row client user name direction in
     let d = list_any (λ r. concerns client user name r && is_deny r.access)
@@ -362,8 +361,8 @@ pub deny_same : (asked : AskedRows) (c : Clients) (row : AclRow) (client name : 
     → list_any (concerns client user name) (denies_in (others_of c row asked.rows)) ≡ false
     → list_any (λ r. concerns client user name r && grants direction r.access)
     (others_of c row asked.rows) ≡ false)
-    → allowed (Some asked.rows) client user name direction
-    ≡ allowed (Some (without row asked.rows)) client user name direction
+    → allow_by Own asked.rows client user name direction
+    ≡ allow_by Own (without row asked.rows) client user name direction
 deny_same asked c row client name user direction h fits so f =
     let is = point asked.rows row client user name direction in
     let d = list_any (λ r. concerns client user name r && is_deny r.access)

@@ -2,7 +2,9 @@
 use Rattle.std.specs.Prelude.{◌≡◌, ℕ, Bool, true, false, List, [], ◌∷◌, ◌++◌, ◌&&◌, ◌||◌, not}
 use Rattle.std.specs.Prelude.{Option, Some, None, All, Contains, if◌then◌else◌}
 use Rattle.std.specs.List.{filter, list_all, list_any}
-use Rattle.mq_acl.specs.Access.{allowed, applies, concerns, grants, is_deny}
+use Rattle.mq_acl.specs.AccessLists.{allow_by}
+use Rattle.mq_acl.specs.declared.rules.Rules.TheVariants.{Own}
+use Rattle.mq_acl.specs.Access.{applies, concerns, grants, is_deny}
 use Rattle.mq_acl.specs.Lines.{Access}
 use Rattle.mq_acl.specs.Rows.{AclRow, Everyone, Who}
 use Rattle.mq_acl.specs.RowsByOwner.{is_everyones}
@@ -61,8 +63,8 @@ IsNeeded asked row = Differ asked.rows (without row asked.rows)
 abbrev pub IsNeedlessIn : AskedRows → Clients → AclRow → Direction → Type 0
 IsNeedlessIn asked clients row direction = (client name : List ℕ) (user : Option (List ℕ))
     → IsPoint asked clients client user name
-    → allowed (Some asked.rows) client user name direction
-    ≡ allowed (Some (without row asked.rows)) client user name direction
+    → allow_by Own asked.rows client user name direction
+    ≡ allow_by Own (without row asked.rows) client user name direction
 
 -- these clients may do the same
 abbrev pub IsNeedlessTo : AskedRows → Clients → AclRow → Type 0

@@ -5,7 +5,9 @@ use Rattle.std.specs.List.{filter, filter_map, zip}
 use Rattle.std.specs.Option.{option_map}
 use Rattle.std.specs.Str.{bytes_eq}
 use Rattle.mq_topic.specs.Texts.{is_name}
-use Rattle.mq_acl.specs.Access.{allowed, concerns, is_deny}
+use Rattle.mq_acl.specs.AccessLists.{allow_by}
+use Rattle.mq_acl.specs.declared.rules.Rules.TheVariants.{Own}
+use Rattle.mq_acl.specs.Access.{concerns, is_deny}
 use Rattle.mq_acl.specs.Lines.{Access, Read, Write, ReadWrite, Deny}
 use Rattle.mq_acl.specs.Rows.{AclRow}
 use Rattle.mq_acl.specs.Views.{row_view, row_views}
@@ -24,8 +26,8 @@ use Rattle.mq_lint.specs.declared.remark.RemarkKind.TheVariants.{Needless}
 abbrev pub AllowSame : List AclRow → List AclRow → Type 0
 AllowSame one other = (client name : List ℕ) (user : Option (List ℕ)) (direction : Direction)
     → can_be_id client ≡ true → can_be_user user ≡ true → is_name name ≡ true
-    → allowed (Some one) client user name direction
-    ≡ allowed (Some other) client user name direction
+    → allow_by Own one client user name direction
+    ≡ allow_by Own other client user name direction
 
 -- some client may do by the one list what it may not by the other
 pub record Differ (one other : List AclRow) : Type 0 where
@@ -36,8 +38,8 @@ pub record Differ (one other : List AclRow) : Type 0 where
   pub client_fits : can_be_id client ≡ true
   pub user_fits : can_be_user user ≡ true
   pub valid : is_name name ≡ true
-  pub differs : allowed (Some one) client user name direction
-      ≢ allowed (Some other) client user name direction
+  pub differs : allow_by Own one client user name direction
+      ≢ allow_by Own other client user name direction
 
 -- ---- rows that are the same
 abbrev pub same_access : Access → Access → Bool

@@ -15,7 +15,9 @@ use Rattle.std.proofs.lemmas.List.Elements.{All-get_or, All-push, filter_more}
 use Rattle.std.proofs.lemmas.List.Folds.{Any-from_list_any, list_all_at, list_any-append}
 use Rattle.std.proofs.lemmas.List.Folds.{list_any_at}
 use Rattle.mq_topic.specs.Texts.{is_name}
-use Rattle.mq_acl.specs.Access.{allowed, concerns, covers, grants, is_deny}
+use Rattle.mq_acl.specs.AccessLists.{allow_by}
+use Rattle.mq_acl.specs.declared.rules.Rules.TheVariants.{Own}
+use Rattle.mq_acl.specs.Access.{concerns, covers, grants, is_deny}
 use Rattle.mq_acl.specs.Rows.{AclRow}
 use Rattle.mq_acl.specs.RowsByOwner.{is_everyones, is_own}
 use Rattle.mq_acl.specs.declared.access.Direction.TheVariants.{Reading}
@@ -69,10 +71,9 @@ any-tested p q (row ∷ rows) =
 
 -- whether the client may read it, by the rows that concern it
 pub allowed-is : (rows : List AclRow) (client : List ℕ) (user : Option (List ℕ)) (name : List ℕ)
-    → allowed (Some rows) client user name Reading
+    → allow_by Own rows client user name Reading
     ≡ (not (list_any (concerns client user name) (filter (λ row. is_deny row.access) rows))
     && list_any (concerns client user name) (filter (λ row. grants Reading row.access) rows))
-unfolding allowed
 allowed-is rows client user name =
     (λ i. not (any-tested (concerns client user name) (λ row. is_deny row.access) rows i)
     && any-tested (concerns client user name) (λ row. grants Reading row.access) rows i)
@@ -107,7 +108,7 @@ module _ (rows grants_of denies : List AclRow) (client : List ℕ) (user : Optio
     → list_any (concerns client user name) denies
     ≡ list_any (concerns client user name) (filter (λ row. is_deny row.access) rows)) where
   allowed-by : (name : List ℕ) → concerns client user name filter_row ≡ true
-      → allowed (Some rows) client user name Reading
+      → allow_by Own rows client user name Reading
       ≡ (not (list_any (concerns client user name) denies)
       && list_any (concerns client user name) grants_of)
   allowed-by name here =
@@ -118,7 +119,7 @@ module _ (rows grants_of denies : List AclRow) (client : List ℕ) (user : Optio
   pub none-allowed : ((grant : AclRow) → Contains grants_of grant
       → FindsNoTopic client user (filter_row ∷ grant ∷ []) denies)
       → (name : List ℕ) → is_name name ≡ true → concerns client user name filter_row ≡ true
-      → allowed (Some rows) client user name Reading ≡ false
+      → allow_by Own rows client user name Reading ≡ false
   none-allowed none name valid here =
       allowed-by name here
       ∙ pick (list_any (concerns client user name) grants_of)
@@ -142,7 +143,7 @@ module _ (rows grants_of denies : List AclRow) (client : List ℕ) (user : Optio
   pub one-allowed : (grant : AclRow) (name : List ℕ) → Contains grants_of grant
       → decides client user name (filter_row ∷ grant ∷ []) denies ≡ true
       → (concerns client user name filter_row ≡ true)
-      × (allowed (Some rows) client user name Reading ≡ true)
+      × (allow_by Own rows client user name Reading ≡ true)
   one-allowed grant name has decided =
       let both = and_parts (concerns client user name filter_row
       && (concerns client user name grant && true))

@@ -3,7 +3,8 @@ use Rattle.std.specs.Prelude.{◌≡◌, ℕ, Bool, List, true, false, Option, S
 use Rattle.mq_topic.specs.Levels.{levels}
 use Rattle.mq_topic.specs.Matching.{matches}
 use Rattle.mq_topic.specs.Texts.{is_name}
-use Rattle.mq_acl.specs.Access.{allowed}
+use Rattle.mq_acl.specs.AccessLists.{allow_by}
+use Rattle.mq_acl.specs.declared.rules.Rules.TheVariants.{Own}
 use Rattle.mq_acl.specs.Rows.{AclRow}
 use Rattle.mq_acl.specs.declared.access.Direction.TheVariants.{Reading}
 use Rattle.mq_cover.specs.Remainders.{mark_passes}
@@ -20,13 +21,13 @@ use Rattle.mq_reach.specs.declared.reach.ReachFault.TheVariants as reach
 abbrev pub ReadsNone : List AclRow → List ℕ → Option (List ℕ) → List ℕ → Type 0
 ReadsNone rows client user filter =
     (name : List ℕ) → IsTrue (is_name name) → matches (levels filter) (levels name) ≡ true
-    → allowed (Some rows) client user name Reading ≡ false
+    → allow_by Own rows client user name Reading ≡ false
 
 -- it may read this one, which the filter matches
 pub record Reads (rows : List AclRow) (client : List ℕ) (user : Option (List ℕ))
     (filter name : List ℕ) : Type 0 where
   pub matched : matches (levels filter) (levels name) ≡ true
-  pub may_read : allowed (Some rows) client user name Reading ≡ true
+  pub may_read : allow_by Own rows client user name Reading ≡ true
 
 -- ---- what is told of what is too long
 abbrev pub is_short_user : Option (List ℕ) → Bool

@@ -5,7 +5,7 @@ use Rattle.std.proofs.Common.{arith, sym}
 use Rattle.std.specs.Option.{IfSome}
 use Rattle.std.specs.List.{filter}
 use Rattle.std.proofs.lemmas.List.{map_more, append-nil, map-append}
-use Rattle.mq_acl.specs.Rows.{AclRow}
+use Rattle.mq_acl.specs.AccessLists.{AccessList, allowed}
 use Rattle.mq_world.specs.Lists.{Text, same_text}
 use Rattle.mq_world.specs.World.{Subscription, Retained}
 use Rattle.mq_world.specs.Copies.{filter_matches}
@@ -14,7 +14,6 @@ use Rattle.mq_world.specs.Retained.{is_sent, retained_copy, retained_copies}
 use Rattle.mq_world.proofs.SameLemmas.{filter-filter}
 use Rattle.mq_world.proofs.ListLemmas.{filter-same}
 use Rattle.std.proofs.Math.Bool.{and_assoc}
-use Rattle.mq_acl.specs.Access.{allowed}
 use Rattle.mq_acl.specs.declared.access.Direction.TheVariants.{Reading}
 
 filter-append : {X : Type 0} (p : X → Bool) (xs ys : List X)
@@ -55,7 +54,7 @@ near_at f moment (x ∷ xs) zero d near h = near.0
 near_at f moment (x ∷ xs) (suc i) d near h = near_at f moment xs i d near.1 (omega arith)
 
 -- the messages that the filter matches are tested once more
-pub sent-is : (moment : ℕ) (access : Option (List AclRow)) (user : Option Text) (s : Subscription)
+pub sent-is : (moment : ℕ) (access : Option AccessList) (user : Option Text) (s : Subscription)
     (retained found : List Retained) → found
     ≡ filter (λ kept. filter_matches s.filter kept.topic) retained
     → map (retained_copy moment s) (filter (may_get access user s) found)

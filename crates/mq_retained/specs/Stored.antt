@@ -6,8 +6,7 @@ use Rattle.std.specs.Rc.{rc_str_bytes}
 use Rattle.mq_topic.specs.Levels.{levels}
 use Rattle.mq_tree.specs.Entries.{Entries, AreInOrder}
 use Rattle.mq_topic.specs.Prefixes.{capped}
-use Rattle.mq_acl.specs.Rows.{AclRow}
-use Rattle.mq_acl.specs.Access.{allowed}
+use Rattle.mq_acl.specs.AccessLists.{AccessList, allowed}
 use Rattle.mq_acl.specs.declared.access.Direction.TheVariants.{Reading}
 use Rattle.mq_world.specs.Lists.{Text, same_text, in_order}
 use Rattle.mq_world.specs.World.{Subscription, Retained, Message}
@@ -77,7 +76,7 @@ stored_until deadline m = record {
 }
 
 -- of messages that match, those that the client is sent
-abbrev pub may_get : Option (List AclRow) → Option Text → Subscription → Retained → Bool
+abbrev pub may_get : Option AccessList → Option Text → Subscription → Retained → Bool
 may_get access user s kept =
     allowed access s.client user kept.topic Reading
     && not (s.options.no_local && same_text kept.publisher s.client)

@@ -16,8 +16,7 @@ use Rattle.std.specs.declared.slice.ChunkBy.{ChunkBy}
 use denote.Ref.{Bor}
 use denote.Param.Members.{Mut}
 use Rattle.std.proofs.lemmas.Grind.{common_steps}
-use Rattle.mq_acl.specs.Rows.{AclRow}
-use Rattle.mq_acl.specs.Access.{allowed}
+use Rattle.mq_acl.specs.AccessLists.{AccessList, allowed}
 use Rattle.mq_acl.specs.declared.access.Direction.TheVariants.{Reading}
 use Rattle.mq_world.specs.Sessions.{is_reader, user_of}
 use Rattle.mq_world.specs.Waiting.{with_qos}
@@ -309,7 +308,7 @@ onto : {Y : Type 0} (ys : List Y) (o : Option Y) (rest : List Y)
 onto ys None rest = ap (λ l. l ++ rest) (append-nil ys)
 onto ys (Some y) rest = append_assoc ys (y ∷ []) rest
 
-module _ (limit : ℕ) (access : Option (List AclRow)) (sessions : List Session) (m : Message)
+module _ (limit : ℕ) (access : Option AccessList) (sessions : List Session) (m : Message)
     (deadline : Option ℕ) (l : Text × Summary) (w : Fate)
     (sent : is_sent w ≡ is_reader access sessions m.topic l.0)
     (waiting : waits w ≡ (room_for limit sessions l.0

@@ -10,7 +10,7 @@ use Rattle.std.specs.List.Sorted.{IsStrictlySortedBy}
 use Rattle.std.proofs.lemmas.Map.Text.{is_eq-slice_cmp}
 use Rattle.std.proofs.lemmas.Bool.{and_parts}
 use Rattle.mq_topic.specs.Levels.{levels, level_order}
-use Rattle.mq_acl.specs.Rows.{AclRow}
+use Rattle.mq_acl.specs.AccessLists.{AccessList}
 use Rattle.mq_world.specs.Sessions.{is_reader}
 use Rattle.mq_world.specs.Lists.{Text, same_text, in_order}
 use Rattle.mq_world.specs.World.{Session, Row, Subscription, Group, Message, group_cmp, group_of}
@@ -166,7 +166,7 @@ filter_map-alike {X} h k q e (x ∷ xs) =
     ∙ sym (ap (λ b. filter_map k (cond b (x ∷ rest) rest)) f))
 
 -- those that match are enough
-pub members-matching : (access : Option (List AclRow)) (sessions : List Session)
+pub members-matching : (access : Option AccessList) (sessions : List Session)
     (xs : List Subscription) (m : Message)
     → next_members access sessions (filter (matching m.topic) xs) m
     ≡ next_members access sessions xs m

@@ -6,7 +6,7 @@ use Rattle.std.specs.List.{filter, find, AllByRecursion}
 use Rattle.std.specs.List.Sorted.{IsStrictlySortedBy}
 use Rattle.std.proofs.lemmas.List.Kept.{IsStrictlySortedBy-filter}
 use Rattle.mq_topic.specs.Texts.{share_of, filter_part}
-use Rattle.mq_acl.specs.Rows.{AclRow}
+use Rattle.mq_acl.specs.AccessLists.{AccessList}
 use Rattle.mq_world.specs.Lists.{Text, same_text, with_row}
 use Rattle.mq_world.specs.World.{World, IsWorld, Session, Away, Subscription, Row, Retained}
 use Rattle.mq_world.specs.World.{Message, Request, Connect, Disconnect, Subscribe, Unsubscribe}
@@ -46,7 +46,7 @@ left-id now id s = elim (has_id id s)
     as (λ b. (if b then record s { presence = Away (session_end now s.interval) } else s).id ≡ s.id)
     [ true ↦ refl | false ↦ refl ]
 
-waiting-id : (limit : ℕ) (access : Option (List AclRow)) (subs : List Subscription) (now : ℕ)
+waiting-id : (limit : ℕ) (access : Option AccessList) (subs : List Subscription) (now : ℕ)
     (m : Message) (s : Session) → (waiting_after limit access subs now m s).id ≡ s.id
 waiting-id limit access subs now m s =
     elim (waiting_copy limit access subs m s)

@@ -3,8 +3,7 @@ use Rattle.std.proofs.Common.{◌≡◌, ℕ, ◌==◌, ◌&&◌, Bool, true, fa
 use Rattle.std.proofs.Common.{length, Option, Some, None, if◌then◌else◌, refl, sym, ◌∙◌, ap}
 use Rattle.std.specs.Option.{option_map, option_and_then}
 use Rattle.std.specs.List.{filter, filter_map, cons_option}
-use Rattle.mq_acl.specs.Rows.{AclRow}
-use Rattle.mq_acl.specs.Access.{allowed}
+use Rattle.mq_acl.specs.AccessLists.{AccessList, allowed}
 use Rattle.mq_acl.specs.declared.access.Direction.TheVariants.{Reading}
 use Rattle.mq_world.specs.Lists.{Text}
 use Rattle.mq_world.specs.World.{Session, Subscription, Message, Copy}
@@ -29,7 +28,7 @@ pub empty-is : {X : Type 0} (xs : List X) → (length xs == 0) ≡ true → xs �
 empty-is [] h = refl
 empty-is (x ∷ xs) h = absurd (true≢false (some_pass (length xs) ∙ ap not h))
 
-module _ (access : Option (List AclRow)) (sessions : List Session)
+module _ (access : Option AccessList) (sessions : List Session)
     (subscriptions : List Subscription) (m : Message)
     (none : filter (λ s. filter_matches s.filter m.topic) subscriptions ≡ []) where
   no-options : (id : Text) → options_for subscriptions m id ≡ []

@@ -9,7 +9,7 @@ use Rattle.std.specs.List.{filter_map, cons_option, list_any, AllByRecursion}
 use Rattle.std.specs.List.Sorted.{IsStrictlySortedBy}
 use Rattle.std.proofs.lemmas.Map.Text.{is_eq-slice_cmp}
 use Rattle.std.proofs.lemmas.Slice.Eq.{bytes_eq-Decides}
-use Rattle.mq_acl.specs.Rows.{AclRow}
+use Rattle.mq_acl.specs.AccessLists.{AccessList}
 use Rattle.mq_world.specs.Lists.{same_text}
 use Rattle.mq_world.specs.World.{Session, Subscription, Waiting, Message, Copy, session_cmp}
 use Rattle.mq_world.specs.Clock.{deadline_of}
@@ -23,7 +23,7 @@ use Rattle.mq_router.specs.delivery.Copies.{begins}
 use Rattle.mq_world.proofs.SameLemmas.{some_pass}
 use Rattle.mq_world.proofs.OrderLemmas.{text_flip}
 
-module _ (limit : ℕ) (access : Option (List AclRow)) (subs : List Subscription) where
+module _ (limit : ℕ) (access : Option AccessList) (subs : List Subscription) where
   -- only where there is a place does a copy begin to wait
   placed : (m : Message) (s : Session) (copy : Copy)
       → waiting_copy limit access subs m s ≡ Some copy → has_place limit s ≡ true

@@ -7,7 +7,7 @@ use Rattle.std.specs.List.{filter}
 use Rattle.std.proofs.lemmas.Bool.Decides.{nat_tests}
 use Rattle.mq_topic.specs.Texts.{is_name, is_shared, is_subscription, share_of, share_name}
 use Rattle.mq_topic.specs.Texts.{filter_part}
-use Rattle.mq_acl.specs.Access.{allowed}
+use Rattle.mq_acl.specs.AccessLists.{allowed}
 use Rattle.mq_acl.specs.declared.access.Direction.TheVariants.{Writing}
 use Rattle.mq_world.specs.Lists.{Text, with_row}
 use Rattle.mq_world.specs.World.{Session, Subscription, SubscriptionOptions, Message, Retained}
@@ -157,6 +157,7 @@ connect-does s id user clean interval sessions subs reply is ss next = record {
   reply_is = is.reply_is;
   rows = record {
     limits = refl;
+    rules = refl;
     moment = refl;
     access = refl;
     sessions = ss;
@@ -195,6 +196,7 @@ disconnect-leaves s id sessions reply h stays r ss = record {
   reply_is = r;
   rows = rw stays (record {
     limits = refl;
+    rules = refl;
     moment = refl;
     access = refl;
     sessions = ss;
@@ -222,6 +224,7 @@ disconnect-does s id sessions subs reply is ends ss next = record {
   reply_is = is.reply_is;
   rows = rw ends (record {
     limits = refl;
+    rules = refl;
     moment = refl;
     access = refl;
     sessions = ss;
@@ -301,6 +304,7 @@ subscribe-does s id text options subs reply is next = record {
   reply_is = is.reply_is;
   rows = record {
     limits = refl;
+    rules = refl;
     moment = refl;
     access = refl;
     sessions = refl;
@@ -371,6 +375,7 @@ unsubscribe-does s id text subs reply is next = record {
   reply_is = is.reply_is;
   rows = record {
     limits = refl;
+    rules = refl;
     moment = refl;
     access = refl;
     sessions = refl;
@@ -488,6 +493,7 @@ publish-does s m sessions subs kept reply is ss next messages = record {
   reply_is = is.reply_is;
   rows = record {
     limits = refl;
+    rules = refl;
     moment = refl;
     access = refl;
     sessions = ss;
@@ -507,20 +513,21 @@ publish-does s m sessions subs kept reply is ss next messages = record {
 
 -- an access list is refused for its faulty line, or for lack of memory
 pub set_acl-refused : (s : State) (text : Option Text) (r : Refusal) → (r ≡ Memory)
-    ⊎ (option_map (λ line. AclLine line) (faulty_line text) ≡ Some r)
+    ⊎ (option_map (λ line. AclLine line) (faulty_line s.rules text) ≡ Some r)
     → Refuses (world_of s) (SetAcl text) r
 unfolding refusal
 set_acl-refused s text r why = why
 
 -- an access list without a faulty line, or none, is set; nothing else changes
-pub set_acl-does : (s : State) (text : Option Text) (reply : Reply) → faulty_line text ≡ None
-    → reply ≡ reason 0 → Does s (SetAcl text) reply (record s { access = access_of text })
+pub set_acl-does : (s : State) (text : Option Text) (reply : Reply) → faulty_line s.rules text ≡ None
+    → reply ≡ reason 0 → Does s (SetAcl text) reply (record s { access = access_of s.rules text })
 unfolding refusal
 set_acl-does s text reply h r = record {
   accepted = ap (λ o. option_map (λ line. AclLine line) o) h;
   reply_is = r;
   rows = record {
     limits = refl;
+    rules = refl;
     moment = refl;
     access = refl;
     sessions = refl;
@@ -587,6 +594,7 @@ advance-does s seconds moment sessions subs kept reply is later next messages = 
   reply_is = is.reply_is;
   rows = record {
     limits = refl;
+    rules = refl;
     moment = later.reached;
     access = refl;
     sessions = later.sessions_are
@@ -614,6 +622,7 @@ stat-does s reply r = record {
   reply_is = r;
   rows = record {
     limits = refl;
+    rules = refl;
     moment = refl;
     access = refl;
     sessions = refl;

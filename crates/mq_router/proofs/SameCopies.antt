@@ -3,8 +3,7 @@ use Rattle.std.proofs.Common.{◌≡◌, ℕ, ◌==◌, Bool, ◌&&◌, not, Lis
 use Rattle.std.proofs.Common.{is_some, length, if◌then◌else◌, refl, ◌∙◌, ap}
 use Rattle.std.specs.Option.{option_map_or, option_and_then}
 use Rattle.std.specs.List.{filter, filter_map, cons_option, list_any}
-use Rattle.mq_acl.specs.Rows.{AclRow}
-use Rattle.mq_acl.specs.Access.{allowed}
+use Rattle.mq_acl.specs.AccessLists.{AccessList, allowed}
 use Rattle.mq_acl.specs.declared.access.Direction.TheVariants.{Reading}
 use Rattle.mq_world.specs.Lists.{SameElements, Text, greatest, ascending}
 use Rattle.mq_world.specs.World.{Session, Subscription, SubscriptionOptions, Message}
@@ -18,7 +17,7 @@ use Rattle.mq_world.proofs.SameLemmas.{SameElements-filter_map, length-SameEleme
 use Rattle.mq_world.proofs.SameLemmas.{list_any-SameElements, greatest-SameElements}
 use Rattle.mq_world.proofs.SameLemmas.{ascending-SameElements}
 
-unshared_copy-same : (access : Option (List AclRow)) (xs ys : List Subscription) (m : Message)
+unshared_copy-same : (access : Option AccessList) (xs ys : List Subscription) (m : Message)
     (id : Text) (user : Option Text) → SameElements xs ys
     → unshared_copy access xs m id user ≡ unshared_copy access ys m id user
 unshared_copy-same access xs ys m id user same =
@@ -45,7 +44,7 @@ unshared_copy-same access xs ys m id user same =
     ∙ ap (λ k. if not (length oy == 0) && able then Some k else None) copy
 
 -- the copies for clients in their own name don't depend on the order of subscriptions
-pub unshared_copies-same : (access : Option (List AclRow)) (sessions : List Session)
+pub unshared_copies-same : (access : Option AccessList) (sessions : List Session)
     (xs ys : List Subscription) (m : Message) → SameElements xs ys
     → unshared_copies access sessions xs m ≡ unshared_copies access sessions ys m
 unfolding unshared_copies
@@ -56,7 +55,7 @@ unshared_copies-same access (c ∷ cs) xs ys m same =
     ∙ ap (cons_option (unshared_copy access ys m c.id c.user))
     (unshared_copies-same access cs xs ys m same)
 
-waiting_copy-same : (limit : ℕ) (access : Option (List AclRow)) (xs ys : List Subscription)
+waiting_copy-same : (limit : ℕ) (access : Option AccessList) (xs ys : List Subscription)
     (m : Message) (s : Session) → SameElements xs ys
     → waiting_copy limit access xs m s ≡ waiting_copy limit access ys m s
 waiting_copy-same limit access xs ys m s same =
@@ -64,7 +63,7 @@ waiting_copy-same limit access xs ys m s same =
     (unshared_copy-same access xs ys m s.id s.user same)
 
 -- whether a copy begins to wait doesn't depend on the order of subscriptions
-pub begins_to_wait-same : (limit : ℕ) (access : Option (List AclRow)) (sessions : List Session)
+pub begins_to_wait-same : (limit : ℕ) (access : Option AccessList) (sessions : List Session)
     (xs ys : List Subscription) (m : Message) → SameElements xs ys
     → begins_to_wait limit access sessions xs m ≡ begins_to_wait limit access sessions ys m
 unfolding begins_to_wait
@@ -74,7 +73,7 @@ begins_to_wait-same limit access sessions xs ys m same =
     (λ s. ap is_some (waiting_copy-same limit access xs ys m s same)) sessions
 
 -- the sessions after a publish don't depend on the order of subscriptions
-pub waiting_after-same : (limit : ℕ) (access : Option (List AclRow)) (sessions : List Session)
+pub waiting_after-same : (limit : ℕ) (access : Option AccessList) (sessions : List Session)
     (xs ys : List Subscription) (now : ℕ) (m : Message) → SameElements xs ys
     → map (waiting_after limit access xs now m) sessions
     ≡ map (waiting_after limit access ys now m) sessions

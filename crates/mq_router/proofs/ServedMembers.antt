@@ -15,7 +15,7 @@ use Rattle.std.proofs.lemmas.List.Kept.{IsStrictlySortedBy-filter}
 use Rattle.std.proofs.lemmas.List.Elements.{filter-append, filter_map-append}
 use Rattle.std.proofs.Math.Bool.{or-true}
 use Rattle.mq_topic.specs.Levels.{levels, level_order}
-use Rattle.mq_acl.specs.Rows.{AclRow}
+use Rattle.mq_acl.specs.AccessLists.{AccessList}
 use Rattle.mq_world.specs.Sessions.{is_reader}
 use Rattle.mq_world.specs.Lists.{Text, same_text, text_cmp, in_order}
 use Rattle.mq_world.specs.World.{Session, Subscription, Group, Message, group_cmp, is_in_group}
@@ -276,7 +276,7 @@ pairs_apart h ats T e (share ∷ shares) =
 
 -- members gathered in the order of share names, for each the ones in turn at the filters
 -- found, are those that the message serves
-pub served-members : (access : Option (List AclRow)) (sessions : List Session) (m : Message)
+pub served-members : (access : Option AccessList) (sessions : List Session) (m : Message)
     (found : List Entry) (served : List Turn) → AreEntriesFor m.topic found
     → AreAscending (shares_of served)
     → ((share : Text) → turns_listed share served ≡ turns_at access sessions m.topic share found)

@@ -10,8 +10,7 @@ use Rattle.std.specs.List.Sorted.{IsStrictlySortedBy}
 use Rattle.std.specs.Map.{lookup, keys_of}
 use Rattle.std.proofs.lemmas.Bool.{and_parts}
 use Rattle.std.proofs.Math.Bool.{and-true, or-true}
-use Rattle.mq_acl.specs.Rows.{AclRow}
-use Rattle.mq_acl.specs.Access.{allowed}
+use Rattle.mq_acl.specs.AccessLists.{AccessList, allowed}
 use Rattle.mq_acl.specs.declared.access.Direction.TheVariants.{Reading}
 use Rattle.mq_world.specs.Lists.{Text, same_text, text_cmp}
 use Rattle.mq_world.specs.World.{Session, Subscription, Message, Copy, session_cmp, has_id}
@@ -117,7 +116,7 @@ unfound key (l ∷ L) h =
 
 -- what is made for the clients of sessions that pass a test, by the options of their subscriptions
 module _ {X : Type 0} (test : Session → Bool) (make : Text → Summary → Option X)
-    (access : Option (List AclRow)) (sessions : List Session) (subscriptions : List Subscription)
+    (access : Option AccessList) (sessions : List Session) (subscriptions : List Subscription)
     (m : Message) where
   abbrev O : Text → List world.SubscriptionOptions
   O id = options_for subscriptions m id
@@ -215,7 +214,7 @@ module _ {X : Type 0} (test : Session → Bool) (make : Text → Summary → Opt
       ∙ sym (by_ids sessions (found_itself sessions s))
 
 -- the copies that are sent
-pub unshared-gathered : (access : Option (List AclRow)) (sessions : List Session)
+pub unshared-gathered : (access : Option AccessList) (sessions : List Session)
     (subscriptions : List Subscription) (m : Message) (L : List (Text × Summary))
     → IsStrictlySortedBy session_cmp sessions → IsStrictlySortedBy text_cmp (keys_of L)
     → ((id : Text) → lookup (is_text id) L ≡ summary_for (options_for subscriptions m id))
@@ -229,7 +228,7 @@ unshared-gathered access sessions subscriptions m L s t found =
     sessions
 
 -- those that begin to wait
-pub unshared-queued : (limit : ℕ) (access : Option (List AclRow)) (sessions : List Session)
+pub unshared-queued : (limit : ℕ) (access : Option AccessList) (sessions : List Session)
     (subscriptions : List Subscription) (m : Message) (deadline : Option ℕ)
     (L : List (Text × Summary)) → IsStrictlySortedBy session_cmp sessions
     → IsStrictlySortedBy text_cmp (keys_of L)

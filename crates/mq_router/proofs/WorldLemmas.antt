@@ -9,8 +9,7 @@ use Rattle.std.proofs.lemmas.List.{length-map}
 use Rattle.std.proofs.lemmas.Simd.{map-map}
 use Rattle.mq_topic.specs.Levels.{levels}
 use Rattle.mq_topic.specs.Texts.{is_name, is_shared, is_subscription, share_of, filter_part}
-use Rattle.mq_acl.specs.Rows.{AclRow}
-use Rattle.mq_acl.specs.Access.{allowed}
+use Rattle.mq_acl.specs.AccessLists.{AccessList, allowed}
 use Rattle.mq_acl.specs.declared.access.Direction.TheVariants.{Writing}
 use Rattle.mq_world.specs.Lists.{SameElements, Text, same_text, with_row}
 use Rattle.mq_world.specs.World.{World, Limits, IsWorld, Group, Session, Subscription, Row}
@@ -23,7 +22,7 @@ use Rattle.mq_world.specs.Clock.{last_moment}
 use Rattle.mq_world.specs.Sessions.{new_session, connected, user_of, is_reader, can_be_served}
 use Rattle.mq_world.specs.Sessions.{outlives, resumes, left_by, has_ended}
 use Rattle.mq_world.specs.Waiting.{begins_to_wait, waiting_after, resumed_copies}
-use Rattle.mq_world.specs.Refusals.{first_refusal, client_conditions, refusal}
+use Rattle.mq_world.specs.Refusals.{acl_refusal, first_refusal, client_conditions, refusal}
 use Rattle.mq_world.specs.Copies.{unshared_copies, filter_matches}
 use Rattle.mq_world.specs.Groups.{groups_of, turn_of, served_rows, served_by}
 use Rattle.mq_world.specs.Retained.{retained_copies, retained_after, is_full, without_expired}
@@ -31,7 +30,7 @@ use Rattle.mq_world.specs.Counts.{filters_of, topics_of, counts, steps}
 use Rattle.mq_retained.specs.Deadlines.{Indexes, is_due}
 use Rattle.mq_retained.specs.Receivers.{steps_among}
 use Rattle.mq_world.specs.Answers.{answer, reason, publish_reply, copies_of}
-use Rattle.mq_world.specs.After.{after, without_client}
+use Rattle.mq_world.specs.After.{access_of, after, without_client}
 use Rattle.mq_world.specs.Turns.{by_turn, in_turn, SameInTurn}
 use Rattle.mq_router.specs.StandsFor.{State, Holds, StandsFor, Answers, AnswersFor, CountsFor}
 use Rattle.mq_router.specs.StandsFor.{Refuses}
@@ -70,6 +69,7 @@ turn_told w = SameElements-map (λ (r : Row). r.subscription) (by_turn w.rows) w
 -- the state has the limits, moment, access rows, sessions and retained messages of the world, and its subscriptions in turn
 pub record HasRows (s : State) (w : World) : Type 0 where
   pub limits : s.limits ≡ w.limits
+  pub rules : s.rules ≡ w.rules
   pub moment : s.moment ≡ w.moment
   pub access : s.access ≡ w.access
   pub sessions : s.sessions ≡ w.sessions
@@ -82,7 +82,7 @@ module _ (s : State) (w : World) (h : HasRows s w) where
 
   -- ## Refusals
 
-  abbrev publish_refusal : Option (List AclRow) → List Session → Limits → List Retained → Message
+  abbrev publish_refusal : Option AccessList → List Session → Limits → List Retained → Message
       → Option Refusal
   publish_refusal access sessions limits retained m =
       first_refusal (client_conditions sessions m.publisher
@@ -108,7 +108,7 @@ module _ (s : State) (w : World) (h : HasRows s w) where
       ∙ ap (λ ss. publish_refusal w.access ss s.limits s.retained m) h.sessions
       ∙ ap (λ limits. publish_refusal w.access w.sessions limits s.retained m) h.limits
       ∙ ap (λ retained. publish_refusal w.access w.sessions w.limits retained m) h.retained
-  refusal-held (SetAcl text) = refl
+  refusal-held (SetAcl text) = ap (λ rules. acl_refusal rules text) h.rules
   refusal-held (Advance seconds) =
       ap (λ moment. first_refusal ((nat_lt last_moment (moment + seconds), ClockTooFar) ∷ []))
       h.moment
@@ -174,7 +174,7 @@ module _ (s : State) (w : World) (h : HasRows s w) where
   -- ## Answers
 
   -- what a subscribe is sent, by what it depends on
-  abbrev sent_by : ℕ → Option (List AclRow) → List Session → List Retained → Subscription → Bool
+  abbrev sent_by : ℕ → Option AccessList → List Session → List Retained → Subscription → Bool
       → List Copy
   sent_by moment access sessions retained new exists =
       if is_none new.share && (new.options.handling == 0
@@ -281,6 +281,7 @@ module _ (s : State) (w : World) (h : HasRows s w) where
   unfolding after
   moved-held is (Connect id user clean interval) = record {
     limits = h.limits;
+    rules = h.rules;
     moment = h.moment;
     access = h.access;
     sessions = ap (with_row session_cmp (new_session id user interval)) h.sessions;
@@ -294,6 +295,7 @@ module _ (s : State) (w : World) (h : HasRows s w) where
       (elim (outlives s.sessions id) as (λ b. P b b) [
         | true ↦ record {
           limits = h.limits;
+          rules = h.rules;
           moment = h.moment;
           access = h.access;
           sessions = ap (λ moment. map (left_by moment id) s.sessions) h.moment
@@ -303,6 +305,7 @@ module _ (s : State) (w : World) (h : HasRows s w) where
         }
         | false ↦ record {
           limits = h.limits;
+          rules = h.rules;
           moment = h.moment;
           access = h.access;
           sessions = ap (filter (λ session. not (has_id id session))) h.sessions;
@@ -314,6 +317,7 @@ module _ (s : State) (w : World) (h : HasRows s w) where
       let x : Subscription = subscription_of id text options in
       record {
         limits = h.limits;
+        rules = h.rules;
         moment = h.moment;
         access = h.access;
         sessions = h.sessions;
@@ -323,6 +327,7 @@ module _ (s : State) (w : World) (h : HasRows s w) where
       }
   moved-held is (Unsubscribe id text) = record {
     limits = h.limits;
+    rules = h.rules;
     moment = h.moment;
     access = h.access;
     sessions = h.sessions;
@@ -331,6 +336,7 @@ module _ (s : State) (w : World) (h : HasRows s w) where
   }
   moved-held is (Publish m) = record {
     limits = h.limits;
+    rules = h.rules;
     moment = h.moment;
     access = h.access;
     sessions = ap (λ (limits : Limits). map
@@ -353,14 +359,16 @@ module _ (s : State) (w : World) (h : HasRows s w) where
   moved-held is (SetAcl text) =
       record {
         limits = h.limits;
+        rules = h.rules;
         moment = h.moment;
-        access = refl;
+        access = ap (λ rules. access_of rules text) h.rules;
         sessions = h.sessions;
         subscriptions = h.subscriptions;
         retained = h.retained;
       }
   moved-held is (Advance seconds) = record {
     limits = h.limits;
+    rules = h.rules;
     moment = ap (λ moment. moment + seconds) h.moment;
     access = h.access;
     sessions = ap (λ moment. filter (λ session. not (has_ended (moment + seconds) session))
@@ -376,6 +384,7 @@ module _ (s : State) (w : World) (h : HasRows s w) where
   }
   moved-held is Stat = record {
     limits = h.limits;
+    rules = h.rules;
     moment = h.moment;
     access = h.access;
     sessions =
@@ -391,6 +400,7 @@ filed-holds : (s : State) (w : World) → HasRows s w → IsFiled s → Holds s 
 unfolding filters_of
 filed-holds s w h filed = record {
   limits = h.limits;
+  rules = h.rules;
   moment = h.moment;
   access = h.access;
   sessions = h.sessions;
@@ -406,6 +416,7 @@ filed-holds s w h filed = record {
 holds-rows : (s : State) (w : World) → Holds s w → HasRows s w
 holds-rows s w h = record {
   limits = h.limits;
+  rules = h.rules;
   moment = h.moment;
   access = h.access;
   sessions =
@@ -481,6 +492,7 @@ done-answers old request reply new d w h =
     moved-held old w rows h.1 request in
     let has : HasRows new (after w request) = record {
       limits = d.rows.limits ∙ held.limits;
+      rules = d.rows.rules ∙ held.rules;
       moment = d.rows.moment ∙ held.moment;
       access = d.rows.access ∙ held.access;
       sessions = d.rows.sessions ∙ held.sessions;

@@ -1,6 +1,7 @@
 -- Which worlds a router stands for, and how it answers for each of them.
 use Rattle.std.specs.Prelude.{◌≡◌, ℕ, ◌+◌, List, Option, Some, None, Result, MatchResult, ◌⊎◌}
-use Rattle.mq_acl.specs.Rows.{AclRow}
+use Rattle.mq_acl.specs.AccessLists.{AccessList}
+use Rattle.mq_acl.specs.declared.rules.Rules.{Rules}
 use Rattle.mq_world.specs.World.{World, Limits, Session, Subscription, Retained, Request, Reply}
 use Rattle.mq_world.specs.World.{IsWorld}
 use Rattle.mq_world.specs.Turns.{SameInTurn, in_turn}
@@ -18,8 +19,9 @@ use Rattle.mq_world.specs.declared.refusal.Refusal.TheVariants.{Memory}
 -- and `topic_keys` are the keys of its two trees, and `deadlines` the pairs of its index, each a deadline and a topic
 pub record State : Type 0 where
   pub limits : Limits
+  pub rules : Rules
   pub moment : ℕ
-  pub access : Option (List AclRow)
+  pub access : Option AccessList
   pub sessions : List Session
   pub subscriptions : List Subscription
   pub retained : List Retained
@@ -31,6 +33,7 @@ pub record State : Type 0 where
 -- the trees and the index its filters, topics and deadlines, no others
 pub record Holds (s : State) (w : World) : Type 0 where
   pub limits : s.limits ≡ w.limits
+  pub rules : s.rules ≡ w.rules
   pub moment : s.moment ≡ w.moment
   pub access : s.access ≡ w.access
   pub sessions : s.sessions ≡ w.sessions

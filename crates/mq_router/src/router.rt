@@ -5,7 +5,7 @@ ghost use Rattle.std.specs.Rc.{rc_str_bytes};
 ghost use Rattle.mq_world.specs.Refusals.{is_valid, takes_no_memory, refusal};
 ghost use Rattle.mq_world.specs.Clock.{deadline_of};
 ghost use Rattle.mq_world.specs.World as world;
-ghost use Rattle.mq_world.specs.World.{fresh_world, empty_world, within};
+ghost use Rattle.mq_world.specs.World.{World, empty_world, fresh_world, ruled, within};
 ghost use Rattle.mq_router.specs.StandsFor.{StandsFor, AnswersFor, CountsFor};
 ghost use Rattle.mq_router.specs.router.Effects.{Applied, CountsSteps, world_of};
 ghost use Rattle.mq_router.specs.router.Effects.{copies_sent, steps_sent, steps_to};
@@ -29,7 +29,7 @@ use crate::delivery::{Deliveries, make_copies};
 use crate::replies::{published, reason_to_leave, with_reason};
 use crate::texts::read_access;
 use ended::end_sessions;
-use mq_acl::Acl;
+use mq_acl::{Acl, Rules};
 use mq_retained::{Receiver, Retained};
 use mq_sessions::Sessions;
 use mq_subscriptions::Subscriptions;
@@ -49,6 +49,7 @@ use std::rc::RcStr;
 pub struct Router {
     alloc: Global,
     limits: Limits,
+    rules: Rules,
     clock: Clock,
     access: Option<Acl>,
     sessions: Sessions,
@@ -62,6 +63,7 @@ impl Drop for Router {
         let Router {
             alloc: _,
             limits: _,
+            rules: _,
             clock: _,
             access: _,
             sessions: _,
@@ -109,12 +111,22 @@ impl Router {
         Router {
             alloc,
             limits,
+            rules: Rules::Own,
             clock: Clock::start(),
             access: acl,
             sessions: Sessions::new(alloc),
             subscriptions: Subscriptions::new(alloc),
             retained: Retained::new(alloc),
         }
+    }
+
+    /// The router, where commands bring access lists of these rules. The one that it has stays.
+    pub fn with_rules(self, rules: Rules) -> Router
+        ensures { (w : World) → StandsFor self w → StandsFor result (ruled rules w) }
+    {
+        let mut router = self;
+        router.rules = rules;
+        router
     }
 
     /// Answers a command as each world does that the router stands for, or refuses it. A refusal leaves the router as
@@ -388,7 +400,7 @@ impl Router {
             self.new }
         ensures err { OnErr result (self.new ≡ self.old) }
     {
-        let access = read_access(self.alloc, text)?;
+        let access = read_access(self.alloc, self.rules, text)?;
         self.access = access;
         Ok(with_reason(self.alloc, 0))
     }

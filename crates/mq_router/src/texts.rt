@@ -7,7 +7,7 @@ ghost use Rattle.mq_world.specs.Refusals.{faulty_line, acl_refusal};
 ghost use Rattle.mq_subscriptions.specs.SubFilters.{IsAskedBy};
 ghost use Rattle.mq_world.specs.After.{access_of};
 
-use mq_acl::{Acl, AclKind};
+use mq_acl::{Acl, AclKind, Rules};
 use mq_topic::{SubFilter, TopicFault, TopicName};
 use mq_world::Refusal;
 use std::alloc::{AllocError, Global};
@@ -47,17 +47,21 @@ pub(crate) fn copied(alloc: Global, text: Option<&str>) -> Result<Option<String>
     }
 }
 
-/// The access list of a text, or none without a text.
-pub(crate) fn read_access(alloc: Global, text: Option<&str>) -> Result<Option<Acl>, Refusal>
-    ensures ok { IfOk result (λ access. (access ≡ access_of (option_copied text.entry))
-        × (faulty_line (option_copied text.entry) ≡ None)) }
+/// The access list of a text that these rules read, or none without a text.
+pub(crate) fn read_access(
+    alloc: Global,
+    rules: Rules,
+    text: Option<&str>,
+) -> Result<Option<Acl>, Refusal>
+    ensures ok { IfOk result (λ access. (access ≡ access_of rules (option_copied text.entry))
+        × (faulty_line rules (option_copied text.entry) ≡ None)) }
     ensures err { IfErr result (λ refusal. (refusal ≡ Refusal.Memory)
-        ⊎ (acl_refusal (option_copied text.entry) ≡ Some refusal)) }
+        ⊎ (acl_refusal rules (option_copied text.entry) ≡ Some refusal)) }
 {
     let Some(text) = text else {
         return Ok(None);
     };
-    match Acl::read(alloc, text) {
+    match Acl::read_by(alloc, rules, text) {
         Ok(acl) => Ok(Some(acl)),
         Err(fault) => match fault.kind {
             AclKind::Memory => Err(Refusal::Memory),

@@ -3,7 +3,7 @@ use Rattle.std.proofs.Common.{ℕ, ◌+◌, ◌<◌, ◌≤◌, ◌^◌, Bool, t
 use Rattle.std.proofs.Common.{Some, None, arith, if◌then◌else◌}
 use Rattle.std.specs.Option.{IfSome, option_map_or}
 use Rattle.std.specs.List.{filter, AllByRecursion}
-use Rattle.mq_acl.specs.Rows.{AclRow}
+use Rattle.mq_acl.specs.AccessLists.{AccessList}
 use Rattle.mq_world.specs.Lists.{Text, with_row}
 use Rattle.mq_world.specs.World.{Session, Away, Subscription, Message, session_cmp, has_id}
 use Rattle.mq_world.specs.Clock.{deadline_of}
@@ -60,7 +60,7 @@ reached-left moment now id sessions reached =
         else s)) [ true ↦ r | false ↦ r ]
 
 -- copies of a message that begin to wait are in reach if the message's deadline is
-pub reached-after : (limit : ℕ) (access : Option (List AclRow)) (subs : List Subscription) (now : ℕ)
+pub reached-after : (limit : ℕ) (access : Option AccessList) (subs : List Subscription) (now : ℕ)
     (m : Message) (sessions : List Session)
     → IfSome (deadline_of now m.expiry) (λ d. d < now + 2 ^ 32) → AllReached now sessions
     → AllReached now (map (waiting_after limit access subs now m) sessions)

@@ -2,7 +2,7 @@
 use Rattle.std.specs.Prelude.{List, [], ◌∷◌, map, not, Bool, Option, Some, None, if◌then◌else◌, ◌≡◌}
 use Rattle.std.specs.Prelude.{◌++◌, Vec}
 use Rattle.std.specs.List.{filter, filter_map, find, list_any}
-use Rattle.mq_acl.specs.Rows.{AclRow}
+use Rattle.mq_acl.specs.AccessLists.{AccessList}
 use Rattle.mq_world.specs.Lists.{Text, same_text, in_order}
 use Rattle.mq_world.specs.World.{Session, Subscription, Message, Group, group_cmp, group_of}
 use Rattle.mq_world.specs.World.{same_key, is_in_group}
@@ -42,12 +42,12 @@ next_by passes subscriptions group =
     find (λ s. passes s.client) (filter (is_in_group group) subscriptions)
 
 -- of a group the first member whose client is connected and may read the topic
-abbrev pub next_in : Option (List AclRow) → List Session → List Subscription → Text → Group
+abbrev pub next_in : Option AccessList → List Session → List Subscription → Text → Group
     → Option Subscription
 next_in access sessions subscriptions topic group =
     next_by (is_reader access sessions topic) subscriptions group
 
-unfoldable pub next_members : Option (List AclRow) → List Session → List Subscription → Message
+unfoldable pub next_members : Option AccessList → List Session → List Subscription → Message
     → List Subscription
 next_members access sessions subscriptions m =
     filter_map (next_in access sessions subscriptions m.topic)

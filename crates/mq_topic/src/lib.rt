@@ -17,6 +17,7 @@ pub use filter::TopicFilter;
 pub use filter_text::FilterText;
 pub use level_text::LevelText;
 pub use levels::split_first;
-pub use matching::{LevelTest, levels_match, matches};
+pub use matching::{LevelTest, is_hidden, is_last_hash, levels_match, matches};
 pub use name::TopicName;
 pub use subscription::SubFilter;
+pub use validity::is_plain;

@@ -1,7 +1,7 @@
 ghost use Rattle.std.specs.Prelude.{◌≡◌, ℕ, Bool, List, ◌==◌, ◌&&◌, length, codes};
 ghost use Rattle.std.specs.Str.{bytes_eq};
 ghost use Rattle.mq_topic.specs.Levels.{levels, levels_left};
-ghost use Rattle.mq_topic.specs.Matching.{matches, levels_match_by, level_matches, is_wildcard};
+ghost use Rattle.mq_topic.specs.Matching.{matches, levels_match_by, level_matches, is_hidden, is_wildcard};
 
 use crate::filter::TopicFilter;
 use crate::level_text::LevelText;
@@ -16,15 +16,19 @@ pub fn matches(filter: &TopicFilter, name: &TopicName) -> bool
     texts_match(filter.text(), name.text())
 }
 
-fn texts_match(filter: &str, name: &str) -> bool
-    ensures { result ≡ matches (levels filter.now) (levels name.now) }
+/// Whether the name begins with `$`, and the filter with a wildcard: then it isn't matched (MQTT 5.0, section 4.7.2).
+pub fn is_hidden(filter: &str, name: &str) -> bool
+    ensures { result ≡ is_hidden (levels filter.now) (levels name.now) }
 {
     let (first_wanted, _) = split_first(filter);
     let (first, _) = split_first(name);
-    if first.starts_with('$') && is_wildcard(first_wanted) {
-        return false;
-    }
-    levels_match(&Plain, filter, name)
+    first.starts_with('$') && is_wildcard(first_wanted)
+}
+
+fn texts_match(filter: &str, name: &str) -> bool
+    ensures { result ≡ matches (levels filter.now) (levels name.now) }
+{
+    !is_hidden(filter, name) && levels_match(&Plain, filter, name)
 }
 
 fn is_wildcard(level: &str) -> bool
@@ -54,9 +58,9 @@ impl LevelTest for Plain {
     }
 }
 
-// A `#` with no level after it.
+/// A `#` with no level after it.
 #[tactic(auto, using(crate::proofs::Walk::levels_left_is_none))]
-fn is_last_hash(level: &str, after: Option<&str>) -> bool
+pub fn is_last_hash(level: &str, after: Option<&str>) -> bool
     ensures { result ≡ (bytes_eq level.now (codes "#") && (length (levels_left after.entry) == 0)) }
 {
     level == "#" && after.is_none()

@@ -2,9 +2,10 @@
 use Rattle.std.specs.Prelude.{◌≡◌, ℕ, Bool, true, false, List, [], ◌∷◌, map, Option, Some, None, is_some, Result, Ok, Err, codes, slice_index_or, if◌then◌else◌}
 use Rattle.std.proofs.Common.{refl}
 use Rattle.std.specs.Option.{option_map_or}
-use Rattle.mq_acl.specs.Access.{allowed}
+use Rattle.mq_acl.specs.AccessLists.{allowed}
+use Rattle.mq_acl.specs.declared.rules.Rules.TheVariants.{Mosquitto}
 use Rattle.mq_world.specs.Lists.{Text, with_row}
-use Rattle.mq_world.specs.World.{World, Request, Connect, Disconnect, Subscribe, Unsubscribe, Publish, SetAcl, Advance, Stat, Group, Copy, Reply, fresh_world, empty_world, within}
+use Rattle.mq_world.specs.World.{World, Request, Connect, Disconnect, Subscribe, Unsubscribe, Publish, SetAcl, Advance, Stat, Group, Copy, Reply, fresh_world, empty_world, ruled, within}
 use Rattle.mq_world.specs.Refusals.{refusal}
 use Rattle.mq_world.specs.Copies.{unshared_copies}
 use Rattle.mq_world.specs.Groups.{groups_of, served_rows}
@@ -881,6 +882,44 @@ retained_order-steps : counted_at (6 ∷ []) empty_world retained_order-script �
 unfolding fresh_world refusal answer after next with_row allowed groups_of served_rows retained_after
     filters_of steps
 retained_order-steps = refl
+
+abbrev rules_of_mosquitto-script : List Request
+rules_of_mosquitto-script =
+    connect (codes "a/b") (Some (codes "u"))
+    ∷ connect (codes "$r") None
+    ∷ connect (codes "+") None
+    ∷ subscribe (codes "$r") (codes "#") 0
+    ∷ subscribe (codes "$r") (codes "$r/x") 0
+    ∷ SetAcl (Some (112 ∷ 97 ∷ 116 ∷ 116 ∷ 101 ∷ 114 ∷ 110 ∷ 32 ∷ 114 ∷ 101 ∷ 97 ∷ 100 ∷ 32 ∷ 35 ∷ 10 ∷ 112 ∷ 97 ∷ 116 ∷ 116 ∷ 101 ∷ 114 ∷ 110 ∷ 32 ∷ 114 ∷ 101 ∷ 97 ∷ 100 ∷ 32 ∷ 36 ∷ 114 ∷ 47 ∷ 35 ∷ 10 ∷ 112 ∷ 97 ∷ 116 ∷ 116 ∷ 101 ∷ 114 ∷ 110 ∷ 32 ∷ 119 ∷ 114 ∷ 105 ∷ 116 ∷ 101 ∷ 32 ∷ 37 ∷ 99 ∷ 47 ∷ 120 ∷ 10 ∷ 112 ∷ 97 ∷ 116 ∷ 116 ∷ 101 ∷ 114 ∷ 110 ∷ 32 ∷ 119 ∷ 114 ∷ 105 ∷ 116 ∷ 101 ∷ 32 ∷ 115 ∷ 37 ∷ 117 ∷ 37 ∷ 99 ∷ 10 ∷ 112 ∷ 97 ∷ 116 ∷ 116 ∷ 101 ∷ 114 ∷ 110 ∷ 32 ∷ 100 ∷ 101 ∷ 110 ∷ 121 ∷ 32 ∷ 97 ∷ 47 ∷ 98 ∷ 47 ∷ 121 ∷ 10 ∷ 112 ∷ 97 ∷ 116 ∷ 116 ∷ 101 ∷ 114 ∷ 110 ∷ 32 ∷ 119 ∷ 114 ∷ 105 ∷ 116 ∷ 101 ∷ 32 ∷ 113 ∷ 10 ∷ 117 ∷ 115 ∷ 101 ∷ 114 ∷ 32 ∷ 117 ∷ 10 ∷ 116 ∷ 111 ∷ 112 ∷ 105 ∷ 99 ∷ 32 ∷ 119 ∷ 114 ∷ 105 ∷ 116 ∷ 101 ∷ 32 ∷ 97 ∷ 47 ∷ 98 ∷ 47 ∷ 121 ∷ 10 ∷ []))
+    ∷ message (codes "a/b") (codes "a/b/x") (codes "1") 0
+    ∷ message (codes "a/b") (codes "sua/b") (codes "2") 0
+    ∷ message (codes "a/b") (codes "a/b/y") (codes "3") 0
+    ∷ message (codes "$r") (codes "$r/x") (codes "4") 0
+    ∷ message (codes "$r") (codes "s$r") (codes "5") 0
+    ∷ message (codes "+") (codes "q") (codes "6") 0
+    ∷ message (codes "$r") (codes "q") (codes "7") 0
+    ∷ SetAcl (Some (116 ∷ 111 ∷ 112 ∷ 105 ∷ 99 ∷ 32 ∷ 114 ∷ 101 ∷ 97 ∷ 100 ∷ 9 ∷ 97 ∷ 10 ∷ 9 ∷ 116 ∷ 111 ∷ 112 ∷ 105 ∷ 99 ∷ 32 ∷ 97 ∷ 10 ∷ []))
+    ∷ []
+
+rules_of_mosquitto : answers (ruled Mosquitto empty_world) rules_of_mosquitto-script
+    ≡ (ok [] 0
+    ∷ ok [] 0
+    ∷ ok [] 0
+    ∷ ok [] 0
+    ∷ ok [] 0
+    ∷ ok [] 0
+    ∷ ok (record { client = (codes "$r"); topic = (codes "a/b/x"); payload = (codes "1"); qos = 0; retain = false; expiry = None; identifiers = []; group = None } ∷ []) 0
+    ∷ ok (record { client = (codes "$r"); topic = (codes "sua/b"); payload = (codes "2"); qos = 0; retain = false; expiry = None; identifiers = []; group = None } ∷ []) 0
+    ∷ ok [] 16
+    ∷ ok (record { client = (codes "$r"); topic = (codes "$r/x"); payload = (codes "4"); qos = 0; retain = false; expiry = None; identifiers = []; group = None } ∷ []) 0
+    ∷ Err NotAuthorized
+    ∷ Err NotAuthorized
+    ∷ ok (record { client = (codes "$r"); topic = (codes "q"); payload = (codes "7"); qos = 0; retain = false; expiry = None; identifiers = []; group = None } ∷ []) 0
+    ∷ Err (AclLine 2)
+    ∷ [])
+unfolding fresh_world refusal answer after next with_row allowed unshared_copies groups_of served_rows
+    retained_after retained_copies resumed_copies begins_to_wait filters_of counts
+rules_of_mosquitto = refl
 
 abbrev session_begun_anew-script : List Request
 session_begun_anew-script =

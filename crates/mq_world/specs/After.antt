@@ -4,7 +4,9 @@ use Rattle.std.specs.Prelude.{if◌then◌else◌}
 use Rattle.std.specs.Option.{option_map, option_map_or}
 use Rattle.std.specs.List.{filter, find}
 use Rattle.mq_topic.specs.Texts.{share_of, filter_part}
-use Rattle.mq_acl.specs.Rows.{AclRow, rows_of}
+use Rattle.mq_acl.specs.AccessLists.{AccessList}
+use Rattle.mq_acl.specs.Rows.{AclRow, rows_by}
+use Rattle.mq_acl.specs.declared.rules.Rules.{Rules}
 use Rattle.mq_acl.specs.declared.fault.AclFault.{AclFault}
 use Rattle.mq_world.specs.Lists.{Text, same_text, with_row}
 use Rattle.mq_world.specs.World.{World, Row, Subscription, Request, Connect, Disconnect, Subscribe}
@@ -31,8 +33,9 @@ rows_or_none (Ok rows) = rows
 rows_or_none (Err fault) = []
 
 -- without text there is no access list; a text with a fault is refused
-abbrev pub access_of : Option Text → Option (List AclRow)
-access_of text = option_map (λ t. rows_or_none (rows_of t)) text
+abbrev pub access_of : Rules → Option Text → Option AccessList
+access_of rules text =
+    option_map (λ t. record { rules = rules; rows = rows_or_none (rows_by rules t) }) text
 
 -- what changes beside the count of accepted commands. A connect of a connected client acts first as its disconnect (own),
 -- and then begins a session or resumes the one that is left, with its subscriptions; a subscribe with the key of a
@@ -66,7 +69,7 @@ change_world w (Publish m) = record w {
   rows = map (restamp w.accepted (served_by w m)) w.rows;
   retained = retained_after w.moment w.retained m;
 }
-change_world w (SetAcl text) = record w { access = access_of text }
+change_world w (SetAcl text) = record w { access = access_of w.rules text }
 change_world w (Advance seconds) =
     let now = w.moment + seconds in
     record w {

@@ -4,8 +4,7 @@ use Rattle.std.specs.Prelude.{is_none, if◌then◌else◌}
 use Rattle.std.specs.List.{filter, filter_map, list_any}
 use Rattle.mq_topic.specs.Levels.{levels}
 use Rattle.mq_topic.specs.Matching.{matches}
-use Rattle.mq_acl.specs.Rows.{AclRow}
-use Rattle.mq_acl.specs.Access.{allowed}
+use Rattle.mq_acl.specs.AccessLists.{AccessList, allowed}
 use Rattle.mq_acl.specs.declared.access.Direction.TheVariants.{Reading}
 use Rattle.mq_world.specs.Lists.{Text, same_text, greatest, ascending}
 use Rattle.mq_world.specs.World.{Session, Subscription, SubscriptionOptions, Group, Message, Copy}
@@ -40,7 +39,7 @@ abbrev pub options_for : List Subscription → Message → Text → List Subscri
 options_for subscriptions m id = map (λ s. s.options) (filter (takes_part m id) subscriptions)
 
 -- one copy for a client with this user name, unless no subscription takes part or it may not read the topic
-abbrev pub unshared_copy : Option (List AclRow) → List Subscription → Message → Text → Option Text
+abbrev pub unshared_copy : Option AccessList → List Subscription → Message → Text → Option Text
     → Option Copy
 unshared_copy access subscriptions m id user =
     let options = options_for subscriptions m id in
@@ -49,7 +48,7 @@ unshared_copy access subscriptions m id user =
     else None
 
 -- for each session, by client id
-unfoldable pub unshared_copies : Option (List AclRow) → List Session → List Subscription → Message
+unfoldable pub unshared_copies : Option AccessList → List Session → List Subscription → Message
     → List Copy
 unshared_copies access sessions subscriptions m =
     filter_map (λ session. unshared_copy access subscriptions m session.id session.user) sessions

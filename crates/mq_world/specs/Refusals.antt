@@ -4,7 +4,8 @@ use Rattle.std.specs.Prelude.{nat_lt, length, Option, Some, None, Result, Ok, Er
 use Rattle.std.specs.Option.{option_map, option_and_then}
 use Rattle.std.specs.List.{find}
 use Rattle.mq_topic.specs.Texts.{contains_byte, is_name, is_shared, is_subscription}
-use Rattle.mq_acl.specs.Rows.{AclRow, rows_of}
+use Rattle.mq_acl.specs.Rows.{AclRow, rows_by}
+use Rattle.mq_acl.specs.declared.rules.Rules.{Rules}
 use Rattle.mq_acl.specs.declared.access.Direction.TheVariants.{Writing}
 use Rattle.mq_acl.specs.declared.fault.AclFault.{AclFault}
 use Rattle.mq_world.specs.Lists.{Text}
@@ -53,12 +54,12 @@ fault_line (Ok rows) = None
 fault_line (Err fault) = Some fault.line
 
 -- the number of the faulty line of an access list's text, if it has one
-abbrev pub faulty_line : Option Text → Option ℕ
-faulty_line text = option_and_then (λ t. fault_line (rows_of t)) text
+abbrev pub faulty_line : Rules → Option Text → Option ℕ
+faulty_line rules text = option_and_then (λ t. fault_line (rows_by rules t)) text
 
 -- the refusal of an access list's text, if it has a fault
-abbrev pub acl_refusal : Option Text → Option Refusal
-acl_refusal text = option_map (λ line. AclLine line) (faulty_line text)
+abbrev pub acl_refusal : Rules → Option Text → Option Refusal
+acl_refusal rules text = option_map (λ line. AclLine line) (faulty_line rules text)
 
 -- a shared subscription has no No Local (MQTT 5.0, section 3.8.3.1)
 unfoldable pub refusal : World → Request → Option Refusal
@@ -74,7 +75,7 @@ refusal w (Unsubscribe id text) =
     ∷ [])
 refusal w (Publish m) =
     first_refusal (client_conditions w.sessions m.publisher ++ message_conditions w m)
-refusal w (SetAcl text) = acl_refusal text
+refusal w (SetAcl text) = acl_refusal w.rules text
 refusal w (Advance seconds) =
     first_refusal ((nat_lt last_moment (w.moment + seconds), ClockTooFar) ∷ [])
 refusal w Stat = None

@@ -3,8 +3,7 @@ use Rattle.std.specs.Prelude.{ℕ, Bool, true, false, List, [], ◌∷◌, lengt
 use Rattle.std.specs.Prelude.{◌||◌, not, nat_le, Option, None, is_none, if◌then◌else◌}
 use Rattle.std.specs.Option.{option_map_or}
 use Rattle.std.specs.List.{filter, filter_map, list_any}
-use Rattle.mq_acl.specs.Rows.{AclRow}
-use Rattle.mq_acl.specs.Access.{allowed}
+use Rattle.mq_acl.specs.AccessLists.{AccessList, allowed}
 use Rattle.mq_acl.specs.declared.access.Direction.TheVariants.{Reading}
 use Rattle.mq_world.specs.Lists.{Text, same_text, with_row}
 use Rattle.mq_world.specs.World.{World, Subscription, Message, Retained, Copy, retained_cmp}
@@ -59,7 +58,7 @@ asks_for_retained subscriptions s =
     || (s.options.handling == 1 && not (list_any (same_key s) subscriptions)))
 
 -- messages that match and that the client may read, but with No Local none of its own
-abbrev pub is_sent : Option (List AclRow) → Option Text → Subscription → Retained → Bool
+abbrev pub is_sent : Option AccessList → Option Text → Subscription → Retained → Bool
 is_sent access user s kept =
     filter_matches s.filter kept.topic && allowed access s.client user kept.topic Reading
     && not (s.options.no_local && same_text kept.publisher s.client)
@@ -78,7 +77,7 @@ retained_copy now s kept = record {
 }
 
 -- for each retained message, in the order of topics
-unfoldable pub retained_copies : ℕ → Option (List AclRow) → Option Text → List Retained
+unfoldable pub retained_copies : ℕ → Option AccessList → Option Text → List Retained
     → Subscription → List Copy
 retained_copies now access user retained s =
     map (retained_copy now s) (filter (is_sent access user s) retained)

@@ -4,8 +4,7 @@ use Rattle.std.specs.Prelude.{ℕ, Bool, true, false, List, [], ◌==◌, ◌&&�
 use Rattle.std.specs.Prelude.{if◌then◌else◌}
 use Rattle.std.specs.Option.{option_and_then, option_map_or}
 use Rattle.std.specs.List.{filter, find, list_any}
-use Rattle.mq_acl.specs.Rows.{AclRow}
-use Rattle.mq_acl.specs.Access.{allowed}
+use Rattle.mq_acl.specs.AccessLists.{AccessList, allowed}
 use Rattle.mq_acl.specs.declared.access.Direction.{Direction}
 use Rattle.mq_acl.specs.declared.access.Direction.TheVariants.{Reading}
 use Rattle.mq_world.specs.Lists.{Text}
@@ -42,7 +41,7 @@ abbrev pub may : World → Text → Text → Direction → Bool
 may w id topic direction = allowed w.access id (user_of w.sessions id) topic direction
 
 -- the client is connected and may read the topic
-abbrev pub is_reader : Option (List AclRow) → List Session → Text → Text → Bool
+abbrev pub is_reader : Option AccessList → List Session → Text → Text → Bool
 is_reader access sessions topic id = is_connected sessions id
     && allowed access id (user_of sessions id) topic Reading
 

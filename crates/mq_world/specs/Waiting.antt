@@ -3,7 +3,7 @@ use Rattle.std.specs.Prelude.{ℕ, Bool, List, [], ◌∷◌, ◌++◌, length, 
 use Rattle.std.specs.Prelude.{Some, None, is_some, if◌then◌else◌}
 use Rattle.std.specs.Option.{option_map_or, option_and_then}
 use Rattle.std.specs.List.{filter_map, list_any}
-use Rattle.mq_acl.specs.Rows.{AclRow}
+use Rattle.mq_acl.specs.AccessLists.{AccessList}
 use Rattle.mq_world.specs.Lists.{Text}
 use Rattle.mq_world.specs.World.{Session, Subscription, Waiting, Message, Copy}
 use Rattle.mq_world.specs.Clock.{deadline_of, is_over, time_left}
@@ -25,14 +25,14 @@ abbrev pub with_qos : Copy → Option Copy
 with_qos copy = if copy.qos == 0 then None else Some copy
 
 -- the copy that begins to wait for the client: the one that it would get if it were connected
-abbrev pub waiting_copy : ℕ → Option (List AclRow) → List Subscription → Message → Session
+abbrev pub waiting_copy : ℕ → Option AccessList → List Subscription → Message → Session
     → Option Copy
 waiting_copy limit access subscriptions m session =
     if has_room limit session
     then option_and_then with_qos (unshared_copy access subscriptions m session.id session.user)
     else None
 
-unfoldable pub begins_to_wait : ℕ → Option (List AclRow) → List Session → List Subscription
+unfoldable pub begins_to_wait : ℕ → Option AccessList → List Session → List Subscription
     → Message → Bool
 begins_to_wait limit access sessions subscriptions m =
     list_any (λ session. is_some (waiting_copy limit access subscriptions m session)) sessions
@@ -42,7 +42,7 @@ abbrev pub with_waiting : Session → List Waiting → Session
 with_waiting session waiting = record session { waiting = session.waiting ++ waiting }
 
 -- the session after a publish
-abbrev pub waiting_after : ℕ → Option (List AclRow) → List Subscription → ℕ → Message → Session
+abbrev pub waiting_after : ℕ → Option AccessList → List Subscription → ℕ → Message → Session
     → Session
 waiting_after limit access subscriptions now m session =
     option_map_or (λ copy. with_waiting session

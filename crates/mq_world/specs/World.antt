@@ -9,7 +9,9 @@ use Rattle.std.specs.List.{AllByRecursion, IsDistinct, filter}
 use Rattle.std.specs.List.Sorted.{IsStrictlySortedBy}
 use Rattle.mq_topic.specs.Levels.{levels, level_order}
 use Rattle.mq_topic.specs.Texts.{share_of, filter_part}
-use Rattle.mq_acl.specs.Rows.{AclRow}
+use Rattle.mq_acl.specs.AccessLists.{AccessList}
+use Rattle.mq_acl.specs.declared.rules.Rules.{Rules}
+use Rattle.mq_acl.specs.declared.rules.Rules.TheVariants.{Own}
 use Rattle.mq_world.specs.Lists.{Text, same_text, text_cmp}
 use Rattle.mq_world.specs.declared.answer.Outcome.{Outcome}
 
@@ -99,21 +101,24 @@ pub record Limits : Type 0 where
 abbrev pub default_limits : Limits
 default_limits = record { retained = None; queued = 1000 }
 
--- the limits; the moment; the access rows, or none where no access list is set; how many commands were accepted
+-- the limits; the rules by which the access lists of commands are read; the moment; the access list, or none where none
+-- is set; how many commands were accepted
 pub record World : Type 0 where
   pub limits : Limits
+  pub rules : Rules
   pub moment : ℕ
-  pub access : Option (List AclRow)
+  pub access : Option AccessList
   pub sessions : List Session
   pub rows : List Row
   pub retained : List Retained
   pub accepted : ℕ
 
--- nobody has a session, with these access rows or without an access list
-unfoldable pub fresh_world : Option (List AclRow) → World
+-- nobody has a session, with this access list or without one, and commands bring lists of our own rules
+unfoldable pub fresh_world : Option AccessList → World
 fresh_world access =
     record {
       limits = default_limits;
+      rules = Own;
       moment = 0;
       access = access;
       sessions = [];
@@ -125,6 +130,10 @@ fresh_world access =
 -- the world with other limits
 abbrev pub within : Limits → World → World
 within limits w = record w { limits = limits }
+
+-- the world in which commands bring lists of these rules
+abbrev pub ruled : Rules → World → World
+ruled rules w = record w { rules = rules }
 
 abbrev pub empty_world : World
 empty_world = fresh_world None

@@ -3,11 +3,10 @@ use Rattle.std.specs.Prelude.{ℕ, Bool, List, map, Option, if◌then◌else◌,
 use Rattle.std.specs.Prelude.{None}
 use Rattle.std.specs.Option.{option_map}
 use Rattle.std.specs.List.{filter_map, filter, flat_map}
-use Rattle.mq_acl.specs.Rows.{AclRow}
+use Rattle.mq_acl.specs.AccessLists.{AccessList, allowed}
 use Rattle.mq_world.specs.Lists.{Text, same_text, text_cmp, in_order}
 use Rattle.mq_world.specs.World.{Session, Subscription, Message, Copy, SubscriptionOptions}
 use Rattle.mq_world.specs.Waiting.{waiting_copy, with_qos}
-use Rattle.mq_acl.specs.Access.{allowed}
 use Rattle.mq_acl.specs.declared.access.Direction.TheVariants.{Reading}
 use Rattle.mq_world.specs.World as world
 use Rattle.mq_world.specs.Sessions.{is_reader, user_of}
@@ -20,12 +19,12 @@ use Rattle.mq_subscriptions.specs.Turns.{next_in, turns_of}
 use Rattle.mq_subscriptions.specs.Matches.{clients_of, options_among}
 
 -- what begins to wait for the client of a session, until this deadline or for ever
-abbrev pub begins : ℕ → Option (List AclRow) → List Subscription → Message → Option ℕ → Session
+abbrev pub begins : ℕ → Option AccessList → List Subscription → Message → Option ℕ → Session
     → Option QueueItem
 begins limit access subscriptions m deadline session =
     option_map (queue_item session.id deadline) (waiting_copy limit access subscriptions m session)
 
-abbrev pub queued_by : ℕ → Option (List AclRow) → List Session → List Subscription → Message
+abbrev pub queued_by : ℕ → Option AccessList → List Session → List Subscription → Message
     → Option ℕ → List QueueItem
 queued_by limit access sessions subscriptions m deadline =
     filter_map (begins limit access subscriptions m deadline) sessions
@@ -39,16 +38,16 @@ abbrev pub gives_options : Message → Text → List Subscription → List world
 gives_options m id rows = map (λ s. s.options) (filter (gives m id) rows)
 
 -- the copy for a connected client that may read the topic
-abbrev pub copy_for : Option (List AclRow) → List Session → Message → Text × Summary → Option Copy
+abbrev pub copy_for : Option AccessList → List Session → Message → Text × Summary → Option Copy
 copy_for access sessions m l = if is_reader access sessions m.topic l.0 then
     Some (copy_from l.0 None m l.1) else None
 
-abbrev pub copies_by : Option (List AclRow) → List Session → Message → List (Text × Summary)
+abbrev pub copies_by : Option AccessList → List Session → Message → List (Text × Summary)
     → List Copy
 copies_by access sessions m summaries = filter_map (copy_for access sessions m) summaries
 
 -- what begins to wait for a client that is away and may read the topic
-abbrev pub queue_item_for : ℕ → Option (List AclRow) → List Session → Message → Option ℕ
+abbrev pub queue_item_for : ℕ → Option AccessList → List Session → Message → Option ℕ
     → Text × Summary
     → Option QueueItem
 queue_item_for limit access sessions m deadline l =
@@ -56,7 +55,7 @@ queue_item_for limit access sessions m deadline l =
     then option_map (queue_item l.0 deadline) (with_qos (copy_from l.0 None m l.1))
     else None
 
-abbrev pub queue_items_by : ℕ → Option (List AclRow) → List Session → Message → Option ℕ
+abbrev pub queue_items_by : ℕ → Option AccessList → List Session → Message → Option ℕ
     → List (Text × Summary) → List QueueItem
 queue_items_by limit access sessions m deadline summaries =
     filter_map (queue_item_for limit access sessions m deadline) summaries
@@ -71,7 +70,7 @@ queued_by_fate fate deadline copy =
     if waits fate then option_map (queue_item copy.client deadline) (with_qos copy) else None
 
 -- the members in turn of the groups of a share name, by the filters that are found
-abbrev pub turns_at : Option (List AclRow) → List Session → Text → Text → List Entry
+abbrev pub turns_at : Option AccessList → List Session → Text → Text → List Entry
     → List Subscription
 turns_at access sessions topic share found =
     flat_map (λ (a : Entry). turns_of

@@ -6,8 +6,7 @@ use Rattle.mq_topic.specs.Levels.{levels}
 use Rattle.mq_topic.specs.Texts.{is_name, share_of, filter_part}
 use Rattle.mq_topic.specs.Prefixes.{capped}
 use Rattle.mq_topic.specs.Prefixes.{prefixes, met_by_name}
-use Rattle.mq_acl.specs.Rows.{AclRow}
-use Rattle.mq_acl.specs.Access.{allowed}
+use Rattle.mq_acl.specs.AccessLists.{AccessList, allowed}
 use Rattle.mq_acl.specs.declared.access.Direction.TheVariants.{Writing}
 use Rattle.mq_world.specs.Lists.{Text, same_text, with_row}
 use Rattle.mq_world.specs.World.{World, Row, Session, Subscription, Message, Copy, Request, Connect}
@@ -44,6 +43,7 @@ row_without_stamp s = record { subscription = s; stamp = 0 }
 abbrev pub world_of : State → World
 world_of s = record {
   limits = s.limits;
+  rules = s.rules;
   moment = s.moment;
   access = s.access;
   sessions = s.sessions;
@@ -65,7 +65,7 @@ sender_conditions s client topic =
 abbrev pub member_copy : Message → Subscription → Copy
 member_copy m s = group_copy m (row_without_stamp s)
 
-abbrev pub message_copies : Option (List AclRow) → List Session → List Subscription → Message
+abbrev pub message_copies : Option AccessList → List Session → List Subscription → Message
     → List Copy
 message_copies access sessions subscriptions m =
     unshared_copies access (connected sessions) subscriptions m
@@ -148,7 +148,7 @@ change_state s (Publish m) = record s {
   subscriptions = all_turned (next_members s.access s.sessions s.subscriptions m) s.subscriptions;
   retained = retained_after s.moment s.retained m;
 }
-change_state s (SetAcl text) = record s { access = access_of text }
+change_state s (SetAcl text) = record s { access = access_of s.rules text }
 change_state s (Advance seconds) = record s {
   moment = s.moment + seconds;
   sessions = filter (λ session. not (has_ended (s.moment + seconds) session)) s.sessions;
@@ -160,6 +160,7 @@ change_state s Stat = s
 -- the same limits, moment, access rows, sessions and retained messages, and the same subscriptions in turn
 pub record SameRows (s t : State) : Type 0 where
   pub limits : s.limits ≡ t.limits
+  pub rules : s.rules ≡ t.rules
   pub moment : s.moment ≡ t.moment
   pub access : s.access ≡ t.access
   pub sessions : s.sessions ≡ t.sessions

@@ -19,6 +19,7 @@ published_message client topic payload qos retain expiry = record {
 abbrev pub state_of : in_router.Inside → State
 state_of inside = record {
   limits = limits_of inside.limits;
+  rules = inside.rules;
   moment = inside.clock.moment;
   access = inside.access;
   sessions = inside.sessions;

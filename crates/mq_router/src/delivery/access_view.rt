@@ -2,7 +2,7 @@
 ghost use Rattle.std.specs.Prelude.{◌≡◌, ◌&&◌};
 ghost use Rattle.std.specs.Option.{option_copied};
 ghost use Rattle.std.specs.Rc.{rc_str_bytes};
-ghost use Rattle.mq_acl.specs.Access.{allowed};
+ghost use Rattle.mq_acl.specs.AccessLists.{allowed};
 ghost use Rattle.mq_acl.specs.declared.access.Direction.TheVariants.{Reading};
 ghost use Rattle.mq_world.specs.Sessions.{user_of, is_reader};
 ghost use Rattle.mq_sessions.specs.Queue.{room_for};

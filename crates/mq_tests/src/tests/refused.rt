@@ -18,6 +18,7 @@ use crate::tests::refused::row::Row;
 use crate::tests::refused::try_calls::try_calls;
 use crate::tests::refused::try_row::try_row;
 use crate::tests::scripts::FIRST_LOOK;
+use mq_acl::Rules;
 use mq_cli::{Options, arguments};
 use mq_router::Limits;
 use std::process::Abort;
@@ -37,6 +38,7 @@ fn growths_of_a_row(rt: HostRuntime) {
     let Some(output) = words.first() else {
         let row = Row {
             acl: None,
+            rules: Rules::Own,
             limits: Limits::new(),
             script: FIRST_LOOK.script,
             output: FIRST_LOOK.output,
@@ -69,6 +71,7 @@ fn try_files(rt: &(impl Abort + AllocGlobal + Files + Print), output: &str, opti
     let output = text_of(rt, output);
     let row = Row {
         acl: acl.as_deref(),
+        rules: options.rules,
         limits: Limits {
             retained: options.max_retained,
             queued: options.max_queued.unwrap_or(Limits::new().queued),

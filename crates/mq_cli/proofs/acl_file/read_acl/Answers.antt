@@ -9,7 +9,8 @@ returns g c =
     let read = c.in_ok-bytes.ensures.ok in (
       c.in_ok-bytes.bytes.items,
       read.0,
-      AclFileEnding-whole acl_file_limit c.parse_acl.result c.in_ok-bytes.bytes.items _ _ read.1
+      AclFileEnding-whole acl_file_limit c.args.rules c.parse_acl.result
+          c.in_ok-bytes.bytes.items _ _ read.1
           (rw c.as_slice.ensures.value at c.parse_acl.ensures),
     )
 
@@ -17,4 +18,4 @@ pub returns-in_err-bytes : goal.returns-in_err-bytes
 unfolding acl_file_limit
 returns-in_err-bytes g c =
     let fault = err_from_is_err_and c.from_residual.result c.from_residual.ensures.1 in
-    rw (fault.1, fault.2) c.in_err-bytes.ensures.err
+    rw (fault.1, fault.2) (c.in_err-bytes.ensures.err c.args.rules)

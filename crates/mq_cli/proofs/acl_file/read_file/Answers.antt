@@ -5,7 +5,7 @@ use Rattle.std.proofs.KnownBytes.{Consumes-trans, Consumes-kept}
 use Rattle.mq_cli.proofs.acl_file.read_file.Goals as goal
 
 pub returns-then-n-limit-clause-err : goal.returns-then-n-limit-clause-err
-returns-then-n-limit-clause-err g c =
+returns-then-n-limit-clause-err g c = λ rules.
     let bytes : List ℕ = c.reads.bytes.items in
     let n : ℕ = c.in-Ok.n in
     let piece : List ℕ = c.read.new.buf in
@@ -26,12 +26,12 @@ pub returns-in_err-extend_from_slice-clause-err : goal.returns-in_err-extend_fro
 returns-in_err-extend_from_slice-clause-err g c =
     let bytes : List ℕ = c.reads.bytes.items in
     let fault = err_from_is_err_and c.from_residual.result c.from_residual.ensures.1 in
-    rw (fault.1, fault.2) (
+    rw (fault.1, fault.2) (λ rules. (
       bytes ++ take c.in-Ok.n c.read.new.buf,
       Consumes-trans _ (g.R.Source.to_come c.reads.reader) _ bytes (take c.in-Ok.n c.read.new.buf)
           c.reads.invariant.given c.in-Ok.ensures.bytes.0,
       let counted = c.in-Ok.ensures.counted in omega arith,
-    )
+    ))
 
 pub returns-then-n-eq0-clause-ok : goal.returns-then-n-eq0-clause-ok
 returns-then-n-eq0-clause-ok g c = search rules
@@ -55,7 +55,7 @@ reads-preserved g c =
     }
 
 pub returns-in-Err-clause-err : goal.returns-in-Err-clause-err
-returns-in-Err-clause-err g c = (
+returns-in-Err-clause-err g c = λ rules. (
   c.reads.bytes.items,
   Consumes-kept _ (g.R.Source.to_come c.reads.reader) _ c.reads.bytes.items
       c.reads.invariant.given c.in-Err.ensures.bytes,

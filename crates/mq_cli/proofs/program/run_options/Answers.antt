@@ -1,6 +1,6 @@
 use Rattle.std.proofs.Common.{◌≡◌, ◌∙◌, Some, None, inl, inr, refl, subst, sym, option_map}
 use Rattle.std.proofs.Common.{string_bytes}
-use Rattle.mq_world.specs.World.{Limits, fresh_world, within}
+use Rattle.mq_world.specs.World.{Limits, fresh_world, ruled, within}
 use Rattle.mq_router.specs.StandsFor.{StandsFor}
 use Rattle.mq_cli.specs.Program.{limits_by, script_file, IsScript, AnswersScript}
 use Rattle.mq_cli.proofs.ProgramLemmas.{IfErr-map, IfOk-begun, IfOk-file, BeginsIn-some}
@@ -10,7 +10,8 @@ use Rattle.mq_cli.proofs.program.run_options.Goals as goal
 pub returns-in_err-access-clause-prefix : goal.returns-in_err-access-clause-prefix
 returns-in_err-access-clause-prefix g c =
     let given = limits_by c.args.options.now.max_retained c.args.options.now.max_queued in
-    let begun = BeginsIn-some (option_map string_bytes c.args.options.now.acl_file) given in
+    let begun = BeginsIn-some c.args.options.now.rules
+    (option_map string_bytes c.args.options.now.acl_file) given in
     (begun.0, begun.1, WritesFront-none begun.0 _ _ _)
 
 -- ## The script is in a file
@@ -18,11 +19,11 @@ returns-in_err-access-clause-prefix g c =
 pub returns-in-Some-clause-ok : goal.returns-in-Some-clause-ok
 returns-in-Some-clause-ok g c = λ before taken.
     let given = limits_by c.args.options.now.max_retained c.args.options.now.max_queued in
-    let w = within given (fresh_world c.in_ok-access.access) in
-    let stands = subst (λ (limits : Limits). StandsFor c.with_limits-router.result
-    (within limits (fresh_world c.in_ok-access.access))) c.limits.ensures
-    c.with_limits-router.ensures in
-    IfOk-begun c.run_file.result _ given w
+    let w = ruled c.args.options.now.rules (within given (fresh_world c.in_ok-access.access)) in
+    let limited = subst (λ (limits : Limits). StandsFor c.with_limits.result
+    (within limits (fresh_world c.in_ok-access.access))) c.limits.ensures c.with_limits.ensures in
+    let stands = c.with_rules-router.ensures _ limited in
+    IfOk-begun c.run_file.result _ _ given w
     (IsScript (script_file (option_map string_bytes c.args.options.now.script))
     (g.S.Source.to_come c.args.input.now))
     (λ v script summary. AnswersScript v script before (g.W.Sink.taken c.run_file.new.out) summary)
@@ -33,11 +34,11 @@ returns-in-Some-clause-ok g c = λ before taken.
 
 pub returns-in-Some-clause-prefix : goal.returns-in-Some-clause-prefix
 returns-in-Some-clause-prefix g c =
-    let w = within (limits_by c.args.options.now.max_retained c.args.options.now.max_queued)
-    (fresh_world c.in_ok-access.access) in
-    let stands = subst (λ (limits : Limits). StandsFor c.with_limits-router.result
-    (within limits (fresh_world c.in_ok-access.access))) c.limits.ensures
-    c.with_limits-router.ensures in (
+    let given = limits_by c.args.options.now.max_retained c.args.options.now.max_queued in
+    let w = ruled c.args.options.now.rules (within given (fresh_world c.in_ok-access.access)) in
+    let limited = subst (λ (limits : Limits). StandsFor c.with_limits.result
+    (within limits (fresh_world c.in_ok-access.access))) c.limits.ensures c.with_limits.ensures in
+    let stands = c.with_rules-router.ensures _ limited in (
       w,
       (c.in_ok-access.access, c.in_ok-access.ensures.ok, refl),
       WritesFront-file w c.in-Some.file.now _ _ _ _ c.in-Some.ensures
@@ -60,11 +61,11 @@ returns-in-Some-clause-unreadable g c =
 pub returns-in-None-clause-ok : goal.returns-in-None-clause-ok
 returns-in-None-clause-ok g c = λ before taken.
     let given = limits_by c.args.options.now.max_retained c.args.options.now.max_queued in
-    let w = within given (fresh_world c.in_ok-access.access) in
-    let stands = subst (λ (limits : Limits). StandsFor c.with_limits-router.result
-    (within limits (fresh_world c.in_ok-access.access))) c.limits.ensures
-    c.with_limits-router.ensures in
-    IfOk-begun c.run_source.result _ given w
+    let w = ruled c.args.options.now.rules (within given (fresh_world c.in_ok-access.access)) in
+    let limited = subst (λ (limits : Limits). StandsFor c.with_limits.result
+    (within limits (fresh_world c.in_ok-access.access))) c.limits.ensures c.with_limits.ensures in
+    let stands = c.with_rules-router.ensures _ limited in
+    IfOk-begun c.run_source.result _ _ given w
     (IsScript (script_file (option_map string_bytes c.args.options.now.script))
     (g.S.Source.to_come c.args.input.now))
     (λ v script summary. AnswersScript v script before (g.W.Sink.taken c.run_source.new.out)
@@ -74,11 +75,11 @@ returns-in-None-clause-ok g c = λ before taken.
 
 pub returns-in-None-clause-prefix : goal.returns-in-None-clause-prefix
 returns-in-None-clause-prefix g c =
-    let w = within (limits_by c.args.options.now.max_retained c.args.options.now.max_queued)
-    (fresh_world c.in_ok-access.access) in
-    let stands = subst (λ (limits : Limits). StandsFor c.with_limits-router.result
-    (within limits (fresh_world c.in_ok-access.access))) c.limits.ensures
-    c.with_limits-router.ensures in (
+    let given = limits_by c.args.options.now.max_retained c.args.options.now.max_queued in
+    let w = ruled c.args.options.now.rules (within given (fresh_world c.in_ok-access.access)) in
+    let limited = subst (λ (limits : Limits). StandsFor c.with_limits.result
+    (within limits (fresh_world c.in_ok-access.access))) c.limits.ensures c.with_limits.ensures in
+    let stands = c.with_rules-router.ensures _ limited in (
       w,
       (c.in_ok-access.access, c.in_ok-access.ensures.ok, refl),
       rw (sym c.in-None.ensures) (c.run_source.ensures.prefix w stands),

@@ -1,12 +1,12 @@
-use Rattle.std.proofs.Common.{◌∙◌, ◌==◌, ℕ, List, Option, ap, ap₂, subst, sym, map, string_bytes}
+use Rattle.std.proofs.Common.{◌∙◌, ◌==◌, ℕ, List, Option, ap, subst, sym, map, string_bytes}
 use Rattle.std.proofs.Common.{codes, cond, refl}
-use Rattle.clap.specs.Words.{fault_of}
-use Rattle.mq_world.specs.World.{World, Limits, empty_world, within}
-use Rattle.mq_cli.specs.CommandLine.{mqroute, given}
-use Rattle.mq_cli.specs.Program.{script_file, limits_by, limits_given, BeginsIn, IsScript}
+use Rattle.mq_world.specs.World.{World}
+use Rattle.mq_cli.specs.CommandLine.{faults_in, given, rules_given}
+use Rattle.mq_cli.specs.Program.{script_file, limits_given, IsScript}
 use Rattle.mq_cli.specs.Program.{WritesFront}
 use Rattle.mq_cli.proofs.ProgramLemmas.{memory_only, none_from_map, told_two, told_three}
 use Rattle.mq_cli.proofs.ProgramLemmas.{told_unreadable, usage_memory, usage_done, begins_empty}
+use Rattle.mq_cli.proofs.ProgramLemmas.{begins_given}
 use Rattle.mq_cli.proofs.ProgramLemmas.{script_told, BeginsIn-some, WritesFront-none, prefix_given}
 use Rattle.mq_cli.proofs.program.start.Goals as goal
 
@@ -14,14 +14,14 @@ use Rattle.mq_cli.proofs.program.start.Goals as goal
 
 pub returns-in-Err-clause-with_files : goal.returns-in-Err-clause-with_files
 returns-in-Err-clause-with_files g c = λ before understood taken not_unread not_failed.
-    let memory = memory_only (fault_of mqroute (map string_bytes c.args.words.now)) c.in-Err.fault
+    let memory = memory_only (faults_in (map string_bytes c.args.words.now)) c.in-Err.fault
     understood c.in-Err.ensures.err in
     absurd (not_failed (usage_memory c.in-Err.fault c.report_usage.result _ _ _
     c.report_usage.ensures.tells memory).0)
 
 pub returns-in-Err-clause-answered : goal.returns-in-Err-clause-answered
 returns-in-Err-clause-answered g c = λ script before understood acl file to_come taken not_failed.
-    let memory = memory_only (fault_of mqroute (map string_bytes c.args.words.now)) c.in-Err.fault
+    let memory = memory_only (faults_in (map string_bytes c.args.words.now)) c.in-Err.fault
     understood c.in-Err.ensures.err in
     absurd (not_failed (usage_memory c.in-Err.fault c.report_usage.result _ _ _
     c.report_usage.ensures.tells memory).0)
@@ -29,12 +29,13 @@ returns-in-Err-clause-answered g c = λ script before understood acl file to_com
 pub returns-in-Err-clause-prefix : goal.returns-in-Err-clause-prefix
 returns-in-Err-clause-prefix g c = λ understood.
     let words = map string_bytes c.args.words.now in
-    let memory = memory_only (fault_of mqroute words) c.in-Err.fault understood c.in-Err.ensures.err
+    let memory = memory_only (faults_in words) c.in-Err.fault understood c.in-Err.ensures.err
     in
     let untouched =
     (usage_memory c.in-Err.fault c.report_usage.result _ _ _ c.report_usage.ensures.tells
     memory).1 in
-    let begun = BeginsIn-some (given (codes "acl-file") words) (limits_given words) in (
+    let begun = BeginsIn-some (rules_given words) (given (codes "acl-file") words)
+    (limits_given words) in (
       begun.0,
       begun.1,
       subst (WritesFront begun.0 (script_file (given (codes "script") words))
@@ -66,11 +67,7 @@ returns-in-Ok-run_options-clause-with_files g c = λ before understood taken not
     let words = map string_bytes c.args.words.now in
     let script : List ℕ = done.2 in (
       w,
-      subst (λ (limits : Limits). BeginsIn (given (codes "acl-file") words) limits w)
-          (ap₂ limits_by c.in-Ok.ensures.ok.max_retained c.in-Ok.ensures.ok.max_queued)
-          (subst (λ (file : Option (List ℕ)). BeginsIn file
-          (limits_by c.in-Ok.options.max_retained c.in-Ok.options.max_queued) w)
-          c.in-Ok.ensures.ok.acl_file done.1),
+      begins_given words c.in-Ok.options w c.in-Ok.ensures.ok done.1,
       script,
       subst (λ (file : Option (List ℕ)). IsScript (script_file file)
           (g.S.Source.to_come c.args.input.now) script) c.in-Ok.ensures.ok.script done.3,
@@ -85,12 +82,11 @@ pub returns-in-Ok-run_options-clause-answered : goal.returns-in-Ok-run_options-c
 returns-in-Ok-run_options-clause-answered g c =
     λ script before understood acl file to_come taken not_failed.
     let done = c.in-Ok-run_options.ensures.ok before taken in
-    let empty = begins_empty _ (limits_by c.in-Ok.options.max_retained c.in-Ok.options.max_queued)
-    done.0 (c.in-Ok.ensures.ok.acl_file ∙ acl) done.1 in
+    let words = map string_bytes c.args.words.now in
+    let limited = begins_empty (rules_given words) _ (limits_given words) done.0 acl
+    (begins_given words c.in-Ok.options done.0 c.in-Ok.ensures.ok done.1) in
     let same = script_told _ _ done.2 script (ap script_file c.in-Ok.ensures.ok.script ∙ file)
     to_come done.3 in
-    let limited = empty ∙ ap₂ (λ retained queued. within (limits_by retained queued) empty_world)
-    c.in-Ok.ensures.ok.max_retained c.in-Ok.ensures.ok.max_queued in
     rw (sym limited, sym same) (record {
       written = done.4.written;
       ended = c.exit_status.ensures ∙ ap (λ (n : ℕ). cond {A = ℕ} (n == 0) 0 1)

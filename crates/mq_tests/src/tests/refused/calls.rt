@@ -2,7 +2,7 @@
 use crate::tests::devices::Script;
 use crate::tests::refused::growth::{refuse, was_refused};
 use crate::tests::refused::trial::Trial;
-use mq_acl::Acl;
+use mq_acl::{Acl, Rules};
 use mq_cli::{arguments, read_acl};
 use mq_jsonl::read_line;
 use mq_topic::{SubFilter, TopicFilter, TopicName};
@@ -56,7 +56,10 @@ impl<'a> Call<'a> {
             Call::CloneFilter(filter) => told(rt, TopicFilter::clone(filter)),
             Call::CloneSubscription(wanted) => told(rt, SubFilter::clone(wanted)),
             Call::ReadList(text) => told(rt, Acl::read(alloc, text)),
-            Call::ReadListFile(bytes) => told(rt, read_acl(alloc, &mut Script::new(bytes, 100))),
+            Call::ReadListFile(bytes) => told(
+                rt,
+                read_acl(alloc, Rules::Own, &mut Script::new(bytes, 100)),
+            ),
             Call::ReadLine(line) => told(rt, read_line(alloc, line)),
             Call::ReadWords(words) => told(rt, arguments(alloc, words)),
             Call::ForName(tree, name) => told(rt, tree.for_name(name, &mut Steps::new())),

@@ -1,5 +1,5 @@
 //! A worked row: a script, with what must be written for it.
-use mq_acl::Acl;
+use mq_acl::{Acl, Rules};
 use mq_router::{Limits, Router};
 use std::process::Abort;
 
@@ -11,6 +11,7 @@ pub(crate) type Line<'a> = (u64, &'a str);
 pub(crate) struct Row<'a> {
     /// The text of the access list, which has no fault.
     pub(crate) acl: Option<&'a str>,
+    pub(crate) rules: Rules,
     pub(crate) limits: Limits,
     pub(crate) script: &'a str,
     pub(crate) output: &'a str,
@@ -20,10 +21,11 @@ impl<'a> Row<'a> {
     /// The router that the script begins with.
     pub(crate) fn router(self, rt: &(impl Abort + AllocGlobal)) -> Router {
         let alloc = rt.alloc();
-        let acl = self
-            .acl
-            .map(|text| Acl::read(alloc, text).expect(rt, "an access list"));
-        Router::with_limits(alloc, acl, self.limits)
+        let acl = self.acl.map(|text| Acl::read_by(alloc, self.rules, text).expect(
+            rt,
+            "an access list",
+        ));
+        Router::with_limits(alloc, acl, self.limits).with_rules(self.rules)
     }
 
     /// The lines of the script, twice over: so each has all others behind it.

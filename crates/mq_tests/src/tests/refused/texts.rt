@@ -61,10 +61,12 @@ pub(crate) const LISTS: [&str; 15] = [
     "topic read a/#\npattern deny a/%u\npattern read %u/#\nuser b\ntopic readwrite a/b c/#\n",
 ];
 
-pub(crate) const COMMAND_LINES: [&str; 6] = [
+pub(crate) const COMMAND_LINES: [&str; 8] = [
     "mqroute",
     "mqroute --acl-file f s",
     "mqroute -",
+    "mqroute --rules mosquitto",
+    "mqroute --rules x",
     "mqroute --bad",
     "mqroute a b",
     "mqroute --help",

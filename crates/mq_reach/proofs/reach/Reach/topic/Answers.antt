@@ -4,7 +4,9 @@ use Rattle.std.specs.List.{filter, list_any}
 use Rattle.std.specs.Option.{option_copied}
 use Rattle.std.proofs.lemmas.List.Elements.{All-contains, All-weaker}
 use Rattle.std.proofs.lemmas.Result.{err_from_is_err_and}
-use Rattle.mq_acl.specs.Access.{allowed, concerns, grants, is_deny}
+use Rattle.mq_acl.specs.AccessLists.{allow_by}
+use Rattle.mq_acl.specs.declared.rules.Rules.TheVariants.{Own}
+use Rattle.mq_acl.specs.Access.{concerns, grants, is_deny}
 use Rattle.mq_acl.specs.Lines.{Read}
 use Rattle.mq_acl.specs.Rows.{AclRow}
 use Rattle.mq_acl.specs.Views.{row_view}
@@ -27,7 +29,7 @@ returns-then-is_empty-clause-none c = λ name valid matched.
     let none : items ≡ [] = no_items c.in_ok-granting.granting.len items
     (let v = c.in_ok-granting.granting.ok.0 in omega arith)
     (sym c.is_empty.ensures ∙ c.if-is_empty.true) in
-    ap (λ l. allowed (Some l) client user name Reading) (sym c.self.view_is)
+    ap (λ l. allow_by Own l client user name Reading) (sym c.self.view_is)
     ∙ none-allowed rows (lent_rows items) denied client user row
     (λ n here. c.in_ok-granting.ensures.concerns granted c.self.invariant.grants_grouped client n
     here)
@@ -76,7 +78,7 @@ returns-clause-none c =
     let denied : List AclRow = filter (λ r. is_deny r.access) rows in
     none_then c.in_ok-found.found
     (λ none name valid matched.
-    ap (λ l. allowed (Some l) client user name Reading) (sym c.self.view_is)
+    ap (λ l. allow_by Own l client user name Reading) (sym c.self.view_is)
     ∙ none-allowed rows (lent_rows c.deref.result.now) (lent_rows c.deref-2.result.now) client user
     row
     (λ n here. ap (λ l. list_any (concerns client user n) (lent_rows l)) c.deref.ensures.value
@@ -106,6 +108,6 @@ returns-clause-some c =
     h.0 name h.1 h.2.decided in record {
       matched = sym (ap (concerns client user name) c.in_ok-row.ensures
           ∙ concerns-matched client user name c.args.filter.now Read) ∙ both.0;
-      may_read = ap (λ l. allowed (Some l) client user name Reading) (sym c.self.view_is) ∙ both.1;
+      may_read = ap (λ l. allow_by Own l client user name Reading) (sym c.self.view_is) ∙ both.1;
     }))
     c.in_ok-found.ensures.some

@@ -1,4 +1,5 @@
 use Rattle.std.proofs.Common.{◌≡◌, sym, subst, refl}
+use Rattle.mq_acl.specs.declared.rules.Rules.TheVariants.{Own}
 use Rattle.mq_world.specs.World.{fresh_world, within}
 use Rattle.mq_world.specs.Views.{limits_of}
 use Rattle.mq_router.specs.StandsFor.{State, StandsFor}
@@ -9,6 +10,7 @@ pub returns : goal.returns
 returns c =
     let held : State = record {
       limits = limits_of c.args.limits;
+      rules = Own;
       moment = c.start.result.moment;
       access = c.args.acl;
       sessions = c.new.result;

@@ -1,0 +1,29 @@
+-- What an access list allows, by its rules.
+use Rattle.std.specs.Prelude.{ℕ, Bool, true, List, Option, Some, None}
+use Rattle.mq_acl.specs.Access.{rows_allow}
+use Rattle.mq_acl.specs.Mosquitto.{mosquitto_allows}
+use Rattle.mq_acl.specs.Rows.{AclRow}
+use Rattle.mq_acl.specs.declared.access.Direction.{Direction}
+use Rattle.mq_acl.specs.declared.rules.Rules.{Rules}
+use Rattle.mq_acl.specs.declared.rules.Rules.TheVariants.{Own, Mosquitto}
+
+-- the rows of a list, and the rules by which they decide
+pub record AccessList : Type 0 where
+  pub rules : Rules
+  pub rows : List AclRow
+
+-- whether rows allow it by these rules
+abbrev pub allow_by : Rules → List AclRow → List ℕ → Option (List ℕ) → List ℕ → Direction → Bool
+allow_by Own rows client user name direction = rows_allow rows client user name direction
+allow_by Mosquitto rows client user name direction =
+    mosquitto_allows rows client user name direction
+
+-- without an access list everything is allowed (mosquitto.conf(5))
+unfoldable pub allowed : Option AccessList → List ℕ → Option (List ℕ) → List ℕ → Direction → Bool
+allowed None client user name direction = true
+allowed (Some list) client user name direction =
+    allow_by list.rules list.rows client user name direction
+
+-- the list of our own rules with these rows
+abbrev pub own_list : List AclRow → AccessList
+own_list rows = record { rules = Own; rows = rows }

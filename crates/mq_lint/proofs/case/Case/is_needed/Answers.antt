@@ -1,0 +1,9 @@
+use Rattle.mq_acl.specs.Views.{row_view}
+use Rattle.mq_lint.proofs.CaseLemmas.{needless_to}
+use Rattle.mq_lint.proofs.case.Case.is_needed.Goals as goal
+
+pub returns-clause-needless : goal.returns-clause-needless
+returns-clause-needless c = λ none.
+    let q = c.args.self.now.question in
+    needless_to q.asked.now q.clients (row_view q.row.now)
+    (c.in_ok-grants_more.ensures.needless c.if-branch.false) (c.in_ok-more.ensures.needless none)
