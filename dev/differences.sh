@@ -1,15 +1,20 @@
 #!/bin/sh
 # Runs every script of brokers/differences on a real mosquitto on loopback: differences.sh [PORT [NAME..]]
 # (each_script.sh says what is compared). Without names also: the broker starts with each of taken-*.acl, and doesn't
-# with any of refused-*.acl.
-# Wants mosquitto and python3-paho-mqtt.
+# with any of refused-*.acl; and by `mqroute --rules mosquitto` nothing differs in the scripts that only the rules of
+# access lists tell apart.
+# Wants mosquitto and python3-paho-mqtt, and for the last bin/mqroute.
 set -eu
 . "$(dirname "$0")/each_script.sh"
 cd "$(dirname "$0")/../brokers/differences"
 listening=${1:-18872}
 [ $# -gt 0 ] && shift
-lists=
-[ $# -gt 0 ] || { set -- *.jsonl; lists=$(echo refused-*.acl taken-*.acl); }
+lists= alike=
+[ $# -gt 0 ] || {
+    set -- *.jsonl
+    lists=$(echo refused-*.acl taken-*.acl)
+    alike="deny-across-kinds dollar-in-pattern empty-user slash-in-names tab-after-access wild-client-ids"
+}
 
 begin() {
     printf 'listener %s 127.0.0.1\nallow_anonymous true\nuser %s\npersistence false\nsys_interval 0\nlog_dest none\n' "$listening" "$(id -un)" > "$work/conf"
@@ -27,6 +32,15 @@ begin() {
 }
 
 compare_each "$listening" "--on-acl $work/on-acl" "$@"
+for name in $alike; do
+    begin "$name"
+    "$tools/../bin/mqroute" --rules mosquitto --acl-file "$name.acl" "$name.jsonl" > "$work/out" || [ $? -eq 1 ]
+    /usr/bin/python3 "$tools/replay.py" --port "$listening" --on-acl "$work/on-acl" --rules mosquitto --acl-file "$name.acl" \
+        "$name.jsonl" "$work/out" || { echo "$name differs by mosquitto's rules"; status=1; }
+    kill $broker
+    wait $broker || true
+    broker=
+done
 for list in $lists; do
     case $list in refused-*) wanted=3 ;; *) wanted=124 ;; esac  # 124: it runs until it is ended
     cp "$list" "$work/acl"

@@ -83,6 +83,8 @@ class Tab(unittest.TestCase):
         self.assertEqual(self.words(tools, "mqroute-tools who-loses --by us\tne\t"),
                          ["who-loses", "--by", "user", FILES[0]])
         self.assertEqual(self.words("mqroute", "mqroute --max-queued ne\t"), ["--max-queued", "ne"])
+        self.assertEqual(self.words("mqroute", "mqroute --rules mo\t"), ["--rules", "mosquitto"])
+        self.assertEqual(self.words(tools, "mqroute-search --rules=o\t"), ["--rules=own"])
         self.assertEqual(self.words("mqroute-acl", "mqroute-acl rea\t"), ["reach"])
         self.assertEqual(self.words("mqroute-acl", "mqroute-acl why --user ne\t"),
                          ["why", "--user", "ne"])

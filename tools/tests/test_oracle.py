@@ -115,6 +115,16 @@ class OneByOne(unittest.TestCase):
         self.assertEqual(
             [oracle.answers(command) for command in script], self.oracle(**more).run(script))
 
+    def test_rules(self):
+        """Those of mosquitto take marks within levels, and let `topic` lines decide first."""
+        text = "pattern deny #\npattern x%c\ntopic readwrite ä\n"
+        oracle = self.oracle(acl=text, rules="mosquitto")
+        found = oracle.run([*CONNECT, PUBLISH, {"do": "acl", "text": text}])
+        self.assertEqual(found[2:], [[{"line": 3, "reason": 16}], [{"line": 4, "reason": 0}]])
+        for more in ({}, {"rules": "own"}):
+            with self.assertRaisesRegex(OracleFault, "line 2: Pattern"):
+                self.oracle(acl=text, **more).answers(CONNECT[0])
+
     def test_begun_anew_after_the_end(self):
         oracle = self.oracle()
         for _ in range(2):

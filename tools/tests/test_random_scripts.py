@@ -7,7 +7,7 @@ from mqroute import Oracle
 from mqroute_tools.script.fresh_names import fresh, with_names
 from mqroute_tools.search.difference_kinds import Difference, Kind, separate, uses
 from mqroute_tools.search.exercised import Exercised
-from mqroute_tools.search.parts import ACCESS, CLOCK, PARTS, Use
+from mqroute_tools.search.parts import ACCESS, CLOCK, MARKS, PARTS, Use
 from mqroute_tools.search.random_scripts import Maker
 from mqroute_tools.search.shrinking import connected, shrink
 
@@ -73,6 +73,15 @@ class Scripts(unittest.TestCase):
                              [{"do": "subscribe", "client": "aZ", "filter": wanted}])
         self.assertEqual(fresh([PUBLISH | {"payload": "x"}], "Z"),
                          [PUBLISH | {"client": "aZ", "topic": "xZ", "payload": "x"}])
+
+    def test_fresh_letters(self):
+        """What is put together of names still is."""
+        for client, user, topic, text in (
+                ("aZ/bZ", "uZ", "$xZ/1", "user uZ vZ\npattern deny %caZ/%u#\n# it\ntopic xZ\n"),
+                ("%cbZ", "", "$SYS/xZyZ", ""), ("+/#", "%u", "/", "user \n")):
+            wanted = {"do": "connect", "client": client, "user": user, "topic": topic, "text": text}
+            plain = {field: value.replace("Z", "") for field, value in wanted.items()}
+            self.assertEqual(fresh([plain], "Z", True), [wanted])
 
 
 class Shrinks(unittest.TestCase):
@@ -177,6 +186,7 @@ class AccessLists(unittest.TestCase):
             return sum(any(command["do"] == "acl" for command in maker.script(number))
                        for number in range(100))
         self.assertEqual(lists(Use()), 0)
+        self.assertGreater(lists(Use().with_part(MARKS)), 20)
         self.assertGreater(lists(Use(frozenset([*PARTS, ACCESS]))), 50)
 
     def test_a_line_that_decides_nothing_is_left_out(self):

@@ -1,5 +1,6 @@
 """The search, on brokers that answer as mqroute but for a planted bug; and on a
 mosquitto, where there is one."""
+import getpass
 import json
 import os
 import subprocess
@@ -236,14 +237,14 @@ class Known(unittest.TestCase):
 class Live(unittest.TestCase):
     """On a mosquitto of its own."""
 
-    def start(self) -> int:
+    def start(self, more: str = "") -> int:
         folder = tempfile.TemporaryDirectory()
         self.addCleanup(folder.cleanup)
         port = mosquitto.free_port()
         conf = Path(folder.name, "conf")
         conf.write_text(f"listener {port} 127.0.0.1\nallow_anonymous true\npersistence false\n"
-                        "sys_interval 0\nlog_dest none\nmax_qos 1\n")
-        mosquitto.start(self, conf, port)
+                        f"sys_interval 0\nlog_dest none\nmax_qos 1\n{more}")
+        self.broker = mosquitto.start(self, conf, port)
         return port
 
     def run_tool(self, *words: str) -> tuple[int, str, str]:
@@ -287,6 +288,18 @@ class Live(unittest.TestCase):
         self.assertEqual((status, out), (0, ""), told)
         self.assertRegex(told, r"search: exercised: \d+ of 20 scripts: .*\n"
                          r"search: 20 scripts of seed 1, 20 runs in \d+ s; 0 new kinds")
+
+    def test_access_lists_by_the_rules_of_mosquitto(self):
+        with tempfile.TemporaryDirectory() as folder:
+            acl = Path(folder, "acl")
+            acl.write_text("")
+            port = str(self.start(f"acl_file {acl}\nuser {getpass.getuser()}\n"))
+            on_acl = f'cp "$MQROUTE_ACL" {acl} && kill -HUP {self.broker}'
+            words = ["--port", port, "--scripts", "3", "--seed", "2", "--on-acl", on_acl,
+                     "--without", "groups,retained,sessions,expiry,options,identifiers,wills"]
+            status, out, told = self.run_tool(*words, "--rules", "mosquitto")
+            self.assertEqual((status, out), (0, ""), told)
+            self.assertIn("a publish denied", told)
 
     def test_repeatable(self):
         """A find has the number of its script, which finds it again; saved, it is known."""

@@ -20,7 +20,7 @@ from ..common.messages import counted, in_words, tell
 from ..common.option_values import whole_number
 from ..common.progress import Progress
 from ..script.commands import Seen, line_faults
-from ..script.oracle import Oracle
+from ..script.oracle import RULES, Oracle
 from ..script.output import Block, Command, blocks, by_key, is_blank, misfit
 from .options import BrokerOptions, add_broker, add_waiting
 from .replay_options import add_all, look_at_options
@@ -73,11 +73,12 @@ def offered(replay: "Replay", options: argparse.Namespace, script: list[bytes],
     if not told:
         return lines
     acl = read_list(options.acl_file) if options.acl_file else None
-    with Oracle(acl, options.max_retained, options.max_queued) as oracle:
+    with Oracle(acl, options.max_retained, options.max_queued, rules=options.rules) as oracle:
         if answers(oracle.words, b"".join(script)) != given:
             lacking = ", ".join(what.partition(": ")[0] for what in told)
             raise Fault(f"{lacking}: mqroute has to run again, and wrote {options.output} "
-                        "with other options. Give its --acl-file, --max-retained and --max-queued")
+                        "with other options. Give its --acl-file, --rules, --max-retained and "
+                        "--max-queued")
         again = answers(oracle.words, b"".join(fitted))
     replay.remarks += told
     return list(runnable(fitted, iter(again), (options.script, "mqroute's answer")))
@@ -167,6 +168,7 @@ def add_arguments(parser: argparse.ArgumentParser) -> None:
     parser.add_argument("--acl-file", metavar="FILE",
                         help="the access list with which mqroute wrote OUTPUT: it runs again where "
                         "the broker doesn't offer all that the script asks for")
+    parser.add_argument("--rules", choices=RULES, help="the rules with which it did")
     parser.add_argument("--max-retained", type=whole_number(0), metavar="N",
                         help="the limit with which it did")
     parser.add_argument("--max-queued", type=whole_number(0), metavar="N",

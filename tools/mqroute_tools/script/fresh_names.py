@@ -1,4 +1,5 @@
 """Scripts with names of their own, so that nothing that a broker still keeps of others is met."""
+import re
 import secrets
 from collections.abc import Callable, Iterable
 
@@ -7,6 +8,11 @@ from .output import Command
 MARK = "Z"  # around what is counted
 MEANT = ("", "+", "#", "%c", "%u")  # levels that stand for something
 FIRST = ("$share", "$SYS")  # and those that do where they are the first
+LETTER = re.compile(r"%[cu]|[^\W\d_]")  # a mark of access lists is none
+# What stands before the name in a line of an access list, and the name.
+NAMED_LINE = re.compile(
+    r"^( *(?:user[ \t]+|(?:topic|pattern) +(?:(?:read|write|readwrite|deny)[ \t]+(?=\S))?))(.*)",
+    re.M)
 
 
 class Marks:
@@ -41,8 +47,27 @@ def with_name(line: str, named: Callable[[str], str]) -> str:
     return f"{words} {named(name)}{line[len(text):]}"
 
 
-def fresh(script: Iterable[Command], mark: str) -> list[Command]:
-    return [command | fresh_fields(command, mark) for command in script]
+def by_letter(name: str, mark: str) -> str:
+    """Each letter with the mark behind it: a name that is put together of others stays so."""
+    return LETTER.sub(lambda found: found[0] if found[0][0] == "%" else found[0] + mark, name)
+
+
+def fresh_by_letter(command: Command, mark: str) -> Command:
+    """All names but `$share` and `$SYS`, those of users too; of no retained message or session."""
+    def named(name: str) -> str:
+        first, slash, rest = name.partition("/")
+        return (first if first in FIRST else by_letter(first, mark)) + slash + by_letter(rest, mark)
+
+    fields = {field: named(command[field])
+              for field in ("client", "user", "topic", "filter") if field in command}
+    if "text" in command:
+        fields["text"] = NAMED_LINE.sub(lambda line: line[1] + named(line[2]), command["text"])
+    return fields
+
+
+def fresh(script: Iterable[Command], mark: str, letters: bool = False) -> list[Command]:
+    fields = fresh_by_letter if letters else fresh_fields
+    return [command | fields(command, mark) for command in script]
 
 
 def fresh_fields(command: Command, mark: str) -> Command:

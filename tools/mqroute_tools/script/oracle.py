@@ -11,6 +11,9 @@ from ..common.programs import find_program
 from .output import Answer, Block, Command, blocks_of
 
 
+RULES = ("own", "mosquitto")  # of access lists
+
+
 class OracleFault(Exception):
     """The program is not there, or it ended with another status than 0 and 1."""
 
@@ -59,13 +62,16 @@ class Oracle:
     """Answers commands one by one, in a world that lasts until `close`; and whole scripts, each in
     a world of its own.
 
-    `acl` is the text of an access list; without one everything is allowed. The limits are those of
-    the program's options.
+    `acl` is the text of an access list; without one everything is allowed. The limits and the
+    rules of access lists, "own" or "mosquitto", are those of the program's options.
     """
 
     def __init__(self, acl: str | None = None, max_retained: int | None = None,
-                 max_queued: int | None = None, program: str | None = None) -> None:
+                 max_queued: int | None = None, program: str | None = None,
+                 rules: str | None = None) -> None:
         self.words = [program or found_program()]
+        if rules is not None:
+            self.words.append(f"--rules={rules}")
         for name, limit in (("--max-retained", max_retained), ("--max-queued", max_queued)):
             if limit is not None:
                 self.words.append(f"{name}={limit}")

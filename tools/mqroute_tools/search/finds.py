@@ -92,6 +92,7 @@ class Search:
     scripts: int = 0  # that were run to their end
     number: int = 0  # of the script that is looked at
     time_is_up: bool = False
+    by_letter: bool = False  # whether the mark of a script stands behind each letter of its names
 
     def __post_init__(self) -> None:
         self.marks = Marks()
@@ -101,7 +102,7 @@ class Search:
         """What differs, with names that no script before had."""
         self.runs += 1
         mark = self.marks.next()
-        marked = fresh(script, mark)
+        marked = fresh(script, mark, self.by_letter)
         self.ran = marked, blocks = marked, self.oracle.blocks(marked)
         try:
             found = self.broker.run(marked, blocks, self.until, patience)

@@ -4,10 +4,10 @@ from typing import NamedTuple
 
 PARTS = ("groups", "retained", "wildcards", "identifiers", "sessions", "expiry", "options",
          "dollar", "wills", "qos2", "qos")
-# Access lists, where the broker can be given them; and pauses in real time, where they are asked
-# for.
-ACCESS, CLOCK = "access", "clock"
-ALL = (*PARTS, ACCESS, CLOCK)
+# Access lists, where the broker can be given them; pauses in real time, where they are asked
+# for; and names and marks that access lists by mosquitto's rules make much of.
+ACCESS, CLOCK, MARKS = "access", "clock", "marks"
+ALL = (*PARTS, ACCESS, CLOCK, MARKS)
 # Of MQTT 3.1.1 a session is kept for ever or not at all.
 OLD_SESSIONS = "sessions of MQTT 3.1.1"
 

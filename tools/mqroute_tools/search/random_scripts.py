@@ -6,7 +6,8 @@ from typing import NamedTuple
 from ..live.wills import PAYLOAD
 from ..script.output import Command
 from ..script.sessions import FOREVER
-from .parts import ACCESS, CLOCK, OLD_SESSIONS, PARTS, Use
+from .odd_names import odd_script
+from .parts import ACCESS, CLOCK, MARKS, OLD_SESSIONS, PARTS, Use
 from .random_lists import USERS, random_list
 
 CLIENTS = "abcd"
@@ -25,6 +26,7 @@ LONG = 2000  # bytes of a long payload
 MANY = 60  # retained messages, where there are many
 # How often a script has a scene, of those that the parts allow; and how often one of the clock.
 SCENES, CLOCK_SCENES, MANY_SCENES = 0.6, 0.03, 0.03
+ODD_SCRIPTS, ODD_LISTS = 0.5, 3  # how often a script is of odd names; the lists that it tries
 
 
 class Maker:
@@ -34,7 +36,10 @@ class Maker:
         self.seed, self.use = seed, use
 
     def script(self, number: int) -> list[Command]:
-        return RandomScript(random.Random(f"{self.seed}/{number}"), self.use).made()
+        chance = random.Random(f"{self.seed}/{number}")
+        if self.use.has(MARKS) and chance.random() < ODD_SCRIPTS:
+            return odd_script(chance, ODD_LISTS, min(1, self.use.qos()))
+        return RandomScript(chance, self.use).made()
 
 
 class Names(NamedTuple):

@@ -20,10 +20,10 @@ from ..common.option_values import amount, whole_number
 from ..live.offer import Offer
 from ..live.options import BrokerOptions, add_broker, add_waiting
 from ..live.started_broker import started
-from ..script.oracle import Oracle, OracleFault
+from ..script.oracle import RULES, Oracle, OracleFault
 from .finds import Find, Search
 from .known import Known, known_differences
-from .parts import ACCESS, ALL, CLOCK, OLD_SESSIONS, Use
+from .parts import ACCESS, ALL, CLOCK, MARKS, OLD_SESSIONS, Use
 from .random_scripts import Maker
 from .search_report import Report
 
@@ -49,6 +49,7 @@ def offered(offer: Offer, options: argparse.Namespace) -> Use:
     use = Use()
     if options.on_acl:
         use = use.with_part(ACCESS).without(["dollar"])
+        use = use.with_part(MARKS) if options.rules == "mosquitto" else use
     if options.clock:
         use = use.with_part(CLOCK)
     use = use.without(part for part, lacking in lacks.items() if lacking)
@@ -108,6 +109,9 @@ def add_what(parser: argparse.ArgumentParser) -> None:
                         help="try access lists too: what the shell does to let the broker read the "
                         "one in the file $MQROUTE_ACL, "
                         "as by: cp \"$MQROUTE_ACL\" /tmp/acl && kill -HUP 123")
+    parser.add_argument("--rules", choices=RULES,
+                        help="those by which mqroute reads access lists and decides: with "
+                        "mosquitto half of the scripts have odd names (default own)")
     parser.add_argument("--clock", action="store_true",
                         help="let some scripts wait in real time, for sessions and messages that "
                         "expire")
@@ -150,7 +154,7 @@ def run(options: argparse.Namespace) -> int:
              for one in known_differences(folder, bool(options.on_acl), options.clock)]
     where = BrokerOptions.of(options)
     try:
-        with Oracle() as oracle, started(options.start, where):
+        with Oracle(rules=options.rules) as oracle, started(options.start, where):
             return on_broker(where, oracle, known, options).status()
     except OracleFault as fault:
         raise Fault(str(fault)) from fault
@@ -162,5 +166,5 @@ def on_broker(where: BrokerOptions, oracle: Oracle, known: list[Known],
     until = time.monotonic() + 60 * options.minutes
     broker = LiveBroker(where)
     tell_of_held(broker.held)
-    search = Search(broker, oracle, until)
+    search = Search(broker, oracle, until, by_letter=options.rules == "mosquitto")
     return searched(search, offered(broker.offer, options), known, options)
