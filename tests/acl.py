@@ -3,18 +3,16 @@
 compares what it writes and its statuses; then on random small lists, beside a check of every
 client, user and topic of few levels.
 """
-import itertools
 import json
 import pathlib
-import random
-import subprocess
 import sys
 import tempfile
 
 from faults import is_absent, status_of
+from plain_lists import MosquittoRules, OwnRules
+from random_lists import PROGRAM, faults_of_known_pairs, faults_of_random, no_command, run
 
 TOP = pathlib.Path(__file__).resolve().parent.parent
-PROGRAM = TOP / "bin/mqroute-acl"
 EXAMPLE = TOP / "examples/access-list"
 
 # The walk-through: arguments, status, and what is written.
@@ -33,8 +31,8 @@ that doesn't begin with $
 3 differences
 """),
     (["compare", "current.acl", "current.acl"], 0,
-     "both lists allow the same, on every topic, to every client id and user name a broker can "
-     "have\n"),
+     "by mqroute's own rules both lists allow the same, on every topic, to every client id and "
+     "user name a broker can have\n"),
     (["why", "current.acl", "screen", "mill/energy/east"], 0, """\
 may read: current.acl:4  topic read mill/energy/#
 may not write: no line allows it
@@ -92,8 +90,6 @@ ODD_SCRIPT = """\
 {"do":"connect","client":"","user":"u"}
 {"do":"subscribe","client":"","filter":"a"}
 """
-FAULTY_LINES = ["x", '{"do":"melt"}', '{"do":"connect"}', '{"do":"stat","extra":1}', "[]",
-                '{"do":"subscribe","client":"c1"}']
 
 # What is told of lines by lint: their text, and what is told.
 REMARKED = """\
@@ -187,14 +183,9 @@ MISUSED = [
 ]
 
 
-def run(words, folder=EXAMPLE, given=""):
-    return subprocess.run(
-        [PROGRAM, *words], cwd=folder, input=given, capture_output=True, text=True, timeout=60)
-
-
 def faults_of_walk():
     for words, status, wanted in WALK:
-        done = run(words)
+        done = run(words, EXAMPLE)
         if (done.returncode, done.stdout, done.stderr) != (status, wanted, ""):
             yield f"{' '.join(words)}: status {done.returncode}\n{done.stdout}{done.stderr}"
 
@@ -206,7 +197,7 @@ def faults_of_input():
         for place in (n for n, word in enumerate(words) if word.endswith((".acl", ".jsonl"))):
             name = words[place].removeprefix("--script=")
             asked = [*words[:place], words[place].replace(name, "-"), *words[place + 1:]]
-            done = run(asked, given=(EXAMPLE / name).read_text())
+            done = run(asked, EXAMPLE, given=(EXAMPLE / name).read_text())
             if (done.returncode, done.stdout.split(), done.stderr) != (
                     status, wanted.replace(name, "-").split(), ""):
                 yield f"{' '.join(asked)}: status {done.returncode}\n{done.stdout}{done.stderr}"
@@ -269,344 +260,13 @@ def faults_of_refusals(folder):
         if (done.returncode, done.stderr) != (2, f"latin.acl:{line}: not UTF-8\n"):
             yield f"{text}: status {done.returncode}: {done.stderr}"
     for words, told in MISUSED:
-        done = run(words)
+        done = run(words, EXAMPLE)
         if done.returncode != 2 or done.stdout or told not in done.stderr:
             yield f"{' '.join(words)}: status {done.returncode}: {done.stdout}{done.stderr}"
     for words in (["--help"], ["help"], ["compare", "--help"], ["help", "why"]):
-        done = run(words)
+        done = run(words, EXAMPLE)
         if done.returncode != 0 or done.stderr or "Usage: " not in done.stdout:
             yield f"{' '.join(words)}: status {done.returncode}: {done.stderr}"
-
-
-# What a list allows, as plainly as it can be said (mosquitto.conf(5), `acl_file`; docs/DECISIONS.md
-# has our own rules).
-
-
-def rows_of(text):
-    user, rows = None, []
-    for number, line in enumerate(text.split("\n"), 1):
-        word, _, rest = line.partition(" ")
-        if word == "user":
-            user = rest
-        elif word in ("topic", "pattern"):
-            access, _, topic = rest.partition(" ")
-            owner = None if word == "pattern" else user
-            rows.append((number, word == "pattern", owner, access, topic, topic.split("/")))
-    return rows
-
-
-def level_fits(wanted, level, is_pattern, client, user):
-    if is_pattern and wanted == "%c":
-        return level == client
-    if is_pattern and wanted == "%u":
-        return user is not None and level == user
-    return wanted in ("+", level)
-
-
-def covers(row, client, user, levels):
-    _, is_pattern, owner, _, text, wanted = row
-    if not is_pattern and owner != user:
-        return False
-    if levels[0].startswith("$") and not text.startswith("$"):
-        return False
-    if wanted[-1] == "#":
-        wanted = wanted[:-1]
-        levels = levels[:len(wanted)]
-    return (len(wanted) == len(levels)
-            and all(level_fits(w, l, is_pattern, client, user) for w, l in zip(wanted, levels)))
-
-
-def deciding(rows, client, user, topic, access):
-    """The number of the first line that denies, and of the first that grants."""
-    levels = topic.split("/")
-    concerned = [row for row in rows if covers(row, client, user, levels)]
-    deny = next((row[0] for row in concerned if row[3] == "deny"), None)
-    return deny, next((row[0] for row in concerned if row[3] in (access, "readwrite")), None)
-
-
-def allowed(rows, client, user, topic, access):
-    deny, grant = deciding(rows, client, user, topic, access)
-    return deny is None and grant is not None
-
-
-def accesses(rows, client, user, topic):
-    """Which of reading and writing are allowed."""
-    levels = topic.split("/")
-    words = {row[3] for row in rows if covers(row, client, user, levels)}
-    if "deny" in words:
-        return set()
-    return {access for access in ("read", "write") if access in words or "readwrite" in words}
-
-
-LEVELS = ["a", "b", "", "$s", "c1", "u1"]
-USERS = [None, "u1", "u2", "zz"]
-CLIENTS = ["c1", "a", "u1", "q"]
-TOPICS = sorted(
-    {"/".join(levels) for count in (1, 2)
-     for levels in itertools.product(LEVELS + ["x", "$x"], repeat=count)} - {""}
-    | {*CLIENTS, *(user for user in USERS if user)}
-    | {"/".join(levels) for levels in itertools.product(["a", "", "$s", "c1", "u1"], repeat=3)})
-
-
-def random_filter(chance, is_pattern):
-    levels = [chance.choice(LEVELS + ["+", "+"] + (["%c", "%u"] if is_pattern else []))
-              for _ in range(chance.randint(1, 3))]
-    if chance.random() < 0.35:
-        levels[-1] = "#"
-    return "/".join(levels) or "a"
-
-
-def random_list(chance):
-    lines = []
-    for _ in range(chance.randint(0, 6)):
-        if chance.random() < 0.2:
-            lines.append("user " + chance.choice(["u1", "u2", "a"]))
-        is_pattern = chance.random() < 0.4
-        access = chance.choice(["read", "write", "readwrite", "deny"])
-        lines.append(
-            f"{'pattern' if is_pattern else 'topic'} {access} {random_filter(chance, is_pattern)}")
-    return lines
-
-
-def near(chance, lines):
-    """The list, with a line or two more or less."""
-    lines = list(lines)
-    for _ in range(chance.randint(0, 2)):
-        if lines and chance.random() < 0.5:
-            lines.pop(chance.randrange(len(lines)))
-        else:
-            lines[chance.randint(0, len(lines)):0] = random_list(chance)[:1]
-    return lines
-
-
-def faults_of_told(told, old, new):
-    """What is wrong with a difference that is told."""
-    client, user, topic, access = told["client"], told["user"], told["topic"], told["access"]
-    by_old, by_new = (allowed(rows, client, user, topic, access) for rows in (old, new))
-    if (by_old, by_new) != ((False, True) if told["change"] == "gained" else (True, False)):
-        yield "is none"
-    for rows, line in ((old, told["old"]), (new, told["new"])):
-        deny, grant = deciding(rows, client, user, topic, access)
-        if (line and line["line"]) != (deny if deny is not None else grant):
-            yield f"is decided by line {deny} or {grant}"
-
-
-def line_that_decides(rows, client, user, topic, access):
-    """The first line that denies, else the first that grants."""
-    deny, grant = deciding(rows, client, user, topic, access)
-    return grant if deny is None else deny
-
-
-def number_of(line):
-    return line and line["line"]
-
-
-def faults_of_compare(folder, old, new):
-    """Of each class of clients, access and way a difference is listed; and where no line has a
-    mark, of each pair of lines that decides."""
-    done = run(["compare", "--json", "old.acl", "new.acl"], folder)
-    told = [json.loads(line) for line in done.stdout.splitlines()]
-    old_rows, new_rows = rows_of(old), rows_of(new)
-    for difference in told:
-        for fault in faults_of_told(difference, old_rows, new_rows):
-            yield f"{difference} {fault}"
-    if done.returncode != (1 if told else 0) or done.stderr:
-        yield f"status {done.returncode}: {done.stderr}"
-    named = {row[2] for row in old_rows + new_rows} - {None}
-    by_lines = "%" not in old + new
-
-    def kind(user, access, change, *lines):
-        whom = user if user is None or user in named else "other users"
-        return (whom, access, change, *lines) if by_lines else (whom, access, change)
-
-    kinds = {kind(d["user"], d["access"], d["change"], number_of(d["old"]), number_of(d["new"]))
-             for d in told}
-    for user, client, topic in itertools.product(USERS, CLIENTS, TOPICS):
-        by_old = accesses(old_rows, client, user, topic)
-        by_new = accesses(new_rows, client, user, topic)
-        for access in by_old ^ by_new:
-            lines = [line_that_decides(rows, client, user, topic, access)
-                     for rows in (old_rows, new_rows)]
-            if kind(user, access, "gained" if access in by_new else "lost", *lines) not in kinds:
-                yield (f"{user} differs in {access} {topic} as {client} by lines {lines}, which "
-                       "isn't listed")
-                return
-
-
-def faults_of_known_pairs(folder):
-    """Names that begin with `$` beside others; and as many differences as a list has lines."""
-    many = "".join(f"topic read a/{place}\n" for place in range(1000))
-    for old, new, count in (
-            ("topic read a\n", "topic read a\ntopic read b\ntopic read $SYS/#\n", 2),
-            (many, "topic read b\n", 1001)):
-        pathlib.Path(folder, "old.acl").write_text(old)
-        pathlib.Path(folder, "new.acl").write_text(new)
-        yield from faults_of_compare(folder, old, new)
-        told = run(["compare", "old.acl", "new.acl"], folder).stdout.splitlines()[-1:]
-        if told != [f"{count} differences"]:
-            yield f"compare: {told}, not {count} differences"
-
-
-def faults_of_why(folder, chance, text):
-    rows = rows_of(text)
-    client, user, topic = chance.choice(CLIENTS), chance.choice(USERS), chance.choice(TOPICS)
-    words = (["why", "--json", "old.acl"] + ([] if user is None else [f"--user={user}"])
-             + ["--", client, topic])
-    done = run(words, folder)
-    told = [json.loads(line) for line in done.stdout.splitlines()]
-    if done.returncode != 0 or [each["access"] for each in told] != ["read", "write"]:
-        yield f"{words}: status {done.returncode}: {done.stdout}{done.stderr}"
-        return
-    for each in told:
-        deny, grant = deciding(rows, client, user, topic, each["access"])
-        if ((each["deny"] and each["deny"]["line"]), (each["grant"] and each["grant"]["line"])) != (
-                deny, grant):
-            yield f"{words}: {each}, not {deny} and {grant}"
-        if each["allowed"] != allowed(rows, client, user, topic, each["access"]):
-            yield f"{words}: {each}"
-
-
-def filter_matches(text, topic):
-    """MQTT 5.0, section 4.7."""
-    wanted, levels = text.split("/"), topic.split("/")
-    if levels[0].startswith("$") and wanted[0] in ("+", "#"):
-        return False
-    if wanted[-1] == "#":
-        wanted.pop()
-        levels = levels[:len(wanted)]
-    return len(wanted) == len(levels) and all(w in ("+", l) for w, l in zip(wanted, levels))
-
-
-def faults_of_reach(folder, chance, text):
-    rows = rows_of(text)
-    client, user = chance.choice(CLIENTS), chance.choice(USERS)
-    wanted = random_filter(chance, False)
-    share = chance.choice(["", "", "$share/g/"])
-    words = (["reach", "--json", "old.acl"] + ([] if user is None else [f"--user={user}"])
-             + ["--", client, share + wanted])
-    done = run(words, folder)
-    told = json.loads(done.stdout)
-    if told["filter"] != share + wanted or done.returncode != (1 if told["topic"] is None else 0):
-        yield f"{words}: status {done.returncode}: {done.stdout}{done.stderr}"
-    for topic in TOPICS if told["topic"] is None else [told["topic"]]:
-        is_reached = filter_matches(wanted, topic) and allowed(rows, client, user, topic, "read")
-        if is_reached == (told["topic"] is None):
-            yield f"{words}: {told}, and {topic} is {'' if is_reached else 'not '}reached"
-            return
-
-
-# Topics with all that small lists and filters tell apart: no row has more than three levels, %c and
-# %u are names.
-NAMES = sorted({*LEVELS, *CLIENTS, *(user for user in USERS if user), "x", "$x"})
-DEEP = ["/".join(levels) for count in (2, 3) for levels in itertools.product(NAMES, repeat=count)]
-DEEP += [topic + "/x" for topic in DEEP]
-
-
-def is_reached(rows, client, user, text):
-    """Whether the client may read some topic that the subscription's filter matches."""
-    wanted = text.split("/", 2)[2] if text.startswith("$share/") else text
-    return any(filter_matches(wanted, topic) and allowed(rows, client, user, topic, "read")
-               for topics in (TOPICS, DEEP) for topic in topics)
-
-
-class Sessions:
-    """The sessions of clients, and each subscription with the user names of its session while that
-    keeps it."""
-
-    def __init__(self):
-        self.users, self.kept, self.connected, self.stays = {}, {}, set(), set()
-        self.subscriptions = []
-
-    def connect(self, client, user, resumes, stays):
-        self.disconnect(client)
-        if not resumes:
-            self.kept.pop(client, None)
-        self.users[client] = user
-        self.connected.add(client)
-        (self.stays.add if stays else self.stays.discard)(client)
-        for subscription in self.kept.setdefault(client, {}).values():
-            subscription[-1].append(user)
-
-    def disconnect(self, client):
-        if client in self.connected and client not in self.stays:
-            self.kept.pop(client, None)
-        self.connected.discard(client)
-
-    def subscribe(self, number, client, text):
-        if client in self.connected:
-            user = self.users[client]
-            self.kept[client][text] = (number, client, user, text, [user])
-            self.subscriptions.append(self.kept[client][text])
-
-    def unsubscribe(self, client, text):
-        if client in self.connected:
-            self.kept[client].pop(text, None)
-
-
-def random_script(chance):
-    """The lines of a script, its subscriptions, each with its line, client, user, filter and the
-    user names of its session, and its faulty lines."""
-    lines, sessions, faulty = [], Sessions(), []
-    for number in range(1, chance.randint(2, 18)):
-        client, user = chance.choice(CLIENTS), chance.choice(USERS)
-        known = [each[3] for each in sessions.subscriptions if each[1] == client]
-        kind = chance.random()
-        if kind < 0.35:
-            resumes, stays = chance.random() < 0.7, chance.random() < 0.7
-            sessions.connect(client, user, resumes, stays)
-            lines.append(
-                {"do": "connect", "client": client} | ({} if user is None else {"user": user})
-                | ({"clean": False} if resumes else {}) | ({"session_expiry": 9} if stays else {}))
-        elif kind < 0.42:
-            sessions.disconnect(client)
-            lines.append({"do": "disconnect", "client": client})
-        elif kind < 0.47 and known:
-            text = chance.choice(known)
-            sessions.unsubscribe(client, text)
-            lines.append({"do": "unsubscribe", "client": client, "filter": text})
-        elif kind < 0.8:
-            text = chance.choice(["", "", "$share/g/"]) + random_filter(chance, False)
-            if known and chance.random() < 0.2:
-                text = chance.choice(known)
-            lines.append({"do": "subscribe", "client": client, "filter": text})
-            sessions.subscribe(number, client, text)
-        elif kind < 0.9:
-            lines.append(chance.choice([{"do": "acl", "text": "topic deny #"},
-                                        {"do": "publish", "client": client, "topic": "a"}, ""]))
-        else:
-            lines.append(chance.choice(FAULTY_LINES))
-            faulty.append(number)
-    return ([line if isinstance(line, str) else json.dumps(line) for line in lines],
-            sessions.subscriptions, faulty)
-
-
-def no_command(name, script):
-    """What is told of a script without a command."""
-    lines = script.count("\n") + (script[-1:] not in ("", "\n"))
-    return f"mqroute-acl: {name}: no line of {lines} is a command\n"
-
-
-def faults_of_script(folder, chance, text):
-    rows = rows_of(text)
-    lines, subscriptions, faulty = random_script(chance)
-    script = "\n".join(lines) + chance.choice(["", "\n", "\n\n"])
-    pathlib.Path(folder, "s.jsonl").write_text(script)
-    vain = [(number, client, user, text) for number, client, user, text, users in subscriptions
-            if not any(is_reached(rows, client, name, text) for name in users)]
-    done = run(["reach", "--json", "old.acl", "--script", "s.jsonl"], folder)
-    if all(line in ("", *FAULTY_LINES) for line in lines):
-        if (done.returncode, done.stdout, done.stderr) != (2, "", no_command("s.jsonl", script)):
-            yield f"reach --script: status {done.returncode}: {done.stdout}{done.stderr}\n{script}"
-        return
-    *told, counts = [json.loads(line) for line in done.stdout.splitlines()] or [None]
-    wanted = {"in_vain": len(vain), "subscriptions": len(subscriptions), "no_commands": len(faulty),
-              "first_no_command": faulty[0] if faulty else None}
-    if done.returncode != (1 if vain else 0) or done.stderr or counts != wanted:
-        yield (f"reach --script: status {done.returncode}, {counts}, not {wanted}: {done.stderr}\n"
-               f"{script}")
-    found = [(each["line"], each["client"], each["user"], each["filter"]) for each in told]
-    if found != vain or any(each["file"] != "s.jsonl" for each in told):
-        yield f"reach --script: {told}, not {vain}\n{script}"
 
 
 def faults_of_odd_scripts(folder):
@@ -662,71 +322,19 @@ def faults_of_logs(folder):
                    f"{done.stdout}{done.stderr}")
 
 
-def faults_of_needless(folder, lines):
-    """Lines that repeat others are listed, and no others as such. What a line denies that is listed
-    as denying nothing, no line grants. Without a line that is listed as needless, and those that
-    repeat it, a list allows the same."""
-    done = run(["lint", "--json", "old.acl"], folder)
-    told = [json.loads(line) for line in done.stdout.splitlines()]
-    counted = [each for each in told if each["kind"] not in ("denies nothing", "empty")]
-    if (done.returncode != (1 if counted else 0)
-            or any(each["kind"] not in ("needless", "repeats", "no mark") for each in counted)):
-        yield f"lint: status {done.returncode}: {done.stdout}{done.stderr}"
-    rows = rows_of("\n".join(lines))
-    if [each for each in told if each["kind"] == "empty"] and rows:
-        yield f"lint: {lines} allow something"
-    of_kind = {kind: {each["line"]: each["other"] for each in told if each["kind"] == kind}
-               for kind in ("needless", "repeats", "denies nothing")}
-    repeats = {}
-    for place, row in enumerate(rows):
-        first = next((other[0] for other in rows[:place] if other[1:] == row[1:]), None)
-        if first is not None:
-            repeats[row[0]] = first
-    if of_kind["repeats"] != repeats:
-        yield f"lint: {of_kind['repeats']}, not {repeats}"
-    for row in rows:
-        others = [other for other in rows if other[1:] != row[1:]]
-        grants = [other for other in others if other[3] != "deny"]
-        for user, client, topic in itertools.product(USERS, CLIENTS, TOPICS):
-            levels = topic.split("/")
-            if (row[0] in of_kind["denies nothing"] and covers(row, client, user, levels)
-                    and any(covers(other, client, user, levels) for other in grants)):
-                yield f"lint: line {row[0]} denies {user} {topic} as {client}"
-                break
-            if (row[0] in of_kind["needless"]
-                    and accesses(rows, client, user, topic)
-                    != accesses(others, client, user, topic)):
-                yield f"lint: line {row[0]} isn't needless: {user} {topic} as {client}"
-                break
-
-
-def faults_of_random(folder, count):
-    for seed in range(count):
-        chance = random.Random(seed)
-        lines = random_list(chance)
-        others = near(chance, lines) if chance.random() < 0.7 else random_list(chance)
-        old, new = "\n".join(lines), "\n".join(others)
-        pathlib.Path(folder, "old.acl").write_text(old)
-        pathlib.Path(folder, "new.acl").write_text(new)
-        faults = itertools.chain(
-            faults_of_compare(folder, old, new), faults_of_why(folder, chance, old),
-            faults_of_reach(folder, chance, old),
-            faults_of_script(folder, chance, old), faults_of_needless(folder, lines))
-        for fault in faults:
-            yield f"seed {seed}: {fault}\n{old}\n--\n{new}"
-
-
 def main():
     if is_absent("acl", PROGRAM):
         return 1
-    count = int(sys.argv[1]) if len(sys.argv) > 1 else 300
+    count = int(sys.argv[1]) if len(sys.argv) > 1 else 150
     with tempfile.TemporaryDirectory() as folder:
         faults = [*faults_of_walk(), *faults_of_input(), *faults_of_remarks(folder),
                   *faults_of_several(folder), *faults_of_refusals(folder),
-                  *faults_of_odd_scripts(folder), *faults_of_logs(folder),
-                  *faults_of_known_pairs(folder), *faults_of_random(folder, count)]
+                  *faults_of_odd_scripts(folder), *faults_of_logs(folder)]
+        for rules in (OwnRules, MosquittoRules):
+            faults += faults_of_known_pairs(rules, folder)
+            faults += faults_of_random(rules, folder, count)
     sums = (f"{len(WALK)} examples, {len(FAULTY) + len(MISUSED)} refusals, {count} random pairs of "
-            f"lists, {len(faults)} faults")
+            f"lists by each set of rules, {len(faults)} faults")
     return status_of("acl", faults, sums)
 
 

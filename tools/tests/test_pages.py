@@ -115,7 +115,8 @@ def pattern(told: str) -> str:
 class Diagnostics(unittest.TestCase):
     def test_each_text_is_explained(self):
         for program, source in TOLD.items():
-            told = re.findall(r'#\[error\("(.*)"\)\]', (TOP / "crates" / source).read_text("utf-8"))
+            told = re.findall(
+                r'#\[error\("(.*?)"(?:, .*)?\)\]', (TOP / "crates" / source).read_text("utf-8"))
             lines = diagnostics(program)
             self.assertGreater(len(told), 8)
             for text in told:

@@ -1,7 +1,9 @@
 -- What an access list allows, by its rules.
-use Rattle.std.specs.Prelude.{ℕ, Bool, true, List, Option, Some, None}
-use Rattle.mq_acl.specs.Access.{rows_allow}
-use Rattle.mq_acl.specs.Mosquitto.{mosquitto_allows}
+use Rattle.std.specs.Prelude.{ℕ, Bool, true, List, Option, Some, None, ◌&&◌}
+use Rattle.std.specs.Prelude.{codes, if◌then◌else◌}
+use Rattle.std.specs.Str.{bytes_eq}
+use Rattle.mq_acl.specs.Access.{applies, concerns, rows_allow}
+use Rattle.mq_acl.specs.Mosquitto.{known_user, mosquitto_allows, row_covers}
 use Rattle.mq_acl.specs.Rows.{AclRow}
 use Rattle.mq_acl.specs.declared.access.Direction.{Direction}
 use Rattle.mq_acl.specs.declared.rules.Rules.{Rules}
@@ -23,6 +25,24 @@ unfoldable pub allowed : Option AccessList → List ℕ → Option (List ℕ) �
 allowed None client user name direction = true
 allowed (Some list) client user name direction =
     allow_by list.rules list.rows client user name direction
+
+-- the rules that a word names
+abbrev pub rules_named : List ℕ → Option Rules
+rules_named word =
+    if bytes_eq word (codes "own") then Some Own
+    else (if bytes_eq word (codes "mosquitto") then Some Mosquitto
+    else None)
+
+-- whose user name a client is asked by: an empty one is none by mosquitto's rules
+abbrev pub user_by : Rules → Option (List ℕ) → Option (List ℕ)
+user_by Own user = user
+user_by Mosquitto user = known_user user
+
+-- the row applies, and covers the name
+abbrev pub concerns_by : Rules → List ℕ → Option (List ℕ) → List ℕ → AclRow → Bool
+concerns_by Own client user name row = concerns client user name row
+concerns_by Mosquitto client user name row =
+    applies user row.who && row_covers client user name row
 
 -- the list of our own rules with these rows
 abbrev pub own_list : List AclRow → AccessList

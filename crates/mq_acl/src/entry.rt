@@ -58,8 +58,8 @@ fn is_pattern_level(level: &str) -> bool
     !has_mark(level) || level == "%c" || level == "%u"
 }
 
-// Whether each `%c` and `%u` is a whole level.
-fn is_pattern(topic: &str) -> bool
+/// Whether each `%c` and `%u` in a filter is a whole level.
+pub fn has_whole_marks(topic: &str) -> bool
     ensures { result ≡ list_all is_pattern_level (levels topic.now) }
 {
     topic.split('/').all(|level| is_pattern_level(level))
@@ -90,7 +90,7 @@ fn pattern_entry<'a>(alloc: Global, rest: &str) -> Result<Entry<'a>, AclKind>
 {
     let (access, topic) = split_access(rest)?;
     let filter = parse_topic(alloc, topic)?;
-    if !is_pattern(topic) {
+    if !has_whole_marks(topic) {
         return Err(AclKind::Pattern);
     }
     Ok(Entry::Pattern(access, filter))

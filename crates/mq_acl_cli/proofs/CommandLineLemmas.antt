@@ -1,15 +1,18 @@
 -- What the words of a command line ask for.
-use Rattle.std.proofs.Common.{◌≡◌, ◌∙◌, ◌+◌, ◌<◌, ◌≤◌, ℕ, List, ap, drop, false}
-use Rattle.std.proofs.Common.{Option, Some, None, get_or, inl, length, map, refl, sym}
+use Rattle.std.proofs.Common.{◌≡◌, ◌∙◌, ◌+◌, ◌<◌, ◌≤◌, ℕ, List, [], ◌∷◌, ap, drop, false}
+use Rattle.std.proofs.Common.{Option, Some, None, get_or, inl, inr, length, map, refl, sym}
 use Rattle.std.specs.Prelude.{unwrap_or}
 use Rattle.std.proofs.lemmas.List.{at_drop_more, drop_all}
-use Rattle.clap.specs.Words.{App, AddsSubcommand, Kinds, Text, app_of, with_subcommand}
+use Rattle.clap.specs.Words.{App, AddsSubcommand, Kinds, Text, app_of, subcommand_of}
+use Rattle.clap.specs.Words.{with_subcommand}
 use Rattle.clap.specs.declared.builder.command.Command.{Command}
 use Rattle.clap.specs.declared.builder.command.Command.TheViews.{out-Command as fields_of}
+use Rattle.clap.specs.declared.error.ErrorKind.TheVariants.{DisplayHelp, InvalidValue}
 use Rattle.mq_args.specs.Usage as usage
 use Rattle.mq_args.specs.declared.usage.UsageFault.{UsageFault}
 use Rattle.mq_args.specs.declared.usage.UsageFault.TheVariants.{Help, Usage, Memory}
-use Rattle.mq_acl_cli.specs.CommandLine.{IsFaultOf, app_for, steps_or_usual, usual_steps, with_apps}
+use Rattle.mq_acl_cli.specs.CommandLine.{CanNotBeAsked, IsFaultOf, app_for, asked_by, mqroute_acl}
+use Rattle.mq_acl_cli.specs.CommandLine.{steps_or_usual, usual_steps, with_apps}
 use Rattle.mq_acl_cli.specs.declared.command_line.Subcommand.{Subcommand}
 
 -- a command with one more subcommand, which has no argument for subcommands too: those that are
@@ -44,3 +47,13 @@ pub steps-unless : (o : Option ℕ) → unwrap_or o 20000000 ≡ steps_or_usual 
 unfolding usual_steps
 steps-unless None = refl
 steps-unless (Some n) = refl
+
+-- of words that `clap` takes and that name no known rules, why they ask nothing
+pub of_unknown : (words : List Text) (kinds : Kinds) (fault : UsageFault)
+    → usage.IsFaultOf (InvalidValue ∷ []) fault
+    → CanNotBeAsked (asked_by (subcommand_of mqroute_acl words)) → IsFaultOf words kinds fault
+of_unknown words kinds (Help text) (inl bad) can =
+    absurd (let no : DisplayHelp ≡ InvalidValue = bad in cc)
+of_unknown words kinds (Help text) (inr bad) can = absurd bad
+of_unknown words kinds (Usage text) h can = inr can
+of_unknown words kinds Memory h can = h

@@ -8,6 +8,7 @@ use Rattle.std.proofs.lemmas.List.{take_more}
 use Rattle.std.proofs.lemmas.List.Elements.{All-nil, All-push}
 use Rattle.std.proofs.lemmas.List.Quantifiers.{Any-push}
 use Rattle.std.proofs.lemmas.List.Sums.{sum_by-append}
+use Rattle.mq_acl.specs.declared.rules.Rules.{Rules}
 use Rattle.mq_acl_cli.specs.Files.{IsTextOf, input_count, is_input}
 use Rattle.mq_acl_cli.specs.Lint.{AreLinted, IsLintedFile}
 use Rattle.mq_acl_cli.specs.Statuses.{worse}
@@ -47,14 +48,14 @@ longer : (files : List (List ℕ)) (file : List ℕ) (i : ℕ) → i < length fi
 longer files file i low = simp length-append (omega arith)
 
 -- one more file
-AreLinted-push : (known : Option (List ℕ)) (files : List (List ℕ)) (file : List ℕ)
-    (outcome next : Outcome) → AreLinted known files outcome → IsLintedFile known file next
-    → AreLinted known (files ++ file ∷ []) (worse outcome next)
-AreLinted-push known files file Clear Clear all is =
-    All-push (λ f. IsLintedFile known f Clear) files file all is
-AreLinted-push known files file Clear Remark all is =
-    Any-push (λ f. IsLintedFile known f Remark) files file is
-AreLinted-push known files file Remark next some is = (
+AreLinted-push : (rules : Rules) (known : Option (List ℕ)) (files : List (List ℕ)) (file : List ℕ)
+    (outcome next : Outcome) → AreLinted rules known files outcome → IsLintedFile rules known file next
+    → AreLinted rules known (files ++ file ∷ []) (worse outcome next)
+AreLinted-push rules known files file Clear Clear all is =
+    All-push (λ f. IsLintedFile rules known f Clear) files file all is
+AreLinted-push rules known files file Clear Remark all is =
+    Any-push (λ f. IsLintedFile rules known f Remark) files file is
+AreLinted-push rules known files file Remark next some is = (
   some.0,
   some.1,
   longer files file some.0 some.2,
@@ -125,29 +126,29 @@ kept_among start before after files i d low so_far kept none =
     kept_more start before after files i d low so_far kept (omega arith)
 
 -- and what is told of the files so far holds with the next one too
-pub linted_more : (known before : Option (List ℕ)) (files : List (Bor (List ℕ))) (i : ℕ)
+pub linted_more : (rules : Rules) (known before : Option (List ℕ)) (files : List (Bor (List ℕ))) (i : ℕ)
     (d : Bor (List ℕ)) (outcome next : Outcome) → i < length files
     → input_count (texts files) ≤ 1
     → (input_count (texts (take i files)) ≡ 0 → before ≡ known)
-    → AreLinted known (texts (take i files)) outcome
-    → IsLintedFile before (get_or files i d).now next
-    → AreLinted known (texts (take (i + 1) files)) (worse outcome next)
-linted_more known before files i d outcome next low once so_far are is =
-    subst (λ (all : List (List ℕ)). AreLinted known all (worse outcome next))
+    → AreLinted rules known (texts (take i files)) outcome
+    → IsLintedFile rules before (get_or files i d).now next
+    → AreLinted rules known (texts (take (i + 1) files)) (worse outcome next)
+linted_more rules known before files i d outcome next low once so_far are is =
+    subst (λ (all : List (List ℕ)). AreLinted rules known all (worse outcome next))
     (sym (texts_of_more files i d low))
-    (AreLinted-push known (texts (take i files)) (get_or files i d).now outcome next are (
+    (AreLinted-push rules known (texts (take i files)) (get_or files i d).now outcome next are (
       is.0,
       λ e. subst (λ (k : Option (List ℕ)). IfSome k (λ bytes. is.0 ≡ bytes))
           (so_far (next_input files i d low once e)) (is.1 e),
       is.2,
     ))
 
-pub linted_none : (known : Option (List ℕ)) → AreLinted known [] Clear
-linted_none known = All-nil (λ file. IsLintedFile known file Clear)
+pub linted_none : (rules : Rules) (known : Option (List ℕ)) → AreLinted rules known [] Clear
+linted_none rules known = All-nil (λ file. IsLintedFile rules known file Clear)
 
-pub linted_all : (known : Option (List ℕ)) (files : List (Bor (List ℕ))) (i : ℕ)
-    (outcome : Outcome) → length files ≤ i → AreLinted known (texts (take i files)) outcome
-    → AreLinted known (texts files) outcome
-linted_all known files i outcome past are =
-    subst (λ (all : List (Bor (List ℕ))). AreLinted known (texts all) outcome)
+pub linted_all : (rules : Rules) (known : Option (List ℕ)) (files : List (Bor (List ℕ))) (i : ℕ)
+    (outcome : Outcome) → length files ≤ i → AreLinted rules known (texts (take i files)) outcome
+    → AreLinted rules known (texts files) outcome
+linted_all rules known files i outcome past are =
+    subst (λ (all : List (Bor (List ℕ))). AreLinted rules known (texts all) outcome)
     (take_all i files past) are

@@ -4,6 +4,7 @@ use Rattle.std.proofs.Common.{true≢false, inl, inr, List, [], ◌∷◌, Optio
 use Rattle.std.proofs.Common.{ap, subst}
 use Rattle.std.specs.Prelude.{◌||◌, slice_index_or, ⊤}
 use Rattle.mq_acl.specs.declared.row.Row.{Row}
+use Rattle.mq_acl.specs.declared.rules.Rules.{Rules}
 use Rattle.mq_lint.specs.Needless.{AreNeedless, IsKind, remarks_of_kinds}
 use Rattle.mq_lint.specs.Remarks.{remarks_of}
 use Rattle.mq_lint.specs.declared.remark.Remark.{Remark}
@@ -42,22 +43,22 @@ all_quiet (r ∷ rs) (Some kind ∷ ks) e none (suc place) k low =
     (first_false (matters kind) (has_needless (remarks_of_kinds rs ks)) none).1 place k
     (let low : place < length rs = omega arith in low)
 
-right_of : (rows : List Row) (place : ℕ) (row : Row) (kind : Option RemarkKind) → IsQuiet kind
-    → IsKind rows place row kind → IsRight rows place row
-right_of rows place row None quiet is = inl is
-right_of rows place row (Some kinds_of.DeniesNothing) quiet is = inr is
-right_of rows place row (Some (kinds_of.Fault kind)) quiet is = absurd (true≢false quiet)
-right_of rows place row (Some kinds_of.NoMark) quiet is = absurd (true≢false quiet)
-right_of rows place row (Some kinds_of.IndentedComment) quiet is = absurd (true≢false quiet)
-right_of rows place row (Some kinds_of.Tab) quiet is = absurd (true≢false quiet)
-right_of rows place row (Some (kinds_of.Repeats line)) quiet is = absurd (true≢false quiet)
-right_of rows place row (Some (kinds_of.Needless by)) quiet is = absurd (true≢false quiet)
+right_of : (rules : Rules) (rows : List Row) (place : ℕ) (row : Row) (kind : Option RemarkKind) → IsQuiet kind
+    → IsKind rules rows place row kind → IsRight rules rows place row
+right_of rules rows place row None quiet is = inl is
+right_of rules rows place row (Some kinds_of.DeniesNothing) quiet is = inr is
+right_of rules rows place row (Some (kinds_of.Fault kind)) quiet is = absurd (true≢false quiet)
+right_of rules rows place row (Some kinds_of.NoMark) quiet is = absurd (true≢false quiet)
+right_of rules rows place row (Some kinds_of.IndentedComment) quiet is = absurd (true≢false quiet)
+right_of rules rows place row (Some kinds_of.Tab) quiet is = absurd (true≢false quiet)
+right_of rules rows place row (Some (kinds_of.Repeats line)) quiet is = absurd (true≢false quiet)
+right_of rules rows place row (Some (kinds_of.Needless by)) quiet is = absurd (true≢false quiet)
 
-all_right : (rows : List Row) (told : List Remark) → has_needless told ≡ false
-    → AreNeedless rows told → (place : ℕ) (d : Row) → place < length rows
-    → IsRight rows place (slice_index_or rows place d)
-all_right rows told none are place d low =
-    right_of rows place (slice_index_or rows place d) (slice_index_or are.kinds place None)
+all_right : (rules : Rules) (rows : List Row) (told : List Remark) → has_needless told ≡ false
+    → AreNeedless rules rows told → (place : ℕ) (d : Row) → place < length rows
+    → IsRight rules rows place (slice_index_or rows place d)
+all_right rules rows told none are place d low =
+    right_of rules rows place (slice_index_or rows place d) (slice_index_or are.kinds place None)
     (all_quiet rows are.kinds are.all (ap has_needless (sym are.remarks) ∙ none) place None low)
     (are.each place d None low)
 
@@ -105,9 +106,9 @@ tells_more (r ∷ rs) (Some kind ∷ ks) some =
     }
     go false quiet more = behind r rs (Some kind) ks (more (rw quiet at some))
 
-needless_of : (text : List ℕ) (told : List Remark) → has_needless told ≡ true
-    → IsNeedlessIn text told → HasNeedless text
-needless_of text told some is =
+needless_of : (rules : Rules) (text : List ℕ) (told : List Remark) → has_needless told ≡ true
+    → IsNeedlessIn rules text told → HasNeedless rules text
+needless_of rules text told some is =
     let more = tells_more is.rows is.told_of.kinds (ap has_needless (sym is.told_of.remarks) ∙ some)
     in
     record {
@@ -118,36 +119,37 @@ needless_of text told some is =
       kind = more.kind;
       in_range = more.low;
       is = more.row_is more.row;
-      told = subst (IsKind is.rows more.place more.row) (more.kind_is None)
-          (subst (λ row. IsKind is.rows more.place row
+      told = subst (IsKind rules is.rows more.place more.row) (more.kind_is None)
+          (subst (λ row. IsKind rules is.rows more.place row
           (slice_index_or is.told_of.kinds more.place None)) (sym (more.row_is more.row))
           (is.told_of.each more.place more.row None more.low));
       counts = more.counts;
     }
 
-odd_or_needless : (text : List ℕ) (r : Remarks) → AreRemarks text r
+odd_or_needless : (rules : Rules) (text : List ℕ) (r : Remarks) → AreRemarks rules text r
     → (r.odd.items ≢ []) ⊎ (has_needless r.needless.items ≡ true)
-    → (remarks_of text ≢ []) ⊎ HasNeedless text
-odd_or_needless text r are (inl odd) = inl (λ e. odd (are.odd ∙ e))
-odd_or_needless text r are (inr some) = go (has_fault r.odd.items) refl
+    → (remarks_of rules text ≢ []) ⊎ HasNeedless rules text
+odd_or_needless rules text r are (inl odd) = inl (λ e. odd (are.odd ∙ e))
+odd_or_needless rules text r are (inr some) = go (has_fault r.odd.items) refl
   where
-    go : (b : Bool) → has_fault r.odd.items ≡ b → (remarks_of text ≢ []) ⊎ HasNeedless text
+    go : (b : Bool) → has_fault r.odd.items ≡ b → (remarks_of rules text ≢ []) ⊎ HasNeedless rules text
     go true faulty =
         absurd (true≢false (sym some ∙ ap has_needless (are.none faulty)))
-    go false clean = inr (needless_of text r.needless.items some (are.all clean))
+    go false clean = inr (needless_of rules text r.needless.items some (are.all clean))
 
 -- the remarks on a text tell how it is linted
-pub linted : (text : List ℕ) (r : Remarks) (outcome : Outcome) → AreRemarks text r
+pub linted : (rules : Rules) (text : List ℕ) (r : Remarks) (outcome : Outcome)
+    → AreRemarks rules text r
     → (outcome ≡ Clear → (r.odd.items ≡ []) × (has_needless r.needless.items ≡ false))
     → (outcome ≡ Told → (r.odd.items ≢ []) ⊎ (has_needless r.needless.items ≡ true))
-    → IsLinted text outcome
-linted text r Clear are none some =
+    → IsLinted rules text outcome
+linted rules text r Clear are none some =
     let nothing = none refl in
     let is = are.all (ap has_fault nothing.0) in
     record {
       even = sym are.odd ∙ nothing.0;
       rows = is.rows;
       are_rows = is.are_rows;
-      right = all_right is.rows r.needless.items nothing.1 is.told_of;
+      right = all_right rules is.rows r.needless.items nothing.1 is.told_of;
     }
-linted text r Told are none some = odd_or_needless text r are (some refl)
+linted rules text r Told are none some = odd_or_needless rules text r are (some refl)

@@ -5,7 +5,9 @@ use Rattle.std.specs.Borrow.{Bor}
 use Rattle.std.specs.Io.KnownBytes.{Consumes, IsAtEnd}
 use Rattle.mq_acl.specs.Views.{row_views}
 use Rattle.mq_acl.specs.declared.row.Row.{Row}
+use Rattle.mq_acl.specs.declared.rules.Rules.{Rules}
 use Rattle.mq_jsonl.specs.Lines.{all_lines}
+use Rattle.mq_reach.specs.Reach.{list_by}
 use Rattle.mq_reach.specs.Search.{AreCounted, IsFound}
 use Rattle.mq_reach.specs.Subscriptions.{commands_of}
 use Rattle.mq_reach.specs.Tracked.{subscription_views}
@@ -36,10 +38,11 @@ none_counted (x ∷ all) count is zero =
     absurd (let some : count ≡ suc (length all) = is in omega arith)
 
 -- what is found of a script with commands
-pub finds : (text script : List ℕ) (rows : List Row) (f : Findings) → AreRows text rows
-    → IsFound (row_views rows) (all_lines script) f → 0 < f.counts.commands
-    → FindsVain text script f
-finds text script rows f are found some = record {
+pub finds : (rules : Rules) (text script : List ℕ) (rows : List Row) (f : Findings)
+    → AreRows rules text rows
+    → IsFound (list_by rules (row_views rows)) (all_lines script) f → 0 < f.counts.commands
+    → FindsVain rules text script f
+finds rules text script rows f are found some = record {
   rows = rows;
   are_rows = are;
   found = found;
@@ -58,16 +61,16 @@ none_given before after script f takes end are zero = (
 )
 
 -- and what is told of one without
-pub no_command : (name : Bor (List ℕ)) (before after : Option (List ℕ)) (script : List ℕ)
-    (f : Findings) (told : Failure) → Consumes before after script → IsAtEnd after
+pub no_command : (rules : Rules) (text : List ℕ) (name : Bor (List ℕ))
+    (before after : Option (List ℕ)) (script : List ℕ) (f : Findings) (told : Failure) → Consumes before after script → IsAtEnd after
     → AreCounted (all_lines script) f.counts → f.counts.commands ≡ 0
     → (told ≡ failure.NoCommand name f.counts.lines) ⊎ (told ≡ failure.Log name f.counts.lines)
-    → IsScriptFailure name.now before after told
-no_command name before after script f told takes end are zero (inl e) =
-    subst (IsScriptFailure name.now before after) (sym e)
+    → IsScriptFailure rules text name.now before after told
+no_command rules text name before after script f told takes end are zero (inl e) =
+    subst (IsScriptFailure rules text name.now before after) (sym e)
     (refl, none_given before after script f takes end are zero)
-no_command name before after script f told takes end are zero (inr e) =
-    subst (IsScriptFailure name.now before after) (sym e)
+no_command rules text name before after script f told takes end are zero (inr e) =
+    subst (IsScriptFailure rules text name.now before after) (sym e)
     (refl, none_given before after script f takes end are zero)
 
 -- ## What is told
@@ -81,10 +84,10 @@ told-is [] Remark none some = absurd (some refl refl)
 told-is (s ∷ all) Remark none some = λ e. cc
 
 -- whether some are found tells whether there are some
-pub told : (text script : List ℕ) (f : Findings) (outcome : Outcome) → FindsVain text script f
+pub told : (rules : Rules) (text script : List ℕ) (f : Findings) (outcome : Outcome) → FindsVain rules text script f
     → (outcome ≡ Clear → f.vain.items ≡ []) → (outcome ≡ Remark → f.vain.items ≢ [])
-    → AreTold text script outcome
-told text script f outcome finds none some = record {
+    → AreTold rules text script outcome
+told rules text script f outcome finds none some = record {
   rows = row_views finds.rows;
   read = finds.are_rows.read;
   vain = subscription_views f.vain.items;

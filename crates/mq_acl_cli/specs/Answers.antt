@@ -1,89 +1,107 @@
 -- What is true of the lists that are asked about.
-use Rattle.std.specs.Prelude.{◌≡◌, ℕ, List, [], All, IsTrue, true, false, Option, Some, None, Ok}
+use Rattle.std.specs.Prelude.{◌≡◌, ◌≢◌, ◌++◌, ℕ, List, [], All, IsTrue, true, false, Option, Some, None, Ok}
 use Rattle.std.specs.Option.{option_map}
 use Rattle.mq_topic.specs.Levels.{levels}
 use Rattle.mq_topic.specs.Matching.{matches}
 use Rattle.mq_topic.specs.Texts.{filter_part, is_name}
 use Rattle.mq_acl.specs.AccessLists.{allow_by}
-use Rattle.mq_acl.specs.declared.rules.Rules.TheVariants.{Own}
-use Rattle.mq_acl.specs.Rows.{AclRow, rows_of, row_lines}
+use Rattle.mq_acl.specs.declared.rules.Rules.{Rules}
+use Rattle.mq_acl.specs.Rows.{AclRow, rows_by, row_lines_by}
 use Rattle.mq_acl.specs.Views.{row_views, line_views}
+use Rattle.mq_acl.specs.declared.access.Direction.{Direction}
 use Rattle.mq_acl.specs.declared.access.Direction.TheVariants.{Reading, Writing}
 use Rattle.mq_acl.specs.declared.row.Row.{Row}
+use Rattle.mq_witness.specs.Clients.{can_be_id}
+use Rattle.mq_findings.specs.Classes.{can_be_user}
 use Rattle.mq_findings.specs.Reasons.{first_grant, is_grant, reason_of}
 use Rattle.mq_findings.specs.Differences.{TellsAll, IsReal, AreApart, AreMarked}
-use Rattle.mq_lint.specs.Needless.{AllowSame, Differ}
+use Rattle.mq_lint.specs.Needless.{AllowSame}
 use Rattle.mq_acl_cli.specs.declared.commands.compare.Changes.{Changes}
 use Rattle.mq_acl_cli.specs.declared.outcome.Outcome.{Outcome}
 use Rattle.mq_acl_cli.specs.declared.outcome.Outcome.TheVariants.{Clear, Remark}
 use Rattle.mq_acl_cli.specs.declared.commands.why.Explanation.{Explanation}
 
--- the rows are those of the text, each with the number of its line
-pub record AreRows (text : List ℕ) (rows : List Row) : Type 0 where
-  pub read : rows_of text ≡ Ok (row_views rows)
-  pub numbered : line_views rows ≡ row_lines text
+-- by these rules the rows are those of the text, each with the number of its line
+pub record AreRows (rules : Rules) (text : List ℕ) (rows : List Row) : Type 0 where
+  pub read : rows_by rules text ≡ Ok (row_views rows)
+  pub numbered : line_views rows ≡ row_lines_by rules text
 
 -- it tells whether the client may read and write the topic, and the lines that decide it
-pub record Explains (text client : List ℕ) (user : Option (List ℕ)) (topic : List ℕ)
-    (e : Explanation) : Type 0 where
+pub record Explains (rules : Rules) (text client : List ℕ) (user : Option (List ℕ))
+    (topic : List ℕ) (e : Explanation) : Type 0 where
   pub rows : List Row
-  pub are_rows : AreRows text rows
-  pub reading : e.reading.reason ≡ reason_of rows client user topic Reading
-  pub writing : e.writing.reason ≡ reason_of rows client user topic Writing
+  pub are_rows : AreRows rules text rows
+  pub reading : e.reading.reason ≡ reason_of rules rows client user topic Reading
+  pub writing : e.writing.reason ≡ reason_of rules rows client user topic Writing
   pub reading_grant : e.reading.grant
-      ≡ option_map (λ row. row.line) (first_grant rows client user topic Reading)
+      ≡ option_map (λ row. row.line) (first_grant rules rows client user topic Reading)
   pub writing_grant : e.writing.grant
-      ≡ option_map (λ row. row.line) (first_grant rows client user topic Writing)
-  pub may_read : is_grant e.reading.reason ≡ allow_by Own (row_views rows) client user topic
-      Reading
+      ≡ option_map (λ row. row.line) (first_grant rules rows client user topic Writing)
+  pub may_read : is_grant e.reading.reason
+      ≡ allow_by rules (row_views rows) client user topic Reading
   pub may_write : is_grant e.writing.reason
-      ≡ allow_by Own (row_views rows) client user topic Writing
+      ≡ allow_by rules (row_views rows) client user topic Writing
 
--- the lists with these texts differ so, and not otherwise: all that changes for a client that a broker
--- can have is told, and once
-pub record AreChanges (old new : List ℕ) (c : Changes) : Type 0 where
-  pub old_rows : AreRows old c.old.items
-  pub new_rows : AreRows new c.new.items
-  pub every : TellsAll c.old.items c.new.items c.differences.items
-  pub real : All (IsReal c.old.items c.new.items) c.differences.items
+-- the lists with these texts differ so by these rules, and not otherwise: all that changes for a client
+-- that a broker can have, and that is asked about, is told, and once
+pub record AreChanges (rules : Rules) (old new : List ℕ) (c : Changes) : Type 0 where
+  pub old_rows : AreRows rules old c.old.items
+  pub new_rows : AreRows rules new c.new.items
+  pub every : TellsAll rules c.old.items c.new.items c.differences.items
+  pub real : All (IsReal rules c.old.items c.new.items) c.differences.items
   pub once : AreApart c.differences.items
-  pub marked : AreMarked c.old.items c.new.items c.differences.items
-  pub same : c.differences.items ≡ [] → AllowSame (row_views c.old.items) (row_views c.new.items)
+  pub marked : AreMarked rules c.old.items c.new.items c.differences.items
+  pub same : c.differences.items ≡ [] → AllowSame rules
+      (row_views c.old.items ++ row_views c.new.items) (row_views c.old.items)
+      (row_views c.new.items)
 
--- whether the rows allow the same to the clients that a broker can have is told
-abbrev pub TellsWhetherSame : List AclRow → List AclRow → Outcome → Type 0
-TellsWhetherSame old new Clear = AllowSame old new
-TellsWhetherSame old new Remark = Differ old new
+-- some client that a broker can have may do by the one list what it may not by the other
+pub record Differ (rules : Rules) (old new : List AclRow) : Type 0 where
+  pub client : List ℕ
+  pub user : Option (List ℕ)
+  pub name : List ℕ
+  pub direction : Direction
+  pub client_fits : can_be_id client ≡ true
+  pub user_fits : can_be_user user ≡ true
+  pub valid : is_name name ≡ true
+  pub differs : allow_by rules old client user name direction
+      ≢ allow_by rules new client user name direction
+
+-- whether the rows allow the same to the clients that a broker can have, and that are asked about, is told
+abbrev pub TellsWhetherSame : Rules → List AclRow → List AclRow → Outcome → Type 0
+TellsWhetherSame rules old new Clear = AllowSame rules (old ++ new) old new
+TellsWhetherSame rules old new Remark = Differ rules old new
 
 -- and so is it of the lists with these texts
-pub record IsCompared (old new : List ℕ) (outcome : Outcome) : Type 0 where
+pub record IsCompared (rules : Rules) (old new : List ℕ) (outcome : Outcome) : Type 0 where
   pub old_rows : List AclRow
   pub new_rows : List AclRow
-  pub old_read : rows_of old ≡ Ok old_rows
-  pub new_read : rows_of new ≡ Ok new_rows
-  pub outcome_of : TellsWhetherSame old_rows new_rows outcome
+  pub old_read : rows_by rules old ≡ Ok old_rows
+  pub new_read : rows_by rules new ≡ Ok new_rows
+  pub outcome_of : TellsWhetherSame rules old_rows new_rows outcome
 
 -- the topic, if there is one, is such that the subscription's filter matches it (MQTT 5.0, section 4.7) and the client may
--- read it; and else no topic is
-abbrev pub IsReach : (text client : List ℕ) → Option (List ℕ) → (subscription : List ℕ)
+-- read it by these rules; and else no topic is
+abbrev pub IsReach : Rules → (text client : List ℕ) → Option (List ℕ) → (subscription : List ℕ)
     → Option (List ℕ) → Type 0
-IsReach text client user subscription (Some topic) = record {
+IsReach rules text client user subscription (Some topic) = record {
   rows : List AclRow;
-  read : rows_of text ≡ Ok rows;
+  read : rows_by rules text ≡ Ok rows;
   matched : matches (levels (filter_part subscription)) (levels topic) ≡ true;
-  may_read : allow_by Own rows client user topic Reading ≡ true;
+  may_read : allow_by rules rows client user topic Reading ≡ true;
 }
-IsReach text client user subscription None = record {
+IsReach rules text client user subscription None = record {
   rows : List AclRow;
-  read : rows_of text ≡ Ok rows;
+  read : rows_by rules text ≡ Ok rows;
   no_topic : (topic : List ℕ) → IsTrue (is_name topic)
       → matches (levels (filter_part subscription)) (levels topic) ≡ true
-      → allow_by Own rows client user topic Reading ≡ false;
+      → allow_by rules rows client user topic Reading ≡ false;
 }
 
 -- whether there is a topic is told
-abbrev pub IsReached : (text client : List ℕ) → Option (List ℕ) → (subscription : List ℕ) → Outcome
-    → Type 0
-IsReached text client user subscription Clear =
-    (topic : List ℕ) × IsTrue (is_name topic) × IsReach text client user subscription (Some topic)
-IsReached text client user subscription Remark = IsReach text client user subscription None
+abbrev pub IsReached : Rules → (text client : List ℕ) → Option (List ℕ)
+    → (subscription : List ℕ) → Outcome → Type 0
+IsReached rules text client user subscription Clear =
+    (topic : List ℕ) × IsTrue (is_name topic) × IsReach rules text client user subscription (Some topic)
+IsReached rules text client user subscription Remark =
+    IsReach rules text client user subscription None

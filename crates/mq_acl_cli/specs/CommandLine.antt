@@ -1,13 +1,16 @@
 -- The command line of the program, in the words of `clap`.
 use Rattle.std.specs.Prelude.{◌≡◌, ◌≢◌, ◌⊎◌, ◌≤◌, ◌<◌, true, false, if◌then◌else◌, List, [], ◌∷◌}
 use Rattle.std.specs.Prelude.{Option, Some, None, option_and_then, option_map, codes, map, ⊤}
-use Rattle.std.specs.Prelude.{ℕ}
-use Rattle.std.specs.Option.{option_copied}
+use Rattle.std.specs.Prelude.{ℕ, unwrap_or}
+use Rattle.std.specs.Option.{option_copied, option_map_or}
 use Rattle.std.specs.Str.{bytes_eq}
 use Rattle.clap.specs.Words.{App, Row, Rule, Text, Kinds, IsAmong, new_app, with_subcommand}
 use Rattle.clap.specs.Words.{all_of, first_of, one_of, subcommand_of}
 use Rattle.clap.specs.declared.error.ErrorKind.{ErrorKind}
 use Rattle.clap.specs.declared.error.ErrorKind.TheVariants.{DisplayHelp}
+use Rattle.mq_acl.specs.AccessLists.{rules_named}
+use Rattle.mq_acl.specs.declared.rules.Rules.{Rules}
+use Rattle.mq_acl.specs.declared.rules.Rules.TheVariants.{Own}
 use Rattle.mq_args.specs.Arguments.{flag, number_option, option, optional_argument}
 use Rattle.mq_args.specs.Arguments.{required_argument}
 use Rattle.mq_args.specs.Arguments.{several_arguments, rule_for, with_rules}
@@ -38,6 +41,10 @@ json_flag = flag (codes "json")
 abbrev pub steps_option : Rule
 steps_option = number_option (codes "steps")
 
+-- `--rules RULES`
+abbrev pub rules_option : Rule
+rules_option = option (codes "rules")
+
 -- `--user NAME`
 abbrev pub user_option : Rule
 user_option = option (codes "user")
@@ -46,32 +53,33 @@ user_option = option (codes "user")
 abbrev pub script_option : Rule
 script_option = option (codes "script")
 
--- `compare OLD NEW [--steps N] [--json]`
+-- `compare OLD NEW [--steps N] [--rules RULES] [--json]`
 abbrev pub compare : App
 compare =
     with_rules (new_app (codes "compare"))
     (required_argument (codes "OLD") ∷ json_flag ∷ required_argument (codes "NEW")
-    ∷ steps_option ∷ [])
+    ∷ steps_option ∷ rules_option ∷ [])
 
--- `why FILE CLIENT TOPIC [--user NAME] [--json]`
+-- `why FILE CLIENT TOPIC [--user NAME] [--rules RULES] [--json]`
 abbrev pub why : App
 why =
     with_rules (new_app (codes "why"))
-    (required_argument (codes "FILE") ∷ json_flag ∷ required_argument (codes "CLIENT") ∷ required_argument (codes "TOPIC")
-    ∷ user_option ∷ [])
+    (required_argument (codes "FILE") ∷ json_flag ∷ required_argument (codes "CLIENT")
+    ∷ required_argument (codes "TOPIC") ∷ user_option ∷ rules_option ∷ [])
 
--- `lint FILE.. [--steps N] [--json]`
+-- `lint FILE.. [--steps N] [--rules RULES] [--json]`
 abbrev pub lint : App
 lint =
     with_rules (new_app (codes "lint"))
-    (several_arguments (codes "FILE") ∷ json_flag ∷ steps_option ∷ [])
+    (several_arguments (codes "FILE") ∷ json_flag ∷ steps_option ∷ rules_option ∷ [])
 
--- `reach FILE [CLIENT] [FILTER] [--user NAME] [--script SCRIPT] [--json]`
+-- `reach FILE [CLIENT] [FILTER] [--user NAME] [--script SCRIPT] [--rules RULES] [--json]`
 abbrev pub reach : App
 reach =
     with_rules (new_app (codes "reach"))
     (required_argument (codes "FILE") ∷ json_flag ∷ optional_argument (codes "CLIENT")
-    ∷ optional_argument (codes "FILTER") ∷ user_option ∷ script_option ∷ [])
+    ∷ optional_argument (codes "FILTER") ∷ user_option ∷ script_option ∷ rules_option
+    ∷ [])
 
 -- a command that wants a subcommand
 abbrev pub wanting : App → App
@@ -142,9 +150,21 @@ asked name rows =
     else (if bytes_eq name (codes "reach") then reach_asked_by rows
     else None)))
 
--- what the words ask, if they ask something
+-- the rules in these values, or our own where none are; none where the word for them is unknown
+abbrev pub rules_asked : List Row → Option Rules
+rules_asked rows = option_map_or rules_named (first_of (codes "rules") rows) (Some Own)
+
+abbrev pub rules_given : List Row → Rules
+rules_given rows = unwrap_or (rules_asked rows) Own
+
+-- what the words ask, if they ask something by known rules
+abbrev pub asked_by_known : Option Rules → Option Asked → Option Asked
+asked_by_known (Some rules) asked = asked
+asked_by_known None asked = None
+
 abbrev pub asked_by : Option (Text × List Row) → Option Asked
-asked_by subcommand = option_and_then (λ met. asked met.0 met.1) subcommand
+asked_by subcommand =
+    option_and_then (λ met. asked_by_known (rules_asked met.1) (asked met.0 met.1)) subcommand
 
 abbrev pub client_view : Client → ClientAsked
 client_view client = record { id = client.id.now; user = option_copied client.user }
@@ -177,10 +197,11 @@ steps_given rows = steps_or_usual (option_and_then number_in (one_of (codes "ste
 pub record IsAskedBy (subcommand : Option (Text × List Row)) (request : Request) : Type 0 where
   pub question : asked_by subcommand ≡ Some (question_view request.question)
   pub json : one_of (codes "json") (values_of subcommand) ≡ Some (codes "true")
-      → request.json ≡ true
+      → request.options.json ≡ true
   pub no_json : one_of (codes "json") (values_of subcommand) ≡ Some (codes "false")
-      → request.json ≡ false
-  pub steps : request.steps ≡ steps_given (values_of subcommand)
+      → request.options.json ≡ false
+  pub steps : request.options.steps ≡ steps_given (values_of subcommand)
+  pub rules : request.options.rules ≡ rules_given (values_of subcommand)
 
 -- the request is what a subcommand with its values asks, and where there is none it asks nothing
 abbrev pub GivesAsked : Option (Text × List Row) → Option Request → Type 0

@@ -2,8 +2,9 @@
 use Rattle.std.specs.Prelude.{◌≡◌, ◌≢◌, ◌⊎◌, ◌<◌, ℕ, Bool, true, false, List, [], length, All, Any}
 use Rattle.std.specs.Prelude.{Option, Some, None, Ok, slice_index_or}
 use Rattle.std.specs.List.{list_any}
-use Rattle.mq_acl.specs.Rows.{rows_of}
+use Rattle.mq_acl.specs.Rows.{rows_by}
 use Rattle.mq_acl.specs.declared.row.Row.{Row}
+use Rattle.mq_acl.specs.declared.rules.Rules.{Rules}
 use Rattle.mq_lint.specs.Needless.{AreNeedless, IsKind}
 use Rattle.mq_lint.specs.Remarks.{remarks_of}
 use Rattle.mq_lint.specs.declared.remark.Remark.{Remark}
@@ -31,55 +32,59 @@ abbrev pub has_needless : List Remark → Bool
 has_needless all = list_any (λ remark. matters remark.kind) all
 
 -- these are the lines of the text that repeat another, deny nothing or are needless
-pub record IsNeedlessIn (text : List ℕ) (told : List Remark) : Type 0 where
+pub record IsNeedlessIn (rules : Rules) (text : List ℕ) (told : List Remark) : Type 0 where
   pub rows : List Row
-  pub are_rows : AreRows text rows
-  pub told_of : AreNeedless rows told
+  pub are_rows : AreRows rules text rows
+  pub told_of : AreNeedless rules rows told
 
 -- these are the remarks on the text; needless lines are told of one without faults, and whether it has
 -- no rows
-pub record AreRemarks (text : List ℕ) (r : Remarks) : Type 0 where
-  pub odd : r.odd.items ≡ remarks_of text
+pub record AreRemarks (rules : Rules) (text : List ℕ) (r : Remarks) : Type 0 where
+  pub odd : r.odd.items ≡ remarks_of rules text
   pub none : has_fault r.odd.items ≡ true → r.needless.items ≡ []
-  pub all : has_fault r.odd.items ≡ false → IsNeedlessIn text r.needless.items
-  pub empty : r.is_empty ≡ true → rows_of text ≡ Ok []
-  pub full : has_fault r.odd.items ≡ false → r.is_empty ≡ false → rows_of text ≢ Ok []
+  pub rows : has_fault r.odd.items ≡ false → AreRows rules text r.rows.items
+  pub all : has_fault r.odd.items ≡ false → IsNeedlessIn rules text r.needless.items
+  pub empty : r.is_empty ≡ true → rows_by rules text ≡ Ok []
+  pub full : has_fault r.odd.items ≡ false → r.is_empty ≡ false → rows_by rules text ≢ Ok []
 
 -- the row at the place is needed, or it denies, and nothing that a row grants
-abbrev pub IsRight : List Row → ℕ → Row → Type 0
-IsRight rows place row = IsKind rows place row None ⊎ IsKind rows place row (Some DeniesNothing)
+abbrev pub IsRight : Rules → List Row → ℕ → Row → Type 0
+IsRight rules rows place row =
+    IsKind rules rows place row None ⊎ IsKind rules rows place row (Some DeniesNothing)
 
 -- nothing is odd about the lines of the text, they have no fault, and each row is needed, or it denies
 -- nothing
-pub record IsClean (text : List ℕ) : Type 0 where
-  pub even : remarks_of text ≡ []
+pub record IsClean (rules : Rules) (text : List ℕ) : Type 0 where
+  pub even : remarks_of rules text ≡ []
   pub rows : List Row
-  pub are_rows : AreRows text rows
+  pub are_rows : AreRows rules text rows
   pub right : (place : ℕ) (d : Row) → place < length rows
-      → IsRight rows place (slice_index_or rows place d)
+      → IsRight rules rows place (slice_index_or rows place d)
 
 -- some line of the text repeats another, or is needless
-pub record HasNeedless (text : List ℕ) : Type 0 where
+pub record HasNeedless (rules : Rules) (text : List ℕ) : Type 0 where
   pub rows : List Row
-  pub are_rows : AreRows text rows
+  pub are_rows : AreRows rules text rows
   pub place : ℕ
   pub row : Row
   pub kind : RemarkKind
   pub in_range : place < length rows
   pub is : row ≡ slice_index_or rows place row
-  pub told : IsKind rows place row (Some kind)
+  pub told : IsKind rules rows place row (Some kind)
   pub counts : matters kind ≡ true
 
 -- whether something is odd, faulty or needless is told
-abbrev pub IsLinted : List ℕ → Outcome → Type 0
-IsLinted text Clear = IsClean text
-IsLinted text Told = (remarks_of text ≢ []) ⊎ HasNeedless text
+abbrev pub IsLinted : Rules → List ℕ → Outcome → Type 0
+IsLinted rules text Clear = IsClean rules text
+IsLinted rules text Told = (remarks_of rules text ≢ []) ⊎ HasNeedless rules text
 
 -- and so is it of the text of a file
-abbrev pub IsLintedFile : (input : Option (List ℕ)) → (file : List ℕ) → Outcome → Type 0
-IsLintedFile input file outcome = (text : List ℕ) × IsTextOf input file text × IsLinted text outcome
+abbrev pub IsLintedFile : Rules → (input : Option (List ℕ)) → (file : List ℕ) → Outcome → Type 0
+IsLintedFile rules input file outcome =
+    (text : List ℕ) × IsTextOf input file text × IsLinted rules text outcome
 
 -- nothing is told of any of the files, or something of some of them
-abbrev pub AreLinted : (input : Option (List ℕ)) → (files : List (List ℕ)) → Outcome → Type 0
-AreLinted input files Clear = All (λ file. IsLintedFile input file Clear) files
-AreLinted input files Told = Any (λ file. IsLintedFile input file Told) files
+abbrev pub AreLinted : Rules → (input : Option (List ℕ)) → (files : List (List ℕ)) → Outcome
+    → Type 0
+AreLinted rules input files Clear = All (λ file. IsLintedFile rules input file Clear) files
+AreLinted rules input files Told = Any (λ file. IsLintedFile rules input file Told) files

@@ -12,10 +12,10 @@ ghost use Rattle.mq_acl_cli.specs.CommandLine.{IsFaultOf};
 use crate::help::{
     ABOUT, AFTER_HELP, CLIENT_HELP, COMPARE_ABOUT, COMPARE_AFTER_HELP, FILE_HELP, FILES_HELP,
     FILTER_HELP, JSON_HELP, LINT_ABOUT, LINT_AFTER_HELP, NEW_HELP, OLD_HELP, REACH_ABOUT,
-    REACH_AFTER_HELP, SCRIPT_HELP, STEPS_HELP, SUBSCRIBER_HELP, TOPIC_HELP, USER_HELP, WHY_ABOUT,
-    WHY_AFTER_HELP,
+    REACH_AFTER_HELP, RULES_HELP, SCRIPT_HELP, STEPS_HELP, SUBSCRIBER_HELP, TOPIC_HELP, USER_HELP,
+    WHY_ABOUT, WHY_AFTER_HELP,
 };
-use crate::request::{Request, request_in};
+use crate::request::{Request, request_in, unknown_rules};
 use clap::{ArgMatches, Command, Error};
 use mq_args::{Argument, ArgumentKind, UsageFault, described, with_arguments};
 use std::alloc::{AllocError, Global};
@@ -53,7 +53,7 @@ impl<'a> Subcommand<'a> {
     }
 }
 
-// `compare OLD NEW [--steps N] [--json]`
+// `compare OLD NEW [--steps N] [--rules RULES] [--json]`
 const COMPARE: Subcommand<'static> = Subcommand {
     name: "compare",
     about: COMPARE_ABOUT,
@@ -63,10 +63,11 @@ const COMPARE: Subcommand<'static> = Subcommand {
         Argument("json", ArgumentKind::Flag, JSON_HELP),
         Argument("NEW", ArgumentKind::Required, NEW_HELP),
         Argument("steps", ArgumentKind::Number, STEPS_HELP),
+        Argument("rules", ArgumentKind::Option("RULES"), RULES_HELP),
     ],
 };
 
-// `why FILE CLIENT TOPIC [--user NAME] [--json]`
+// `why FILE CLIENT TOPIC [--user NAME] [--rules RULES] [--json]`
 const WHY: Subcommand<'static> = Subcommand {
     name: "why",
     about: WHY_ABOUT,
@@ -77,10 +78,11 @@ const WHY: Subcommand<'static> = Subcommand {
         Argument("CLIENT", ArgumentKind::Required, CLIENT_HELP),
         Argument("TOPIC", ArgumentKind::Required, TOPIC_HELP),
         Argument("user", ArgumentKind::Option("NAME"), USER_HELP),
+        Argument("rules", ArgumentKind::Option("RULES"), RULES_HELP),
     ],
 };
 
-// `lint FILE.. [--steps N] [--json]`
+// `lint FILE.. [--steps N] [--rules RULES] [--json]`
 const LINT: Subcommand<'static> = Subcommand {
     name: "lint",
     about: LINT_ABOUT,
@@ -89,10 +91,11 @@ const LINT: Subcommand<'static> = Subcommand {
         Argument("FILE", ArgumentKind::Several, FILES_HELP),
         Argument("json", ArgumentKind::Flag, JSON_HELP),
         Argument("steps", ArgumentKind::Number, STEPS_HELP),
+        Argument("rules", ArgumentKind::Option("RULES"), RULES_HELP),
     ],
 };
 
-// `reach FILE [CLIENT] [FILTER] [--user NAME] [--script SCRIPT] [--json]`
+// `reach FILE [CLIENT] [FILTER] [--user NAME] [--script SCRIPT] [--rules RULES] [--json]`
 const REACH: Subcommand<'static> = Subcommand {
     name: "reach",
     about: REACH_ABOUT,
@@ -104,6 +107,7 @@ const REACH: Subcommand<'static> = Subcommand {
         Argument("FILTER", ArgumentKind::Optional("FILTER"), FILTER_HELP),
         Argument("user", ArgumentKind::Option("NAME"), USER_HELP),
         Argument("script", ArgumentKind::Option("SCRIPT"), SCRIPT_HELP),
+        Argument("rules", ArgumentKind::Option("RULES"), RULES_HELP),
     ],
 };
 
@@ -151,6 +155,18 @@ fn usage_of(alloc: Global, text: &str) -> UsageFault
     }
 }
 
+// Tells why what is asked by these values is nothing: the rules are unknown, or there is no question.
+fn no_question(alloc: Global, matches: &ArgMatches<'_>) -> UsageFault
+    ensures { (words : List Text) → (kinds : Kinds)
+        → CanNotBeAsked (asked_by (subcommand_of mqroute_acl words))
+        → IsFaultOf words kinds result }
+{
+    match unknown_rules(matches) {
+        Some(word) => UsageFault::of_value(alloc, word, "--rules <RULES>", "own, mosquitto"),
+        None => usage_of(alloc, NO_QUESTION),
+    }
+}
+
 // What the values that `clap` took ask.
 fn asked<'a>(alloc: Global, matches: &ArgMatches<'a>) -> Result<Request<'a>, UsageFault>
     ensures ok { IfOk result (IsGivenBy (subcommand_rows_of matches.now)) }
@@ -159,7 +175,7 @@ fn asked<'a>(alloc: Global, matches: &ArgMatches<'a>) -> Result<Request<'a>, Usa
         → IsFaultOf words kinds fault) }
 {
     let Some(request) = request_in(alloc, matches)? else {
-        return Err(usage_of(alloc, NO_QUESTION));
+        return Err(no_question(alloc, matches));
     };
     if request.question.input_count() > 1 {
         return Err(usage_of(alloc, INPUT_TWICE));

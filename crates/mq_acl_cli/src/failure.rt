@@ -12,6 +12,10 @@ pub const UNREADABLE: u8 = 2;
 /// The exit status where a write failed or memory ran out.
 pub const FAILED: u8 = 3;
 
+fn plural(count: u64) -> &'static str {
+    if count == 1 { "" } else { "s" }
+}
+
 /// Why the program answers nothing, as it is told: behind the line that has the fault, or behind the program's name.
 #[derive(Debug, Drop, Error)]
 pub enum Failure<'a> {
@@ -40,11 +44,21 @@ pub enum Failure<'a> {
         file: &'a str,
         line: u64,
     },
+    /// By mosquitto's rules a question that isn't answered of a `pattern` line with a mark that is a part of a level.
+    #[error("{file}:{line}: %c or %u is a part of a level: by mosquitto's rules it is only answered where it is a whole one")]
+    Mark {
+        file: &'a str,
+        line: u64,
+    },
+    /// By mosquitto's rules: with the client's texts in the place of its marks a `pattern` line has a level of over 300
+    /// bytes, or is no topic filter.
+    #[error("mqroute-acl: with the client's texts for %c and %u a pattern line has a level of more than 300 bytes or is no topic filter")]
+    LongPattern,
     /// The client id, the user name or a level of the filter has over 300 bytes.
     #[error("mqroute-acl: a client id, a user name or a level of more than 300 bytes")]
     LongWord,
     /// The steps don't suffice: so many rows have to be seen together with the one on this line.
-    #[error("mqroute-acl: {file}: gave up: line {line} and {others} others overlap in too many ways")]
+    #[error("mqroute-acl: {file}: gave up: line {line} and {others} other{s} overlap in too many ways", s = plural(*.others))]
     GaveUp {
         file: &'a str,
         line: u64,

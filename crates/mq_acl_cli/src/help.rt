@@ -6,7 +6,10 @@ pub(crate) const ABOUT: &str =
 pub(crate) const AFTER_HELP: &str = "\
 An access list is a file in the form of mosquitto.conf(5)'s acl_file. What is
 answered holds for every client id that a broker can have, every user name that
-it can have or none, and every topic. A file - is standard input.
+it can have or none, and every topic. It is by rules of our own; with --rules
+mosquitto it is by those of mosquitto 2.0, where compare and lint leave out ids
+and user names with /, + or # if a list has pattern lines, and say so on
+standard error. A file - is standard input.
 
 Exit status:
   0  both lists allow the same, no line is remarked on other than lines that
@@ -37,6 +40,9 @@ pub(crate) const FILTER_HELP: &str = "The topic filter of the subscription; $sha
 pub(crate) const USER_HELP: &str = "The user name of the client (none)";
 
 pub(crate) const STEPS_HELP: &str = "Give up after so many steps (20,000,000: some ten seconds)";
+
+pub(crate) const RULES_HELP: &str =
+    "By whose rules lists are read, and decide: own, or mosquitto for those of mosquitto 2.0 (own)";
 
 pub(crate) const JSON_HELP: &str = "Write JSON, one object a line";
 

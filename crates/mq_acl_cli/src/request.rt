@@ -4,11 +4,13 @@ ghost use Rattle.std.specs.Option.{option_copied};
 ghost use Rattle.clap.specs.Words.{all_of, first_of, rows_of, found_of, subcommand_rows_of};
 ghost use Rattle.mq_acl_cli.specs.CommandLine.{question_view, asked, files_of, GivesAsked};
 ghost use Rattle.mq_acl_cli.specs.CommandLine.{all_asked, compare_asked, lint_asked, one_asked};
-ghost use Rattle.mq_acl_cli.specs.CommandLine.{reach_asked_by, steps_given, why_asked_by};
+ghost use Rattle.mq_acl_cli.specs.CommandLine.{reach_asked_by, rules_asked, rules_given};
+ghost use Rattle.mq_acl_cli.specs.CommandLine.{steps_given, why_asked_by};
 ghost use Rattle.mq_acl_cli.specs.Files.{input_count};
 
 use crate::files::inputs_among;
 use clap::ArgMatches;
+use mq_acl::Rules;
 use std::alloc::{AllocError, Global};
 
 /// A client.
@@ -71,15 +73,24 @@ impl Question<'_> {
     }
 }
 
+/// How a question is answered.
+#[derive(Clone, Copy, Drop)]
+pub struct Options {
+    /// Whether the answer is to be JSON.
+    pub json: bool,
+    /// How many steps may be taken to compare lists, or to know which lines are needless.
+    pub steps: u64,
+    /// By whose rules lists are read, and decide.
+    pub rules: Rules,
+}
+
 /// What the command line asks for.
 #[derive(Drop)]
 pub struct Request<'a> {
     /// The question.
     pub question: Question<'a>,
-    /// Whether the answer is to be JSON.
-    pub json: bool,
-    /// How many steps may be taken to compare lists, or to know which lines are needless.
-    pub steps: u64,
+    /// How it is answered.
+    pub options: Options,
 }
 
 /// How many steps may be taken where nothing is said of them: some ten seconds.
@@ -209,7 +220,17 @@ fn steps_in(matches: &ArgMatches<'_>) -> u64
     u64::from(matches.get_one("steps").unwrap_or(USUAL_STEPS))
 }
 
-// The same, with whether JSON is asked for, and the steps.
+// By whose rules, if the word for them is known: by our own where there is none.
+fn rules_in(matches: &ArgMatches<'_>) -> Option<Rules>
+    ensures { result ≡ rules_asked (rows_of (found_of matches.now)) }
+{
+    match value(matches, "rules") {
+        Some(word) => Rules::named(word),
+        None => Some(Rules::Own),
+    }
+}
+
+// The same, with how it is answered.
 fn request_of<'a>(
     alloc: Global,
     name: &str,
@@ -217,15 +238,27 @@ fn request_of<'a>(
 ) -> Result<Option<Request<'a>>, AllocError>
     ensures { IfOk result (GivesAsked (Some (name.now, rows_of (found_of matches.now)))) }
 {
-    let json = matches.get_flag("json");
-    let steps = steps_in(matches);
+    let Some(rules) = rules_in(matches) else {
+        return Ok(None);
+    };
+    let options = Options {
+        json: matches.get_flag("json"),
+        steps: steps_in(matches),
+        rules,
+    };
     match question_in(alloc, name, matches)? {
-        Some(question) => Ok(Some(Request {
-            question,
-            json,
-            steps,
-        })),
+        Some(question) => Ok(Some(Request { question, options })),
         None => Ok(None),
+    }
+}
+
+/// The word for the rules in the values of a command line, if it is unknown.
+pub(crate) fn unknown_rules<'a>(matches: &ArgMatches<'a>) -> Option<&'a str> {
+    let (_, values) = matches.subcommand()?;
+    let word = value(values, "rules")?;
+    match Rules::named(word) {
+        Some(_) => None,
+        None => Some(word),
     }
 }
 

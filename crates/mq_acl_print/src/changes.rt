@@ -4,10 +4,19 @@ use crate::list::{Line, Lines, ListText, lines_of};
 use crate::notes::notes_on;
 use crate::table::{add_cell, widened};
 use crate::who::who_text;
-use mq_acl::Direction;
+use mq_acl::{Direction, Rules};
 use mq_findings::{Difference, Group, Reason, Way, gather};
 use mq_topic::LevelText;
 use std::alloc::{AllocError, Global};
+
+/// By whose rules lists were compared, and for whom.
+#[derive(Clone, Copy, Drop)]
+pub struct Scope {
+    /// Whose.
+    pub rules: Rules,
+    /// Whether client ids and user names with `/`, `+` or `#` are left out.
+    pub is_limited: bool,
+}
 
 // A group of differences in words.
 struct ChangeRow<'a> {
@@ -156,7 +165,7 @@ fn add_row(text: &mut String, row: &ChangeRow<'_>, widths: Widths) -> Result<(),
     add_side(text, &row.new, widths.place)
 }
 
-fn table(alloc: Global, rows: &[ChangeRow<'_>]) -> Result<String, AllocError> {
+fn table(alloc: Global, rules: Rules, rows: &[ChangeRow<'_>]) -> Result<String, AllocError> {
     let widths = widths_of(rows);
     let mut text = String::new(alloc);
     for row in rows {
@@ -164,7 +173,11 @@ fn table(alloc: Global, rows: &[ChangeRow<'_>]) -> Result<String, AllocError> {
     }
     let count = rows.len();
     let plural = if count == 1 { "" } else { "s" };
-    writeln!(text, "{count} difference{plural}")?;
+    let whose = match rules {
+        Rules::Own => "",
+        Rules::Mosquitto => " by mosquitto's rules",
+    };
+    writeln!(text, "{count} difference{plural}{whose}")?;
     Ok(text)
 }
 
@@ -216,6 +229,7 @@ fn json_lines(
 
 fn words<'a>(
     alloc: Global,
+    rules: Rules,
     old: Lines<'a, 'a, 'a>,
     new: Lines<'a, 'a, 'a>,
     groups: &'a [Group],
@@ -224,12 +238,30 @@ fn words<'a>(
     for group in groups {
         rows.push(change_row(alloc, old, new, group)?)?;
     }
-    table(alloc, &rows)
+    table(alloc, rules, &rows)
+}
+
+// That the lists don't differ.
+fn same_text(alloc: Global, scope: Scope) -> Result<String, AllocError> {
+    let whose = match scope.rules {
+        Rules::Own => "mqroute's own",
+        Rules::Mosquitto => "mosquitto's",
+    };
+    let which = if scope.is_limited {
+        " without /, + and # that"
+    } else {
+        ""
+    };
+    format!(in alloc;
+        "by {whose} rules both lists allow the same, on every topic, \
+         to every client id and user name{which} a broker can have\n"
+    )
 }
 
 /// Where the lists differ: as a table of differences that are alike, or as JSON, one difference a line.
 pub fn changes_text(
     alloc: Global,
+    scope: Scope,
     old: ListText<'_, '_>,
     new: ListText<'_, '_>,
     differences: Vec<Difference>,
@@ -249,11 +281,8 @@ pub fn changes_text(
         return json_lines(alloc, old, new, &differences);
     }
     if differences.is_empty() {
-        return String::from_str(alloc, SAME);
+        return same_text(alloc, scope);
     }
     let groups = gather(alloc, differences)?;
-    words(alloc, old, new, &groups)
+    words(alloc, scope.rules, old, new, &groups)
 }
-
-const SAME: &str =
-    "both lists allow the same, on every topic, to every client id and user name a broker can have\n";

@@ -14,7 +14,7 @@ mod table;
 mod topic;
 mod who;
 
-pub use changes::changes_text;
+pub use changes::{Scope, changes_text};
 pub use explanation::explanation_text;
 pub use faults::fault_words;
 pub use json::{Datum, add_object};

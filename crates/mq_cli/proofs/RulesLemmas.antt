@@ -8,13 +8,14 @@ use Rattle.clap.specs.Words.{HasKind, IsAmong, Kinds, Text, fault_of}
 use Rattle.clap.specs.declared.error.Error.{Error}
 use Rattle.clap.specs.declared.error.ErrorKind.{ErrorKind}
 use Rattle.clap.specs.declared.error.ErrorKind.TheVariants.{InvalidValue}
+use Rattle.mq_acl.specs.AccessLists.{rules_named}
 use Rattle.mq_acl.specs.declared.rules.Rules.{Rules}
 use Rattle.mq_acl.specs.declared.rules.Rules.TheVariants.{Own}
 use Rattle.mq_args.specs.Usage.{IsFaultOf}
 use Rattle.mq_args.specs.declared.usage.UsageFault.{UsageFault}
 use Rattle.mq_args.specs.declared.usage.UsageFault.TheVariants.{Help, Usage, Memory}
 use Rattle.mq_cli.specs.declared.command_line.Options.{Options}
-use Rattle.mq_cli.specs.CommandLine.{AreGiven, faults_in, given, mqroute, rules_asked, rules_named}
+use Rattle.mq_cli.specs.CommandLine.{AreGiven, faults_in, given, mqroute, rules_asked}
 
 -- a kind among the first is among both
 among_first : (k : ErrorKind) (first next : Kinds) → IsAmong k first

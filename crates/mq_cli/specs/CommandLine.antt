@@ -3,13 +3,13 @@ use Rattle.std.specs.Prelude.{◌≡◌, ◌↔◌, ℕ, List, [], ◌∷◌, Op
 use Rattle.std.specs.Prelude.{option_map, option_and_then, unwrap_or, if◌then◌else◌}
 use Rattle.std.specs.Prelude.{codes, string_bytes, IsTrue}
 use Rattle.std.specs.Option.{option_map_or}
-use Rattle.std.specs.Str.{bytes_eq}
 use Rattle.clap.specs.Kinds.{or_else}
 use Rattle.clap.specs.Words.{App, Kinds, Rule, Text, new_app, with_rule, first_of, one_of}
 use Rattle.clap.specs.Words.{fault_of, matches_of}
 use Rattle.clap.specs.declared.error.ErrorKind.TheVariants.{InvalidValue}
+use Rattle.mq_acl.specs.AccessLists.{rules_named}
 use Rattle.mq_acl.specs.declared.rules.Rules.{Rules}
-use Rattle.mq_acl.specs.declared.rules.Rules.TheVariants.{Own, Mosquitto}
+use Rattle.mq_acl.specs.declared.rules.Rules.TheVariants.{Own}
 use Rattle.mq_args.specs.Arguments.{flag, number_option, option, optional_argument}
 use Rattle.mq_args.specs.Numbers.{number_in}
 use Rattle.mq_cli.specs.declared.command_line.Options.{Options}
@@ -44,13 +44,6 @@ given id words = first_of id (matches_of mqroute words)
 -- the number of an option in the words
 abbrev pub number_given : Text → List Text → Option ℕ
 number_given id words = option_and_then number_in (one_of id (matches_of mqroute words))
-
--- the rules that a word names
-abbrev pub rules_named : Text → Option Rules
-rules_named word =
-    if bytes_eq word (codes "own") then Some Own
-    else (if bytes_eq word (codes "mosquitto") then Some Mosquitto
-    else None)
 
 -- the rules that the words name, or our own where they name none; none where they name unknown ones
 abbrev pub rules_asked : List Text → Option Rules

@@ -4,7 +4,8 @@ ghost use Rattle.std.specs.Prelude.{OnOk, IfErr, Some, None};
 ghost use Rattle.clap.specs.Words.{app_of, rows_of, found_of, matches_of, fault_of};
 ghost use Rattle.clap.specs.Words.{Text, FailsBy, IsAmong, Kinds};
 ghost use Rattle.mq_args.specs.Usage.{IsFaultOf};
-ghost use Rattle.mq_cli.specs.CommandLine.{mqroute, AreGiven, faults_in, rules_asked, rules_named};
+ghost use Rattle.mq_acl.specs.AccessLists.{rules_named};
+ghost use Rattle.mq_cli.specs.CommandLine.{mqroute, AreGiven, faults_in, rules_asked};
 
 use clap::error::ErrorKind;
 use clap::{ArgMatches, Command, Error};
@@ -129,22 +130,12 @@ fn copied(alloc: Global, text: Option<&str>) -> Result<Option<String>, AllocErro
     }
 }
 
-fn rules_named(word: &str) -> Option<Rules>
-    ensures { result ≡ rules_named word.now }
-{
-    match word {
-        "own" => Some(Rules::Own),
-        "mosquitto" => Some(Rules::Mosquitto),
-        _ => None,
-    }
-}
-
 fn rules_of(alloc: Global, word: &str) -> Result<Rules, UsageFault>
     ensures ok { IfOk result (λ rules. Some rules ≡ rules_named word.now) }
     ensures err { IfErr result (λ fault. (rules_named word.now ≡ None)
         × ((kinds : Kinds) → IsAmong ErrorKind.InvalidValue kinds → IsFaultOf kinds fault)) }
 {
-    match rules_named(word) {
+    match Rules::named(word) {
         Some(rules) => Ok(rules),
         None => Err(UsageFault::of_value(alloc, word, "--rules <RULES>", "own, mosquitto")),
     }

@@ -1,20 +1,21 @@
 -- All that changes from one list to another.
-use Rattle.std.proofs.Common.{◌≡◌, ◌+◌, ◌<◌, ◌≤◌, ℕ, Bool, true, false, not, ◌&&◌, cond, List}
+use Rattle.std.proofs.Common.{◌≡◌, ◌+◌, ◌<◌, ◌≤◌, ◌==◌, ℕ, Bool, true, false, not, ◌&&◌, cond, List}
 use Rattle.std.proofs.Common.{[], ◌∷◌, ◌++◌, Option, Some, None, All, length, get_or, ltb, refl, ap}
-use Rattle.std.proofs.Common.{sym, ◌∙◌, subst, arith, Bor, bytes_eq, zero, suc}
+use Rattle.std.proofs.Common.{sym, ◌∙◌, subst, arith, Bor, bytes_eq, zero, suc, Contains}
 use Rattle.std.specs.List.{filter, list_any}
 use Rattle.std.proofs.lemmas.Bool.{ltb-true, ltb-false}
-use Rattle.std.proofs.lemmas.List.Elements.{All-filter, All-nil, All-weaker}
+use Rattle.std.proofs.lemmas.List.Elements.{All-append, All-filter, All-nil, All-weaker}
 use Rattle.std.proofs.lemmas.List.Folds.{list_any_at}
 use Rattle.mq_topic.proofs.ByteLemmas.{text_is, text_itself}
 use Rattle.mq_topic.specs.Texts.{is_name}
 use Rattle.mq_acl.specs.AccessLists.{allow_by}
-use Rattle.mq_acl.specs.declared.rules.Rules.TheVariants.{Own}
-use Rattle.mq_acl.specs.Access.{is_deny, grants}
-use Rattle.mq_acl.specs.Views.{access_view, owner_view, row_view, row_views}
+use Rattle.mq_acl.specs.declared.rules.Rules.{Rules}
+use Rattle.mq_acl.specs.Views.{line_views, owner_view, row_view, row_views}
 use Rattle.mq_acl.specs.declared.access.Direction.{Direction}
+use Rattle.mq_acl.specs.declared.access.Direction.TheVariants.{Reading, Writing}
 use Rattle.mq_acl.specs.declared.row.Row.{Row}
-use Rattle.mq_witness.specs.Asked.{AskedRows}
+use Rattle.mq_witness.specs.Asked.{AskedRows, is_client_of}
+use Rattle.mq_witness.specs.Ruled.{are_asked_of}
 use Rattle.mq_witness.specs.Clients.{can_be_id}
 use Rattle.mq_witness.specs.Literals.{is_among}
 use Rattle.mq_witness.specs.Rows.{is_user_of}
@@ -22,11 +23,18 @@ use Rattle.mq_witness.specs.declared.clients.Clients.{Clients}
 use Rattle.mq_witness.specs.declared.clients.Clients.TheVariants as clients
 use Rattle.mq_findings.specs.ByOwner.{IsGrouped, is_for}
 use Rattle.mq_findings.specs.Changes.{TellsIn, TellsUser}
+use Rattle.mq_findings.specs.Faults.{IsComparisonFault}
+use Rattle.mq_findings.specs.Steps.{enough_steps}
+use Rattle.mq_findings.specs.declared.fault.ComparisonFault.{ComparisonFault}
+use Rattle.mq_findings.specs.declared.fault.ComparisonFault.TheVariants as comparison
+use Rattle.mq_findings.specs.declared.fault.Side.TheVariants.{Old, New}
 use Rattle.mq_findings.specs.Classes.{can_be_user}
 use Rattle.mq_findings.specs.Differences.{AreMarked, AreUnnamed, IsKnown, IsMarked, IsReal}
-use Rattle.mq_findings.specs.Differences.{ShowsOthers, TellsAll, is_told_of}
+use Rattle.mq_findings.specs.Differences.{ShowsOthers, TellsAll, is_compared, is_told_of}
 use Rattle.mq_findings.specs.Marks.{ArePlaced, IsKept, rows_of}
-use Rattle.mq_findings.specs.Questions.{AreJudges, AreRowsFor, IsList}
+use Rattle.mq_findings.specs.Questions.{AreJudges, AreRowsFor, HasDenies, IsList, IsPoint, IsStop, judging}
+use Rattle.mq_findings.specs.Questions.{ranked_marks}
+use Rattle.mq_findings.specs.Ranks.{is_judge, judges as judges_in, rank, ranked}
 use Rattle.mq_findings.specs.Reports.{Grows, IsReport, IsSound}
 use Rattle.mq_findings.specs.declared.by_owner.ByOwner.{ByOwner}
 use Rattle.mq_findings.specs.declared.difference.Difference.{Difference}
@@ -50,18 +58,6 @@ filter_rows p (m ∷ ms) = at (p m.row.now) (filter_rows p ms)
     at true e = ap (λ l. m.row.now ∷ l) e
     at false e = e
 
-filter_both : {X : Type 0} (p q : X → Bool) (xs : List X)
-    → filter q (filter p xs) ≡ filter (λ x. p x && q x) xs
-filter_both p q [] = refl
-filter_both p q (x ∷ xs) = at (p x) (q x) refl (filter_both p q xs)
-  where
-    at : (a b : Bool) → q x ≡ b → filter q (filter p xs) ≡ filter (λ x. p x && q x) xs
-        → filter q (cond a (x ∷ filter p xs) (filter p xs))
-        ≡ cond (a && b) (x ∷ filter (λ x. p x && q x) xs) (filter (λ x. p x && q x) xs)
-    at true true e f = rw e (ap (λ l. x ∷ l) f)
-    at true false e f = rw e f
-    at false b e f = f
-
 -- the rows of a list for some clients
 pub rows_for : (rows others : List Row) (by_owner : ByOwner) (c : Clients) (all : List Marked)
     → IsList rows others by_owner
@@ -79,27 +75,39 @@ rows_for rows others by_owner c all l f =
     }
 
 -- those of them that decide
-pub judges_of : (rows others : List Row) (c : Clients) (direction : Direction)
+pub judges_of : (rules : Rules) (rows others : List Row) (c : Clients) (direction : Direction)
     (all : List Marked) (judges : Judges) → AreRowsFor rows others c all
-    → judges.denies.items ≡ filter (λ m. is_deny (row_view m.row.now).access) all
-    → judges.grants.items ≡ filter (λ m. grants direction (row_view m.row.now).access) all
-    → AreJudges rows others c direction judges
-judges_of rows others c direction all judges a d g = record {
-  denies = ap rows_of d ∙ filter_rows (λ (r : Row). is_deny (access_view r.access)) all
-      ∙ ap (filter (λ (r : Row). is_deny (access_view r.access))) a.are
-      ∙ filter_both (λ (r : Row). is_for c (owner_view r.owner))
-      (λ (r : Row). is_deny (access_view r.access)) rows;
-  grants = ap rows_of g ∙ filter_rows (λ (r : Row). grants direction (access_view r.access)) all
-      ∙ ap (filter (λ (r : Row). grants direction (access_view r.access))) a.are
-      ∙ filter_both (λ (r : Row). is_for c (owner_view r.owner))
-      (λ (r : Row). grants direction (access_view r.access)) rows;
-  denies_kept = subst (All (IsKept (row_views others))) (sym d)
-      (All-filter (λ (m : Marked). is_deny (row_view m.row.now).access)
-      (IsKept (row_views others)) all a.kept);
-  grants_kept = subst (All (IsKept (row_views others))) (sym g)
-      (All-filter (λ (m : Marked). grants direction (row_view m.row.now).access)
-      (IsKept (row_views others)) all a.kept);
+    → judges.rows.items ≡ judging rules direction all
+    → HasDenies judges.rows.items judges.denies.items
+    → AreJudges rules rows others c direction judges
+judges_of rules rows others c direction all judges a is denies = record {
+  are = ap rows_of is ∙ four ∙ ap (judges_in rules direction) a.are;
+  kept = subst (All (IsKept (row_views others))) (sym is)
+      (All-append (IsKept (row_views others)) (ranked_marks rules direction 0 all) _ (at 0)
+      (All-append (IsKept (row_views others)) (ranked_marks rules direction 1 all) _ (at 1)
+      (All-append (IsKept (row_views others)) (ranked_marks rules direction 2 all) _ (at 2) (at 3))));
+  denies = denies;
 }
+  where
+    at : (place : ℕ) → All (IsKept (row_views others)) (ranked_marks rules direction place all)
+    at place = All-filter (λ (m : Marked). is_judge direction (row_view m.row.now)
+        && (rank rules (row_view m.row.now) == place)) (IsKept (row_views others)) all a.kept
+
+    rows_both : (xs ys : List Marked) → rows_of (xs ++ ys) ≡ rows_of xs ++ rows_of ys
+    rows_both [] ys = refl
+    rows_both (x ∷ xs) ys = ap (λ l. x.row.now ∷ l) (rows_both xs ys)
+
+    of_rank : (place : ℕ) → rows_of (ranked_marks rules direction place all)
+        ≡ ranked rules direction place (rows_of all)
+    of_rank place = filter_rows (λ (r : Row). is_judge direction (row_view r)
+        && (rank rules (row_view r) == place)) all
+
+    four : rows_of (judging rules direction all) ≡ judges_in rules direction (rows_of all)
+    four =
+        rows_both (ranked_marks rules direction 0 all) _
+        ∙ (λ i. of_rank 0 i ++ (rows_both (ranked_marks rules direction 1 all) _
+        ∙ (λ i. of_rank 1 i ++ (rows_both (ranked_marks rules direction 2 all) _
+        ∙ (λ i. of_rank 2 i ++ of_rank 3 i)) i)) i)
 
 -- ---- what was told stays told
 pub tells_kept : (lists : Lists) (c : Clients) (way : Way) (direction : Direction)
@@ -107,15 +115,45 @@ pub tells_kept : (lists : Lists) (c : Clients) (way : Way) (direction : Directio
     → Grows lists.old.now lists.new.now lists.asked before after
     → TellsIn lists c way direction before → TellsIn lists c way direction after
 tells_kept lists c way direction before after g t client topic user p e =
-    g.kept (is_told_of lists.old.now lists.new.now way direction client user topic)
+    g.kept (is_told_of lists.asked.rules lists.old.now lists.new.now way direction client user topic)
     (t client topic user p e)
 
 user_kept : (lists : Lists) (user : Option (List ℕ)) (before after : List Difference)
     → Grows lists.old.now lists.new.now lists.asked before after
     → TellsUser lists user before → TellsUser lists user after
-user_kept lists user before after g t way direction client topic c u v e =
-    g.kept (is_told_of lists.old.now lists.new.now way direction client user topic)
-    (t way direction client topic c u v e)
+user_kept lists user before after g t way direction client topic c u a v e =
+    g.kept (is_told_of lists.asked.rules lists.old.now lists.new.now way direction client user topic)
+    (t way direction client topic c u a v e)
+
+-- both ways, and both directions
+pub tells_ways : (lists : Lists) (c : Clients) (direction : Direction) (told : List Difference)
+    → TellsIn lists c Gained direction told → TellsIn lists c Lost direction told
+    → (way : Way) → TellsIn lists c way direction told
+tells_ways lists c direction told g l Gained = g
+tells_ways lists c direction told g l Lost = l
+
+pub tells_directions : (lists : Lists) (c : Clients) (told : List Difference)
+    → ((way : Way) → TellsIn lists c way Reading told)
+    → ((way : Way) → TellsIn lists c way Writing told)
+    → (way : Way) (direction : Direction) → TellsIn lists c way direction told
+tells_directions lists c told r w way Reading = r way
+tells_directions lists c told r w way Writing = w way
+
+-- ---- whom they are compared for
+-- a client that they are compared for is one that questions are about
+point : (lists : Lists) {c : Clients} (client : List ℕ) (user : Option (List ℕ)) (topic : List ℕ)
+    → lists.asked.rows ≡ row_views lists.old.now ++ row_views lists.new.now
+    → can_be_id client ≡ true → is_client_of lists.asked c user ≡ true
+    → is_compared lists.asked.rules lists.old.now lists.new.now client user ≡ true
+    → is_name topic ≡ true → IsPoint lists.asked c client user topic
+point lists client user topic is c u a v = record {
+  is_asked = record {
+    client_fits = c;
+    user_fits = u;
+    are_asked = ap (λ rs. are_asked_of lists.asked.rules rs client user) is ∙ a;
+  };
+  valid = v;
+}
 
 -- ---- the clients of each user name
 -- all is told of the clients of the first names
@@ -133,12 +171,13 @@ same_name (r ∷ rs) (suc k) a b h = same_name rs k a b (omega arith)
 
 -- what is told of the clients of a user name is told of each with that name
 pub tells_user : (lists : Lists) (name : Bor (List ℕ)) (told : List Difference)
+    → lists.asked.rows ≡ row_views lists.old.now ++ row_views lists.new.now
     → ((way : Way) (direction : Direction)
     → TellsIn lists (clients.Named name) way direction told)
     → TellsUser lists (Some name.now) told
-tells_user lists name told t way direction client topic c u v e =
+tells_user lists name told is t way direction client topic c u a v e =
     t way direction client topic (Some name.now)
-    (record { client_fits = c; user_fits = rw (text_itself name.now, u) refl; valid = v }) e
+    (point lists client (Some name.now) topic is c (rw (text_itself name.now, u) refl) a v) e
 
 pub users_one : (lists : Lists) (names : List (Bor (List ℕ))) (n : ℕ) (name : Bor (List ℕ))
     (first told more : List Difference) → n < length names → name ≡ get_or names n name
@@ -188,6 +227,7 @@ users_all lists names n first told end all s user listed =
 
 -- ---- all clients
 pub tells_all_clients : (lists : Lists) (anonymous users told : List Difference)
+    → lists.asked.rows ≡ row_views lists.old.now ++ row_views lists.new.now
     → Grows lists.old.now lists.new.now lists.asked anonymous users
     → Grows lists.old.now lists.new.now lists.asked users told
     → ((way : Way) (direction : Direction)
@@ -195,25 +235,25 @@ pub tells_all_clients : (lists : Lists) (anonymous users told : List Difference)
     → ((user : List ℕ) → is_user_of user lists.asked.rows ≡ true
     → TellsUser lists (Some user) users)
     → ((way : Way) (direction : Direction) → TellsIn lists clients.Others way direction told)
-    → TellsAll lists.old.now lists.new.now told
-tells_all_clients lists anonymous users told g h a u o way direction client topic None c f v e =
-    h.kept (is_told_of lists.old.now lists.new.now way direction client None topic)
-    (g.kept (is_told_of lists.old.now lists.new.now way direction client None topic)
-    (a way direction client topic None
-    (record { client_fits = c; user_fits = refl; valid = v }) e))
-tells_all_clients lists anonymous users told g h a u o way direction client topic (Some name) c f v
-    e =
+    → TellsAll lists.asked.rules lists.old.now lists.new.now told
+tells_all_clients lists anonymous users told is g h n u o way direction client topic None c f a v e =
+    let p = is_told_of lists.asked.rules lists.old.now lists.new.now way direction client None topic
+    in
+    h.kept p (g.kept p (n way direction client topic None
+    (point lists client None topic is c refl a v) e))
+tells_all_clients lists anonymous users told is g h n u o way direction client topic (Some name) c f
+    a v e =
     at (is_user_of name lists.asked.rows) refl
   where
     at : (b : Bool) → is_user_of name lists.asked.rows ≡ b
-        → list_any (is_told_of lists.old.now lists.new.now way direction client (Some name) topic)
-        told ≡ true
+        → list_any (is_told_of lists.asked.rules lists.old.now lists.new.now way direction client
+        (Some name) topic) told ≡ true
     at true k =
-        h.kept (is_told_of lists.old.now lists.new.now way direction client (Some name) topic)
-        (u name k way direction client topic c f v e)
+        h.kept (is_told_of lists.asked.rules lists.old.now lists.new.now way direction client
+        (Some name) topic) (u name k way direction client topic c f a v e)
     at false k =
         o way direction client topic (Some name)
-        (record { client_fits = c; user_fits = rw (f, k) refl; valid = v }) e
+        (point lists client (Some name) topic is c (rw (f, k) refl) a v) e
 
 -- ---- the answer
 pub report_none : (old new : List Row) (asked : AskedRows) (told : List Difference) → told ≡ []
@@ -227,33 +267,35 @@ report_none old new asked told e =
 
 pub report_marked : (old new : List Row) (asked : AskedRows) (told : List Difference)
     → asked.rows ≡ row_views old ++ row_views new → IsReport old new asked told
-    → AreMarked old new told
+    → AreMarked asked.rules old new told
 report_marked old new asked told is r = record {
   asked = asked;
   rows = is;
   marked = All-weaker (IsSound old new asked) (IsMarked asked) (λ d s. s.marked) told r.sound;
   unnamed = All-weaker (IsSound old new asked) (AreUnnamed asked) (λ d s. s.unnamed) told r.sound;
   known = All-weaker (IsSound old new asked) (IsKnown asked) (λ d s. s.known) told r.sound;
-  stands = All-weaker (IsSound old new asked) (ShowsOthers old new asked) (λ d s. s.stands) told
+  stands = All-weaker (IsSound old new asked) (ShowsOthers asked.rules old new asked) (λ d s. s.stands) told
       r.sound;
 }
 
 pub report_real : (old new : List Row) (asked : AskedRows) (told : List Difference)
-    → IsReport old new asked told → All (IsReal old new) told
+    → IsReport old new asked told → All (IsReal asked.rules old new) told
 report_real old new asked told r =
-    All-weaker (IsSound old new asked) (IsReal old new) (λ d s. s.real) told r.sound
+    All-weaker (IsSound old new asked) (IsReal asked.rules old new) (λ d s. s.real) told r.sound
 
 -- where nothing is told, nothing changed
-pub same_allowed : (old new : List Row) (told : List Difference) → TellsAll old new told
-    → told ≡ [] → (client topic : List ℕ) (user : Option (List ℕ)) (direction : Direction)
-    → can_be_id client ≡ true → can_be_user user ≡ true → is_name topic ≡ true
-    → allow_by Own (row_views old) client user topic direction
-    ≡ allow_by Own (row_views new) client user topic direction
-same_allowed old new told t e client topic user direction c f v =
-    let none = subst (TellsAll old new) e t in
-    at (allow_by Own (row_views old) client user topic direction)
-    (allow_by Own (row_views new) client user topic direction)
-    (none Gained direction client topic user c f v) (none Lost direction client topic user c f v)
+pub same_allowed : (rules : Rules) (old new : List Row) (told : List Difference)
+    → TellsAll rules old new told → told ≡ [] → (client topic : List ℕ) (user : Option (List ℕ))
+    (direction : Direction) → can_be_id client ≡ true → can_be_user user ≡ true
+    → is_compared rules old new client user ≡ true → is_name topic ≡ true
+    → allow_by rules (row_views old) client user topic direction
+    ≡ allow_by rules (row_views new) client user topic direction
+same_allowed rules old new told t e client topic user direction c f a v =
+    let none = subst (TellsAll rules old new) e t in
+    at (allow_by rules (row_views old) client user topic direction)
+    (allow_by rules (row_views new) client user topic direction)
+    (none Gained direction client topic user c f a v)
+    (none Lost direction client topic user c f a v)
   where
     at : (a b : Bool) → ((b && not a) ≡ true → false ≡ true) → ((a && not b) ≡ true → false ≡ true)
         → a ≡ b
@@ -261,3 +303,27 @@ same_allowed old new told t e client topic user direction c f v =
     at true false f g = absurd (let q = g refl in cc)
     at false true f g = absurd (let q = f refl in cc)
     at false false f g = refl
+
+-- where the comparison stops
+pub stop_fault : (rules : Rules) (lists : Lists) (old new : List Row) (steps : ℕ)
+    → lists.old.now ≡ old → lists.new.now ≡ new
+    → (lists.limited ≡ true → steps < enough_steps (length old + length new))
+    → (f : ComparisonFault) → IsStop lists f → IsComparisonFault rules old new steps f
+stop_fault rules lists old new steps o n l comparison.Memory s = s
+stop_fault rules lists old new steps o n l (comparison.OldLine _) s = elim s [ ]
+stop_fault rules lists old new steps o n l (comparison.NewLine _) s = elim s [ ]
+stop_fault rules lists old new steps o n l (comparison.OldMark _) s = elim s [ ]
+stop_fault rules lists old new steps o n l (comparison.NewMark _) s = elim s [ ]
+stop_fault rules lists old new steps o n l (comparison.GaveUp Old line others) s =
+    (subst (λ rows. Contains (line_views rows) line) o s.0, l s.1)
+stop_fault rules lists old new steps o n l (comparison.GaveUp New line others) s =
+    (subst (λ rows. Contains (line_views rows) line) n s.0, l s.1)
+
+-- what is so of the lists that are asked is so of those that are given
+pub carried : (P : Rules → (old new : List Row) → List Difference → Type 0) → {r s : Rules}
+    → {old old2 new new2 : List Row} → {told told2 : List Difference} → r ≡ s → old ≡ old2
+    → new ≡ new2 → told2 ≡ told → P r old new told → P s old2 new2 told2
+carried P {s = s} {old = old} {old2 = old2} {new = new} {new2 = new2} {told = told} er eo en et x =
+    subst (λ t. P s old2 new2 t) (sym et)
+    (subst (λ n. P s old2 n told) en
+    (subst (λ o. P s o new told) eo (subst (λ r. P r old new told) er x)))

@@ -1,21 +1,23 @@
 -- The rows that are asked about are rows of the lists.
-use Rattle.std.proofs.Common.{◌≡◌, List, [], ◌∷◌, ◌++◌, All, Contains}
-use Rattle.std.proofs.Common.{Option, Some, None, ◌&&◌, refl, sym, ◌∙◌, subst, Bor, ⊎_elim}
+use Rattle.std.proofs.Common.{◌≡◌, ℕ, ◌==◌, List, [], ◌∷◌, ◌++◌, All, Contains}
+use Rattle.std.proofs.Common.{Option, Some, None, ◌&&◌, refl, sym, ◌∙◌, subst, Bor}
 use Rattle.std.specs.Option.{option_map}
 use Rattle.std.proofs.lemmas.List.Elements.{All-append, All-contains_itself, All-cons, All-filter}
 use Rattle.std.proofs.lemmas.List.Elements.{All-map, All-nil, Contains-append_left}
 use Rattle.std.proofs.lemmas.List.Elements.{All-weaker, Contains-append_right}
-use Rattle.mq_acl.specs.Access.{is_deny, grants}
 use Rattle.mq_acl.specs.Rows.{AclRow}
-use Rattle.mq_acl.specs.Views.{access_view, line_views, owner_view, row_view, row_views}
+use Rattle.mq_acl.specs.Views.{line_views, owner_view, row_view, row_views}
+use Rattle.mq_acl.specs.declared.access.Direction.{Direction}
+use Rattle.mq_acl.specs.declared.rules.Rules.{Rules}
+use Rattle.mq_witness.specs.declared.clients.Clients.{Clients}
 use Rattle.mq_acl.specs.declared.row.Row.{Row}
 use Rattle.mq_findings.specs.ByOwner.{is_for}
 use Rattle.mq_findings.specs.Faults.{rows_of as rows_on}
 use Rattle.mq_findings.specs.Marks.{rows_of, views_of}
-use Rattle.mq_findings.specs.Questions.{AreJudges, IsBefore, IsGain, IsNoneOrAll}
-use Rattle.mq_findings.specs.Questions.{IsQuestion, IsSplit}
-use Rattle.mq_findings.specs.Questions.{gain_cover, gain_must, must_of, rows_with}
-use Rattle.mq_findings.specs.Questions.{rows_without, side_with}
+use Rattle.mq_findings.specs.Questions.{AreJudges, IsBefore, IsGain, IsQuestion, IsSplit, asked_in}
+use Rattle.mq_findings.specs.Questions.{gain_cover, gain_must, must_of, rows_for, rows_with}
+use Rattle.mq_findings.specs.Questions.{rows_without, rules_in, side_with}
+use Rattle.mq_findings.specs.Ranks.{is_judge, judges, rank, ranked}
 use Rattle.mq_findings.specs.declared.gains.Gain.{Gain}
 use Rattle.mq_findings.specs.declared.gains.Question.{Question}
 use Rattle.mq_findings.specs.declared.judges.Judges.{Judges}
@@ -46,22 +48,23 @@ asks_both asked old new e = (
 )
 
 -- so may those that decide
-abbrev JudgesAsk : List AclRow → Judges → Type 0
-JudgesAsk asked judges = Asks asked (rows_of judges.denies.items)
-    × Asks asked (rows_of judges.grants.items)
+all_judges : (P : Row → Type 0) (rules : Rules) (direction : Direction) (c : Clients)
+    (rows : List Row) → All P rows → All P (judges rules direction (rows_for c rows))
+all_judges P rules direction c rows h =
+    let for : All P (rows_for c rows) =
+    All-filter (λ (r : Row). is_for c (owner_view r.owner)) P rows h in
+    let at = (λ (place : ℕ). All-filter (λ (r : Row). is_judge direction (row_view r)
+    && (rank rules (row_view r) == place)) P (rows_for c rows) for) in
+    All-append P (ranked rules direction 0 (rows_for c rows)) _ (at 0)
+    (All-append P (ranked rules direction 1 (rows_for c rows)) _ (at 1)
+    (All-append P (ranked rules direction 2 (rows_for c rows)) _ (at 2) (at 3)))
 
-judges_ask : (asked : List AclRow) (rows others : List Row) (c : _) (direction : _)
-    (judges : Judges) → AreJudges rows others c direction judges → Asks asked rows
-    → JudgesAsk asked judges
-judges_ask asked rows others c direction judges j h = (
-  subst (Asks asked) (sym j.denies)
-      (All-filter (λ (r : Row). is_for c (owner_view r.owner) && is_deny (access_view r.access))
-      (λ (r : Row). Contains asked (row_view r)) rows h),
-  subst (Asks asked) (sym j.grants)
-      (All-filter (λ (r : Row). is_for c (owner_view r.owner)
-      && grants direction (access_view r.access))
-      (λ (r : Row). Contains asked (row_view r)) rows h),
-)
+judges_ask : (asked : List AclRow) (rules : Rules) (rows others : List Row) (c : Clients)
+    (direction : Direction) (all : Judges) → AreJudges rules rows others c direction all
+    → Asks asked rows → Asks asked (rows_of all.rows.items)
+judges_ask asked rules rows others c direction all j h =
+    subst (Asks asked) (sym j.are)
+    (all_judges (λ (r : Row). Contains asked (row_view r)) rules direction c rows h)
 
 asks_views : (asked : List AclRow) (ms : List Marked) → Asks asked (rows_of ms)
     → All (Contains asked) (views_of ms)
@@ -80,60 +83,43 @@ asks_row asked ms before row s h =
     (subst (Asks asked) s.is h)
 
 -- the rows of the first list that are to concern a topic, and those that are not
-from_asks : (asked : List AclRow) (from : Judges) (denies granting : List Marked)
-    (deny : Option (Bor Row)) (grant : AclRow)
-    → IsBefore from denies granting (option_map (λ r. r.now) deny) → JudgesAsk asked from
-    → All (Contains asked) (views_of granting) → Contains asked grant
+from_asks : (asked : List AclRow) (from judging : List Marked) (deny : Option (Bor Row))
+    (grant : AclRow) → IsBefore from judging (option_map (λ r. r.now) deny)
+    → Asks asked (rows_of from) → Contains asked grant
     → All (Contains asked) (must_of (option_map (λ r. row_view r.now) deny) grant)
-    × All (Contains asked) (views_of denies)
-from_asks asked from denies granting None grant b h more g = (
+    × All (Contains asked) (views_of judging)
+from_asks asked from judging None grant b h g = (
   All-cons (Contains asked) grant [] g (All-nil (Contains asked)),
-  subst (λ ms. All (Contains asked) (views_of ms)) (sym b.0)
-      (asks_views asked from.denies.items h.0),
+  subst (λ ms. All (Contains asked) (views_of ms)) (sym b) (asks_views asked from h),
 )
-from_asks asked from denies granting (Some deny) grant b h more g = (
+from_asks asked from judging (Some deny) grant b h g = (
   All-cons (Contains asked) (row_view deny.now) (grant ∷ [])
-      (asks_row asked from.denies.items denies deny.now b h.0)
+      (asks_row asked from judging deny.now b.0 h)
       (All-cons (Contains asked) grant [] g (All-nil (Contains asked))),
-  asks_views asked denies (asks_before asked from.denies.items denies deny.now b h.0),
+  asks_views asked judging (asks_before asked from judging deny.now b.0 h),
 )
-
-granting_asks : (asked : List AclRow) (from : Judges) (granting : List Marked)
-    → IsNoneOrAll from granting → JudgesAsk asked from → Asks asked (rows_of granting)
-granting_asks asked from granting either h =
-    ⊎_elim (λ e. subst (λ ms. Asks asked (rows_of ms)) (sym e)
-    (All-nil (λ (r : Row). Contains asked (row_view r))))
-    (λ e. subst (λ ms. Asks asked (rows_of ms)) (sym e) h.1) either
 
 -- both questions of a gain ask about rows of the lists
 pub gain_asks : (q : Question) (gain : Gain) → IsQuestion q → IsGain q gain
-    → All (Contains q.lists.now.asked.rows) (gain_must gain)
-    × All (Contains q.lists.now.asked.rows) (gain_cover q gain)
+    → All (Contains (asked_in q).rows) (gain_must gain)
+    × All (Contains (asked_in q).rows) (gain_cover gain)
 gain_asks q gain k g =
-    let asked = q.lists.now.asked.rows in
+    let asked = (asked_in q).rows in
     let old = q.lists.now.old.now in
     let new = q.lists.now.new.now in
     let asks = asks_both asked old new k.asked in
     let lists = both_ways (Asks asked) q.way old new asks.0 asks.1 in
-    let from = judges_ask asked (rows_without q.way old new) (rows_with q.way old new) q.clients
-    q.direction q.from.now k.from lists.0 in
-    let to = judges_ask asked (rows_with q.way old new) (rows_without q.way old new) q.clients
-    q.direction q.to.now k.to lists.1 in
-    let granting = asks_views asked gain.granting.now (granting_asks asked q.from.now
-    gain.granting.now g.granting from) in
-    let parts = from_asks asked q.from.now gain.denies.now gain.granting.now gain.deny
-    (row_view gain.grant.now) g.from from granting
-    (asks_row asked q.to.now.grants.items gain.before.now gain.grant.now g.grant to.1) in (
+    let from = judges_ask asked (rules_in q) (rows_without q.way old new) (rows_with q.way old new)
+    q.clients q.direction q.from.now k.from lists.0 in
+    let to = judges_ask asked (rules_in q) (rows_with q.way old new) (rows_without q.way old new)
+    q.clients q.direction q.to.now k.to lists.1 in
+    let parts = from_asks asked q.from.now.rows.items gain.judging.now gain.deny
+    (row_view gain.grant.now) g.from from
+    (asks_row asked q.to.now.rows.items gain.before.now gain.grant.now g.grant to) in (
       parts.0,
-      All-append (Contains asked) (views_of gain.denies.now)
-          (views_of gain.granting.now ++ (views_of q.to.now.denies.items ++ views_of gain.before.now))
-          parts.1
-          (All-append (Contains asked) (views_of gain.granting.now)
-          (views_of q.to.now.denies.items ++ views_of gain.before.now) granting
-          (All-append (Contains asked) (views_of q.to.now.denies.items) (views_of gain.before.now)
-          (asks_views asked q.to.now.denies.items to.0)
-          (asks_views asked gain.before.now (asks_before asked q.to.now.grants.items gain.before.now
-          gain.grant.now g.grant to.1)))),
+      All-append (Contains asked) (views_of gain.judging.now) (views_of gain.before.now) parts.1
+          (asks_views asked gain.before.now (asks_before asked q.to.now.rows.items gain.before.now
+          gain.grant.now g.grant to)),
     )
 
 -- ---- the line that is told
@@ -144,9 +130,8 @@ line_contained q gain k g =
     let rows = rows_with q.way q.lists.now.old.now q.lists.now.new.now in
     let has : Row → Type 0 = (λ (r : Row). Contains (line_views rows) r.line) in
     All-behind has (rows_of gain.before.now) gain.grant.now g.grant.after
-    (subst (All has) (sym k.to.grants ∙ g.grant.is)
-    (All-filter (λ (r : Row). is_for q.clients (owner_view r.owner)
-    && grants q.direction (access_view r.access)) has rows
+    (subst (All has) (sym k.to.are ∙ g.grant.is)
+    (all_judges has (rules_in q) q.direction q.clients rows
     (All-unmap (Contains (line_views rows)) (λ (r : Row). r.line) rows
     (All-contains_itself (line_views rows)))))
 

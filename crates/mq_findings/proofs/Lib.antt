@@ -11,9 +11,8 @@ pub mod MadeUpLemmas
 pub mod MarkLemmas
 pub mod OrderLemmas
 pub mod PointLemmas
-pub mod ReasonLemmas
+pub mod JudgeLemmas
 pub mod ReportLemmas
-pub mod StartLemmas
 pub mod ToldLemmas
 pub mod TwinLemmas
-pub mod WhyLemmas
+pub mod DeciderLemmas

@@ -13,7 +13,7 @@ use Rattle.mq_findings.specs.Marks.{ArePlaced, IsKept, does_as_much, has_twin, r
 use Rattle.mq_findings.specs.Questions.{IsSplit}
 use Rattle.mq_findings.specs.declared.marks.Marked.{Marked}
 use Rattle.mq_findings.proofs.FirstLemmas.{parts_at}
-use Rattle.mq_findings.proofs.ReasonLemmas.{any_views}
+use Rattle.mq_findings.proofs.JudgeLemmas.{any_views}
 
 -- the first rows, marked
 pub record AreMarkedTo (rows others : List Row) (n : ℕ) (all : List Marked) : Type 0 where

@@ -1,16 +1,22 @@
 -- Clients of a class, and the rows for them.
 use Rattle.std.proofs.Common.{◌≡◌, ℕ, Bool, true, false, not, ◌||◌, List, [], ◌∷◌, ◌++◌}
 use Rattle.std.proofs.Common.{Option, Some, None, All, refl, ap, sym, ◌∙◌, subst, bytes_eq, Bor}
-use Rattle.std.proofs.Common.{String, Global, string_bytes, get_or}
+use Rattle.std.proofs.Common.{String, Global, string_bytes, get_or, length, ◌==◌, cond}
+use Rattle.std.specs.Prelude.{nat_lt, if◌then◌else◌}
+use Rattle.std.proofs.Math.Dec.{eqb-suc-zero}
 use Rattle.std.proofs.lemmas.Bool.{and_parts}
 use Rattle.std.proofs.lemmas.List.Folds.{list_any-append}
 use Rattle.std.proofs.lemmas.List.Elements.{All-nil, All-cons}
 use Rattle.mq_topic.proofs.ByteLemmas.{text_is}
-use Rattle.mq_acl.specs.Access.{applies, concerns, covers}
+use Rattle.mq_acl.specs.Access.{applies, covers}
+use Rattle.mq_acl.specs.AccessLists.{concerns_by, user_by}
+use Rattle.mq_acl.specs.Mosquitto.{row_covers}
 use Rattle.mq_acl.specs.Rows.{Who, AclRow}
 use Rattle.mq_acl.specs.Rows as rows
 use Rattle.mq_acl.specs.Views.{row_view, row_views, owner_view}
 use Rattle.mq_acl.specs.declared.row.Row.{Row}
+use Rattle.mq_acl.specs.declared.rules.Rules.{Rules}
+use Rattle.mq_acl.specs.declared.rules.Rules.TheVariants.{Own, Mosquitto}
 use Rattle.mq_witness.specs.Asked.{AskedRows, IsListed, is_client_of, user_view}
 use Rattle.mq_witness.specs.Clients.{can_be_id}
 use Rattle.mq_witness.specs.Rows.{is_name_of, is_user_of}
@@ -20,6 +26,7 @@ use Rattle.mq_findings.specs.ByOwner.{is_for}
 use Rattle.mq_findings.specs.Classes.{can_be_user, is_in, is_listed, user_of}
 use Rattle.mq_findings.specs.Questions.{class_of}
 use Rattle.mq_findings.specs.declared.class.Class.TheVariants as classes
+use Rattle.mq_findings.proofs.JudgeLemmas.{AreFor}
 
 -- ---- rows that apply to a client are for the class
 others_apply : (user : List ℕ) (who : Who) → is_name_of user who ≡ false
@@ -92,29 +99,35 @@ unnamed u (r ∷ rs) h = at (is_name_of u (row_view r).who) refl h (unnamed u rs
     at true e h f = absurd (let q : true ≡ false = h in cc)
     at false e h f = All-cons (λ (r : Row). is_name_of u (row_view r).who ≡ false) r rs e (f h)
 
+-- a row that concerns a topic applies
+pub concerned_applies : (rules : Rules) (client name : List ℕ) (user : Option (List ℕ)) (row : AclRow)
+    → concerns_by rules client user name row ≡ true → applies user row.who ≡ true
+concerned_applies Own client name user row h =
+    (and_parts (applies user row.who) (covers client user name row) h).0
+concerned_applies Mosquitto client name user row h =
+    (and_parts (applies user row.who) (row_covers client user name row) h).0
+
 -- each row that concerns a topic for a client of the class is for the class
-pub concerned_for : (asked : AskedRows) (old new : List Row) (c : Clients)
+pub concerned_for : (rules : Rules) (asked : AskedRows) (old new : List Row) (c : Clients)
     (client name : List ℕ) (user : Option (List ℕ))
     → asked.rows ≡ row_views old ++ row_views new → is_client_of asked c user ≡ true
-    → (All (λ (r : Row). concerns client user name (row_view r) ≡ true
-    → is_for c (owner_view r.owner) ≡ true) old)
-    × (All (λ (r : Row). concerns client user name (row_view r) ≡ true
-    → is_for c (owner_view r.owner) ≡ true) new)
-concerned_for asked old new c client name user is fits = (
+    → AreFor c (concerns_by rules client user name) old
+    × AreFor c (concerns_by rules client user name) new
+concerned_for rules asked old new c client name user is fits = (
   each old (λ u h. (unlisted_in asked.rows (row_views old) (row_views new) u is h).0),
   each new (λ u h. (unlisted_in asked.rows (row_views old) (row_views new) u is h).1),
 )
   where
     one : (r : Row) → ((u : List ℕ) → is_user_of u asked.rows ≡ false
         → is_name_of u (row_view r).who ≡ false)
-        → concerns client user name (row_view r) ≡ true → is_for c (owner_view r.owner) ≡ true
-    one r n h = applies_for asked c user (row_view r) fits n
-        (and_parts (applies user (row_view r).who) (covers client user name (row_view r)) h).0
+        → concerns_by rules client user name (row_view r) ≡ true
+        → is_for c (owner_view r.owner) ≡ true
+    one r n h = applies_for asked c user (row_view r) fits n (concerned_applies rules client name user
+        (row_view r) h)
 
     each : (rs : List Row) → ((u : List ℕ) → is_user_of u asked.rows ≡ false
         → is_user_of u (row_views rs) ≡ false)
-        → All (λ (r : Row). concerns client user name (row_view r) ≡ true
-        → is_for c (owner_view r.owner) ≡ true) rs
+        → AreFor c (concerns_by rules client user name) rs
     each rs h = λ k d low. one (get_or rs k d) (λ u f. unnamed u rs (h u f) k d low)
 
 -- ---- the class of a witness
@@ -172,3 +185,15 @@ client_user asked (clients.Named name) (Some user) e =
     (and_parts (bytes_eq user name.now) (can_be_id user) e).1
 client_user asked clients.Others (Some user) e =
     (and_parts (can_be_id user) (not (is_user_of user asked.rows)) e).0
+
+-- a broker asks about such a client by its user name as it is
+pub user_as_it_is : (rules : Rules) (user : Option (List ℕ)) → can_be_user user ≡ true
+    → user_by rules user ≡ user
+user_as_it_is Own user h = refl
+user_as_it_is Mosquitto None h = refl
+user_as_it_is Mosquitto (Some u) h = at u (and_parts _ _ (and_parts _ _ h).0).0
+  where
+    at : (t : List ℕ) → nat_lt 0 (length t) ≡ true
+        → (if length t == 0 then None else Some t) ≡ Some t
+    at [] e = absurd (let n : false ≡ true = e in cc)
+    at (b ∷ t) e = ap (λ k. cond k None (Some (b ∷ t))) (eqb-suc-zero (length t))

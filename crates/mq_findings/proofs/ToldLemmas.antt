@@ -7,19 +7,18 @@ use Rattle.std.specs.Option.{option_map}
 use Rattle.std.proofs.lemmas.Bool.Decides.{nat_tests}
 use Rattle.mq_topic.specs.Texts.{is_name}
 use Rattle.mq_acl.specs.Access.{begins_with_dollar}
-use Rattle.mq_acl.specs.Views.{row_view, row_views}
+use Rattle.mq_acl.specs.Views.{row_views}
 use Rattle.mq_acl.specs.declared.access.Direction.{Direction}
 use Rattle.mq_acl.specs.declared.access.Direction.TheVariants.{Reading, Writing}
-use Rattle.mq_witness.specs.Asked.{AreKnown, Knows, Stands, user_view}
-use Rattle.mq_witness.specs.Asked.{Shows as WitnessShows}
-use Rattle.mq_witness.specs.Decided.{decides}
+use Rattle.mq_witness.specs.Asked.{AreKnown, Knows, user_view}
+use Rattle.mq_witness.specs.Ruled.{ShowsBy, StandsBy, decides_by}
 use Rattle.mq_witness.specs.Swaps.{swap, swap_name, swap_user}
 use Rattle.mq_witness.specs.declared.witness.Witness.{Witness}
 use Rattle.mq_findings.specs.Classes.{is_in, user_of}
 use Rattle.mq_findings.specs.Differences.{AreUnnamed, IsMarked, Shows, is_change, same_direction}
 use Rattle.mq_findings.specs.Differences.{same_reason, same_start, same_way}
 use Rattle.mq_findings.specs.Questions.{IsGain, IsPoint, IsQuestion, IsToldBy, class_of, gain_cover}
-use Rattle.mq_findings.specs.Questions.{gain_must, gain_reasons}
+use Rattle.mq_findings.specs.Questions.{asked_in, gain_must, gain_reasons, rules_in}
 use Rattle.mq_findings.specs.Reasons.{reason_of}
 use Rattle.mq_findings.specs.Reports.{IsSound}
 use Rattle.mq_findings.specs.declared.difference.Difference.{Difference}
@@ -31,7 +30,6 @@ use Rattle.mq_findings.specs.declared.way.Way.{Way}
 use Rattle.mq_findings.specs.declared.way.Way.TheVariants.{Gained, Lost}
 use Rattle.mq_findings.proofs.GainLemmas.{change_by, gain_decides, reasons_by}
 use Rattle.mq_findings.proofs.PointLemmas.{class_has, class_user, client_user}
-use Rattle.mq_findings.proofs.StartLemmas.{concerned_start}
 
 way_itself : (a : Way) → same_way a a ≡ true
 way_itself Gained = refl
@@ -72,98 +70,88 @@ pub record IsOf (q : Question) (gain : Gain) (w : Witness) (d : Difference) : Ty
 -- where the rows of the gain decide, it is so of a client and a topic
 pub shows_at : (q : Question) (gain : Gain) (w : Witness) (d : Difference) (client : List ℕ)
     (user : Option (List ℕ)) (topic : List ℕ) → IsQuestion q → IsGain q gain
-    → WitnessShows q.lists.now.asked q.clients (gain_must gain) (gain_cover q gain) w
-    → IsOf q gain w d → IsPoint q.lists.now.asked q.clients client user topic
-    → decides client user topic (gain_must gain) (gain_cover q gain) ≡ true
-    → Shows q.lists.now.old.now q.lists.now.new.now d client user topic
+    → ShowsBy (asked_in q) q.clients (gain_must gain) (gain_cover gain) w
+    → IsOf q gain w d → IsPoint (asked_in q) q.clients client user topic
+    → decides_by (rules_in q) client user topic (gain_must gain) (gain_cover gain) ≡ true
+    → Shows (rules_in q) q.lists.now.old.now q.lists.now.new.now d client user topic
 shows_at q gain w d client user topic k g s o p e =
+    let rules = rules_in q in
     let old = q.lists.now.old.now in
     let new = q.lists.now.new.now in
     let by = gain_decides q gain client user topic k g p e in
-    let reasons = reasons_by q.way old new client user topic q.direction gain by.from by.to in
+    let reasons = reasons_by rules q.way old new client user topic q.direction gain by.from by.to in
     record {
-      client_fits = p.client_fits;
-      user_fits = client_user q.lists.now.asked q.clients user p.user_fits;
+      client_fits = p.is_asked.client_fits;
+      user_fits = client_user (asked_in q) q.clients user p.is_asked.user_fits;
       valid = p.valid;
       class = ap (λ c. is_in (row_views old) (row_views new) user c) o.class
-          ∙ class_has q.lists.now.asked (row_views old) (row_views new) q.clients w.user user
-          k.asked k.listed s.user_fits p.user_fits;
-      change = (λ i. is_change (o.way i) (row_views old) (row_views new) client user topic
+          ∙ class_has (asked_in q) (row_views old) (row_views new) q.clients w.user user
+          k.asked k.listed s.is_asked.user_fits p.is_asked.user_fits;
+      change = (λ i. is_change rules (o.way i) (row_views old) (row_views new) client user topic
           (o.direction i))
-          ∙ change_by q.way old new client user topic q.direction
+          ∙ change_by rules q.way old new client user topic q.direction
           (option_map (λ r. r.now) gain.deny) gain.grant.now.line by.from by.to;
       old_reason = o.old_reason ∙ reasons.0
-          ∙ ap (λ x. reason_of old client user topic x) (sym o.direction);
+          ∙ ap (λ x. reason_of rules old client user topic x) (sym o.direction);
       new_reason = o.new_reason ∙ reasons.1
-          ∙ ap (λ x. reason_of new client user topic x) (sym o.direction);
+          ∙ ap (λ x. reason_of rules new client user topic x) (sym o.direction);
     }
 
 -- it is told of each client and topic where they decide
-pub told_at : (q : Question) (gain : Gain) (w : Witness) (d : Difference)
+pub told_at : (dollar : Bool) (q : Question) (gain : Gain) (w : Witness) (d : Difference)
     → IsQuestion q → IsGain q gain
-    → WitnessShows q.lists.now.asked q.clients (gain_must gain) (gain_cover q gain) w
-    → IsOf q gain w d → IsToldBy q gain d
-told_at q gain w d k g s o client topic user p e =
+    → ShowsBy (asked_in q) q.clients (gain_must gain) (gain_cover gain) w
+    → begins_with_dollar w.name ≡ dollar → IsOf q gain w d → IsToldBy dollar q gain d
+told_at dollar q gain w d k g s start o client topic user p kind e =
+    let rules = rules_in q in
     let old = q.lists.now.old.now in
     let new = q.lists.now.new.now in
     let shown = shows_at q gain w d client user topic k g s o p e in
-    let first : IsPoint q.lists.now.asked q.clients (string_bytes w.client) (user_view w.user)
-    w.name = record { client_fits = s.client_fits; user_fits = s.user_fits; valid = s.valid } in
-    let here = gain_decides q gain client user topic k g p e in
-    let there = gain_decides q gain (string_bytes w.client) (user_view w.user) w.name k g first
-    s.decided in
     rw (
       shown.class,
       ap (same_direction q.direction) o.direction ∙ direction_itself q.direction,
       ap (same_way q.way) o.way ∙ way_itself q.way,
       start_same topic d.topic
-          (concerned_start client user topic (row_view gain.grant.now) here.grant
-          ∙ sym (concerned_start (string_bytes w.client) (user_view w.user) w.name
-          (row_view gain.grant.now) there.grant) ∙ ap begins_with_dollar (sym o.topic)),
-      ap (λ x. same_reason (reason_of old client user topic x) d.old_reason) (sym o.direction)
-          ∙ ap (same_reason (reason_of old client user topic d.direction)) shown.old_reason
-          ∙ reason_itself (reason_of old client user topic d.direction),
-      ap (λ x. same_reason (reason_of new client user topic x) d.new_reason) (sym o.direction)
-          ∙ ap (same_reason (reason_of new client user topic d.direction)) shown.new_reason
-          ∙ reason_itself (reason_of new client user topic d.direction),
+          (kind ∙ sym start ∙ ap begins_with_dollar (sym o.topic)),
+      ap (λ x. same_reason (reason_of rules old client user topic x) d.old_reason) (sym o.direction)
+          ∙ ap (same_reason (reason_of rules old client user topic d.direction)) shown.old_reason
+          ∙ reason_itself (reason_of rules old client user topic d.direction),
+      ap (λ x. same_reason (reason_of rules new client user topic x) d.new_reason) (sym o.direction)
+          ∙ ap (same_reason (reason_of rules new client user topic d.direction)) shown.new_reason
+          ∙ reason_itself (reason_of rules new client user topic d.direction),
     ) refl
 
 -- it is sound
 pub sound_of : (q : Question) (gain : Gain) (w : Witness) (d : Difference)
     → IsQuestion q → IsGain q gain
-    → WitnessShows q.lists.now.asked q.clients (gain_must gain) (gain_cover q gain) w
-    → Stands q.lists.now.asked q.clients (gain_must gain) (gain_cover q gain) w
-    → Knows q.lists.now.asked w
-    → IsOf q gain w d → IsMarked q.lists.now.asked d → AreUnnamed q.lists.now.asked d
-    → IsSound q.lists.now.old.now q.lists.now.new.now q.lists.now.asked d
+    → ShowsBy (asked_in q) q.clients (gain_must gain) (gain_cover gain) w
+    → StandsBy (asked_in q) q.clients (gain_must gain) (gain_cover gain) w
+    → Knows (asked_in q) w
+    → IsOf q gain w d → IsMarked (asked_in q) d → AreUnnamed (asked_in q) d
+    → IsSound q.lists.now.old.now q.lists.now.new.now (asked_in q) d
 sound_of q gain w d k g s t n o m u =
+    let rules = rules_in q in
     let old = q.lists.now.old.now in
     let new = q.lists.now.new.now in
     let user : user_of d.class ≡ user_view w.user = ap user_of o.class
-    ∙ class_user q.lists.now.asked q.clients w.user s.user_fits in
-    let first : IsPoint q.lists.now.asked q.clients (string_bytes w.client) (user_view w.user)
-    w.name = record { client_fits = s.client_fits; user_fits = s.user_fits; valid = s.valid } in
+    ∙ class_user (asked_in q) q.clients w.user s.is_asked.user_fits in
     record {
-      real = at_difference (λ client user topic. Shows old new d client user topic) user
+      real = at_difference (λ client user topic. Shows rules old new d client user topic) user
           o.client o.topic
-          (shows_at q gain w d (string_bytes w.client) (user_view w.user) w.name k g s o first
-          s.decided);
+          (shows_at q gain w d (string_bytes w.client) (user_view w.user) w.name k g s o
+          (record { is_asked = s.is_asked; valid = s.valid }) s.decided);
       marked = m;
       unnamed = u;
-      known = at_difference (λ client user topic. AreKnown q.lists.now.asked client user topic)
+      known = at_difference (λ client user topic. AreKnown (asked_in q) client user topic)
           user o.client o.topic n;
       stands = λ text other stands valid.
-          at_difference (λ client user topic. Shows old new d (swap text other client)
+          at_difference (λ client user topic. Shows rules old new d (swap text other client)
           (swap_user text other user) (swap_name text other topic)) user o.client o.topic
           (let shown = t text other stands
           (subst (λ n. is_name (swap_name text other n) ≡ true) o.topic valid) in
           shows_at q gain w d (swap text other (string_bytes w.client))
           (swap_user text other (user_view w.user)) (swap_name text other w.name) k g s o
-          (record {
-            client_fits = shown.client_fits;
-            user_fits = shown.user_fits;
-            valid = shown.valid;
-          }) shown.decided);
+          (record { is_asked = shown.is_asked; valid = shown.valid }) shown.decided);
     }
   where
     at_difference : (P : List ℕ → Option (List ℕ) → List ℕ → Type 0)

@@ -7,7 +7,7 @@ use Rattle.std.specs.Str.{bytes_eq}
 use Rattle.mq_topic.specs.Levels.{levels}
 use Rattle.mq_topic.specs.Texts.{is_name}
 use Rattle.mq_acl.specs.AccessLists.{allow_by}
-use Rattle.mq_acl.specs.declared.rules.Rules.TheVariants.{Own}
+use Rattle.mq_acl.specs.declared.rules.Rules.{Rules}
 use Rattle.mq_acl.specs.Access.{begins_with_dollar}
 use Rattle.mq_acl.specs.Rows.{AclRow}
 use Rattle.mq_acl.specs.Views.{row_views}
@@ -17,6 +17,7 @@ use Rattle.mq_acl.specs.declared.access.Direction.TheVariants.{Reading, Writing}
 use Rattle.mq_witness.specs.Asked.{AreKnown, AskedRows, StandsFor, is_made_up}
 use Rattle.mq_witness.specs.Clients.{can_be_id}
 use Rattle.mq_witness.specs.Rows.{rows_name}
+use Rattle.mq_witness.specs.Ruled.{are_asked_of}
 use Rattle.mq_witness.specs.Swaps.{swap, swap_user, swap_name}
 use Rattle.mq_findings.specs.Classes.{user_of, is_in, can_be_user}
 use Rattle.mq_findings.specs.Reasons.{reason_of}
@@ -29,17 +30,19 @@ use Rattle.mq_findings.specs.declared.way.Way.{Way}
 use Rattle.mq_findings.specs.declared.way.Way.TheVariants.{Gained, Lost}
 
 -- the one list allows it, and the other doesn't
-abbrev pub is_gained : (from to : List AclRow) → List ℕ → Option (List ℕ) → List ℕ → Direction
-    → Bool
-is_gained from to client user topic direction =
-    allow_by Own to client user topic direction
-    && not (allow_by Own from client user topic direction)
+abbrev pub is_gained : Rules → (from to : List AclRow) → List ℕ → Option (List ℕ) → List ℕ
+    → Direction → Bool
+is_gained rules from to client user topic direction =
+    allow_by rules to client user topic direction
+    && not (allow_by rules from client user topic direction)
 
 -- the new list allows it and the old one doesn't, or the other way round
-abbrev pub is_change : Way → List AclRow → List AclRow → List ℕ → Option (List ℕ) → List ℕ
-    → Direction → Bool
-is_change Gained old new client user topic direction = is_gained old new client user topic direction
-is_change Lost old new client user topic direction = is_gained new old client user topic direction
+abbrev pub is_change : Rules → Way → List AclRow → List AclRow → List ℕ → Option (List ℕ)
+    → List ℕ → Direction → Bool
+is_change rules Gained old new client user topic direction =
+    is_gained rules old new client user topic direction
+is_change rules Lost old new client user topic direction =
+    is_gained rules new old client user topic direction
 
 abbrev pub same_direction : Direction → Direction → Bool
 same_direction Reading Reading = true
@@ -82,37 +85,43 @@ is_like d e = same_class d.class e.class && same_direction d.direction e.directi
 
 -- the difference is of this way and direction, of the class of this client, of topics that begin with
 -- `$` if this one does, and the lines that decide it decide this
-abbrev pub is_told_of : (old new : List Row) → Way → Direction → List ℕ → Option (List ℕ) → List ℕ
-    → Difference → Bool
-is_told_of old new way direction client user topic d =
+abbrev pub is_told_of : Rules → (old new : List Row) → Way → Direction → List ℕ
+    → Option (List ℕ) → List ℕ → Difference → Bool
+is_told_of rules old new way direction client user topic d =
     is_in (row_views old) (row_views new) user d.class && same_direction direction d.direction
     && same_way way d.way && same_start topic d.topic
-    && (same_reason (reason_of old client user topic direction) d.old_reason
-    && same_reason (reason_of new client user topic direction) d.new_reason)
+    && (same_reason (reason_of rules old client user topic direction) d.old_reason
+    && same_reason (reason_of rules new client user topic direction) d.new_reason)
 
--- whatever changes for a client that a broker can have is told
-abbrev pub TellsAll : (old new : List Row) → List Difference → Type 0
-TellsAll old new all = (way : Way) (direction : Direction) (client topic : List ℕ)
+-- by these rules two lists are compared for clients with this client id, and with this user name or none
+abbrev pub is_compared : Rules → (old new : List Row) → List ℕ → Option (List ℕ) → Bool
+is_compared rules old new client user =
+    are_asked_of rules (row_views old ++ row_views new) client user
+
+-- whatever changes for a client that a broker can have, and that they are compared for, is told
+abbrev pub TellsAll : Rules → (old new : List Row) → List Difference → Type 0
+TellsAll rules old new all = (way : Way) (direction : Direction) (client topic : List ℕ)
     (user : Option (List ℕ)) → can_be_id client ≡ true → can_be_user user ≡ true
-    → is_name topic ≡ true
-    → is_change way (row_views old) (row_views new) client user topic direction ≡ true
-    → list_any (is_told_of old new way direction client user topic) all ≡ true
+    → is_compared rules old new client user ≡ true → is_name topic ≡ true
+    → is_change rules way (row_views old) (row_views new) client user topic direction ≡ true
+    → list_any (is_told_of rules old new way direction client user topic) all ≡ true
 
 -- what is told is so of this client and topic: a broker can have it, it is of the class, it does
 -- change, and these lines decide
-pub record Shows (old new : List Row) (d : Difference) (client : List ℕ) (user : Option (List ℕ))
-    (topic : List ℕ) : Type 0 where
+pub record Shows (rules : Rules) (old new : List Row) (d : Difference) (client : List ℕ)
+    (user : Option (List ℕ)) (topic : List ℕ) : Type 0 where
   pub client_fits : can_be_id client ≡ true
   pub user_fits : can_be_user user ≡ true
   pub valid : is_name topic ≡ true
   pub class : is_in (row_views old) (row_views new) user d.class ≡ true
-  pub change : is_change d.way (row_views old) (row_views new) client user topic d.direction ≡ true
-  pub old_reason : d.old_reason ≡ reason_of old client user topic d.direction
-  pub new_reason : d.new_reason ≡ reason_of new client user topic d.direction
+  pub change : is_change rules d.way (row_views old) (row_views new) client user topic d.direction
+      ≡ true
+  pub old_reason : d.old_reason ≡ reason_of rules old client user topic d.direction
+  pub new_reason : d.new_reason ≡ reason_of rules new client user topic d.direction
 
 -- it is so of the client and the topic that it names
-abbrev pub IsReal : (old new : List Row) → Difference → Type 0
-IsReal old new d = Shows old new d (string_bytes d.client) (user_of d.class) d.topic
+abbrev pub IsReal : Rules → (old new : List Row) → Difference → Type 0
+IsReal rules old new d = Shows rules old new d (string_bytes d.client) (user_of d.class) d.topic
 
 -- no two are alike
 abbrev pub AreApart : List Difference → Type 0
@@ -137,10 +146,10 @@ IsMarked asked d = (text : List ℕ)
     ≡ (is_of text (string_bytes d.client) (user_of d.class) d.topic && is_made_up text asked)
 
 -- it is so too with any text in the place of one that is made up, and stands for it
-abbrev pub ShowsOthers : (old new : List Row) → AskedRows → Difference → Type 0
-ShowsOthers old new asked d = (text other : List ℕ) → StandsFor asked text other
+abbrev pub ShowsOthers : Rules → (old new : List Row) → AskedRows → Difference → Type 0
+ShowsOthers rules old new asked d = (text other : List ℕ) → StandsFor asked text other
     → is_name (swap_name text other d.topic) ≡ true
-    → Shows old new d (swap text other (string_bytes d.client))
+    → Shows rules old new d (swap text other (string_bytes d.client))
     (swap_user text other (user_of d.class)) (swap_name text other d.topic)
 
 -- no row names the text
@@ -157,10 +166,10 @@ IsKnown asked d = AreKnown asked (string_bytes d.client) (user_of d.class) d.top
 
 -- some texts are made up: each difference tells those that it has, which are the ones that no row of
 -- either list names, and they stand for others
-pub record AreMarked (old new : List Row) (all : List Difference) : Type 0 where
+pub record AreMarked (rules : Rules) (old new : List Row) (all : List Difference) : Type 0 where
   pub asked : AskedRows
   pub rows : asked.rows ≡ row_views old ++ row_views new
   pub marked : All (IsMarked asked) all
   pub unnamed : All (AreUnnamed asked) all
   pub known : All (IsKnown asked) all
-  pub stands : All (ShowsOthers old new asked) all
+  pub stands : All (ShowsOthers rules old new asked) all

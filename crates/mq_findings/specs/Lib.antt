@@ -1,3 +1,4 @@
+pub mod Ranks
 pub mod Reasons
 pub mod Classes
 pub mod Differences

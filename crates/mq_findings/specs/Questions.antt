@@ -1,24 +1,25 @@
 -- What clients of one class may do by one list, and may not by another.
-use Rattle.std.specs.Prelude.{◌≡◌, false, ◌<◌, ◌⊎◌, ℕ, true, List, [], ◌∷◌, ◌++◌, ◌&&◌, All}
+use Rattle.std.specs.Prelude.{◌≡◌, false, ◌<◌, ◌==◌, ℕ, Bool, true, List, [], ◌∷◌, ◌++◌, ◌&&◌, All}
 use Rattle.std.specs.Prelude.{length, take, slice_index_or, Option, Some, None, String, Contains, ⊤}
 use Rattle.std.specs.declared.alloc.Global.{Global}
 use Rattle.std.specs.List.{filter, list_any}
 use Rattle.std.specs.Option.{option_map}
 use Rattle.mq_topic.specs.Texts.{is_name}
-use Rattle.mq_acl.specs.Access.{grants, is_deny}
+use Rattle.mq_acl.specs.Access.{begins_with_dollar, is_deny}
 use Rattle.mq_acl.specs.Rows.{AclRow}
-use Rattle.mq_acl.specs.Views.{access_view, line_views, owner_view, row_view, row_views}
+use Rattle.mq_acl.specs.Views.{line_views, owner_view, row_view, row_views}
 use Rattle.mq_acl.specs.declared.access.Direction.{Direction}
 use Rattle.mq_acl.specs.declared.row.Row.{Row}
-use Rattle.mq_witness.specs.Asked.{AskedRows, IsListed, is_client_of}
-use Rattle.mq_witness.specs.Clients.{can_be_id}
-use Rattle.mq_witness.specs.Decided.{decides}
+use Rattle.mq_acl.specs.declared.rules.Rules.{Rules}
+use Rattle.mq_witness.specs.Asked.{AskedRows, IsListed}
+use Rattle.mq_witness.specs.Ruled.{IsAskedOf, decides_by}
 use Rattle.mq_witness.specs.declared.clients.Clients.{Clients}
 use Rattle.mq_witness.specs.declared.clients.Clients.TheVariants as clients
 use Rattle.mq_findings.specs.ByOwner.{IsGrouped, is_for}
 use Rattle.mq_findings.specs.Differences.{is_change, is_told_of}
 use Rattle.mq_findings.specs.Faults.{rows_of as rows_on}
 use Rattle.mq_findings.specs.Marks.{ArePlaced, IsKept, rows_of, views_of}
+use Rattle.mq_findings.specs.Ranks.{is_judge, judges, rank}
 use Rattle.mq_findings.specs.declared.by_owner.ByOwner.{ByOwner}
 use Rattle.mq_findings.specs.declared.class.Class.{Class}
 use Rattle.mq_findings.specs.declared.class.Class.TheVariants as classes
@@ -48,6 +49,7 @@ pub record IsList (rows others : List Row) (by_owner : ByOwner) : Type 0 where
 
 -- the rows of both, and the questions that can be asked of them
 pub record AreLists (lists : Lists) : Type 0 where
+  pub rules : lists.rules ≡ lists.asked.rules
   pub asked : lists.asked.rows ≡ row_views lists.old.now ++ row_views lists.new.now
   pub old_rows : IsList lists.old.now lists.new.now lists.old_rows
   pub new_rows : IsList lists.new.now lists.old.now lists.new_rows
@@ -57,26 +59,42 @@ abbrev pub IsStop : Lists → ComparisonFault → Type 0
 IsStop lists comparison.Memory = ⊤
 IsStop lists (comparison.OldLine line) = ⊥
 IsStop lists (comparison.NewLine line) = ⊥
+IsStop lists (comparison.OldMark line) = ⊥
+IsStop lists (comparison.NewMark line) = ⊥
 IsStop lists (comparison.GaveUp side line others) =
     Contains (line_views (rows_on lists.old.now lists.new.now side)) line
     × (lists.limited ≡ true)
 
 -- ---- the rows for some clients, and those that decide
+abbrev pub rows_for : Clients → List Row → List Row
+rows_for clients rows = filter (λ r. is_for clients (owner_view r.owner)) rows
+
 -- of a list the rows for these clients
 pub record AreRowsFor (rows others : List Row) (clients : Clients) (all : List Marked) : Type 0 where
-  pub are : rows_of all ≡ filter (λ r. is_for clients (owner_view r.owner)) rows
+  pub are : rows_of all ≡ rows_for clients rows
   pub kept : All (IsKept (row_views others)) all
 
--- of a list the rows for these clients that deny, and those that grant the direction
-pub record AreJudges (rows others : List Row) (clients : Clients) (direction : Direction)
-    (judges : Judges) : Type 0 where
-  pub denies : rows_of judges.denies.items
-      ≡ filter (λ r. is_for clients (owner_view r.owner) && is_deny (access_view r.access)) rows
-  pub grants : rows_of judges.grants.items
-      ≡ filter (λ r. is_for clients (owner_view r.owner) && grants direction (access_view r.access))
-      rows
-  pub denies_kept : All (IsKept (row_views others)) judges.denies.items
-  pub grants_kept : All (IsKept (row_views others)) judges.grants.items
+abbrev pub ranked_marks : Rules → Direction → ℕ → List Marked → List Marked
+ranked_marks rules direction place all = filter (λ m. is_judge direction (row_view m.row.now)
+    && (rank rules (row_view m.row.now) == place)) all
+
+-- those of these rows that decide about the direction, in their order
+abbrev pub judging : Rules → Direction → List Marked → List Marked
+judging rules direction all = ranked_marks rules direction 0 all
+    ++ (ranked_marks rules direction 1 all
+    ++ (ranked_marks rules direction 2 all ++ ranked_marks rules direction 3 all))
+
+-- each row that denies has its place among these
+abbrev pub HasDenies : List Marked → List ℕ → Type 0
+HasDenies all denies = (place : ℕ) (m : Marked) → place < length all
+    → is_deny (row_view (slice_index_or all place m).row.now).access ≡ true → Contains denies place
+
+-- of a list the rows for these clients that decide about the direction, in their order
+pub record AreJudges (rules : Rules) (rows others : List Row) (clients : Clients)
+    (direction : Direction) (all : Judges) : Type 0 where
+  pub are : rows_of all.rows.items ≡ judges rules direction (rows_for clients rows)
+  pub kept : All (IsKept (row_views others)) all.rows.items
+  pub denies : HasDenies all.rows.items all.denies.items
 
 -- ---- a question
 -- the list that doesn't allow what is gained or lost, and the one that does
@@ -92,72 +110,78 @@ abbrev pub side_with : Way → Side
 side_with Gained = New
 side_with Lost = Old
 
+abbrev pub asked_in : Question → AskedRows
+asked_in q = q.lists.now.asked
+
+abbrev pub rules_in : Question → Rules
+rules_in q = q.lists.now.asked.rules
+
 -- what is known of a question
 pub record IsQuestion (q : Question) : Type 0 where
-  pub asked : q.lists.now.asked.rows
-      ≡ row_views q.lists.now.old.now ++ row_views q.lists.now.new.now
-  pub listed : IsListed q.lists.now.asked q.clients
-  pub from : AreJudges (rows_without q.way q.lists.now.old.now q.lists.now.new.now)
+  pub rules : q.lists.now.rules ≡ rules_in q
+  pub asked : (asked_in q).rows ≡ row_views q.lists.now.old.now ++ row_views q.lists.now.new.now
+  pub listed : IsListed (asked_in q) q.clients
+  pub from : AreJudges (rules_in q) (rows_without q.way q.lists.now.old.now q.lists.now.new.now)
       (rows_with q.way q.lists.now.old.now q.lists.now.new.now) q.clients q.direction q.from.now
-  pub to : AreJudges (rows_with q.way q.lists.now.old.now q.lists.now.new.now)
+  pub to : AreJudges (rules_in q) (rows_with q.way q.lists.now.old.now q.lists.now.new.now)
       (rows_without q.way q.lists.now.old.now q.lists.now.new.now) q.clients q.direction q.to.now
 
 -- a client that is asked about, and a topic
 pub record IsPoint (asked : AskedRows) (clients : Clients) (client : List ℕ)
     (user : Option (List ℕ)) (topic : List ℕ) : Type 0 where
-  pub client_fits : can_be_id client ≡ true
-  pub user_fits : is_client_of asked clients user ≡ true
+  pub is_asked : IsAskedOf asked clients client user
   pub valid : is_name topic ≡ true
 
 -- no topic of these clients is concerned by all of the rows
 abbrev pub NeverMeet : Question → (must : List AclRow) → Type 0
 NeverMeet q must = (client topic : List ℕ) (user : Option (List ℕ))
-    → IsPoint q.lists.now.asked q.clients client user topic
-    → decides client user topic must [] ≡ false
+    → IsPoint (asked_in q) q.clients client user topic
+    → decides_by (rules_in q) client user topic must [] ≡ false
+
+abbrev pub is_told : Question → List ℕ → Option (List ℕ) → List ℕ → Difference → Bool
+is_told q client user topic d = is_told_of (rules_in q) q.lists.now.old.now q.lists.now.new.now
+    q.way q.direction client user topic d
 
 -- where these rows concern it and those don't, it is told
 abbrev pub AreTold : Question → (must cover : List AclRow) → List Difference → Type 0
 AreTold q must cover told = (client topic : List ℕ) (user : Option (List ℕ))
-    → IsPoint q.lists.now.asked q.clients client user topic
-    → decides client user topic must cover ≡ true
-    → list_any (is_told_of q.lists.now.old.now q.lists.now.new.now q.way q.direction client user
-    topic) told ≡ true
+    → IsPoint (asked_in q) q.clients client user topic
+    → decides_by (rules_in q) client user topic must cover ≡ true
+    → list_any (is_told q client user topic) told ≡ true
+
+-- so it is of topics that begin with `$`, or of the others
+abbrev pub AreToldOf : Bool → Question → (must cover : List AclRow) → List Difference → Type 0
+AreToldOf dollar q must cover told = (client topic : List ℕ) (user : Option (List ℕ))
+    → IsPoint (asked_in q) q.clients client user topic → begins_with_dollar topic ≡ dollar
+    → decides_by (rules_in q) client user topic must cover ≡ true
+    → list_any (is_told q client user topic) told ≡ true
 
 -- ---- what a grant gains
 abbrev pub must_of : Option AclRow → AclRow → List AclRow
 must_of None grant = grant ∷ []
 must_of (Some deny) grant = deny ∷ (grant ∷ [])
 
--- none of these is to concern it
-abbrev pub cover_of : (denies granting denied before : List AclRow) → List AclRow
-cover_of denies granting denied before = denies ++ (granting ++ (denied ++ before))
-
 -- the row stands behind those in the list
 pub record IsSplit (all before : List Marked) (row : Row) : Type 0 where
   pub after : List Row
   pub is : rows_of all ≡ rows_of before ++ (row ∷ after)
 
--- a deny before it decided against it, or all denies and grants are asked for
-abbrev pub IsBefore : Judges → (denies granting : List Marked) → Option Row → Type 0
-IsBefore from denies granting None = (denies ≡ from.denies.items) × (granting ≡ from.grants.items)
-IsBefore from denies granting (Some deny) = IsSplit from.denies.items denies deny
-
--- none of those that grant, or all
-abbrev pub IsNoneOrAll : Judges → List Marked → Type 0
-IsNoneOrAll from granting = (granting ≡ []) ⊎ (granting ≡ from.grants.items)
+-- a deny behind these decided against it, or none of all rows that decide concerns it
+abbrev pub IsBefore : List Marked → List Marked → Option Row → Type 0
+IsBefore all judging None = judging ≡ all
+IsBefore all judging (Some deny) = IsSplit all judging deny
+    × (is_deny (row_view deny).access ≡ true)
 
 pub record IsGain (q : Question) (gain : Gain) : Type 0 where
-  pub grant : IsSplit q.to.now.grants.items gain.before.now gain.grant.now
-  pub granting : IsNoneOrAll q.from.now gain.granting.now
-  pub from : IsBefore q.from.now gain.denies.now gain.granting.now
-      (option_map (λ r. r.now) gain.deny)
+  pub grant : IsSplit q.to.now.rows.items gain.before.now gain.grant.now
+  pub grants : is_deny (row_view gain.grant.now).access ≡ false
+  pub from : IsBefore q.from.now.rows.items gain.judging.now (option_map (λ r. r.now) gain.deny)
 
 abbrev pub gain_must : Gain → List AclRow
 gain_must gain = must_of (option_map (λ r. row_view r.now) gain.deny) (row_view gain.grant.now)
 
-abbrev pub gain_cover : Question → Gain → List AclRow
-gain_cover q gain = cover_of (views_of gain.denies.now) (views_of gain.granting.now)
-    (views_of q.to.now.denies.items) (views_of gain.before.now)
+abbrev pub gain_cover : Gain → List AclRow
+gain_cover gain = views_of gain.judging.now ++ views_of gain.before.now
 
 -- ---- what is told of a gain
 -- the class of the clients with the user name of a witness
@@ -180,48 +204,48 @@ gain_reasons Gained gain =
 gain_reasons Lost gain =
     (Grant gain.grant.now.line, refused (option_map (λ r. r.now) gain.deny))
 
--- where its rows decide, the difference is told of it
-abbrev pub IsToldBy : Question → Gain → Difference → Type 0
-IsToldBy q gain d = (client topic : List ℕ) (user : Option (List ℕ))
-    → IsPoint q.lists.now.asked q.clients client user topic
-    → decides client user topic (gain_must gain) (gain_cover q gain) ≡ true
-    → is_told_of q.lists.now.old.now q.lists.now.new.now q.way q.direction client user topic d
-    ≡ true
+-- where its rows decide about topics of a kind, the difference is told of it
+abbrev pub IsToldBy : Bool → Question → Gain → Difference → Type 0
+IsToldBy dollar q gain d = (client topic : List ℕ) (user : Option (List ℕ))
+    → IsPoint (asked_in q) q.clients client user topic → begins_with_dollar topic ≡ dollar
+    → decides_by (rules_in q) client user topic (gain_must gain) (gain_cover gain) ≡ true
+    → is_told q client user topic d ≡ true
 
 -- ---- what is told of a row that grants
 -- it stands behind these, and is known not to be kept where it isn't
 pub record IsPlaced (q : Question) (before : List Marked) (grant : Marked) : Type 0 where
-  pub split : IsSplit q.to.now.grants.items before grant.row.now
+  pub split : IsSplit q.to.now.rows.items before grant.row.now
+  pub grants : is_deny (row_view grant.row.now).access ≡ false
   pub kept : IsKept (row_views (rows_without q.way q.lists.now.old.now q.lists.now.new.now)) grant
 
-abbrev pub granted_must : Marked → List AclRow
-granted_must grant = must_of None (row_view grant.row.now)
-
 abbrev pub granted_cover : Question → (before : List Marked) → List AclRow
-granted_cover q before = cover_of (views_of q.from.now.denies.items)
-    (views_of q.from.now.grants.items) (views_of q.to.now.denies.items) (views_of before)
+granted_cover q before = views_of q.from.now.rows.items ++ views_of before
 
 abbrev pub denied_must : Question → ℕ → (d grant : Marked) → List AclRow
 denied_must q place d grant =
-    must_of (Some (row_view (slice_index_or q.from.now.denies.items place d).row.now))
+    must_of (Some (row_view (slice_index_or q.from.now.rows.items place d).row.now))
     (row_view grant.row.now)
 
 abbrev pub denied_cover : Question → ℕ → (before : List Marked) → List AclRow
-denied_cover q place before = cover_of (views_of (take place q.from.now.denies.items)) []
-    (views_of q.to.now.denies.items) (views_of before)
+denied_cover q place before = views_of (take place q.from.now.rows.items) ++ views_of before
 
--- what it grants where no row granted or denied it, and where any row was the first to deny it
+-- where a row of the first list denied it, and was the first to decide
+abbrev pub IsDeniedAt : Question → (before : List Marked) → (grant : Marked) → ℕ
+    → List Difference → Type 0
+IsDeniedAt q before grant place told = (d : Marked) → place < length q.from.now.rows.items
+    → is_deny (row_view (slice_index_or q.from.now.rows.items place d).row.now).access ≡ true
+    → AreTold q (denied_must q place d grant) (denied_cover q place before) told
+
+-- what it grants where no row decided, and where any row was the first to deny it
 pub record AreToldBy (q : Question) (before : List Marked) (grant : Marked)
     (told : List Difference) : Type 0 where
-  pub granted : AreTold q (granted_must grant) (granted_cover q before) told
-  pub denied : (place : ℕ) (d : Marked) → place < length q.from.now.denies.items
-      → AreTold q (denied_must q place d grant) (denied_cover q place before) told
+  pub granted : AreTold q (must_of None (row_view grant.row.now)) (granted_cover q before) told
+  pub denied : (place : ℕ) → IsDeniedAt q before grant place told
 
 -- all that these clients gain, or lose, is told
 abbrev pub TellsChanges : Question → List Difference → Type 0
 TellsChanges q told = (client topic : List ℕ) (user : Option (List ℕ))
-    → IsPoint q.lists.now.asked q.clients client user topic
-    → is_change q.way (row_views q.lists.now.old.now) (row_views q.lists.now.new.now) client user
-    topic q.direction ≡ true
-    → list_any (is_told_of q.lists.now.old.now q.lists.now.new.now q.way q.direction client user
-    topic) told ≡ true
+    → IsPoint (asked_in q) q.clients client user topic
+    → is_change (rules_in q) q.way (row_views q.lists.now.old.now) (row_views q.lists.now.new.now)
+    client user topic q.direction ≡ true
+    → list_any (is_told q client user topic) told ≡ true

@@ -1,32 +1,45 @@
 -- What decides whether a client may read or write a topic.
-use Rattle.std.specs.Prelude.{ℕ, Bool, true, false, List, ◌&&◌, Option, Some, None, find}
-use Rattle.mq_acl.specs.Access.{concerns, is_deny, grants}
+use Rattle.std.specs.Prelude.{ℕ, Bool, true, false, List, ◌==◌, ◌&&◌, Option, Some, None, find}
+use Rattle.std.specs.Prelude.{if◌then◌else◌}
+use Rattle.mq_acl.specs.Access.{grants, is_deny}
+use Rattle.mq_acl.specs.AccessLists.{concerns_by, user_by}
+use Rattle.mq_acl.specs.Rows.{AclRow}
 use Rattle.mq_acl.specs.Views.{row_view}
 use Rattle.mq_acl.specs.declared.access.Direction.{Direction}
 use Rattle.mq_acl.specs.declared.row.Row.{Row}
+use Rattle.mq_acl.specs.declared.rules.Rules.{Rules}
+use Rattle.mq_findings.specs.Ranks.{is_judge, judges, rank}
 use Rattle.mq_findings.specs.declared.reason.Reason.{Reason}
 use Rattle.mq_findings.specs.declared.reason.Reason.TheVariants.{Deny, Grant, NoGrant}
 
--- the first row that denies the topic to this client
-abbrev pub first_deny : List Row → List ℕ → Option (List ℕ) → List ℕ → Option Row
-first_deny rows client user topic =
-    find (λ row. concerns client user topic (row_view row) && is_deny (row_view row).access) rows
+-- the row is of this rank, may decide, and concerns the topic
+abbrev pub decides_at : Rules → Direction → ℕ → List ℕ → Option (List ℕ) → List ℕ → AclRow → Bool
+decides_at rules direction place client user topic row =
+    (is_judge direction row && (rank rules row == place))
+    && concerns_by rules client (user_by rules user) topic row
 
--- the first row that grants it
-abbrev pub first_grant : List Row → List ℕ → Option (List ℕ) → List ℕ → Direction → Option Row
-first_grant rows client user topic direction =
-    find (λ row. concerns client user topic (row_view row)
-    && grants direction (row_view row).access) rows
+-- the first of the rows that may decide and concern the topic
+abbrev pub decider : Rules → List Row → List ℕ → Option (List ℕ) → List ℕ → Direction → Option Row
+decider rules rows client user topic direction =
+    find (λ row. concerns_by rules client (user_by rules user) topic (row_view row))
+    (judges rules direction rows)
 
--- a row that denies decides; without one, a row that grants
-abbrev pub reason_by : Option Row → Option Row → Reason
-reason_by (Some deny) grant = Deny deny.line
-reason_by None (Some grant) = Grant grant.line
-reason_by None None = NoGrant
+-- the first of them that grants it
+abbrev pub first_grant : Rules → List Row → List ℕ → Option (List ℕ) → List ℕ → Direction
+    → Option Row
+first_grant rules rows client user topic direction =
+    find (λ row. concerns_by rules client (user_by rules user) topic (row_view row)
+    && grants direction (row_view row).access) (judges rules direction rows)
 
-abbrev pub reason_of : List Row → List ℕ → Option (List ℕ) → List ℕ → Direction → Reason
-reason_of rows client user topic direction =
-    reason_by (first_deny rows client user topic) (first_grant rows client user topic direction)
+-- a row that denies, or one that grants
+abbrev pub reason_by : Option Row → Reason
+reason_by None = NoGrant
+reason_by (Some row) =
+    if is_deny (row_view row).access then Deny row.line else Grant row.line
+
+abbrev pub reason_of : Rules → List Row → List ℕ → Option (List ℕ) → List ℕ → Direction → Reason
+reason_of rules rows client user topic direction =
+    reason_by (decider rules rows client user topic direction)
 
 -- the client may
 abbrev pub is_grant : Reason → Bool

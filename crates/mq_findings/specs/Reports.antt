@@ -17,11 +17,11 @@ added told d = if list_any (λ e. is_like e d) told then told else told ++ d ∷
 
 -- it is so, it calls made up what is, and that stands for others
 pub record IsSound (old new : List Row) (asked : AskedRows) (d : Difference) : Type 0 where
-  pub real : IsReal old new d
+  pub real : IsReal asked.rules old new d
   pub marked : IsMarked asked d
   pub unnamed : AreUnnamed asked d
   pub known : IsKnown asked d
-  pub stands : ShowsOthers old new asked d
+  pub stands : ShowsOthers asked.rules old new asked d
 
 -- all are so, and no two alike
 pub record IsReport (old new : List Row) (asked : AskedRows) (told : List Difference) : Type 0 where

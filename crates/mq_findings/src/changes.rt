@@ -2,14 +2,13 @@
 ghost use Rattle.std.specs.Prelude.{◌≡◌, ℕ, List, [], All, IfOk, IfErr, OnOk, true, Option, Some};
 ghost use Rattle.mq_topic.specs.Texts.{is_name};
 ghost use Rattle.mq_acl.specs.AccessLists.{allow_by};
-ghost use Rattle.mq_acl.specs.declared.rules.Rules.TheVariants.{Own};
 ghost use Rattle.mq_acl.specs.Views.{row_views};
 ghost use Rattle.mq_acl.specs.declared.access.Direction.{Direction};
 ghost use Rattle.mq_witness.specs.Asked.{IsListed};
 ghost use Rattle.mq_witness.specs.Clients.{can_be_id};
 ghost use Rattle.mq_witness.specs.Rows.{is_user_of};
 ghost use Rattle.mq_findings.specs.Classes.{can_be_user};
-ghost use Rattle.mq_findings.specs.Differences.{TellsAll, IsReal, AreApart, AreMarked};
+ghost use Rattle.mq_findings.specs.Differences.{TellsAll, IsReal, AreApart, AreMarked, is_compared};
 ghost use Rattle.mq_findings.specs.Faults.{IsComparisonFault};
 ghost use Rattle.mq_findings.specs.Questions.{AreLists, IsStop};
 ghost use Rattle.mq_findings.specs.Reports.{Grows};
@@ -24,7 +23,7 @@ use crate::lists::Lists;
 use crate::marks::Marked;
 use crate::report::Report;
 use crate::way::Way;
-use mq_acl::{Direction, Row};
+use mq_acl::{Direction, Row, Rules};
 use mq_witness::Clients;
 use std::alloc::Global;
 
@@ -62,8 +61,8 @@ fn add_direction<'q>(
         direction report.new.differences.items) }
     ensures fault { IfErr result (IsStop lists.entry.now) }
 {
-    let old = Judges::of(alloc, &rows.old, direction)?;
-    let new = Judges::of(alloc, &rows.new, direction)?;
+    let old = Judges::of(alloc, lists.rules, &rows.old, direction)?;
+    let new = Judges::of(alloc, lists.rules, &rows.new, direction)?;
     let gained = Question {
         lists,
         clients: rows.clients,
@@ -127,7 +126,7 @@ fn add_all(alloc: Global, report: &mut Report, lists: &Lists) -> Result<(), Comp
     requires { AreLists lists.now }
     ensures grows { OnOk result (Grows lists.entry.now.old.now lists.entry.now.new.now
         lists.entry.now.asked report.old.differences.items report.new.differences.items) }
-    ensures told { OnOk result (TellsAll lists.entry.now.old.now lists.entry.now.new.now
+    ensures told { OnOk result (TellsAll lists.entry.now.asked.rules lists.entry.now.old.now lists.entry.now.new.now
         report.new.differences.items) }
     ensures fault { IfErr result (IsStop lists.entry.now) }
 {
@@ -144,22 +143,24 @@ fn add_all(alloc: Global, report: &mut Report, lists: &Lists) -> Result<(), Comp
 /// an answer is always the whole one. So many as `enough_steps` says always suffice.
 pub fn compare<'a>(
     alloc: Global,
+    rules: Rules,
     old: &'a [Row],
     new: &'a [Row],
     steps: u64,
 ) -> Result<Vec<Difference>, ComparisonFault>
-    ensures every { IfOk result (λ all. TellsAll old.entry.now new.entry.now all.items) }
-    ensures real { IfOk result (λ all. All (IsReal old.entry.now new.entry.now) all.items) }
+    ensures every { IfOk result (λ all. TellsAll rules old.entry.now new.entry.now all.items) }
+    ensures real { IfOk result (λ all. All (IsReal rules old.entry.now new.entry.now) all.items) }
     ensures once { IfOk result (λ all. AreApart all.items) }
-    ensures marked { IfOk result (λ all. AreMarked old.entry.now new.entry.now all.items) }
+    ensures marked { IfOk result (λ all. AreMarked rules old.entry.now new.entry.now all.items) }
     ensures same { IfOk result (λ all. all.items ≡ []
         → (client topic : List ℕ) (user : Option (List ℕ)) (direction : Direction)
-        → can_be_id client ≡ true → can_be_user user ≡ true → is_name topic ≡ true
-        → allow_by Own (row_views old.entry.now) client user topic direction
-        ≡ allow_by Own (row_views new.entry.now) client user topic direction) }
-    ensures fault { IfErr result (IsComparisonFault old.entry.now new.entry.now steps) }
+        → can_be_id client ≡ true → can_be_user user ≡ true
+        → is_compared rules old.entry.now new.entry.now client user ≡ true → is_name topic ≡ true
+        → allow_by rules (row_views old.entry.now) client user topic direction
+        ≡ allow_by rules (row_views new.entry.now) client user topic direction) }
+    ensures fault { IfErr result (IsComparisonFault rules old.entry.now new.entry.now steps) }
 {
-    let lists = Lists::of(alloc, old, new, steps)?;
+    let lists = Lists::of(alloc, rules, old, new, steps)?;
     let mut report = Report::new(alloc, steps);
     add_all(alloc, &mut report, &lists)?;
     Ok(report.into_differences())

@@ -1,69 +1,62 @@
-ghost use Rattle.std.specs.Prelude.{◌≡◌, ◌&&◌, Some, find, is_some, is_none};
+//! The row that decides whether a client may read or write a topic.
+ghost use Rattle.std.specs.Prelude.{◌≡◌, find};
 ghost use Rattle.std.specs.Option.{option_copied};
-ghost use Rattle.mq_acl.specs.AccessLists.{allow_by};
-ghost use Rattle.mq_acl.specs.declared.rules.Rules.TheVariants.{Own};
-ghost use Rattle.mq_acl.specs.Access.{concerns, is_deny, grants};
-ghost use Rattle.mq_acl.specs.Views.{row_view, row_views};
+ghost use Rattle.mq_acl.specs.Views.{row_view};
+ghost use Rattle.mq_findings.specs.Reasons.{decider, decides_at, first_grant};
 
-use mq_acl::{Direction, Row, concerns, grants, is_deny};
+use crate::ranks::{is_judge, rank};
+use mq_acl::{Direction, Row, Rules, concerns_by, user_by};
 use mq_topic::TopicName;
 
-/// The rows that decide whether a client may read or write a topic: it may if no row denies it and one grants it.
+/// What a client wants to do.
 #[derive(Clone, Copy, Drop)]
-pub(crate) struct Decision<'a> {
-    /// The first row that denies it, if one does.
-    pub deny: Option<&'a Row>,
-    /// The first row that grants it, if one does: where a row denies it, what would grant it otherwise.
-    pub grant: Option<&'a Row>,
+pub(crate) struct Request<'a> {
+    pub rules: Rules,
+    /// Its client id.
+    pub client: &'a str,
+    /// Its user name, if it has one.
+    pub user: Option<&'a str>,
+    pub topic: &'a TopicName,
+    pub direction: Direction,
 }
 
-fn first_deny<'a>(
-    rows: &'a [Row],
-    client: &str,
-    user: Option<&str>,
-    name: &TopicName,
-) -> Option<&'a Row>
-    ensures { option_copied result
-        ≡ find (λ row. concerns client.now (option_copied user.entry) name.now (row_view row)
-        && is_deny (row_view row).access) rows.entry.now }
-{
-    rows.iter().find(|row| concerns(row, client, user, name) && is_deny(row.access))
-}
+impl Request<'_> {
+    // Whether the row is of this rank, may decide, and concerns the topic.
+    fn decides_at(&self, place: u8, row: &Row) -> bool
+        ensures { result ≡ decides_at self.now.rules self.now.direction place self.now.client.now
+            (option_copied self.now.user) self.now.topic.now (row_view row.now) }
+    {
+        let user = user_by(self.rules, self.user);
+        is_judge(self.direction, row)
+            && rank(self.rules, row) == place
+            && concerns_by(self.rules, row, self.client, user, self.topic)
+    }
 
-fn first_grant<'a>(
-    rows: &'a [Row],
-    client: &str,
-    user: Option<&str>,
-    name: &TopicName,
-    direction: Direction,
-) -> Option<&'a Row>
-    ensures { option_copied result
-        ≡ find (λ row. concerns client.now (option_copied user.entry) name.now (row_view row)
-        && grants direction (row_view row).access) rows.entry.now }
-{
-    rows.iter().find(|row| concerns(row, client, user, name) && grants(direction, row.access))
-}
+    // The first row of this rank that concerns the topic.
+    fn first_at<'r>(&self, rows: &'r [Row], place: u8) -> Option<&'r Row>
+        ensures { option_copied result ≡ find (λ row. decides_at self.now.rules self.now.direction
+            place self.now.client.now (option_copied self.now.user) self.now.topic.now
+            (row_view row)) rows.entry.now }
+    {
+        rows.iter().find(|row| self.decides_at(place, row))
+    }
 
-/// Why the client with this client id, and with this user name or none, may read or write the topic, or may not.
-pub(crate) fn decide<'a>(
-    rows: &'a [Row],
-    client: &str,
-    user: Option<&str>,
-    name: &TopicName,
-    direction: Direction,
-) -> Decision<'a>
-    ensures deny { option_copied result.deny
-        ≡ find (λ row. concerns client.now (option_copied user.entry) name.now (row_view row)
-        && is_deny (row_view row).access) rows.entry.now }
-    ensures grant { option_copied result.grant
-        ≡ find (λ row. concerns client.now (option_copied user.entry) name.now (row_view row)
-        && grants direction (row_view row).access) rows.entry.now }
-    ensures allowed { allow_by Own (row_views rows.entry.now) client.now
-        (option_copied user.entry) name.now direction
-        ≡ (is_none result.deny && is_some result.grant) }
-{
-    Decision {
-        deny: first_deny(rows, client, user, name),
-        grant: first_grant(rows, client, user, name, direction),
+    /// The row that decides it; without one it is denied.
+    pub(crate) fn decider<'r>(&self, rows: &'r [Row]) -> Option<&'r Row>
+        ensures { option_copied result ≡ decider self.now.rules rows.entry.now self.now.client.now
+            (option_copied self.now.user) self.now.topic.now self.now.direction }
+    {
+        let own = self.first_at(rows, 0).or(self.first_at(rows, 1));
+        let pattern = self.first_at(rows, 2).or(self.first_at(rows, 3));
+        own.or(pattern)
+    }
+
+    /// The first row that grants it: where another denies it, what would grant it otherwise.
+    pub(crate) fn grant<'r>(&self, rows: &'r [Row]) -> Option<&'r Row>
+        ensures { option_copied result ≡ first_grant self.now.rules rows.entry.now
+            self.now.client.now (option_copied self.now.user) self.now.topic.now
+            self.now.direction }
+    {
+        self.first_at(rows, 1).or(self.first_at(rows, 3))
     }
 }

@@ -18,6 +18,10 @@ pub enum ComparisonFault {
     OldLine(u64),
     /// So has the row with this line of the new list.
     NewLine(u64),
+    /// By mosquitto's rules the `pattern` row with this line of the old list has a mark that is a part of a level.
+    OldMark(u64),
+    /// So has the row with this line of the new list.
+    NewMark(u64),
     /// The steps don't suffice: when they were spent, it was to be known what the row with this line of this list changes,
     /// which has to be seen against so many others.
     GaveUp(Side, u64, u64),

@@ -1,14 +1,20 @@
 //! What clients of one class gain, going from one list to another: what a grant of the second list allows, and the first
 //! list denied or didn't grant.
-ghost use Rattle.std.specs.Prelude.{◌≡◌, ◌<◌, IfOk, IfErr, OnOk, true, false, length};
-ghost use Rattle.mq_witness.specs.Asked.{Knows, Shows, Stands};
+ghost use Rattle.std.specs.Prelude.{◌≡◌, ◌<◌, ◌&&◌, ◌||◌, ℕ, IfOk, IfErr, OnOk, true, false, length};
+ghost use Rattle.std.specs.Prelude.{nat_lt};
+ghost use Rattle.mq_acl.specs.Access.{begins_with_dollar};
+ghost use Rattle.mq_acl.specs.Views.{row_view};
+ghost use Rattle.mq_witness.specs.Asked.{Knows};
 ghost use Rattle.mq_witness.specs.Rows.{lent_rows};
-ghost use Rattle.mq_findings.specs.Questions.{AreTold, AreToldBy, IsGain, IsPlaced, IsQuestion};
-ghost use Rattle.mq_findings.specs.Questions.{IsStop, IsToldBy, TellsChanges, class_of, denied_cover};
-ghost use Rattle.mq_findings.specs.Questions.{denied_must, gain_cover, gain_must, gain_reasons};
-ghost use Rattle.mq_findings.specs.Questions.{NeverMeet, granted_cover, granted_must, side_with};
+ghost use Rattle.mq_witness.specs.Ruled.{ShowsBy, StandsBy};
+ghost use Rattle.mq_findings.specs.Questions.{AreTold, AreToldBy, AreToldOf, IsDeniedAt, IsGain};
+ghost use Rattle.mq_findings.specs.Questions.{IsPlaced, IsQuestion, IsStop, IsToldBy, NeverMeet};
+ghost use Rattle.mq_findings.specs.Questions.{TellsChanges, class_of, gain_cover, gain_must};
+ghost use Rattle.mq_findings.specs.Questions.{asked_in, gain_reasons, granted_cover, must_of};
+ghost use Rattle.mq_findings.specs.Questions.{side_with};
+ghost use Rattle.mq_findings.specs.Ranks.{rank};
 ghost use Rattle.mq_findings.specs.Reports.{Grows, IsSound};
-ghost use Rattle.mq_findings.specs.declared.marks.Marked.{Marked};
+ghost use Rattle.std.specs.Prelude.{None};
 
 use crate::class::Class;
 use crate::difference::Difference;
@@ -17,10 +23,11 @@ use crate::judges::{Judges, add_rows};
 use crate::lists::Lists;
 use crate::made_up::made_up;
 use crate::marks::Marked;
+use crate::ranks::rank;
 use crate::reason::Reason;
 use crate::report::Report;
 use crate::way::Way;
-use mq_acl::{Direction, Row};
+use mq_acl::{Direction, Row, Rules, is_deny};
 use mq_witness::{Clients, Witness};
 use std::alloc::{AllocError, Global};
 
@@ -40,15 +47,13 @@ pub(crate) struct Question<'l, 'a> {
 /// A row that grants it, and why the other list didn't allow it.
 #[derive(Clone, Copy, Drop)]
 pub(crate) struct Gain<'l, 'a> {
-    /// The row that denied it, or none where nothing granted it.
+    /// The row that denied it, or none where no row decided.
     pub deny: Option<&'a Row>,
     /// The row that grants it.
     pub grant: &'a Row,
-    /// The other rows of the first list that deny, and are not to concern it.
-    pub denies: &'l [Marked<'a>],
-    /// Those of the first list that grant, and are not to.
-    pub granting: &'l [Marked<'a>],
-    /// The rows of the second list that grant, and stand before the one that is to decide.
+    /// The rows of the first list that would decide before that one denies, and are not to concern it.
+    pub judging: &'l [Marked<'a>],
+    /// Those of the second list that would before this one grants.
     pub before: &'l [Marked<'a>],
 }
 
@@ -63,18 +68,11 @@ fn must_of<'a>(alloc: Global, gain: &Gain<'_, 'a>) -> Result<Vec<&'a Row>, Alloc
 }
 
 // The rows that are not to.
-fn cover_of<'a>(
-    alloc: Global,
-    question: &Question<'_, 'a>,
-    gain: &Gain<'_, 'a>,
-) -> Result<Vec<&'a Row>, AllocError>
-    ensures { IfOk result (λ rows. lent_rows rows.items
-        ≡ gain_cover question.entry.now gain.entry.now) }
+fn cover_of<'a>(alloc: Global, gain: &Gain<'_, 'a>) -> Result<Vec<&'a Row>, AllocError>
+    ensures { IfOk result (λ rows. lent_rows rows.items ≡ gain_cover gain.entry.now) }
 {
     let mut rows = Vec::new(alloc);
-    add_rows(&mut rows, gain.denies)?;
-    add_rows(&mut rows, gain.granting)?;
-    add_rows(&mut rows, &question.to.denies)?;
+    add_rows(&mut rows, gain.judging)?;
     add_rows(&mut rows, gain.before)?;
     Ok(rows)
 }
@@ -105,23 +103,25 @@ fn reasons(way: Way, gain: &Gain) -> (Reason, Reason)
     }
 }
 
-// What is told of a witness.
+// What is told of a witness whose topic begins with `$`, or doesn't.
 fn difference_of(
     alloc: Global,
     question: &Question,
     gain: &Gain,
+    dollar: bool,
     witness: Witness,
 ) -> Result<Difference, AllocError>
     requires question { IsQuestion question.now }
     requires gain { IsGain question.now gain.now }
-    requires shows { Shows question.now.lists.now.asked question.now.clients
-        (gain_must gain.now) (gain_cover question.now gain.now) witness }
-    requires stands { Stands question.now.lists.now.asked question.now.clients
-        (gain_must gain.now) (gain_cover question.now gain.now) witness }
-    requires known { Knows question.now.lists.now.asked witness }
+    requires shows { ShowsBy (asked_in question.now) question.now.clients
+        (gain_must gain.now) (gain_cover gain.now) witness }
+    requires kind { begins_with_dollar witness.name ≡ dollar }
+    requires stands { StandsBy (asked_in question.now) question.now.clients
+        (gain_must gain.now) (gain_cover gain.now) witness }
+    requires known { Knows (asked_in question.now) witness }
     ensures sound { IfOk result (IsSound question.entry.now.lists.now.old.now
-        question.entry.now.lists.now.new.now question.entry.now.lists.now.asked) }
-    ensures told { IfOk result (λ d. IsToldBy question.entry.now gain.entry.now d) }
+        question.entry.now.lists.now.new.now (asked_in question.entry.now)) }
+    ensures told { IfOk result (λ d. IsToldBy dollar question.entry.now gain.entry.now d) }
 {
     let class = class_of(question.clients, witness.user);
     let asked = &question.lists.asked;
@@ -149,11 +149,11 @@ fn side_with(way: Way) -> Side
 }
 
 // How many rows the one that grants it has to be seen against.
-fn others_of(question: &Question, gain: &Gain) -> u64 {
-    let denies = gain.denies.len() as u64 + question.to.denies.len() as u64;
-    let granting = gain.granting.len() as u64 + gain.before.len() as u64;
+fn others_of(gain: &Gain) -> u64 {
     let deny = u64::from(gain.deny.is_some());
-    deny.saturating_add(denies).saturating_add(granting)
+    let judging = gain.judging.len() as u64;
+    deny.saturating_add(judging)
+        .saturating_add(gain.before.len() as u64)
 }
 
 // The steps that a question takes don't suffice.
@@ -163,11 +163,7 @@ fn give_up(question: &Question, gain: &Gain) -> ComparisonFault
     requires limited { question.now.lists.now.limited ≡ true }
     ensures { IsStop question.now.lists.now result }
 {
-    ComparisonFault::GaveUp(
-        side_with(question.way),
-        gain.grant.line,
-        others_of(question, gain),
-    )
+    ComparisonFault::GaveUp(side_with(question.way), gain.grant.line, others_of(gain))
 }
 
 // Whether the rows that are to concern it do so anywhere. Of one row that is taken for granted.
@@ -187,11 +183,44 @@ fn can_meet<'a>(
         return Ok(true);
     }
     let asked = &question.lists.asked;
-    let found = asked.find(alloc, question.clients, must, &must[..0])?;
-    if found.is_none() {
+    let plain = asked.find_kind(alloc, question.clients, false, must, &must[..0])?;
+    if plain.is_some() {
+        return Ok(true);
+    }
+    let begun = asked.find_kind(alloc, question.clients, true, must, &must[..0])?;
+    if begun.is_none() {
         return Ok(false);
     }
     Ok(true)
+}
+
+// Adds what is gained of topics that begin with `$`, or of the others, if anything is.
+fn add_kind<'a>(
+    alloc: Global,
+    report: &mut Report,
+    question: &Question<'_, 'a>,
+    gain: &Gain<'_, 'a>,
+    dollar: bool,
+    must: &[&'a Row],
+    cover: &[&'a Row],
+) -> Result<(), AllocError>
+    requires question { IsQuestion question.now }
+    requires gain { IsGain question.now gain.now }
+    requires must { lent_rows must.now ≡ gain_must gain.now }
+    requires cover { lent_rows cover.now ≡ gain_cover gain.now }
+    ensures grows { OnOk result (Grows question.entry.now.lists.now.old.now
+        question.entry.now.lists.now.new.now (asked_in question.entry.now)
+        report.old.differences.items report.new.differences.items) }
+    ensures told { OnOk result (AreToldOf dollar question.entry.now (gain_must gain.entry.now)
+        (gain_cover gain.entry.now) report.new.differences.items) }
+{
+    let asked = &question.lists.asked;
+    let Some(witness) = asked.find_kind(alloc, question.clients, dollar, must, cover)? else {
+        return Ok(());
+    };
+    let difference = difference_of(alloc, question, gain, dollar, witness)?;
+    report.add(difference)?;
+    Ok(())
 }
 
 // Adds what is gained in this way, if anything is.
@@ -204,10 +233,10 @@ fn add_gain<'a>(
     requires question { IsQuestion question.now }
     requires gain { IsGain question.now gain.now }
     ensures grows { OnOk result (Grows question.entry.now.lists.now.old.now
-        question.entry.now.lists.now.new.now question.entry.now.lists.now.asked
+        question.entry.now.lists.now.new.now (asked_in question.entry.now)
         report.old.differences.items report.new.differences.items) }
     ensures told { OnOk result (AreTold question.entry.now (gain_must gain.entry.now)
-        (gain_cover question.entry.now gain.entry.now) report.new.differences.items) }
+        (gain_cover gain.entry.now) report.new.differences.items) }
     ensures fault { IfErr result (IsStop question.entry.now.lists.now) }
 {
     let must = must_of(alloc, gain)?;
@@ -219,21 +248,17 @@ fn add_gain<'a>(
     if !met {
         return Ok(());
     }
-    let cover = cover_of(alloc, question, gain)?;
+    let cover = cover_of(alloc, gain)?;
     let steps = cover.len() as u64;
     if !report.spend(question.lists.limited, steps) {
         return Err(give_up(question, gain));
     }
-    let asked = &question.lists.asked;
-    let Some(witness) = asked.find(alloc, question.clients, &must, &cover)? else {
-        return Ok(());
-    };
-    let difference = difference_of(alloc, question, gain, witness)?;
-    report.add(difference)?;
+    add_kind(alloc, report, question, gain, false, &must, &cover)?;
+    add_kind(alloc, report, question, gain, true, &must, &cover)?;
     Ok(())
 }
 
-// Adds what the row grants where no row of the first list granted or denied it.
+// Adds what the row grants where no row of the first list decided.
 fn add_granted<'l, 'a>(
     alloc: Global,
     report: &mut Report,
@@ -242,13 +267,13 @@ fn add_granted<'l, 'a>(
     grant: &Marked<'a>,
 ) -> Result<(), ComparisonFault>
     requires question { IsQuestion question.now }
-    requires split { IsPlaced question.now before.now grant.now }
+    requires placed { IsPlaced question.now before.now grant.now }
     ensures grows { OnOk result (Grows question.entry.now.lists.now.old.now
-        question.entry.now.lists.now.new.now question.entry.now.lists.now.asked
+        question.entry.now.lists.now.new.now (asked_in question.entry.now)
         report.old.differences.items report.new.differences.items) }
     ensures told { OnOk result (AreTold question.entry.now
-        (granted_must grant.entry.now) (granted_cover question.entry.now before.entry.now)
-        report.new.differences.items) }
+        (must_of None (row_view grant.entry.now.row.now))
+        (granted_cover question.entry.now before.entry.now) report.new.differences.items) }
     ensures fault { IfErr result (IsStop question.entry.now.lists.now) }
 {
     if grant.kept {
@@ -257,15 +282,27 @@ fn add_granted<'l, 'a>(
     let gain = Gain {
         deny: None,
         grant: grant.row,
-        denies: &question.from.denies,
-        granting: &question.from.grants,
+        judging: &question.from.rows,
         before,
     };
     add_gain(alloc, report, question, &gain)?;
     Ok(())
 }
 
-// Adds what the row grants where this row of the first list was the first that denied it.
+// Whether the row that denies, or the one that grants, is in the other list too, and would decide there before the other
+// one.
+fn decides_elsewhere(rules: Rules, deny: &Marked, grant: &Marked) -> bool
+    ensures { result ≡ ((deny.now.kept && nat_lt (rank rules (row_view deny.now.row.now))
+        (rank rules (row_view grant.now.row.now)))
+        || (grant.now.kept && nat_lt (rank rules (row_view grant.now.row.now))
+        (rank rules (row_view deny.now.row.now)))) }
+{
+    let denies = rank(rules, deny.row);
+    let grants = rank(rules, grant.row);
+    (deny.kept && denies < grants) || (grant.kept && grants < denies)
+}
+
+// Adds what the row grants where this row of the first list was the first to decide, and denied it.
 fn add_denied<'l, 'a>(
     alloc: Global,
     report: &mut Report,
@@ -275,29 +312,27 @@ fn add_denied<'l, 'a>(
     place: usize,
 ) -> Result<(), ComparisonFault>
     requires question { IsQuestion question.now }
-    requires split { IsPlaced question.now before.now grant.now }
+    requires placed { IsPlaced question.now before.now grant.now }
     ensures grows { OnOk result (Grows question.entry.now.lists.now.old.now
-        question.entry.now.lists.now.new.now question.entry.now.lists.now.asked
+        question.entry.now.lists.now.new.now (asked_in question.entry.now)
         report.old.differences.items report.new.differences.items) }
-    ensures told { OnOk result ((d : Marked)
-        → place < length question.entry.now.from.now.denies.items
-        → AreTold question.entry.now
-        (denied_must question.entry.now place d grant.entry.now)
-        (denied_cover question.entry.now place before.entry.now)
-        report.new.differences.items) }
+    ensures told { OnOk result (IsDeniedAt question.entry.now before.entry.now grant.entry.now
+        place report.new.differences.items) }
     ensures fault { IfErr result (IsStop question.entry.now.lists.now) }
 {
-    let Some(deny) = question.from.denies.get(place) else {
+    let Some(deny) = question.from.rows.get(place) else {
         return Ok(());
     };
-    if deny.kept {
+    if !is_deny(deny.row.access) {
+        return Ok(());
+    }
+    if decides_elsewhere(question.lists.rules, deny, grant) {
         return Ok(());
     }
     let gain = Gain {
         deny: Some(deny.row),
         grant: grant.row,
-        denies: &question.from.denies[..place],
-        granting: &question.from.grants[..0],
+        judging: &question.from.rows[..place],
         before,
     };
     add_gain(alloc, report, question, &gain)?;
@@ -313,17 +348,17 @@ fn add_by_grant<'l, 'a>(
     grant: &Marked<'a>,
 ) -> Result<(), ComparisonFault>
     requires question { IsQuestion question.now }
-    requires split { IsPlaced question.now before.now grant.now }
+    requires placed { IsPlaced question.now before.now grant.now }
     ensures grows { OnOk result (Grows question.entry.now.lists.now.old.now
-        question.entry.now.lists.now.new.now question.entry.now.lists.now.asked
+        question.entry.now.lists.now.new.now (asked_in question.entry.now)
         report.old.differences.items report.new.differences.items) }
     ensures told { OnOk result (AreToldBy question.entry.now before.entry.now grant.entry.now
         report.new.differences.items) }
     ensures fault { IfErr result (IsStop question.entry.now.lists.now) }
 {
     add_granted(alloc, report, question, before, grant)?;
-    for place in 0..question.from.denies.len() {
-        add_denied(alloc, report, question, before, grant, place)?;
+    for place in &question.from.denies {
+        add_denied(alloc, report, question, before, grant, *place)?;
     }
     Ok(())
 }
@@ -336,14 +371,17 @@ pub(crate) fn add_gains(
 ) -> Result<(), ComparisonFault>
     requires { IsQuestion question.now }
     ensures grows { OnOk result (Grows question.entry.now.lists.now.old.now
-        question.entry.now.lists.now.new.now question.entry.now.lists.now.asked
+        question.entry.now.lists.now.new.now (asked_in question.entry.now)
         report.old.differences.items report.new.differences.items) }
     ensures told { OnOk result (TellsChanges question.entry.now report.new.differences.items) }
     ensures fault { IfErr result (IsStop question.entry.now.lists.now) }
 {
-    let grants = question.to.grants.as_slice();
-    for (place, grant) in grants.iter().enumerate() {
-        add_by_grant(alloc, report, question, &grants[..place], grant)?;
+    let rows = question.to.rows.as_slice();
+    for (place, grant) in rows.iter().enumerate() {
+        if is_deny(grant.row.access) {
+            continue;
+        }
+        add_by_grant(alloc, report, question, &rows[..place], grant)?;
     }
     Ok(())
 }

@@ -1,74 +1,89 @@
 //! The rows that decide.
-ghost use Rattle.std.specs.Prelude.{◌≡◌, ◌++◌, IfOk, OnOk};
+ghost use Rattle.std.specs.Prelude.{◌≡◌, ◌++◌, ◌==◌, ◌&&◌, IfOk, OnOk};
 ghost use Rattle.std.specs.List.{filter};
-ghost use Rattle.mq_acl.specs.Access.{grants, is_deny};
 ghost use Rattle.mq_acl.specs.Views.{row_view};
 ghost use Rattle.mq_witness.specs.Rows.{lent_rows};
 ghost use Rattle.mq_findings.specs.Marks.{views_of};
+ghost use Rattle.mq_findings.specs.Questions.{HasDenies, judging, ranked_marks};
 
 use crate::marks::Marked;
-use mq_acl::{Direction, Row, grants, is_deny};
+use crate::ranks::{is_judge, rank};
+use mq_acl::{Direction, Row, Rules, is_deny};
 use std::alloc::{AllocError, Global};
 
-/// The rows of a list that decide about a direction, for clients of one class. The first of those that deny decides that
-/// concerns a topic; where none does, the first of those that grant.
+/// The rows of a list that decide about a direction, for clients of one class: the first that concerns a topic does.
 pub(crate) struct Judges<'a> {
-    /// The rows that deny, in the order of the list.
-    pub denies: Vec<Marked<'a>>,
-    /// The rows that grant the direction, in the order of the list.
-    pub grants: Vec<Marked<'a>>,
+    pub rows: Vec<Marked<'a>>,
+    /// The places of those that deny.
+    pub denies: Vec<usize>,
 }
 
 // One step where it is dropped, and not one for each thing inside.
 impl Drop for Judges<'_> {
     fn drop(self) {
-        let Judges {
-            denies: _,
-            grants: _,
-        } = self;
+        let Judges { rows: _, denies: _ } = self;
     }
 }
 
-fn denies_of<'a>(alloc: Global, rows: &[Marked<'a>]) -> Result<Vec<Marked<'a>>, AllocError>
-    ensures { IfOk result (λ denies. denies.items
-        ≡ filter (λ m. is_deny (row_view m.row.now).access) rows.now) }
+// Those of one rank.
+fn ranked<'a>(
+    alloc: Global,
+    rules: Rules,
+    rows: &[Marked<'a>],
+    direction: Direction,
+    place: u8,
+) -> Result<Vec<Marked<'a>>, AllocError>
+    ensures { IfOk result (λ all. all.items ≡ ranked_marks rules direction place rows.now) }
 {
     rows.iter()
         .copied()
-        .filter(|m| is_deny(m.row.access))
+        .filter(|m| is_judge(direction, m.row) && rank(rules, m.row) == place)
         .collect(alloc)
 }
 
-fn grants_of<'a>(
+// All of them, in their order.
+fn judging<'a>(
     alloc: Global,
+    rules: Rules,
     rows: &[Marked<'a>],
     direction: Direction,
 ) -> Result<Vec<Marked<'a>>, AllocError>
-    ensures { IfOk result (λ granting. granting.items
-        ≡ filter (λ m. grants direction (row_view m.row.now).access) rows.now) }
+    ensures { IfOk result (λ all. all.items ≡ judging rules direction rows.now) }
 {
-    rows.iter()
-        .copied()
-        .filter(|m| grants(direction, m.row.access))
-        .collect(alloc)
+    let mut all = ranked(alloc, rules, rows, direction, 0)?;
+    all.extend_from_slice(&ranked(alloc, rules, rows, direction, 1)?)?;
+    all.extend_from_slice(&ranked(alloc, rules, rows, direction, 2)?)?;
+    all.extend_from_slice(&ranked(alloc, rules, rows, direction, 3)?)?;
+    Ok(all)
+}
+
+// The places of those that deny.
+fn places_of_denies(alloc: Global, rows: &[Marked]) -> Result<Vec<usize>, AllocError>
+    ensures { IfOk result (λ places. HasDenies rows.now places.items) }
+{
+    let mut places = Vec::new(alloc);
+    for (place, m) in rows.iter().enumerate() {
+        if is_deny(m.row.access) {
+            places.push(place)?;
+        }
+    }
+    Ok(places)
 }
 
 impl<'a> Judges<'a> {
     /// Those of these rows.
     pub(crate) fn of(
         alloc: Global,
+        rules: Rules,
         rows: &[Marked<'a>],
         direction: Direction,
     ) -> Result<Judges<'a>, AllocError>
-        ensures denies { IfOk result (λ judges. judges.denies.items
-            ≡ filter (λ m. is_deny (row_view m.row.now).access) rows.now) }
-        ensures grants { IfOk result (λ judges. judges.grants.items
-            ≡ filter (λ m. grants direction (row_view m.row.now).access) rows.now) }
+        ensures rows { IfOk result (λ all. all.rows.items ≡ judging rules direction rows.now) }
+        ensures denies { IfOk result (λ all. HasDenies all.rows.items all.denies.items) }
     {
-        Ok(Judges {
-            denies: denies_of(alloc, rows)?,
-            grants: grants_of(alloc, rows, direction)?,
-        })
+        let rows = judging(alloc, rules, rows, direction)?;
+        let denies = places_of_denies(alloc, &rows)?;
+        Ok(Judges { rows, denies })
     }
 }
 

@@ -8,12 +8,14 @@ use crate::by_owner::ByOwner;
 use crate::fault::ComparisonFault;
 use crate::marks::mark;
 use crate::steps::enough_steps;
-use mq_acl::Row;
+use mq_acl::{Row, Rules};
 use mq_witness::{Asked, ListFault};
 use std::alloc::{AllocError, Global};
 
 /// Two lists that are compared, and what is asked of them.
 pub(crate) struct Lists<'a> {
+    /// By which both decide.
+    pub rules: Rules,
     pub old: &'a [Row],
     pub new: &'a [Row],
     pub asked: Asked<'a>,
@@ -27,6 +29,7 @@ pub(crate) struct Lists<'a> {
 impl Drop for Lists<'_> {
     fn drop(self) {
         let Lists {
+            rules: _,
             old: _,
             new: _,
             asked: _,
@@ -45,6 +48,8 @@ fn fault_of(fault: ListFault) -> ComparisonFault
         ListFault::Memory => ComparisonFault::Memory,
         ListFault::Line(0, line) => ComparisonFault::OldLine(line),
         ListFault::Line(_, line) => ComparisonFault::NewLine(line),
+        ListFault::Mark(0, line) => ComparisonFault::OldMark(line),
+        ListFault::Mark(_, line) => ComparisonFault::NewMark(line),
     }
 }
 
@@ -55,9 +60,11 @@ fn both<'a>(alloc: Global, old: &'a [Row], new: &'a [Row]) -> Result<Vec<&'a [Ro
 }
 
 impl<'a> Lists<'a> {
-    /// The two lists. One with a level or a user name of more than 300 bytes is told by its line.
+    /// The two lists. One with a level or a user name of more than 300 bytes is told by its line; by mosquitto's rules so
+    /// is one with a mark that is a part of a level.
     pub(crate) fn of(
         alloc: Global,
+        rules: Rules,
         old: &'a [Row],
         new: &'a [Row],
         steps: u64,
@@ -65,17 +72,19 @@ impl<'a> Lists<'a> {
         ensures old { IfOk result (λ lists. lists.old.now ≡ old.entry.now) }
         ensures new { IfOk result (λ lists. lists.new.now ≡ new.entry.now) }
         ensures lists { IfOk result AreLists }
+        ensures rules { IfOk result (λ lists. lists.asked.rules ≡ rules) }
         ensures limited { IfOk result (λ lists. lists.limited ≡ true
             → steps < enough_steps (length old.entry.now + length new.entry.now)) }
-        ensures fault { IfErr result (IsComparisonFault old.entry.now new.entry.now steps) }
+        ensures fault { IfErr result (IsComparisonFault rules old.entry.now new.entry.now steps) }
     {
-        let asked = match Asked::of(alloc, both(alloc, old, new)?) {
+        let asked = match Asked::of(alloc, rules, both(alloc, old, new)?) {
             Ok(asked) => asked,
             Err(fault) => return Err(fault_of(fault)),
         };
         let old_rows = ByOwner::of(alloc, mark(alloc, old, new)?)?;
         let new_rows = ByOwner::of(alloc, mark(alloc, new, old)?)?;
         Ok(Lists {
+            rules,
             old,
             new,
             asked,

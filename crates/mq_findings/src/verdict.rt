@@ -1,13 +1,12 @@
-ghost use Rattle.std.specs.Prelude.{◌≡◌, Some};
+ghost use Rattle.std.specs.Prelude.{◌≡◌};
 ghost use Rattle.std.specs.Option.{option_copied, option_map};
 ghost use Rattle.mq_acl.specs.AccessLists.{allow_by};
-ghost use Rattle.mq_acl.specs.declared.rules.Rules.TheVariants.{Own};
 ghost use Rattle.mq_acl.specs.Views.{row_views};
 ghost use Rattle.mq_findings.specs.Reasons.{first_grant, is_grant, reason_of};
 
-use crate::decision::decide;
+use crate::decision::Request;
 use crate::reason::{Reason, reason_for};
-use mq_acl::{Direction, Row};
+use mq_acl::{Direction, Row, Rules};
 use mq_topic::TopicName;
 
 /// Whether a client may read or write a topic, and why.
@@ -28,26 +27,32 @@ impl Verdict {
     }
 }
 
-/// Whether the client with this client id, and with this user name or none, may read or write the topic, and why.
+/// Whether by these rules the client with this client id, and with this user name or none, may read or write the topic, and
+/// why.
 pub fn why(
+    rules: Rules,
     rows: &[Row],
     client: &str,
     user: Option<&str>,
     topic: &TopicName,
     direction: Direction,
 ) -> Verdict
-    ensures reason { result.reason
-        ≡ reason_of rows.now client.now (option_copied user.entry) topic.now direction }
-    ensures grant { result.grant
-        ≡ option_map (λ row. row.line)
-        (first_grant rows.now client.now (option_copied user.entry) topic.now direction) }
-    ensures allowed { is_grant result.reason
-        ≡ allow_by Own (row_views rows.now) client.now
+    ensures reason { result.reason ≡ reason_of rules rows.now client.now
+        (option_copied user.entry) topic.now direction }
+    ensures grant { result.grant ≡ option_map (λ row. row.line)
+        (first_grant rules rows.now client.now (option_copied user.entry) topic.now direction) }
+    ensures allowed { is_grant result.reason ≡ allow_by rules (row_views rows.now) client.now
         (option_copied user.entry) topic.now direction }
 {
-    let decision = decide(rows, client, user, topic, direction);
+    let request = Request {
+        rules,
+        client,
+        user,
+        topic,
+        direction,
+    };
     Verdict {
-        reason: reason_for(rows, client, user, topic, direction),
-        grant: decision.grant.map(|row| row.line),
+        reason: reason_for(rows, &request),
+        grant: request.grant(rows).map(|row| row.line),
     }
 }

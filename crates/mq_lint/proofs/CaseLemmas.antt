@@ -1,32 +1,43 @@
 -- What is found for clients of one class.
-use Rattle.std.proofs.Common.{◌≡◌, ◌<◌, ℕ, Bool, true, false, not, ◌&&◌, List, [], ◌∷◌, Option}
+use Rattle.std.proofs.Common.{◌≡◌, ◌≢◌, ◌==◌, ◌+◌, ◌<◌, ℕ, Bool, true, false, not, ◌&&◌, List, [], ◌∷◌, Option, Some, None}
 use Rattle.std.proofs.Common.{All, Contains, Bor, length, get_or, refl, ap, sym, ◌∙◌}
 use Rattle.std.proofs.Common.{subst, cond}
+use Rattle.std.specs.Prelude.{IfSome, is_some, string_bytes}
 use Rattle.std.specs.List.{filter, list_any}
-use Rattle.std.proofs.lemmas.Bool.{and_from, and_parts, both_ways, not-true}
+use Rattle.std.proofs.lemmas.Bool.{and_parts, both_ways, not-true}
 use Rattle.std.proofs.lemmas.List.Elements.{All-append, All-cons, All-contains}
 use Rattle.std.proofs.lemmas.List.Elements.{All-contains_itself, All-filter, All-nil}
 use Rattle.std.proofs.lemmas.List.Folds.{list_any_at, list_any_none}
-use Rattle.mq_acl.specs.Access.{concerns, grants, is_deny}
+use Rattle.mq_acl.specs.Access.{begins_with_dollar, is_deny}
+use Rattle.mq_acl.specs.AccessLists.{allow_by, concerns_by}
 use Rattle.mq_acl.specs.Rows.{AclRow}
 use Rattle.mq_acl.specs.Views.{row_view}
 use Rattle.mq_acl.specs.declared.row.Row.{Row}
 use Rattle.mq_acl.specs.RowsByOwner.{is_everyones}
 use Rattle.mq_acl.specs.declared.access.Direction.{Direction}
 use Rattle.mq_acl.specs.declared.access.Direction.TheVariants.{Reading, Writing}
-use Rattle.mq_witness.specs.Asked.{AskedRows, FindsNone}
-use Rattle.mq_witness.specs.Decided.{decides}
+use Rattle.mq_acl.specs.declared.rules.Rules.{Rules}
+use Rattle.mq_acl.specs.declared.rules.Rules.TheVariants.{Own, Mosquitto}
+use Rattle.mq_witness.specs.Asked.{AskedRows, user_view}
+use Rattle.mq_witness.specs.declared.witness.Witness.{Witness}
 use Rattle.mq_witness.specs.Rows.{lent_rows}
+use Rattle.mq_witness.specs.Ruled.{FindsNoneBy, IsAskedOf, ShowsBy, decides_by}
 use Rattle.mq_witness.specs.declared.clients.Clients.{Clients}
 use Rattle.mq_findings.specs.ByOwner.{is_own}
 use Rattle.mq_findings.proofs.FirstLemmas.{All-unmap}
+use Rattle.mq_findings.specs.Classes.{can_be_user}
+use Rattle.mq_findings.specs.Questions.{IsPoint}
+use Rattle.mq_findings.specs.Ranks.{is_judge, rank, rank_of}
+use Rattle.mq_findings.proofs.DeciderLemmas.{some_at}
 use Rattle.mq_findings.proofs.PointLemmas.{client_user}
-use Rattle.mq_lint.specs.Needless.{same_row, without}
-use Rattle.mq_lint.specs.Cases.{CanAsk, Finds, IsNeeded, IsNeedlessIn, IsNeedlessTo, NoneMeets}
-use Rattle.mq_lint.specs.Cases.{denies_in}
-use Rattle.mq_lint.specs.Cases.{has_row, judges, others_of}
-use Rattle.mq_lint.proofs.PointLemmas.{deny_differs, deny_same, grant_denies, grant_differs}
-use Rattle.mq_lint.proofs.PointLemmas.{grant_same, grants_some}
+use Rattle.mq_lint.specs.Needless.{is_asked, same_row, without}
+use Rattle.mq_lint.specs.Cases.{CanAsk, Finds, FindsNone, GrantsAlone, GrantsNone, IsNeeded}
+use Rattle.mq_lint.specs.Cases.{IsNeedlessIn, IsNeedlessTo, NoneAt, Precedes, before, has_row}
+use Rattle.mq_lint.specs.Cases.{is_at, is_before, others_of}
+use Rattle.mq_lint.proofs.PointLemmas.{AreFor, any_others, any_tested, below_1, below_2, below_3}
+use Rattle.mq_lint.proofs.PointLemmas.{below_4, for_clients, no_4, no_5, no_6, other_01, other_03, other_1}
+use Rattle.mq_lint.proofs.PointLemmas.{other_12, other_23, other_3, same_0, same_1, same_2, same_3}
+use Rattle.mq_lint.proofs.PointLemmas.{seen_other, seen_same, unconcerned, undecided}
 use Rattle.mq_lint.proofs.SameLemmas.{row_contained}
 
 -- ---- what can be asked
@@ -42,15 +53,17 @@ others_contained c row rows =
         All-filter (λ r. not (same_row r row)) (Contains rows) (filter t rows)
         (All-filter t (Contains rows) rows (All-contains_itself rows))
 
-pub row_asked : (asked : AskedRows) (c : Clients) (row : AclRow) → CanAsk asked c row
+pub row_asked : (rules : Rules) (asked : AskedRows) (c : Clients) (row : AclRow)
+    → CanAsk rules asked c row
     → All (Contains asked.rows) (row ∷ [])
-row_asked asked c row can =
+row_asked rules asked c row can =
     All-cons (Contains asked.rows) row [] (row_contained row asked.rows can.inside)
     (All-nil (Contains asked.rows))
 
-pub pair_asked : (asked : AskedRows) (c : Clients) (row other : AclRow) → CanAsk asked c row
+pub pair_asked : (rules : Rules) (asked : AskedRows) (c : Clients) (row other : AclRow)
+    → CanAsk rules asked c row
     → Contains asked.rows other → All (Contains asked.rows) (row ∷ (other ∷ []))
-pair_asked asked c row other can inside =
+pair_asked rules asked c row other can inside =
     All-cons (Contains asked.rows) row (other ∷ []) (row_contained row asked.rows can.inside)
     (All-cons (Contains asked.rows) other [] inside (All-nil (Contains asked.rows)))
 
@@ -104,55 +117,48 @@ other_inside c row rows others items n other are same low is =
     (others_contained c row rows)
     (other_among c row rows others items n other are same low is)
 
--- ---- a row that grants
-pub grant_needed : (asked : AskedRows) (c : Clients) (row : AclRow) (direction : Direction)
-    (cover : List AclRow) → has_row row asked.rows ≡ true → is_deny row.access ≡ false
-    → grants direction row.access ≡ true
-    → cover ≡ filter (λ r. judges direction r.access) (others_of c row asked.rows)
-    → Finds asked c (row ∷ []) cover → IsNeeded asked row
-grant_needed asked c row direction cover h permits so is f = record {
-  client = f.client;
-  user = f.user;
-  name = f.name;
-  direction = direction;
-  client_fits = f.shown.client_fits;
-  user_fits = client_user asked c f.user f.shown.user_fits;
-  valid = f.shown.valid;
-  differs = grant_differs asked c row f.client f.name f.user direction h f.shown.user_fits permits
-      so
-      (ap (decides f.client f.user f.name (row ∷ [])) (sym is) ∙ f.shown.decided);
+-- ---- who is asked about
+pub point_asked : (asked : AskedRows) (c : Clients) (client : List ℕ) (user : Option (List ℕ))
+    → IsAskedOf asked c client user → is_asked asked.rules asked.rows client user ≡ true
+point_asked asked c client user p =
+    rw (p.client_fits, client_user asked c user p.user_fits, p.are_asked) refl
+
+-- topics that begin with `$`, and the others
+pub none_of_both : (asked : AskedRows) (c : Clients) (must cover : List AclRow)
+    → FindsNoneBy false asked c must cover → FindsNoneBy true asked c must cover
+    → FindsNone asked c must cover
+none_of_both asked c must cover f g client name user p = at (begins_with_dollar name) refl
+  where
+    at : (b : Bool) → begins_with_dollar name ≡ b
+        → decides_by asked.rules client user name must cover ≡ false
+    at true e = g client name user p.is_asked p.valid e
+    at false e = f client name user p.is_asked p.valid e
+
+-- what was found shows it
+pub found_by : (asked : AskedRows) (c : Clients) (must cover : List AclRow)
+    (found : Option Witness) → is_some found ≡ true → IfSome found (ShowsBy asked c must cover)
+    → Finds asked c must cover
+found_by asked c must cover None e s = absurd (let q : false ≡ true = e in cc)
+found_by asked c must cover (Some w) e s = record {
+  client = string_bytes w.client;
+  user = user_view w.user;
+  name = w.name;
+  shown = s;
 }
 
-pub grant_needless : (asked : AskedRows) (c : Clients) (row : AclRow) (direction : Direction)
-    (cover : List AclRow) → has_row row asked.rows ≡ true → is_deny row.access ≡ false
-    → cover ≡ filter (λ r. judges direction r.access) (others_of c row asked.rows)
-    → FindsNone asked c (row ∷ []) cover
-    → IsNeedlessIn asked c row direction
-grant_needless asked c row direction cover h permits is f client name user p =
-    grant_same asked c row client name user direction h p.user_fits permits
-    (λ so. ap (decides client user name (row ∷ [])) (sym is)
-    ∙ f client name user p.client_fits p.user_fits p.valid)
+-- ---- two rows that concern a topic
+pub record Both (rules : Rules) (client : List ℕ) (user : Option (List ℕ)) (name : List ℕ)
+    (row other : AclRow) (cover : List AclRow) : Type 0 where
+  pub here : concerns_by rules client user name row ≡ true
+  pub there : concerns_by rules client user name other ≡ true
+  pub covered : list_any (concerns_by rules client user name) cover ≡ false
 
-pub grant_elsewhere : (asked : AskedRows) (c : Clients) (row : AclRow) (direction : Direction)
-    → has_row row asked.rows ≡ true → is_deny row.access ≡ false
-    → grants direction row.access ≡ false
-    → IsNeedlessIn asked c row direction
-grant_elsewhere asked c row direction h permits other client name user p =
-    grant_same asked c row client name user direction h p.user_fits permits
-    (λ so. absurd (both_ways (grants direction row.access) other so))
-
--- ---- a row that denies
-pub record Both (client : List ℕ) (user : Option (List ℕ)) (name : List ℕ) (row other : AclRow)
-    (cover : List AclRow) : Type 0 where
-  pub here : concerns client user name row ≡ true
-  pub there : concerns client user name other ≡ true
-  pub covered : list_any (concerns client user name) cover ≡ false
-
-pub both : (client : List ℕ) (user : Option (List ℕ)) (name : List ℕ) (row other : AclRow)
-    (cover : List AclRow) → decides client user name (row ∷ (other ∷ [])) cover ≡ true
-    → Both client user name row other cover
-both client user name row other cover e =
-    let c = concerns client user name in
+pub both : (rules : Rules) (client : List ℕ) (user : Option (List ℕ)) (name : List ℕ)
+    (row other : AclRow) (cover : List AclRow)
+    → decides_by rules client user name (row ∷ (other ∷ [])) cover ≡ true
+    → Both rules client user name row other cover
+both rules client user name row other cover e =
+    let c : AclRow → Bool = concerns_by rules client user name in
     let parts = and_parts (c row && (c other && true)) (not (list_any c cover)) e in
     let pair = and_parts (c row) (c other && true) parts.0 in
     record {
@@ -161,68 +167,280 @@ both client user name row other cover e =
       covered = not-true (list_any c cover) parts.1;
     }
 
-pub deny_needed : (asked : AskedRows) (c : Clients) (row other : AclRow) (cover : List AclRow)
-    → has_row row asked.rows ≡ true → is_deny row.access ≡ true
-    → is_deny other.access ≡ false → Contains (others_of c row asked.rows) other
-    → cover ≡ denies_in (others_of c row asked.rows)
-    → Finds asked c (row ∷ (other ∷ [])) cover → IsNeeded asked row
-deny_needed asked c row other cover h so permits inside is f =
-    let some = grants_some other.access permits in
-    let says = both f.client f.user f.name row other cover f.shown.decided in
-    record {
-      client = f.client;
-      user = f.user;
-      name = f.name;
-      direction = some.0;
-      client_fits = f.shown.client_fits;
-      user_fits = client_user asked c f.user f.shown.user_fits;
-      valid = f.shown.valid;
-      differs = deny_differs asked c row f.client f.name f.user some.0 h f.shown.user_fits so
-          says.here
-          (ap (list_any (concerns f.client f.user f.name)) (sym is) ∙ says.covered)
-          (list_any_at (λ r. concerns f.client f.user f.name r && grants some.0 r.access)
-          (others_of c row asked.rows) inside.0 other inside.1
-          (ap (λ r. concerns f.client f.user f.name r && grants some.0 r.access) inside.2
-          ∙ and_from (concerns f.client f.user f.name other) (grants some.0 other.access)
-          says.there some.1));
-    }
+-- ---- the rows of a rank
+module _ (asked : AskedRows) (clients : Clients) (row : AclRow) (direction : Direction)
+    (client name : List ℕ) (user : Option (List ℕ)) (p : IsPoint asked clients client user name) where
+  abbrev c : AclRow → Bool
+  c r = concerns_by asked.rules client user name r
 
-none_with : (a b d : Bool) → a ≡ true → d ≡ false → ((a && (b && true)) && not d) ≡ false
-    → b ≡ false
-none_with true true d e f h = rw f at h
-none_with true false d e f h = refl
-none_with false b d e f h = absurd (let q : false ≡ true = e in cc)
+  abbrev others : List AclRow
+  others = others_of clients row asked.rows
 
-and_false : (a : Bool) → (a && false) ≡ false
-and_false true = refl
-and_false false = refl
+  abbrev left : List AclRow
+  left = without row asked.rows
 
-pub deny_needless : (asked : AskedRows) (c : Clients) (row : AclRow) (cover : List AclRow)
-    → has_row row asked.rows ≡ true → is_deny row.access ≡ true
-    → cover ≡ denies_in (others_of c row asked.rows)
-    → NoneMeets asked c row cover (others_of c row asked.rows)
-    → IsNeedlessTo asked c row
-deny_needless asked c row cover h so is f direction client name user p =
-    deny_same asked c row client name user direction h p.user_fits so
-    (λ here none. list_any_none
-    (λ r. concerns client user name r && grants direction r.access) (others_of c row asked.rows)
-    (λ k d low. each (get_or (others_of c row asked.rows) k d) here none (f k d low)))
+  abbrev some : ℕ → Bool
+  some place = some_at asked.rules direction c place left
+
+  user_fits : can_be_user user ≡ true
+  user_fits = client_user asked clients user p.is_asked.user_fits
+
+  fits_all : AreFor c clients asked.rows
+  fits_all = for_clients asked clients client name user p.is_asked.user_fits
+
+  -- a row of the cover concerns it where one of all rows does that comes before
+  covered_is : (place : ℕ) → list_any c (before asked.rules direction place others)
+      ≡ list_any (λ r. c r && is_before asked.rules direction place r) left
+  covered_is place =
+      any_tested c (is_before asked.rules direction place) clients row asked.rows fits_all
+
+  at_for : (place : ℕ) → AreFor (λ r. is_at asked.rules direction place r && c r) clients asked.rows
+  at_for place = λ k d low e.
+      fits_all k d low (and_parts (is_at asked.rules direction place (get_or asked.rows k d))
+      (c (get_or asked.rows k d)) e).1
+
+  none_with : (a b d t : Bool) → a ≡ true → d ≡ false
+      → (t ≡ true → ((a && (b && true)) && not d) ≡ false) → (t && b) ≡ false
+  none_with a b d false e f h = refl
+  none_with true true d true e f h = absurd (both_ways (not d) (h refl) (rw f refl))
+  none_with true false d true e f h = refl
+  none_with false b d true e f h = absurd (let q : false ≡ true = e in cc)
+
+  -- where one of this rank would decide, one before it does
+  reached : (place : ℕ) → c row ≡ true → NoneAt asked clients row direction place
+      → some place ≡ true
+      → list_any (λ r. c r && is_before asked.rules direction place r) left ≡ true
+  reached place here none found =
+      at (list_any c (before asked.rules direction place others)) refl
+    where
+      at : (b : Bool) → list_any c (before asked.rules direction place others) ≡ b
+          → list_any (λ r. c r && is_before asked.rules direction place r) left ≡ true
+      at true e = sym (covered_is place) ∙ e
+      at false e = absurd (both_ways
+          (list_any (λ r. is_at asked.rules direction place r && c r) others)
+          (list_any_none (λ r. is_at asked.rules direction place r && c r) others
+          (λ k d low. none_with (c row) (c (get_or others k d))
+          (list_any c (before asked.rules direction place others))
+          (is_at asked.rules direction place (get_or others k d)) here e
+          (λ t. none k d low t client name user p)))
+          (any_others (λ r. is_at asked.rules direction place r && c r) clients row asked.rows
+          (at_for place) ∙ found))
+
+  alone : (b d : Bool) → b ≡ true → ((b && true) && not d) ≡ false → d ≡ true
+  alone true true e f = refl
+  alone true false e f = absurd (let q : true ≡ false = f in cc)
+  alone false d e f = absurd (let q : false ≡ true = e in cc)
+
+  -- some row decides
+  decided_there : c row ≡ true → is_deny row.access ≡ false
+      → GrantsNone asked clients row direction
+      → list_any (λ r. c r && is_before asked.rules direction 4 r) left ≡ true
+  decided_there here permits none =
+      sym (covered_is 4)
+      ∙ alone (c row) (list_any c (before asked.rules direction 4 others)) here
+      (none permits client name user p)
+
+  -- a row that decides before no other one that says the opposite, nor alone
+  same_by : (e d : Bool) → rank asked.rules row ≡ rank_of e d → is_deny row.access ≡ d
+      → has_row row asked.rows ≡ true → is_judge direction row ≡ true → c row ≡ true
+      → NoneAt asked clients row direction (rank_of e d + 1)
+      → NoneAt asked clients row direction (rank_of e d + 3)
+      → GrantsNone asked clients row direction
+      → allow_by asked.rules asked.rows client user name direction
+      ≡ allow_by asked.rules left client user name direction
+  same_by false true v so h j here next last none =
+      seen_same asked.rules client user name direction row asked.rows 0 user_fits h j here v
+      (same_0 (some 0) (some 1) (some 2) (some 3)
+      (λ e. sym (below_1 asked.rules direction c left) ∙ reached 1 here next e)
+      (λ e. sym (below_3 asked.rules direction c left) ∙ reached 3 here last e))
+  same_by false false v so h j here next last none =
+      seen_same asked.rules client user name direction row asked.rows 1 user_fits h j here v
+      (same_1 (some 0) (some 1) (some 2) (some 3)
+      (λ e. sym (below_2 asked.rules direction c left) ∙ reached 2 here next e)
+      (sym (below_4 asked.rules direction c left) ∙ decided_there here so none))
+  same_by true true v so h j here next last none =
+      seen_same asked.rules client user name direction row asked.rows 2 user_fits h j here v
+      (same_2 (some 0) (some 1) (some 2) (some 3)
+      (λ e. sym (below_3 asked.rules direction c left) ∙ reached 3 here next e))
+  same_by true false v so h j here next last none =
+      seen_same asked.rules client user name direction row asked.rows 3 user_fits h j here v
+      (same_3 (some 0) (some 1) (some 2) (some 3)
+      (sym (below_4 asked.rules direction c left) ∙ decided_there here so none))
+
+  -- ---- where one does, the row is needed
+  -- a row of the rank is among those that are left
+  some_left : (place : ℕ) (other : AclRow) → Contains others other
+      → is_at asked.rules direction place other ≡ true → c other ≡ true → some place ≡ true
+  some_left place other inside is there =
+      sym (any_others (λ r. is_at asked.rules direction place r && c r) clients row asked.rows
+      (at_for place))
+      ∙ list_any_at (λ r. is_at asked.rules direction place r && c r) others inside.0 other inside.1
+      (ap (λ r. is_at asked.rules direction place r && c r) inside.2 ∙ rw (is, there) refl)
+
+  none_there : (place : ℕ) (other : AclRow) → (rank asked.rules other == place) ≡ false
+      → is_at asked.rules direction place other ≡ true → ⊥
+  none_there place other e is = both_ways (rank asked.rules other == place) e
+      (and_parts (is_judge direction other) (rank asked.rules other == place) is).1
+
+  abbrev IsOther : Type 0
+  IsOther = allow_by asked.rules asked.rows client user name direction
+      ≢ allow_by asked.rules left client user name direction
+
+  next_differs : (e d : Bool) → rank asked.rules row ≡ rank_of e d → has_row row asked.rows ≡ true
+      → is_judge direction row ≡ true → c row ≡ true → (other : AclRow) → Contains others other
+      → is_at asked.rules direction (rank_of e d + 1) other ≡ true → c other ≡ true
+      → list_any c (before asked.rules direction (rank_of e d + 1) others) ≡ false → IsOther
+  next_differs false true v h j here other inside is there none =
+      seen_other asked.rules client user name direction row asked.rows 0 user_fits h j here v
+      (other_01 (some 0) (some 1) (some 2) (some 3)
+      (sym (below_1 asked.rules direction c left) ∙ (sym (covered_is 1) ∙ none))
+      (some_left 1 other inside is there))
+  next_differs false false v h j here other inside is there none =
+      seen_other asked.rules client user name direction row asked.rows 1 user_fits h j here v
+      (other_12 (some 0) (some 1) (some 2) (some 3)
+      (sym (below_2 asked.rules direction c left) ∙ (sym (covered_is 2) ∙ none))
+      (some_left 2 other inside is there))
+  next_differs true true v h j here other inside is there none =
+      seen_other asked.rules client user name direction row asked.rows 2 user_fits h j here v
+      (other_23 (some 0) (some 1) (some 2) (some 3)
+      (sym (below_3 asked.rules direction c left) ∙ (sym (covered_is 3) ∙ none))
+      (some_left 3 other inside is there))
+  next_differs true false v h j here other inside is there none =
+      absurd (none_there 4 other (no_4 asked.rules other) is)
+
+  last_differs : (e d : Bool) → rank asked.rules row ≡ rank_of e d → has_row row asked.rows ≡ true
+      → is_judge direction row ≡ true → c row ≡ true → (other : AclRow) → Contains others other
+      → is_at asked.rules direction (rank_of e d + 3) other ≡ true → c other ≡ true
+      → list_any c (before asked.rules direction (rank_of e d + 3) others) ≡ false → IsOther
+  last_differs false true v h j here other inside is there none =
+      seen_other asked.rules client user name direction row asked.rows 0 user_fits h j here v
+      (other_03 (some 0) (some 1) (some 2) (some 3)
+      (sym (below_3 asked.rules direction c left) ∙ (sym (covered_is 3) ∙ none))
+      (some_left 3 other inside is there))
+  last_differs false false v h j here other inside is there none =
+      absurd (none_there 4 other (no_4 asked.rules other) is)
+  last_differs true true v h j here other inside is there none =
+      absurd (none_there 5 other (no_5 asked.rules other) is)
+  last_differs true false v h j here other inside is there none =
+      absurd (none_there 6 other (no_6 asked.rules other) is)
+
+  alone_differs : (e d : Bool) → rank asked.rules row ≡ rank_of e d → is_deny row.access ≡ d
+      → is_deny row.access ≡ false → has_row row asked.rows ≡ true
+      → is_judge direction row ≡ true → c row ≡ true
+      → list_any c (before asked.rules direction 4 others) ≡ false → IsOther
+  alone_differs e true v so permits h j here none =
+      absurd (both_ways (is_deny row.access) permits so)
+  alone_differs false false v so permits h j here none =
+      seen_other asked.rules client user name direction row asked.rows 1 user_fits h j here v
+      (other_1 (some 0) (some 1) (some 2) (some 3)
+      (sym (below_4 asked.rules direction c left) ∙ (sym (covered_is 4) ∙ none)))
+  alone_differs true false v so permits h j here none =
+      seen_other asked.rules client user name direction row asked.rows 3 user_fits h j here v
+      (other_3 (some 0) (some 1) (some 2) (some 3)
+      (sym (below_4 asked.rules direction c left) ∙ (sym (covered_is 4) ∙ none)))
+
+-- ---- what a case says
+ranked_as : (rules : Rules) (row : AclRow) → (e : Bool) × (rank rules row ≡ rank_of e (is_deny row.access))
+ranked_as Own row = (false, refl)
+ranked_as Mosquitto row = (is_everyones row.who, refl)
+
+abbrev found_point : (asked : AskedRows) (c : Clients) (must cover : List AclRow)
+    (f : Finds asked c must cover) → IsPoint asked c f.client f.user f.name
+found_point asked c must cover f = record { is_asked = f.shown.is_asked; valid = f.shown.valid }
+
+found_needed : (asked : AskedRows) (c : Clients) (row : AclRow) (direction : Direction)
+    (must cover : List AclRow) (f : Finds asked c must cover)
+    → allow_by asked.rules asked.rows f.client f.user f.name direction
+    ≢ allow_by asked.rules (without row asked.rows) f.client f.user f.name direction
+    → IsNeeded asked row
+found_needed asked c row direction must cover f differs = record {
+  client = f.client;
+  user = f.user;
+  name = f.name;
+  direction = direction;
+  fits = point_asked asked c f.client f.user f.shown.is_asked;
+  valid = f.shown.valid;
+  differs = differs;
+}
+
+pub next_needed : (asked : AskedRows) (c : Clients) (row : AclRow) (direction : Direction)
+    → has_row row asked.rows ≡ true → is_judge direction row ≡ true
+    → Precedes asked c row direction (rank asked.rules row + 1) → IsNeeded asked row
+next_needed asked c row direction h j w =
+    let v = ranked_as asked.rules row in
+    at v.0 v.1 (subst (λ n. Precedes asked c row direction (n + 1)) v.1 w)
   where
-    each : (r : AclRow) → concerns client user name row ≡ true
-        → list_any (concerns client user name) (denies_in (others_of c row asked.rows)) ≡ false
-        → (is_deny r.access ≡ false → FindsNone asked c (row ∷ (r ∷ [])) cover)
-        → (concerns client user name r && grants direction r.access) ≡ false
-    each r here none g = at (grants direction r.access) refl
-      where
-        at : (b : Bool) → grants direction r.access ≡ b
-            → (concerns client user name r && b) ≡ false
-        at true e = ap (λ x. x && true)
-            (none_with (concerns client user name row) (concerns client user name r)
-            (list_any (concerns client user name) cover) here
-            (ap (list_any (concerns client user name)) is ∙ none)
-            (g (grant_denies direction r.access e) client name user p.client_fits p.user_fits
-            p.valid))
-        at false e = and_false (concerns client user name r)
+    at : (e : Bool) → rank asked.rules row ≡ rank_of e (is_deny row.access)
+        → Precedes asked c row direction (rank_of e (is_deny row.access) + 1) → IsNeeded asked row
+    at e v w =
+        let f = w.finds in
+        let cover = before asked.rules direction (rank_of e (is_deny row.access) + 1)
+        (others_of c row asked.rows) in
+        let says = both asked.rules f.client f.user f.name row w.other cover f.shown.decided in
+        found_needed asked c row direction (row ∷ (w.other ∷ [])) cover f
+        (next_differs asked c row direction f.client f.name f.user
+        (found_point asked c (row ∷ (w.other ∷ [])) cover f) e (is_deny row.access) v h j says.here
+        w.other w.inside w.is_of says.there says.covered)
+
+pub last_needed : (asked : AskedRows) (c : Clients) (row : AclRow) (direction : Direction)
+    → has_row row asked.rows ≡ true → is_judge direction row ≡ true
+    → Precedes asked c row direction (rank asked.rules row + 3) → IsNeeded asked row
+last_needed asked c row direction h j w =
+    let v = ranked_as asked.rules row in
+    at v.0 v.1 (subst (λ n. Precedes asked c row direction (n + 3)) v.1 w)
+  where
+    at : (e : Bool) → rank asked.rules row ≡ rank_of e (is_deny row.access)
+        → Precedes asked c row direction (rank_of e (is_deny row.access) + 3) → IsNeeded asked row
+    at e v w =
+        let f = w.finds in
+        let cover = before asked.rules direction (rank_of e (is_deny row.access) + 3)
+        (others_of c row asked.rows) in
+        let says = both asked.rules f.client f.user f.name row w.other cover f.shown.decided in
+        found_needed asked c row direction (row ∷ (w.other ∷ [])) cover f
+        (last_differs asked c row direction f.client f.name f.user
+        (found_point asked c (row ∷ (w.other ∷ [])) cover f) e (is_deny row.access) v h j says.here
+        w.other w.inside w.is_of says.there says.covered)
+
+pub alone_needed : (asked : AskedRows) (c : Clients) (row : AclRow) (direction : Direction)
+    → has_row row asked.rows ≡ true → is_judge direction row ≡ true
+    → GrantsAlone asked c row direction → IsNeeded asked row
+alone_needed asked c row direction h j w =
+    let f = w.finds in
+    let cover = before asked.rules direction 4 (others_of c row asked.rows) in
+    let v = ranked_as asked.rules row in
+    let here : AclRow → Bool = concerns_by asked.rules f.client f.user f.name in
+    let says = and_parts (here row && true) (not (list_any here cover)) f.shown.decided in
+    found_needed asked c row direction (row ∷ []) cover f
+    (alone_differs asked c row direction f.client f.name f.user
+    (found_point asked c (row ∷ []) cover f) v.0 (is_deny row.access) v.1 refl w.grants_it h j
+    (and_parts (here row) true says.0).0 (not-true (list_any here cover) says.1))
+
+pub needless_in : (asked : AskedRows) (c : Clients) (row : AclRow) (direction : Direction)
+    → has_row row asked.rows ≡ true → is_judge direction row ≡ true
+    → NoneAt asked c row direction (rank asked.rules row + 1)
+    → NoneAt asked c row direction (rank asked.rules row + 3)
+    → GrantsNone asked c row direction → IsNeedlessIn asked c row direction
+needless_in asked c row direction h j next last none client name user p =
+    at (concerns_by asked.rules client user name row) refl
+  where
+    at : (b : Bool) → concerns_by asked.rules client user name row ≡ b
+        → allow_by asked.rules asked.rows client user name direction
+        ≡ allow_by asked.rules (without row asked.rows) client user name direction
+    at true e =
+        let v = ranked_as asked.rules row in
+        same_by asked c row direction client name user p v.0 (is_deny row.access) v.1 refl h j e
+        (subst (λ n. NoneAt asked c row direction (n + 1)) v.1 next)
+        (subst (λ n. NoneAt asked c row direction (n + 3)) v.1 last) none
+    at false e = unconcerned asked.rules client user name direction row asked.rows
+        (client_user asked c user p.is_asked.user_fits) h e
+
+-- a row that may not decide about the direction
+pub needless_elsewhere : (asked : AskedRows) (c : Clients) (row : AclRow) (direction : Direction)
+    → has_row row asked.rows ≡ true → is_judge direction row ≡ false
+    → IsNeedlessIn asked c row direction
+needless_elsewhere asked c row direction h j client name user p =
+    undecided asked.rules client user name direction row asked.rows
+    (client_user asked c user p.is_asked.user_fits) h j
 
 -- in both directions
 pub needless_to : (asked : AskedRows) (c : Clients) (row : AclRow)

@@ -15,6 +15,7 @@ use Rattle.mq_acl.specs.Rows as rows
 use Rattle.mq_acl.specs.RowsByOwner.{is_everyones}
 use Rattle.mq_acl.specs.Views.{row_view, row_views}
 use Rattle.mq_acl.specs.declared.row.Row.{Row}
+use Rattle.mq_acl.specs.declared.rules.Rules.{Rules}
 use Rattle.mq_witness.specs.Asked.{AskedRows, is_client_of}
 use Rattle.mq_witness.specs.Clients.{can_be_id, name_passes}
 use Rattle.mq_witness.specs.Literals.{is_among}
@@ -113,18 +114,19 @@ views_filter t (m ∷ ms) = at (t (row_view m.row.now)) (views_filter t ms)
     at false h = h
 
 -- what is known of a list
-pub lint_is : (list : List Row) (lists : List (Bor (List Row))) (one : Bor (List Row))
+pub lint_is : (rules : Rules) (list : List Row) (lists : List (Bor (List Row))) (one : Bor (List Row))
     (asked : AskedRows) (by_owner : ByOwner) (users : List (Bor (List ℕ)))
     (classes : List Clients) → lists ≡ one ∷ [] → one.now ≡ list
     → asked.rows ≡ all_rows lists → IsList list [] by_owner
     → classes ≡ Others ∷ (Anonymous ∷ map (λ u. Named u) users)
     → ((user : List ℕ) → is_among user users ≡ is_user_of user asked.rows)
-    → IsLint list asked by_owner classes
-lint_is list lists one asked by_owner users classes is now rows_are grouped all named =
+    → rules ≡ asked.rules → IsLint rules list asked by_owner classes
+lint_is rules list lists one asked by_owner users classes is now rows_are grouped all named same_rules =
     let same : asked.rows ≡ row_views list =
     rows_are ∙ ap all_rows is ∙ append-nil (row_views one.now) ∙ ap row_views now in
     let viewed : views_of grouped.all ≡ asked.rows = ap row_views grouped.are ∙ sym same in
     record {
+      rules_are = same_rules;
       rows_are = same;
       classes_are = class_everyone asked users classes all named;
       everyones_are = ap views_of grouped.grouped.everyone

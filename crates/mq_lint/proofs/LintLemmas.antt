@@ -11,16 +11,18 @@ use Rattle.std.proofs.lemmas.List.{at_drop_more}
 use Rattle.std.proofs.lemmas.List.Elements.{All-cons, All-nil, All-head, All-tail, All-get_or}
 use Rattle.std.proofs.lemmas.List.Elements.{filter_map-append}
 use Rattle.std.proofs.lemmas.List.Splits.{slice_split-cons_no}
-use Rattle.mq_acl.specs.Lines.{Entry, Skipped, User, Topic, Pattern, entry_of, lines}
-use Rattle.mq_acl.specs.Rows.{AclRow, rows_in, entries_of, fault_at, faults_of, unless_faulty}
-use Rattle.mq_acl.specs.Rows.{rows_of, out_of_memory}
+use Rattle.mq_acl.specs.Lines.{Entry, Skipped, User, Topic, Pattern, lines}
+use Rattle.mq_acl.specs.Rows.{AclRow, entries_by, entry_by, fault_at, faults_by, out_of_memory}
+use Rattle.mq_acl.specs.Rows.{rows_by, rows_in, unless_faulty}
 use Rattle.mq_acl.specs.Views.{row_view, row_views}
 use Rattle.mq_acl.specs.declared.fault.AclFault.{AclFault}
 use Rattle.mq_acl.specs.declared.fault.AclKind.{AclKind}
 use Rattle.mq_acl.specs.declared.fault.AclKind.TheVariants as kinds
 use Rattle.mq_acl.specs.declared.row.Row.{Row}
+use Rattle.mq_acl.specs.declared.rules.Rules.{Rules}
 use Rattle.mq_lint.specs.Blanks.{is_indented_comment, is_tabbed}
-use Rattle.mq_lint.specs.Remarks.{has_mark, is_unmarked, entry_kind, kind_if, remark_on}
+use Rattle.mq_lint.specs.Remarks.{has_mark, is_odd_by, is_unmarked, entry_kind, kind_if}
+use Rattle.mq_lint.specs.Remarks.{remark_on}
 use Rattle.mq_lint.specs.Remarks.{line_remarks, remarks_from, fault_by, faults_told}
 use Rattle.mq_lint.specs.declared.remark.Remark.{Remark}
 use Rattle.mq_lint.specs.declared.remark.RemarkKind.{RemarkKind}
@@ -92,32 +94,32 @@ fails (Err kind) rows fault h =
     (let e : record { line = 1; kind = kind } ≡ fault = cc in ap (λ f. Some (Fault f.kind)) (sym e))
 
 -- where a single line is read without a fault, its rows show what is odd about what it says
-pub line_says : (line : List ℕ) (rows : List Row) → lines line ≡ line ∷ []
-    → rows_of line ≡ Ok (row_views rows)
+pub line_says : (rules : Rules) (line : List ℕ) (rows : List Row) → lines line ≡ line ∷ []
+    → rows_by rules line ≡ Ok (row_views rows)
     → kind_if (list_any (λ row. is_unmarked (row_view row)) rows) NoMark
-    ≡ entry_kind (entry_of line)
-line_says line rows alone h =
+    ≡ entry_kind (entry_by rules line)
+line_says rules line rows alone h =
     ap (λ b. kind_if b NoMark) (viewed is_unmarked rows)
-    ∙ says (entry_of line) (row_views rows)
-    (ap (λ ls. unless_faulty (faults_of ls) (rows_in (entries_of ls))) (sym alone) ∙ h)
+    ∙ says (entry_by rules line) (row_views rows)
+    (ap (λ ls. unless_faulty (faults_by rules ls) (rows_in (entries_by rules ls))) (sym alone) ∙ h)
 
 -- where a single line is faulty, and memory was not lacking, its fault is what is odd about it
-pub line_fails : (line : List ℕ) (fault : AclFault) → lines line ≡ line ∷ []
-    → fault.kind ≢ kinds.Memory → (fault ≡ out_of_memory) ⊎ (rows_of line ≡ Err fault)
-    → Some (Fault fault.kind) ≡ entry_kind (entry_of line)
-line_fails line fault alone own h =
+pub line_fails : (rules : Rules) (line : List ℕ) (fault : AclFault) → lines line ≡ line ∷ []
+    → fault.kind ≢ kinds.Memory → (fault ≡ out_of_memory) ⊎ (rows_by rules line ≡ Err fault)
+    → Some (Fault fault.kind) ≡ entry_kind (entry_by rules line)
+line_fails rules line fault alone own h =
     ⊎_elim (λ same. absurd (own (ap (λ f. f.kind) same)))
-    (λ e. fails (entry_of line) (rows_in (entries_of (line ∷ []))) fault
-    (ap (λ ls. unless_faulty (faults_of ls) (rows_in (entries_of ls))) (sym alone) ∙ e)) h
+    (λ e. fails (entry_by rules line) (rows_in (entries_by rules (line ∷ []))) fault
+    (ap (λ ls. unless_faulty (faults_by rules ls) (rows_in (entries_by rules ls))) (sym alone) ∙ e)) h
 
 -- ---- line by line
-pub remarks_step : (all : List (List ℕ)) (number : ℕ) (line : List ℕ) → number < length all
+pub remarks_step : (rules : Rules) (all : List (List ℕ)) (number : ℕ) (line : List ℕ) → number < length all
     → line ≡ get_or all number line
-    → remarks_from (number + 1) (drop number all)
-    ≡ line_remarks (number + 1) line ++ remarks_from (number + 1 + 1) (drop (number + 1) all)
-remarks_step all number line h e =
-    at_drop_more (remarks_from (number + 1)) all number line h
-    ∙ ap (λ l. line_remarks (number + 1) l ++ remarks_from (number + 1 + 1) (drop (number + 1) all))
+    → remarks_from rules (number + 1) (drop number all)
+    ≡ line_remarks rules (number + 1) line ++ remarks_from rules (number + 1 + 1) (drop (number + 1) all)
+remarks_step rules all number line h e =
+    at_drop_more (remarks_from rules (number + 1)) all number line h
+    ∙ ap (λ l. line_remarks rules (number + 1) l ++ remarks_from rules (number + 1 + 1) (drop (number + 1) all))
     (sym e)
 
 -- ---- the faults among the remarks
@@ -138,47 +140,47 @@ entry_fault number (Ok (User name)) = refl
 entry_fault number (Ok (Topic access topic)) = refl
 entry_fault number (Ok (Pattern access topic)) = no_fault number (not (has_mark topic)) NoMark refl
 
-line_fault : (number : ℕ) (line : List ℕ)
-    → faults_told (line_remarks number line) ≡ option_to_list (fault_at number (entry_of line))
-line_fault number line =
-    let entry = remark_on number (entry_kind (entry_of line)) in
-    let comment = remark_on number (kind_if (is_indented_comment line) IndentedComment) in
-    let tab = remark_on number (kind_if (is_tabbed line) Tab) in
+line_fault : (rules : Rules) (number : ℕ) (line : List ℕ)
+    → faults_told (line_remarks rules number line) ≡ option_to_list (fault_at number (entry_by rules line))
+line_fault rules number line =
+    let entry = remark_on number (entry_kind (entry_by rules line)) in
+    let comment = remark_on number (kind_if (is_odd_by rules (is_indented_comment line)) IndentedComment) in
+    let tab = remark_on number (kind_if (is_odd_by rules (is_tabbed line)) Tab) in
     filter_map-append told (entry ++ comment) tab
     ∙ ap (λ l. l ++ faults_told tab) (filter_map-append told entry comment)
     ∙ ap (λ l. (faults_told entry ++ faults_told comment) ++ l)
-    (no_fault number (is_tabbed line) Tab refl)
+    (no_fault number (is_odd_by rules (is_tabbed line)) Tab refl)
     ∙ append-nil (faults_told entry ++ faults_told comment)
     ∙ ap (λ l. faults_told entry ++ l)
-    (no_fault number (is_indented_comment line) IndentedComment refl)
+    (no_fault number (is_odd_by rules (is_indented_comment line)) IndentedComment refl)
     ∙ append-nil (faults_told entry)
-    ∙ entry_fault number (entry_of line)
+    ∙ entry_fault number (entry_by rules line)
 
 listed : {X : Type 0} (o : Option X) (xs : List X) → option_to_list o ++ xs ≡ cons_option o xs
 listed None xs = refl
 listed (Some x) xs = refl
 
 -- the faults among the remarks on lines are those of the lines, with their numbers
-pub faults_from : (number : ℕ) (all : List (List ℕ))
-    → faults_told (remarks_from number all)
-    ≡ filter_map (λ numbered. fault_at numbered.0 (entry_of numbered.1)) (enumerate_from number all)
-faults_from number [] = refl
-faults_from number (line ∷ all) =
-    filter_map-append told (line_remarks number line) (remarks_from (number + 1) all)
-    ∙ (λ i. line_fault number line i ++ faults_from (number + 1) all i)
-    ∙ listed (fault_at number (entry_of line))
-    (filter_map (λ numbered. fault_at numbered.0 (entry_of numbered.1))
+pub faults_from : (rules : Rules) (number : ℕ) (all : List (List ℕ))
+    → faults_told (remarks_from rules number all)
+    ≡ filter_map (λ numbered. fault_at numbered.0 (entry_by rules numbered.1)) (enumerate_from number all)
+faults_from rules number [] = refl
+faults_from rules number (line ∷ all) =
+    filter_map-append told (line_remarks rules number line) (remarks_from rules (number + 1) all)
+    ∙ (λ i. line_fault rules number line i ++ faults_from rules (number + 1) all i)
+    ∙ listed (fault_at number (entry_by rules line))
+    (filter_map (λ numbered. fault_at numbered.0 (entry_by rules numbered.1))
     (enumerate_from (number + 1) all))
 
 -- ---- one line
 -- what is added for a line, one after the other, is all that is odd about it
-pub line_added : (number : ℕ) (line : List ℕ) (a b c d : List Remark)
+pub line_added : (rules : Rules) (number : ℕ) (line : List ℕ) (a b c d : List Remark)
     (entry comment tab : Option RemarkKind) → b ≡ a ++ remark_on number entry
     → c ≡ b ++ remark_on number comment → d ≡ c ++ remark_on number tab
-    → entry ≡ entry_kind (entry_of line)
-    → comment ≡ kind_if (is_indented_comment line) IndentedComment
-    → tab ≡ kind_if (is_tabbed line) Tab → d ≡ a ++ line_remarks number line
-line_added number line a b c d entry comment tab first second third e f g =
+    → entry ≡ entry_kind (entry_by rules line)
+    → comment ≡ kind_if (is_odd_by rules (is_indented_comment line)) IndentedComment
+    → tab ≡ kind_if (is_odd_by rules (is_tabbed line)) Tab → d ≡ a ++ line_remarks rules number line
+line_added rules number line a b c d entry comment tab first second third e f g =
     third
     ∙ ap (λ l. l ++ remark_on number tab) (second ∙ ap (λ l. l ++ remark_on number comment) first
     ∙ append_assoc a (remark_on number entry) (remark_on number comment))

@@ -1,26 +1,28 @@
 -- What is found for all clients of a row.
 use Rattle.std.proofs.Common.{◌≡◌, ◌<◌, ℕ, zero, suc, Bool, true, false, not, ◌&&◌}
-use Rattle.std.proofs.Common.{List, [], ◌∷◌, Option, Some, All, Contains, length, get_or}
+use Rattle.std.proofs.Common.{List, [], ◌∷◌, Option, All, Contains, length, get_or}
 use Rattle.std.proofs.Common.{refl, ap, sym, ◌∙◌, subst, arith}
 use Rattle.std.proofs.lemmas.Bool.{and_parts, both_ways}
 use Rattle.std.proofs.lemmas.List.Elements.{All-contains, All-contains_itself}
 use Rattle.std.proofs.lemmas.List.Folds.{list_any_at}
-use Rattle.mq_acl.specs.AccessLists.{allow_by}
-use Rattle.mq_acl.specs.declared.rules.Rules.TheVariants.{Own}
-use Rattle.mq_acl.specs.Access.{applies, concerns, covers, is_deny}
+use Rattle.mq_acl.specs.AccessLists.{allow_by, concerns_by}
+use Rattle.mq_acl.specs.declared.rules.Rules.{Rules}
+use Rattle.mq_acl.specs.Access.{is_deny}
 use Rattle.mq_acl.specs.Rows.{AclRow}
 use Rattle.mq_acl.specs.Views.{row_view, row_views}
 use Rattle.mq_acl.specs.declared.row.Row.{Row}
-use Rattle.mq_witness.specs.Asked.{AskedRows, FindsNone, is_client_of}
+use Rattle.mq_witness.specs.Asked.{AskedRows, is_client_of}
+use Rattle.mq_witness.specs.Clients.{can_be_id}
+use Rattle.mq_witness.specs.Ruled.{are_asked_of, decides_by}
 use Rattle.mq_witness.specs.declared.clients.Clients.{Clients}
 use Rattle.mq_findings.specs.ByOwner.{is_for}
 use Rattle.mq_findings.specs.Classes.{can_be_user}
 use Rattle.mq_findings.proofs.FirstLemmas.{All-unmap, IsFirst, first_place}
-use Rattle.mq_findings.proofs.PointLemmas.{client_user}
-use Rattle.mq_lint.specs.Needless.{AllowSame, DeniesNone, Meet, same_row, without}
-use Rattle.mq_lint.specs.Cases.{AreClasses, Finds, IsNeedlessTo, MeetsGrant, NoneMeets, has_row}
-use Rattle.mq_lint.specs.Cases.{others_of}
-use Rattle.mq_lint.proofs.CaseLemmas.{both}
+use Rattle.mq_findings.proofs.PointLemmas.{concerned_applies}
+use Rattle.mq_lint.specs.Needless.{AllowSame, DeniesNone, Meet, is_asked, same_row, without}
+use Rattle.mq_lint.specs.Cases.{AreClasses, Finds, FindsNone, IsNeedlessTo, MeetsGrant, NoneMeets}
+use Rattle.mq_lint.specs.Cases.{has_row, others_of, permits}
+use Rattle.mq_lint.proofs.CaseLemmas.{both, point_asked}
 use Rattle.mq_lint.proofs.PointLemmas.{any_others, for_clients, unconcerned}
 use Rattle.mq_lint.proofs.SameLemmas.{any_kept, row_contained, row_is, row_itself}
 
@@ -30,28 +32,47 @@ IsClassOf asked user classes = IsFirst (λ c. is_client_of asked c user) classes
 
 pub class_of : (asked : AskedRows) (row : AclRow) (classes : List Clients) (client : List ℕ)
     (user : Option (List ℕ)) (name : List ℕ) → AreClasses asked row.who classes
-    → can_be_user user ≡ true → concerns client user name row ≡ true
+    → can_be_user user ≡ true → concerns_by asked.rules client user name row ≡ true
     → IsClassOf asked user classes
 class_of asked row classes client user name are fits here =
     first_place (λ c. is_client_of asked c user) classes
-    (are.covers user fits (and_parts (applies user row.who) (covers client user name row) here).0)
+    (are.covers user fits (concerned_applies asked.rules client name user row here))
+
+-- what is known of a client that is asked about
+pub asked_parts : (rules : Rules) (all : List AclRow) (client : List ℕ) (user : Option (List ℕ))
+    → is_asked rules all client user ≡ true → (can_be_id client ≡ true)
+    × (can_be_user user ≡ true) × (are_asked_of rules all client user ≡ true)
+asked_parts rules all client user e =
+    let one = and_parts (can_be_id client) (can_be_user user && are_asked_of rules all client user)
+    e in
+    let two = and_parts (can_be_user user) (are_asked_of rules all client user) one.1 in
+    (one.0, two.0, two.1)
 
 -- ---- a row that no client needs
 pub needless_all : (asked : AskedRows) (row : AclRow) (classes : List Clients)
     → has_row row asked.rows ≡ true → AreClasses asked row.who classes
     → All (λ c. IsNeedlessTo asked c row) classes
-    → AllowSame asked.rows (without row asked.rows)
-needless_all asked row classes h are each client name user direction cf uf v =
-    at (concerns client user name row) refl
+    → AllowSame asked.rules asked.rows asked.rows (without row asked.rows)
+needless_all asked row classes h are each client name user direction a v =
+    at (concerns_by asked.rules client user name row) refl
   where
-    at : (b : Bool) → concerns client user name row ≡ b
-        → allow_by Own asked.rows client user name direction
-        ≡ allow_by Own (without row asked.rows) client user name direction
+    at : (b : Bool) → concerns_by asked.rules client user name row ≡ b
+        → allow_by asked.rules asked.rows client user name direction
+        ≡ allow_by asked.rules (without row asked.rows) client user name direction
     at true e =
-        let class = class_of asked row classes client user name are uf e in
+        let fits = asked_parts asked.rules asked.rows client user a in
+        let class = class_of asked row classes client user name are fits.1 e in
         each class.place class.item class.in_range direction client name user
-        (record { client_fits = cf; user_fits = class.here class.item; valid = v })
-    at false e = unconcerned asked.rows row client user name direction h e
+        (record {
+          is_asked = record {
+            client_fits = fits.0;
+            user_fits = class.here class.item;
+            are_asked = fits.2;
+          };
+          valid = v;
+        })
+    at false e = unconcerned asked.rules client user name direction row asked.rows
+        (asked_parts asked.rules asked.rows client user a).1 h e
 
 -- ---- a row that denies nothing
 denies_apart : (a b : AclRow) → is_deny a.access ≡ false → is_deny b.access ≡ true
@@ -88,57 +109,67 @@ row_inside rows asked n row is low here =
     subst (λ (r : Row). Contains asked.rows (row_view r)) (sym here)
     (subst (λ rs. Contains rs (row_view (get_or rows n row))) (sym is) (viewed rows n row low))
 
-meets : (client : List ℕ) (user : Option (List ℕ)) (name : List ℕ) (row other : AclRow)
-    → concerns client user name row ≡ true → concerns client user name other ≡ true
-    → ((concerns client user name row && (concerns client user name other && true)) && true) ≡ true
-meets client user name row other e f = rw (e, f) refl
+meets : (rules : Rules) (client : List ℕ) (user : Option (List ℕ)) (name : List ℕ)
+    (row other : AclRow) → concerns_by rules client user name row ≡ true
+    → concerns_by rules client user name other ≡ true
+    → decides_by rules client user name (row ∷ (other ∷ [])) [] ≡ true
+meets rules client user name row other e f = rw (e, f) refl
 
 -- no row that grants meets it
 pub denies_none : (rows : List Row) (asked : AskedRows) (row : AclRow) (classes : List Clients)
     → asked.rows ≡ row_views rows → is_deny row.access ≡ true → AreClasses asked row.who classes
-    → All (λ c. NoneMeets asked c row [] (others_of c row asked.rows)) classes
-    → DeniesNone rows row
+    → All (λ c. NoneMeets asked c row permits [] (others_of c row asked.rows)) classes
+    → DeniesNone asked.rules rows row
 denies_none rows asked row classes is so are each = record {
   denies = so;
   meets_none = λ place d low permits m. never (row_view (get_or rows place d))
       (subst (λ rs. Contains rs (row_view (get_or rows place d))) (sym is)
-      (viewed rows place d low)) permits m;
+      (viewed rows place d low)) permits
+      (subst (λ rs. Meet asked.rules rs row (row_view (get_or rows place d))) (sym is) m);
 }
   where
     never : (other : AclRow) → Contains asked.rows other → is_deny other.access ≡ false
-        → Meet row other → ⊥
-    never other inside permits m =
-        let class = class_of asked row classes m.client m.user m.name are m.user_fits m.first in
+        → Meet asked.rules asked.rows row other → ⊥
+    never other inside grants_it m =
+        let fits = asked_parts asked.rules asked.rows m.client m.user m.fits in
+        let class = class_of asked row classes m.client m.user m.name are fits.1 m.first in
         let c = get_or classes class.place class.item in
-        let fits = class.here class.item in
+        let of_class = class.here class.item in
         let for : is_for c other.who ≡ true =
-        All-contains (λ r. concerns m.client m.user m.name r ≡ true → is_for c r.who ≡ true)
-        asked.rows other (for_clients asked c m.client m.name m.user fits) inside m.second in
+        All-contains (λ r. concerns_by asked.rules m.client m.user m.name r ≡ true
+        → is_for c r.who ≡ true)
+        asked.rows other (for_clients asked c m.client m.name m.user of_class) inside m.second in
         let kept = others_have c row other asked.rows inside for
-        (denies_apart other row permits so) in
-        both_ways ((concerns m.client m.user m.name row
-        && (concerns m.client m.user m.name other && true)) && true)
-        (All-contains (λ r. is_deny r.access ≡ false → FindsNone asked c (row ∷ (r ∷ [])) [])
-        (others_of c row asked.rows) other (each class.place class.item class.in_range) kept permits
-        m.client m.name m.user m.client_fits fits m.valid)
-        (meets m.client m.user m.name row other m.first m.second)
+        (denies_apart other row grants_it so) in
+        both_ways (decides_by asked.rules m.client m.user m.name (row ∷ (other ∷ [])) [])
+        (All-contains (λ r. permits r ≡ true → FindsNone asked c (row ∷ (r ∷ [])) [])
+        (others_of c row asked.rows) other (each class.place class.item class.in_range) kept
+        (ap not grants_it) m.client m.name m.user
+        (record {
+          is_asked = record {
+            client_fits = fits.0;
+            user_fits = of_class;
+            are_asked = fits.2;
+          };
+          valid = m.valid;
+        }))
+        (meets asked.rules m.client m.user m.name row other m.first m.second)
 
 -- one does
 pub meets_grant : (asked : AskedRows) (c : Clients) (row other : AclRow)
     → is_deny other.access ≡ false → Contains asked.rows other
-    → Finds asked c (row ∷ (other ∷ [])) [] → MeetsGrant asked.rows row
-meets_grant asked c row other permits inside f =
-    let says = both f.client f.user f.name row other [] f.shown.decided in
+    → Finds asked c (row ∷ (other ∷ [])) [] → MeetsGrant asked.rules asked.rows row
+meets_grant asked c row other grants_it inside f =
+    let says = both asked.rules f.client f.user f.name row other [] f.shown.decided in
     record {
       other = other;
       inside = inside;
-      grants_it = permits;
+      grants_it = grants_it;
       meets = record {
         client = f.client;
         user = f.user;
         name = f.name;
-        client_fits = f.shown.client_fits;
-        user_fits = client_user asked c f.user f.shown.user_fits;
+        fits = point_asked asked c f.client f.user f.shown.is_asked;
         valid = f.shown.valid;
         first = says.here;
         second = says.there;
@@ -154,11 +185,13 @@ at_view (r ∷ rs) (suc k) x d low =
     let below = rest.0 in (omega arith, rest.1)
 
 pub denies_some : (rows : List Row) (asked : AskedRows) (row : AclRow) (d : Row)
-    → asked.rows ≡ row_views rows → MeetsGrant asked.rows row → DeniesNone rows row → ⊥
+    → asked.rows ≡ row_views rows → MeetsGrant asked.rules asked.rows row
+    → DeniesNone asked.rules rows row → ⊥
 denies_some rows asked row d is m none =
     let inside = subst (λ rs. Contains rs m.other) is m.inside in
     let place = at_view rows inside.0 m.other d inside.1 in
     let same : row_view (get_or rows inside.0 d) ≡ m.other = sym place.1 ∙ inside.2 in
     none.meets_none inside.0 d place.0
     (ap (λ r. is_deny r.access) same ∙ m.grants_it)
-    (subst (Meet row) (sym same) m.meets)
+    (subst (Meet asked.rules (row_views rows) row) (sym same)
+    (subst (λ rs. Meet asked.rules rs row m.other) is m.meets))

@@ -1,27 +1,33 @@
 -- What a list, and the list without a row, allow a client.
-use Rattle.std.proofs.Common.{◌≡◌, ◌≢◌, ℕ, Bool, true, false, not, ◌&&◌, ◌||◌, List, []}
-use Rattle.std.proofs.Common.{◌∷◌, Option, Some, All, get_or, refl, sym, ◌∙◌}
+use Rattle.std.proofs.Common.{◌≡◌, ◌≢◌, ℕ, ◌==◌, Bool, true, false, not, ◌&&◌, ◌||◌, List, []}
+use Rattle.std.proofs.Common.{◌∷◌, Option, All, get_or, refl, sym, ap, ◌∙◌}
+use Rattle.std.proofs.Common.{if◌then◌else◌}
+use Rattle.std.specs.Prelude.{nat_lt}
 use Rattle.std.specs.List.{filter, list_any}
 use Rattle.std.proofs.lemmas.Bool.{and_parts}
 use Rattle.std.proofs.lemmas.List.Elements.{All-head, All-tail}
 use Rattle.std.proofs.lemmas.List.Folds.{list_any-append}
-use Rattle.mq_acl.specs.AccessLists.{allow_by}
-use Rattle.mq_acl.specs.declared.rules.Rules.TheVariants.{Own}
-use Rattle.mq_acl.specs.Access.{applies, concerns, covers, grants, is_deny}
+use Rattle.std.proofs.Math.Bool.{and-false}
+use Rattle.mq_acl.specs.AccessLists.{allow_by, concerns_by}
+use Rattle.mq_acl.specs.Access.{grants, is_deny}
 use Rattle.mq_acl.specs.Lines.{Access, Read, Write, ReadWrite, Deny}
 use Rattle.mq_acl.specs.Rows.{AclRow}
 use Rattle.mq_acl.specs.RowsByOwner.{is_everyones}
 use Rattle.mq_acl.specs.declared.access.Direction.{Direction}
 use Rattle.mq_acl.specs.declared.access.Direction.TheVariants.{Reading, Writing}
+use Rattle.mq_acl.specs.declared.rules.Rules.{Rules}
+use Rattle.mq_acl.specs.declared.rules.Rules.TheVariants.{Own, Mosquitto}
 use Rattle.mq_witness.specs.Asked.{AskedRows, is_client_of}
-use Rattle.mq_witness.specs.Decided.{decides}
 use Rattle.mq_witness.specs.Rows.{is_name_of}
 use Rattle.mq_witness.specs.declared.clients.Clients.{Clients}
 use Rattle.mq_findings.specs.ByOwner.{is_for, is_own}
+use Rattle.mq_findings.specs.Classes.{can_be_user}
+use Rattle.mq_findings.specs.Ranks.{is_judge, rank, rank_of}
+use Rattle.mq_findings.proofs.DeciderLemmas.{allowed_at, any_same, some_at}
 use Rattle.mq_findings.proofs.FirstLemmas.{none_at}
-use Rattle.mq_findings.proofs.PointLemmas.{applies_for}
+use Rattle.mq_findings.proofs.PointLemmas.{applies_for, concerned_applies, user_as_it_is}
 use Rattle.mq_lint.specs.Needless.{same_row, without}
-use Rattle.mq_lint.specs.Cases.{denies_in, has_row, judges, others_of}
+use Rattle.mq_lint.specs.Cases.{has_row, is_at, is_before, others_of}
 use Rattle.mq_lint.proofs.SameLemmas.{any_kept, any_with}
 
 -- ---- rows for clients of a class
@@ -32,12 +38,12 @@ AreFor q c rows = All (λ r. q r ≡ true → is_for c r.who ≡ true) rows
 -- each row that concerns a topic, for a client that is asked about, is for the clients
 pub for_clients : (asked : AskedRows) (c : Clients) (client name : List ℕ)
     (user : Option (List ℕ)) → is_client_of asked c user ≡ true
-    → AreFor (concerns client user name) c asked.rows
+    → AreFor (concerns_by asked.rules client user name) c asked.rows
 for_clients asked c client name user fits = λ k d low e.
     let r = get_or asked.rows k d in
     applies_for asked c user r fits
     (λ u f. none_at (λ row. is_name_of u row.who) asked.rows f k d low)
-    (and_parts (applies user r.who) (covers client user name r) e).0
+    (concerned_applies asked.rules client name user r e)
 
 split : (e o s : AclRow → Bool) (rows : List AclRow)
     → All (λ r. s r ≡ true → (e r || o r) ≡ true) rows
@@ -101,187 +107,306 @@ any_tested p t c row rows h =
     ∙ any_others (λ r. t r && p r) c row rows (also p t c rows h)
     ∙ swapped p t (without row rows)
 
-either : (p s t : AclRow → Bool) (rows : List AclRow)
-    → list_any (λ r. p r && (s r || t r)) rows
-    ≡ (list_any (λ r. p r && s r) rows || list_any (λ r. p r && t r) rows)
-either p s t [] = refl
-either p s t (r ∷ rs) =
-    (λ i. (p r && (s r || t r)) || either p s t rs i)
-    ∙ both (p r) (s r) (t r) (list_any (λ r. p r && s r) rs) (list_any (λ r. p r && t r) rs)
+-- ---- by ranks
+rank_cases : (P : ℕ → Type 0) → P 0 → P 1 → P 2 → P 3 → (rules : Rules) (row : AclRow)
+    → P (rank rules row)
+rank_cases P a b c d Own row = at (is_deny row.access)
   where
-    both : (p s t x y : Bool) → ((p && (s || t)) || (x || y)) ≡ (((p && s) || x) || ((p && t) || y))
-    both false s t x y = refl
-    both true true t x y = refl
-    both true false false x y = refl
-    both true false true true y = refl
-    both true false true false y = refl
-
--- ---- at a point
--- whether a row that denies is among the others, one that grants, and the row itself
-pub record Point (rows : List AclRow) (row : AclRow) (client : List ℕ) (user : Option (List ℕ))
-    (name : List ℕ) (direction : Direction) (denied granted concerned : Bool) : Type 0 where
-  pub denied_is : list_any (λ r. concerns client user name r && is_deny r.access)
-      (without row rows) ≡ denied
-  pub granted_is : list_any (λ r. concerns client user name r && grants direction r.access)
-      (without row rows) ≡ granted
-  pub concerned_is : concerns client user name row ≡ concerned
-
--- what all rows allow, and those without the row
-pub with_row : (rows : List AclRow) (row : AclRow) (client : List ℕ) (user : Option (List ℕ))
-    (name : List ℕ) (direction : Direction) (d g p : Bool) → has_row row rows ≡ true
-    → Point rows row client user name direction d g p
-    → allow_by Own rows client user name direction
-    ≡ (not (d || (p && is_deny row.access)) && (g || (p && grants direction row.access)))
-with_row rows row client user name direction d g p h is =
-    let c = concerns client user name in
-    (λ i. not (any_with (λ r. c r && is_deny r.access) row rows h i)
-    && any_with (λ r. c r && grants direction r.access) row rows h i)
-    ∙ (λ i. not (is.denied_is i || (is.concerned_is i && is_deny row.access))
-    && (is.granted_is i || (is.concerned_is i && grants direction row.access)))
-
-pub without_row : (rows : List AclRow) (row : AclRow) (client : List ℕ) (user : Option (List ℕ))
-    (name : List ℕ) (direction : Direction) (d g p : Bool)
-    → Point rows row client user name direction d g p
-    → allow_by Own (without row rows) client user name direction ≡ (not d && g)
-without_row rows row client user name direction d g p is =
-    (λ i. not (is.denied_is i) && is.granted_is i)
-
-pub point : (rows : List AclRow) (row : AclRow) (client : List ℕ) (user : Option (List ℕ))
-    (name : List ℕ) (direction : Direction)
-    → Point rows row client user name direction
-    (list_any (λ r. concerns client user name r && is_deny r.access) (without row rows))
-    (list_any (λ r. concerns client user name r && grants direction r.access) (without row rows))
-    (concerns client user name row)
-point rows row client user name direction = record {
-  denied_is = refl;
-  granted_is = refl;
-  concerned_is = refl;
-}
-
--- a row that doesn't concern it changes nothing
-pub unconcerned : (rows : List AclRow) (row : AclRow) (client : List ℕ)
-    (user : Option (List ℕ)) (name : List ℕ) (direction : Direction) → has_row row rows ≡ true
-    → concerns client user name row ≡ false
-    → allow_by Own rows client user name direction
-    ≡ allow_by Own (without row rows) client user name direction
-unconcerned rows row client user name direction h e =
-    let is = point rows row client user name direction in
-    let d = list_any (λ r. concerns client user name r && is_deny r.access) (without row rows) in
-    let g = list_any (λ r. concerns client user name r && grants direction r.access)
-    (without row rows) in
-    with_row rows row client user name direction d g (concerns client user name row) h is
-    ∙ (λ i. not (d || (e i && is_deny row.access)) && (g || (e i && grants direction row.access)))
-    ∙ plain d g
-    ∙ sym (without_row rows row client user name direction d g (concerns client user name row) is)
+    at : (deny : Bool) → P (rank_of false deny)
+    at true = a
+    at false = b
+rank_cases P a b c d Mosquitto row = at (is_everyones row.who) (is_deny row.access)
   where
-    plain : (d g : Bool) → (not (d || false) && (g || false)) ≡ (not d && g)
-    plain true g = refl
-    plain false true = refl
-    plain false false = refl
+    at : (pattern deny : Bool) → P (rank_of pattern deny)
+    at false true = a
+    at false false = b
+    at true true = c
+    at true false = d
 
--- ---- a row that grants
-abbrev of_grant : (d g p : Bool) → Bool
-of_grant d g p = (p && true) && not (d || g)
+-- there are four
+pub no_4 : (rules : Rules) (row : AclRow) → (rank rules row == 4) ≡ false
+no_4 = rank_cases (λ v. (v == 4) ≡ false) refl refl refl refl
 
-same_grant : (d g p y z : Bool) → y ≡ false → (z ≡ true → of_grant d g p ≡ false)
-    → (not (d || (p && y)) && (g || (p && z))) ≡ (not d && g)
-same_grant d g p true z e f = absurd (let q : true ≡ false = e in cc)
-same_grant true g true false z e f = refl
-same_grant true g false false z e f = refl
-same_grant false true true false z e f = refl
-same_grant false true false false z e f = refl
-same_grant false false true false true e f = absurd (let q : true ≡ false = f refl in cc)
-same_grant false false true false false e f = refl
-same_grant false false false false z e f = refl
+pub no_5 : (rules : Rules) (row : AclRow) → (rank rules row == 5) ≡ false
+no_5 = rank_cases (λ v. (v == 5) ≡ false) refl refl refl refl
 
-other_grant : (d g p y z : Bool) → y ≡ false → z ≡ true → of_grant d g p ≡ true
-    → (not (d || (p && y)) && (g || (p && z))) ≢ (not d && g)
-other_grant d g p true z e f h = absurd (let q : true ≡ false = e in cc)
-other_grant d g p false false e f h = absurd (let q : false ≡ true = f in cc)
-other_grant d g false false true e f h = absurd (let q : false ≡ true = h in cc)
-other_grant true g true false true e f h = absurd (let q : false ≡ true = h in cc)
-other_grant false true true false true e f h = absurd (let q : false ≡ true = h in cc)
-other_grant false false true false true e f h = λ q. let x : true ≡ false = q in cc
+pub no_6 : (rules : Rules) (row : AclRow) → (rank rules row == 6) ≡ false
+no_6 = rank_cases (λ v. (v == 6) ≡ false) refl refl refl refl
 
--- the others that decide about the direction
-cover_is : (asked : AskedRows) (c : Clients) (row : AclRow) (client name : List ℕ)
-    (user : Option (List ℕ)) (direction : Direction) (d g p : Bool)
-    → is_client_of asked c user ≡ true → Point asked.rows row client user name direction d g p
-    → list_any (concerns client user name)
-    (filter (λ r. judges direction r.access) (others_of c row asked.rows)) ≡ (d || g)
-cover_is asked c row client name user direction d g p fits is =
-    any_tested (concerns client user name) (λ r. judges direction r.access) c row asked.rows
-    (for_clients asked c client name user fits)
-    ∙ either (concerns client user name) (λ r. is_deny r.access) (λ r. grants direction r.access)
-    (without row asked.rows)
-    ∙ (λ i. is.denied_is i || is.granted_is i)
+-- one of two tests passes
+parts : (j s t c x y : Bool)
+    → ((((j && s) && c) || x) || (((j && t) && c) || y)) ≡ (((j && (s || t)) && c) || (x || y))
+parts false s t c x y = refl
+parts true true t true x y = refl
+parts true false true true true y = refl
+parts true false true true false y = refl
+parts true false false true x y = refl
+parts true true true false x y = refl
+parts true true false false x y = refl
+parts true false true false x y = refl
+parts true false false false x y = refl
 
-grant_decides : (asked : AskedRows) (c : Clients) (row : AclRow) (client name : List ℕ)
-    (user : Option (List ℕ)) (direction : Direction) (d g p : Bool)
-    → is_client_of asked c user ≡ true → Point asked.rows row client user name direction d g p
-    → decides client user name (row ∷ [])
-    (filter (λ r. judges direction r.access) (others_of c row asked.rows)) ≡ of_grant d g p
-grant_decides asked c row client name user direction d g p fits is =
-    (λ i. (is.concerned_is i && true)
-    && not (cover_is asked c row client name user direction d g p fits is i))
+any_two : (j s t c : AclRow → Bool) (rows : List AclRow)
+    → (list_any (λ r. (j r && s r) && c r) rows || list_any (λ r. (j r && t r) && c r) rows)
+    ≡ list_any (λ r. (j r && (s r || t r)) && c r) rows
+any_two j s t c [] = refl
+any_two j s t c (r ∷ rs) =
+    parts (j r) (s r) (t r) (c r) (list_any (λ r. (j r && s r) && c r) rs)
+    (list_any (λ r. (j r && t r) && c r) rs)
+    ∙ (λ i. ((j r && (s r || t r)) && c r) || any_two j s t c rs i)
 
--- where no other row decides, a row that grants is needed
-pub grant_differs : (asked : AskedRows) (c : Clients) (row : AclRow) (client name : List ℕ)
-    (user : Option (List ℕ)) (direction : Direction) → has_row row asked.rows ≡ true
-    → is_client_of asked c user ≡ true → is_deny row.access ≡ false
-    → grants direction row.access ≡ true
-    → decides client user name (row ∷ [])
-    (filter (λ r. judges direction r.access) (others_of c row asked.rows)) ≡ true
-    → allow_by Own asked.rows client user name direction
-    ≢ allow_by Own (without row asked.rows) client user name direction
-grant_differs asked c row client name user direction h fits permits so e same =
-    let is = point asked.rows row client user name direction in
-    let d = list_any (λ r. concerns client user name r && is_deny r.access)
-    (without row asked.rows) in
-    let g = list_any (λ r. concerns client user name r && grants direction r.access)
-    (without row asked.rows) in
-    let p = concerns client user name row in
-    other_grant d g p (is_deny row.access) (grants direction row.access) permits so
-    (sym (grant_decides asked c row client name user direction d g p fits is) ∙ e)
-    (sym (with_row asked.rows row client user name direction d g p h is) ∙ same
-    ∙ without_row asked.rows row client user name direction d g p is)
+turned : (c j t : Bool) → (c && (j && t)) ≡ ((j && t) && c)
+turned true true true = refl
+turned true true false = refl
+turned true false t = refl
+turned false true true = refl
+turned false true false = refl
+turned false false t = refl
 
--- where one does, it changes nothing; nor where the row doesn't grant the direction
-pub grant_same : (asked : AskedRows) (c : Clients) (row : AclRow) (client name : List ℕ)
-    (user : Option (List ℕ)) (direction : Direction) → has_row row asked.rows ≡ true
-    → is_client_of asked c user ≡ true → is_deny row.access ≡ false
-    → (grants direction row.access ≡ true → decides client user name (row ∷ [])
-    (filter (λ r. judges direction r.access) (others_of c row asked.rows)) ≡ false)
-    → allow_by Own asked.rows client user name direction
-    ≡ allow_by Own (without row asked.rows) client user name direction
-grant_same asked c row client name user direction h fits permits f =
-    let is = point asked.rows row client user name direction in
-    let d = list_any (λ r. concerns client user name r && is_deny r.access)
-    (without row asked.rows) in
-    let g = list_any (λ r. concerns client user name r && grants direction r.access)
-    (without row asked.rows) in
-    let p = concerns client user name row in
-    with_row asked.rows row client user name direction d g p h is
-    ∙ same_grant d g p (is_deny row.access) (grants direction row.access) permits
-    (λ so. sym (grant_decides asked c row client name user direction d g p fits is) ∙ f so)
-    ∙ sym (without_row asked.rows row client user name direction d g p is)
+module _ (rules : Rules) (direction : Direction) (c : AclRow → Bool) where
+  abbrev some : ℕ → List AclRow → Bool
+  some place rows = some_at rules direction c place rows
 
--- ---- a row that denies
-pub deny_grants : (direction : Direction) (access : Access) → is_deny access ≡ true
-    → grants direction access ≡ false
-deny_grants Reading Deny e = refl
-deny_grants Writing Deny e = refl
-deny_grants direction Read e = absurd (let q : false ≡ true = e in cc)
-deny_grants direction Write e = absurd (let q : false ≡ true = e in cc)
-deny_grants direction ReadWrite e = absurd (let q : false ≡ true = e in cc)
+  abbrev below : ℕ → List AclRow → Bool
+  below place rows = list_any (λ r. c r && is_before rules direction place r) rows
 
-pub grant_denies : (direction : Direction) (access : Access) → grants direction access ≡ true
-    → is_deny access ≡ false
-grant_denies Reading Deny e = absurd (let q : false ≡ true = e in cc)
-grant_denies Writing Deny e = absurd (let q : false ≡ true = e in cc)
-grant_denies direction Read e = refl
-grant_denies direction Write e = refl
-grant_denies direction ReadWrite e = refl
+  below_by : (place : ℕ) (t : AclRow → Bool) (rows : List AclRow)
+      → ((r : AclRow) → nat_lt (rank rules r) place ≡ t r)
+      → below place rows ≡ list_any (λ r. (is_judge direction r && t r) && c r) rows
+  below_by place t rows h =
+      any_same (λ r. c r && is_before rules direction place r)
+      (λ r. (is_judge direction r && t r) && c r)
+      (λ r. turned (c r) (is_judge direction r) (nat_lt (rank rules r) place)
+      ∙ (λ i. (is_judge direction r && h r i) && c r)) rows
+
+  pub below_1 : (rows : List AclRow) → below 1 rows ≡ some 0 rows
+  below_1 rows = below_by 1 (λ r. rank rules r == 0) rows
+      (rank_cases (λ v. nat_lt v 1 ≡ (v == 0)) refl refl refl refl rules)
+
+  pub below_2 : (rows : List AclRow) → below 2 rows ≡ (some 0 rows || some 1 rows)
+  below_2 rows = below_by 2 (λ r. (rank rules r == 0) || (rank rules r == 1)) rows
+      (rank_cases (λ v. nat_lt v 2 ≡ ((v == 0) || (v == 1))) refl refl refl refl rules)
+      ∙ sym (any_two (is_judge direction) (λ r. rank rules r == 0) (λ r. rank rules r == 1) c rows)
+
+  pub below_3 : (rows : List AclRow) → below 3 rows ≡ (some 0 rows || (some 1 rows || some 2 rows))
+  below_3 rows =
+      below_by 3 (λ r. (rank rules r == 0) || ((rank rules r == 1) || (rank rules r == 2))) rows
+      (rank_cases (λ v. nat_lt v 3 ≡ ((v == 0) || ((v == 1) || (v == 2)))) refl refl refl refl
+      rules)
+      ∙ sym ((λ i. some 0 rows || any_two (is_judge direction) (λ r. rank rules r == 1)
+      (λ r. rank rules r == 2) c rows i)
+      ∙ any_two (is_judge direction) (λ r. rank rules r == 0)
+      (λ r. (rank rules r == 1) || (rank rules r == 2)) c rows)
+
+  pub below_4 : (rows : List AclRow)
+      → below 4 rows ≡ (some 0 rows || (some 1 rows || (some 2 rows || some 3 rows)))
+  below_4 rows =
+      below_by 4 (λ r. (rank rules r == 0)
+      || ((rank rules r == 1) || ((rank rules r == 2) || (rank rules r == 3)))) rows
+      (rank_cases (λ v. nat_lt v 4 ≡ ((v == 0) || ((v == 1) || ((v == 2) || (v == 3)))))
+      refl refl refl refl rules)
+      ∙ sym ((λ i. some 0 rows || (some 1 rows || any_two (is_judge direction)
+      (λ r. rank rules r == 2) (λ r. rank rules r == 3) c rows i))
+      ∙ ((λ i. some 0 rows || any_two (is_judge direction) (λ r. rank rules r == 1)
+      (λ r. (rank rules r == 2) || (rank rules r == 3)) c rows i)
+      ∙ any_two (is_judge direction) (λ r. rank rules r == 0)
+      (λ r. (rank rules r == 1) || ((rank rules r == 2) || (rank rules r == 3))) c rows))
+
+-- ---- with one row more
+-- what the first of four ranks decides
+abbrev pub decided : (a b c d : Bool) → Bool
+decided a b c d =
+    if a then false else (if b then true else (if c then false else d))
+
+-- so with a row that may decide, is of a rank, and concerns the topic, or doesn't
+abbrev pub with_one : (judge : Bool) (place : ℕ) (here : Bool) (a b c d : Bool) → Bool
+with_one judge place here a b c d =
+    decided (a || ((judge && (place == 0)) && here)) (b || ((judge && (place == 1)) && here))
+    (c || ((judge && (place == 2)) && here)) (d || ((judge && (place == 3)) && here))
+
+or_false : (a : Bool) → (a || false) ≡ a
+or_false true = refl
+or_false false = refl
+
+no_judge : (v : ℕ) (p a b c d : Bool) → with_one false v p a b c d ≡ decided a b c d
+no_judge v p a b c d = (λ i. decided (or_false a i) (or_false b i) (or_false c i) (or_false d i))
+
+not_here : (j : Bool) (v : ℕ) (a b c d : Bool) → with_one j v false a b c d ≡ decided a b c d
+not_here j v a b c d =
+    (λ i. decided (a || and-false (j && (v == 0)) i) (b || and-false (j && (v == 1)) i)
+    (c || and-false (j && (v == 2)) i) (d || and-false (j && (v == 3)) i))
+    ∙ (λ i. decided (or_false a i) (or_false b i) (or_false c i) (or_false d i))
+
+-- it changes nothing where what would decide behind it says the same, or isn't reached
+pub same_0 : (a b c d : Bool) → (b ≡ true → a ≡ true) → (d ≡ true → (a || (b || c)) ≡ true)
+    → with_one true 0 true a b c d ≡ decided a b c d
+same_0 true b c d f g = refl
+same_0 false true c d f g = absurd (let q : false ≡ true = f refl in cc)
+same_0 false false true d f g = refl
+same_0 false false false true f g = absurd (let q : false ≡ true = g refl in cc)
+same_0 false false false false f g = refl
+
+pub same_1 : (a b c d : Bool) → (c ≡ true → (a || b) ≡ true) → (a || (b || (c || d))) ≡ true
+    → with_one true 1 true a b c d ≡ decided a b c d
+same_1 true b c d f g = refl
+same_1 false true c d f g = refl
+same_1 false false true d f g = absurd (let q : false ≡ true = f refl in cc)
+same_1 false false false true f g = refl
+same_1 false false false false f g = absurd (let q : false ≡ true = g in cc)
+
+pub same_2 : (a b c d : Bool) → (d ≡ true → (a || (b || c)) ≡ true)
+    → with_one true 2 true a b c d ≡ decided a b c d
+same_2 true b c d g = refl
+same_2 false true c d g = refl
+same_2 false false true d g = refl
+same_2 false false false true g = absurd (let q : false ≡ true = g refl in cc)
+same_2 false false false false g = refl
+
+pub same_3 : (a b c d : Bool) → (a || (b || (c || d))) ≡ true
+    → with_one true 3 true a b c d ≡ decided a b c d
+same_3 true b c d g = refl
+same_3 false true c d g = refl
+same_3 false false true d g = refl
+same_3 false false false true g = refl
+same_3 false false false false g = absurd (let q : false ≡ true = g in cc)
+
+-- it changes something where one behind it would say the opposite
+pub other_01 : (a b c d : Bool) → a ≡ false → b ≡ true
+    → with_one true 0 true a b c d ≢ decided a b c d
+other_01 true b c d f g = absurd (let q : true ≡ false = f in cc)
+other_01 false true c d f g = λ q. let x : false ≡ true = q in cc
+other_01 false false c d f g = absurd (let q : false ≡ true = g in cc)
+
+pub other_03 : (a b c d : Bool) → (a || (b || c)) ≡ false → d ≡ true
+    → with_one true 0 true a b c d ≢ decided a b c d
+other_03 true b c d f g = absurd (let q : true ≡ false = f in cc)
+other_03 false true c d f g = absurd (let q : true ≡ false = f in cc)
+other_03 false false true d f g = absurd (let q : true ≡ false = f in cc)
+other_03 false false false true f g = λ q. let x : false ≡ true = q in cc
+other_03 false false false false f g = absurd (let q : false ≡ true = g in cc)
+
+pub other_12 : (a b c d : Bool) → (a || b) ≡ false → c ≡ true
+    → with_one true 1 true a b c d ≢ decided a b c d
+other_12 true b c d f g = absurd (let q : true ≡ false = f in cc)
+other_12 false true c d f g = absurd (let q : true ≡ false = f in cc)
+other_12 false false true d f g = λ q. let x : true ≡ false = q in cc
+other_12 false false false d f g = absurd (let q : false ≡ true = g in cc)
+
+pub other_23 : (a b c d : Bool) → (a || (b || c)) ≡ false → d ≡ true
+    → with_one true 2 true a b c d ≢ decided a b c d
+other_23 true b c d f g = absurd (let q : true ≡ false = f in cc)
+other_23 false true c d f g = absurd (let q : true ≡ false = f in cc)
+other_23 false false true d f g = absurd (let q : true ≡ false = f in cc)
+other_23 false false false true f g = λ q. let x : false ≡ true = q in cc
+other_23 false false false false f g = absurd (let q : false ≡ true = g in cc)
+
+-- or none would decide, and it grants
+pub other_1 : (a b c d : Bool) → (a || (b || (c || d))) ≡ false
+    → with_one true 1 true a b c d ≢ decided a b c d
+other_1 true b c d f = absurd (let q : true ≡ false = f in cc)
+other_1 false true c d f = absurd (let q : true ≡ false = f in cc)
+other_1 false false true d f = absurd (let q : true ≡ false = f in cc)
+other_1 false false false true f = absurd (let q : true ≡ false = f in cc)
+other_1 false false false false f = λ q. let x : true ≡ false = q in cc
+
+pub other_3 : (a b c d : Bool) → (a || (b || (c || d))) ≡ false
+    → with_one true 3 true a b c d ≢ decided a b c d
+other_3 true b c d f = absurd (let q : true ≡ false = f in cc)
+other_3 false true c d f = absurd (let q : true ≡ false = f in cc)
+other_3 false false true d f = absurd (let q : true ≡ false = f in cc)
+other_3 false false false true f = absurd (let q : true ≡ false = f in cc)
+other_3 false false false false f = λ q. let x : true ≡ false = q in cc
+
+-- ---- what lists allow
+module _ (rules : Rules) (client : List ℕ) (user : Option (List ℕ)) (name : List ℕ)
+    (direction : Direction) where
+  abbrev here : AclRow → Bool
+  here row = concerns_by rules client user name row
+
+  abbrev at : ℕ → List AclRow → Bool
+  at place rows = some_at rules direction here place rows
+
+  pub allows : (rows : List AclRow) → can_be_user user ≡ true
+      → allow_by rules rows client user name direction
+      ≡ decided (at 0 rows) (at 1 rows) (at 2 rows) (at 3 rows)
+  allows rows fits =
+      allowed_at rules rows client user name direction
+      ∙ ap (λ (u : Option (List ℕ)).
+      decided (some_at rules direction (concerns_by rules client u name) 0 rows)
+      (some_at rules direction (concerns_by rules client u name) 1 rows)
+      (some_at rules direction (concerns_by rules client u name) 2 rows)
+      (some_at rules direction (concerns_by rules client u name) 3 rows))
+      (user_as_it_is rules user fits)
+
+  allows_with : (row : AclRow) (rows : List AclRow) → can_be_user user ≡ true
+      → has_row row rows ≡ true → allow_by rules rows client user name direction
+      ≡ with_one (is_judge direction row) (rank rules row) (here row) (at 0 (without row rows))
+      (at 1 (without row rows)) (at 2 (without row rows)) (at 3 (without row rows))
+  allows_with row rows fits h =
+      allows rows fits
+      ∙ (λ i. decided
+      (any_with (λ r. is_at rules direction 0 r && here r) row rows h i)
+      (any_with (λ r. is_at rules direction 1 r && here r) row rows h i)
+      (any_with (λ r. is_at rules direction 2 r && here r) row rows h i)
+      (any_with (λ r. is_at rules direction 3 r && here r) row rows h i))
+
+  -- a row that doesn't concern it, or may not decide, changes nothing
+  pub unconcerned : (row : AclRow) (rows : List AclRow) → can_be_user user ≡ true
+      → has_row row rows ≡ true → here row ≡ false
+      → allow_by rules rows client user name direction
+      ≡ allow_by rules (without row rows) client user name direction
+  unconcerned row rows fits h e =
+      let w = without row rows in
+      allows_with row rows fits h
+      ∙ ap (λ p. with_one (is_judge direction row) (rank rules row) p (at 0 w) (at 1 w) (at 2 w)
+      (at 3 w)) e
+      ∙ not_here (is_judge direction row) (rank rules row) (at 0 w) (at 1 w) (at 2 w) (at 3 w)
+      ∙ sym (allows w fits)
+
+  pub undecided : (row : AclRow) (rows : List AclRow) → can_be_user user ≡ true
+      → has_row row rows ≡ true → is_judge direction row ≡ false
+      → allow_by rules rows client user name direction
+      ≡ allow_by rules (without row rows) client user name direction
+  undecided row rows fits h e =
+      let w = without row rows in
+      allows_with row rows fits h
+      ∙ ap (λ j. with_one j (rank rules row) (here row) (at 0 w) (at 1 w) (at 2 w) (at 3 w)) e
+      ∙ no_judge (rank rules row) (here row) (at 0 w) (at 1 w) (at 2 w) (at 3 w)
+      ∙ sym (allows w fits)
+
+  -- one that does is seen by its rank
+  abbrev seen_as : ℕ → List AclRow → Bool
+  seen_as place w = with_one true place true (at 0 w) (at 1 w) (at 2 w) (at 3 w)
+
+  abbrev seen_without : List AclRow → Bool
+  seen_without w = decided (at 0 w) (at 1 w) (at 2 w) (at 3 w)
+
+  with_seen : (row : AclRow) (rows : List AclRow) (place : ℕ) → can_be_user user ≡ true
+      → has_row row rows ≡ true → is_judge direction row ≡ true → here row ≡ true
+      → rank rules row ≡ place
+      → allow_by rules rows client user name direction ≡ seen_as place (without row rows)
+  with_seen row rows place fits h j e v =
+      let w = without row rows in
+      allows_with row rows fits h
+      ∙ (λ i. with_one (j i) (v i) (e i) (at 0 w) (at 1 w) (at 2 w) (at 3 w))
+
+  pub seen_same : (row : AclRow) (rows : List AclRow) (place : ℕ) → can_be_user user ≡ true
+      → has_row row rows ≡ true → is_judge direction row ≡ true → here row ≡ true
+      → rank rules row ≡ place
+      → seen_as place (without row rows) ≡ seen_without (without row rows)
+      → allow_by rules rows client user name direction
+      ≡ allow_by rules (without row rows) client user name direction
+  seen_same row rows place fits h j e v same =
+      with_seen row rows place fits h j e v ∙ same ∙ sym (allows (without row rows) fits)
+
+  pub seen_other : (row : AclRow) (rows : List AclRow) (place : ℕ) → can_be_user user ≡ true
+      → has_row row rows ≡ true → is_judge direction row ≡ true → here row ≡ true
+      → rank rules row ≡ place
+      → seen_as place (without row rows) ≢ seen_without (without row rows)
+      → allow_by rules rows client user name direction
+      ≢ allow_by rules (without row rows) client user name direction
+  seen_other row rows place fits h j e v other same =
+      other (sym (with_seen row rows place fits h j e v) ∙ same ∙ allows (without row rows) fits)
 
 -- a row that doesn't deny grants a direction
 pub grants_some : (access : Access) → is_deny access ≡ false
@@ -290,91 +415,3 @@ grants_some Read e = (Reading, refl)
 grants_some Write e = (Writing, refl)
 grants_some ReadWrite e = (Reading, refl)
 grants_some Deny e = absurd (let q : true ≡ false = e in cc)
-
-same_deny : (d g p y z : Bool) → z ≡ false → (p ≡ true → d ≡ false → g ≡ false)
-    → (not (d || (p && y)) && (g || (p && z))) ≡ (not d && g)
-same_deny d g p y true e f = absurd (let q : true ≡ false = e in cc)
-same_deny true g true y false e f = refl
-same_deny true g false y false e f = refl
-same_deny false true true y false e f = absurd (let q : true ≡ false = f refl refl in cc)
-same_deny false false true true false e f = refl
-same_deny false false true false false e f = refl
-same_deny false true false y false e f = refl
-same_deny false false false y false e f = refl
-
-other_deny : (d g p y z : Bool) → y ≡ true → p ≡ true → d ≡ false → g ≡ true
-    → (not (d || (p && y)) && (g || (p && z))) ≢ (not d && g)
-other_deny d g p false z e f h k = absurd (let q : false ≡ true = e in cc)
-other_deny d g false true z e f h k = absurd (let q : false ≡ true = f in cc)
-other_deny true g true true z e f h k = absurd (let q : true ≡ false = h in cc)
-other_deny false false true true z e f h k = absurd (let q : false ≡ true = k in cc)
-other_deny false true true true z e f h k = λ q. let x : false ≡ true = q in cc
-
-granted_for : (direction : Direction) (c : Clients) (client name : List ℕ)
-    (user : Option (List ℕ)) (rows : List AclRow) → AreFor (concerns client user name) c rows
-    → AreFor (λ r. concerns client user name r && grants direction r.access) c rows
-granted_for direction c client name user rows h = λ k d low e.
-    let r = get_or rows k d in
-    h k d low (and_parts (concerns client user name r) (grants direction r.access) e).0
-
-granted_others : (asked : AskedRows) (c : Clients) (row : AclRow) (client name : List ℕ)
-    (user : Option (List ℕ)) (direction : Direction) → is_client_of asked c user ≡ true
-    → list_any (λ r. concerns client user name r && grants direction r.access)
-    (others_of c row asked.rows)
-    ≡ list_any (λ r. concerns client user name r && grants direction r.access)
-    (without row asked.rows)
-granted_others asked c row client name user direction fits =
-    any_others (λ r. concerns client user name r && grants direction r.access) c row asked.rows
-    (granted_for direction c client name user asked.rows
-    (for_clients asked c client name user fits))
-
--- where a row of the others grants what the row alone denies, it is needed
-pub deny_differs : (asked : AskedRows) (c : Clients) (row : AclRow) (client name : List ℕ)
-    (user : Option (List ℕ)) (direction : Direction) → has_row row asked.rows ≡ true
-    → is_client_of asked c user ≡ true → is_deny row.access ≡ true
-    → concerns client user name row ≡ true
-    → list_any (concerns client user name) (denies_in (others_of c row asked.rows)) ≡ false
-    → list_any (λ r. concerns client user name r && grants direction r.access)
-    (others_of c row asked.rows) ≡ true
-    → allow_by Own asked.rows client user name direction
-    ≢ allow_by Own (without row asked.rows) client user name direction
-deny_differs asked c row client name user direction h fits so here none granted same =
-    let is = point asked.rows row client user name direction in
-    let d = list_any (λ r. concerns client user name r && is_deny r.access)
-    (without row asked.rows) in
-    let g = list_any (λ r. concerns client user name r && grants direction r.access)
-    (without row asked.rows) in
-    let p = concerns client user name row in
-    let for = for_clients asked c client name user fits in
-    other_deny d g p (is_deny row.access) (grants direction row.access) so here
-    (sym (any_tested (concerns client user name) (λ r. is_deny r.access) c row asked.rows for)
-    ∙ none)
-    (sym (granted_others asked c row client name user direction fits) ∙ granted)
-    (sym (with_row asked.rows row client user name direction d g p h is) ∙ same
-    ∙ without_row asked.rows row client user name direction d g p is)
-
--- where none of them does, it changes nothing
-pub deny_same : (asked : AskedRows) (c : Clients) (row : AclRow) (client name : List ℕ)
-    (user : Option (List ℕ)) (direction : Direction) → has_row row asked.rows ≡ true
-    → is_client_of asked c user ≡ true → is_deny row.access ≡ true
-    → (concerns client user name row ≡ true
-    → list_any (concerns client user name) (denies_in (others_of c row asked.rows)) ≡ false
-    → list_any (λ r. concerns client user name r && grants direction r.access)
-    (others_of c row asked.rows) ≡ false)
-    → allow_by Own asked.rows client user name direction
-    ≡ allow_by Own (without row asked.rows) client user name direction
-deny_same asked c row client name user direction h fits so f =
-    let is = point asked.rows row client user name direction in
-    let d = list_any (λ r. concerns client user name r && is_deny r.access)
-    (without row asked.rows) in
-    let g = list_any (λ r. concerns client user name r && grants direction r.access)
-    (without row asked.rows) in
-    let p = concerns client user name row in
-    let for = for_clients asked c client name user fits in
-    with_row asked.rows row client user name direction d g p h is
-    ∙ same_deny d g p (is_deny row.access) (grants direction row.access)
-    (deny_grants direction row.access so)
-    (λ here none. sym (granted_others asked c row client name user direction fits)
-    ∙ f here (any_tested (concerns client user name) (λ r. is_deny r.access) c row asked.rows for
-    ∙ none))
-    ∙ sym (without_row asked.rows row client user name direction d g p is)

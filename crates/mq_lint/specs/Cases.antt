@@ -1,8 +1,9 @@
 -- A row of a list, for clients of one class.
-use Rattle.std.specs.Prelude.{◌≡◌, ℕ, Bool, true, false, List, [], ◌∷◌, ◌++◌, ◌&&◌, ◌||◌, not}
-use Rattle.std.specs.Prelude.{Option, Some, None, All, Contains, if◌then◌else◌}
+use Rattle.std.specs.Prelude.{◌≡◌, ℕ, Bool, true, false, List, [], ◌∷◌, ◌++◌, ◌&&◌, ◌||◌, ◌==◌, not}
+use Rattle.std.specs.Prelude.{Option, Some, None, All, Contains, if◌then◌else◌, nat_lt}
 use Rattle.std.specs.List.{filter, list_all, list_any}
 use Rattle.mq_acl.specs.AccessLists.{allow_by}
+use Rattle.mq_acl.specs.declared.rules.Rules.{Rules}
 use Rattle.mq_acl.specs.declared.rules.Rules.TheVariants.{Own}
 use Rattle.mq_acl.specs.Access.{applies, concerns, grants, is_deny}
 use Rattle.mq_acl.specs.Lines.{Access}
@@ -12,14 +13,16 @@ use Rattle.mq_acl.specs.Views.{row_views}
 use Rattle.mq_acl.specs.declared.access.Direction.{Direction}
 use Rattle.mq_acl.specs.declared.access.Direction.TheVariants.{Reading, Writing}
 use Rattle.mq_acl.specs.declared.row.Row.{Row}
-use Rattle.mq_witness.specs.Asked.{AskedRows, FindsNone, IsShown, is_client_of}
+use Rattle.mq_witness.specs.Asked.{AskedRows, is_client_of}
 use Rattle.mq_witness.specs.Clients.{name_passes}
 use Rattle.mq_witness.specs.Rows.{is_user_of}
+use Rattle.mq_witness.specs.Ruled.{IsShownBy, decides_by}
 use Rattle.mq_witness.specs.declared.clients.Clients.{Clients}
 use Rattle.mq_findings.specs.ByOwner.{everyones, is_for, is_own, own_rows}
 use Rattle.mq_findings.specs.Classes.{can_be_user}
 use Rattle.mq_findings.specs.Marks.{views_of}
 use Rattle.mq_findings.specs.Questions.{IsPoint}
+use Rattle.mq_findings.specs.Ranks.{is_judge, rank}
 use Rattle.mq_findings.specs.declared.by_owner.ByOwner.{ByOwner}
 use Rattle.mq_lint.specs.Needless.{Differ, Meet, granted_access, same_row, without}
 
@@ -28,8 +31,11 @@ use Rattle.mq_lint.specs.Needless.{Differ, Meet, granted_access, same_row, witho
 abbrev pub has_row : AclRow → List AclRow → Bool
 has_row row rows = list_any (λ r. same_row r row) rows
 
--- the user name that is asked about is one that a row names, and the row is one of the list
-pub record CanAsk (asked : AskedRows) (clients : Clients) (row : AclRow) : Type 0 where
+-- the rules are the list's, the user name that is asked about is one that a row names, and the row is
+-- one of the list
+pub record CanAsk (rules : Rules) (asked : AskedRows) (clients : Clients) (row : AclRow)
+    : Type 0 where
+  pub rules_are : rules ≡ asked.rules
   pub listed : name_passes (λ u. is_user_of u asked.rows) clients ≡ true
   pub inside : has_row row asked.rows ≡ true
 
@@ -38,7 +44,13 @@ pub record Finds (asked : AskedRows) (clients : Clients) (must cover : List AclR
   pub client : List ℕ
   pub user : Option (List ℕ)
   pub name : List ℕ
-  pub shown : IsShown asked clients must cover client user name
+  pub shown : IsShownBy asked clients must cover client user name
+
+-- of no client that is asked about does each first row concern a topic and no other
+abbrev pub FindsNone : AskedRows → Clients → (must cover : List AclRow) → Type 0
+FindsNone asked clients must cover = (client name : List ℕ) (user : Option (List ℕ))
+    → IsPoint asked clients client user name
+    → decides_by asked.rules client user name must cover ≡ false
 
 -- ---- the other rows
 -- the rows for all clients and those for these alone, but for those that say the same as this one
@@ -46,42 +58,78 @@ abbrev pub others_of : Clients → AclRow → List AclRow → List AclRow
 others_of clients row rows = without row (filter (λ r. is_everyones r.who) rows)
     ++ without row (filter (λ r. is_own clients r.who) rows)
 
--- it denies, or grants the direction
-abbrev pub judges : Direction → Access → Bool
-judges direction access = is_deny access || grants direction access
+-- it may decide about the direction, and does before rows of this rank
+abbrev pub is_before : Rules → Direction → ℕ → AclRow → Bool
+is_before rules direction place row = is_judge direction row && nat_lt (rank rules row) place
 
--- the rows of the list that deny
-abbrev pub denies_in : List AclRow → List AclRow
-denies_in rows = filter (λ r. is_deny r.access) rows
+-- it may decide about the direction, and is of this rank
+abbrev pub is_at : Rules → Direction → ℕ → AclRow → Bool
+is_at rules direction place row = is_judge direction row && (rank rules row == place)
+
+abbrev pub before : Rules → Direction → ℕ → List AclRow → List AclRow
+before rules direction place rows = filter (is_before rules direction place) rows
 
 -- ---- what the list allows without the row
 -- some client may do something else
 abbrev pub IsNeeded : AskedRows → AclRow → Type 0
-IsNeeded asked row = Differ asked.rows (without row asked.rows)
+IsNeeded asked row = Differ asked.rules asked.rows asked.rows (without row asked.rows)
 
 -- these clients may do the same, in this direction
 abbrev pub IsNeedlessIn : AskedRows → Clients → AclRow → Direction → Type 0
 IsNeedlessIn asked clients row direction = (client name : List ℕ) (user : Option (List ℕ))
     → IsPoint asked clients client user name
-    → allow_by Own asked.rows client user name direction
-    ≡ allow_by Own (without row asked.rows) client user name direction
+    → allow_by asked.rules asked.rows client user name direction
+    ≡ allow_by asked.rules (without row asked.rows) client user name direction
 
 -- these clients may do the same
 abbrev pub IsNeedlessTo : AskedRows → Clients → AclRow → Type 0
 IsNeedlessTo asked clients row = (direction : Direction) → IsNeedlessIn asked clients row direction
 
--- none of these that grants concerns a topic that the row does and no row of the cover, for a client
--- that is asked about
-abbrev pub NoneMeets : AskedRows → Clients → AclRow → (cover others : List AclRow) → Type 0
-NoneMeets asked clients row cover others =
-    All (λ r. is_deny r.access ≡ false → FindsNone asked clients (row ∷ (r ∷ [])) cover) others
+-- none of these that passes the test concerns a topic that the row does and no row of the cover, for
+-- a client that is asked about
+abbrev pub NoneMeets : AskedRows → Clients → AclRow → (AclRow → Bool) → (cover others : List AclRow)
+    → Type 0
+NoneMeets asked clients row test cover others =
+    All (λ r. test r ≡ true → FindsNone asked clients (row ∷ (r ∷ [])) cover) others
+
+-- where rows of this rank would decide, the row doesn't before they do
+abbrev pub NoneAt : AskedRows → Clients → AclRow → Direction → ℕ → Type 0
+NoneAt asked clients row direction place = NoneMeets asked clients row
+    (is_at asked.rules direction place)
+    (before asked.rules direction place (others_of clients row asked.rows))
+    (others_of clients row asked.rows)
+
+-- it does: before one of that rank, and where no row decides before that one
+pub record Precedes (asked : AskedRows) (clients : Clients) (row : AclRow) (direction : Direction)
+    (place : ℕ) : Type 0 where
+  pub other : AclRow
+  pub inside : Contains (others_of clients row asked.rows) other
+  pub is_of : is_at asked.rules direction place other ≡ true
+  pub finds : Finds asked clients (row ∷ (other ∷ []))
+      (before asked.rules direction place (others_of clients row asked.rows))
+
+-- the row grants, and concerns a topic about which no other decides
+pub record GrantsAlone (asked : AskedRows) (clients : Clients) (row : AclRow)
+    (direction : Direction) : Type 0 where
+  pub grants_it : is_deny row.access ≡ false
+  pub finds : Finds asked clients (row ∷ [])
+      (before asked.rules direction 4 (others_of clients row asked.rows))
+
+-- if it grants, another decides wherever it does
+abbrev pub GrantsNone : AskedRows → Clients → AclRow → Direction → Type 0
+GrantsNone asked clients row direction = is_deny row.access ≡ false → FindsNone asked clients
+    (row ∷ []) (before asked.rules direction 4 (others_of clients row asked.rows))
+
+-- it grants
+abbrev pub permits : AclRow → Bool
+permits row = not (is_deny row.access)
 
 -- a row that grants concerns a topic that this one does
-pub record MeetsGrant (rows : List AclRow) (row : AclRow) : Type 0 where
+pub record MeetsGrant (rules : Rules) (rows : List AclRow) (row : AclRow) : Type 0 where
   pub other : AclRow
   pub inside : Contains rows other
   pub grants_it : is_deny other.access ≡ false
-  pub meets : Meet row other
+  pub meets : Meet rules rows row other
 
 -- ---- the classes of a row
 -- each client that the row may concern is of one of these classes, and rows name their user names
@@ -91,8 +139,9 @@ pub record AreClasses (asked : AskedRows) (who : Who) (classes : List Clients) :
   pub listed : list_all (name_passes (λ u. is_user_of u asked.rows)) classes ≡ true
 
 -- ---- a list
-pub record IsLint (rows : List Row) (asked : AskedRows) (by_owner : ByOwner)
+pub record IsLint (rules : Rules) (rows : List Row) (asked : AskedRows) (by_owner : ByOwner)
     (classes : List Clients) : Type 0 where
+  pub rules_are : rules ≡ asked.rules
   pub rows_are : asked.rows ≡ row_views rows
   pub classes_are : AreClasses asked Everyone classes
   pub everyones_are : views_of (everyones by_owner) ≡ filter (λ r. is_everyones r.who) asked.rows
@@ -118,7 +167,7 @@ may_be_for None who = true
 may_be_for (Some clients) who = is_for clients who
 
 -- the other row concerns nothing that the row does, of which something concerns clients
-abbrev pub MissesRow : Option Clients → (row other : AclRow) → Type 0
-MissesRow None row other = ⊥
-MissesRow (Some clients) row other = (client name : List ℕ) (user : Option (List ℕ))
+abbrev pub MissesRow : Rules → Option Clients → (row other : AclRow) → Type 0
+MissesRow Own (Some clients) row other = (client name : List ℕ) (user : Option (List ℕ))
     → concerns client user name row ≡ true → concerns client user name other ≡ false
+MissesRow rules clients row other = ⊥

@@ -1,45 +1,52 @@
 -- Lines without which a list allows the same.
-use Rattle.std.specs.Prelude.{◌≡◌, ◌≢◌, ◌<◌, ℕ, Bool, true, false, List, [], ◌∷◌, ◌&&◌, not}
-use Rattle.std.specs.Prelude.{length, slice_index_or, take, find, Option, Some, None}
+use Rattle.std.specs.Prelude.{◌≡◌, ◌≢◌, ◌<◌, ℕ, Bool, true, false, List, [], ◌∷◌, ◌&&◌, ◌||◌, not}
+use Rattle.std.specs.Prelude.{length, slice_index_or, take, find, Option, Some, None, nat_lt}
+use Rattle.std.specs.Prelude.{if◌then◌else◌}
 use Rattle.std.specs.List.{filter, filter_map, zip}
 use Rattle.std.specs.Option.{option_map}
 use Rattle.std.specs.Str.{bytes_eq}
 use Rattle.mq_topic.specs.Texts.{is_name}
-use Rattle.mq_acl.specs.AccessLists.{allow_by}
-use Rattle.mq_acl.specs.declared.rules.Rules.TheVariants.{Own}
-use Rattle.mq_acl.specs.Access.{concerns, is_deny}
+use Rattle.mq_acl.specs.AccessLists.{allow_by, concerns_by}
+use Rattle.mq_acl.specs.declared.rules.Rules.{Rules}
+use Rattle.mq_acl.specs.Access.{is_deny}
 use Rattle.mq_acl.specs.Lines.{Access, Read, Write, ReadWrite, Deny}
 use Rattle.mq_acl.specs.Rows.{AclRow}
 use Rattle.mq_acl.specs.Views.{row_view, row_views}
 use Rattle.mq_acl.specs.declared.access.Direction.{Direction}
 use Rattle.mq_acl.specs.declared.row.Row.{Row}
 use Rattle.mq_witness.specs.Clients.{can_be_id}
+use Rattle.mq_witness.specs.Ruled.{are_asked_of}
 use Rattle.mq_findings.specs.Classes.{can_be_user}
 use Rattle.mq_findings.specs.Marks.{same_who}
+use Rattle.mq_findings.specs.Ranks.{rank}
 use Rattle.mq_lint.specs.declared.remark.Remark.{Remark}
 use Rattle.mq_lint.specs.declared.remark.RemarkKind.{RemarkKind}
 use Rattle.mq_lint.specs.declared.remark.RemarkKind.TheVariants.{Repeats, DeniesNothing}
 use Rattle.mq_lint.specs.declared.remark.RemarkKind.TheVariants.{Needless}
 
 -- ---- what lists allow
--- all clients that a broker can have may do the same by both
-abbrev pub AllowSame : List AclRow → List AclRow → Type 0
-AllowSame one other = (client name : List ℕ) (user : Option (List ℕ)) (direction : Direction)
-    → can_be_id client ≡ true → can_be_user user ≡ true → is_name name ≡ true
-    → allow_by Own one client user name direction
-    ≡ allow_by Own other client user name direction
+-- a client that a broker can have, and that is asked about where a list has these rows
+abbrev pub is_asked : Rules → (all : List AclRow) → List ℕ → Option (List ℕ) → Bool
+is_asked rules all client user =
+    can_be_id client && (can_be_user user && are_asked_of rules all client user)
+
+-- by these rules all clients that are asked about may do the same by both
+abbrev pub AllowSame : Rules → (all one other : List AclRow) → Type 0
+AllowSame rules all one other = (client name : List ℕ) (user : Option (List ℕ))
+    (direction : Direction) → is_asked rules all client user ≡ true → is_name name ≡ true
+    → allow_by rules one client user name direction
+    ≡ allow_by rules other client user name direction
 
 -- some client may do by the one list what it may not by the other
-pub record Differ (one other : List AclRow) : Type 0 where
+pub record Differ (rules : Rules) (all one other : List AclRow) : Type 0 where
   pub client : List ℕ
   pub user : Option (List ℕ)
   pub name : List ℕ
   pub direction : Direction
-  pub client_fits : can_be_id client ≡ true
-  pub user_fits : can_be_user user ≡ true
+  pub fits : is_asked rules all client user ≡ true
   pub valid : is_name name ≡ true
-  pub differs : allow_by Own one client user name direction
-      ≢ allow_by Own other client user name direction
+  pub differs : allow_by rules one client user name direction
+      ≢ allow_by rules other client user name direction
 
 -- ---- rows that are the same
 abbrev pub same_access : Access → Access → Bool
@@ -64,23 +71,22 @@ abbrev pub without : AclRow → List AclRow → List AclRow
 without row rows = filter (λ other. not (same_row other row)) rows
 
 -- ---- rows that meet
--- of a client that a broker can have, both concern a topic
-pub record Meet (one other : AclRow) : Type 0 where
+-- of a client that is asked about, both concern a topic
+pub record Meet (rules : Rules) (all : List AclRow) (one other : AclRow) : Type 0 where
   pub client : List ℕ
   pub user : Option (List ℕ)
   pub name : List ℕ
-  pub client_fits : can_be_id client ≡ true
-  pub user_fits : can_be_user user ≡ true
+  pub fits : is_asked rules all client user ≡ true
   pub valid : is_name name ≡ true
-  pub first : concerns client user name one ≡ true
-  pub second : concerns client user name other ≡ true
+  pub first : concerns_by rules client user name one ≡ true
+  pub second : concerns_by rules client user name other ≡ true
 
 -- it denies, and no row that grants concerns what it concerns
-pub record DeniesNone (rows : List Row) (row : AclRow) : Type 0 where
+pub record DeniesNone (rules : Rules) (rows : List Row) (row : AclRow) : Type 0 where
   pub denies : is_deny row.access ≡ true
   pub meets_none : (place : ℕ) (d : Row) → place < length rows
       → is_deny (row_view (slice_index_or rows place d)).access ≡ false
-      → Meet row (row_view (slice_index_or rows place d)) → ⊥
+      → Meet rules (row_views rows) row (row_view (slice_index_or rows place d)) → ⊥
 
 -- ---- what makes a row needless
 abbrev pub granted_access : Access → Access
@@ -91,59 +97,70 @@ granted_access access = access
 abbrev pub as_grant : AclRow → AclRow
 as_grant row = record { who = row.who; access = granted_access row.access; filter = row.filter }
 
--- the other row makes this one needless: it denies, or both grant; and of the two alone, a row that
--- denies taken for one that grants, the one without this row allows the same
-pub record MakesNeedless (other row : AclRow) : Type 0 where
-  pub kind : (is_deny row.access && not (is_deny other.access)) ≡ false
-  pub same : AllowSame (as_grant row ∷ (as_grant other ∷ [])) (as_grant other ∷ [])
+-- both deny, or both grant
+abbrev pub says_as : (other row : AclRow) → Bool
+says_as other row =
+    if is_deny row.access then is_deny other.access else not (is_deny other.access)
+
+-- the other row says the same, or decides before this one
+abbrev pub may_make : Rules → (other row : AclRow) → Bool
+may_make rules other row = says_as other row || nat_lt (rank rules other) (rank rules row)
+
+-- the other row makes this one needless: it may, and of the two alone, a row that denies taken for
+-- one that grants, the one without this row allows the same
+pub record MakesNeedless (rules : Rules) (all : List AclRow) (other row : AclRow) : Type 0 where
+  pub kind : may_make rules other row ≡ true
+  pub same : AllowSame rules all (as_grant row ∷ (as_grant other ∷ [])) (as_grant other ∷ [])
 
 -- another row, which doesn't repeat it, makes it needless
-pub record IsMaker (rows : List Row) (row : AclRow) (place line : ℕ) : Type 0 where
+pub record IsMaker (rules : Rules) (rows : List Row) (row : AclRow) (place line : ℕ) : Type 0 where
   pub other : Row
   pub in_range : place < length rows
   pub is : other ≡ slice_index_or rows place other
   pub line_is : line ≡ other.line
   pub elsewhere : same_row (row_view other) row ≡ false
-  pub makes : MakesNeedless (row_view other) row
+  pub makes : MakesNeedless rules (row_views rows) (row_view other) row
 
 -- none of the rows before this place does
-abbrev pub MakesNone : List Row → AclRow → ℕ → Type 0
-MakesNone rows row n = (place : ℕ) (d : Row) → place < n → place < length rows
+abbrev pub MakesNone : Rules → List Row → AclRow → ℕ → Type 0
+MakesNone rules rows row n = (place : ℕ) (d : Row) → place < n → place < length rows
     → same_row (row_view (slice_index_or rows place d)) row ≡ false
-    → MakesNeedless (row_view (slice_index_or rows place d)) row → ⊥
+    → MakesNeedless rules (row_views rows) (row_view (slice_index_or rows place d)) row → ⊥
 
 -- the first row that does
-pub record IsFirstMaker (rows : List Row) (row : AclRow) (line : ℕ) : Type 0 where
+pub record IsFirstMaker (rules : Rules) (rows : List Row) (row : AclRow) (line : ℕ) : Type 0 where
   pub place : ℕ
-  pub maker : IsMaker rows row place line
-  pub first : MakesNone rows row place
+  pub maker : IsMaker rules rows row place line
+  pub first : MakesNone rules rows row place
 
-abbrev pub IsBy : List Row → AclRow → Option ℕ → Type 0
-IsBy rows row (Some line) = IsFirstMaker rows row line
-IsBy rows row None = MakesNone rows row (length rows)
+abbrev pub IsBy : Rules → List Row → AclRow → Option ℕ → Type 0
+IsBy rules rows row (Some line) = IsFirstMaker rules rows row line
+IsBy rules rows row None = MakesNone rules rows row (length rows)
 
 -- ---- what is told
 -- the list without the row, and those that repeat it, allows the same; this makes it so
-pub record IsNeedless (rows : List Row) (row : AclRow) (by : Option ℕ) : Type 0 where
-  pub denies_some : DeniesNone rows row → ⊥
-  pub same : AllowSame (row_views rows) (without row (row_views rows))
-  pub makes : IsBy rows row by
+pub record IsNeedless (rules : Rules) (rows : List Row) (row : AclRow) (by : Option ℕ)
+    : Type 0 where
+  pub denies_some : DeniesNone rules rows row → ⊥
+  pub same : AllowSame rules (row_views rows) (row_views rows) (without row (row_views rows))
+  pub makes : IsBy rules rows row by
 
 -- this is told of the row at the place, where it doesn't repeat another
-abbrev pub IsKindAlone : List Row → AclRow → Option RemarkKind → Type 0
-IsKindAlone rows row (Some DeniesNothing) = DeniesNone rows row
-IsKindAlone rows row (Some (Needless by)) = IsNeedless rows row by
-IsKindAlone rows row (Some kind) = ⊥
-IsKindAlone rows row None = Differ (row_views rows) (without row (row_views rows))
+abbrev pub IsKindAlone : Rules → List Row → AclRow → Option RemarkKind → Type 0
+IsKindAlone rules rows row (Some DeniesNothing) = DeniesNone rules rows row
+IsKindAlone rules rows row (Some (Needless by)) = IsNeedless rules rows row by
+IsKindAlone rules rows row (Some kind) = ⊥
+IsKindAlone rules rows row None =
+    Differ rules (row_views rows) (row_views rows) (without row (row_views rows))
 
-abbrev pub IsKindUnless : List Row → AclRow → Option ℕ → Option RemarkKind → Type 0
-IsKindUnless rows row (Some line) kind = kind ≡ Some (Repeats line)
-IsKindUnless rows row None kind = IsKindAlone rows row kind
+abbrev pub IsKindUnless : Rules → List Row → AclRow → Option ℕ → Option RemarkKind → Type 0
+IsKindUnless rules rows row (Some line) kind = kind ≡ Some (Repeats line)
+IsKindUnless rules rows row None kind = IsKindAlone rules rows row kind
 
 -- this is told of the row at the place
-abbrev pub IsKind : List Row → ℕ → Row → Option RemarkKind → Type 0
-IsKind rows place row kind =
-    IsKindUnless rows (row_view row) (repeated rows place (row_view row)) kind
+abbrev pub IsKind : Rules → List Row → ℕ → Row → Option RemarkKind → Type 0
+IsKind rules rows place row kind =
+    IsKindUnless rules rows (row_view row) (repeated rows place (row_view row)) kind
 
 -- the remarks on the rows of which something is told, in their order
 abbrev pub remarks_of_kinds : List Row → List (Option RemarkKind) → List Remark
@@ -152,9 +169,9 @@ remarks_of_kinds rows kinds =
     (zip rows kinds)
 
 -- of each row what is told is so, and each of which nothing is told is needed
-pub record AreNeedless (rows : List Row) (told : List Remark) : Type 0 where
+pub record AreNeedless (rules : Rules) (rows : List Row) (told : List Remark) : Type 0 where
   pub kinds : List (Option RemarkKind)
   pub all : length kinds ≡ length rows
   pub each : (place : ℕ) (row : Row) (kind : Option RemarkKind) → place < length rows
-      → IsKind rows place (slice_index_or rows place row) (slice_index_or kinds place kind)
+      → IsKind rules rows place (slice_index_or rows place row) (slice_index_or kinds place kind)
   pub remarks : told ≡ remarks_of_kinds rows kinds

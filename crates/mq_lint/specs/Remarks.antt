@@ -1,24 +1,24 @@
 -- What is odd about the lines of an access list.
 use Rattle.std.specs.Prelude.{ℕ, Bool, true, false, List, [], ◌∷◌, ◌++◌, ◌||◌, ◌&&◌, not, codes}
 use Rattle.std.specs.Prelude.{Option, Some, None, Result, Ok, Err}
-use Rattle.std.specs.List.{list_any, flat_map, filter_map, enumerate_from}
-use Rattle.std.specs.Str.{bytes_eq}
-use Rattle.mq_topic.specs.Levels.{levels}
-use Rattle.mq_acl.specs.Lines.{Entry, Pattern, entry_of, lines}
+use Rattle.std.specs.List.{flat_map, filter_map, enumerate_from}
+use Rattle.mq_acl.specs.Lines.{Entry, Pattern, lines}
 use Rattle.mq_acl.specs.RowsByOwner.{is_everyones}
-use Rattle.mq_acl.specs.Rows.{AclRow}
+use Rattle.mq_acl.specs.Rows.{AclRow, entry_by}
+use Rattle.mq_acl.specs.Words.{occurs_in}
 use Rattle.mq_acl.specs.declared.fault.AclKind.{AclKind}
 use Rattle.mq_acl.specs.declared.fault.AclFault.{AclFault}
+use Rattle.mq_acl.specs.declared.rules.Rules.{Rules}
+use Rattle.mq_acl.specs.declared.rules.Rules.TheVariants.{Own, Mosquitto}
 use Rattle.mq_lint.specs.Blanks.{is_indented_comment, is_tabbed}
 use Rattle.mq_lint.specs.declared.remark.Remark.{Remark}
 use Rattle.mq_lint.specs.declared.remark.RemarkKind.{RemarkKind}
 use Rattle.mq_lint.specs.declared.remark.RemarkKind.TheVariants.{Fault, NoMark, IndentedComment}
 use Rattle.mq_lint.specs.declared.remark.RemarkKind.TheVariants.{Tab}
 
--- `%c` or `%u` is a level of the topic
+-- `%c` or `%u` stands in the topic
 abbrev pub has_mark : List ℕ → Bool
-has_mark topic = list_any (λ level. bytes_eq level (codes "%c") || bytes_eq level (codes "%u"))
-    (levels topic)
+has_mark topic = occurs_in (codes "%c") topic || occurs_in (codes "%u") topic
 
 abbrev pub kind_if : Bool → RemarkKind → Option RemarkKind
 kind_if true kind = Some kind
@@ -34,21 +34,26 @@ abbrev pub remark_on : ℕ → Option RemarkKind → List Remark
 remark_on number None = []
 remark_on number (Some kind) = record { line = number; kind = kind } ∷ []
 
+-- what mosquitto reads otherwise is odd by our own rules alone
+abbrev pub is_odd_by : Rules → Bool → Bool
+is_odd_by Own odd = odd
+is_odd_by Mosquitto odd = false
+
 -- all that is odd about a line
-abbrev pub line_remarks : ℕ → List ℕ → List Remark
-line_remarks number line =
-    remark_on number (entry_kind (entry_of line))
-    ++ remark_on number (kind_if (is_indented_comment line) IndentedComment)
-    ++ remark_on number (kind_if (is_tabbed line) Tab)
+abbrev pub line_remarks : Rules → ℕ → List ℕ → List Remark
+line_remarks rules number line =
+    remark_on number (entry_kind (entry_by rules line))
+    ++ remark_on number (kind_if (is_odd_by rules (is_indented_comment line)) IndentedComment)
+    ++ remark_on number (kind_if (is_odd_by rules (is_tabbed line)) Tab)
 
 -- all that is odd about the lines, which are counted from this number
-abbrev pub remarks_from : ℕ → List (List ℕ) → List Remark
-remarks_from number all = flat_map (λ numbered. line_remarks numbered.0 numbered.1)
+abbrev pub remarks_from : Rules → ℕ → List (List ℕ) → List Remark
+remarks_from rules number all = flat_map (λ numbered. line_remarks rules numbered.0 numbered.1)
     (enumerate_from number all)
 
 -- all that is odd about the lines of the text
-abbrev pub remarks_of : List ℕ → List Remark
-remarks_of text = remarks_from 1 (lines text)
+abbrev pub remarks_of : Rules → List ℕ → List Remark
+remarks_of rules text = remarks_from rules 1 (lines text)
 
 abbrev pub fault_by : ℕ → RemarkKind → Option AclFault
 fault_by line (Fault kind) = Some (record { line = line; kind = kind })

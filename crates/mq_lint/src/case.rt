@@ -2,23 +2,24 @@
 ghost use Rattle.std.specs.Prelude.{◌≡◌, ◌∷◌, ◌++◌, [], IfOk, IfErr, OnOk, true, false, All};
 ghost use Rattle.std.specs.Prelude.{Contains};
 ghost use Rattle.std.specs.List.{filter};
-ghost use Rattle.mq_acl.specs.Access.{is_deny};
-ghost use Rattle.mq_acl.specs.Views.{access_view, row_view};
-ghost use Rattle.mq_acl.specs.declared.access.Direction.{Direction};
-ghost use Rattle.mq_witness.specs.Asked.{FindsNone};
+ghost use Rattle.mq_acl.specs.Views.{row_view};
 ghost use Rattle.mq_witness.specs.Rows.{lent_rows};
 ghost use Rattle.mq_findings.specs.Marks.{views_of};
 ghost use Rattle.mq_lint.specs.Needless.{without};
-ghost use Rattle.mq_lint.specs.Cases.{Finds, IsNeeded, IsNeedlessIn, IsNeedlessTo, MeetsGrant};
-ghost use Rattle.mq_lint.specs.Cases.{NoneMeets, judges, others_of};
+ghost use Rattle.mq_lint.specs.Cases.{Finds, FindsNone, GrantsAlone, GrantsNone, IsNeeded};
+ghost use Rattle.mq_lint.specs.Cases.{IsNeedlessIn, IsNeedlessTo, MeetsGrant, NoneAt, NoneMeets};
+ghost use Rattle.mq_lint.specs.Cases.{Precedes, is_at, is_before, others_of, permits};
 
 use crate::fault::NeedlessFault;
 use crate::question::Question;
 use crate::same::same_row;
 use crate::steps::Steps;
-use mq_acl::{Direction, Row, grants, is_deny};
-use mq_findings::Marked;
+use mq_acl::{Direction, Row, Rules, is_deny};
+use mq_findings::{Marked, is_judge, rank};
 use std::alloc::{AllocError, Global};
+
+// Ranks are below it.
+const RANKS: u8 = 4;
 
 /// A row of a list, clients of one class, and the other rows for these clients.
 pub(crate) struct Case<'q, 'a> {
@@ -57,111 +58,145 @@ pub(crate) fn add_others<'a>(
     Ok(())
 }
 
-// Those of the rows that deny.
-fn denies_of<'a>(alloc: Global, rows: &[&'a Row]) -> Result<Vec<&'a Row>, AllocError>
-    ensures { IfOk result (λ denies. denies.items
-        ≡ filter (λ r. is_deny (row_view r.now).access) rows.now) }
+// Those of the rows that may decide about the direction, and do before rows of this rank.
+fn before<'a>(
+    alloc: Global,
+    rules: Rules,
+    rows: &[&'a Row],
+    direction: Direction,
+    place: u8,
+) -> Result<Vec<&'a Row>, AllocError>
+    ensures { IfOk result (λ all. all.items
+        ≡ filter (λ r. is_before rules direction place (row_view r.now)) rows.now) }
 {
     rows.iter()
         .copied()
-        .filter(|row| is_deny(row.access))
+        .filter(|row| is_judge(direction, row) && rank(rules, row) < place)
         .collect(alloc)
 }
 
-// Those of the rows that decide about the direction.
-fn judges_of<'a>(
-    alloc: Global,
-    rows: &[&'a Row],
-    direction: Direction,
-) -> Result<Vec<&'a Row>, AllocError>
-    ensures { IfOk result (λ all. all.items
-        ≡ filter (λ r. judges direction (row_view r.now).access) rows.now) }
+fn is_at(rules: Rules, direction: Direction, place: u8, row: &Row) -> bool
+    ensures { result ≡ is_at rules direction place (row_view row.now) }
 {
-    rows.iter()
-        .copied()
-        .filter(|row| is_deny(row.access) || grants(direction, row.access))
-        .collect(alloc)
+    is_judge(direction, row) && rank(rules, row) == place
 }
 
 impl<'q, 'a> Case<'q, 'a> {
     ghost use Rattle.mq_lint.specs.NeedlessFault.{IsStop};
 
-    // Whether these clients may do something by the row alone, in this direction: where it grants, and no other row
-    // denies or grants it.
-    fn grants_more(
-        &self,
-        alloc: Global,
-        steps: &mut Steps,
-        direction: Direction,
-    ) -> Result<bool, NeedlessFault>
-        requires { is_deny (access_view self.now.question.row.now.access) ≡ false }
-        ensures needed { IfOk result (λ more. more ≡ true → IsNeeded
-            self.now.question.asked.now (row_view self.now.question.row.now)) }
-        ensures needless { IfOk result (λ more. more ≡ false → IsNeedlessIn
-            self.now.question.asked.now self.now.question.clients
-            (row_view self.now.question.row.now) direction) }
-        ensures fault { IfErr result (IsStop self.now.question.row.now.line
-            self.now.question.limited) }
-    {
-        if !grants(direction, self.question.row.access) {
-            return Ok(false);
-        }
-        let cover = judges_of(alloc, &self.others, direction)?;
-        let more = self.question.stands_out(alloc, steps, &cover)?;
-        Ok(more)
-    }
-
-    // Whether the row alone denies these clients something that this other row grants.
-    fn denies_grant(
+    // Whether the row and this other one concern a topic that none of the cover does.
+    fn meets(
         &self,
         alloc: Global,
         steps: &mut Steps,
         other: &Row,
-        denies: &[&Row],
+        cover: &[&Row],
     ) -> Result<bool, NeedlessFault>
         requires other { Contains self.now.question.asked.now.rows (row_view other.now) }
-        requires denies { All (Contains self.now.question.asked.now.rows) (lent_rows denies.now) }
+        requires cover { All (Contains self.now.question.asked.now.rows) (lent_rows cover.now) }
         ensures found { IfOk result (λ met. met ≡ true → Finds self.now.question.asked.now
             self.now.question.clients
             (row_view self.now.question.row.now ∷ (row_view other.now ∷ []))
-            (lent_rows denies.entry.now)) }
+            (lent_rows cover.entry.now)) }
         ensures none { IfOk result (λ met. met ≡ false → FindsNone self.now.question.asked.now
             self.now.question.clients
             (row_view self.now.question.row.now ∷ (row_view other.now ∷ []))
-            (lent_rows denies.entry.now)) }
+            (lent_rows cover.entry.now)) }
         ensures fault { IfErr result (IsStop self.now.question.row.now.line
             self.now.question.limited) }
     {
         if !self
             .question
-            .stands_out_with(alloc, steps, other, &denies[..0])?
+            .stands_out_with(alloc, steps, other, &cover[..0])?
         {
             return Ok(false);
         }
-        self.question.stands_out_with(alloc, steps, other, denies)
+        self.question.stands_out_with(alloc, steps, other, cover)
     }
 
-    // Whether the row alone denies these clients something that another row grants.
-    fn denies_more(&self, alloc: Global, steps: &mut Steps) -> Result<bool, NeedlessFault>
-        requires { is_deny (access_view self.now.question.row.now.access) ≡ true }
-        ensures needed { IfOk result (λ more. more ≡ true → IsNeeded
-            self.now.question.asked.now (row_view self.now.question.row.now)) }
-        ensures needless { IfOk result (λ more. more ≡ false → IsNeedlessTo
+    // Whether the row decides about the direction where else one of this rank would.
+    fn precedes(
+        &self,
+        alloc: Global,
+        steps: &mut Steps,
+        direction: Direction,
+        place: u8,
+    ) -> Result<bool, NeedlessFault>
+        ensures some { IfOk result (λ found. found ≡ true → Precedes
             self.now.question.asked.now self.now.question.clients
-            (row_view self.now.question.row.now)) }
+            (row_view self.now.question.row.now) direction place) }
+        ensures none { IfOk result (λ found. found ≡ false → NoneAt
+            self.now.question.asked.now self.now.question.clients
+            (row_view self.now.question.row.now) direction place) }
         ensures fault { IfErr result (IsStop self.now.question.row.now.line
             self.now.question.limited) }
     {
-        let denies = denies_of(alloc, &self.others)?;
+        let rules = self.question.rules;
+        let cover = before(alloc, rules, &self.others, direction, place)?;
         for other in &self.others {
-            if is_deny(other.access) {
+            if !is_at(rules, direction, place, other) {
                 continue;
             }
-            if self.denies_grant(alloc, steps, other, &denies)? {
+            if self.meets(alloc, steps, other, &cover)? {
                 return Ok(true);
             }
         }
         Ok(false)
+    }
+
+    // Whether the row grants something about which no other decides.
+    fn grants_alone(
+        &self,
+        alloc: Global,
+        steps: &mut Steps,
+        direction: Direction,
+    ) -> Result<bool, NeedlessFault>
+        ensures some { IfOk result (λ alone. alone ≡ true → GrantsAlone
+            self.now.question.asked.now self.now.question.clients
+            (row_view self.now.question.row.now) direction) }
+        ensures none { IfOk result (λ alone. alone ≡ false → GrantsNone
+            self.now.question.asked.now self.now.question.clients
+            (row_view self.now.question.row.now) direction) }
+        ensures fault { IfErr result (IsStop self.now.question.row.now.line
+            self.now.question.limited) }
+    {
+        if is_deny(self.question.row.access) {
+            return Ok(false);
+        }
+        let cover = before(alloc, self.question.rules, &self.others, direction, RANKS)?;
+        let alone = self.question.stands_out(alloc, steps, &cover)?;
+        Ok(alone)
+    }
+
+    // Whether the list without the row allows these clients something else in this direction: what no other row decides, or
+    // one that comes behind it and says the opposite.
+    fn is_needed_in(
+        &self,
+        alloc: Global,
+        steps: &mut Steps,
+        direction: Direction,
+    ) -> Result<bool, NeedlessFault>
+        ensures needed { IfOk result (λ needed. needed ≡ true → IsNeeded
+            self.now.question.asked.now (row_view self.now.question.row.now)) }
+        ensures needless { IfOk result (λ needed. needed ≡ false → IsNeedlessIn
+            self.now.question.asked.now self.now.question.clients
+            (row_view self.now.question.row.now) direction) }
+        ensures fault { IfErr result (IsStop self.now.question.row.now.line
+            self.now.question.limited) }
+    {
+        let row = self.question.row;
+        if !is_judge(direction, row) {
+            return Ok(false);
+        }
+        if self.grants_alone(alloc, steps, direction)? {
+            return Ok(true);
+        }
+        let place = rank(self.question.rules, row);
+        if self.precedes(alloc, steps, direction, place + 1)? {
+            return Ok(true);
+        }
+        let before_last = self.precedes(alloc, steps, direction, place + 3)?;
+        Ok(before_last)
     }
 
     /// Whether the list without the row allows these clients something else.
@@ -174,14 +209,11 @@ impl<'q, 'a> Case<'q, 'a> {
         ensures fault { IfErr result (IsStop self.now.question.row.now.line
             self.now.question.limited) }
     {
-        if is_deny(self.question.row.access) {
-            return self.denies_more(alloc, steps);
-        }
-        if self.grants_more(alloc, steps, Direction::Reading)? {
+        if self.is_needed_in(alloc, steps, Direction::Reading)? {
             return Ok(true);
         }
-        let more = self.grants_more(alloc, steps, Direction::Writing)?;
-        Ok(more)
+        let needed = self.is_needed_in(alloc, steps, Direction::Writing)?;
+        Ok(needed)
     }
 
     /// Whether a row grants these clients something that this one concerns.
@@ -190,10 +222,10 @@ impl<'q, 'a> Case<'q, 'a> {
         alloc: Global,
         steps: &mut Steps,
     ) -> Result<bool, NeedlessFault>
-        ensures some { IfOk result (λ met. met ≡ true → MeetsGrant
+        ensures some { IfOk result (λ met. met ≡ true → MeetsGrant self.now.question.asked.now.rules
             self.now.question.asked.now.rows (row_view self.now.question.row.now)) }
         ensures none { IfOk result (λ met. met ≡ false → NoneMeets self.now.question.asked.now
-            self.now.question.clients (row_view self.now.question.row.now) []
+            self.now.question.clients (row_view self.now.question.row.now) permits []
             (lent_rows self.now.others.items)) }
         ensures fault { IfErr result (IsStop self.now.question.row.now.line
             self.now.question.limited) }

@@ -1,27 +1,18 @@
 //! What is odd about the lines of an access list.
 ghost use Rattle.std.specs.Prelude.{◌≡◌, ◌++◌, ◌∷◌, [], ◌&&◌, ◌||◌, List, IfOk, OnOk, not, codes};
 ghost use Rattle.std.specs.List.{list_any};
-ghost use Rattle.std.specs.Str.{bytes_eq};
-ghost use Rattle.mq_topic.specs.Levels.{levels};
-ghost use Rattle.mq_acl.specs.Lines.{lines, entry_of};
-ghost use Rattle.mq_acl.specs.Rows.{faults_of};
+ghost use Rattle.mq_acl.specs.Lines.{lines};
+ghost use Rattle.mq_acl.specs.Rows.{entry_by, faults_by};
 ghost use Rattle.mq_acl.specs.Views.{row_view};
 ghost use Rattle.mq_lint.specs.Blanks.{is_indented_comment, is_tabbed};
-ghost use Rattle.mq_lint.specs.Remarks.{has_mark, is_unmarked, entry_kind, kind_if, remark_on};
+ghost use Rattle.mq_lint.specs.Remarks.{is_odd_by, is_unmarked, entry_kind, kind_if, remark_on};
 ghost use Rattle.mq_lint.specs.Remarks.{line_remarks, remarks_of, faults_told};
 
 use crate::blanks::{is_indented_comment, is_tabbed};
 use crate::remark::{Remark, RemarkKind};
-use mq_acl::{AclKind, Owner, Row, read_rows};
+use mq_acl::{AclKind, Owner, Row, Rules, has_mark, read_rows_by};
 use mq_topic::LevelText;
 use std::alloc::{AllocError, Global};
-
-// Whether `%c` or `%u` is a level of the topic.
-fn has_mark(topic: &str) -> bool
-    ensures { result ≡ has_mark topic.now }
-{
-    topic.split('/').any(|level| level == "%c" || level == "%u")
-}
 
 // Whether it is the row of a `pattern` line without a mark.
 fn is_unmarked(row: &Row) -> bool
@@ -43,11 +34,11 @@ fn kind_if(holds: bool, kind: RemarkKind) -> Option<RemarkKind>
 }
 
 // What is odd about what the line says.
-fn entry_kind(alloc: Global, line: &str) -> Result<Option<RemarkKind>, AllocError>
+fn entry_kind(alloc: Global, rules: Rules, line: &str) -> Result<Option<RemarkKind>, AllocError>
     requires { lines line.now ≡ line.now ∷ [] }
-    ensures { IfOk result (λ kind. kind ≡ entry_kind (entry_of line.now)) }
+    ensures { IfOk result (λ kind. kind ≡ entry_kind (entry_by rules line.now)) }
 {
-    match read_rows(alloc, line) {
+    match read_rows_by(alloc, rules, line) {
         Ok(rows) => Ok(kind_if(has_unmarked(&rows), RemarkKind::NoMark)),
         Err(fault) => match fault.kind {
             AclKind::Memory => Err(AllocError),
@@ -66,37 +57,52 @@ fn add(remarks: &mut Vec<Remark>, line: u64, kind: Option<RemarkKind>) -> Result
     Ok(())
 }
 
+// Whether it is odd that mosquitto reads a line otherwise: by its own rules it doesn't.
+fn is_odd_by(rules: Rules, odd: bool) -> bool
+    ensures { result ≡ is_odd_by rules odd }
+{
+    match rules {
+        Rules::Own => odd,
+        Rules::Mosquitto => false,
+    }
+}
+
 // Adds what is odd about the line.
 fn add_line(
     alloc: Global,
+    rules: Rules,
     remarks: &mut Vec<Remark>,
     line: &str,
     number: u64,
 ) -> Result<(), AllocError>
     requires { lines line.now ≡ line.now ∷ [] }
-    ensures { OnOk result (remarks.new.items ≡ remarks.old.items ++ line_remarks number line.now) }
+    ensures { OnOk result (remarks.new.items ≡ remarks.old.items ++ line_remarks rules number line.now) }
 {
     let bytes = line.as_bytes();
-    let entry = entry_kind(alloc, line)?;
-    let comment = kind_if(is_indented_comment(bytes), RemarkKind::IndentedComment);
-    let tab = kind_if(is_tabbed(bytes), RemarkKind::Tab);
+    let entry = entry_kind(alloc, rules, line)?;
+    let comment = kind_if(
+        is_odd_by(rules, is_indented_comment(bytes)),
+        RemarkKind::IndentedComment,
+    );
+    let tab = kind_if(is_odd_by(rules, is_tabbed(bytes)), RemarkKind::Tab);
     add(remarks, number, entry)?;
     add(remarks, number, comment)?;
     add(remarks, number, tab)
 }
 
-/// What is odd about the lines of the access list with this text, in their order: each fault, and not the first alone;
-/// `pattern` lines without a mark; and what mosquitto 2.0 reads otherwise, or doesn't start with.
-pub fn remarks(alloc: Global, text: &str) -> Result<Vec<Remark>, AllocError>
-    ensures all { IfOk result (λ remarks. remarks.items ≡ remarks_of text.now) }
+/// What is odd about the lines of the access list with this text, read by these rules, in their order: each fault, and not
+/// the first alone; `pattern` lines without a mark; and, by our own rules, what mosquitto 2.0 reads otherwise, or doesn't
+/// start with.
+pub fn remarks(alloc: Global, rules: Rules, text: &str) -> Result<Vec<Remark>, AllocError>
+    ensures all { IfOk result (λ remarks. remarks.items ≡ remarks_of rules text.now) }
     ensures faults { IfOk result (λ remarks. faults_told remarks.items
-        ≡ faults_of (lines text.now)) }
+        ≡ faults_by rules (lines text.now)) }
 {
     let mut remarks = Vec::new(alloc);
     let mut number = 0u64;
     for line in text.split('\n') {
         number += 1;
-        add_line(alloc, &mut remarks, line, number)?;
+        add_line(alloc, rules, &mut remarks, line, number)?;
     }
     Ok(remarks)
 }

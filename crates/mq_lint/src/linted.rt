@@ -9,13 +9,14 @@ ghost use Rattle.mq_lint.specs.Cases.{AreClasses, IsLint, has_row};
 use crate::case::{Case, add_others};
 use crate::fault::NeedlessFault;
 use crate::question::Question;
-use mq_acl::{Owner, Row};
+use mq_acl::{Owner, Row, Rules};
 use mq_findings::{ByOwner, enough_steps};
 use mq_witness::{Asked, Clients, ListFault};
 use std::alloc::{AllocError, Global};
 
 /// A list that is asked which of its rows are needless.
 pub(crate) struct Lint<'a> {
+    pub rules: Rules,
     pub rows: &'a [Row],
     asked: Asked<'a>,
     by_owner: ByOwner<'a>,
@@ -23,13 +24,14 @@ pub(crate) struct Lint<'a> {
     classes: Vec<Clients<'a>>,
     /// Whether the steps are.
     pub limited: bool,
-    ghost is_lint: { IsLint rows.now asked by_owner classes.items },
+    ghost is_lint: { IsLint rules rows.now asked by_owner classes.items },
 }
 
 // One step where it is dropped, and not one for each thing inside.
 impl Drop for Lint<'_> {
     fn drop(self) {
         let Lint {
+            rules: _,
             rows: _,
             asked: _,
             by_owner: _,
@@ -61,21 +63,30 @@ impl<'a> Lint<'a> {
     ghost use Rattle.mq_findings.specs.Steps.{enough_steps};
     ghost use Rattle.mq_lint.specs.NeedlessFault.{IsNeedlessFault};
 
-    /// A list. One with a level or a user name of more than 300 bytes is told by its line.
-    pub(crate) fn of(alloc: Global, rows: &'a [Row], steps: u64) -> Result<Lint<'a>, NeedlessFault>
+    /// A list. One with a level or a user name of more than 300 bytes is told by its line; by mosquitto's rules so is one
+    /// with a mark that is a part of a level.
+    pub(crate) fn of(
+        alloc: Global,
+        rules: Rules,
+        rows: &'a [Row],
+        steps: u64,
+    ) -> Result<Lint<'a>, NeedlessFault>
+        ensures rules { IfOk result (λ lint. lint.rules ≡ rules) }
         ensures rows { IfOk result (λ lint. lint.rows.now ≡ rows.entry.now) }
         ensures limited { IfOk result (λ lint. lint.limited ≡ true
             → steps < enough_steps (length rows.entry.now)) }
-        ensures fault { IfErr result (IsNeedlessFault rows.entry.now steps) }
+        ensures fault { IfErr result (IsNeedlessFault rules rows.entry.now steps) }
     {
-        let asked = match Asked::of(alloc, one_list(alloc, rows)?) {
+        let asked = match Asked::of(alloc, rules, one_list(alloc, rows)?) {
             Ok(asked) => asked,
             Err(ListFault::Memory) => return Err(NeedlessFault::Memory),
             Err(ListFault::Line(_, line)) => return Err(NeedlessFault::Line(line)),
+            Err(ListFault::Mark(_, line)) => return Err(NeedlessFault::Mark(line)),
         };
         let classes = all_classes(alloc, &asked.users(alloc)?)?;
         let by_owner = ByOwner::of_list(alloc, rows)?;
         Ok(Lint {
+            rules,
             rows,
             asked,
             by_owner,
@@ -111,6 +122,7 @@ impl<'a> Lint<'a> {
         ensures limited { result.limited ≡ self.entry.now.limited }
     {
         Question {
+            rules: self.rules,
             asked: &self.asked,
             clients,
             row,

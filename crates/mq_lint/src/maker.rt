@@ -6,7 +6,7 @@ ghost use Rattle.mq_acl.specs.Access.{is_deny, grants};
 ghost use Rattle.mq_acl.specs.Views.{access_view, owner_view, row_view};
 ghost use Rattle.mq_witness.specs.Rows.{lent_rows};
 ghost use Rattle.mq_findings.specs.ByOwner.{is_for};
-ghost use Rattle.mq_lint.specs.Needless.{IsBy, MakesNeedless, granted_access};
+ghost use Rattle.mq_lint.specs.Needless.{IsBy, MakesNeedless, granted_access, may_make};
 ghost use Rattle.mq_lint.specs.NeedlessFault.{IsStop};
 ghost use Rattle.mq_lint.specs.Cases.{Finds, covers_access, grants_as_much, has_row, maker_cover};
 ghost use Rattle.mq_lint.specs.Cases.{MissesRow, may_be_for};
@@ -15,7 +15,8 @@ use crate::fault::NeedlessFault;
 use crate::linted::Lint;
 use crate::same::same_row;
 use crate::steps::Steps;
-use mq_acl::{Access, Direction, Owner, Row, grants, is_deny};
+use mq_acl::{Access, Direction, Owner, Row, Rules, grants, is_deny};
+use mq_findings::rank;
 use mq_witness::{Clients, may_overlap};
 use std::alloc::{AllocError, Global};
 
@@ -53,11 +54,12 @@ fn cover_of<'r>(alloc: Global, row: &Row, other: &'r Row) -> Result<Vec<&'r Row>
     Ok(vec![in alloc; other]?)
 }
 
-// Whether a row with the first access denies, and one with the other grants.
-fn is_opposed(access: Access, other: Access) -> bool
-    ensures { result ≡ (is_deny (access_view access) && not (is_deny (access_view other))) }
+// Whether the other row says the same, or decides before the row.
+fn may_make(rules: Rules, other: &Row, row: &Row) -> bool
+    ensures { result ≡ may_make rules (row_view other.now) (row_view row.now) }
 {
-    is_deny(access) && !is_deny(other)
+    let says_as = is_deny(row.access) == is_deny(other.access);
+    says_as || rank(rules, other) < rank(rules, row)
 }
 
 // Whether the other row makes the row needless.
@@ -71,12 +73,13 @@ fn makes_needless(
     requires row { has_row (row_view row.now) lint.now.asked.rows ≡ true }
     requires other { Contains lint.now.asked.rows (row_view other.now) }
     ensures makes { IfOk result (λ makes. makes ≡ true
-        → MakesNeedless (row_view other.now) (row_view row.now)) }
+        → MakesNeedless lint.now.asked.rules lint.now.asked.rows (row_view other.now) (row_view row.now)) }
     ensures other { IfOk result (λ makes. makes ≡ false
-        → MakesNeedless (row_view other.now) (row_view row.now) → ⊥) }
+        → MakesNeedless lint.now.asked.rules lint.now.asked.rows (row_view other.now) (row_view row.now)
+        → ⊥) }
     ensures fault { IfErr result (IsStop row.now.line lint.now.limited) }
 {
-    if is_opposed(row.access, other.access) {
+    if !may_make(lint.rules, other, row) {
         return Ok(false);
     }
     let cover = cover_of(alloc, row, other)?;
@@ -135,13 +138,13 @@ fn may_be_for(clients: Option<Clients>, row: &Row) -> bool
 
 // Whether the other row may concern something that the row does, which concerns something that the clients have, if any
 // are given.
-fn may_meet(clients: Option<Clients>, row: &Row, other: &Row) -> bool
+fn may_meet(rules: Rules, clients: Option<Clients>, row: &Row, other: &Row) -> bool
     ensures { result ≡ false
-        → MissesRow clients.entry (row_view row.now) (row_view other.now) }
+        → MissesRow rules clients.entry (row_view row.now) (row_view other.now) }
 {
-    match clients {
-        Some(_) => may_overlap(row, other),
-        None => true,
+    match (rules, clients) {
+        (Rules::Own, Some(_)) => may_overlap(row, other),
+        _ => true,
     }
 }
 
@@ -153,7 +156,7 @@ pub(crate) fn maker(
     row: &Row,
 ) -> Result<Option<u64>, NeedlessFault>
     requires { has_row (row_view row.now) lint.now.asked.rows ≡ true }
-    ensures by { IfOk result (IsBy lint.now.rows.now (row_view row.now)) }
+    ensures by { IfOk result (IsBy lint.now.asked.rules lint.now.rows.now (row_view row.now)) }
     ensures fault { IfErr result (IsStop row.now.line lint.now.limited) }
 {
     let clients = concerned(alloc, lint, steps, row)?;
@@ -167,7 +170,7 @@ pub(crate) fn maker(
         if !steps.spend(lint.limited, 1) {
             return Err(NeedlessFault::GaveUp(row.line, 1));
         }
-        if !may_meet(clients, row, other) {
+        if !may_meet(lint.rules, clients, row, other) {
             continue;
         }
         if makes_needless(alloc, lint, steps, row, other)? {

@@ -18,7 +18,7 @@ use crate::maker::maker;
 use crate::remark::{Remark, RemarkKind};
 use crate::repeats::Seen;
 use crate::steps::Steps;
-use mq_acl::{Row, is_deny};
+use mq_acl::{Row, Rules, is_deny};
 use std::alloc::{AllocError, Global};
 
 // Whether the list without the row allows some clients something else.
@@ -31,8 +31,8 @@ fn is_needed(
     requires { has_row (row_view row.now) lint.now.asked.rows ≡ true }
     ensures needed { IfOk result (λ needed. needed ≡ true
         → IsNeeded lint.now.asked (row_view row.now)) }
-    ensures needless { IfOk result (λ needed. needed ≡ false → AllowSame lint.now.asked.rows
-        (without (row_view row.now) lint.now.asked.rows)) }
+    ensures needless { IfOk result (λ needed. needed ≡ false → AllowSame lint.now.asked.rules
+        lint.now.asked.rows lint.now.asked.rows (without (row_view row.now) lint.now.asked.rows)) }
     ensures fault { IfErr result (IsStop row.now.line lint.now.limited) }
 {
     let classes = lint.classes(alloc, row)?;
@@ -55,9 +55,9 @@ fn meets_grant(
     requires inside { has_row (row_view row.now) lint.now.asked.rows ≡ true }
     requires denies { is_deny (row_view row.now).access ≡ true }
     ensures some { IfOk result (λ met. met ≡ true
-        → MeetsGrant lint.now.asked.rows (row_view row.now)) }
+        → MeetsGrant lint.now.asked.rules lint.now.asked.rows (row_view row.now)) }
     ensures none { IfOk result (λ met. met ≡ false
-        → DeniesNone lint.now.rows.now (row_view row.now)) }
+        → DeniesNone lint.now.asked.rules lint.now.rows.now (row_view row.now)) }
     ensures fault { IfErr result (IsStop row.now.line lint.now.limited) }
 {
     let classes = lint.classes(alloc, row)?;
@@ -79,9 +79,9 @@ fn denies_nothing(
 ) -> Result<bool, NeedlessFault>
     requires { has_row (row_view row.now) lint.now.asked.rows ≡ true }
     ensures nothing { IfOk result (λ nothing. nothing ≡ true
-        → DeniesNone lint.now.rows.now (row_view row.now)) }
+        → DeniesNone lint.now.asked.rules lint.now.rows.now (row_view row.now)) }
     ensures something { IfOk result (λ nothing. nothing ≡ false
-        → DeniesNone lint.now.rows.now (row_view row.now) → ⊥) }
+        → DeniesNone lint.now.asked.rules lint.now.rows.now (row_view row.now) → ⊥) }
     ensures fault { IfErr result (IsStop row.now.line lint.now.limited) }
 {
     if !is_deny(row.access) {
@@ -99,7 +99,7 @@ fn kind_alone(
     row: &Row,
 ) -> Result<Option<RemarkKind>, NeedlessFault>
     requires { has_row (row_view row.now) lint.now.asked.rows ≡ true }
-    ensures kind { IfOk result (IsKindAlone lint.now.rows.now (row_view row.now)) }
+    ensures kind { IfOk result (IsKindAlone lint.now.asked.rules lint.now.rows.now (row_view row.now)) }
     ensures fault { IfErr result (IsStop row.now.line lint.now.limited) }
 {
     if denies_nothing(alloc, lint, steps, row)? {
@@ -124,7 +124,7 @@ fn kind_of(
     requires place { place < length lint.now.rows.now }
     requires row { row.now ≡ slice_index_or lint.now.rows.now place row.now }
     requires line { line ≡ repeated lint.now.rows.now place (row_view row.now) }
-    ensures kind { IfOk result (IsKind lint.now.rows.now place row.now) }
+    ensures kind { IfOk result (IsKind lint.now.asked.rules lint.now.rows.now place row.now) }
     ensures fault { IfErr result (IsStop row.now.line lint.now.limited) }
 {
     if let Some(line) = line {
@@ -148,7 +148,7 @@ fn kinds_of(
 ) -> Result<Vec<Option<RemarkKind>>, NeedlessFault>
     ensures count { IfOk result (λ kinds. length kinds.items ≡ length lint.now.rows.now) }
     ensures each { IfOk result (λ kinds. (place : ℕ) (row : Row) (kind : Option RemarkKind)
-        → place < length lint.now.rows.now → IsKind lint.now.rows.now place
+        → place < length lint.now.rows.now → IsKind lint.now.asked.rules lint.now.rows.now place
         (slice_index_or lint.now.rows.now place row) (slice_index_or kinds.items place kind)) }
     ensures fault { IfErr result (IsStopIn lint.now.rows.now lint.now.limited) }
 {
@@ -187,16 +187,21 @@ fn remarks_of_kinds(
         .collect(alloc)
 }
 
-/// The lines without which, each by itself, the list allows the same to all, and those that repeat another or deny what
+/// By these rules: the lines without which, each by itself, the list allows the same to all, and those that repeat another or deny what
 /// no line grants: in the order of the rows.
 ///
 /// A step is a row that is looked at for one question. Where the steps don't suffice nothing is told, so that an answer
 /// is always the whole one. So many as `enough_steps` says always suffice.
-pub fn needless(alloc: Global, rows: &[Row], steps: u64) -> Result<Vec<Remark>, NeedlessFault>
-    ensures told { IfOk result (λ told. AreNeedless rows.now told.items) }
-    ensures fault { IfErr result (IsNeedlessFault rows.now steps) }
+pub fn needless(
+    alloc: Global,
+    rules: Rules,
+    rows: &[Row],
+    steps: u64,
+) -> Result<Vec<Remark>, NeedlessFault>
+    ensures told { IfOk result (λ told. AreNeedless rules rows.now told.items) }
+    ensures fault { IfErr result (IsNeedlessFault rules rows.now steps) }
 {
-    let lint = Lint::of(alloc, rows, steps)?;
+    let lint = Lint::of(alloc, rules, rows, steps)?;
     let mut left = Steps::new(steps);
     let kinds = kinds_of(alloc, &lint, &mut left)?;
     Ok(remarks_of_kinds(alloc, rows, &kinds)?)

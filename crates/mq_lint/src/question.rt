@@ -1,29 +1,55 @@
 //! What is asked about a row, for clients of one class.
 ghost use Rattle.std.specs.Prelude.{◌≡◌, ◌∷◌, [], IfOk, IfErr, true, false, All, Contains};
 ghost use Rattle.mq_acl.specs.Views.{row_view};
-ghost use Rattle.mq_witness.specs.Asked.{FindsNone};
 ghost use Rattle.mq_witness.specs.Rows.{lent_rows};
-ghost use Rattle.mq_lint.specs.Cases.{CanAsk, Finds};
+ghost use Rattle.mq_witness.specs.Ruled.{FindsNoneBy};
+ghost use Rattle.mq_lint.specs.Cases.{CanAsk, Finds, FindsNone};
 
 use crate::fault::NeedlessFault;
 use crate::steps::Steps;
-use mq_acl::Row;
+use mq_acl::{Row, Rules};
 use mq_witness::{Asked, Clients};
-use std::alloc::Global;
+use std::alloc::{AllocError, Global};
 
 /// A row of a list, and clients of one class.
 #[derive(Clone, Copy, Drop)]
 pub(crate) struct Question<'q, 'a> {
+    pub rules: Rules,
     pub asked: &'q Asked<'a>,
     pub clients: Clients<'q>,
     pub row: &'q Row,
     /// Whether the steps are.
     pub limited: bool,
-    ghost can_ask: { CanAsk asked.now clients (row_view row.now) },
+    ghost can_ask: { CanAsk rules asked.now clients (row_view row.now) },
 }
 
 impl<'q, 'a> Question<'q, 'a> {
     ghost use Rattle.mq_lint.specs.NeedlessFault.{IsStop};
+
+    // Whether each of the first rows concerns a topic of these clients that begins with `$`, or doesn't, and none of the
+    // others does.
+    fn meets_kind(
+        &self,
+        alloc: Global,
+        dollar: bool,
+        must: &[&Row],
+        cover: &[&Row],
+    ) -> Result<bool, AllocError>
+        requires must { All (Contains self.now.asked.now.rows) (lent_rows must.now) }
+        requires cover { All (Contains self.now.asked.now.rows) (lent_rows cover.now) }
+        ensures found { IfOk result (λ met. met ≡ true → Finds self.now.asked.now
+            self.now.clients (lent_rows must.entry.now) (lent_rows cover.entry.now)) }
+        ensures none { IfOk result (λ met. met ≡ false → FindsNoneBy dollar self.now.asked.now
+            self.now.clients (lent_rows must.entry.now) (lent_rows cover.entry.now)) }
+    {
+        let found = self
+            .asked
+            .find_kind(alloc, self.clients, dollar, must, cover)?;
+        if found.is_none() {
+            return Ok(false);
+        }
+        Ok(true)
+    }
 
     // Whether each of the first rows concerns a topic of these clients, and none of the others does.
     fn meets(
@@ -45,11 +71,11 @@ impl<'q, 'a> Question<'q, 'a> {
         if !steps.spend(self.limited, others) {
             return Err(NeedlessFault::GaveUp(self.row.line, others.saturating_sub(1)));
         }
-        let found = self.asked.find(alloc, self.clients, must, cover)?;
-        if found.is_none() {
-            return Ok(false);
+        if self.meets_kind(alloc, false, must, cover)? {
+            return Ok(true);
         }
-        Ok(true)
+        let begun = self.meets_kind(alloc, true, must, cover)?;
+        Ok(begun)
     }
 
     /// Whether the row concerns a topic that none of these does.

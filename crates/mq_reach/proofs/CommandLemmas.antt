@@ -6,7 +6,7 @@ use Rattle.std.specs.Prelude.{if◌then◌else◌}
 use Rattle.std.specs.List.{filter}
 use Rattle.std.proofs.Math.Bool.{and_assoc, and-false}
 use Rattle.mq_topic.specs.Texts.{is_subscription}
-use Rattle.mq_acl.specs.Rows.{AclRow}
+use Rattle.mq_acl.specs.AccessLists.{AccessList}
 use Rattle.mq_world.specs.After.{after, next, without_client}
 use Rattle.mq_world.specs.Lists.{Text, same_text}
 use Rattle.mq_world.specs.Refusals.{is_client_id}
@@ -73,14 +73,14 @@ disconnected-moment w id =
 -- ## Commands that take no part
 
 -- a publish, another access list and a question for numbers leave the search
-passed : (rows : List AclRow) (request : Request) (s : Search)
+passed : (list : AccessList) (request : Request) (s : Search)
     → ((w : World) → unqueued w.sessions ≡ unqueued (after w request).sessions)
     → ((w : World) → w.moment ≡ (after w request).moment)
     → ((w : World) (client own : Text) → ends w request client own ≡ false)
     → ((client : Text) → reconnects request client ≡ false)
     → ((lines : List (List ℕ)) → makes_at lines (Some request) ≡ [])
-    → Applies rows (Some request) s s
-passed rows request s sessions moment lasts apart none = record {
+    → Applies list (Some request) s s
+passed list request s sessions moment lasts apart none = record {
   follows = λ w is. pick (is_taken w request)
       (λ e. taken-world w request s e (record {
         sessions = is.sessions ∙ sessions w;
@@ -88,7 +88,7 @@ passed rows request s sessions moment lasts apart none = record {
       }))
       (λ e. refused w e is);
   tracked = λ lines line says is are count.
-      none_made rows lines line (Some request) s.tracked says (none lines)
+      none_made list lines line (Some request) s.tracked says (none lines)
       (pick (is_taken (world_of lines) request)
       (λ e. kept lines e are) (λ e. left lines e are));
   counts = refl;
@@ -99,14 +99,14 @@ passed rows request s sessions moment lasts apart none = record {
     refused w e is = subst (λ v. IsWorldOf v s) (sym (next-refused w request e)) is
 
     kept : (lines : List (List ℕ)) → is_taken (world_of lines) request ≡ true
-        → AreTracked rows (subscriptions lines) s.tracked
-        → AreTracked rows (map (grown (world_of lines) (Some request)) (subscriptions lines))
+        → AreTracked list (subscriptions lines) s.tracked
+        → AreTracked list (map (grown (world_of lines) (Some request)) (subscriptions lines))
         s.tracked
     kept lines e are =
         let w : World = world_of lines in
-        subst (AreTracked rows (map (grown w (Some request)) (subscriptions lines)))
+        subst (AreTracked list (map (grown w (Some request)) (subscriptions lines)))
         (map-same s.tracked)
-        (kept-all rows w request (subscriptions lines) s.tracked (λ t. t) e
+        (kept-all list w request (subscriptions lines) s.tracked (λ t. t) e
         (λ client own k. user-kept w request client own e k (apart client))
         (λ t. sym (ap (λ b. closed_if b t)
         (ap (λ b. is_open t.state && b) (lasts w t.told.client t.told.filter)
@@ -114,40 +114,40 @@ passed rows request s sessions moment lasts apart none = record {
         (all_sound lines) are)
 
     left : (lines : List (List ℕ)) → is_taken (world_of lines) request ≡ false
-        → AreTracked rows (subscriptions lines) s.tracked
-        → AreTracked rows (map (grown (world_of lines) (Some request)) (subscriptions lines))
+        → AreTracked list (subscriptions lines) s.tracked
+        → AreTracked list (map (grown (world_of lines) (Some request)) (subscriptions lines))
         s.tracked
     left lines e are =
-        refused-all rows (world_of lines) request (subscriptions lines) s.tracked e
+        refused-all list (world_of lines) request (subscriptions lines) s.tracked e
         (all_sound lines) are
 
-pub Applies-publish : (rows : List AclRow) (m : Message) (s : Search)
-    → Applies rows (Some (Publish m)) s s
+pub Applies-publish : (list : AccessList) (m : Message) (s : Search)
+    → Applies list (Some (Publish m)) s s
 unfolding after
-Applies-publish rows m s =
-    passed rows (Publish m) s (λ w. published-unqueued w m w.sessions) (λ w. refl)
+Applies-publish list m s =
+    passed list (Publish m) s (λ w. published-unqueued w m w.sessions) (λ w. refl)
     (λ w client own. refl) (λ client. refl) (λ lines. refl)
 
-pub Applies-acl : (rows : List AclRow) (text : Option Text) (s : Search)
-    → Applies rows (Some (SetAcl text)) s s
+pub Applies-acl : (list : AccessList) (text : Option Text) (s : Search)
+    → Applies list (Some (SetAcl text)) s s
 unfolding after
-Applies-acl rows text s =
-    passed rows (SetAcl text) s (λ w. refl) (λ w. refl) (λ w client own. refl) (λ client. refl)
+Applies-acl list text s =
+    passed list (SetAcl text) s (λ w. refl) (λ w. refl) (λ w client own. refl) (λ client. refl)
     (λ lines. refl)
 
-pub Applies-stat : (rows : List AclRow) (s : Search) → Applies rows (Some Stat) s s
+pub Applies-stat : (list : AccessList) (s : Search) → Applies list (Some Stat) s s
 unfolding after
-Applies-stat rows s =
-    passed rows Stat s (λ w. refl) (λ w. refl) (λ w client own. refl) (λ client. refl)
+Applies-stat list s =
+    passed list Stat s (λ w. refl) (λ w. refl) (λ w client own. refl) (λ client. refl)
     (λ lines. refl)
 
 -- a line that says no command
-pub Applies-none : (rows : List AclRow) (s : Search) → Applies rows None s s
-Applies-none rows s = record {
+pub Applies-none : (list : AccessList) (s : Search) → Applies list None s s
+Applies-none list s = record {
   follows = λ w is. is;
   tracked = λ lines line says is are count.
-      none_made rows lines line None s.tracked says refl
-      (subst (λ all. AreTracked rows all s.tracked) (sym (map-itself (subscriptions lines))) are);
+      none_made list lines line None s.tracked says refl
+      (subst (λ all. AreTracked list all s.tracked) (sym (map-itself (subscriptions lines))) are);
   counts = refl;
 }
   where
@@ -157,10 +157,10 @@ Applies-none rows s = record {
 
 -- ## A disconnect
 
-pub disconnect-refused : (rows : List AclRow) (id : Text) (s : Search) → can_act s id ≡ false
-    → Applies rows (Some (Disconnect id)) s s
-disconnect-refused rows id s e =
-    Applies-refused rows (Disconnect id) s
+pub disconnect-refused : (list : AccessList) (id : Text) (s : Search) → can_act s id ≡ false
+    → Applies list (Some (Disconnect id)) s s
+disconnect-refused list id s e =
+    Applies-refused list (Disconnect id) s
     (λ w is. taken-disconnect w id ∙ sym (can_act-is s id w is) ∙ e)
 
 disconnect-taken : (id : Text) (s : Search) → can_act s id ≡ true → Takes (Disconnect id) s
@@ -168,13 +168,13 @@ disconnect-taken id s e =
     λ w is. taken-disconnect w id ∙ sym (can_act-is s id w is) ∙ e
 
 -- the session stays, and its subscriptions with it
-pub disconnect-stays : (rows : List AclRow) (id : Text) (old new : Search)
+pub disconnect-stays : (list : AccessList) (id : Text) (old new : Search)
     → can_act old id ≡ true → outlives old.sessions id ≡ true
     → new.sessions ≡ map (left_by old.clock.moment id) old.sessions → new.clock ≡ old.clock
     → new.tracked ≡ old.tracked → new.counts ≡ old.counts
-    → Applies rows (Some (Disconnect id)) old new
-disconnect-stays rows id old new act lasts sessions clock tracked counts =
-    Applies-ends rows (Disconnect id) old new (λ t. t) refl (disconnect-taken id old act)
+    → Applies list (Some (Disconnect id)) old new
+disconnect-stays list id old new act lasts sessions clock tracked counts =
+    Applies-ends list (Disconnect id) old new (λ t. t) refl (disconnect-taken id old act)
     (λ w is. record {
       sessions = sessions ∙ (λ i. map (left_by (is.moment i) id) (is.sessions i))
           ∙ left-unqueued w.moment id w.sessions
@@ -192,14 +192,14 @@ disconnect-stays rows id old new act lasts sessions clock tracked counts =
     e refl) counts
 
 -- the session ends, and no subscription of the client stays
-pub disconnect-ends : (rows : List AclRow) (id : Text) (old new : Search)
+pub disconnect-ends : (list : AccessList) (id : Text) (old new : Search)
     → can_act old id ≡ true → outlives old.sessions id ≡ false
     → new.sessions ≡ filter (λ session. not (has_id id session)) old.sessions
     → new.clock ≡ old.clock
     → new.tracked ≡ map (closed_all id) old.tracked → new.counts ≡ old.counts
-    → Applies rows (Some (Disconnect id)) old new
-disconnect-ends rows id old new act ends sessions clock tracked counts =
-    Applies-ends rows (Disconnect id) old new (closed_all id) refl (disconnect-taken id old act)
+    → Applies list (Some (Disconnect id)) old new
+disconnect-ends list id old new act ends sessions clock tracked counts =
+    Applies-ends list (Disconnect id) old new (closed_all id) refl (disconnect-taken id old act)
     (λ w is. record {
       sessions = sessions ∙ ap (filter (λ session. not (has_id id session))) is.sessions
           ∙ removed-unqueued id w.sessions
@@ -217,22 +217,22 @@ disconnect-ends rows id old new act ends sessions clock tracked counts =
 
 -- ## An unsubscribe
 
-pub unsubscribe-refused : (rows : List AclRow) (id text : Text) (s : Search)
+pub unsubscribe-refused : (list : AccessList) (id text : Text) (s : Search)
     → (can_act s id && is_subscription text) ≡ false
-    → Applies rows (Some (Unsubscribe id text)) s s
-unsubscribe-refused rows id text s e =
-    Applies-refused rows (Unsubscribe id text) s
+    → Applies list (Some (Unsubscribe id text)) s s
+unsubscribe-refused list id text s e =
+    Applies-refused list (Unsubscribe id text) s
     (λ w is. taken-unsubscribe w id text
     ∙ ap (λ b. b && is_subscription text) (sym (can_act-is s id w is)) ∙ e)
 
-pub unsubscribe-taken : (rows : List AclRow) (id text : Text) (old new : Search)
+pub unsubscribe-taken : (list : AccessList) (id text : Text) (old new : Search)
     → (can_act old id && is_subscription text) ≡ true
     → new.sessions ≡ old.sessions → new.clock ≡ old.clock
     → new.tracked ≡ map (closed_one id text) old.tracked → new.counts ≡ old.counts
-    → Applies rows (Some (Unsubscribe id text)) old new
+    → Applies list (Some (Unsubscribe id text)) old new
 unfolding after
-unsubscribe-taken rows id text old new act sessions clock tracked counts =
-    Applies-ends rows (Unsubscribe id text) old new (closed_one id text) refl takes
+unsubscribe-taken list id text old new act sessions clock tracked counts =
+    Applies-ends list (Unsubscribe id text) old new (closed_one id text) refl takes
     (λ w is. record {
       sessions = sessions ∙ is.sessions;
       moment = ap (λ (c : Clock). c.moment) clock ∙ is.moment;

@@ -8,7 +8,7 @@ use Rattle.std.specs.List.{AllByRecursion, list_all, list_any}
 use Rattle.std.proofs.Math.Bool.{and-false, or-true}
 use Rattle.std.proofs.lemmas.Bool.{and_from, and_parts, not-true, or_cases}
 use Rattle.std.proofs.lemmas.List.Folds.{list_all-append}
-use Rattle.mq_acl.specs.Rows.{AclRow}
+use Rattle.mq_acl.specs.AccessLists.{AccessList}
 use Rattle.mq_world.specs.After.{after, next}
 use Rattle.mq_world.specs.Lists.{Text, same_text, with_row}
 use Rattle.mq_world.specs.Refusals.{is_client_id, is_user_name}
@@ -44,14 +44,14 @@ use Rattle.mq_reach.proofs.TrackLemmas.{grown-open}
 
 -- ## What the search does
 
-pub connect-refused : (rows : List AclRow) (id : Text) (user : Option Text) (clean : Bool)
+pub connect-refused : (list : AccessList) (id : Text) (user : Option Text) (clean : Bool)
     (interval : ℕ) (s : Search) → (is_client_id id && is_user_name user) ≡ false
-    → Applies rows (Some (Connect id user clean interval)) s s
-connect-refused rows id user clean interval s e =
-    Applies-refused rows (Connect id user clean interval) s
+    → Applies list (Some (Connect id user clean interval)) s s
+connect-refused list id user clean interval s e =
+    Applies-refused list (Connect id user clean interval) s
     (λ w is. taken-connect w id user clean interval ∙ e)
 
-module _ (rows : List AclRow) (id : Text) (user : Option Text) (clean : Bool) (interval : ℕ)
+module _ (list : AccessList) (id : Text) (user : Option Text) (clean : Bool) (interval : ℕ)
     (old : Search) (valid : (is_client_id id && is_user_name user) ≡ true) where
   abbrev request : Request
   request = Connect id user clean interval
@@ -87,9 +87,9 @@ module _ (rows : List AclRow) (id : Text) (user : Option Text) (clean : Bool) (i
   connect-ends : (new : Search) → resumes old.sessions id clean ≡ false
       → new.sessions ≡ with_row session_cmp (new_session id user interval) old.sessions
       → new.clock ≡ old.clock → new.tracked ≡ map (closed_all id) old.tracked
-      → new.counts ≡ old.counts → Applies rows (Some request) old new
+      → new.counts ≡ old.counts → Applies list (Some request) old new
   connect-ends new e sessions clock tracked counts =
-      Applies-ends rows request old new (closed_all id) refl takes
+      Applies-ends list request old new (closed_all id) refl takes
       (connected-world new sessions clock) tracked
       (λ w is t. sym (ap (λ b. closed_if (is_open t.state && (same_text t.told.client id && not b))
       t) (sym (resumes-is w is) ∙ e)
@@ -107,9 +107,9 @@ module _ (rows : List AclRow) (id : Text) (user : Option Text) (clean : Bool) (i
       → user_of old.sessions id ≡ user
       → new.sessions ≡ with_row session_cmp (new_session id user interval) old.sessions
       → new.clock ≡ old.clock → new.tracked ≡ old.tracked
-      → new.counts ≡ old.counts → Applies rows (Some request) old new
+      → new.counts ≡ old.counts → Applies list (Some request) old new
   connect-same new e had sessions clock tracked counts =
-      Applies-ends rows request old new (λ t. t) refl takes (connected-world new sessions clock)
+      Applies-ends list request old new (λ t. t) refl takes (connected-world new sessions clock)
       (tracked ∙ sym (map-same old.tracked))
       (λ w is t. sym (ap (λ b. closed_if (is_open t.state && b) t)
       (lasts w is e t.told.client t.told.filter)
@@ -124,16 +124,16 @@ module _ (rows : List AclRow) (id : Text) (user : Option Text) (clean : Bool) (i
 
   -- the client comes back, and is asked about
   connect-asks : (new : Search) → resumes old.sessions id clean ≡ true
-      → Asks rows id user old.tracked new.tracked
+      → Asks list id user old.tracked new.tracked
       → new.sessions ≡ with_row session_cmp (new_session id user interval) old.sessions
       → new.clock ≡ old.clock
-      → new.counts ≡ old.counts → Applies rows (Some request) old new
+      → new.counts ≡ old.counts → Applies list (Some request) old new
   connect-asks new e asks sessions clock counts = record {
     follows = λ w is. taken-world w request new (takes w is) (connected-world new sessions clock w is);
     tracked = λ lines line says is are count.
         (let w : World = world_of lines in
-        none_made rows lines line (Some request) new.tracked says refl
-        (asked-all rows w request id user (subscriptions lines) old.tracked new.tracked
+        none_made list lines line (Some request) new.tracked says refl
+        (asked-all list w request id user (subscriptions lines) old.tracked new.tracked
         (takes w is) (lasts w is e) (its_user w is)
         (λ its f. user-kept w request its [] (takes w is) (lasts w is e its []) f)
         asks (all_sound lines) are));
@@ -142,11 +142,11 @@ module _ (rows : List AclRow) (id : Text) (user : Option Text) (clean : Bool) (i
 
   connect-any : (new : Search) (b : Bool) → resumes old.sessions id clean ≡ b
       → MatchBool b (((user_of old.sessions id ≡ user) × (new.tracked ≡ old.tracked))
-      ⊎ Asks rows id user old.tracked new.tracked)
+      ⊎ Asks list id user old.tracked new.tracked)
       (new.tracked ≡ map (closed_all id) old.tracked)
       → new.sessions ≡ with_row session_cmp (new_session id user interval) old.sessions
       → new.clock ≡ old.clock
-      → new.counts ≡ old.counts → Applies rows (Some request) old new
+      → new.counts ≡ old.counts → Applies list (Some request) old new
   connect-any new true e (inl h) sessions clock counts =
       connect-same new e h.0 sessions clock h.1 counts
   connect-any new true e (inr h) sessions clock counts =
@@ -155,105 +155,108 @@ module _ (rows : List AclRow) (id : Text) (user : Option Text) (clean : Bool) (i
       connect-ends new e sessions clock h counts
 
 -- a connect that is taken
-pub connect-taken : (rows : List AclRow) (id : Text) (user : Option Text) (clean : Bool)
+pub connect-taken : (list : AccessList) (id : Text) (user : Option Text) (clean : Bool)
     (interval : ℕ) (old new : Search) → (is_client_id id && is_user_name user) ≡ true
-    → Connects rows id user clean old.sessions old.tracked new.tracked
+    → Connects list id user clean old.sessions old.tracked new.tracked
     → new.sessions ≡ with_row session_cmp (new_session id user interval) old.sessions
     → new.clock ≡ old.clock
-    → new.counts ≡ old.counts → Applies rows (Some (Connect id user clean interval)) old new
-connect-taken rows id user clean interval old new valid connects sessions clock counts =
-    connect-any rows id user clean interval old valid new (resumes old.sessions id clean) refl
+    → new.counts ≡ old.counts → Applies list (Some (Connect id user clean interval)) old new
+connect-taken list id user clean interval old new valid connects sessions clock counts =
+    connect-any list id user clean interval old valid new (resumes old.sessions id clean) refl
     connects sessions clock counts
 
 -- ## What is told where a question is too long
 
 -- a subscription that is asked about is too long with one more user name
-long_more : (line : ℕ) (kept : Kept) (user : Option Text) → (kept.told.line == line) ≡ true
-    → is_short_question kept.told user ≡ false
-    → is_long_at line (record kept { users = kept.users ++ user ∷ [] }) ≡ true
-long_more line kept user same long =
+long_more : (list : AccessList) (line : ℕ) (kept : Kept) (user : Option Text)
+    → (kept.told.line == line) ≡ true
+    → is_short_question list kept.told user ≡ false
+    → is_long_at list line (record kept { users = kept.users ++ user ∷ [] }) ≡ true
+long_more list line kept user same long =
     and_from (kept.told.line == line)
-    (not (list_all (is_short_question kept.told) (kept.users ++ user ∷ []))) same
-    (ap not (list_all-append (is_short_question kept.told) kept.users (user ∷ [])
-    ∙ ap (λ b. list_all (is_short_question kept.told) kept.users && (b && true)) long
-    ∙ and-false (list_all (is_short_question kept.told) kept.users)))
+    (not (list_all (is_short_question list kept.told) (kept.users ++ user ∷ []))) same
+    (ap not (list_all-append (is_short_question list kept.told) kept.users (user ∷ [])
+    ∙ ap (λ b. list_all (is_short_question list kept.told) kept.users && (b && true)) long
+    ∙ and-false (list_all (is_short_question list kept.told) kept.users)))
 
-module _ (rows : List AclRow) (w : World) (request : Request) (client : Text) (user : Option Text)
+module _ (list : AccessList) (w : World) (request : Request) (client : Text) (user : Option Text)
     (taken : is_taken w request ≡ true)
     (lasts : (its own : Text) → ends w request its own ≡ false)
     (its_user : user_of (next w request).sessions client ≡ user) where
-  one_long : (line : ℕ) (kept : Kept) (t : TrackedSubscription) → IsSound w kept → IsTracked rows kept t
-      → is_long_now line client user t ≡ true
-      → is_long_at line (grown w (Some request) kept) ≡ true
+  one_long : (line : ℕ) (kept : Kept) (t : TrackedSubscription) → IsSound w kept
+      → IsTracked list kept t
+      → is_long_now list line client user t ≡ true
+      → is_long_at list line (grown w (Some request) kept) ≡ true
   one_long line kept t sound is long =
       let front = and_parts (is_open_of client t)
-      ((t.told.line == line) && not (is_short_question t.told user)) long in
-      let back = and_parts (t.told.line == line) (not (is_short_question t.told user)) front.1 in
+      ((t.told.line == line) && not (is_short_question list t.told user)) long in
+      let back = and_parts (t.told.line == line) (not (is_short_question list t.told user))
+      front.1 in
       let both = and_parts (is_open t.state) (same_text t.told.client client) front.0 in
       let its : kept.told.client ≡ client =
       sym (ap (λ (s : spec.Subscription). s.client) is.0)
       ∙ same_text-is t.told.client client both.1 in
       let still : kept.is_open ≡ true = opened kept.is_open is.1 both.0 in
-      subst (λ (k : Kept). is_long_at line k ≡ true)
+      subst (λ (k : Kept). is_long_at list line k ≡ true)
       (sym (grown-open w request kept
       (ap (λ b. b && stays (key_of kept.told) w request) still
       ∙ stays-taken kept.told w request taken sound.valid (sound.there still)
       ∙ ap not (lasts kept.told.client kept.told.filter))))
-      (long_more line kept (user_of (next w request).sessions kept.told.client)
+      (long_more list line kept (user_of (next w request).sessions kept.told.client)
       (ap (λ (s : spec.Subscription). s.line == line) (sym is.0) ∙ back.0)
-      (ap (is_short_question kept.told)
+      (ap (is_short_question list kept.told)
       (ap (λ (c : Text). user_of (next w request).sessions c) its ∙ its_user)
-      ∙ ap (λ (s : spec.Subscription). is_short_question s user) (sym is.0)
-      ∙ not-true (is_short_question t.told user) back.1))
+      ∙ ap (λ (s : spec.Subscription). is_short_question list s user) (sym is.0)
+      ∙ not-true (is_short_question list t.told user) back.1))
     where
-      opened : (b : Bool) → (((t.state ≡ Reached) × IsReached rows kept)
-          ⊎ ((t.state ≡ (if b then Open else Closed)) × IsVain rows kept))
+      opened : (b : Bool) → (((t.state ≡ Reached) × IsReached list kept)
+          ⊎ ((t.state ≡ (if b then Open else Closed)) × IsVain list kept))
           → is_open t.state ≡ true → b ≡ true
       opened true how still = refl
       opened false (inl h) still = absurd (true≢false (sym still ∙ ap is_open h.0))
       opened false (inr h) still = absurd (true≢false (sym still ∙ ap is_open h.0))
 
   some_long : (line : ℕ) (all : List Kept) (ts : List TrackedSubscription) → AllByRecursion (IsSound w) all
-      → AreTracked rows all ts → list_any (is_long_now line client user) ts ≡ true
-      → has_long_at line (map (grown w (Some request)) all) ≡ true
+      → AreTracked list all ts → list_any (is_long_now list line client user) ts ≡ true
+      → has_long_at list line (map (grown w (Some request)) all) ≡ true
   some_long line [] ts sound are long =
-      absurd (true≢false (sym long ∙ ap (list_any (is_long_now line client user)) are))
+      absurd (true≢false (sym long ∙ ap (list_any (is_long_now list line client user)) are))
   some_long line (kept ∷ all) ts sound (inl h) long =
-      ap (λ b. is_long_at line (grown w (Some request) kept) || b)
+      ap (λ b. is_long_at list line (grown w (Some request) kept) || b)
       (some_long line all ts sound.1 h.1 long)
-      ∙ or-true (is_long_at line (grown w (Some request) kept))
+      ∙ or-true (is_long_at list line (grown w (Some request) kept))
   some_long line (kept ∷ all) ts sound (inr h) long =
-      elim (or_cases (is_long_now line client user h.0)
-      (list_any (is_long_now line client user) h.1)
-      (sym (ap (list_any (is_long_now line client user)) h.2) ∙ long))
-      as (λ _. has_long_at line (map (grown w (Some request)) (kept ∷ all)) ≡ true) [
-        | inl e ↦ ap (λ b. b || has_long_at line (map (grown w (Some request)) all))
+      elim (or_cases (is_long_now list line client user h.0)
+      (list_any (is_long_now list line client user) h.1)
+      (sym (ap (list_any (is_long_now list line client user)) h.2) ∙ long))
+      as (λ _. has_long_at list line (map (grown w (Some request)) (kept ∷ all)) ≡ true) [
+        | inl e ↦ ap (λ b. b || has_long_at list line (map (grown w (Some request)) all))
             (one_long line kept h.0 sound.0 h.3 e)
-        | inr e ↦ ap (λ b. is_long_at line (grown w (Some request) kept) || b)
+        | inr e ↦ ap (λ b. is_long_at list line (grown w (Some request) kept) || b)
             (some_long line all h.1 sound.1 h.4 e)
-            ∙ or-true (is_long_at line (grown w (Some request) kept))
+            ∙ or-true (is_long_at list line (grown w (Some request) kept))
       ]
 
   fault_open : (all : List Kept) (ts : List TrackedSubscription) (fault : SearchFault)
-      → AllByRecursion (IsSound w) all → AreTracked rows all ts
-      → IsFaultOpen client user ts fault
-      → IsFaultAmong (map (grown w (Some request)) all) fault
+      → AllByRecursion (IsSound w) all → AreTracked list all ts
+      → IsFaultOpen list client user ts fault
+      → IsFaultAmong list (map (grown w (Some request)) all) fault
   fault_open all ts search.Memory sound are is = tt
   fault_open all ts (search.Row line) sound are is = absurd is
   fault_open all ts (search.Subscription line) sound are is = some_long line all ts sound are is
 
 -- what is told of a client that comes back is so
-pub connect-fails : (rows : List AclRow) (id : Text) (user : Option Text) (clean : Bool)
+pub connect-fails : (list : AccessList) (id : Text) (user : Option Text) (clean : Bool)
     (interval : ℕ) (old : Search) (fault : SearchFault)
     → (is_client_id id && is_user_name user) ≡ true → resumes old.sessions id clean ≡ true
-    → IsFaultOpen id user old.tracked fault
-    → FailsBy rows (Some (Connect id user clean interval)) old fault
-connect-fails rows id user clean interval old fault valid e is = λ lines line says searched.
+    → IsFaultOpen list id user old.tracked fault
+    → FailsBy list (Some (Connect id user clean interval)) old fault
+connect-fails list id user clean interval old fault valid e is = λ lines line says searched.
     let w : World = world_of lines in
     let r : Request = Connect id user clean interval in
-    grown_fault lines line (Some r) fault says
-    (fault_open rows w r id user
-    (takes rows id user clean interval old valid w searched.is_world)
-    (λ its own. lasts rows id user clean interval old valid w searched.is_world e its own)
-    (its_user rows id user clean interval old valid w searched.is_world)
+    grown_fault list lines line (Some r) fault says
+    (fault_open list w r id user
+    (takes list id user clean interval old valid w searched.is_world)
+    (λ its own. lasts list id user clean interval old valid w searched.is_world e its own)
+    (its_user list id user clean interval old valid w searched.is_world)
     (subscriptions lines) old.tracked fault (all_sound lines) searched.tracked is)

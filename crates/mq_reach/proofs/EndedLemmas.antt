@@ -4,7 +4,7 @@ use Rattle.std.proofs.Common.{List, [], ◌∷◌, map, Some, length, refl, sym,
 use Rattle.std.specs.List.{filter, list_any}
 use Rattle.std.specs.Prelude.{is_some, nat_lt}
 use Rattle.std.proofs.Math.Bool.{and-false, or-true}
-use Rattle.mq_acl.specs.Rows.{AclRow}
+use Rattle.mq_acl.specs.AccessLists.{AccessList}
 use Rattle.mq_world.specs.After.{after}
 use Rattle.mq_world.specs.Clock.{last_moment}
 use Rattle.mq_world.specs.Lists.{Text, same_text}
@@ -164,24 +164,24 @@ taken-advance w seconds = one (nat_lt last_moment (w.moment + seconds)) _
     one true r = refl
     one false r = refl
 
-pub advance-refused : (rows : List AclRow) (seconds : ℕ) (s : Search)
+pub advance-refused : (list : AccessList) (seconds : ℕ) (s : Search)
     → nat_lt last_moment (s.clock.moment + seconds) ≡ true
-    → Applies rows (Some (Advance seconds)) s s
-advance-refused rows seconds s far =
-    Applies-refused rows (Advance seconds) s
+    → Applies list (Some (Advance seconds)) s s
+advance-refused list seconds s far =
+    Applies-refused list (Advance seconds) s
     (λ w is. taken-advance w seconds
     ∙ ap (λ (m : ℕ). not (nat_lt last_moment (m + seconds))) (sym is.moment) ∙ ap not far)
 
-pub advance-taken : (rows : List AclRow) (seconds : ℕ) (old new : Search)
+pub advance-taken : (list : AccessList) (seconds : ℕ) (old new : Search)
     → nat_lt last_moment (old.clock.moment + seconds) ≡ false
     → new.clock.moment ≡ old.clock.moment + seconds
     → new.sessions ≡ filter (λ session. not (has_ended new.clock.moment session)) old.sessions
     → new.tracked ≡ map (closed_ended new.clock.moment old.sessions) old.tracked
     → new.counts ≡ old.counts
-    → Applies rows (Some (Advance seconds)) old new
+    → Applies list (Some (Advance seconds)) old new
 unfolding after
-advance-taken rows seconds old new near moment sessions tracked counts =
-    Applies-ends rows (Advance seconds) old new (closed_ended new.clock.moment old.sessions) refl
+advance-taken list seconds old new near moment sessions tracked counts =
+    Applies-ends list (Advance seconds) old new (closed_ended new.clock.moment old.sessions) refl
     takes
     (λ w is. record {
       sessions = sessions

@@ -2,6 +2,8 @@ pub mod KeyLemmas
 pub mod StayLemmas
 pub mod ReachLemmas
 pub mod MatchLemmas
+pub mod FilledLemmas
+pub mod RulesLemmas
 pub mod GrownLemmas
 pub mod SessionLemmas
 pub mod PlaceLemmas

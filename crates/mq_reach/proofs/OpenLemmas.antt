@@ -7,7 +7,7 @@ use Rattle.std.specs.Bool.{MatchBool}
 use Rattle.std.specs.List.{AllZip, filter}
 use Rattle.std.proofs.Math.Bool.{and-false}
 use Rattle.std.proofs.lemmas.Bool.{and_parts}
-use Rattle.mq_acl.specs.Rows.{AclRow}
+use Rattle.mq_acl.specs.AccessLists.{AccessList}
 use Rattle.mq_world.specs.Lists.{Text, same_text}
 use Rattle.mq_world.proofs.BoolLemmas.{pick}
 use Rattle.mq_world.proofs.OrderLemmas.{same_text-is}
@@ -63,9 +63,9 @@ Closes-keeps filter t u e =
     closed true = refl
     closed false = refl
 
-pub IsAsked-keeps : (rows : List AclRow) (user : Option Text) → Keeps (IsAsked rows user)
-IsAsked-keeps rows user t u (inl h) = ap (λ (v : TrackedSubscription). v.told) h.0
-IsAsked-keeps rows user t u (inr h) = ap (λ (v : TrackedSubscription). v.told) h.0
+pub IsAsked-keeps : (list : AccessList) (user : Option Text) → Keeps (IsAsked list user)
+IsAsked-keeps list user t u (inl h) = ap (λ (v : TrackedSubscription). v.told) h.0
+IsAsked-keeps list user t u (inr h) = ap (λ (v : TrackedSubscription). v.told) h.0
 
 its_client : (client : Text) (t : TrackedSubscription) → is_open_of client t ≡ true
     → same_text t.told.client client ≡ true

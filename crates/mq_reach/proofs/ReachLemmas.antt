@@ -14,8 +14,7 @@ use Rattle.std.proofs.lemmas.List.Elements.{All-contains, All-contains_itself, A
 use Rattle.std.proofs.lemmas.List.Elements.{All-get_or, All-push, filter_more}
 use Rattle.std.proofs.lemmas.List.Folds.{Any-from_list_any, list_all_at, list_any-append}
 use Rattle.std.proofs.lemmas.List.Folds.{list_any_at}
-use Rattle.mq_topic.specs.Texts.{is_name}
-use Rattle.mq_acl.specs.AccessLists.{allow_by}
+use Rattle.mq_acl.specs.AccessLists.{AccessList, allow_by}
 use Rattle.mq_acl.specs.declared.rules.Rules.TheVariants.{Own}
 use Rattle.mq_acl.specs.Access.{concerns, covers, grants, is_deny}
 use Rattle.mq_acl.specs.Rows.{AclRow}
@@ -25,9 +24,10 @@ use Rattle.mq_acl.proofs.RowsByOwnerLemmas.{any_of_groups}
 use Rattle.mq_witness.specs.Decided.{decides}
 use Rattle.mq_witness.specs.Limits.{has_short_levels, is_short_row, long_line, short_who}
 use Rattle.mq_witness.specs.Rows.{lent_rows}
-use Rattle.mq_witness.specs.Topics.{FindsNoTopic, IsLimitFault}
+use Rattle.mq_witness.specs.Topics.{FindsNoTopic, IsLimitFault, IsTopic}
 use Rattle.mq_witness.specs.declared.fault.LimitFault.{LimitFault}
 use Rattle.mq_witness.specs.declared.fault.LimitFault.TheVariants as limit
+use Rattle.mq_reach.specs.Filled.{IsPassed, PassesNone, passes}
 use Rattle.mq_reach.specs.Reach.{IsReachFault, reach_fault}
 use Rattle.mq_acl.specs.Views.{row_view, row_views}
 use Rattle.mq_acl.specs.declared.row.Row.{Row}
@@ -54,7 +54,7 @@ passed-more p rows i d low =
 -- ## Which rows concern a topic
 
 -- those that pass a test and concern it are those that concern it, of those that pass
-any-tested : (p q : AclRow → Bool) (rows : List AclRow)
+pub any-tested : (p q : AclRow → Bool) (rows : List AclRow)
     → list_any (λ row. p row && q row) rows ≡ list_any p (filter q rows)
 any-tested p q [] = refl
 any-tested p q (row ∷ rows) =
@@ -99,66 +99,56 @@ some-at p xs x has e =
 
 -- ## What is found
 
-module _ (rows grants_of denies : List AclRow) (client : List ℕ) (user : Option (List ℕ))
-    (filter_row : AclRow)
-    (granting : (name : List ℕ) → concerns client user name filter_row ≡ true
-    → list_any (concerns client user name) grants_of
-    ≡ list_any (concerns client user name) (filter (λ row. grants Reading row.access) rows))
-    (denying : (name : List ℕ) → concerns client user name filter_row ≡ true
-    → list_any (concerns client user name) denies
-    ≡ list_any (concerns client user name) (filter (λ row. is_deny row.access) rows)) where
-  allowed-by : (name : List ℕ) → concerns client user name filter_row ≡ true
-      → allow_by Own rows client user name Reading
-      ≡ (not (list_any (concerns client user name) denies)
-      && list_any (concerns client user name) grants_of)
-  allowed-by name here =
-      allowed-is rows client user name
-      ∙ (λ i. not (sym (denying name here) i) && sym (granting name here) i)
+-- what tests that say the same of the rows pass is the same
+pub same-passes : (p q : AclRow → Bool) (denies grants_of others more : List AclRow)
+    → list_any p denies ≡ list_any q others → list_any p grants_of ≡ list_any q more
+    → passes p denies grants_of ≡ passes q others more
+same-passes p q denies grants_of others more d g = λ i. not (d i) && g i
 
-  -- where no row that grants shows a topic, there is none
-  pub none-allowed : ((grant : AclRow) → Contains grants_of grant
-      → FindsNoTopic client user (filter_row ∷ grant ∷ []) denies)
-      → (name : List ℕ) → is_name name ≡ true → concerns client user name filter_row ≡ true
-      → allow_by Own rows client user name Reading ≡ false
-  none-allowed none name valid here =
-      allowed-by name here
-      ∙ pick (list_any (concerns client user name) grants_of)
-      (λ e. (let some = Any-from_list_any (concerns client user name) grants_of e in
-      let grant : AclRow = some.1 in
-      let decided : decides client user name (filter_row ∷ grant ∷ []) denies ≡ false =
-      none grant (some.0, some.2, some.3) name valid in
-      (λ i. not (list_any (concerns client user name) denies) && e i)
-      ∙ and_true (not (list_any (concerns client user name) denies))
-      ∙ sym (λ i. (here i && (some.4 i && true))
-      && not (list_any (concerns client user name) denies))
-      ∙ decided))
-      (λ e. (λ i. not (list_any (concerns client user name) denies) && e i)
-      ∙ and-false (not (list_any (concerns client user name) denies)))
-    where
-      and_true : (b : Bool) → (b && true) ≡ b
-      and_true true = refl
-      and_true false = refl
+module _ (client : List ℕ) (user : Option (List ℕ)) (row : AclRow) (denies grants_of : List AclRow)
+  where
+    -- where no row that grants shows a topic, there is none
+    pub none-passes : ((grant : AclRow) → Contains grants_of grant
+        → FindsNoTopic client user (row ∷ grant ∷ []) denies)
+        → PassesNone client user row (concerns client user) denies grants_of
+    none-passes none name valid here =
+        pick (list_any (concerns client user name) grants_of)
+        (λ e. (let some = Any-from_list_any (concerns client user name) grants_of e in
+        let grant : AclRow = some.1 in
+        let decided : decides client user name (row ∷ grant ∷ []) denies ≡ false =
+        none grant (some.0, some.2, some.3) name valid in
+        (λ i. not (list_any (concerns client user name) denies) && e i)
+        ∙ and_true (not (list_any (concerns client user name) denies))
+        ∙ sym (λ i. (here i && (some.4 i && true))
+        && not (list_any (concerns client user name) denies))
+        ∙ decided))
+        (λ e. (λ i. not (list_any (concerns client user name) denies) && e i)
+        ∙ and-false (not (list_any (concerns client user name) denies)))
+      where
+        and_true : (b : Bool) → (b && true) ≡ b
+        and_true true = refl
+        and_true false = refl
 
-  -- a topic that one of them shows is allowed
-  pub one-allowed : (grant : AclRow) (name : List ℕ) → Contains grants_of grant
-      → decides client user name (filter_row ∷ grant ∷ []) denies ≡ true
-      → (concerns client user name filter_row ≡ true)
-      × (allow_by Own rows client user name Reading ≡ true)
-  one-allowed grant name has decided =
-      let both = and_parts (concerns client user name filter_row
-      && (concerns client user name grant && true))
-      (not (list_any (concerns client user name) denies)) decided in
-      let must = and_parts (concerns client user name filter_row)
-      (concerns client user name grant && true) both.0 in
-      let its = and_parts (concerns client user name grant) true must.1 in (
-        must.0,
-        allowed-by name must.0 ∙ (λ i. both.1 i
-            && some-at (concerns client user name) grants_of grant has its.0 i),
-      )
+    -- a topic that one of them shows is one
+    pub one-passes : (grant : AclRow) (name : List ℕ) → Contains grants_of grant
+        → IsTopic client user (row ∷ grant ∷ []) denies name
+        → IsPassed client user row (concerns client user) denies grants_of name
+    one-passes grant name has is =
+        let both = and_parts (concerns client user name row
+        && (concerns client user name grant && true))
+        (not (list_any (concerns client user name) denies)) is.decided in
+        let must = and_parts (concerns client user name row)
+        (concerns client user name grant && true) both.0 in
+        let its = and_parts (concerns client user name grant) true must.1 in
+        record {
+          valid = is.valid;
+          concerned = must.0;
+          passed = λ i. both.1 i && some-at (concerns client user name) grants_of grant has its.0 i;
+        }
 
 -- ## The limit
 
-all-at : {X : Type 0} (p : X → Bool) (xs : List X) (x : X) → list_all p xs ≡ true
+pub all-at : {X : Type 0} (p : X → Bool) (xs : List X) (x : X) → list_all p xs ≡ true
     → Contains xs x → p x ≡ true
 all-at p xs x all has =
     pick (p x) (λ e. e)
@@ -211,7 +201,7 @@ one_list rows lists is short =
 
 -- ## Rows that are chosen one by one
 
-drop-at : {X : Type 0} (xs : List X) (i : ℕ) (x : X) → i < length xs → x ≡ get_or xs i x
+pub drop-at : {X : Type 0} (xs : List X) (i : ℕ) (x : X) → i < length xs → x ≡ get_or xs i x
     → drop i xs ≡ x ∷ drop (i + 1) xs
 drop-at xs i x low is = rw (add-one, drop-cons xs i x) (ap (λ y. y ∷ drop (suc i) xs) (sym is))
 
@@ -292,13 +282,13 @@ some_then None f h = h
 some_then (Some x) f h = f x h
 
 -- what is told of the limits is told of the question
-pub fault-told : (rows : List AclRow) (client : List ℕ) (user : Option (List ℕ)) (own : List ℕ)
-    (row grant : AclRow) (fault : LimitFault) → row.filter ≡ own
-    → list_all (λ r. has_short_levels r.filter) rows ≡ true → Contains rows grant
-    → IsLimitFault client user (row ∷ grant ∷ []) fault
-    → IsReachFault client user own (reach_fault fault)
-fault-told rows client user own row grant limit.Memory same short has is = tt
-fault-told rows client user own row grant limit.Client same short has is = is
-fault-told rows client user own row grant limit.User same short has is = is
-fault-told rows client user own row grant limit.Row same short has is =
+pub fault-told : (list : AccessList) (rows : List AclRow) (client : List ℕ)
+    (user : Option (List ℕ)) (own : List ℕ) (row grant : AclRow) (fault : LimitFault)
+    → row.filter ≡ own → list_all (λ r. has_short_levels r.filter) rows ≡ true
+    → Contains rows grant → IsLimitFault client user (row ∷ grant ∷ []) fault
+    → IsReachFault list client user own (reach_fault fault)
+fault-told list rows client user own row grant limit.Memory same short has is = tt
+fault-told list rows client user own row grant limit.Client same short has is = is
+fault-told list rows client user own row grant limit.User same short has is = is
+fault-told list rows client user own row grant limit.Row same short has is =
     ap has_short_levels (sym same) ∙ filter-long rows row grant short has is

@@ -7,7 +7,7 @@ use Rattle.std.specs.Io.KnownBytes.{Consumes}
 use Rattle.std.specs.List.{cons_option}
 use Rattle.std.specs.Option.{option_to_list}
 use Rattle.std.proofs.lemmas.List.{take_all}
-use Rattle.mq_acl.specs.Rows.{AclRow}
+use Rattle.mq_acl.specs.AccessLists.{AccessList}
 use Rattle.mq_world.specs.After.{replay}
 use Rattle.mq_world.specs.World.{Request, empty_world}
 use Rattle.mq_jsonl.specs.Lines.{all_lines, command_in, kept, last_piece, piece_line, pieces}
@@ -26,16 +26,16 @@ use Rattle.mq_reach.proofs.GrownLemmas.{commands_of-push, grown, subscriptions-p
 use Rattle.mq_reach.proofs.StepLemmas.{makes_at}
 
 -- a reading that takes no bytes stays as it is
-pub TakesBytes-none : (rows : List AclRow) (r : Reading) → TakesBytes rows r r []
+pub TakesBytes-none : (list : AccessList) (r : Reading) → TakesBytes list r r []
 unfolding TakesBytes
-TakesBytes-none rows r = λ given holds. rw append-nil holds
+TakesBytes-none list r = λ given holds. rw append-nil holds
 
 -- to take some bytes and then others is to take them all
-pub TakesBytes-then : (rows : List AclRow) (p q r : Reading) (xs ys : List ℕ)
-    → TakesBytes rows p q xs → TakesBytes rows q r ys → TakesBytes rows p r (xs ++ ys)
+pub TakesBytes-then : (list : AccessList) (p q r : Reading) (xs ys : List ℕ)
+    → TakesBytes list p q xs → TakesBytes list q r ys → TakesBytes list p r (xs ++ ys)
 unfolding TakesBytes
-TakesBytes-then rows p q r xs ys s t = λ given holds.
-    subst (λ (l : List ℕ). HoldsScript rows l r) (append_assoc given xs ys)
+TakesBytes-then list p q r xs ys s t = λ given holds.
+    subst (λ (l : List ℕ). HoldsScript list l r) (append_assoc given xs ys)
     (t (given ++ xs) (s given holds))
 
 -- ## A long line is known by its front
@@ -68,12 +68,12 @@ length-kept : (lines : List (List ℕ)) (p : List ℕ)
     → length (lines ++ take kept p ∷ []) ≡ length (lines ++ p ∷ [])
 length-kept lines p = length-append lines (take kept p ∷ []) ∙ sym (length-append lines (p ∷ []))
 
-IsSearched-kept : (rows : List AclRow) (lines : List (List ℕ)) (p : List ℕ) (s : Search)
-    → IsSearched rows (lines ++ take kept p ∷ []) s → IsSearched rows (lines ++ p ∷ []) s
-IsSearched-kept rows lines p s is = record {
+IsSearched-kept : (list : AccessList) (lines : List (List ℕ)) (p : List ℕ) (s : Search)
+    → IsSearched list (lines ++ take kept p ∷ []) s → IsSearched list (lines ++ p ∷ []) s
+IsSearched-kept list lines p s is = record {
   is_world = subst (λ (cs : List Request). IsWorldOf (replay empty_world cs) s)
       (commands-kept lines p) is.is_world;
-  tracked = subst (λ all. AreTracked rows all s.tracked) (subscriptions-kept lines p) is.tracked;
+  tracked = subst (λ all. AreTracked list all s.tracked) (subscriptions-kept lines p) is.tracked;
   counts = record {
     lines = is.counts.lines ∙ length-kept lines p;
     commands = is.counts.commands ∙ ap length (commands-kept lines p);
@@ -94,12 +94,12 @@ kept_line n line more p xs is e f =
     (kept_more line p xs e)
 
 -- to take bytes without a line feed, it is enough to keep what there is room for
-pub TakesBytes-text : (rows : List AclRow) (p q : Reading) (xs : List ℕ) (n : ℕ) → kept ≡ n
+pub TakesBytes-text : (list : AccessList) (p q : Reading) (xs : List ℕ) (n : ℕ) → kept ≡ n
     → pieces xs ≡ xs ∷ []
     → q.search ≡ p.search → q.line.items ≡ p.line.items ++ take (n - length p.line.items) xs
-    → TakesBytes rows p q xs
+    → TakesBytes list p q xs
 unfolding TakesBytes
-TakesBytes-text rows p q xs n is one search line = λ given holds. record {
+TakesBytes-text list p q xs n is one search line = λ given holds. record {
   searched = rw (whole_lines-text given xs one, search) holds.searched;
   line =
       kept_line n p.line.items q.line.items (last_piece given) xs is holds.line line
@@ -107,19 +107,19 @@ TakesBytes-text rows p q xs n is one search line = λ given holds. record {
 }
 
 -- the line that is kept, with the rest of it, is searched, and then none is kept
-pub record EndsLine (rows : List AclRow) (p q : Reading) (rest line : List ℕ) (n : ℕ) :
+pub record EndsLine (list : AccessList) (p q : Reading) (rest line : List ℕ) (n : ℕ) :
     Type 0 where
   pub grown : line ≡ p.line.items ++ take (n - length p.line.items) rest
-  pub searched : (before : List (List ℕ)) → IsSearched rows before p.search
-      → IsSearched rows (before ++ line ∷ []) q.search
+  pub searched : (before : List (List ℕ)) → IsSearched list before p.search
+      → IsSearched list (before ++ line ∷ []) q.search
   pub none : q.line.items ≡ []
 
 -- a line feed ends the line that is kept
-pub TakesBytes-line : (rows : List AclRow) (p q : Reading) (rest line : List ℕ) (n : ℕ) → kept ≡ n
-    → pieces rest ≡ rest ∷ [] → EndsLine rows p q rest line n
-    → TakesBytes rows p q (rest ++ 10 ∷ [])
+pub TakesBytes-line : (list : AccessList) (p q : Reading) (rest line : List ℕ) (n : ℕ) → kept ≡ n
+    → pieces rest ≡ rest ∷ [] → EndsLine list p q rest line n
+    → TakesBytes list p q (rest ++ 10 ∷ [])
 unfolding TakesBytes
-TakesBytes-line rows p q rest line n is one ends = λ given holds.
+TakesBytes-line list p q rest line n is one ends = λ given holds.
     let ls : List (List ℕ) = whole_lines given in
     let piece : List ℕ = last_piece given ++ rest in
     let front : line ≡ take kept piece =
@@ -130,13 +130,13 @@ TakesBytes-line rows p q rest line n is one ends = λ given holds.
     whole_lines-feed (given ++ rest) ∙ ap (λ l. l ++ last_piece (given ++ rest) ∷ [])
     (whole_lines-text given rest one)
     ∙ ap (λ l. ls ++ l ∷ []) (last_piece-text given rest one) in
-    let searched : IsSearched rows (ls ++ piece ∷ []) q.search =
-    IsSearched-kept rows ls piece q.search
-    (subst (λ l. IsSearched rows (ls ++ l ∷ []) q.search) front (ends.searched ls holds.searched))
+    let searched : IsSearched list (ls ++ piece ∷ []) q.search =
+    IsSearched-kept list ls piece q.search
+    (subst (λ l. IsSearched list (ls ++ l ∷ []) q.search) front (ends.searched ls holds.searched))
     in
     record {
-      searched = subst (λ l. IsSearched rows (whole_lines l) q.search) (sym same)
-          (subst (λ l. IsSearched rows l q.search) (sym all) searched);
+      searched = subst (λ l. IsSearched list (whole_lines l) q.search) (sym same)
+          (subst (λ l. IsSearched list l q.search) (sym all) searched);
       line =
           ends.none ∙ sym (take_all kept [] (omega arith))
           ∙ ap (take kept) (sym (ap last_piece same ∙ last_piece-feed (given ++ rest)));
@@ -145,27 +145,27 @@ TakesBytes-line rows p q rest line n is one ends = λ given holds.
 -- ## The last piece
 
 -- where nothing is kept behind the last line feed, all lines are searched already
-pub whole-empty : (rows : List AclRow) (script : List ℕ) (r : Reading) → HoldsScript rows script r
+pub whole-empty : (list : AccessList) (script : List ℕ) (r : Reading) → HoldsScript list script r
     → r.line.items ≡ []
-    → IsSearched rows (all_lines script) r.search
-whole-empty rows script r holds none =
+    → IsSearched list (all_lines script) r.search
+whole-empty list script r holds none =
     let same : all_lines script ≡ whole_lines script =
     ap (λ l. whole_lines script ++ piece_line l)
     (no_piece (last_piece script) (sym holds.line ∙ none)) ∙ append-nil (whole_lines script) in
     rw same holds.searched
 
 -- where the last piece isn't empty, all lines are searched once it is searched as a line
-pub whole-piece : (rows : List AclRow) (script : List ℕ) (r : Reading) (s : Search)
-    → HoldsScript rows script r → (r.line.items ≡ [] → ⊥)
-    → ((before : List (List ℕ)) → IsSearched rows before r.search
-    → IsSearched rows (before ++ r.line.items ∷ []) s)
-    → IsSearched rows (all_lines script) s
-whole-piece rows script r s holds some step =
+pub whole-piece : (list : AccessList) (script : List ℕ) (r : Reading) (s : Search)
+    → HoldsScript list script r → (r.line.items ≡ [] → ⊥)
+    → ((before : List (List ℕ)) → IsSearched list before r.search
+    → IsSearched list (before ++ r.line.items ∷ []) s)
+    → IsSearched list (all_lines script) s
+whole-piece list script r s holds some step =
     let ls : List (List ℕ) = whole_lines script in
     let all : all_lines script ≡ ls ++ last_piece script ∷ [] =
     ap (λ l. ls ++ l) (some_piece (last_piece script) r.line.items holds.line some) in
-    rw all (IsSearched-kept rows ls (last_piece script) s
-    (subst (λ l. IsSearched rows (ls ++ l ∷ []) s) holds.line (step ls holds.searched)))
+    rw all (IsSearched-kept list ls (last_piece script) s
+    (subst (λ l. IsSearched list (ls ++ l ∷ []) s) holds.line (step ls holds.searched)))
 
 -- ## The reader
 
@@ -178,9 +178,9 @@ too_long (Some xs) None limit given c over = absurd c
 too_long (Some xs) (Some ys) limit given c over = rw (c, length-append) (omega arith)
 
 -- nothing is read yet
-pub HoldsScript-start : (rows : List AclRow) (r : Reading) → IsSearched rows [] r.search
-    → r.line.items ≡ [] → HoldsScript rows [] r
-HoldsScript-start rows r searched none = record {
+pub HoldsScript-start : (list : AccessList) (r : Reading) → IsSearched list [] r.search
+    → r.line.items ≡ [] → HoldsScript list [] r
+HoldsScript-start list r searched none = record {
   searched = searched;
   line = none ∙ sym (take_all kept [] (omega arith));
 }

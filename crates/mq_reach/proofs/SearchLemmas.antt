@@ -5,7 +5,7 @@ use Rattle.std.specs.Prelude.{IfOk, IfErr}
 use Rattle.std.specs.Result.{OnOk}
 use Rattle.std.specs.List.{cons_option}
 use Rattle.std.specs.Option.{option_to_list}
-use Rattle.mq_acl.specs.Rows.{AclRow}
+use Rattle.mq_acl.specs.AccessLists.{AccessList}
 use Rattle.mq_world.specs.World.{Request, World}
 use Rattle.mq_world.specs.declared.clock.Clock.{Clock}
 use Rattle.mq_jsonl.specs.Lines.{command_in}
@@ -46,13 +46,13 @@ pub record CountsLine (old new : Search) (kind : LineKind) : Type 0 where
   pub counts : new.counts ≡ counted old.counts kind
 
 -- one more line is searched, and counted
-pub IsSearched-push : (rows : List AclRow) (lines : List (List ℕ)) (line : List ℕ)
+pub IsSearched-push : (list : AccessList) (lines : List (List ℕ)) (line : List ℕ)
     (old mid new : Search) (kind : LineKind)
-    → IsSearched rows lines old → Applies rows (command_in (reading line)) old mid
+    → IsSearched list lines old → Applies list (command_in (reading line)) old mid
     → kind ≡ kind_of (told_in (old.counts.lines + 1) old.sessions (command_in (reading line)))
     (reading line)
-    → CountsLine mid new kind → IsSearched rows (lines ++ line ∷ []) new
-IsSearched-push rows lines line old mid new kind is applies kind_is line_counts =
+    → CountsLine mid new kind → IsSearched list (lines ++ line ∷ []) new
+IsSearched-push list lines line old mid new kind is applies kind_is line_counts =
     let c : Option Request = command_in (reading line) in
     let w-is : IsWorldOf (world_then (world_of lines) c) mid =
     applies.follows (world_of lines) is.is_world in
@@ -61,7 +61,7 @@ IsSearched-push rows lines line old mid new kind is applies kind_is line_counts 
         sessions = line_counts.sessions ∙ w-is.sessions;
         moment = ap (λ (k : Clock). k.moment) line_counts.clock ∙ w-is.moment;
       });
-      tracked = subst (AreTracked rows (subscriptions (lines ++ line ∷ [])))
+      tracked = subst (AreTracked list (subscriptions (lines ++ line ∷ [])))
           (sym line_counts.tracked)
           (applies.tracked lines line (says line c refl) is.is_world is.tracked
           (sym is.counts.lines));
@@ -72,19 +72,19 @@ IsSearched-push rows lines line old mid new kind is applies kind_is line_counts 
     }
 
 -- what is told of a command is told of a line that says it
-pub line-fails : (rows : List AclRow) (lines : List (List ℕ)) (line : List ℕ) (s : Search)
+pub line-fails : (list : AccessList) (lines : List (List ℕ)) (line : List ℕ) (s : Search)
     (command : Option Request) (fault : SearchFault) → command_in (reading line) ≡ command
-    → FailsBy rows command s fault → IsSearched rows lines s
-    → IsFaultAmong (subscriptions (lines ++ line ∷ [])) fault
-line-fails rows lines line s command fault e fails is = fails lines line (says line command e) is
+    → FailsBy list command s fault → IsSearched list lines s
+    → IsFaultAmong list (subscriptions (lines ++ line ∷ [])) fault
+line-fails list lines line s command fault e fails is = fails lines line (says line command e) is
 
 -- what is told in the end
-pub IsFound-told : (rows : List AclRow) (lines : List (List ℕ)) (s : Search) (f : Findings)
-    → IsSearched rows lines s → subscription_views f.vain.items ≡ vain_of s.tracked
-    → f.counts ≡ s.counts → IsFound rows lines f
-IsFound-told rows lines s f is vain counts = record {
-  vain = subst (AreVain rows (subscriptions lines)) (sym vain)
-      (AreVain-told rows (subscriptions lines) s.tracked is.tracked);
+pub IsFound-told : (list : AccessList) (lines : List (List ℕ)) (s : Search) (f : Findings)
+    → IsSearched list lines s → subscription_views f.vain.items ≡ vain_of s.tracked
+    → f.counts ≡ s.counts → IsFound list lines f
+IsFound-told list lines s f is vain counts = record {
+  vain = subst (AreVain list (subscriptions lines)) (sym vain)
+      (AreVain-told list (subscriptions lines) s.tracked is.tracked);
   counts = subst (AreCounted lines) (sym counts) is.counts;
 }
 

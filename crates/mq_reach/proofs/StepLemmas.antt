@@ -5,7 +5,7 @@ use Rattle.std.proofs.Common.{append-nil}
 use Rattle.std.specs.List.{AllByRecursion, AllZip, cons_option}
 use Rattle.std.specs.Option.{option_and_then, option_map, option_to_list}
 use Rattle.mq_topic.specs.Texts.{is_shared, is_subscription}
-use Rattle.mq_acl.specs.Rows.{AclRow}
+use Rattle.mq_acl.specs.AccessLists.{AccessList}
 use Rattle.mq_world.specs.After.{after, next}
 use Rattle.mq_world.specs.Lists.{Text, same_text}
 use Rattle.mq_world.specs.Refusals.{is_client_id}
@@ -47,29 +47,29 @@ makes_at lines command = option_to_list (option_and_then
     (λ r. made_by (length lines + 1) (world_of lines) r []) command)
 
 -- behind a line that says the command, the subscriptions have grown by it, and it makes one
-pub tracked-push : (rows : List AclRow) (lines : List (List ℕ)) (line : List ℕ)
+pub tracked-push : (list : AccessList) (lines : List (List ℕ)) (line : List ℕ)
     (command : Option Request) (ts us : Ts) → commands_of (line ∷ []) ≡ option_to_list command
-    → AreTracked rows (map (grown (world_of lines) command) (subscriptions lines)) ts
-    → AreTracked rows (makes_at lines command) us
-    → AreTracked rows (subscriptions (lines ++ line ∷ [])) (ts ++ us)
-tracked-push rows lines line command ts us says old new =
+    → AreTracked list (map (grown (world_of lines) command) (subscriptions lines)) ts
+    → AreTracked list (makes_at lines command) us
+    → AreTracked list (subscriptions (lines ++ line ∷ [])) (ts ++ us)
+tracked-push list lines line command ts us says old new =
     let is : command_in (reading line) ≡ command =
     said (command_in (reading line)) command says in
-    subst (λ all. AreTracked rows all (ts ++ us))
+    subst (λ all. AreTracked list all (ts ++ us))
     (sym (subscriptions-push lines line
     ∙ ap (λ c. map (grown (world_of lines) c) (subscriptions lines) ++ makes_at lines c) is))
-    (AreTracked-append rows (map (grown (world_of lines) command) (subscriptions lines))
+    (AreTracked-append list (map (grown (world_of lines) command) (subscriptions lines))
     (makes_at lines command) ts us old new)
 
-pub none_made : (rows : List AclRow) (lines : List (List ℕ)) (line : List ℕ)
+pub none_made : (list : AccessList) (lines : List (List ℕ)) (line : List ℕ)
     (command : Option Request) (ts : Ts) → commands_of (line ∷ []) ≡ option_to_list command
     → makes_at lines command ≡ []
-    → AreTracked rows (map (grown (world_of lines) command) (subscriptions lines)) ts
-    → AreTracked rows (subscriptions (lines ++ line ∷ [])) ts
-none_made rows lines line command ts says none are =
-    subst (AreTracked rows (subscriptions (lines ++ line ∷ []))) (append-nil ts)
-    (tracked-push rows lines line command ts [] says are
-    (subst (λ all. AreTracked rows all []) (sym none) refl))
+    → AreTracked list (map (grown (world_of lines) command) (subscriptions lines)) ts
+    → AreTracked list (subscriptions (lines ++ line ∷ [])) ts
+none_made list lines line command ts says none are =
+    subst (AreTracked list (subscriptions (lines ++ line ∷ []))) (append-nil ts)
+    (tracked-push list lines line command ts [] says are
+    (subst (λ all. AreTracked list all []) (sym none) refl))
 
 -- ## Steps
 
@@ -82,16 +82,16 @@ same-zip : (ts : Ts) → AllZip (λ t u. u ≡ t) ts ts
 same-zip [] = tt
 same-zip (t ∷ ts) = (refl, same-zip ts)
 
-pub refused-all : (rows : List AclRow) (w : World) (request : Request) (all : List Kept) (ts : Ts)
-    → is_taken w request ≡ false → AllByRecursion (IsSound w) all → AreTracked rows all ts
-    → AreTracked rows (map (grown w (Some request)) all) ts
-refused-all rows w request all ts refused sound are =
-    AreTracked-zip rows (grown w (Some request)) (IsSound w) (λ t u. u ≡ t)
-    (reached-grown rows w (Some request))
-    (λ kept t u s e is. subst (IsTracked rows (grown w (Some request) kept)) (sym e)
-    (subst (λ told. IsTracked rows (grown w (Some request) kept)
+pub refused-all : (list : AccessList) (w : World) (request : Request) (all : List Kept) (ts : Ts)
+    → is_taken w request ≡ false → AllByRecursion (IsSound w) all → AreTracked list all ts
+    → AreTracked list (map (grown w (Some request)) all) ts
+refused-all list w request all ts refused sound are =
+    AreTracked-zip list (grown w (Some request)) (IsSound w) (λ t u. u ≡ t)
+    (reached-grown list w (Some request))
+    (λ kept t u s e is. subst (IsTracked list (grown w (Some request) kept)) (sym e)
+    (subst (λ told. IsTracked list (grown w (Some request) kept)
     (record { told = told; state = t.state })) (sym is.0)
-    (refused-state rows w request kept t.state s refused is.1)))
+    (refused-state list w request kept t.state s refused is.1)))
     all ts ts sound (same-zip ts) are
 
 -- one that is taken closes those that it ends
@@ -99,43 +99,43 @@ abbrev pub ended_by : World → Request → TrackedSubscription → TrackedSubsc
 ended_by w request t =
     closed_if (is_open t.state && ends w request t.told.client t.told.filter) t
 
-pub kept-all : (rows : List AclRow) (w : World) (request : Request) (all : List Kept) (ts : Ts)
+pub kept-all : (list : AccessList) (w : World) (request : Request) (all : List Kept) (ts : Ts)
     (f : TrackedSubscription → TrackedSubscription) → is_taken w request ≡ true
     → ((client own : Text) → ends w request client own ≡ false
     → user_of (next w request).sessions client ≡ user_of w.sessions client)
     → ((t : TrackedSubscription) → f t ≡ ended_by w request t)
-    → AllByRecursion (IsSound w) all → AreTracked rows all ts
-    → AreTracked rows (map (grown w (Some request)) all) (map f ts)
-kept-all rows w request all ts f taken same ended sound are =
-    AreTracked-zip rows (grown w (Some request)) (IsSound w) (λ t u. u ≡ f t)
-    (reached-grown rows w (Some request))
-    (λ kept t u s e is. subst (IsTracked rows (grown w (Some request) kept))
+    → AllByRecursion (IsSound w) all → AreTracked list all ts
+    → AreTracked list (map (grown w (Some request)) all) (map f ts)
+kept-all list w request all ts f taken same ended sound are =
+    AreTracked-zip list (grown w (Some request)) (IsSound w) (λ t u. u ≡ f t)
+    (reached-grown list w (Some request))
+    (λ kept t u s e is. subst (IsTracked list (grown w (Some request) kept))
     (sym (e ∙ ended t))
-    (subst (λ told. IsTracked rows (grown w (Some request) kept)
+    (subst (λ told. IsTracked list (grown w (Some request) kept)
     (ended_by w request (record { told = told; state = t.state }))) (sym is.0)
-    (kept-state rows w request kept t.state s taken
+    (kept-state list w request kept t.state s taken
     (same kept.told.client kept.told.filter) is.1)))
     all ts (map f ts) sound (map-zip f ts) are
 
-pub asked-all : (rows : List AclRow) (w : World) (request : Request) (client : Text)
+pub asked-all : (list : AccessList) (w : World) (request : Request) (client : Text)
     (user : Option Text) (all : List Kept) (ts us : Ts) → is_taken w request ≡ true
     → ((its own : Text) → ends w request its own ≡ false)
     → user_of (next w request).sessions client ≡ user
     → ((its : Text) → same_text its client ≡ false
     → user_of (next w request).sessions its ≡ user_of w.sessions its)
-    → AllZip (Where (is_open_of client) (IsAsked rows user)) ts us
-    → AllByRecursion (IsSound w) all → AreTracked rows all ts
-    → AreTracked rows (map (grown w (Some request)) all) us
-asked-all rows w request client user all ts us taken lasts its others zip sound are =
-    AreTracked-zip rows (grown w (Some request)) (IsSound w)
-    (Where (is_open_of client) (IsAsked rows user))
-    (reached-grown rows w (Some request))
-    (λ kept t u s asked is. asked-state rows w request client user kept t.state u s taken
+    → AllZip (Where (is_open_of client) (IsAsked list user)) ts us
+    → AllByRecursion (IsSound w) all → AreTracked list all ts
+    → AreTracked list (map (grown w (Some request)) all) us
+asked-all list w request client user all ts us taken lasts its others zip sound are =
+    AreTracked-zip list (grown w (Some request)) (IsSound w)
+    (Where (is_open_of client) (IsAsked list user))
+    (reached-grown list w (Some request))
+    (λ kept t u s asked is. asked-state list w request client user kept t.state u s taken
     (lasts kept.told.client kept.told.filter)
     (λ e. ap (λ (c : Text). user_of (next w request).sessions c)
     (same_text-is kept.told.client client e) ∙ its)
     (others kept.told.client)
-    (subst (λ told. Where (is_open_of client) (IsAsked rows user)
+    (subst (λ told. Where (is_open_of client) (IsAsked list user)
     (record { told = told; state = t.state }) u) is.0 asked) is.1)
     all ts us sound zip are
 
@@ -186,14 +186,14 @@ refused-none lines (Advance seconds) e = refl
 refused-none lines Stat e = refl
 
 -- one that isn't taken leaves the search
-pub Applies-refused : (rows : List AclRow) (request : Request) (old : Search)
-    → Refuses request old → Applies rows (Some request) old old
-Applies-refused rows request old refuses = record {
+pub Applies-refused : (list : AccessList) (request : Request) (old : Search)
+    → Refuses request old → Applies list (Some request) old old
+Applies-refused list request old refuses = record {
   follows = λ w is. subst (λ v. IsWorldOf v old) (sym (next-refused w request (refuses w is))) is;
   tracked = λ lines line says is are count.
-      none_made rows lines line (Some request) old.tracked says
+      none_made list lines line (Some request) old.tracked says
       (refused-none lines request (refuses (world_of lines) is))
-      (refused-all rows (world_of lines) request (subscriptions lines) old.tracked
+      (refused-all list (world_of lines) request (subscriptions lines) old.tracked
       (refuses (world_of lines) is) (all_sound lines) are);
   counts = refl;
 }
@@ -205,7 +205,7 @@ taken-world w request s taken is =
     subst (λ v. IsWorldOf v s) (sym (next-taken w request taken)) is
 
 -- one that is taken, makes no subscription, and closes those that it ends
-pub Applies-ends : (rows : List AclRow) (request : Request) (old new : Search)
+pub Applies-ends : (list : AccessList) (request : Request) (old new : Search)
     (f : TrackedSubscription → TrackedSubscription) → makes_none request ≡ true
     → Takes request old
     → ((w : World) → IsWorldOf w old → IsWorldOf (after w request) new)
@@ -213,15 +213,15 @@ pub Applies-ends : (rows : List AclRow) (request : Request) (old new : Search)
     → ((w : World) → IsWorldOf w old → (t : TrackedSubscription) → f t ≡ ended_by w request t)
     → ((w : World) → IsWorldOf w old → (client own : Text) → ends w request client own ≡ false
     → user_of (next w request).sessions client ≡ user_of w.sessions client)
-    → new.counts ≡ old.counts → Applies rows (Some request) old new
-Applies-ends rows request old new f none takes follows tracked ended same counts = record {
+    → new.counts ≡ old.counts → Applies list (Some request) old new
+Applies-ends list request old new f none takes follows tracked ended same counts = record {
   follows = λ w is. taken-world w request new (takes w is) (follows w is);
   tracked = λ lines line says is are count.
       (let w : World = world_of lines in
-      subst (AreTracked rows (subscriptions (lines ++ line ∷ []))) (sym tracked)
-      (none_made rows lines line (Some request) (map f old.tracked) says
+      subst (AreTracked list (subscriptions (lines ++ line ∷ []))) (sym tracked)
+      (none_made list lines line (Some request) (map f old.tracked) says
       (makes-none lines request none)
-      (kept-all rows w request (subscriptions lines) old.tracked f (takes w is) (same w is)
+      (kept-all list w request (subscriptions lines) old.tracked f (takes w is) (same w is)
       (ended w is) (all_sound lines) are)));
   counts = counts;
 }

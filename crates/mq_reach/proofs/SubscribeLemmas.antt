@@ -8,7 +8,7 @@ use Rattle.std.proofs.Math.Bool.{and_assoc}
 use Rattle.std.proofs.lemmas.Bool.Decides.{Decides-eqb}
 use Rattle.std.proofs.lemmas.List.Elements.{Contains-push, Contains-push_cases}
 use Rattle.mq_topic.specs.Texts.{filter_part, is_name, is_shared, is_subscription}
-use Rattle.mq_acl.specs.Rows.{AclRow}
+use Rattle.mq_acl.specs.AccessLists.{AccessList}
 use Rattle.mq_world.specs.After.{after, next}
 use Rattle.mq_world.specs.Lists.{Text, same_text}
 use Rattle.mq_world.specs.Refusals.{is_client_id}
@@ -63,11 +63,11 @@ some_taken : (b : Bool) (told s : spec.Subscription) → Some s ≡ cond b (Some
 some_taken true told s e = (refl, cc)
 some_taken false told s e = cc
 
-pub subscribe-refused : (rows : List AclRow) (id text : Text) (options : SubscriptionOptions)
+pub subscribe-refused : (list : AccessList) (id text : Text) (options : SubscriptionOptions)
     (s : Search) → None ≡ told_by (s.counts.lines + 1) s.sessions (Subscribe id text options)
-    → Applies rows (Some (Subscribe id text options)) s s
-subscribe-refused rows id text options s e =
-    Applies-refused rows (Subscribe id text options) s
+    → Applies list (Some (Subscribe id text options)) s s
+subscribe-refused list id text options s e =
+    Applies-refused list (Subscribe id text options) s
     (λ w is. takes-is s id text options w is
     ∙ none_taken (takes_it s id text options) (told_now s id text) e)
 
@@ -118,78 +118,78 @@ module _ (id text : Text) (options : SubscriptionOptions) (s : Search)
       (next-taken w (Subscribe id text options) (taken w is))
       ∙ sym (ap (λ (ss : List Session). user_of ss id) is.sessions ∙ user-unqueued w.sessions id)
 
-  vain-now : (rows : List AclRow) (lines : List (List ℕ)) → IsWorldOf (world_of lines) s
-      → ReadsNone rows id (user_of s.sessions id) (filter_part text)
-      → IsVain rows (made lines id text options)
-  vain-now rows lines is none = λ user has.
+  vain-now : (list : AccessList) (lines : List (List ℕ)) → IsWorldOf (world_of lines) s
+      → ReadsNone list id (user_of s.sessions id) (filter_part text)
+      → IsVain list (made lines id text options)
+  vain-now list lines is none = λ user has.
       let user-is : user_of (next (world_of lines) (Subscribe id text options)).sessions id ≡ user =
       only _ user has in
-      subst (λ (u : Option Text). ReadsNone rows id u (filter_part text))
+      subst (λ (u : Option Text). ReadsNone list id u (filter_part text))
       (sym (user-now (world_of lines) is) ∙ user-is) none
     where
       only : (u user : Option Text) → Contains (u ∷ []) user → u ≡ user
       only u user has = elim (Contains-push_cases [] u user has) as (λ _. u ≡ user)
           [ inl h ↦ absurd (let none : h.0 < 0 = h.1 in omega arith) | inr e ↦ e ]
 
-  reached-now : (rows : List AclRow) (lines : List (List ℕ)) → IsWorldOf (world_of lines) s
+  reached-now : (list : AccessList) (lines : List (List ℕ)) → IsWorldOf (world_of lines) s
       → (topic : List ℕ) → IsTrue (is_name topic)
-      → Reads rows id (user_of s.sessions id) (filter_part text) topic
-      → IsReached rows (made lines id text options)
-  reached-now rows lines is topic valid reads = record {
+      → Reads list id (user_of s.sessions id) (filter_part text) topic
+      → IsReached list (made lines id text options)
+  reached-now list lines is topic valid reads = record {
     user = user_of (next (world_of lines) (Subscribe id text options)).sessions id;
     had = Contains-push [] (user_of (next (world_of lines) (Subscribe id text options)).sessions id);
     topic = topic;
     valid = valid;
-    reads = subst (λ (u : Option Text). Reads rows id u (filter_part text) topic)
+    reads = subst (λ (u : Option Text). Reads list id u (filter_part text) topic)
         (sym (user-now (world_of lines) is)) reads;
   }
 
-  applies : (rows : List AclRow) (new : Search) (us : List TrackedSubscription)
+  applies : (list : AccessList) (new : Search) (us : List TrackedSubscription)
       → ((lines : List (List ℕ)) → IsWorldOf (world_of lines) s → length lines ≡ s.counts.lines
-      → AreTracked rows (made lines id text options ∷ []) us)
+      → AreTracked list (made lines id text options ∷ []) us)
       → new.sessions ≡ s.sessions → new.clock ≡ s.clock
       → new.tracked ≡ map (closed_one id text) s.tracked ++ us → new.counts ≡ s.counts
-      → Applies rows (Some (Subscribe id text options)) s new
+      → Applies list (Some (Subscribe id text options)) s new
   unfolding after
-  applies rows new us one sessions clock tracked counts = record {
+  applies list new us one sessions clock tracked counts = record {
     follows = λ w is. taken-world w (Subscribe id text options) new (taken w is) (record {
       sessions = sessions ∙ is.sessions;
       moment = ap (λ (c : Clock). c.moment) clock ∙ is.moment;
     });
     tracked = λ lines line says is are count.
         (let w : World = world_of lines in
-        subst (AreTracked rows (subscriptions (lines ++ line ∷ []))) (sym tracked)
-        (tracked-push rows lines line (Some (Subscribe id text options))
+        subst (AreTracked list (subscriptions (lines ++ line ∷ []))) (sym tracked)
+        (tracked-push list lines line (Some (Subscribe id text options))
         (map (closed_one id text) s.tracked) us says
-        (kept-all rows w (Subscribe id text options) (subscriptions lines) s.tracked
+        (kept-all list w (Subscribe id text options) (subscriptions lines) s.tracked
         (closed_one id text) (taken w is)
         (λ client own e. user-kept w (Subscribe id text options) client own (taken w is) e refl)
         (λ t. ap (λ b. closed_if b t)
         (and_assoc (is_open t.state) (same_text t.told.client id) (same_text t.told.filter text)))
         (all_sound lines) are)
-        (subst (λ all. AreTracked rows all us) (sym (makes-it lines is)) (one lines is count))));
+        (subst (λ all. AreTracked list all us) (sym (makes-it lines is)) (one lines is count))));
     counts = counts;
   }
 
 -- what it makes is reached
-pub subscribe-reached : (rows : List AclRow) (id text : Text) (options : SubscriptionOptions)
+pub subscribe-reached : (list : AccessList) (id text : Text) (options : SubscriptionOptions)
     (old new : Search) (told : spec.Subscription)
     → Some told ≡ told_by (old.counts.lines + 1) old.sessions (Subscribe id text options)
     → (topic : List ℕ) → IsTrue (is_name topic)
-    → Reads rows told.client told.user (filter_part told.filter) topic
+    → Reads list told.client told.user (filter_part told.filter) topic
     → new.sessions ≡ old.sessions → new.clock ≡ old.clock
     → new.tracked ≡ map (closed_one told.client told.filter) old.tracked
     → new.counts ≡ old.counts
-    → Applies rows (Some (Subscribe id text options)) old new
-subscribe-reached rows id text options old new told e topic valid reads sessions clock tracked
+    → Applies list (Some (Subscribe id text options)) old new
+subscribe-reached list id text options old new told e topic valid reads sessions clock tracked
     counts =
     let some = some_taken (takes_it old id text options) (told_now old id text) told e in
-    let here : Reads rows id (user_of old.sessions id) (filter_part text) topic =
-    subst (λ (t : spec.Subscription). Reads rows t.client t.user (filter_part t.filter) topic)
+    let here : Reads list id (user_of old.sessions id) (filter_part text) topic =
+    subst (λ (t : spec.Subscription). Reads list t.client t.user (filter_part t.filter) topic)
     some.1 reads in
-    applies id text options old some.0 rows new []
+    applies id text options old some.0 list new []
     (λ lines is count. inl (
-      reached-now id text options old some.0 rows lines is topic valid here,
+      reached-now id text options old some.0 list lines is topic valid here,
       refl,
     )) sessions clock
     (tracked ∙ ap (λ (t : spec.Subscription). map (closed_one t.client t.filter) old.tracked) some.1
@@ -197,28 +197,28 @@ subscribe-reached rows id text options old new told e topic valid reads sessions
     counts
 
 -- what it makes is in vain
-pub subscribe-vain : (rows : List AclRow) (id text : Text) (options : SubscriptionOptions)
+pub subscribe-vain : (list : AccessList) (id text : Text) (options : SubscriptionOptions)
     (old new : Search) (told : spec.Subscription)
     → Some told ≡ told_by (old.counts.lines + 1) old.sessions (Subscribe id text options)
-    → ReadsNone rows told.client told.user (filter_part told.filter)
+    → ReadsNone list told.client told.user (filter_part told.filter)
     → new.sessions ≡ old.sessions → new.clock ≡ old.clock
     → new.tracked ≡ map (closed_one told.client told.filter) old.tracked
     ++ record { told = told; state = Open } ∷ []
     → new.counts ≡ old.counts
-    → Applies rows (Some (Subscribe id text options)) old new
-subscribe-vain rows id text options old new told e none sessions clock tracked counts =
+    → Applies list (Some (Subscribe id text options)) old new
+subscribe-vain list id text options old new told e none sessions clock tracked counts =
     let some = some_taken (takes_it old id text options) (told_now old id text) told e in
-    let here : ReadsNone rows id (user_of old.sessions id) (filter_part text) =
-    subst (λ (t : spec.Subscription). ReadsNone rows t.client t.user (filter_part t.filter))
+    let here : ReadsNone list id (user_of old.sessions id) (filter_part text) =
+    subst (λ (t : spec.Subscription). ReadsNone list t.client t.user (filter_part t.filter))
     some.1 none in
-    applies id text options old some.0 rows new (record { told = told; state = Open } ∷ [])
+    applies id text options old some.0 list new (record { told = told; state = Open } ∷ [])
     (λ lines is count. inr (
       record { told = told; state = Open },
       [],
       refl,
       (
         some.1 ∙ sym (told-is id text options old some.0 lines is count),
-        inr (refl, vain-now id text options old some.0 rows lines is here),
+        inr (refl, vain-now id text options old some.0 list lines is here),
       ),
       refl,
     )) sessions clock
@@ -226,39 +226,41 @@ subscribe-vain rows id text options old new told e none sessions clock tracked c
     ++ record { told = told; state = Open } ∷ []) some.1)
     counts
 
-long_now : (lines : List (List ℕ)) (id text : Text) (options : SubscriptionOptions)
-    (told : spec.Subscription) (fault : SearchFault) → told ≡ (made lines id text options).told
+long_now : (list : AccessList) (lines : List (List ℕ)) (id text : Text)
+    (options : SubscriptionOptions) (told : spec.Subscription) (fault : SearchFault)
+    → told ≡ (made lines id text options).told
     → told.user ≡ user_of (next (world_of lines) (Subscribe id text options)).sessions id
-    → IsAskFault told told.user fault
-    → IsFaultAmong (made lines id text options ∷ []) fault
-long_now lines id text options told search.Memory same user is = tt
-long_now lines id text options told (search.Row line) same user is = absurd is
-long_now lines id text options told (search.Subscription line) same user is =
+    → IsAskFault list told told.user fault
+    → IsFaultAmong list (made lines id text options ∷ []) fault
+long_now list lines id text options told search.Memory same user is = tt
+long_now list lines id text options told (search.Row line) same user is = absurd is
+long_now list lines id text options told (search.Subscription line) same user is =
     let kept : Kept = made lines id text options in
     let now : Option Text =
     user_of (next (world_of lines) (Subscribe id text options)).sessions id in
     let here : (kept.told.line == line) ≡ true =
     (Decides-eqb kept.told.line line).1
     (ap (λ (t : spec.Subscription). t.line) (sym same) ∙ is.0) in
-    let long : is_short_question kept.told now ≡ false =
-    ap (is_short_question kept.told) (sym user)
-    ∙ ap (λ (t : spec.Subscription). is_short_question t told.user) (sym same) ∙ is.1 in
-    ap (λ b. (b && not (is_short_question kept.told now && true)) || false) here
+    let long : is_short_question list kept.told now ≡ false =
+    ap (is_short_question list kept.told) (sym user)
+    ∙ ap (λ (t : spec.Subscription). is_short_question list t told.user) (sym same) ∙ is.1 in
+    ap (λ b. (b && not (is_short_question list kept.told now && true)) || false) here
     ∙ ap (λ b. not (b && true) || false) long
 
 -- what is told of what it makes is so
-pub subscribe-fails : (rows : List AclRow) (id text : Text) (options : SubscriptionOptions)
+pub subscribe-fails : (list : AccessList) (id text : Text) (options : SubscriptionOptions)
     (old : Search) (told : spec.Subscription) (fault : SearchFault)
     → Some told ≡ told_by (old.counts.lines + 1) old.sessions (Subscribe id text options)
-    → IsAskFault told told.user fault
-    → FailsBy rows (Some (Subscribe id text options)) old fault
-subscribe-fails rows id text options old told fault e is = λ lines line says searched.
+    → IsAskFault list told told.user fault
+    → FailsBy list (Some (Subscribe id text options)) old fault
+subscribe-fails list id text options old told fault e is = λ lines line says searched.
     let some = some_taken (takes_it old id text options) (told_now old id text) told e in
     let w-is : IsWorldOf (world_of lines) old = searched.is_world in
     let same : told ≡ (made lines id text options).told =
     some.1 ∙ sym (told-is id text options old some.0 lines w-is (sym searched.counts.lines)) in
-    made_fault lines line (Some (Subscribe id text options)) fault says
-    (subst (λ all. IsFaultAmong all fault) (sym (makes-it id text options old some.0 lines w-is))
-    (long_now lines id text options told fault same
+    made_fault list lines line (Some (Subscribe id text options)) fault says
+    (subst (λ all. IsFaultAmong list all fault)
+    (sym (makes-it id text options old some.0 lines w-is))
+    (long_now list lines id text options told fault same
     (ap (λ (t : spec.Subscription). t.user) some.1
     ∙ sym (user-now id text options old some.0 (world_of lines) w-is)) is))

@@ -7,7 +7,7 @@ use Rattle.std.specs.List.{AllByRecursion, AllZip, cons_option}
 use Rattle.std.proofs.lemmas.List.Elements.{Contains-append_left, Contains-push}
 use Rattle.std.proofs.lemmas.List.Elements.{Contains-push_cases}
 use Rattle.mq_topic.specs.Texts.{filter_part}
-use Rattle.mq_acl.specs.Rows.{AclRow}
+use Rattle.mq_acl.specs.AccessLists.{AccessList}
 use Rattle.mq_world.specs.After.{next}
 use Rattle.mq_world.specs.Lists.{Text, same_text}
 use Rattle.mq_world.specs.Sessions.{user_of}
@@ -28,9 +28,9 @@ use Rattle.mq_reach.proofs.KeyLemmas.{key_of}
 
 -- ## What more commands say of one
 
-reached-more : (rows : List AclRow) (kept : Kept) (user : Option Text) → IsReached rows kept
-    → IsReached rows (record kept { users = kept.users ++ user ∷ [] })
-reached-more rows kept user r = record {
+reached-more : (list : AccessList) (kept : Kept) (user : Option Text) → IsReached list kept
+    → IsReached list (record kept { users = kept.users ++ user ∷ [] })
+reached-more list kept user r = record {
   user = r.user;
   had = Contains-append_left kept.users (user ∷ []) r.user r.had;
   topic = r.topic;
@@ -38,9 +38,9 @@ reached-more rows kept user r = record {
   reads = r.reads;
 }
 
-reached-closed : (rows : List AclRow) (kept : Kept) → IsReached rows kept
-    → IsReached rows (record kept { is_open = false })
-reached-closed rows kept r = record {
+reached-closed : (list : AccessList) (kept : Kept) → IsReached list kept
+    → IsReached list (record kept { is_open = false })
+reached-closed list kept r = record {
   user = r.user;
   had = r.had;
   topic = r.topic;
@@ -49,34 +49,34 @@ reached-closed rows kept r = record {
 }
 
 -- one that is reached stays so
-pub reached-grown : (rows : List AclRow) (w : World) (command : Option Request) (kept : Kept)
-    → IsReached rows kept → IsReached rows (grown w command kept)
-reached-grown rows w None kept r = r
-reached-grown rows w (Some request) kept r =
+pub reached-grown : (list : AccessList) (w : World) (command : Option Request) (kept : Kept)
+    → IsReached list kept → IsReached list (grown w command kept)
+reached-grown list w None kept r = r
+reached-grown list w (Some request) kept r =
     let user : Option Text = user_of (next w request).sessions kept.told.client in
-    elim (kept.is_open && stays (key_of kept.told) w request) as (λ b. IsReached rows
+    elim (kept.is_open && stays (key_of kept.told) w request) as (λ b. IsReached list
     (cond b (record kept { users = kept.users ++ user ∷ [] })
     (record kept { is_open = false })))
-    [ true ↦ reached-more rows kept user r | false ↦ reached-closed rows kept r ]
+    [ true ↦ reached-more list kept user r | false ↦ reached-closed list kept r ]
 
 -- one that is in vain stays so under one more user name that doesn't let it read
-vain-more : (rows : List AclRow) (kept : Kept) (user : Option Text) → IsVain rows kept
-    → ReadsNone rows kept.told.client user (filter_part kept.told.filter)
-    → IsVain rows (record kept { users = kept.users ++ user ∷ [] })
-vain-more rows kept user vain none = λ other has.
+vain-more : (list : AccessList) (kept : Kept) (user : Option Text) → IsVain list kept
+    → ReadsNone list kept.told.client user (filter_part kept.told.filter)
+    → IsVain list (record kept { users = kept.users ++ user ∷ [] })
+vain-more list kept user vain none = λ other has.
     elim (Contains-push_cases kept.users user other has)
-    as (λ _. ReadsNone rows kept.told.client other (filter_part kept.told.filter)) [
+    as (λ _. ReadsNone list kept.told.client other (filter_part kept.told.filter)) [
       | inl h ↦ vain other h
-      | inr e ↦ subst (λ (u : Option Text). ReadsNone rows kept.told.client u
+      | inr e ↦ subst (λ (u : Option Text). ReadsNone list kept.told.client u
           (filter_part kept.told.filter)) e none
     ]
 
 -- ## One step
 
 -- how it is with a subscription in this state
-abbrev IsState : List AclRow → Kept → State → Type 0
-IsState rows kept state = ((state ≡ Reached) × IsReached rows kept)
-    ⊎ ((state ≡ (if kept.is_open then Open else Closed)) × IsVain rows kept)
+abbrev IsState : AccessList → Kept → State → Type 0
+IsState list kept state = ((state ≡ Reached) × IsReached list kept)
+    ⊎ ((state ≡ (if kept.is_open then Open else Closed)) × IsVain list kept)
 
 abbrev tracked_at : Kept → State → TrackedSubscription
 tracked_at kept state = record { told = kept.told; state = state }
@@ -100,40 +100,40 @@ grown-open w request kept e =
     }) (record kept { is_open = false })) e
 
 -- a subscription that its session doesn't keep any more stays as it is
-stays-closed : (rows : List AclRow) (w : World) (request : Request) (kept : Kept) (state : State)
-    → kept.is_open ≡ false → state ≡ (if kept.is_open then Open else Closed) → IsVain rows kept
-    → IsTracked rows (grown w (Some request) kept) (tracked_at kept state)
-stays-closed rows w request kept state shut e vain =
+stays-closed : (list : AccessList) (w : World) (request : Request) (kept : Kept) (state : State)
+    → kept.is_open ≡ false → state ≡ (if kept.is_open then Open else Closed) → IsVain list kept
+    → IsTracked list (grown w (Some request) kept) (tracked_at kept state)
+stays-closed list w request kept state shut e vain =
     let closed : state ≡ Closed = e ∙ ap (λ b. cond b Open Closed) shut in
-    subst (λ (k : Kept). IsTracked rows k (tracked_at kept state))
+    subst (λ (k : Kept). IsTracked list k (tracked_at kept state))
     (sym (grown-closed w request kept
     (ap (λ b. b && stays (key_of kept.told) w request) shut)))
     (refl, inr (closed, vain))
 
 -- one that its session keeps is open, and in vain under one more user name
-stays-open : (rows : List AclRow) (w : World) (request : Request) (kept : Kept) (state : State)
+stays-open : (list : AccessList) (w : World) (request : Request) (kept : Kept) (state : State)
     → (kept.is_open && stays (key_of kept.told) w request) ≡ true
-    → state ≡ (if kept.is_open then Open else Closed) → IsVain rows kept
-    → ReadsNone rows kept.told.client (user_of (next w request).sessions kept.told.client)
+    → state ≡ (if kept.is_open then Open else Closed) → IsVain list kept
+    → ReadsNone list kept.told.client (user_of (next w request).sessions kept.told.client)
     (filter_part kept.told.filter)
-    → IsTracked rows (grown w (Some request) kept) (tracked_at kept state)
-stays-open rows w request kept state still e vain none =
-    subst (λ (k : Kept). IsTracked rows k (tracked_at kept state))
+    → IsTracked list (grown w (Some request) kept) (tracked_at kept state)
+stays-open list w request kept state still e vain none =
+    subst (λ (k : Kept). IsTracked list k (tracked_at kept state))
     (sym (grown-open w request kept still)) (
       refl,
       inr (
         e,
-        vain-more rows kept
+        vain-more list kept
             (user_of (next w request).sessions kept.told.client) vain none,
       ),
     )
 
 -- one that its session keeps no longer is closed
-is_closed : (rows : List AclRow) (w : World) (request : Request) (kept : Kept)
-    → (kept.is_open && stays (key_of kept.told) w request) ≡ false → IsVain rows kept
-    → IsTracked rows (grown w (Some request) kept) (tracked_at kept Closed)
-is_closed rows w request kept shut vain =
-    subst (λ (k : Kept). IsTracked rows k (tracked_at kept Closed))
+is_closed : (list : AccessList) (w : World) (request : Request) (kept : Kept)
+    → (kept.is_open && stays (key_of kept.told) w request) ≡ false → IsVain list kept
+    → IsTracked list (grown w (Some request) kept) (tracked_at kept Closed)
+is_closed list w request kept shut vain =
+    subst (λ (k : Kept). IsTracked list k (tracked_at kept Closed))
     (sym (grown-closed w request kept shut))
     (refl, inr (refl, vain))
 
@@ -146,54 +146,54 @@ grown-told w (Some request) kept =
     }) (record kept { is_open = false })).told ≡ kept.told) [ true ↦ refl | false ↦ refl ]
 
 -- one that is reached stays as it is
-stays-reached : (rows : List AclRow) (w : World) (request : Request) (kept : Kept) (state : State)
-    → state ≡ Reached → IsReached rows kept
-    → IsTracked rows (grown w (Some request) kept) (tracked_at kept state)
-stays-reached rows w request kept state e r =
-    (sym (grown-told w (Some request) kept), inl (e, reached-grown rows w (Some request) kept r))
+stays-reached : (list : AccessList) (w : World) (request : Request) (kept : Kept) (state : State)
+    → state ≡ Reached → IsReached list kept
+    → IsTracked list (grown w (Some request) kept) (tracked_at kept state)
+stays-reached list w request kept state e r =
+    (sym (grown-told w (Some request) kept), inl (e, reached-grown list w (Some request) kept r))
 
 -- its client's user name is one that its session had
-same_user : (rows : List AclRow) (w : World) (request : Request) (kept : Kept) → IsSound w kept
-    → kept.is_open ≡ true → IsVain rows kept
+same_user : (list : AccessList) (w : World) (request : Request) (kept : Kept) → IsSound w kept
+    → kept.is_open ≡ true → IsVain list kept
     → user_of (next w request).sessions kept.told.client ≡ user_of w.sessions kept.told.client
-    → ReadsNone rows kept.told.client (user_of (next w request).sessions kept.told.client)
+    → ReadsNone list kept.told.client (user_of (next w request).sessions kept.told.client)
     (filter_part kept.told.filter)
-same_user rows w request kept sound still vain same =
+same_user list w request kept sound still vain same =
     vain (user_of (next w request).sessions kept.told.client)
     (subst (λ (u : Option Text). Contains kept.users u) (sym same) (sound.current still))
 
 -- a command that isn't taken leaves it
-pub refused-state : (rows : List AclRow) (w : World) (request : Request) (kept : Kept)
-    (state : State) → IsSound w kept → is_taken w request ≡ false → IsState rows kept state
-    → IsTracked rows (grown w (Some request) kept) (tracked_at kept state)
-refused-state rows w request kept state sound refused (inl h) =
-    stays-reached rows w request kept state h.0 h.1
-refused-state rows w request kept state sound refused (inr h) =
+pub refused-state : (list : AccessList) (w : World) (request : Request) (kept : Kept)
+    (state : State) → IsSound w kept → is_taken w request ≡ false → IsState list kept state
+    → IsTracked list (grown w (Some request) kept) (tracked_at kept state)
+refused-state list w request kept state sound refused (inl h) =
+    stays-reached list w request kept state h.0 h.1
+refused-state list w request kept state sound refused (inr h) =
     pick kept.is_open
-    (λ still. stays-open rows w request kept state
+    (λ still. stays-open list w request kept state
     (ap (λ b. b && stays (key_of kept.told) w request) still
     ∙ stays-refused (key_of kept.told) w request refused (sound.there still)) h.0 h.1
-    (same_user rows w request kept sound still h.1
+    (same_user list w request kept sound still h.1
     (ap (λ (v : World). user_of v.sessions kept.told.client) (next-refused w request refused))))
-    (λ shut. stays-closed rows w request kept state shut h.0 h.1)
+    (λ shut. stays-closed list w request kept state shut h.0 h.1)
 
 -- one that is taken, under which the client has the user name that it had, closes it where it ends it
-pub kept-state : (rows : List AclRow) (w : World) (request : Request) (kept : Kept) (state : State)
+pub kept-state : (list : AccessList) (w : World) (request : Request) (kept : Kept) (state : State)
     → IsSound w kept → is_taken w request ≡ true
     → (ends w request kept.told.client kept.told.filter ≡ false
     → user_of (next w request).sessions kept.told.client ≡ user_of w.sessions kept.told.client)
-    → IsState rows kept state
-    → IsTracked rows (grown w (Some request) kept)
+    → IsState list kept state
+    → IsTracked list (grown w (Some request) kept)
     (closed_if (is_open state && ends w request kept.told.client kept.told.filter)
     (tracked_at kept state))
-kept-state rows w request kept state sound taken same (inl h) =
+kept-state list w request kept state sound taken same (inl h) =
     let over : Bool = ends w request kept.told.client kept.told.filter in
-    subst (λ (s : State). IsTracked rows (grown w (Some request) kept)
+    subst (λ (s : State). IsTracked list (grown w (Some request) kept)
     (closed_if (is_open s && over) (tracked_at kept s))) (sym h.0)
-    (stays-reached rows w request kept Reached refl h.1)
-kept-state rows w request kept state sound taken same (inr h) =
+    (stays-reached list w request kept Reached refl h.1)
+kept-state list w request kept state sound taken same (inr h) =
     let over : Bool = ends w request kept.told.client kept.told.filter in
-    let G : State → Type 0 = λ s. IsTracked rows (grown w (Some request) kept)
+    let G : State → Type 0 = λ s. IsTracked list (grown w (Some request) kept)
     (closed_if (is_open s && over) (tracked_at kept s)) in
     pick kept.is_open
     (λ still. (let lasts : (kept.is_open && stays (key_of kept.told) w request) ≡ not over =
@@ -201,21 +201,21 @@ kept-state rows w request kept state sound taken same (inr h) =
     ∙ stays-taken kept.told w request taken sound.valid (sound.there still) in
     subst G (sym (h.0 ∙ ap (λ b. cond b Open Closed) still))
     (pick over
-    (λ e. subst (λ b. IsTracked rows (grown w (Some request) kept)
+    (λ e. subst (λ b. IsTracked list (grown w (Some request) kept)
     (closed_if b (tracked_at kept Open))) (sym e)
-    (is_closed rows w request kept (lasts ∙ ap not e) h.1))
-    (λ e. subst (λ b. IsTracked rows (grown w (Some request) kept)
+    (is_closed list w request kept (lasts ∙ ap not e) h.1))
+    (λ e. subst (λ b. IsTracked list (grown w (Some request) kept)
     (closed_if b (tracked_at kept Open))) (sym e)
-    (stays-open rows w request kept Open (lasts ∙ ap not e)
+    (stays-open list w request kept Open (lasts ∙ ap not e)
     (sym (ap (λ b. cond b Open Closed) still)) h.1
-    (same_user rows w request kept sound still h.1 (same e)))))))
+    (same_user list w request kept sound still h.1 (same e)))))))
     (λ shut. (let closed : state ≡ Closed = h.0 ∙ ap (λ b. cond b Open Closed) shut in
     subst G (sym closed)
-    (stays-closed rows w request kept Closed shut
+    (stays-closed list w request kept Closed shut
     (sym (ap (λ b. cond b Open Closed) shut)) h.1)))
 
 -- one that is taken, and under which the client has this user name, leaves it, or it is reached under it
-pub asked-state : (rows : List AclRow) (w : World) (request : Request) (client : Text)
+pub asked-state : (list : AccessList) (w : World) (request : Request) (client : Text)
     (user : Option Text) (kept : Kept) (state : State) (new : TrackedSubscription)
     → IsSound w kept → is_taken w request ≡ true
     → ends w request kept.told.client kept.told.filter ≡ false
@@ -223,16 +223,16 @@ pub asked-state : (rows : List AclRow) (w : World) (request : Request) (client :
     → user_of (next w request).sessions kept.told.client ≡ user)
     → (same_text kept.told.client client ≡ false
     → user_of (next w request).sessions kept.told.client ≡ user_of w.sessions kept.told.client)
-    → Where (is_open_of client) (IsAsked rows user) (tracked_at kept state) new
-    → IsState rows kept state → IsTracked rows (grown w (Some request) kept) new
-asked-state rows w request client user kept state new sound taken lasts its other asked (inl h) =
+    → Where (is_open_of client) (IsAsked list user) (tracked_at kept state) new
+    → IsState list kept state → IsTracked list (grown w (Some request) kept) new
+asked-state list w request client user kept state new sound taken lasts its other asked (inl h) =
     let none : is_open_of client (tracked_at kept state) ≡ false =
     ap (λ s. is_open s && same_text kept.told.client client) h.0 in
-    subst (λ (t : TrackedSubscription). IsTracked rows (grown w (Some request) kept) t)
-    (sym (subst (λ b. MatchBool b (IsAsked rows user (tracked_at kept state) new)
+    subst (λ (t : TrackedSubscription). IsTracked list (grown w (Some request) kept) t)
+    (sym (subst (λ b. MatchBool b (IsAsked list user (tracked_at kept state) new)
     (new ≡ tracked_at kept state)) none asked))
-    (stays-reached rows w request kept state h.0 h.1)
-asked-state rows w request client user kept state new sound taken lasts its other asked (inr h) =
+    (stays-reached list w request kept state h.0 h.1)
+asked-state list w request client user kept state new sound taken lasts its other asked (inr h) =
     pick kept.is_open
     (λ still. (let stands : (kept.is_open && stays (key_of kept.told) w request) ≡ true =
     ap (λ b. b && stays (key_of kept.told) w request) still
@@ -242,36 +242,36 @@ asked-state rows w request client user kept state new sound taken lasts its othe
     ap (λ s. is_open s && same_text kept.told.client client) is in
     pick (same_text kept.told.client client)
     (λ e. open_asked stands (its e)
-    (subst (λ b. MatchBool b (IsAsked rows user (tracked_at kept state) new)
+    (subst (λ b. MatchBool b (IsAsked list user (tracked_at kept state) new)
     (new ≡ tracked_at kept state)) (same ∙ e) asked))
-    (λ e. left (subst (λ b. MatchBool b (IsAsked rows user (tracked_at kept state) new)
+    (λ e. left (subst (λ b. MatchBool b (IsAsked list user (tracked_at kept state) new)
     (new ≡ tracked_at kept state)) (same ∙ e) asked)
-    (stays-open rows w request kept state stands h.0 h.1
-    (same_user rows w request kept sound still h.1 (other e))))))
+    (stays-open list w request kept state stands h.0 h.1
+    (same_user list w request kept sound still h.1 (other e))))))
     (λ shut. (let none : is_open_of client (tracked_at kept state) ≡ false =
     ap (λ s. is_open s && same_text kept.told.client client)
     (h.0 ∙ ap (λ b. cond b Open Closed) shut) in
-    left (subst (λ b. MatchBool b (IsAsked rows user (tracked_at kept state) new)
+    left (subst (λ b. MatchBool b (IsAsked list user (tracked_at kept state) new)
     (new ≡ tracked_at kept state)) none asked)
-    (stays-closed rows w request kept state shut h.0 h.1)))
+    (stays-closed list w request kept state shut h.0 h.1)))
   where
     left : new ≡ tracked_at kept state
-        → IsTracked rows (grown w (Some request) kept) (tracked_at kept state)
-        → IsTracked rows (grown w (Some request) kept) new
-    left e t = subst (λ (u : TrackedSubscription). IsTracked rows (grown w (Some request) kept) u)
+        → IsTracked list (grown w (Some request) kept) (tracked_at kept state)
+        → IsTracked list (grown w (Some request) kept) new
+    left e t = subst (λ (u : TrackedSubscription). IsTracked list (grown w (Some request) kept) u)
         (sym e) t
 
     open_asked : (kept.is_open && stays (key_of kept.told) w request) ≡ true
         → user_of (next w request).sessions kept.told.client ≡ user
-        → IsAsked rows user (tracked_at kept state) new
-        → IsTracked rows (grown w (Some request) kept) new
+        → IsAsked list user (tracked_at kept state) new
+        → IsTracked list (grown w (Some request) kept) new
     open_asked stands now (inl none) = left none.0
-        (stays-open rows w request kept state stands h.0 h.1
-        (subst (λ (u : Option Text). ReadsNone rows kept.told.client u
+        (stays-open list w request kept state stands h.0 h.1
+        (subst (λ (u : Option Text). ReadsNone list kept.told.client u
         (filter_part kept.told.filter)) (sym now) none.1))
     open_asked stands now (inr some) =
         let has : Option Text = user_of (next w request).sessions kept.told.client in
-        subst (λ (k : Kept). IsTracked rows k new) (sym (grown-open w request kept stands)) (
+        subst (λ (k : Kept). IsTracked list k new) (sym (grown-open w request kept stands)) (
           ap (λ (t : TrackedSubscription). t.told) some.0,
           inl (
             ap (λ (t : TrackedSubscription). t.state) some.0,
@@ -280,7 +280,7 @@ asked-state rows w request client user kept state new sound taken lasts its othe
               had = Contains-push kept.users has;
               topic = some.1.0;
               valid = some.1.1;
-              reads = subst (λ (u : Option Text). Reads rows kept.told.client u
+              reads = subst (λ (u : Option Text). Reads list kept.told.client u
                   (filter_part kept.told.filter) some.1.0) (sym now) some.1.2;
             },
           ),
@@ -289,46 +289,46 @@ asked-state rows w request client user kept state new sound taken lasts its othe
 -- ## Of all of them
 
 -- where each step leaves one tracked, all are
-pub AreTracked-zip : (rows : List AclRow) (g : Kept → Kept) (P : Kept → Type 0)
+pub AreTracked-zip : (list : AccessList) (g : Kept → Kept) (P : Kept → Type 0)
     (R : TrackedSubscription → TrackedSubscription → Type 0)
-    → ((kept : Kept) → IsReached rows kept → IsReached rows (g kept))
-    → ((kept : Kept) (t u : TrackedSubscription) → P kept → R t u → IsTracked rows kept t
-    → IsTracked rows (g kept) u)
+    → ((kept : Kept) → IsReached list kept → IsReached list (g kept))
+    → ((kept : Kept) (t u : TrackedSubscription) → P kept → R t u → IsTracked list kept t
+    → IsTracked list (g kept) u)
     → (all : List Kept) (ts us : List TrackedSubscription) → AllByRecursion P all
-    → AllZip R ts us → AreTracked rows all ts → AreTracked rows (map g all) us
-AreTracked-zip rows g P R reached step [] ts us ps z are =
+    → AllZip R ts us → AreTracked list all ts → AreTracked list (map g all) us
+AreTracked-zip list g P R reached step [] ts us ps z are =
     none us (subst (λ l. AllZip R l us) are z)
   where
     none : (us : List TrackedSubscription) → AllZip R [] us → us ≡ []
     none [] z = refl
     none (u ∷ us) z = absurd z
-AreTracked-zip rows g P R reached step (kept ∷ all) ts us ps z (inl h) =
-    inl (reached kept h.0, AreTracked-zip rows g P R reached step all ts us ps.1 z h.1)
-AreTracked-zip rows g P R reached step (kept ∷ all) ts us ps z (inr h) =
+AreTracked-zip list g P R reached step (kept ∷ all) ts us ps z (inl h) =
+    inl (reached kept h.0, AreTracked-zip list g P R reached step all ts us ps.1 z h.1)
+AreTracked-zip list g P R reached step (kept ∷ all) ts us ps z (inr h) =
     some us (subst (λ l. AllZip R l us) h.2 z)
-    (λ vs w. AreTracked-zip rows g P R reached step all h.1 vs ps.1 w h.4)
+    (λ vs w. AreTracked-zip list g P R reached step all h.1 vs ps.1 w h.4)
   where
     some : (us : List TrackedSubscription) → AllZip R (h.0 ∷ h.1) us
-        → ((vs : List TrackedSubscription) → AllZip R h.1 vs → AreTracked rows (map g all) vs)
-        → AreTracked rows (map g (kept ∷ all)) us
+        → ((vs : List TrackedSubscription) → AllZip R h.1 vs → AreTracked list (map g all) vs)
+        → AreTracked list (map g (kept ∷ all)) us
     some [] z rest = absurd z
     some (u ∷ us) z rest = inr (u, us, refl, step kept h.0 u ps.0 z.0 h.3, rest us z.1)
 
 -- those of two lists are tracked where those of each are
-pub AreTracked-append : (rows : List AclRow) (all more : List Kept)
-    (ts us : List TrackedSubscription) → AreTracked rows all ts → AreTracked rows more us
-    → AreTracked rows (all ++ more) (ts ++ us)
-AreTracked-append rows [] more ts us are others =
-    subst (λ l. AreTracked rows more (l ++ us)) (sym are) others
-AreTracked-append rows (kept ∷ all) more ts us (inl h) others =
-    inl (h.0, AreTracked-append rows all more ts us h.1 others)
-AreTracked-append rows (kept ∷ all) more ts us (inr h) others =
+pub AreTracked-append : (list : AccessList) (all more : List Kept)
+    (ts us : List TrackedSubscription) → AreTracked list all ts → AreTracked list more us
+    → AreTracked list (all ++ more) (ts ++ us)
+AreTracked-append list [] more ts us are others =
+    subst (λ l. AreTracked list more (l ++ us)) (sym are) others
+AreTracked-append list (kept ∷ all) more ts us (inl h) others =
+    inl (h.0, AreTracked-append list all more ts us h.1 others)
+AreTracked-append list (kept ∷ all) more ts us (inr h) others =
     inr (
       h.0,
       h.1 ++ us,
       ap (λ l. l ++ us) h.2,
       h.3,
-      AreTracked-append rows all more h.1 us h.4 others,
+      AreTracked-append list all more h.1 us h.4 others,
     )
 
 shown : (told : spec.Subscription) (b : Bool)
@@ -337,21 +337,21 @@ shown told true = refl
 shown told false = refl
 
 -- those that are told are the ones in vain
-pub AreVain-told : (rows : List AclRow) (all : List Kept) (ts : List TrackedSubscription)
-    → AreTracked rows all ts → AreVain rows all (vain_of ts)
-AreVain-told rows [] ts are = ap vain_of are
-AreVain-told rows (kept ∷ all) ts (inl h) = inl (h.0, AreVain-told rows all ts h.1)
-AreVain-told rows (kept ∷ all) ts (inr h) =
-    let rest : AreVain rows all (vain_of h.1) = AreVain-told rows all h.1 h.4 in
-    subst (λ l. AreVain rows (kept ∷ all) (vain_of l)) (sym h.2) (told h.3.1 rest)
+pub AreVain-told : (list : AccessList) (all : List Kept) (ts : List TrackedSubscription)
+    → AreTracked list all ts → AreVain list all (vain_of ts)
+AreVain-told list [] ts are = ap vain_of are
+AreVain-told list (kept ∷ all) ts (inl h) = inl (h.0, AreVain-told list all ts h.1)
+AreVain-told list (kept ∷ all) ts (inr h) =
+    let rest : AreVain list all (vain_of h.1) = AreVain-told list all h.1 h.4 in
+    subst (λ l. AreVain list (kept ∷ all) (vain_of l)) (sym h.2) (told h.3.1 rest)
   where
-    told : IsState rows kept h.0.state → AreVain rows all (vain_of h.1)
-        → AreVain rows (kept ∷ all) (cons_option (told_of h.0) (vain_of h.1))
+    told : IsState list kept h.0.state → AreVain list all (vain_of h.1)
+        → AreVain list (kept ∷ all) (cons_option (told_of h.0) (vain_of h.1))
     told (inl r) rest =
-        subst (λ o. AreVain rows (kept ∷ all) (cons_option o (vain_of h.1)))
+        subst (λ o. AreVain list (kept ∷ all) (cons_option o (vain_of h.1)))
         (sym (ap (λ s. told_of (record { told = h.0.told; state = s })) r.0)) (inl (r.1, rest))
     told (inr v) rest =
-        subst (λ o. AreVain rows (kept ∷ all) (cons_option o (vain_of h.1)))
+        subst (λ o. AreVain list (kept ∷ all) (cons_option o (vain_of h.1)))
         (sym (ap (λ s. told_of (record { told = h.0.told; state = s })) v.0
         ∙ shown h.0.told kept.is_open ∙ ap (λ t. Some t) h.3.0))
         (inr (v.1, (vain_of h.1, refl, rest)))

@@ -12,6 +12,7 @@ use Rattle.std.proofs.lemmas.List.Elements.{All-cons, All-drop, All-get_or, All-
 use Rattle.std.proofs.lemmas.List.{map-append}
 use Rattle.std.proofs.lemmas.List.Elements.{All-tail, All-weaker, filter_map-append}
 use Rattle.std.proofs.lemmas.List.Folds.{list_any_at}
+use Rattle.mq_acl.specs.AccessLists.{AccessList}
 use Rattle.mq_world.specs.Lists.{Text}
 use Rattle.mq_reach.specs.Faults.{IsAskFault, IsFaultOpen, is_long_now, is_short_question}
 use Rattle.mq_reach.specs.Subscriptions as spec
@@ -137,15 +138,16 @@ mapped-long [] = refl
 mapped-long (e ∷ es) = ap (λ n. suc n) (mapped-long es)
 
 -- what is told of the entry at a place of a walk over this client's is told of one of them
-pub fault-at : (client : Text) (user : Option Text) (es fs : List Entry) (places : List ℕ) (i : ℕ)
-    (d : Entry) (fault : SearchFault) → told_all es ≡ told_all fs → length es ≡ length fs
+pub fault-at : (list : AccessList) (client : Text) (user : Option Text) (es fs : List Entry)
+    (places : List ℕ) (i : ℕ) (d : Entry) (fault : SearchFault) → told_all es ≡ told_all fs
+    → length es ≡ length fs
     → i < length places → get_or places i 0 < length es
     → places ≡ places_from 0 (is_open_of client) (map entry_view fs)
-    → IsAskFault (subscription_view (get_or es (get_or places i 0) d).subscription) user fault
-    → IsFaultOpen client user (map entry_view fs) fault
-fault-at client user es fs places i d search.Memory same long low within are is = tt
-fault-at client user es fs places i d (search.Row line) same long low within are is = absurd is
-fault-at client user es fs places i d (search.Subscription line) same long low within are is =
+    → IsAskFault list (subscription_view (get_or es (get_or places i 0) d).subscription) user fault
+    → IsFaultOpen list client user (map entry_view fs) fault
+fault-at list client user es fs places i d search.Memory same long low within are is = tt
+fault-at list client user es fs places i d (search.Row line) same long low within are is = absurd is
+fault-at list client user es fs places i d (search.Subscription line) same long low within are is =
     let n : ℕ = get_or places i 0 in
     let ts : Ts = map entry_view fs in
     let t : TrackedSubscription = get_or ts n (entry_view d) in
@@ -158,13 +160,14 @@ fault-at client user es fs places i d (search.Subscription line) same long low w
     0 low (subst (λ (ns : List ℕ). All (λ k. (e : TrackedSubscription)
     → is_open_of client (get_or ts k e) ≡ true) ns) (sym are) (passing (is_open_of client) ts [] 0
     refl)) (entry_view d) in
-    list_any_at (is_long_now line client user) ts n (entry_view d)
+    list_any_at (is_long_now list line client user) ts n (entry_view d)
     (let count : length ts ≡ length fs = mapped-long fs in omega arith)
-    (and_from (is_open_of client t) ((t.told.line == line) && not (is_short_question t.told user))
-    pass (and_from (t.told.line == line) (not (is_short_question t.told user))
+    (and_from (is_open_of client t)
+    ((t.told.line == line) && not (is_short_question list t.told user))
+    pass (and_from (t.told.line == line) (not (is_short_question list t.told user))
     ((Decides-eqb t.told.line line).1
     (sym (ap (λ (s : spec.Subscription). s.line) told) ∙ is.0))
-    (ap not (sym (ap (λ (s : spec.Subscription). is_short_question s user) told) ∙ is.1))))
+    (ap not (sym (ap (λ (s : spec.Subscription). is_short_question list s user) told) ∙ is.1))))
 
 -- ## A walk from its start to its end
 

@@ -2,7 +2,7 @@
 use Rattle.std.specs.Prelude.{◌≡◌, ◌⊎◌, ◌&&◌, ℕ, Bool, List, map, Option}
 use Rattle.std.specs.Bool.{MatchBool}
 use Rattle.std.specs.List.{filter}
-use Rattle.mq_acl.specs.Rows.{AclRow}
+use Rattle.mq_acl.specs.AccessLists.{AccessList}
 use Rattle.mq_world.specs.Lists.{Text}
 use Rattle.mq_world.specs.Sessions.{has_ended, is_among, resumes, user_of}
 use Rattle.mq_world.specs.World.{Session}
@@ -10,11 +10,11 @@ use Rattle.mq_reach.specs.Tracked.{Asks, TrackedSubscription, closed_all, closed
 
 -- those of a session that is resumed are asked about under its user name now, unless it is the one that it had; others are
 -- closed
-abbrev pub Connects : List AclRow → (client : Text) → (user : Option Text) → (clean : Bool)
+abbrev pub Connects : AccessList → (client : Text) → (user : Option Text) → (clean : Bool)
     → List Session → (old new : List TrackedSubscription) → Type 0
-Connects rows client user clean sessions old new =
+Connects list client user clean sessions old new =
     MatchBool (resumes sessions client clean)
-    (((user_of sessions client ≡ user) × (new ≡ old)) ⊎ Asks rows client user old new)
+    (((user_of sessions client ≡ user) × (new ≡ old)) ⊎ Asks list client user old new)
     (new ≡ map (closed_all client) old)
 
 -- it is closed if it is of a session that has ended

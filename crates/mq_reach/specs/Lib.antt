@@ -1,5 +1,6 @@
 pub mod Reach
 pub mod ByOwner
+pub mod Filled
 pub mod Subscriptions
 pub mod Vain
 pub mod Tracked

@@ -1,6 +1,6 @@
 -- A script that is read.
 use Rattle.std.specs.Prelude.{◌≡◌, ℕ, List, ◌++◌, take}
-use Rattle.mq_acl.specs.Rows.{AclRow}
+use Rattle.mq_acl.specs.AccessLists.{AccessList}
 use Rattle.mq_jsonl.specs.Lines.{kept, last_piece, whole_lines}
 use Rattle.mq_reach.specs.Search.{IsSearched}
 use Rattle.mq_reach.specs.declared.reading.Reading.{Reading}
@@ -10,11 +10,11 @@ unfoldable pub script_limit : ℕ
 script_limit = 4294967296
 
 -- the whole lines of what was given are searched, and what follows them is kept
-pub record HoldsScript (rows : List AclRow) (given : List ℕ) (r : Reading) : Type 0 where
-  pub searched : IsSearched rows (whole_lines given) r.search
+pub record HoldsScript (list : AccessList) (given : List ℕ) (r : Reading) : Type 0 where
+  pub searched : IsSearched list (whole_lines given) r.search
   pub line : r.line.items ≡ take kept (last_piece given)
 
 -- more bytes are given, and the lines that they end are searched
-unfoldable pub TakesBytes : List AclRow → (old new : Reading) → List ℕ → Type 0
-TakesBytes rows old new bytes =
-    (given : List ℕ) → HoldsScript rows given old → HoldsScript rows (given ++ bytes) new
+unfoldable pub TakesBytes : AccessList → (old new : Reading) → List ℕ → Type 0
+TakesBytes list old new bytes =
+    (given : List ℕ) → HoldsScript list given old → HoldsScript list (given ++ bytes) new

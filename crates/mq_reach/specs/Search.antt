@@ -3,7 +3,7 @@ use Rattle.std.specs.Prelude.{◌≡◌, ◌⊎◌, ℕ, List, [], ◌∷◌, �
 use Rattle.std.specs.Prelude.{None, Result, Ok, Err, slice_get, if◌then◌else◌, ◌&&◌, not}
 use Rattle.std.specs.Option.{option_to_list}
 use Rattle.mq_topic.specs.Texts.{is_shared, is_subscription}
-use Rattle.mq_acl.specs.Rows.{AclRow}
+use Rattle.mq_acl.specs.AccessLists.{AccessList}
 use Rattle.mq_world.specs.Refusals.{is_client_id}
 use Rattle.mq_world.specs.Sessions.{is_connected, user_of}
 use Rattle.mq_world.specs.World.{Request, Session, Subscribe, World}
@@ -31,25 +31,25 @@ pub record AreCounted (all : List (List ℕ)) (c : Counts) : Type 0 where
   pub first_faulty : c.first_faulty ≡ slice_get (faulty_lines all) 0
 
 -- of a script with these lines the subscriptions in vain are told, and no others
-pub record IsFound (rows : List AclRow) (lines : List (List ℕ)) (f : Findings) : Type 0 where
-  pub vain : AreVain rows (subscriptions lines) (subscription_views f.vain.items)
+pub record IsFound (list : AccessList) (lines : List (List ℕ)) (f : Findings) : Type 0 where
+  pub vain : AreVain list (subscriptions lines) (subscription_views f.vain.items)
   pub counts : AreCounted lines f.counts
 
 -- ## A search on its way
 
 -- this is how it is with a subscription: it is reached; or it is in vain so far, and open just where its session keeps it
-abbrev pub IsTracked : List AclRow → Kept → TrackedSubscription → Type 0
-IsTracked rows kept t = (t.told ≡ kept.told)
-    × (((t.state ≡ states.Reached) × IsReached rows kept)
-    ⊎ ((t.state ≡ (if kept.is_open then states.Open else states.Closed)) × IsVain rows kept))
+abbrev pub IsTracked : AccessList → Kept → TrackedSubscription → Type 0
+IsTracked list kept t = (t.told ≡ kept.told)
+    × (((t.state ≡ states.Reached) × IsReached list kept)
+    ⊎ ((t.state ≡ (if kept.is_open then states.Open else states.Closed)) × IsVain list kept))
 
 -- of all these subscriptions those are tracked that were in vain as they were made; the others are reached
-abbrev pub AreTracked : List AclRow → (all : List Kept) → List TrackedSubscription → Type 0
-AreTracked rows [] tracked = tracked ≡ []
-AreTracked rows (kept ∷ all) tracked =
-    (IsReached rows kept × AreTracked rows all tracked)
+abbrev pub AreTracked : AccessList → (all : List Kept) → List TrackedSubscription → Type 0
+AreTracked list [] tracked = tracked ≡ []
+AreTracked list (kept ∷ all) tracked =
+    (IsReached list kept × AreTracked list all tracked)
     ⊎ ((t : TrackedSubscription) × (later : List TrackedSubscription) × (tracked ≡ t ∷ later)
-    × IsTracked rows kept t × AreTracked rows all later)
+    × IsTracked list kept t × AreTracked list all later)
 
 -- the sessions and the clock are those of this world
 pub record IsWorldOf (w : World) (s : Search) : Type 0 where
@@ -57,20 +57,20 @@ pub record IsWorldOf (w : World) (s : Search) : Type 0 where
   pub moment : s.clock.moment ≡ w.moment
 
 -- these lines are searched
-pub record IsSearched (rows : List AclRow) (lines : List (List ℕ)) (s : Search) : Type 0 where
+pub record IsSearched (list : AccessList) (lines : List (List ℕ)) (s : Search) : Type 0 where
   pub is_world : IsWorldOf (world_of lines) s
-  pub tracked : AreTracked rows (subscriptions lines) s.tracked
+  pub tracked : AreTracked list (subscriptions lines) s.tracked
   pub counts : AreCounted lines s.counts
 
 -- a command behind these lines is taken in, but its line isn't counted yet; where it makes a subscription, that stands
 -- behind the others
-pub record Applies (rows : List AclRow) (command : Option Request) (old new : Search) :
+pub record Applies (list : AccessList) (command : Option Request) (old new : Search) :
     Type 0 where
   pub follows : (w : World) → IsWorldOf w old → IsWorldOf (world_then w command) new
   pub tracked : (lines : List (List ℕ)) (line : List ℕ) → commands_of (line ∷ [])
-      ≡ option_to_list command → IsWorldOf (world_of lines) old → AreTracked rows
+      ≡ option_to_list command → IsWorldOf (world_of lines) old → AreTracked list
       (subscriptions lines) old.tracked → length lines ≡ old.counts.lines
-      → AreTracked rows (subscriptions (lines ++ line ∷ [])) new.tracked
+      → AreTracked list (subscriptions (lines ++ line ∷ [])) new.tracked
   pub counts : new.counts ≡ old.counts
 
 -- what is told of what a command of this line makes, where these are the sessions

@@ -6,7 +6,7 @@ use Rattle.std.specs.Bool.{MatchBool}
 use Rattle.std.specs.List.{AllZip, filter_map}
 use Rattle.std.specs.Option.{option_map, option_map_or}
 use Rattle.mq_topic.specs.Texts.{filter_part, is_name}
-use Rattle.mq_acl.specs.Rows.{AclRow}
+use Rattle.mq_acl.specs.AccessLists.{AccessList}
 use Rattle.mq_world.specs.Lists.{Text, same_text}
 use Rattle.mq_reach.specs.Reach.{Reads, ReadsNone}
 use Rattle.mq_reach.specs.Subscriptions as spec
@@ -82,12 +82,12 @@ abbrev pub closed_all : Text → TrackedSubscription → TrackedSubscription
 closed_all client t = closed_if (is_open_of client t) t
 
 -- asked whether it is in vain under this user name too, or under none, it stays as it is, or it is reached
-abbrev pub IsAsked : List AclRow → Option Text → (old new : TrackedSubscription) → Type 0
-IsAsked rows user old new =
-    ((new ≡ old) × ReadsNone rows old.told.client user (filter_part old.told.filter))
+abbrev pub IsAsked : AccessList → Option Text → (old new : TrackedSubscription) → Type 0
+IsAsked list user old new =
+    ((new ≡ old) × ReadsNone list old.told.client user (filter_part old.told.filter))
     ⊎ ((new ≡ record old { state = Reached })
     × ((topic : List ℕ) × IsTrue (is_name topic)
-    × Reads rows old.told.client user (filter_part old.told.filter) topic))
+    × Reads list old.told.client user (filter_part old.told.filter) topic))
 
 -- it is the same subscription
 abbrev pub IsOf : (old new : TrackedSubscription) → Type 0
@@ -100,9 +100,9 @@ abbrev pub Where : (TrackedSubscription → Bool)
 Where test Becomes old new = MatchBool (test old) (Becomes old new) (new ≡ old)
 
 -- those that are open and this client's are asked
-abbrev pub Asks : List AclRow → Text → Option Text → (old new : List TrackedSubscription) → Type 0
-Asks rows client user old new =
-    AllZip (Where (is_open_of client) (IsAsked rows user)) old new
+abbrev pub Asks : AccessList → Text → Option Text → (old new : List TrackedSubscription) → Type 0
+Asks list client user old new =
+    AllZip (Where (is_open_of client) (IsAsked list user)) old new
 
 -- ## What is told
 abbrev pub told_of : TrackedSubscription → Option spec.Subscription

@@ -26,7 +26,7 @@ pub(crate) fn take_over(
     ensures ok { OnOk result (Connects list.now client.now (option_copied user.entry) clean
         sessions.now tracked.old tracked.new) }
     ensures err { IfErr result (λ fault. (resumes sessions.now client.now clean ≡ true)
-        × IsFaultOpen client.now (option_copied user.entry) tracked.old fault) }
+        × IsFaultOpen list.now client.now (option_copied user.entry) tracked.old fault) }
 {
     if clean || !sessions.outlives(client) {
         tracked.close_all(client);

@@ -1,11 +1,17 @@
 //! The subscriptions of a script, and which of them are in vain: whose client may read no topic that the filter matches,
-//! under none of the user names that its session has while it keeps them.
+//! under none of the user names that its session has while it keeps them. What a client may read is told by our own rules,
+//! or by mosquitto's.
 #![tactic(auto)]
 
 mod by_owner;
 mod connections;
 mod counts;
+mod fault;
+mod filled;
+mod granted;
 mod log;
+mod overlaps;
+mod patterns;
 mod question;
 mod reach;
 mod reading;
@@ -14,8 +20,9 @@ mod subscription;
 mod tracked;
 
 pub use counts::Counts;
+pub use fault::ReachFault;
 pub use question::SearchFault;
-pub use reach::{Reach, ReachFault};
+pub use reach::Reach;
 pub use reading::{ScriptFault, find_vain};
 pub use search::Findings;
 pub use subscription::Subscription;

@@ -2,9 +2,9 @@
 ghost use Rattle.std.specs.Prelude.{◌≡◌, ◌+◌, ◌<◌, ◌≤◌, ◌^◌, ◌++◌, ◌∷◌, [], ℕ, List, IfOk, IfErr};
 ghost use Rattle.std.specs.Prelude.{OnOk, length};
 ghost use Rattle.std.specs.Io.KnownBytes.{Consumes, IsAtEnd};
-ghost use Rattle.mq_acl.specs.Rows.{AclRow};
 ghost use Rattle.mq_acl.specs.Views.{row_views};
 ghost use Rattle.mq_jsonl.specs.Lines.{all_lines, pieces};
+ghost use Rattle.mq_reach.specs.Reach.{list_by};
 ghost use Rattle.mq_reach.specs.Search.{IsFound};
 ghost use Rattle.mq_reach.specs.Faults.{FailsIn, IsFaultAmong, IsScriptFault, StopsWith};
 ghost use Rattle.mq_reach.specs.Script.{HoldsScript, TakesBytes, script_limit};
@@ -13,7 +13,7 @@ ghost use Rattle.mq_reach.specs.Subscriptions.{subscriptions};
 use crate::question::{SearchFault, list_of};
 use crate::reach::Reach;
 use crate::search::{Findings, Search};
-use mq_acl::Row;
+use mq_acl::{Row, Rules};
 use mq_jsonl::{LINE_ROOM, keep_front, split_line};
 use std::alloc::Global;
 use std::io::{self, Read};
@@ -103,7 +103,7 @@ fn finish(mut reading: Reading, alloc: Global, list: &Reach) -> Result<Findings,
     ensures ok { (script : List ℕ) → HoldsScript list.now script reading
         → IfOk result (IsFound list.now (all_lines script)) }
     ensures err { (script : List ℕ) → HoldsScript list.now script reading
-        → IfErr result (IsFaultAmong (subscriptions (all_lines script))) }
+        → IfErr result (IsFaultAmong list.now (subscriptions (all_lines script))) }
 {
     if reading.line.is_empty() {
         return Ok(reading.search.findings(alloc)?);
@@ -151,22 +151,23 @@ fn read_lines<R: Read>(
     }
 }
 
-/// Reads a script, and finds its subscriptions that are in vain under these rows: those of a client that may read no topic
-/// that the filter matches. Who is connected with which user name, the commands of the script say; its `acl` lines say
+/// Reads a script, and finds its subscriptions that are in vain under these rows, which decide by these rules: those of a
+/// client that may read no topic that the filter matches. Who is connected with which user name, the commands of the script say; its `acl` lines say
 /// nothing here, and a line that is no command is passed over, and counted.
 pub fn find_vain<R: Read>(
     alloc: Global,
+    rules: Rules,
     rows: &[Row],
     reader: &mut R,
 ) -> Result<Findings, ScriptFault>
     ensures ok { IfOk result (λ findings. (script : List ℕ)
         × Consumes (R.remaining reader.old) (R.remaining reader.new) script
         × IsAtEnd (R.remaining reader.new)
-        × IsFound (row_views rows.now) (all_lines script) findings) }
-    ensures err { IfErr result (IsScriptFault rows.now
+        × IsFound (list_by rules (row_views rows.now)) (all_lines script) findings) }
+    ensures err { IfErr result (IsScriptFault rules rows.now
         (R.remaining reader.old) (R.remaining reader.new)) }
 {
-    let list = list_of(alloc, rows)?;
+    let list = list_of(alloc, rules, rows)?;
     let Ok(mut piece) = vec![in alloc; 0u8; PIECE] else {
         return Err(ScriptFault::Search(SearchFault::Memory));
     };

@@ -93,14 +93,14 @@ fn copied(alloc: Global, text: Option<&str>) -> Result<Option<String>, AllocErro
 impl Search {
     ghost use Rattle.std.specs.Prelude.{List, ℕ, ◌++◌, ◌∷◌, [], map};
     ghost use Rattle.std.specs.Option.{option_and_then};
-    ghost use Rattle.mq_acl.specs.Rows.{AclRow};
+    ghost use Rattle.mq_acl.specs.AccessLists.{AccessList};
     ghost use Rattle.mq_reach.specs.Faults.{FailsBy, IsFaultAmong};
     ghost use Rattle.mq_reach.specs.Subscriptions.{subscriptions};
     ghost use Rattle.mq_reach.specs.Search.{Applies, IsFound, IsSearched, kind_of, told_by};
     ghost use Rattle.mq_reach.specs.Tracked.{subscription_view};
 
     pub fn new(alloc: Global) -> Search
-        ensures searched { (rows : List AclRow) → IsSearched rows [] result }
+        ensures searched { (list : AccessList) → IsSearched list [] result }
         ensures lines { result.counts.lines ≡ 0 }
     {
         Search {
@@ -156,7 +156,8 @@ impl Search {
 
     // A connection ends, if there is one. It takes no memory.
     fn disconnect(&mut self, client: &str)
-        ensures { (rows : List AclRow) → Applies rows (Some (Disconnect client.now)) self.old self.new }
+        ensures { (list : AccessList) → Applies list (Some (Disconnect client.now)) self.old
+            self.new }
     {
         if !self.is_connected(client) {
             return;
@@ -171,7 +172,7 @@ impl Search {
 
     // The clock moves, unless past its last moment. It takes no memory.
     fn advance(&mut self, seconds: u64)
-        ensures { (rows : List AclRow) → Applies rows (Some (Advance seconds)) self.old self.new }
+        ensures { (list : AccessList) → Applies list (Some (Advance seconds)) self.old self.new }
     {
         let Some(clock) = self.clock.later(seconds) else {
             return;
@@ -245,8 +246,8 @@ impl Search {
 
     // A client unsubscribes, if it is connected. It takes no memory.
     fn unsubscribe(&mut self, client: &str, filter: &str)
-        ensures { (rows : List AclRow) → Applies rows (Some (Unsubscribe client.now filter.now)) self.old
-            self.new }
+        ensures { (list : AccessList) → Applies list (Some (Unsubscribe client.now filter.now))
+            self.old self.new }
     {
         if !self.is_connected(client) {
             return;
@@ -312,7 +313,7 @@ impl Search {
             (told_by (self.old.counts.lines + 1) self.old.sessions) (command_in (reading line.now)))
             (reading line.now)) }
         ensures err { (before : List (List ℕ)) → IsSearched list.now before self.old
-            → IfErr result (IsFaultAmong (subscriptions (before ++ line.now ∷ []))) }
+            → IfErr result (IsFaultAmong list.now (subscriptions (before ++ line.now ∷ []))) }
     {
         match read_line(alloc, line) {
             Ok(None) => Ok(LineKind::Blank),
@@ -329,7 +330,7 @@ impl Search {
             → OnOk result (IsSearched list.now (before ++ line.now ∷ []) self.new) }
         ensures lines { OnOk result (self.new.counts.lines ≡ self.old.counts.lines + 1) }
         ensures err { (before : List (List ℕ)) → IsSearched list.now before self.old
-            → IfErr result (IsFaultAmong (subscriptions (before ++ line.now ∷ []))) }
+            → IfErr result (IsFaultAmong list.now (subscriptions (before ++ line.now ∷ []))) }
     {
         let kind = self.read(alloc, list, line)?;
         if self.counts.lines == 0 {
@@ -341,8 +342,8 @@ impl Search {
 
     /// What is found so far.
     pub fn findings(self, alloc: Global) -> Result<Findings, AllocError>
-        ensures { (rows : List AclRow) (lines : List (List ℕ)) → IsSearched rows lines self
-            → IfOk result (IsFound rows lines) }
+        ensures { (list : AccessList) (lines : List (List ℕ)) → IsSearched list lines self
+            → IfOk result (IsFound list lines) }
     {
         let Search {
             sessions: _,

@@ -61,7 +61,7 @@ impl Entry {
         ensures ok { OnOk result (IsAsked list.now (option_copied user.entry)
             (entry_view self.old) (entry_view self.new)) }
         ensures kept { IsOf (entry_view self.old) (entry_view self.new) }
-        ensures err { IfErr result (IsAskFault (subscription_view self.old.subscription)
+        ensures err { IfErr result (IsAskFault list.now (subscription_view self.old.subscription)
             (option_copied user.entry)) }
     {
         if !is_vain(alloc, list, &self.subscription, user)? {
@@ -134,7 +134,8 @@ fn ask_at(
         → AllZip (Where test IsOf) (map entry_view entries.old) (map entry_view entries.new) }
     ensures err { IfErr result (λ fault. (client : List ℕ)
         → places.now ≡ places_from 0 (is_open_of client) (map entry_view entries.old)
-        → IsFaultOpen client (option_copied user.entry) (map entry_view entries.old) fault) }
+        → IsFaultOpen list.now client (option_copied user.entry) (map entry_view entries.old)
+        fault) }
 {
     for place in places {
         entries[*place].ask(alloc, list, user)?;
@@ -247,7 +248,8 @@ impl Tracked {
     ) -> Result<(), SearchFault>
         ensures ok { OnOk result (Asks list.now client.now (option_copied user.entry) self.old
             self.new) }
-        ensures err { IfErr result (IsFaultOpen client.now (option_copied user.entry) self.old) }
+        ensures err { IfErr result (IsFaultOpen list.now client.now (option_copied user.entry)
+            self.old) }
     {
         let Some(places) = self.open.get_mut(client) else {
             return Ok(());

@@ -1,7 +1,7 @@
 -- What a question answers of rows.
 use Rattle.std.proofs.Common.{◌≡◌, ℕ, Bool, true, false, cond, not, ◌&&◌, ◌||◌, List, [], ◌∷◌}
 use Rattle.std.proofs.Common.{length, Option, Some, None, codes, bytes_eq, refl, ap, sym, ◌∙◌, subst}
-use Rattle.std.proofs.Common.{Bor, ◌==◌}
+use Rattle.std.proofs.Common.{Bor, ◌==◌, ◌⊎◌, inl, inr}
 use Rattle.std.specs.List.{list_all, list_any}
 use Rattle.std.proofs.lemmas.Bool.{and_parts, and_from, and_left, not-true}
 use Rattle.std.proofs.lemmas.List.{map-id}
@@ -9,7 +9,7 @@ use Rattle.mq_topic.proofs.ByteLemmas.{text_is, text_itself}
 use Rattle.mq_topic.specs.Levels.{levels, levels_left}
 use Rattle.mq_topic.specs.Matching.{level_matches, levels_match_by}
 use Rattle.mq_topic.specs.Texts.{is_name}
-use Rattle.mq_acl.specs.Access.{applies, begins_with_dollar, concerns, is_user}
+use Rattle.mq_acl.specs.Access.{applies, begins_with_dollar, is_user}
 use Rattle.mq_acl.specs.Rows.{AclRow, Who}
 use Rattle.mq_acl.specs.Rows as rows
 use Rattle.mq_cover.specs.Names.{can_be_level}
@@ -18,14 +18,16 @@ use Rattle.mq_cover.specs.declared.remainder.Remainder.{Remainder}
 use Rattle.mq_witness.specs.Answers.{Asks, HitsOther, HitsUser, IsFoundBy, Misses}
 use Rattle.mq_witness.specs.Answers.{MissesOthers, MissesUser}
 use Rattle.mq_witness.specs.Clients.{can_be_id, is_of, name_passes}
-use Rattle.mq_witness.specs.Decided.{decides}
+use Rattle.mq_witness.specs.Decided.{concerns_in, decides_in}
 use Rattle.mq_witness.specs.Fresh.{fresh_pass, is_literal}
 use Rattle.mq_witness.specs.Literals.{is_named}
-use Rattle.mq_witness.specs.Ready.{IsReady, all_listed, clients_fit, is_listed, stand_in}
+use Rattle.mq_witness.specs.Ready.{AreReady, IsReady, all_listed, clients_fit, is_listed}
+use Rattle.mq_witness.specs.Ready.{stand_in}
 use Rattle.mq_witness.specs.Roots.{alike, marks_of, same, NoneConcerned}
 use Rattle.mq_witness.specs.Texts.{level_of}
 use Rattle.mq_witness.specs.declared.clients.Clients.{Clients}
 use Rattle.mq_witness.specs.declared.clients.Clients.TheVariants.{Anonymous, Named, Others}
+use Rattle.mq_witness.specs.declared.fresh.BothFresh.{BothFresh}
 use Rattle.mq_witness.specs.declared.fresh.Fresh.{Fresh}
 use Rattle.mq_witness.specs.declared.literals.Literals.{Literals}
 use Rattle.mq_witness.specs.declared.question.Found.{Found}
@@ -156,150 +158,163 @@ alike_all f users Others all (Some u) n h e =
     (not-true (is_named u users) (and_parts (can_be_id u) (not (is_named u users)) e).1) n all h
 
 -- ---- a question that is posed of rows
-pub record IsPosed (f : Fresh) (users : Literals) (clients : Clients) (dollar : Bool)
-    (must cover : List AclRow) (q : Question) : Type 0 where
-  pub ready : IsReady f users clients must cover
-  pub asks : Asks f (stand_in f clients) dollar must cover q
+pub record IsPosed (front : Bool) (both : BothFresh) (users : Literals) (clients : Clients)
+    (dollar : Bool) (must cover : List AclRow) (q : Question) : Type 0 where
+  pub ready : AreReady front both users clients must cover
+  pub asks : Asks front both (stand_in both.plain clients) dollar must cover q
 
 -- there is no such name for any client that is asked about
-abbrev pub NoneFor : Literals → Clients → Bool → (must cover : List AclRow) → Type 0
-NoneFor users clients dollar must cover =
+abbrev pub NoneFor : Bool → Literals → Clients → Bool → (must cover : List AclRow) → Type 0
+NoneFor front users clients dollar must cover =
     (client name : List ℕ) (user : Option (List ℕ)) → can_be_id client ≡ true
     → is_of (λ u. is_named u users) clients user ≡ true → is_name name ≡ true
-    → begins_with_dollar name ≡ dollar → decides client user name must cover ≡ false
+    → begins_with_dollar name ≡ dollar → decides_in front client user name must cover ≡ false
 
 -- where a row concerns none of the names
-pub none_concerned : (f : Fresh) (users : Literals) (clients : Clients) (dollar : Bool)
-    (must cover : List AclRow) → IsReady f users clients must cover
-    → NoneConcerned must (stand_in f clients) dollar → NoneFor users clients dollar must cover
-none_concerned f users clients dollar must cover ready none client name user id of valid kind =
-    and_left (list_all (concerns client user name) must)
-    (not (list_any (concerns client user name) cover))
+pub none_concerned : (front : Bool) (both : BothFresh) (users : Literals) (clients : Clients)
+    (dollar : Bool) (must cover : List AclRow) → AreReady front both users clients must cover
+    → NoneConcerned front must (stand_in both.plain clients) dollar
+    → NoneFor front users clients dollar must cover
+none_concerned front both users clients dollar must cover ready none client name user id of valid
+    kind =
+    and_left (list_all (concerns_in front client user name) must)
+    (not (list_any (concerns_in front client user name) cover))
     (none client name user
-    (alike_all f users clients must user ready.unlisted ready.must_listed of) kind)
+    (alike_all both.plain users clients must user ready.plain.unlisted ready.plain.must_listed of)
+    kind)
 
-module _ (f : Fresh) (users : Literals) (clients : Clients) (dollar : Bool)
-    (must cover : List AclRow) (q : Question) (posed : IsPosed f users clients dollar must cover q)
-  where
-    -- what is decided of rows is what the question hits
-    decides_is : (client name : List ℕ) (user : Option (List ℕ))
-        → is_of (λ u. is_named u users) clients user ≡ true → is_name name ≡ true
-        → begins_with_dollar name ≡ dollar
-        → decides client user name must cover
-        ≡ hits (marks_of client (level_of user)) (levels name) q.must.items q.cover.items
-    decides_is client name user of valid kind =
-        sym (posed.asks.decides client name user
-        (alike_all f users clients must user posed.ready.unlisted posed.ready.must_listed of)
-        (alike_all f users clients cover user posed.ready.unlisted posed.ready.cover_listed of)
-        kind)
-        ∙ level_hits client user (levels name) (name_is name valid).can q.must.items q.cover.items
+-- what holds with either ids holds with those that a question has
+of_either : (P : Fresh → Type 0) (f a b : Fresh) → (f ≡ a) ⊎ (f ≡ b) → P a → P b → P f
+of_either P f a b (inl e) pa pb = subst P (sym e) pa
+of_either P f a b (inr e) pa pb = subst P (sym e) pb
 
-    missed : ((client : List ℕ) (user : Option (List ℕ)) → can_be_id client ≡ true
-        → is_of (λ u. is_named u users) clients user ≡ true → Misses q client (level_of user))
-        → NoneFor users clients dollar must cover
-    missed misses client name user id of valid kind =
-        let is = name_is name valid in
-        decides_is client name user of valid kind
-        ∙ misses client user id of (levels name)
-        (name_suits name q.dollar is.some (kind ∙ sym posed.asks.kind)) is.few
+module _ (front : Bool) (both : BothFresh) (users : Literals) (clients : Clients) (dollar : Bool)
+    (must cover : List AclRow) (q : Question)
+    (posed : IsPosed front both users clients dollar must cover q) where
+  ready : IsReady q.fresh users clients must cover
+  ready = of_either (λ f. IsReady f users clients must cover) q.fresh both.plain both.dollar
+      posed.asks.fresh posed.ready.plain posed.ready.dollar
 
-    hit : (user : Option (List ℕ)) (found : Found)
-        → is_of (λ u. is_named u users) clients user ≡ true → HitsUser q user found
-        → ((p : List ℕ → Bool) → fresh_pass p q.fresh ≡ true
-        → remainders_fit p q.must.items ≡ true → name_passes p clients ≡ true
-        → mark_passes p user ≡ true)
-        → IsFoundBy f (λ u. is_named u users) clients must cover found
-    hit user found of h user_known = record {
-      client_fits = h.client_fits;
-      user_fits = ap (is_of (λ u. is_named u users) clients) h.user_is ∙ of;
-      valid = h.hits_name.valid;
-      decided = ap (λ u. decides found.client.now u found.name must cover) h.user_is
-          ∙ decides_is found.client.now found.name user of h.hits_name.valid
-          (h.hits_name.kind ∙ posed.asks.kind)
-          ∙ h.hits_name.hit;
-      known = λ p fresh fit name.
-          let all = ap (fresh_pass p) posed.asks.fresh ∙ fresh in
-          let left = posed.asks.fit p fit in
-          let known = user_known p all left name in
-          let level = level_known p user known in
-          let client = h.client_known p all left level in
-          record {
-            client = client;
-            user = ap (mark_passes p) h.user_is ∙ known;
-            name = h.hits_name.known p all left client level;
-          };
-    }
+  -- what is decided of rows is what the question hits
+  decides_is : (client name : List ℕ) (user : Option (List ℕ))
+      → is_of (λ u. is_named u users) clients user ≡ true → is_name name ≡ true
+      → begins_with_dollar name ≡ dollar
+      → decides_in front client user name must cover
+      ≡ hits (marks_of client (level_of user)) (levels name) q.must.items q.cover.items
+  decides_is client name user of valid kind =
+      sym (posed.asks.decides client name user
+      (alike_all both.plain users clients must user posed.ready.plain.unlisted
+      posed.ready.plain.must_listed of)
+      (alike_all both.plain users clients cover user posed.ready.plain.unlisted
+      posed.ready.plain.cover_listed of)
+      kind)
+      ∙ level_hits client user (levels name) (name_is name valid).can q.must.items q.cover.items
 
-    -- ---- one user name, or none
-    fixed_misses : (user : Option (List ℕ))
-        → mark_passes (is_literal q.fresh) (level_of user) ≡ true → MissesUser q user
-        → (client : List ℕ) → can_be_id client ≡ true
-        → Misses q client (level_of user)
-    fixed_misses user fit misses client id =
-        fixed_none q.fresh q.dollar q.must.items q.cover.items q.can_ask (level_of user) fit client
-        id
-        misses
+  missed : ((client : List ℕ) (user : Option (List ℕ)) → can_be_id client ≡ true
+      → is_of (λ u. is_named u users) clients user ≡ true → Misses q client (level_of user))
+      → NoneFor front users clients dollar must cover
+  missed misses client name user id of valid kind =
+      let is = name_is name valid in
+      decides_is client name user of valid kind
+      ∙ misses client user id of (levels name)
+      (name_suits name q.dollar is.some (kind ∙ sym posed.asks.kind)) is.few
 
-    pub anonymous_none : clients ≡ Anonymous → MissesUser q None
-        → NoneFor users clients dollar must cover
-    anonymous_none e misses = missed (λ client user id of. at user client id
-        (sym (ap (λ k. is_of (λ u. is_named u users) k user) e) ∙ of))
-      where
-        at : (user : Option (List ℕ)) (client : List ℕ) → can_be_id client ≡ true
-            → is_of (λ u. is_named u users) Anonymous user ≡ true → Misses q client (level_of user)
-        at None client id of = fixed_misses None refl misses client id
-        at (Some u) client id of = absurd (let n : false ≡ true = of in cc)
+  hit : (user : Option (List ℕ)) (found : Found)
+      → is_of (λ u. is_named u users) clients user ≡ true → HitsUser q user found
+      → ((p : List ℕ → Bool) → fresh_pass p q.fresh ≡ true
+      → remainders_fit p q.must.items ≡ true → name_passes p clients ≡ true
+      → mark_passes p user ≡ true)
+      → IsFoundBy front dollar both (λ u. is_named u users) clients must cover found
+  hit user found of h user_known = record {
+    client_fits = h.client_fits;
+    user_fits = ap (is_of (λ u. is_named u users) clients) h.user_is ∙ of;
+    valid = h.hits_name.valid;
+    kind = h.hits_name.kind ∙ posed.asks.kind;
+    decided = ap (λ u. decides_in front found.client.now u found.name must cover) h.user_is
+        ∙ decides_is found.client.now found.name user of h.hits_name.valid
+        (h.hits_name.kind ∙ posed.asks.kind)
+        ∙ h.hits_name.hit;
+    known = λ p plain begun fit name.
+        let all = of_either (λ f. fresh_pass p f ≡ true) q.fresh both.plain both.dollar
+        posed.asks.fresh plain begun in
+        let left = posed.asks.fit p fit in
+        let known = user_known p all left name in
+        let level = level_known p user known in
+        let client = h.client_known p all left level in
+        record {
+          client = client;
+          user = ap (mark_passes p) h.user_is ∙ known;
+          name = h.hits_name.known p all left client level;
+        };
+  }
 
-    pub anonymous_hit : clients ≡ Anonymous → (found : Found) → HitsUser q None found
-        → IsFoundBy f (λ u. is_named u users) clients must cover found
-    anonymous_hit e found h =
-        hit None found (ap (λ k. is_of (λ u. is_named u users) k None) e) h
-        (λ p fresh fit name. refl)
+  -- ---- one user name, or none
+  fixed_misses : (user : Option (List ℕ))
+      → mark_passes (is_literal q.fresh) (level_of user) ≡ true → MissesUser q user
+      → (client : List ℕ) → can_be_id client ≡ true
+      → Misses q client (level_of user)
+  fixed_misses user fit misses client id =
+      fixed_none q.fresh q.dollar q.must.items q.cover.items q.can_ask (level_of user) fit client
+      id
+      misses
 
-    pub named_none : (name : Bor (List ℕ)) → clients ≡ Named name → MissesUser q (Some name.now)
-        → NoneFor users clients dollar must cover
-    named_none name e misses = missed (λ client user id of. at user client id
-        (sym (ap (λ k. is_of (λ u. is_named u users) k user) e) ∙ of))
-      where
-        fit : mark_passes (is_literal q.fresh) (level_of (Some name.now)) ≡ true
-        fit = ap (λ g. mark_passes (is_literal g) (level_of (Some name.now))) posed.asks.fresh
-            ∙ sym (ap (clients_fit f) e) ∙ posed.ready.user_fits
+  pub anonymous_none : clients ≡ Anonymous → MissesUser q None
+      → NoneFor front users clients dollar must cover
+  anonymous_none e misses = missed (λ client user id of. at user client id
+      (sym (ap (λ k. is_of (λ u. is_named u users) k user) e) ∙ of))
+    where
+      at : (user : Option (List ℕ)) (client : List ℕ) → can_be_id client ≡ true
+          → is_of (λ u. is_named u users) Anonymous user ≡ true → Misses q client (level_of user)
+      at None client id of = fixed_misses None refl misses client id
+      at (Some u) client id of = absurd (let n : false ≡ true = of in cc)
 
-        at : (user : Option (List ℕ)) (client : List ℕ) → can_be_id client ≡ true
-            → is_of (λ u. is_named u users) (Named name) user ≡ true
-            → Misses q client (level_of user)
-        at None client id of = absurd (let n : false ≡ true = of in cc)
-        at (Some u) client id of =
-            subst (λ t. Misses q client (level_of (Some t)))
-            (sym (text_is u name.now (and_parts (bytes_eq u name.now) (can_be_id u) of).0))
-            (fixed_misses (Some name.now) fit misses client id)
+  pub anonymous_hit : clients ≡ Anonymous → (found : Found) → HitsUser q None found
+      → IsFoundBy front dollar both (λ u. is_named u users) clients must cover found
+  anonymous_hit e found h =
+      hit None found (ap (λ k. is_of (λ u. is_named u users) k None) e) h
+      (λ p fresh fit name. refl)
 
-    pub named_hit : (name : Bor (List ℕ)) → clients ≡ Named name → can_be_id name.now ≡ true
-        → (found : Found) → HitsUser q (Some name.now) found
-        → IsFoundBy f (λ u. is_named u users) clients must cover found
-    named_hit name e id found h =
-        hit (Some name.now) found (ap (λ k. is_of (λ u. is_named u users) k (Some name.now)) e
-        ∙ and_from (bytes_eq name.now name.now) (can_be_id name.now) (text_itself name.now) id) h
-        (λ p fresh fit known. sym (ap (name_passes p) e) ∙ known)
+  pub named_none : (name : Bor (List ℕ)) → clients ≡ Named name → MissesUser q (Some name.now)
+      → NoneFor front users clients dollar must cover
+  named_none name e misses = missed (λ client user id of. at user client id
+      (sym (ap (λ k. is_of (λ u. is_named u users) k user) e) ∙ of))
+    where
+      fit : mark_passes (is_literal q.fresh) (level_of (Some name.now)) ≡ true
+      fit = sym (ap (clients_fit q.fresh) e) ∙ ready.user_fits
 
-    -- ---- all user names that aren't listed
-    pub others_missed : clients ≡ Others → MissesOthers q users
-        → NoneFor users clients dollar must cover
-    others_missed e misses = missed (λ client user id of. at user client id
-        (sym (ap (λ k. is_of (λ u. is_named u users) k user) e) ∙ of))
-      where
-        at : (user : Option (List ℕ)) (client : List ℕ) → can_be_id client ≡ true
-            → is_of (λ u. is_named u users) Others user ≡ true → Misses q client (level_of user)
-        at None client id of = absurd (let n : false ≡ true = of in cc)
-        at (Some u) client id of =
-            others_none q.fresh q.dollar q.must.items q.cover.items q.can_ask users
-            (ap (λ g. is_named g.user.now users) posed.asks.fresh ∙ posed.ready.unlisted) client u
-            of
-            id misses
+      at : (user : Option (List ℕ)) (client : List ℕ) → can_be_id client ≡ true
+          → is_of (λ u. is_named u users) (Named name) user ≡ true
+          → Misses q client (level_of user)
+      at None client id of = absurd (let n : false ≡ true = of in cc)
+      at (Some u) client id of =
+          subst (λ t. Misses q client (level_of (Some t)))
+          (sym (text_is u name.now (and_parts (bytes_eq u name.now) (can_be_id u) of).0))
+          (fixed_misses (Some name.now) fit misses client id)
 
-    pub others_hit : clients ≡ Others → (found : Found) → HitsOther q users found
-        → IsFoundBy f (λ u. is_named u users) clients must cover found
-    others_hit e found h =
-        hit (Some h.user) found (ap (λ k. is_of (λ u. is_named u users) k (Some h.user)) e
-        ∙ and_from (can_be_id h.user) (not (is_named h.user users)) h.user_fits
-        (ap not h.unlisted)) h.hits_user (λ p fresh fit name. h.user_known p fresh fit)
+  pub named_hit : (name : Bor (List ℕ)) → clients ≡ Named name → can_be_id name.now ≡ true
+      → (found : Found) → HitsUser q (Some name.now) found
+      → IsFoundBy front dollar both (λ u. is_named u users) clients must cover found
+  named_hit name e id found h =
+      hit (Some name.now) found (ap (λ k. is_of (λ u. is_named u users) k (Some name.now)) e
+      ∙ and_from (bytes_eq name.now name.now) (can_be_id name.now) (text_itself name.now) id) h
+      (λ p fresh fit known. sym (ap (name_passes p) e) ∙ known)
+
+  -- ---- all user names that aren't listed
+  pub others_missed : clients ≡ Others → MissesOthers q users
+      → NoneFor front users clients dollar must cover
+  others_missed e misses = missed (λ client user id of. at user client id
+      (sym (ap (λ k. is_of (λ u. is_named u users) k user) e) ∙ of))
+    where
+      at : (user : Option (List ℕ)) (client : List ℕ) → can_be_id client ≡ true
+          → is_of (λ u. is_named u users) Others user ≡ true → Misses q client (level_of user)
+      at None client id of = absurd (let n : false ≡ true = of in cc)
+      at (Some u) client id of =
+          others_none q.fresh q.dollar q.must.items q.cover.items q.can_ask users
+          ready.unlisted client u of id misses
+
+  pub others_hit : clients ≡ Others → (found : Found) → HitsOther q users found
+      → IsFoundBy front dollar both (λ u. is_named u users) clients must cover found
+  others_hit e found h =
+      hit (Some h.user) found (ap (λ k. is_of (λ u. is_named u users) k (Some h.user)) e
+      ∙ and_from (can_be_id h.user) (not (is_named h.user users)) h.user_fits
+      (ap not h.unlisted)) h.hits_user (λ p fresh fit name. h.user_known p fresh fit)

@@ -15,7 +15,7 @@ use Rattle.mq_acl.specs.Access.{begins_with_dollar}
 use Rattle.mq_cover.specs.Names.{is_name_level, is_choice}
 use Rattle.mq_witness.specs.Fresh.{is_literal, AreFresh}
 use Rattle.mq_witness.specs.FreshTexts.{is_base, AreNew, AreShort, IsLong, IsNew, IsPadded}
-use Rattle.mq_witness.specs.FreshTexts.{IsSeen}
+use Rattle.mq_witness.specs.FreshTexts.{IsSeen, client_base, user_base}
 use Rattle.mq_witness.specs.FreshTexts.{fresh_texts}
 use Rattle.mq_witness.specs.declared.fresh.Fresh.{Fresh}
 use Rattle.mq_witness.specs.declared.texts.FreshTexts.{FreshTexts}
@@ -86,13 +86,13 @@ long_is_new base text long named = record {
 }
 
 -- each of the texts that stand for others is made of a base of its own
-pub record AreMade (f : Fresh) : Type 0 where
+pub record AreMade (d : Bool) (f : Fresh) : Type 0 where
   pub plain : IsPadded (codes "x") f.others.plain.now
   pub dollar : IsPadded (codes "$x") f.others.dollar.now
-  pub client : IsPadded (codes "client") f.client.now
-  pub user : IsPadded (codes "user") f.user.now
+  pub client : IsPadded (client_base d) f.client.now
+  pub user : IsPadded (user_base d) f.user.now
 
-module _ (f : Fresh) (made : AreMade f) where
+module _ (d : Bool) (f : Fresh) (made : AreMade d f) where
   choice : (base text : List ℕ) → is_base base ≡ true
       → ((x y : List ℕ) → bytes_eq (base ++ x) (codes "x" ++ y) ≡ false)
       → ((x y : List ℕ) → bytes_eq (base ++ x) (codes "$x" ++ y) ≡ false)
@@ -104,44 +104,112 @@ module _ (f : Fresh) (made : AreMade f) where
         made_apart base (codes "$x") text f.others.dollar.now t m made.dollar,
       ) refl
 
--- texts that are made so are fresh
-pub are_fresh : (f : Fresh) → AreMade f → AreFresh f
-are_fresh f made = record {
-  others = rw (
-    made_level (codes "x") f.others.plain.now refl made.plain,
-    made_level (codes "$x") f.others.dollar.now refl made.dollar,
-  )
-      ((λ i. not (length (made.plain.is i) == 0) && not (begins_with_dollar (made.plain.is i))
-      && true && begins_with_dollar (made.dollar.is i) && true)
-      ∙ ap (λ b. not b && true && true && true && true)
-      (eqb-suc-zero (length (replicate made.plain.count 120))));
-  client = record {
-    choice = choice f made (codes "client") f.client.now refl (λ x y. refl) (λ x y. refl)
-        made.client;
-    some = ap (λ t. length t == 0) made.client.is
-        ∙ eqb-suc-zero (length (codes "lient" ++ replicate made.client.count 120));
-    plain = ap begins_with_dollar made.client.is;
-  };
-  user = record {
-    choice = choice f made (codes "user") f.user.now refl (λ x y. refl) (λ x y. refl) made.user;
-    some = ap (λ t. length t == 0) made.user.is
-        ∙ eqb-suc-zero (length (codes "ser" ++ replicate made.user.count 120));
-    plain = ap begins_with_dollar made.user.is;
-  };
-  apart = not-true (bytes_eq f.user.now f.client.now)
-      (made_apart (codes "user") (codes "client") f.user.now f.client.now (λ x y. refl)
-      made.user made.client);
+-- an id that is made of a base that is neither empty nor that of a level
+record IsIdBase (base : List ℕ) : Type 0 where
+  pub front : ℕ
+  pub rest : List ℕ
+  pub is : base ≡ front ∷ rest
+  pub fits : is_base base ≡ true
+  pub plain : (x y : List ℕ) → bytes_eq (base ++ x) (codes "x" ++ y) ≡ false
+  pub dollar : (x y : List ℕ) → bytes_eq (base ++ x) (codes "$x" ++ y) ≡ false
+
+client_is_base : (d : Bool) → IsIdBase (client_base d)
+client_is_base true = record {
+  front = 36;
+  rest = codes "client";
+  is = refl;
+  fits = refl;
+  plain = λ x y. refl;
+  dollar = λ x y. refl;
+}
+client_is_base false = record {
+  front = 99;
+  rest = codes "lient";
+  is = refl;
+  fits = refl;
+  plain = λ x y. refl;
+  dollar = λ x y. refl;
 }
 
+user_is_base : (d : Bool) → IsIdBase (user_base d)
+user_is_base true = record {
+  front = 36;
+  rest = codes "user";
+  is = refl;
+  fits = refl;
+  plain = λ x y. refl;
+  dollar = λ x y. refl;
+}
+user_is_base false = record {
+  front = 117;
+  rest = codes "ser";
+  is = refl;
+  fits = refl;
+  plain = λ x y. refl;
+  dollar = λ x y. refl;
+}
+
+bases_apart : (d : Bool) (x y : List ℕ) → bytes_eq (user_base d ++ x) (client_base d ++ y) ≡ false
+bases_apart true x y = refl
+bases_apart false x y = refl
+
+-- both begin with `$`, or neither does
+pub client_begins : (d : Bool) (text : List ℕ) → IsPadded (client_base d) text
+    → begins_with_dollar text ≡ d
+client_begins true text m = ap begins_with_dollar m.is
+client_begins false text m = ap begins_with_dollar m.is
+
+user_begins : (d : Bool) (text : List ℕ) → IsPadded (user_base d) text
+    → begins_with_dollar text ≡ d
+user_begins true text m = ap begins_with_dollar m.is
+user_begins false text m = ap begins_with_dollar m.is
+
+made_some : (base text : List ℕ) → IsIdBase base → IsPadded base text
+    → (length text == 0) ≡ false
+made_some base text b m =
+    ap (λ t. length t == 0) m.is
+    ∙ ap (λ t. length (t ++ replicate m.count 120) == 0) b.is
+    ∙ eqb-suc-zero (length (b.rest ++ replicate m.count 120))
+
+-- texts that are made so are fresh
+pub are_fresh : (d : Bool) (f : Fresh) → AreMade d f → AreFresh f
+are_fresh d f made =
+    let client = client_is_base d in
+    let user = user_is_base d in
+    record {
+      others = rw (
+        made_level (codes "x") f.others.plain.now refl made.plain,
+        made_level (codes "$x") f.others.dollar.now refl made.dollar,
+      )
+          ((λ i. not (length (made.plain.is i) == 0) && not (begins_with_dollar (made.plain.is i))
+          && true && begins_with_dollar (made.dollar.is i) && true)
+          ∙ ap (λ b. not b && true && true && true && true)
+          (eqb-suc-zero (length (replicate made.plain.count 120))));
+      client = record {
+        choice = choice d f made (client_base d) f.client.now client.fits client.plain client.dollar
+            made.client;
+        some = made_some (client_base d) f.client.now client made.client;
+      };
+      user = record {
+        choice = choice d f made (user_base d) f.user.now user.fits user.plain user.dollar
+            made.user;
+        some = made_some (user_base d) f.user.now user made.user;
+      };
+      apart = not-true (bytes_eq f.user.now f.client.now)
+          (made_apart (user_base d) (client_base d) f.user.now f.client.now (bases_apart d)
+          made.user made.client);
+      begin = user_begins d f.user.now made.user ∙ sym (client_begins d f.client.now made.client);
+    }
+
 -- new texts, seen as those that stand for others, are fresh
-pub seen_fresh : (t : FreshTexts) (f : Fresh) (named : List ℕ → Bool) → AreNew t named
-    → IsSeen t f → AreFresh f
-seen_fresh t f named m s =
-    are_fresh f (record {
+pub seen_fresh : (d : Bool) (t : FreshTexts) (f : Fresh) (named : List ℕ → Bool)
+    → AreNew d t named → IsSeen t f → AreFresh f
+seen_fresh d t f named m s =
+    are_fresh d f (record {
       plain = subst (IsPadded (codes "x")) (sym s.plain) m.plain.made;
       dollar = subst (IsPadded (codes "$x")) (sym s.dollar) m.dollar.made;
-      client = subst (IsPadded (codes "client")) (sym s.client) m.client.made;
-      user = subst (IsPadded (codes "user")) (sym s.user) m.user.made;
+      client = subst (IsPadded (client_base d)) (sym s.client) m.client.made;
+      user = subst (IsPadded (user_base d)) (sym s.user) m.user.made;
     })
 
 -- a text that is named is none of them
@@ -155,10 +223,10 @@ apart_from named l t u h e n = at (bytes_eq l u) refl
     at false k = refl
 
 -- a level that is named, and can be one of a name, is one that a row may name
-pub named_is_literal : (t : FreshTexts) (f : Fresh) (named : List ℕ → Bool) → AreShort named
-    → AreNew t named → IsSeen t f → (l : List ℕ) → is_name_level l ≡ true → named l ≡ true
-    → is_literal f l ≡ true
-named_is_literal t f named short m s l level h =
+pub named_is_literal : (d : Bool) (t : FreshTexts) (f : Fresh) (named : List ℕ → Bool)
+    → AreShort named → AreNew d t named → IsSeen t f → (l : List ℕ) → is_name_level l ≡ true
+    → named l ≡ true → is_literal f l ≡ true
+named_is_literal d t f named short m s l level h =
     rw (
       level,
       apart_from named l (string_bytes t.plain) f.others.plain.now h s.plain
@@ -170,9 +238,10 @@ named_is_literal t f named short m s l level h =
     ) refl
 
 -- none of them is named
-pub made_unnamed : (t : FreshTexts) (named : List ℕ → Bool) → AreShort named → AreNew t named
-    → (text : List ℕ) → list_any (bytes_eq text) (fresh_texts t) ≡ true → named text ≡ false
-made_unnamed t named short m text h =
+pub made_unnamed : (d : Bool) (t : FreshTexts) (named : List ℕ → Bool) → AreShort named
+    → AreNew d t named → (text : List ℕ) → list_any (bytes_eq text) (fresh_texts t) ≡ true
+    → named text ≡ false
+made_unnamed d t named short m text h =
     or_cases (bytes_eq text (string_bytes t.plain)) _ h
     (same (string_bytes t.plain) (m.plain.unnamed short))
     (λ k. or_cases (bytes_eq text (string_bytes t.dollar)) _ k

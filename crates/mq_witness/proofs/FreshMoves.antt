@@ -208,36 +208,39 @@ module _ (f : Fresh) (keep user client : List ℕ → Bool) (can : CanMove f kee
       at false false false true e = no (length f.others.dollar.now == 0) others.dollar_some e
       at false false false false e = no (length f.others.plain.now == 0) others.plain_some e
 
-  -- at the front of a name that begins with `$` a level is kept, or it is nobody's
+  -- at the front of a name a level is kept, or nobody's, or the ids begin with `$` just where the name does
   abbrev pub StaysAtFront : Bool → List ℕ → Type 0
-  StaysAtFront true l = (keep l ≡ true) ⊎ ((user l ≡ false) × (client l ≡ false))
-  StaysAtFront false l = Unit {0}
+  StaysAtFront dollar l = (keep l ≡ true)
+      ⊎ (((user l ≡ false) × (client l ≡ false)) ⊎ (begins_with_dollar f.client.now ≡ dollar))
+
+  other_kind : (l : List ℕ) → begins_with_dollar (other_of f l) ≡ begins_with_dollar l
+  other_kind l = at (begins_with_dollar l)
+    where
+      at : (d : Bool) → begins_with_dollar (cond d f.others.dollar.now f.others.plain.now) ≡ d
+      at true = (others_are f can.fresh).dollar
+      at false = (others_are f can.fresh).plain
 
   moved_front : (dollar : Bool) (l : List ℕ) → StaysAtFront dollar l
       → begins_with_dollar l ≡ dollar → begins_with_dollar (move f keep user client l) ≡ dollar
-  moved_front false l stays e = at (keep l) (user l) (client l) (begins_with_dollar l) e
+  moved_front dollar l (inl k) e = ap begins_with_dollar (move_keep l k) ∙ e
+  moved_front dollar l (inr (inl n)) e = at (keep l)
     where
-      at : (a b c d : Bool) → d ≡ false
-          → begins_with_dollar (cond a l (cond b f.user.now (cond c f.client.now
-          (cond d f.others.dollar.now f.others.plain.now)))) ≡ false
-      at true b c d g = e
-      at false true c d g = can.fresh.user.plain
-      at false false true d g = can.fresh.client.plain
-      at false false false true g = absurd (let n : true ≡ false = g in cc)
-      at false false false false g = (others_are f can.fresh).plain
-  moved_front true l (inl k) e = ap begins_with_dollar (move_keep l k) ∙ e
-  moved_front true l (inr n) e = at (keep l) (begins_with_dollar l) e
-    where
-      at : (a d : Bool) → d ≡ true
-          → begins_with_dollar (cond a l (cond (user l) f.user.now (cond (client l) f.client.now
-          (cond d f.others.dollar.now f.others.plain.now)))) ≡ true
-      at true d g = e
-      at false true g =
+      at : (a : Bool) → begins_with_dollar (cond a l (cond (user l) f.user.now
+          (cond (client l) f.client.now (other_of f l)))) ≡ dollar
+      at true = e
+      at false =
           ap (λ b. begins_with_dollar (cond b f.user.now (cond (client l) f.client.now
-          f.others.dollar.now))) n.0
-          ∙ ap (λ b. begins_with_dollar (cond b f.client.now f.others.dollar.now)) n.1
-          ∙ (others_are f can.fresh).dollar
-      at false false g = absurd (let n : false ≡ true = g in cc)
+          (other_of f l)))) n.0
+          ∙ ap (λ b. begins_with_dollar (cond b f.client.now (other_of f l))) n.1
+          ∙ other_kind l ∙ e
+  moved_front dollar l (inr (inr ids)) e = at (keep l) (user l) (client l)
+    where
+      at : (a b c : Bool) → begins_with_dollar (cond a l (cond b f.user.now
+          (cond c f.client.now (other_of f l)))) ≡ dollar
+      at true b c = e
+      at false true c = can.fresh.begin ∙ ids
+      at false false true = ids
+      at false false false = other_kind l ∙ e
 
   slash_suits : (g : List ℕ → List ℕ) (ls : List (List ℕ)) → suits Slash ls ≡ true
       → suits Slash (map g ls) ≡ true

@@ -17,3 +17,4 @@ pub mod SortLemmas
 pub mod SwapLemmas
 pub mod ShowLemmas
 pub mod TopicLemmas
+pub mod RuledLemmas

@@ -62,16 +62,16 @@ pub record AreNames (all : List AclRow) (names users : Literals) : Type 0 where
   pub all_usable : list_all usable all ≡ true
 
 -- rows that keep to the limit can be asked, with texts that are new to all that they name
-pub can_be_asked : (all : List AclRow) (texts : FreshTexts) (names users : Literals)
-    → AreNames all names users → AreNew texts (λ l. is_named l names)
+pub can_be_asked : (d : Bool) (all : List AclRow) (texts : FreshTexts) (names users : Literals)
+    → AreNames all names users → AreNew d texts (λ l. is_named l names)
     → CanBeAsked all texts users
-can_be_asked all texts names users are new = record {
-  fresh = λ f seen. seen_fresh texts f (λ l. is_named l names) new seen;
+can_be_asked d all texts names users are new = record {
+  fresh = λ f seen. seen_fresh d texts f (λ l. is_named l names) new seen;
   fits = λ f seen. rows_literal f all are.all_usable (λ l level h. literal f seen l level h);
   named = are.users_named;
   level = λ f seen user h. at f seen user (sym (are.users_named user) ∙ h) (can_be_level user) refl;
   unnamed = λ text h. sym (are.named text)
-      ∙ made_unnamed texts (λ l. is_named l names) short new text h;
+      ∙ made_unnamed d texts (λ l. is_named l names) short new text h;
 }
   where
     short : AreShort (λ l. is_named l names)
@@ -79,7 +79,7 @@ can_be_asked all texts names users are new = record {
 
     literal : (f : Fresh) → IsSeen texts f → (l : List ℕ) → is_name_level l ≡ true
         → rows_name l all ≡ true → is_literal f l ≡ true
-    literal f seen l level h = named_is_literal texts f (λ l. is_named l names)
+    literal f seen l level h = named_is_literal d texts f (λ l. is_named l names)
         (λ l h. names_short all are.all_usable l (sym (are.named l) ∙ h)) new seen l level
         (are.named l ∙ h)
 
@@ -91,7 +91,7 @@ can_be_asked all texts names users are new = record {
     at f seen user h false e = refl
     at f seen user h true e =
         let name = user_is_named all user h in
-        named_is_literal texts f (λ l. is_named l names)
+        named_is_literal d texts f (λ l. is_named l names)
         (λ l h. names_short all are.all_usable l (sym (are.named l) ∙ h)) new seen user
         (and_from (can_be_level user) (nat_le (length user) 321) e
         (le-leb (length user) 321 (let s = names_short all are.all_usable user name in omega arith)))
@@ -131,11 +131,13 @@ search_ready asked texts users f clients must cover can seen listed must_in cove
     let fit = can.fits f seen in
     let all = rows_listed users asked.rows (λ l e. can.named l ∙ e) in
     record {
-      fresh = can.fresh f seen;
-      must_fits = all_contained (λ row. fits (is_literal f) (levels row.filter)) asked.rows must fit
-          must_in;
-      cover_fits = all_contained (λ row. fits (is_literal f) (levels row.filter)) asked.rows cover
-          fit cover_in;
+      names_none = record {
+        fresh = can.fresh f seen;
+        must_fits = all_contained (λ row. fits (is_literal f) (levels row.filter)) asked.rows must
+            fit must_in;
+        cover_fits = all_contained (λ row. fits (is_literal f) (levels row.filter)) asked.rows
+            cover fit cover_in;
+      };
       must_listed = all_contained (λ row. is_listed users row.who) asked.rows must all must_in;
       cover_listed = all_contained (λ row. is_listed users row.who) asked.rows cover all cover_in;
       unlisted = can.named f.user.now

@@ -7,14 +7,15 @@ use Rattle.std.proofs.lemmas.List.{drop_more}
 use Rattle.std.proofs.lemmas.List.Folds.{list_any-append, list_all-append}
 use Rattle.std.proofs.lemmas.Bool.{and_parts, and_from}
 use Rattle.mq_topic.specs.Levels.{levels}
-use Rattle.mq_acl.specs.Access.{applies, concerns, begins_with_dollar}
+use Rattle.mq_acl.specs.Access.{applies, begins_with_dollar}
 use Rattle.mq_acl.specs.Rows.{AclRow}
 use Rattle.mq_acl.specs.Views.{row_view}
 use Rattle.mq_acl.specs.declared.row.Row.{Row}
-use Rattle.mq_cover.specs.Remainders.{covers, fits, remainder_fits, remainders_fit}
+use Rattle.mq_cover.specs.Remainders.{covers, fits, hits, remainder_fits, remainders_fit}
 use Rattle.mq_cover.specs.declared.remainder.Remainder.{Remainder}
+use Rattle.mq_witness.specs.Decided.{concerns_in, decides_in}
 use Rattle.mq_witness.specs.Roots.{all_begin, alike, left_begins, marks_of, rows_fit, same}
-use Rattle.mq_witness.specs.Roots.{NoneConcerned}
+use Rattle.mq_witness.specs.Roots.{AreCover, AreMust, NoneConcerned}
 use Rattle.mq_witness.specs.Rows.{lent_rows}
 
 -- ---- the rows that are left
@@ -45,20 +46,20 @@ fit_parts : (p : List ℕ → Bool) (x : AclRow) (left behind : List AclRow) →
 fit_parts p x left behind e h = and_parts (fits p (levels x.filter)) (rows_fit p behind)
     (sym (ap (rows_fit p) e) ∙ h)
 
-module _ (user : Option (List ℕ)) (dollar : Bool) where
+module _ (front : Bool) (user : Option (List ℕ)) (dollar : Bool) where
   -- such a remainder covers what the row concerns
   pub record IsRoot (row : AclRow) (r : Remainder) : Type 0 where
     pub covers : (client name : List ℕ) (other : Option (List ℕ))
         → applies other row.who ≡ applies user row.who → begins_with_dollar name ≡ dollar
-        → covers (marks_of client other) (levels name) r ≡ concerns client other name row
+        → covers (marks_of client other) (levels name) r ≡ concerns_in front client other name row
     pub fits : (p : List ℕ → Bool) → remainder_fits p r ≡ fits p (levels row.filter)
-    pub begins : dollar ≡ true → left_begins r.rest ≡ true
+    pub begins : (not front && dollar) ≡ true → left_begins r.rest ≡ true
 
   -- the row concerns no such name
   abbrev pub HasNoRoot : AclRow → Type 0
   HasNoRoot row = (client name : List ℕ) (other : Option (List ℕ))
       → applies other row.who ≡ applies user row.who → begins_with_dollar name ≡ dollar
-      → concerns client other name row ≡ false
+      → concerns_in front client other name row ≡ false
 
   fit_more : (p : List ℕ → Bool) (rs next : List Remainder) (r : Remainder) → next ≡ rs ++ r ∷ []
       → remainders_fit p rs ≡ true → remainder_fits p r ≡ true → remainders_fit p next ≡ true
@@ -72,13 +73,13 @@ module _ (user : Option (List ℕ)) (dollar : Bool) where
     pub covers : (client name : List ℕ) (other : Option (List ℕ)) → alike other user rows ≡ true
         → begins_with_dollar name ≡ dollar
         → (list_all (covers (marks_of client other) (levels name)) rs
-        && list_all (concerns client other name) left)
-        ≡ list_all (concerns client other name) rows
+        && list_all (concerns_in front client other name) left)
+        ≡ list_all (concerns_in front client other name) rows
     pub alike_left : (other : Option (List ℕ)) → alike other user rows ≡ true
         → alike other user left ≡ true
     pub fit : (p : List ℕ → Bool) → rows_fit p rows ≡ true
         → (remainders_fit p rs ≡ true) × (rows_fit p left ≡ true)
-    pub begin : (not dollar || all_begin rs) ≡ true
+    pub begin : (not (not front && dollar) || all_begin rs) ≡ true
 
   begin_more : (b : Bool) (rs next : List Remainder) (r : Remainder) → next ≡ rs ++ r ∷ []
       → (b ≡ true → left_begins r.rest ≡ true) → (not b || all_begin rs) ≡ true
@@ -96,14 +97,14 @@ module _ (user : Option (List ℕ)) (dollar : Bool) where
     covers = λ client name other like d.
         let parts = alike_parts other user x left behind e (so.alike_left other like) in
         ap (λ k. list_all (covers (marks_of client other) (levels name)) k
-        && list_all (concerns client other name) behind) g
-        ∙ ap (λ b. b && list_all (concerns client other name) behind)
+        && list_all (concerns_in front client other name) behind) g
+        ∙ ap (λ b. b && list_all (concerns_in front client other name) behind)
         (list_all-append (covers (marks_of client other) (levels name)) rs (r ∷ []))
         ∙ moved (list_all (covers (marks_of client other) (levels name)) rs)
-        (covers (marks_of client other) (levels name) r) (concerns client other name x)
-        (list_all (concerns client other name) behind) (root.covers client name other parts.0 d)
+        (covers (marks_of client other) (levels name) r) (concerns_in front client other name x)
+        (list_all (concerns_in front client other name) behind) (root.covers client name other parts.0 d)
         ∙ ap (λ k. list_all (covers (marks_of client other) (levels name)) rs
-        && list_all (concerns client other name) k) (sym e)
+        && list_all (concerns_in front client other name) k) (sym e)
         ∙ so.covers client name other like d;
     alike_left = λ other like.
         (alike_parts other user x left behind e (so.alike_left other like)).1;
@@ -113,7 +114,7 @@ module _ (user : Option (List ℕ)) (dollar : Bool) where
           fit_more p rs next r g before.0 (root.fits p ∙ parts.0),
           parts.1,
         );
-    begin = begin_more dollar rs next r g root.begins so.begin;
+    begin = begin_more (not front && dollar) rs next r g root.begins so.begin;
   }
     where
       moved : (a b c d : Bool) → b ≡ c → ((a && (b && true)) && d) ≡ (a && (c && d))
@@ -123,14 +124,14 @@ module _ (user : Option (List ℕ)) (dollar : Bool) where
 
   pub must_none : (rows left behind : List AclRow) (x : AclRow) (rs : List Remainder)
       → left ≡ x ∷ behind → HasNoRoot x → IsMustSoFar rows left rs
-      → NoneConcerned rows user dollar
+      → NoneConcerned front rows user dollar
   must_none rows left behind x rs e none so client name other like d =
       let parts = alike_parts other user x left behind e (so.alike_left other like) in
       sym (so.covers client name other like d)
       ∙ ap (λ k. list_all (covers (marks_of client other) (levels name)) rs
-      && list_all (concerns client other name) k) e
+      && list_all (concerns_in front client other name) k) e
       ∙ lost (list_all (covers (marks_of client other) (levels name)) rs)
-      (concerns client other name x) (list_all (concerns client other name) behind)
+      (concerns_in front client other name x) (list_all (concerns_in front client other name) behind)
       (none client name other parts.0 d)
     where
       lost : (a b c : Bool) → b ≡ false → (a && (b && c)) ≡ false
@@ -144,8 +145,8 @@ module _ (user : Option (List ℕ)) (dollar : Bool) where
         → begins_with_dollar name ≡ dollar
         → list_all (covers (marks_of client other) (levels name)) must ≡ true
         → (list_any (covers (marks_of client other) (levels name)) rs
-        || list_any (concerns client other name) left)
-        ≡ list_any (concerns client other name) rows
+        || list_any (concerns_in front client other name) left)
+        ≡ list_any (concerns_in front client other name) rows
     pub alike_left : (other : Option (List ℕ)) → alike other user rows ≡ true
         → alike other user left ≡ true
     pub fit : (p : List ℕ → Bool) → rows_fit p rows ≡ true
@@ -158,14 +159,14 @@ module _ (user : Option (List ℕ)) (dollar : Bool) where
     covers = λ client name other like d all.
         let parts = alike_parts other user x left behind e (so.alike_left other like) in
         ap (λ k. list_any (covers (marks_of client other) (levels name)) k
-        || list_any (concerns client other name) behind) g
-        ∙ ap (λ b. b || list_any (concerns client other name) behind)
+        || list_any (concerns_in front client other name) behind) g
+        ∙ ap (λ b. b || list_any (concerns_in front client other name) behind)
         (list_any-append (covers (marks_of client other) (levels name)) rs (r ∷ []))
         ∙ moved (list_any (covers (marks_of client other) (levels name)) rs)
-        (covers (marks_of client other) (levels name) r) (concerns client other name x)
-        (list_any (concerns client other name) behind) (root.covers client name other parts.0 d)
+        (covers (marks_of client other) (levels name) r) (concerns_in front client other name x)
+        (list_any (concerns_in front client other name) behind) (root.covers client name other parts.0 d)
         ∙ ap (λ k. list_any (covers (marks_of client other) (levels name)) rs
-        || list_any (concerns client other name) k) (sym e)
+        || list_any (concerns_in front client other name) k) (sym e)
         ∙ so.covers client name other like d all;
     alike_left = λ other like.
         (alike_parts other user x left behind e (so.alike_left other like)).1;
@@ -188,19 +189,43 @@ module _ (user : Option (List ℕ)) (dollar : Bool) where
       → ((client name : List ℕ) (other : Option (List ℕ))
       → applies other x.who ≡ applies user x.who → begins_with_dollar name ≡ dollar
       → list_all (covers (marks_of client other) (levels name)) must ≡ true
-      → concerns client other name x ≡ false)
+      → concerns_in front client other name x ≡ false)
       → IsCoverSoFar must rows left rs → IsCoverSoFar must rows behind rs
   cover_skip must rows left behind x rs e none so = record {
     covers = λ client name other like d all.
         let parts = alike_parts other user x left behind e (so.alike_left other like) in
         ap (λ b. list_any (covers (marks_of client other) (levels name)) rs
-        || (b || list_any (concerns client other name) behind))
+        || (b || list_any (concerns_in front client other name) behind))
         (sym (none client name other parts.0 d all))
         ∙ ap (λ k. list_any (covers (marks_of client other) (levels name)) rs
-        || list_any (concerns client other name) k) (sym e)
+        || list_any (concerns_in front client other name) k) (sym e)
         ∙ so.covers client name other like d all;
     alike_left = λ other like.
         (alike_parts other user x left behind e (so.alike_left other like)).1;
     fit = λ p h. let before = so.fit p h in
         (before.0, (fit_parts p x left behind e before.1).1);
   }
+
+-- ---- what is asked of the roots is what is asked of the rows
+pub roots_decide : (front : Bool) (user : Option (List ℕ)) (dollar : Bool) (must cover : List AclRow)
+    (rs ks : List Remainder) → AreMust front must user dollar rs
+    → AreCover front cover user dollar rs ks → (client name : List ℕ) (other : Option (List ℕ))
+    → alike other user must ≡ true → alike other user cover ≡ true
+    → begins_with_dollar name ≡ dollar → hits (marks_of client other) (levels name) rs ks
+    ≡ decides_in front client other name must cover
+roots_decide front user dollar must cover rs ks m k client name other like alike_cover kind =
+    at (list_all (covers (marks_of client other) (levels name)) rs) refl
+  where
+    none : Bool
+    none = not (list_any (concerns_in front client other name) cover)
+
+    first : list_all (covers (marks_of client other) (levels name)) rs
+        ≡ list_all (concerns_in front client other name) must
+    first = m.covers client name other like kind
+
+    at : (b : Bool) → list_all (covers (marks_of client other) (levels name)) rs ≡ b
+        → (b && not (list_any (covers (marks_of client other) (levels name)) ks))
+        ≡ (list_all (concerns_in front client other name) must && none)
+    at true e = ap not (k.covers client name other alike_cover kind e)
+        ∙ ap (λ b. b && none) (sym e ∙ first)
+    at false e = ap (λ b. b && none) (sym e ∙ first)

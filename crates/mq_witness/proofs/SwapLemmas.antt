@@ -1,18 +1,19 @@
 -- Two texts that no row names can stand in each other's place.
 use Rattle.std.proofs.Common.{◌≡◌, ℕ, ◌==◌, ◌<◌, Bool, true, false, cond, not, ◌&&◌, ◌||◌, List, []}
 use Rattle.std.proofs.Common.{◌∷◌, length, Option, Some, None, codes, bytes_eq, refl, ap, sym, ◌∙◌}
-use Rattle.std.proofs.Common.{map, subst, string_bytes}
+use Rattle.std.proofs.Common.{map, subst, string_bytes, ◌++◌, Bor}
 use Rattle.std.specs.Prelude.{nat_le, All, Contains}
 use Rattle.std.specs.List.{list_all, list_any}
 use Rattle.std.specs.Cmp.{both_ways}
 use Rattle.std.proofs.lemmas.Bool.{and_parts, and_from, not-true, or_left, or_right}
 use Rattle.std.proofs.lemmas.List.{length-map}
+use Rattle.std.proofs.lemmas.List.Folds.{list_any-append}
 use Rattle.mq_topic.proofs.ByteLemmas.{text_is, text_itself}
 use Rattle.mq_topic.proofs.Walk.{levels-nonempty}
 use Rattle.mq_topic.specs.Levels.{levels}
 use Rattle.mq_topic.specs.Matching.{level_matches, levels_match_by}
 use Rattle.mq_topic.specs.Texts.{contains_byte, is_plain}
-use Rattle.mq_acl.specs.Access.{applies, begins_with_dollar, concerns, is_user}
+use Rattle.mq_acl.specs.Access.{applies, begins_with_dollar, is_user}
 use Rattle.mq_acl.specs.Access.{row_level_matches}
 use Rattle.mq_acl.specs.Rows.{AclRow, Who}
 use Rattle.mq_acl.specs.Rows as rows
@@ -21,18 +22,19 @@ use Rattle.mq_cover.specs.Remainders.{fits}
 use Rattle.mq_cover.specs.declared.start.Start.TheVariants.{Dollar}
 use Rattle.mq_cover.proofs.NameLemmas.{choice_is_level, suits_inside}
 use Rattle.mq_cover.proofs.TextLemmas.{false_is, or_cases}
-use Rattle.mq_witness.specs.Asked.{AskedRows, IsListed, IsShown, ShowsOthers}
+use Rattle.mq_witness.specs.Asked.{AskedRows, IsListed, IsShownIn, ShowsOthersIn, is_made_up}
 use Rattle.mq_witness.specs.Clients.{can_be_id, is_of}
-use Rattle.mq_witness.specs.Decided.{decides}
+use Rattle.mq_witness.specs.Decided.{concerns_in, decides_in, may_begin}
 use Rattle.mq_witness.specs.Fresh.{is_literal, AreFresh}
 use Rattle.mq_witness.specs.FreshTexts.{IsSeen, fresh_texts}
 use Rattle.mq_witness.specs.Literals.{is_literal_in}
-use Rattle.mq_witness.specs.Ready.{CanBeAsked}
+use Rattle.mq_witness.specs.Ready.{CanAnswer}
 use Rattle.mq_witness.specs.Roots.{rows_fit}
 use Rattle.mq_witness.specs.Rows.{is_name_of, is_user_of, row_names, rows_name}
 use Rattle.mq_witness.specs.Swaps.{is_apart, swap, swap_name, swap_user}
 use Rattle.mq_witness.specs.declared.clients.Clients.{Clients}
 use Rattle.mq_witness.specs.declared.clients.Clients.TheVariants.{Anonymous, Named, Others}
+use Rattle.mq_witness.specs.declared.fresh.BothFresh.{BothFresh}
 use Rattle.mq_witness.specs.declared.fresh.Fresh.{Fresh}
 use Rattle.mq_witness.specs.declared.literals.Literals.{Literals}
 use Rattle.mq_witness.specs.declared.texts.FreshTexts.{FreshTexts}
@@ -60,7 +62,7 @@ swap_second a b = at (bytes_eq b a) refl
         ∙ ap (λ t. cond t a b) (text_itself b)
 
 -- what holds of both, and of a text that is neither, holds of the swapped text
-swap_cases : (a b l : List ℕ) (P : List ℕ → Type 0) → P a → P b → P l → P (swap a b l)
+pub swap_cases : (a b l : List ℕ) (P : List ℕ → Type 0) → P a → P b → P l → P (swap a b l)
 swap_cases a b l P pa pb pl = at (bytes_eq l a) (bytes_eq l b)
   where
     at : (s t : Bool) → P (cond s b (cond t a l))
@@ -152,7 +154,7 @@ record AreAlike (a b : List ℕ) : Type 0 where
   pub slash : not (contains_byte 47 a) ≡ true
   pub other_slash : not (contains_byte 47 b) ≡ true
 
-module _ (a b : List ℕ) (alike : AreAlike a b) where
+module _ (front : Bool) (a b : List ℕ) (alike : AreAlike a b) where
   swapped_lack : (ls : List (List ℕ)) → list_all (λ l. not (contains_byte 47 l)) ls ≡ true
       → list_all (λ l. not (contains_byte 47 l)) (map (swap a b) ls) ≡ true
   swapped_lack [] h = refl
@@ -191,8 +193,8 @@ module _ (a b : List ℕ) (alike : AreAlike a b) where
       ∙ ap (suits Dollar) (sym (levels_swapped name)) ∙ dollar_suits (swap_name a b name)
 
   concerns_swapped : (client name : List ℕ) (user : Option (List ℕ)) (row : AclRow)
-      → row_apart a b row ≡ true → concerns client user name row
-      ≡ concerns (swap a b client) (swap_user a b user) (swap_name a b name) row
+      → row_apart a b row ≡ true → concerns_in front client user name row
+      ≡ concerns_in front (swap a b client) (swap_user a b user) (swap_name a b name) row
   concerns_swapped client name user row h =
       let parts = and_parts (fits (is_apart a b) (levels row.filter)) (who_apart a b row.who) h in
       let matched = match_same (row_level_matches row.who client user)
@@ -202,11 +204,11 @@ module _ (a b : List ℕ) (alike : AreAlike a b) where
       ∙ ap (levels_match_by (row_level_matches row.who (swap a b client) (swap_user a b user))
       (levels row.filter)) (sym (levels_swapped name)) in
       (λ i. applies_swapped a b user row.who parts.1 i
-      && ((not (dollar_swapped name i) || begins_with_dollar row.filter) && matched i))
+      && ((not (dollar_swapped name i) || may_begin front row) && matched i))
 
   all_swapped : (client name : List ℕ) (user : Option (List ℕ)) (all : List AclRow)
-      → list_all (row_apart a b) all ≡ true → list_all (concerns client user name) all
-      ≡ list_all (concerns (swap a b client) (swap_user a b user) (swap_name a b name)) all
+      → list_all (row_apart a b) all ≡ true → list_all (concerns_in front client user name) all
+      ≡ list_all (concerns_in front (swap a b client) (swap_user a b user) (swap_name a b name)) all
   all_swapped client name user [] h = refl
   all_swapped client name user (row ∷ all) h =
       let parts = and_parts (row_apart a b row) (list_all (row_apart a b) all) h in
@@ -214,8 +216,8 @@ module _ (a b : List ℕ) (alike : AreAlike a b) where
       && all_swapped client name user all parts.1 i)
 
   any_swapped : (client name : List ℕ) (user : Option (List ℕ)) (all : List AclRow)
-      → list_all (row_apart a b) all ≡ true → list_any (concerns client user name) all
-      ≡ list_any (concerns (swap a b client) (swap_user a b user) (swap_name a b name)) all
+      → list_all (row_apart a b) all ≡ true → list_any (concerns_in front client user name) all
+      ≡ list_any (concerns_in front (swap a b client) (swap_user a b user) (swap_name a b name)) all
   any_swapped client name user [] h = refl
   any_swapped client name user (row ∷ all) h =
       let parts = and_parts (row_apart a b row) (list_all (row_apart a b) all) h in
@@ -224,8 +226,8 @@ module _ (a b : List ℕ) (alike : AreAlike a b) where
 
   decides_swapped : (client name : List ℕ) (user : Option (List ℕ)) (must cover : List AclRow)
       → list_all (row_apart a b) must ≡ true → list_all (row_apart a b) cover ≡ true
-      → decides client user name must cover
-      ≡ decides (swap a b client) (swap_user a b user) (swap_name a b name) must cover
+      → decides_in front client user name must cover
+      ≡ decides_in front (swap a b client) (swap_user a b user) (swap_name a b name) must cover
   decides_swapped client name user must cover h g =
       (λ i. all_swapped client name user must h i && not (any_swapped client name user cover g i))
 
@@ -269,7 +271,7 @@ module _ (f : Fresh) (a b : List ℕ) where
 
 -- ---- what is made up
 -- a text that is made up can be a level, and is not empty
-record IsMadeUp (text : List ℕ) : Type 0 where
+pub record IsMadeUp (text : List ℕ) : Type 0 where
   pub level : is_name_level text ≡ true
   pub id : can_be_id text ≡ true
 
@@ -300,6 +302,49 @@ made_up_is t f fresh seen text h =
     same : (s : List ℕ) → bytes_eq text s ≡ true → (id : List ℕ) → id ≡ s → IsMadeUp id
         → IsMadeUp text
     same s e id g m = subst IsMadeUp (g ∙ sym (text_is text s e)) m
+
+-- each text that is made up is among those of the one kind or the other, and no row names it
+pub both_made : (asked : AskedRows) (texts dollar longest : FreshTexts) (users : Literals)
+    (both : BothFresh) → CanAnswer asked.rows texts dollar longest users
+    → asked.made_up ≡ fresh_texts texts ++ fresh_texts dollar → IsSeen texts both.plain
+    → IsSeen dollar both.dollar → (text : List ℕ) → is_made_up text asked ≡ true
+    → IsMadeUp text × (rows_name text asked.rows ≡ false)
+both_made asked texts dollar longest users both can made seen begun text h =
+    or_cases (list_any (bytes_eq text) (fresh_texts texts))
+    (list_any (bytes_eq text) (fresh_texts dollar))
+    (sym (ap (list_any (bytes_eq text)) made
+    ∙ list_any-append (bytes_eq text) (fresh_texts texts) (fresh_texts dollar)) ∙ h)
+    (λ e. (
+      made_up_is texts both.plain (can.asked_can.fresh both.plain seen) seen text e,
+      can.asked_can.unnamed text e,
+    ))
+    (λ e. (
+      made_up_is dollar both.dollar (can.dollar_can.fresh both.dollar begun) begun text e,
+      can.dollar_can.unnamed text e,
+    ))
+
+-- texts, as they are lent
+abbrev lent : List ℕ → Bor (List ℕ)
+lent text = record { ref_ptr = (0, 0); now = text }
+
+abbrev lent_texts : FreshTexts → Fresh
+lent_texts t = record {
+  others = record { plain = lent (string_bytes t.plain); dollar = lent (string_bytes t.dollar) };
+  client = lent (string_bytes t.client);
+  user = lent (string_bytes t.user);
+}
+
+texts_seen : (t : FreshTexts) → IsSeen t (lent_texts t)
+texts_seen t = record { plain = refl; dollar = refl; client = refl; user = refl }
+
+pub all_made : (asked : AskedRows) (texts dollar longest : FreshTexts) (users : Literals)
+    → CanAnswer asked.rows texts dollar longest users
+    → asked.made_up ≡ fresh_texts texts ++ fresh_texts dollar → (text : List ℕ)
+    → is_made_up text asked ≡ true → IsMadeUp text × (rows_name text asked.rows ≡ false)
+all_made asked texts dollar longest users can made text h =
+    both_made asked texts dollar longest users
+    (record { plain = lent_texts texts; dollar = lent_texts dollar }) can made (texts_seen texts)
+    (texts_seen dollar) text h
 
 -- a level has no `/`
 no_slash : (l : List ℕ) → can_be_level l ≡ true → not (contains_byte 47 l) ≡ true
@@ -332,34 +377,34 @@ swapped_client asked Others a b (Some u) na nb ia ib listed h =
         (user_is_named asked.rows t) n))
 
 -- what is shown is shown with any text in the place of one that stands for it
-pub shows_others : (asked : AskedRows) (texts : FreshTexts) (users : Literals) (f : Fresh)
-    (clients : Clients) (must cover : List AclRow) → CanBeAsked asked.rows texts users
-    → asked.made_up ≡ fresh_texts texts
-    → IsSeen texts f → IsListed asked clients → All (Contains asked.rows) must
-    → All (Contains asked.rows) cover → (client : List ℕ) (user : Option (List ℕ)) (name : List ℕ)
-    → IsShown asked clients must cover client user name
-    → ShowsOthers asked clients must cover client user name
-shows_others asked texts users f clients must cover can made seen listed must_in cover_in client
-    user name shown a b stands valid =
-    let made_up = sym (ap (list_any (bytes_eq a)) made) ∙ stands.made_up in
-    let first = made_up_is texts f (can.fresh f seen) seen a made_up in
-    let unnamed = can.unnamed a made_up in
-    let alike : AreAlike a b = record {
-      dollar = stands.dollar;
-      slash = no_slash a (and_parts (can_be_level a) (nat_le (length a) 321) first.level).0;
-      other_slash = no_slash b stands.level;
-    } in
-    let apart = all_apart f a b asked.rows (can.fits f seen)
-    (λ l i. and_from (not (bytes_eq l a)) (not (bytes_eq l b))
-    (unnamed_differs asked.rows a l unnamed i)
-    (unnamed_differs asked.rows b l stands.unnamed i)) in
-    record {
-      client_fits = swap_cases a b client (λ t. can_be_id t ≡ true) first.id stands.id
-          shown.client_fits;
-      user_fits = swapped_client asked clients a b user unnamed stands.unnamed first.id stands.id
-          listed shown.user_fits;
-      valid = valid;
-      decided = sym (decides_swapped a b alike client name user must cover
-          (all_contained (row_apart a b) asked.rows must apart must_in)
-          (all_contained (row_apart a b) asked.rows cover apart cover_in)) ∙ shown.decided;
-    }
+module _ (asked : AskedRows) (f : Fresh) (fit : rows_fit (is_literal f) asked.rows ≡ true)
+    (clients : Clients) (must cover : List AclRow) where
+  pub shows_others : (front : Bool)
+      → ((text : List ℕ) → is_made_up text asked ≡ true
+      → IsMadeUp text × (rows_name text asked.rows ≡ false))
+      → IsListed asked clients → All (Contains asked.rows) must
+      → All (Contains asked.rows) cover → (client : List ℕ) (user : Option (List ℕ))
+      → (name : List ℕ) → IsShownIn front asked clients must cover client user name
+      → ShowsOthersIn front asked clients must cover client user name
+  shows_others front made listed must_in cover_in client user name shown a b stands valid =
+      let first = (made a stands.made_up).0 in
+      let unnamed = (made a stands.made_up).1 in
+      let alike : AreAlike a b = record {
+        dollar = stands.dollar;
+        slash = no_slash a (and_parts (can_be_level a) (nat_le (length a) 321) first.level).0;
+        other_slash = no_slash b stands.level;
+      } in
+      let apart = all_apart f a b asked.rows fit
+      (λ l i. and_from (not (bytes_eq l a)) (not (bytes_eq l b))
+      (unnamed_differs asked.rows a l unnamed i)
+      (unnamed_differs asked.rows b l stands.unnamed i)) in
+      record {
+        client_fits = swap_cases a b client (λ t. can_be_id t ≡ true) first.id stands.id
+            shown.client_fits;
+        user_fits = swapped_client asked clients a b user unnamed stands.unnamed first.id stands.id
+            listed shown.user_fits;
+        valid = valid;
+        decided = sym (decides_swapped front a b alike client name user must cover
+            (all_contained (row_apart a b) asked.rows must apart must_in)
+            (all_contained (row_apart a b) asked.rows cover apart cover_in)) ∙ shown.decided;
+      }

@@ -1,6 +1,6 @@
 -- The topics of one client.
 use Rattle.std.proofs.Common.{◌≡◌, ℕ, Bool, true, false, cond, not, ◌&&◌, ◌||◌, List, [], ◌∷◌}
-use Rattle.std.proofs.Common.{length, Option, Some, None, codes, bytes_eq, refl, ap, sym, ◌∙◌}
+use Rattle.std.proofs.Common.{length, Option, Some, None, codes, bytes_eq, refl, ap, sym, ◌∙◌, subst}
 use Rattle.std.specs.List.{list_all, list_any}
 use Rattle.std.proofs.lemmas.Bool.{and_parts, and_from, and_left, leb-true}
 use Rattle.std.proofs.lemmas.List.{map-id}
@@ -16,7 +16,7 @@ use Rattle.mq_cover.specs.declared.remainder.Remainder.{Remainder}
 use Rattle.mq_witness.specs.Answers.{Asks, IsHit}
 use Rattle.mq_witness.specs.Decided.{decides}
 use Rattle.mq_witness.specs.Fresh.{is_literal}
-use Rattle.mq_witness.specs.FreshTexts.{AreLonger, AreShort, IsSeen}
+use Rattle.mq_witness.specs.FreshTexts.{AreLonger, AreShort, IsPadded, IsSeen}
 use Rattle.mq_witness.specs.Limits.{is_short, is_short_level, short_who, usable}
 use Rattle.mq_witness.specs.Roots.{NoneConcerned, marks_of, rows_fit}
 use Rattle.mq_witness.specs.Texts.{level_of}
@@ -26,7 +26,7 @@ use Rattle.mq_witness.specs.declared.fresh.Fresh.{Fresh}
 use Rattle.mq_witness.specs.declared.question.Question.{Question}
 use Rattle.mq_witness.specs.declared.texts.FreshTexts.{FreshTexts}
 use Rattle.mq_witness.proofs.AnswerLemmas.{alike_self, any_fits, same_user}
-use Rattle.mq_witness.proofs.FreshLemmas.{named_is_literal, seen_fresh}
+use Rattle.mq_witness.proofs.FreshLemmas.{client_begins, named_is_literal, seen_fresh}
 use Rattle.mq_witness.proofs.FreshMoves.{literal_is_choice}
 use Rattle.mq_witness.proofs.LiteralLemmas.{fits_mono}
 use Rattle.mq_witness.proofs.MoveLemmas.{match_same}
@@ -76,7 +76,7 @@ module _ (client : List ℕ) (user : Option (List ℕ)) (ls : List (List ℕ))
 -- ---- what a question answers
 -- where a row concerns none of the names
 pub no_topic : (client : List ℕ) (user : Option (List ℕ)) (dollar : Bool)
-    (must cover : List AclRow) → NoneConcerned must user dollar → (name : List ℕ)
+    (must cover : List AclRow) → NoneConcerned false must user dollar → (name : List ℕ)
     → is_name name ≡ true → begins_with_dollar name ≡ dollar
     → decides client user name must cover ≡ false
 no_topic client user dollar must cover none name valid kind =
@@ -85,7 +85,8 @@ no_topic client user dollar must cover none name valid kind =
     (none client name user (alike_self user must) kind)
 
 module _ (f : Fresh) (client : List ℕ) (user : Option (List ℕ)) (dollar : Bool)
-    (must cover : List AclRow) (q : Question) (asks : Asks f user dollar must cover q) where
+    (must cover : List AclRow) (q : Question)
+    (asks : Asks false (record { plain = f; dollar = f }) user dollar must cover q) where
   decided_is : (name : List ℕ) → is_name name ≡ true → begins_with_dollar name ≡ dollar
       → decides client user name must cover
       ≡ hits (level_marks client user) (levels name) q.must.items q.cover.items
@@ -119,7 +120,7 @@ short_size l h = leb-true (length l) 300 h
 module _ (longest : FreshTexts) (f : Fresh) (longer : AreLonger longest)
     (seen : IsSeen longest f) where
   short_literal : (l : List ℕ) → is_short_level l ≡ true → is_literal f l ≡ true
-  short_literal l h = named_is_literal longest f is_short short_size (longer is_short) seen l
+  short_literal l h = named_is_literal false longest f is_short short_size (longer is_short) seen l
       (short_is_name l h) (and_parts (can_be_level l) (is_short l) h).1
 
   short_rows : (rows : List AclRow) → rows_fit is_short_level rows ≡ true
@@ -148,9 +149,13 @@ module _ (longest : FreshTexts) (f : Fresh) (longer : AreLonger longest)
       → AreWithin client user must → list_all usable cover ≡ true
       → IsReadyFor f client user must cover
   ready_for client user must cover within cover_usable = record {
-    fresh = seen_fresh longest f is_short (longer is_short) seen;
-    must_fits = short_rows must within.must_short;
-    cover_fits = short_rows cover (levels_usable cover cover_usable);
+    names_none = record {
+      fresh = seen_fresh false longest f is_short (longer is_short) seen;
+      must_fits = short_rows must within.must_short;
+      cover_fits = short_rows cover (levels_usable cover cover_usable);
+    };
+    begin = client_begins false f.client.now
+        (subst (IsPadded (codes "client")) (sym seen.client) (longer is_short).client.made);
     marks_fit = and_from (mark_passes (is_choice f.others) (level_of (Some client)))
         (mark_passes (is_choice f.others) (level_of user))
         (short_mark (Some client) within.client_short) (short_mark user within.user_short);

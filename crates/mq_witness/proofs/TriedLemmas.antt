@@ -4,14 +4,14 @@ use Rattle.std.proofs.Common.{[], ◌∷◌, length, Option, Some, None, codes, 
 use Rattle.std.proofs.Common.{◌∙◌, map, subst, if◌then◌else◌, inl, inr, arith}
 use Rattle.std.specs.Prelude.{nat_le, nat_lt}
 use Rattle.std.specs.List.{list_all, list_any}
-use Rattle.std.proofs.lemmas.Bool.{and_parts, and_from, or_left, or_right, leb-true}
+use Rattle.std.proofs.lemmas.Bool.{and_parts, and_from, or_left, or_right, leb-true, not-true}
 use Rattle.std.proofs.lemmas.Bool.{le-leb, false_from_ne_true}
 use Rattle.std.proofs.lemmas.Bool.Decides.{nat_tests}
 use Rattle.std.proofs.lemmas.List.{length-map}
 use Rattle.mq_topic.proofs.ByteLemmas.{text_is, text_itself, text_flip}
 use Rattle.mq_topic.specs.Matching.{is_wildcard}
 use Rattle.mq_topic.specs.Texts.{contains_byte, is_plain}
-use Rattle.mq_acl.specs.Access.{is_user}
+use Rattle.mq_acl.specs.Access.{begins_with_dollar, is_user}
 use Rattle.mq_cover.specs.Names.{can_be_level, is_choice, is_name_level, start_of, suits}
 use Rattle.mq_cover.specs.Remainders.{covers, hits, mark_passes, FindsNothing}
 use Rattle.mq_cover.specs.declared.remainder.Remainder.{Remainder}
@@ -20,7 +20,7 @@ use Rattle.mq_cover.proofs.TextLemmas.{or_cases}
 use Rattle.mq_witness.specs.Clients.{can_be_id}
 use Rattle.mq_witness.specs.Fresh.{is_literal, IsFreshId}
 use Rattle.mq_witness.specs.Literals.{has_mark, is_literal_of}
-use Rattle.mq_witness.specs.Ready.{CanAsk}
+use Rattle.mq_witness.specs.Ready.{CanAsk, is_front}
 use Rattle.mq_witness.specs.Roots.{all_begin, marks_of}
 use Rattle.mq_witness.specs.Texts.{level_of}
 use Rattle.mq_witness.specs.Tried.{is_tried_client}
@@ -139,15 +139,25 @@ module _ (f : Fresh) (dollar : Bool) (must cover : List Remainder)
     (nobody : must ≡ [] → (l : List ℕ) → user l ≡ false) where
   -- where all of the first filters cover a name, its first level stays where names begin with `$`
   front_stays : (rs : List Remainder) → rs ≡ must → (b : Bool) → (u : Option (List ℕ)) (l : List ℕ)
-      (ls : List (List ℕ)) → (not b || all_begin rs) ≡ true
+      (ls : List (List ℕ)) → is_front f b rs ≡ true
       → list_all (covers (marks_of c u) (l ∷ ls)) rs ≡ true
       → StaysAtFront f keep user (client_test must c) can b l
-  front_stays rs e false u l ls begin h = tt
-  front_stays [] e true u l ls begin h =
-      inr (nobody (sym e) l, ap (λ m. has_mark (codes "%c") m && bytes_eq l c) (sym e))
-  front_stays (r ∷ rs) e true u l ls begin h =
-      inl (keeps l (ap (is_literal_of l) (sym e)
-      ∙ front_is_literal r rs (marks_of c u) l ls begin h))
+  front_stays rs e false u l ls begin h =
+      inr (inr (not-true (begins_with_dollar f.client.now) begin))
+  front_stays rs e true u l ls begin h = at (begins_with_dollar f.client.now) refl begin
+    where
+      named : (rs : List Remainder) → rs ≡ must → all_begin rs ≡ true
+          → list_all (covers (marks_of c u) (l ∷ ls)) rs ≡ true
+          → StaysAtFront f keep user (client_test must c) can true l
+      named [] e g h =
+          inr (inl (nobody (sym e) l, ap (λ m. has_mark (codes "%c") m && bytes_eq l c) (sym e)))
+      named (r ∷ rs) e g h = inl (keeps l (ap (is_literal_of l) (sym e)
+          ∙ front_is_literal r rs (marks_of c u) l ls g h))
+
+      at : (d : Bool) → begins_with_dollar f.client.now ≡ d → (d || all_begin rs) ≡ true
+          → StaysAtFront f keep user (client_test must c) can true l
+      at true k g = inr (inr k)
+      at false k g = named rs e g h
 
   -- a name that is hit is hit with its levels moved, by the new client id and this level for a user
   pub moved_hit : (u v : Option (List ℕ))

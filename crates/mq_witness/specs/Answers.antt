@@ -1,5 +1,5 @@
 -- What a question asks, and what it answers.
-use Rattle.std.specs.Prelude.{◌≡◌, ℕ, Bool, true, false, List, Option, Some}
+use Rattle.std.specs.Prelude.{◌≡◌, ◌⊎◌, ℕ, Bool, true, false, List, Option, Some}
 use Rattle.std.specs.List.{list_all}
 use Rattle.std.specs.Option.{option_copied}
 use Rattle.mq_topic.specs.Levels.{levels}
@@ -10,28 +10,28 @@ use Rattle.mq_cover.specs.Names.{start_of}
 use Rattle.mq_cover.specs.Remainders.{MarkLevels, hits, mark_passes, marks_pass, remainders_fit}
 use Rattle.mq_cover.specs.Remainders.{FindsNothing}
 use Rattle.mq_witness.specs.Clients.{can_be_id, is_of, name_passes}
-use Rattle.mq_witness.specs.Decided.{decides}
+use Rattle.mq_witness.specs.Decided.{decides_in}
 use Rattle.mq_witness.specs.Fresh.{fresh_pass}
 use Rattle.mq_witness.specs.Roots.{alike, marks_of, rows_fit}
 use Rattle.mq_witness.specs.Texts.{level_of}
 use Rattle.mq_witness.specs.Tried.{is_tried_client, is_tried_user}
 use Rattle.mq_witness.specs.Literals.{is_named}
 use Rattle.mq_witness.specs.declared.clients.Clients.{Clients}
-use Rattle.mq_witness.specs.declared.fresh.Fresh.{Fresh}
+use Rattle.mq_witness.specs.declared.fresh.BothFresh.{BothFresh}
 use Rattle.mq_witness.specs.declared.literals.Literals.{Literals}
 use Rattle.mq_witness.specs.declared.question.Question.{Question}
 use Rattle.mq_witness.specs.declared.question.Found.{Found}
 
 -- for all users that the rows apply to as to this one, and the names of this kind, it asks what is
 -- asked of the rows
-pub record Asks (f : Fresh) (user : Option (List ℕ)) (dollar : Bool) (must cover : List AclRow)
-    (q : Question) : Type 0 where
-  pub fresh : q.fresh ≡ f
+pub record Asks (front : Bool) (both : BothFresh) (user : Option (List ℕ)) (dollar : Bool)
+    (must cover : List AclRow) (q : Question) : Type 0 where
+  pub fresh : (q.fresh ≡ both.plain) ⊎ (q.fresh ≡ both.dollar)
   pub kind : q.dollar ≡ dollar
   pub decides : (client name : List ℕ) (other : Option (List ℕ)) → alike other user must ≡ true
       → alike other user cover ≡ true → begins_with_dollar name ≡ dollar
       → hits (marks_of client other) (levels name) q.must.items q.cover.items
-      ≡ decides client other name must cover
+      ≡ decides_in front client other name must cover
   pub fit : (p : List ℕ → Bool) → rows_fit p must ≡ true → remainders_fit p q.must.items ≡ true
 
 -- ---- an answer
@@ -97,11 +97,14 @@ pub record TextsPass (p : List ℕ → Bool) (found : Found) : Type 0 where
 
 -- a client that is asked about, and a topic that each of the first rows concerns and none of the
 -- others does
-pub record IsFoundBy (f : Fresh) (listed : List ℕ → Bool) (clients : Clients)
-    (must cover : List AclRow) (found : Found) : Type 0 where
+pub record IsFoundBy (front dollar : Bool) (both : BothFresh) (listed : List ℕ → Bool)
+    (clients : Clients) (must cover : List AclRow) (found : Found) : Type 0 where
   pub client_fits : can_be_id found.client.now ≡ true
   pub user_fits : is_of listed clients (option_copied found.user) ≡ true
   pub valid : is_name found.name ≡ true
-  pub decided : decides found.client.now (option_copied found.user) found.name must cover ≡ true
-  pub known : (p : List ℕ → Bool) → fresh_pass p f ≡ true → rows_fit p must ≡ true
-      → name_passes p clients ≡ true → TextsPass p found
+  pub kind : begins_with_dollar found.name ≡ dollar
+  pub decided : decides_in front found.client.now (option_copied found.user) found.name must cover
+      ≡ true
+  pub known : (p : List ℕ → Bool) → fresh_pass p both.plain ≡ true
+      → fresh_pass p both.dollar ≡ true → rows_fit p must ≡ true → name_passes p clients ≡ true
+      → TextsPass p found

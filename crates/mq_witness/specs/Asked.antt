@@ -9,18 +9,20 @@ use Rattle.mq_topic.specs.Levels.{levels}
 use Rattle.mq_topic.specs.Texts.{is_name}
 use Rattle.mq_acl.specs.Access.{begins_with_dollar}
 use Rattle.mq_acl.specs.Rows.{AclRow}
+use Rattle.mq_acl.specs.declared.rules.Rules.{Rules}
 use Rattle.mq_cover.specs.Names.{can_be_level}
 use Rattle.mq_cover.specs.Remainders.{mark_passes}
-use Rattle.mq_witness.specs.Clients.{can_be_id, is_of}
-use Rattle.mq_witness.specs.Decided.{decides}
+use Rattle.mq_witness.specs.Clients.{can_be_id, is_of, name_passes}
+use Rattle.mq_witness.specs.Decided.{decides, decides_in}
 use Rattle.mq_witness.specs.Rows.{is_user_of, rows_name}
 use Rattle.mq_witness.specs.Swaps.{swap, swap_user, swap_name}
 use Rattle.mq_witness.specs.declared.clients.Clients.{Clients}
 use Rattle.mq_witness.specs.declared.clients.Clients.TheVariants.{Anonymous, Named, Others}
 use Rattle.mq_witness.specs.declared.witness.Witness.{Witness}
 
--- the rows of all lists, and the texts that stand for those that no row names
+-- the rows of all lists, their rules, and the texts that stand for those that no row names
 pub record AskedRows : Type 0 where
+  pub rules : Rules
   pub rows : List AclRow
   pub made_up : List (List ℕ)
 
@@ -43,13 +45,28 @@ FindsNone asked clients must cover = (client name : List ℕ) (user : Option (Li
     → can_be_id client ≡ true → is_client_of asked clients user ≡ true → is_name name ≡ true
     → decides client user name must cover ≡ false
 
+-- the same of topics that begin with `$`, or of the others, where a text in the place of a mark counts for the rule on
+-- `$`, or doesn't
+abbrev pub FindsNoneIn : (front dollar : Bool) → AskedRows → Clients → (must cover : List AclRow)
+    → Type 0
+FindsNoneIn front dollar asked clients must cover = (client name : List ℕ)
+    (user : Option (List ℕ)) → can_be_id client ≡ true → is_client_of asked clients user ≡ true
+    → is_name name ≡ true → begins_with_dollar name ≡ dollar
+    → decides_in front client user name must cover ≡ false
+
 -- of this client each first row concerns this topic and no other does
-pub record IsShown (asked : AskedRows) (clients : Clients) (must cover : List AclRow)
-    (client : List ℕ) (user : Option (List ℕ)) (name : List ℕ) : Type 0 where
+pub record IsShownIn (front : Bool) (asked : AskedRows) (clients : Clients)
+    (must cover : List AclRow) (client : List ℕ) (user : Option (List ℕ)) (name : List ℕ) :
+    Type 0 where
   pub client_fits : can_be_id client ≡ true
   pub user_fits : is_client_of asked clients user ≡ true
   pub valid : is_name name ≡ true
-  pub decided : decides client user name must cover ≡ true
+  pub decided : decides_in front client user name must cover ≡ true
+
+abbrev pub IsShown : AskedRows → Clients → (must cover : List AclRow) → List ℕ
+    → Option (List ℕ) → List ℕ → Type 0
+IsShown asked clients must cover client user name =
+    IsShownIn false asked clients must cover client user name
 
 -- a text that is made up stands for this other one: no row names that, and where the one can be an
 -- id or a level, so can the other
@@ -63,12 +80,17 @@ pub record StandsFor (asked : AskedRows) (text other : List ℕ) : Type 0 where
 
 -- what is shown is shown too with any text in the place of one that stands for it, where the topic
 -- isn't too long then
+abbrev pub ShowsOthersIn : Bool → AskedRows → Clients → (must cover : List AclRow) → List ℕ
+    → Option (List ℕ) → List ℕ → Type 0
+ShowsOthersIn front asked clients must cover client user name = (text other : List ℕ)
+    → StandsFor asked text other → is_name (swap_name text other name) ≡ true
+    → IsShownIn front asked clients must cover (swap text other client)
+    (swap_user text other user) (swap_name text other name)
+
 abbrev pub ShowsOthers : AskedRows → Clients → (must cover : List AclRow) → List ℕ
     → Option (List ℕ) → List ℕ → Type 0
-ShowsOthers asked clients must cover client user name = (text other : List ℕ)
-    → StandsFor asked text other → is_name (swap_name text other name) ≡ true
-    → IsShown asked clients must cover (swap text other client) (swap_user text other user)
-    (swap_name text other name)
+ShowsOthers asked clients must cover client user name =
+    ShowsOthersIn false asked clients must cover client user name
 
 -- a row names the text, or it is made up
 abbrev pub is_known : AskedRows → List ℕ → Bool
@@ -85,13 +107,25 @@ abbrev pub user_view : Option (String Global) → Option (List ℕ)
 user_view user = option_map string_bytes user
 
 -- the same of a witness
+abbrev pub ShowsIn : Bool → AskedRows → Clients → (must cover : List AclRow) → Witness → Type 0
+ShowsIn front asked clients must cover w =
+    IsShownIn front asked clients must cover (string_bytes w.client) (user_view w.user) w.name
+
 abbrev pub Shows : AskedRows → Clients → (must cover : List AclRow) → Witness → Type 0
-Shows asked clients must cover w =
-    IsShown asked clients must cover (string_bytes w.client) (user_view w.user) w.name
+Shows asked clients must cover w = ShowsIn false asked clients must cover w
 
 abbrev pub Knows : AskedRows → Witness → Type 0
 Knows asked w = AreKnown asked (string_bytes w.client) (user_view w.user) w.name
 
+abbrev pub StandsIn : Bool → AskedRows → Clients → (must cover : List AclRow) → Witness → Type 0
+StandsIn front asked clients must cover w =
+    ShowsOthersIn front asked clients must cover (string_bytes w.client) (user_view w.user) w.name
+
 abbrev pub Stands : AskedRows → Clients → (must cover : List AclRow) → Witness → Type 0
-Stands asked clients must cover w =
-    ShowsOthers asked clients must cover (string_bytes w.client) (user_view w.user) w.name
+Stands asked clients must cover w = StandsIn false asked clients must cover w
+
+-- its client id and its user name can be levels, where the user name that is asked about can
+abbrev pub AreLevels : Clients → Witness → Type 0
+AreLevels clients w = name_passes can_be_level clients ≡ true
+    → (can_be_level (string_bytes w.client) ≡ true)
+    × (mark_passes can_be_level (user_view w.user) ≡ true)

@@ -3,6 +3,7 @@ use Rattle.std.specs.Prelude.{◌≡◌, ℕ, Bool, true, false, List, length, �
 use Rattle.std.specs.Str.{bytes_eq}
 use Rattle.mq_acl.specs.Access.{begins_with_dollar}
 use Rattle.mq_cover.specs.Names.{are_others, is_choice}
+use Rattle.mq_witness.specs.declared.fresh.BothFresh.{BothFresh}
 use Rattle.mq_witness.specs.declared.fresh.Fresh.{Fresh}
 
 -- a level that a row may name: neither of the levels, nor the ids, that stand for others
@@ -14,15 +15,20 @@ is_literal f text = is_choice f.others text && not (bytes_eq text f.client.now)
 abbrev pub fresh_pass : (List ℕ → Bool) → Fresh → Bool
 fresh_pass p f = p f.others.plain.now && p f.others.dollar.now && p f.client.now && p f.user.now
 
--- an id that stands for others can be a level at the front of a name that begins with no `$`
+-- an id that stands for others can be a level at the front of a name
 pub record IsFreshId (f : Fresh) (id : List ℕ) : Type 0 where
   pub choice : is_choice f.others id ≡ true
   pub some : (length id == 0) ≡ false
-  pub plain : begins_with_dollar id ≡ false
 
--- each can be a level where it is to stand, and no two are the same
+-- each can be a level where it is to stand, no two are the same, and both ids begin with `$`, or neither does
 pub record AreFresh (f : Fresh) : Type 0 where
   pub others : are_others f.others ≡ true
   pub client : IsFreshId f f.client.now
   pub user : IsFreshId f f.user.now
   pub apart : bytes_eq f.user.now f.client.now ≡ false
+  pub begin : begins_with_dollar f.user.now ≡ begins_with_dollar f.client.now
+
+-- the ids of the one begin with no `$`; those of the other do, where that counts
+abbrev pub BeginSo : Bool → BothFresh → Type 0
+BeginSo front both = (begins_with_dollar both.plain.client.now ≡ false)
+    × (front ≡ true → begins_with_dollar both.dollar.client.now ≡ true)

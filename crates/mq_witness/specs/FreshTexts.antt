@@ -25,11 +25,20 @@ pub record IsNew (base : List ℕ) (named : List ℕ → Bool) (text : List ℕ)
   pub made : IsPadded base text
   pub unnamed : AreShort named → named text ≡ false
 
-pub record AreNew (t : FreshTexts) (named : List ℕ → Bool) : Type 0 where
+-- what the ids are made of
+abbrev pub client_base : Bool → List ℕ
+client_base true = codes "$client"
+client_base false = codes "client"
+
+abbrev pub user_base : Bool → List ℕ
+user_base true = codes "$user"
+user_base false = codes "user"
+
+pub record AreNew (kind : Bool) (t : FreshTexts) (named : List ℕ → Bool) : Type 0 where
   pub plain : IsNew (codes "x") named (string_bytes t.plain)
   pub dollar : IsNew (codes "$x") named (string_bytes t.dollar)
-  pub client : IsNew (codes "client") named (string_bytes t.client)
-  pub user : IsNew (codes "user") named (string_bytes t.user)
+  pub client : IsNew (client_base kind) named (string_bytes t.client)
+  pub user : IsNew (user_base kind) named (string_bytes t.user)
 
 -- a text that is made of a base, and longer than any of at most 300 bytes
 pub record IsLong (base text : List ℕ) : Type 0 where
@@ -38,7 +47,7 @@ pub record IsLong (base text : List ℕ) : Type 0 where
 
 -- whatever is named, none of these is, unless longer texts are
 abbrev pub AreLonger : FreshTexts → Type 0
-AreLonger t = (named : List ℕ → Bool) → AreNew t named
+AreLonger t = (named : List ℕ → Bool) → AreNew false t named
 
 pub record IsSeen (t : FreshTexts) (f : Fresh) : Type 0 where
   pub plain : f.others.plain.now ≡ string_bytes t.plain

@@ -5,6 +5,7 @@ pub mod Clients
 pub mod Decided
 pub mod Swaps
 pub mod Asked
+pub mod Ruled
 pub mod Limits
 pub mod Fresh
 pub mod FreshTexts

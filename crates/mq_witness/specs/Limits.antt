@@ -1,6 +1,6 @@
 -- The limit that lists have to keep to, and what is told of one that doesn't.
 use Rattle.std.specs.Prelude.{◌≡◌, ℕ, Bool, true, List, ◌&&◌, not, length, nat_le, find, ⊤}
-use Rattle.std.specs.Prelude.{Option, Some, slice_get}
+use Rattle.std.specs.Prelude.{Option, Some, None, slice_get}
 use denote.Ref.{Bor}
 use Rattle.std.specs.List.{list_all}
 use Rattle.std.specs.Option.{option_map}
@@ -8,10 +8,13 @@ use Rattle.mq_topic.specs.Levels.{levels}
 use Rattle.mq_acl.specs.Rows.{Who, Anonymous, Named, Everyone, AclRow}
 use Rattle.mq_acl.specs.Views.{row_view}
 use Rattle.mq_acl.specs.declared.row.Row.{Row}
+use Rattle.mq_acl.specs.declared.rules.Rules.{Rules}
+use Rattle.mq_acl.specs.declared.rules.Rules.TheVariants.{Own, Mosquitto}
 use Rattle.mq_cover.specs.Names.{can_be_level}
 use Rattle.mq_cover.specs.Remainders.{fits}
+use Rattle.mq_witness.specs.Ruled.{has_whole_marks}
 use Rattle.mq_witness.specs.declared.fault.ListFault.{ListFault}
-use Rattle.mq_witness.specs.declared.fault.ListFault.TheVariants.{Memory, Line}
+use Rattle.mq_witness.specs.declared.fault.ListFault.TheVariants.{Memory, Line, Mark}
 
 -- no longer than 300 bytes
 abbrev pub is_short : List ℕ → Bool
@@ -46,7 +49,21 @@ pub record IsLongLine (lists : List (Bor (List Row))) (place line : ℕ) : Type 
   pub placed : slice_get lists place ≡ Some list
   pub long : long_line list.now ≡ Some line
 
+-- by mosquitto's rules the line of the first row with a mark that is no whole level
+abbrev pub marked_line : Rules → List Row → Option ℕ
+marked_line Own rows = None
+marked_line Mosquitto rows =
+    option_map (λ row. row.line) (find (λ row. not (has_whole_marks (row_view row))) rows)
+
+-- the list at this place has this line as its first such
+pub record IsMarkedLine (rules : Rules) (lists : List (Bor (List Row))) (place line : ℕ) : Type 0
+  where
+    pub list : Bor (List Row)
+    pub placed : slice_get lists place ≡ Some list
+    pub marked : marked_line rules list.now ≡ Some line
+
 -- what is told of the lists is so
-abbrev pub IsFault : List (Bor (List Row)) → ListFault → Type 0
-IsFault lists Memory = ⊤
-IsFault lists (Line place line) = IsLongLine lists place line
+abbrev pub IsFault : Rules → List (Bor (List Row)) → ListFault → Type 0
+IsFault rules lists Memory = ⊤
+IsFault rules lists (Line place line) = IsLongLine lists place line
+IsFault rules lists (Mark place line) = IsMarkedLine rules lists place line

@@ -1,13 +1,15 @@
 -- What is known of lists that can be asked, and of a search.
 use Rattle.std.specs.Prelude.{◌≡◌, ℕ, Bool, true, false, List, ◌||◌, not, Option, Some, None}
+use Rattle.std.specs.Prelude.{string_bytes}
 use Rattle.std.specs.List.{list_all, list_any}
 use Rattle.std.specs.Str.{bytes_eq}
+use Rattle.mq_acl.specs.Access.{begins_with_dollar}
 use Rattle.mq_acl.specs.Rows.{Who, AclRow}
 use Rattle.mq_acl.specs.Rows as rows
 use Rattle.mq_cover.specs.Remainders.{mark_passes, remainders_fit}
 use Rattle.mq_cover.specs.declared.remainder.Remainder.{Remainder}
 use Rattle.mq_witness.specs.Clients.{can_be_id}
-use Rattle.mq_witness.specs.Fresh.{is_literal, AreFresh}
+use Rattle.mq_witness.specs.Fresh.{is_literal, AreFresh, BeginSo}
 use Rattle.mq_witness.specs.FreshTexts.{AreLonger, IsSeen, fresh_texts}
 use Rattle.mq_witness.specs.Limits.{usable}
 use Rattle.mq_witness.specs.Literals.{is_named}
@@ -16,6 +18,7 @@ use Rattle.mq_witness.specs.Rows.{is_user_of, rows_name}
 use Rattle.mq_witness.specs.Texts.{level_of}
 use Rattle.mq_witness.specs.declared.clients.Clients.{Clients}
 use Rattle.mq_witness.specs.declared.clients.Clients.TheVariants.{Anonymous, Named, Others}
+use Rattle.mq_witness.specs.declared.fresh.BothFresh.{BothFresh}
 use Rattle.mq_witness.specs.declared.fresh.Fresh.{Fresh}
 use Rattle.mq_witness.specs.declared.literals.Literals.{Literals}
 use Rattle.mq_witness.specs.declared.texts.FreshTexts.{FreshTexts}
@@ -32,9 +35,12 @@ pub record CanBeAsked (asked : List AclRow) (texts : FreshTexts) (users : Litera
       → rows_name text asked ≡ false
 
 -- and with longer texts they can be asked about one client
-pub record CanAnswer (asked : List AclRow) (texts longest : FreshTexts) (users : Literals) :
+pub record CanAnswer (asked : List AclRow) (texts dollar longest : FreshTexts) (users : Literals) :
     Type 0 where
   pub asked_can : CanBeAsked asked texts users
+  pub dollar_can : CanBeAsked asked dollar users
+  pub begin : begins_with_dollar (string_bytes texts.client) ≡ false
+  pub dollar_begin : begins_with_dollar (string_bytes dollar.client) ≡ true
   pub all_usable : list_all usable asked ≡ true
   pub longer : AreLonger longest
 
@@ -65,22 +71,37 @@ is_nobody Anonymous = false
 is_nobody (Named name) = not (can_be_id name.now)
 is_nobody Others = false
 
--- the texts that stand for others are named by no row, and the user names of the rows are listed
-pub record IsReady (f : Fresh) (users : Literals) (clients : Clients) (must cover : List AclRow) :
-    Type 0 where
+-- the texts that stand for others are named by no row
+pub record NamesNone (f : Fresh) (must cover : List AclRow) : Type 0 where
   pub fresh : AreFresh f
   pub must_fits : rows_fit (is_literal f) must ≡ true
   pub cover_fits : rows_fit (is_literal f) cover ≡ true
+
+-- and the user names of the rows are listed
+pub record IsReady (f : Fresh) (users : Literals) (clients : Clients) (must cover : List AclRow) :
+    Type 0 where
+  pub names_none : NamesNone f must cover
   pub must_listed : all_listed users must ≡ true
   pub cover_listed : all_listed users cover ≡ true
   pub unlisted : is_named f.user.now users ≡ false
   pub user_fits : clients_fit f clients ≡ true
 
+-- with either ids
+pub record AreReady (front : Bool) (both : BothFresh) (users : Literals) (clients : Clients)
+    (must cover : List AclRow) : Type 0 where
+  pub plain : IsReady both.plain users clients must cover
+  pub dollar : IsReady both.dollar users clients must cover
+  pub begin : BeginSo front both
+
 -- ---- a question
--- no row names one of the texts that stand for others, and where names begin with `$` each of the
--- first rows does
+-- the ids that stand for others begin with `$` just where the names do, or all of the first rows do
+abbrev pub is_front : Fresh → Bool → List Remainder → Bool
+is_front f true must = begins_with_dollar f.client.now || all_begin must
+is_front f false must = not (begins_with_dollar f.client.now)
+
+-- no row names one of the texts that stand for others
 pub record CanAsk (f : Fresh) (dollar : Bool) (must cover : List Remainder) : Type 0 where
   pub fresh : AreFresh f
   pub must_fits : remainders_fit (is_literal f) must ≡ true
   pub cover_fits : remainders_fit (is_literal f) cover ≡ true
-  pub begin : (not dollar || all_begin must) ≡ true
+  pub begin : is_front f dollar must ≡ true

@@ -2,12 +2,13 @@
 use Rattle.std.specs.Prelude.{◌≡◌, ℕ, true, false, List, Option, Some, ⊤}
 use Rattle.std.specs.List.{list_all}
 use Rattle.mq_topic.specs.Texts.{is_name}
+use Rattle.mq_acl.specs.Access.{begins_with_dollar}
 use Rattle.mq_acl.specs.Rows.{AclRow}
 use Rattle.mq_cover.specs.Names.{is_choice}
 use Rattle.mq_cover.specs.Remainders.{MarkLevels, mark_passes, marks_pass}
 use Rattle.mq_witness.specs.Decided.{decides}
-use Rattle.mq_witness.specs.Fresh.{AreFresh, is_literal}
 use Rattle.mq_witness.specs.Limits.{has_short_levels, is_short, is_short_level}
+use Rattle.mq_witness.specs.Ready.{NamesNone}
 use Rattle.mq_witness.specs.Roots.{rows_fit}
 use Rattle.mq_witness.specs.Texts.{level_of}
 use Rattle.mq_witness.specs.declared.fault.LimitFault.{LimitFault}
@@ -48,7 +49,6 @@ level_marks client user = record { client = level_of (Some client); user = level
 -- neither the rows nor the ids name a text that stands for others
 pub record IsReadyFor (f : Fresh) (client : List ℕ) (user : Option (List ℕ))
     (must cover : List AclRow) : Type 0 where
-  pub fresh : AreFresh f
-  pub must_fits : rows_fit (is_literal f) must ≡ true
-  pub cover_fits : rows_fit (is_literal f) cover ≡ true
+  pub names_none : NamesNone f must cover
+  pub begin : begins_with_dollar f.client.now ≡ false
   pub marks_fit : marks_pass (is_choice f.others) (level_marks client user) ≡ true

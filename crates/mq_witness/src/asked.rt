@@ -1,10 +1,17 @@
+ghost use Rattle.std.specs.Prelude.{◌&&◌, not};
 ghost use Rattle.std.specs.Prelude.{◌≡◌, ℕ, List, true, false, Option, IfOk, IfErr, IfNone};
 ghost use Rattle.std.specs.Prelude.{IfSome, All};
 ghost use Rattle.std.specs.Prelude.{Contains, map, None};
 ghost use Rattle.std.specs.Cmp.Lexicographic.{slice_cmp};
 ghost use Rattle.std.specs.Ordering.{nat_cmp};
 ghost use Rattle.std.specs.List.Sorted.{IsStrictlySortedBy};
-ghost use Rattle.mq_witness.specs.Asked.{FindsNone, IsListed, Knows, Shows, Stands, is_made_up};
+ghost use Rattle.mq_acl.specs.Access.{begins_with_dollar};
+ghost use Rattle.mq_acl.specs.declared.rules.Rules.TheVariants as rules;
+ghost use Rattle.mq_cover.specs.Names.{can_be_level};
+ghost use Rattle.mq_witness.specs.Clients.{name_passes};
+ghost use Rattle.mq_witness.specs.Ruled.{FindsNoneBy, ShowsBy, StandsBy, has_patterns};
+ghost use Rattle.mq_witness.specs.Asked.{AreLevels, FindsNone, FindsNoneIn, IsListed, Knows, Shows};
+ghost use Rattle.mq_witness.specs.Asked.{ShowsIn, Stands, StandsIn, is_made_up};
 ghost use Rattle.mq_witness.specs.Limits.{IsFault, long_line};
 ghost use Rattle.mq_witness.specs.Literals.{is_among, is_named};
 ghost use Rattle.mq_witness.specs.Rows.{all_rows, is_user_of, lent_rows, rows_name};
@@ -13,14 +20,17 @@ ghost use Rattle.std.specs.Option.{option_copied};
 
 use crate::clients::Clients;
 use crate::fault::{LimitFault, ListFault};
+use crate::fresh::BothFresh;
+use crate::ids::can_be_level;
 use crate::limits::{first_long, limit_fault};
 use crate::literals::Literals;
 use crate::one::OneClient;
+use crate::patterns::{has_patterns, marked};
 use crate::question::Found;
 use crate::search::Search;
 use crate::texts::FreshTexts;
 use crate::witness::Witness;
-use mq_acl::Row;
+use mq_acl::{Row, Rules};
 use mq_topic::TopicName;
 use std::alloc::{AllocError, Global};
 use std::marker::Model;
@@ -28,7 +38,12 @@ use std::marker::Model;
 /// The rows of one or more access lists, of which questions can be asked.
 pub struct Asked<'a> {
     lists: Vec<&'a [Row]>,
+    rules: Rules,
+    // Whether one of them has a `pattern` row.
+    patterns: bool,
     texts: FreshTexts,
+    // With ids that begin with `$`.
+    dollar: FreshTexts,
     // Longer than what a question about one client may name.
     longest: FreshTexts,
     users: Literals<'a>,
@@ -39,7 +54,10 @@ impl Drop for Asked<'_> {
     fn drop(self) {
         let Asked {
             lists: _,
+            rules: _,
+            patterns: _,
             texts: _,
+            dollar: _,
             longest: _,
             users: _,
         } = self;
@@ -47,17 +65,26 @@ impl Drop for Asked<'_> {
 }
 
 impl<'a> Model for Asked<'a> {
+    ghost use Rattle.std.specs.Prelude.{◌&&◌, not};
+    ghost use Rattle.std.specs.Prelude.{◌≡◌, ◌++◌, true};
     ghost use Rattle.mq_witness.specs.Asked.{AskedRows};
     ghost use Rattle.mq_witness.specs.FreshTexts.{fresh_texts};
     ghost use Rattle.mq_witness.specs.Ready.{CanAnswer};
     ghost use Rattle.mq_witness.specs.Rows.{all_rows};
+    ghost use Rattle.mq_witness.specs.Ruled.{are_whole, has_patterns};
 
     ghost Value = { AskedRows };
 
-    ghost view = { λ a. record { rows = all_rows a.lists.items; made_up = fresh_texts a.texts } };
+    ghost view = { λ a. record {
+      rules = a.rules;
+      rows = all_rows a.lists.items;
+      made_up = fresh_texts a.texts
+          ++ fresh_texts a.dollar;
+    } };
 
-    ghost invariant = { λ a. CanAnswer (all_rows a.lists.items) a.texts a.longest
-        a.users };
+    ghost invariant = { λ a. CanAnswer (all_rows a.lists.items) a.texts a.dollar
+        a.longest a.users × ((are_whole a.rules (all_rows a.lists.items) ≡ true)
+        × (a.patterns ≡ has_patterns (all_rows a.lists.items))) };
 }
 
 // The levels and the user names of the lists.
@@ -84,25 +111,45 @@ fn users_in<'a>(alloc: Global, lists: &[&'a [Row]]) -> Result<Literals<'a>, Allo
     Ok(users)
 }
 
+// Whether the user name that is asked about, if there is one, can be a level.
+fn has_level(clients: Clients) -> bool
+    ensures { result ≡ name_passes can_be_level clients.entry }
+{
+    match clients {
+        Clients::Named(name) => can_be_level(name),
+        _ => true,
+    }
+}
+
 impl<'a> Asked<'a> {
-    /// Takes the rows of lists. A row with a level or a user name of more than 300 bytes is told by the place of its
-    /// list and by its line: a topic name made of such levels could be too long.
-    pub fn of(alloc: Global, lists: Vec<&'a [Row]>) -> Result<Asked<'a>, ListFault>
+    /// Takes the rows of lists, which decide by these rules. A row with a level or a user name of more than 300 bytes is
+    /// told by the place of its list and by its line: a topic name made of such levels could be too long. By mosquitto's
+    /// rules so is a `pattern` row with a mark that is a part of a level.
+    pub fn of(alloc: Global, rules: Rules, lists: Vec<&'a [Row]>) -> Result<Asked<'a>, ListFault>
+        ensures rules { IfOk result (λ asked. asked.rules ≡ rules) }
         ensures rows { IfOk result (λ asked. asked.rows ≡ all_rows lists.entry.items) }
         ensures short { IfOk result (λ _. All (λ list. long_line list.now ≡ None)
             lists.entry.items) }
-        ensures fault { IfErr result (IsFault lists.entry.items) }
+        ensures fault { IfErr result (IsFault rules lists.entry.items) }
     {
         if let Some(long) = first_long(&lists) {
             return Err(ListFault::Line(long.place, long.line));
         }
+        if let Some(marked) = marked(rules, &lists) {
+            return Err(ListFault::Mark(marked.place, marked.line));
+        }
+        let patterns = has_patterns(&lists);
         let names = names_in(alloc, &lists)?;
         let users = users_in(alloc, &lists)?;
-        let texts = FreshTexts::find(alloc, &names)?;
+        let texts = FreshTexts::find(alloc, false, &names)?;
+        let dollar = FreshTexts::find(alloc, true, &names)?;
         let longest = FreshTexts::longest(alloc)?;
         Ok(Asked {
             lists,
+            rules,
+            patterns,
             texts,
+            dollar,
             longest,
             users,
         })
@@ -123,7 +170,7 @@ impl<'a> Asked<'a> {
         ensures made_up { result ≡ is_made_up text.now self.now }
         ensures unnamed { result ≡ true → rows_name text.now self.now.rows ≡ false }
     {
-        self.texts.has(text)
+        self.texts.has(text) || self.dollar.has(text)
     }
 
     /// A client and a topic that each row of `must` concerns and no row of `cover` does, or that there is none: of all
@@ -148,20 +195,120 @@ impl<'a> Asked<'a> {
         ensures stands { IfOk result (λ found. IfSome found (Stands self.entry.now clients.entry
             (lent_rows must.entry.now) (lent_rows cover.entry.now))) }
     {
+        if let Some(found) = self.find_in(alloc, false, false, clients, must, cover)? {
+            return Ok(Some(found));
+        }
+        self.find_in(alloc, false, true, clients, must, cover)
+    }
+
+    /// The same of topics that begin with `$`, or of the others, where a text in the place of a mark counts for the rule on
+    /// `$`, or doesn't.
+    fn find_in<'q>(
+        &'q self,
+        alloc: Global,
+        front: bool,
+        dollar: bool,
+        clients: Clients<'q>,
+        must: &'q [&'q Row],
+        cover: &'q [&'q Row],
+    ) -> Result<Option<Witness>, AllocError>
+        requires user { IsListed self.now clients }
+        requires must { All (Contains self.now.rows) (lent_rows must.now) }
+        requires cover { All (Contains self.now.rows) (lent_rows cover.now) }
+        ensures none { IfOk result (λ found. IfNone found (FindsNoneIn front dollar self.entry.now
+            clients.entry (lent_rows must.entry.now) (lent_rows cover.entry.now))) }
+        ensures some { IfOk result (λ found. IfSome found (ShowsIn front self.entry.now
+            clients.entry (lent_rows must.entry.now) (lent_rows cover.entry.now))) }
+        ensures kind { IfOk result (λ found. IfSome found (λ w.
+            begins_with_dollar w.name ≡ dollar)) }
+        ensures levels { IfOk result (λ found. IfSome found (AreLevels clients.entry)) }
+        ensures known { IfOk result (λ found. IfSome found (Knows self.entry.now)) }
+        ensures stands { IfOk result (λ found. IfSome found (StandsIn front self.entry.now
+            clients.entry (lent_rows must.entry.now) (lent_rows cover.entry.now))) }
+    {
         let search = Search {
-            fresh: self.texts.fresh(),
+            front,
+            fresh: BothFresh {
+                plain: self.texts.fresh(),
+                dollar: self.dollar.fresh(),
+            },
             users: &self.users,
             clients,
             must,
             cover,
         };
-        if let Some(found) = search.answer(alloc, false)? {
-            return Ok(Some(found.show(alloc)?));
-        }
-        match search.answer(alloc, true)? {
+        match search.answer(alloc, dollar)? {
             Some(found) => Ok(Some(found.show(alloc)?)),
             None => Ok(None),
         }
+    }
+
+    // Whether questions by mosquitto's rules are about none of these clients.
+    fn passes_over(&self, clients: Clients) -> bool
+        ensures { result
+            ≡ (has_patterns self.now.rows && not (name_passes can_be_level clients.entry)) }
+    {
+        self.patterns && !has_level(clients)
+    }
+
+    /// A client and a topic that begins with `$`, or doesn't, that each row of `must` concerns by the rules of the lists and
+    /// no row of `cover` does; or that there is none: of all client ids and user names that `is_asked_of` says, and all
+    /// topic names.
+    pub fn find_kind<'q>(
+        &'q self,
+        alloc: Global,
+        clients: Clients<'q>,
+        dollar: bool,
+        must: &'q [&'q Row],
+        cover: &'q [&'q Row],
+    ) -> Result<Option<Witness>, AllocError>
+        requires user { IsListed self.now clients }
+        requires must { All (Contains self.now.rows) (lent_rows must.now) }
+        requires cover { All (Contains self.now.rows) (lent_rows cover.now) }
+        ensures none { IfOk result (λ found. IfNone found (FindsNoneBy dollar self.entry.now
+            clients.entry (lent_rows must.entry.now) (lent_rows cover.entry.now))) }
+        ensures some { IfOk result (λ found. IfSome found (ShowsBy self.entry.now
+            clients.entry (lent_rows must.entry.now) (lent_rows cover.entry.now))) }
+        ensures kind { IfOk result (λ found. IfSome found (λ w.
+            begins_with_dollar w.name ≡ dollar)) }
+        ensures known { IfOk result (λ found. IfSome found (Knows self.entry.now)) }
+        ensures stands { IfOk result (λ found. IfSome found (StandsBy self.entry.now
+            clients.entry (lent_rows must.entry.now) (lent_rows cover.entry.now))) }
+    {
+        match self.rules {
+            Rules::Own => self.find_in(alloc, false, dollar, clients, must, cover),
+            Rules::Mosquitto => self.find_level(alloc, clients, dollar, must, cover),
+        }
+    }
+
+    // The same by mosquitto's rules.
+    fn find_level<'q>(
+        &'q self,
+        alloc: Global,
+        clients: Clients<'q>,
+        dollar: bool,
+        must: &'q [&'q Row],
+        cover: &'q [&'q Row],
+    ) -> Result<Option<Witness>, AllocError>
+        requires rules { self.now.rules ≡ rules.Mosquitto }
+        requires user { IsListed self.now clients }
+        requires must { All (Contains self.now.rows) (lent_rows must.now) }
+        requires cover { All (Contains self.now.rows) (lent_rows cover.now) }
+        ensures none { IfOk result (λ found. IfNone found (FindsNoneBy dollar self.entry.now
+            clients.entry (lent_rows must.entry.now) (lent_rows cover.entry.now))) }
+        ensures some { IfOk result (λ found. IfSome found (ShowsBy self.entry.now
+            clients.entry (lent_rows must.entry.now) (lent_rows cover.entry.now))) }
+        ensures kind { IfOk result (λ found. IfSome found (λ w.
+            begins_with_dollar w.name ≡ dollar)) }
+        ensures known { IfOk result (λ found. IfSome found (Knows self.entry.now)) }
+        ensures stands { IfOk result (λ found. IfSome found (StandsBy self.entry.now
+            clients.entry (lent_rows must.entry.now) (lent_rows cover.entry.now))) }
+    {
+        let _ = &self.lists;
+        if self.passes_over(clients) {
+            return Ok(None);
+        }
+        self.find_in(alloc, true, dollar, clients, must, cover)
     }
 
     /// A topic that each row of `must` concerns and no row of `cover` does for the client with this client id, and with

@@ -14,6 +14,13 @@ pub(crate) struct Fresh<'a> {
     pub user: &'a str,
 }
 
+/// The same levels, with ids that begin with no `$`, and with ids that do.
+#[derive(Clone, Copy, Drop)]
+pub(crate) struct BothFresh<'a> {
+    pub plain: Fresh<'a>,
+    pub dollar: Fresh<'a>,
+}
+
 /// The base, with as many `x` behind it as it takes to be none of these texts; none of them is longer than 300 bytes.
 pub(crate) fn fresh_text(
     alloc: Global,

@@ -12,7 +12,8 @@ fn has_byte(text: &str, byte: u8) -> bool
     text.bytes().any(|other| other == byte)
 }
 
-fn can_be_level(text: &str) -> bool
+/// Whether a level of a name can be this text.
+pub(crate) fn can_be_level(text: &str) -> bool
     ensures { result ≡ can_be_level text.now }
 {
     !has_byte(text, b'+') && !has_byte(text, b'#') && !has_byte(text, 0) && !has_byte(text, b'/')

@@ -11,6 +11,7 @@ mod limits;
 mod literals;
 mod one;
 mod overlap;
+mod patterns;
 mod pose;
 mod question;
 mod roots;

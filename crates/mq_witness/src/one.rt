@@ -7,7 +7,7 @@ ghost use Rattle.mq_witness.specs.Decided.{decides};
 ghost use Rattle.mq_witness.specs.Rows.{lent_rows};
 ghost use Rattle.mq_witness.specs.Topics.{IsReadyFor, IsTopic};
 
-use crate::fresh::Fresh;
+use crate::fresh::{BothFresh, Fresh};
 use crate::ids::level_of;
 use crate::pose::pose;
 use mq_acl::Row;
@@ -39,8 +39,14 @@ impl OneClient<'_> {
             (option_copied self.now.user) (lent_rows self.now.must.now)
             (lent_rows self.now.cover.now))) }
     {
-        let Some(question) = pose(alloc, self.fresh, self.user, dollar, self.must, self.cover)?
-        else {
+        let fresh = BothFresh {
+            plain: self.fresh,
+            dollar: self.fresh,
+        };
+        let posed = pose(
+            alloc, false, fresh, self.user, dollar, self.must, self.cover,
+        )?;
+        let Some(question) = posed else {
             return Ok(None);
         };
         let marks = Marks {

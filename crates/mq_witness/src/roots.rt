@@ -3,24 +3,21 @@ ghost use Rattle.std.specs.Prelude.{◌≡◌, ℕ, Bool, List, true, false, IfO
 ghost use Rattle.std.specs.Option.{option_copied};
 ghost use Rattle.mq_topic.specs.Levels.{levels};
 ghost use Rattle.mq_topic.specs.Matching.{levels_match_by};
+ghost use Rattle.std.specs.Prelude.{not, ◌||◌, ◌&&◌};
 ghost use Rattle.mq_acl.specs.Access.{applies, concerns, begins_with_dollar, row_level_matches};
-ghost use Rattle.mq_acl.specs.RowsByOwner.{is_everyones};
 ghost use Rattle.mq_acl.specs.Views.{owner_view, row_view};
 ghost use Rattle.mq_cover.specs.Remainders.{covers, fits, remainder_fits};
+ghost use Rattle.mq_witness.specs.Decided.{begins_with_mark, concerns_in, is_mark, may_begin};
 ghost use Rattle.mq_witness.specs.Roots.{marks_of, left_begins, AreCover, AreMust, NoneConcerned};
+ghost use Rattle.mq_witness.specs.Roots.{all_begin};
 ghost use Rattle.mq_witness.specs.Rows.{lent_rows};
 
 use crate::overlap::{may_meet, may_meet_all};
-use mq_acl::{Owner, Row, applies};
+use crate::patterns::is_pattern;
+use mq_acl::{Row, applies};
 use mq_cover::Remainder;
-use mq_topic::LevelText;
+use mq_topic::{LevelText, split_first};
 use std::alloc::{AllocError, Global};
-
-fn is_pattern(owner: &Owner) -> bool
-    ensures { result ≡ is_everyones (owner_view owner.now) }
-{
-    matches!(owner, Owner::Everyone)
-}
 
 fn begins_with_dollar(text: &str) -> bool
     ensures { result ≡ begins_with_dollar text.now }
@@ -52,28 +49,70 @@ pub fn may_overlap(one: &Row, other: &Row) -> bool
     may_meet(&whole(one), &whole(other))
 }
 
+fn is_mark(level: &str) -> bool
+    ensures { result ≡ is_mark level.now }
+{
+    level == "%c" || level == "%u"
+}
+
+fn begins_with_mark(row: &Row) -> bool
+    ensures { result ≡ begins_with_mark (row_view row.now) }
+{
+    let (level, _) = split_first(row.filter.text());
+    is_pattern(&row.owner) && is_mark(level)
+}
+
+// Whether it may cover a name that begins with `$`.
+fn may_begin(front: bool, row: &Row) -> bool
+    ensures { result ≡ may_begin front (row_view row.now) }
+{
+    (front && begins_with_mark(row)) || begins_with_dollar(row.filter.text())
+}
+
+fn left_begins(rest: Option<&str>) -> bool
+    ensures { result ≡ left_begins rest.entry }
+{
+    match rest {
+        Some(text) => begins_with_dollar(text),
+        None => false,
+    }
+}
+
+/// Whether each of them begins with `$`.
+pub(crate) fn all_begin(remainders: &[Remainder]) -> bool
+    ensures { result ≡ all_begin remainders.now }
+{
+    remainders.iter().all(|r| left_begins(r.rest))
+}
+
 /// The row, with all of its filter left, where it applies to this user name, or to none, and can cover a name that
 /// begins with `$`, or one that doesn't.
-pub(crate) fn root<'a>(row: &'a Row, user: Option<&str>, dollar: bool) -> Option<Remainder<'a>>
+pub(crate) fn root<'a>(
+    front: bool,
+    row: &'a Row,
+    user: Option<&str>,
+    dollar: bool,
+) -> Option<Remainder<'a>>
     ensures none { IfNone result ((client name : List ℕ) (other : Option (List ℕ))
         → applies other (row_view row.now).who
         ≡ applies (option_copied user.entry) (row_view row.now).who
         → begins_with_dollar name ≡ dollar
-        → concerns client other name (row_view row.now) ≡ false) }
+        → concerns_in front client other name (row_view row.now) ≡ false) }
     ensures covers { IfSome result (λ r. (client name : List ℕ) (other : Option (List ℕ))
         → applies other (row_view row.now).who
         ≡ applies (option_copied user.entry) (row_view row.now).who
         → begins_with_dollar name ≡ dollar
         → covers (marks_of client other) (levels name) r
-        ≡ concerns client other name (row_view row.now)) }
+        ≡ concerns_in front client other name (row_view row.now)) }
     ensures fits { IfSome result (λ r. (p : List ℕ → Bool)
         → remainder_fits p r ≡ fits p (levels row.now.filter)) }
-    ensures begins { IfSome result (λ r. dollar ≡ true → left_begins r.rest ≡ true) }
+    ensures begins { IfSome result (λ r. (not front && dollar) ≡ true
+        → left_begins r.rest ≡ true) }
 {
     if !applies(user, &row.owner) {
         return None;
     }
-    if dollar && !begins_with_dollar(row.filter.text()) {
+    if dollar && !may_begin(front, row) {
         return None;
     }
     Some(whole(row))
@@ -82,18 +121,19 @@ pub(crate) fn root<'a>(row: &'a Row, user: Option<&str>, dollar: bool) -> Option
 /// The roots of rows of which each has to concern a name; none where one of them can't.
 pub(crate) fn must_roots<'a>(
     alloc: Global,
+    front: bool,
     rows: &[&'a Row],
     user: Option<&str>,
     dollar: bool,
 ) -> Result<Option<Vec<Remainder<'a>>>, AllocError>
     ensures none { IfOk result (λ roots. IfNone roots
-        (NoneConcerned (lent_rows rows.now) (option_copied user.entry) dollar)) }
+        (NoneConcerned front (lent_rows rows.now) (option_copied user.entry) dollar)) }
     ensures some { IfOk result (λ roots. IfSome roots (λ roots.
-        AreMust (lent_rows rows.now) (option_copied user.entry) dollar roots.items)) }
+        AreMust front (lent_rows rows.now) (option_copied user.entry) dollar roots.items)) }
 {
     let mut roots = Vec::new(alloc);
     for row in rows {
-        let Some(root) = root(row, user, dollar) else {
+        let Some(root) = root(front, row, user, dollar) else {
             return Ok(None);
         };
         roots.push(root)?;
@@ -104,17 +144,18 @@ pub(crate) fn must_roots<'a>(
 /// The roots of rows of which none may concern a name, but for those that can't concern one that all of `must` cover.
 pub(crate) fn cover_roots<'a>(
     alloc: Global,
+    front: bool,
     rows: &[&'a Row],
     user: Option<&str>,
     dollar: bool,
     must: &[Remainder<'a>],
 ) -> Result<Vec<Remainder<'a>>, AllocError>
     ensures { IfOk result (λ roots.
-        AreCover (lent_rows rows.now) (option_copied user.entry) dollar must.now roots.items) }
+        AreCover front (lent_rows rows.now) (option_copied user.entry) dollar must.now roots.items) }
 {
     let mut roots = Vec::new(alloc);
     for row in rows {
-        let Some(root) = root(row, user, dollar) else {
+        let Some(root) = root(front, row, user, dollar) else {
             continue;
         };
         if !may_meet_all(must, &root) {

@@ -3,14 +3,14 @@ ghost use Rattle.std.specs.Option.{option_copied};
 ghost use Rattle.mq_topic.specs.Texts.{is_name};
 ghost use Rattle.mq_acl.specs.Access.{begins_with_dollar};
 ghost use Rattle.mq_witness.specs.Clients.{can_be_id, is_of};
-ghost use Rattle.mq_witness.specs.Decided.{decides};
+ghost use Rattle.mq_witness.specs.Decided.{decides_in};
 ghost use Rattle.mq_witness.specs.Literals.{is_named};
-ghost use Rattle.mq_witness.specs.Ready.{IsReady, is_nobody, stand_in};
+ghost use Rattle.mq_witness.specs.Ready.{AreReady, is_nobody, stand_in};
 ghost use Rattle.mq_witness.specs.Roots.{NoneConcerned};
 ghost use Rattle.mq_witness.specs.Rows.{lent_rows};
 
 use crate::clients::Clients;
-use crate::fresh::Fresh;
+use crate::fresh::BothFresh;
 use crate::ids::can_be_id;
 use crate::literals::Literals;
 use crate::pose::pose;
@@ -21,12 +21,15 @@ use std::alloc::{AllocError, Global};
 /// Rows of lists that are asked about, with the texts that stand for others, and all user names of the lists.
 #[derive(Clone, Copy, Drop)]
 pub(crate) struct Search<'a, 'b> {
-    pub fresh: Fresh<'a>,
+    /// Whether a text in the place of a mark counts for the rule on `$`.
+    pub front: bool,
+    pub fresh: BothFresh<'a>,
     pub users: &'a Literals<'b>,
     pub clients: Clients<'a>,
     pub must: &'a [&'a Row],
     pub cover: &'a [&'a Row],
-    ghost ready: { IsReady fresh users.now clients (lent_rows must.now) (lent_rows cover.now) },
+    ghost ready: { AreReady front fresh users.now clients (lent_rows must.now)
+        (lent_rows cover.now) },
 }
 
 impl<'a, 'b> Search<'a, 'b> {
@@ -34,12 +37,12 @@ impl<'a, 'b> Search<'a, 'b> {
 
     // A user name that the rows apply to as to all that are asked about.
     fn user(&self) -> Option<&'a str>
-        ensures { option_copied result ≡ stand_in self.now.fresh self.now.clients }
+        ensures { option_copied result ≡ stand_in self.now.fresh.plain self.now.clients }
     {
         match self.clients {
             Clients::Anonymous => None,
             Clients::Named(name) => Some(name),
-            Clients::Others => Some(self.fresh.user),
+            Clients::Others => Some(self.fresh.plain.user),
         }
     }
 
@@ -47,14 +50,16 @@ impl<'a, 'b> Search<'a, 'b> {
     // none of them.
     fn pose(&self, alloc: Global, dollar: bool) -> Result<Option<Question<'a>>, AllocError>
         ensures none { IfOk result (λ question. IfNone question
-            (NoneConcerned (lent_rows self.now.must.now)
-            (stand_in self.now.fresh self.now.clients) dollar)) }
+            (NoneConcerned self.now.front (lent_rows self.now.must.now)
+            (stand_in self.now.fresh.plain self.now.clients) dollar)) }
         ensures some { IfOk result (λ question. IfSome question
-            (Asks self.now.fresh (stand_in self.now.fresh self.now.clients) dollar
+            (Asks self.now.front self.now.fresh (stand_in self.now.fresh.plain self.now.clients) dollar
             (lent_rows self.now.must.now) (lent_rows self.now.cover.now))) }
     {
         let user = self.user();
-        pose(alloc, self.fresh, user, dollar, self.must, self.cover)
+        pose(
+            alloc, self.front, self.fresh, user, dollar, self.must, self.cover,
+        )
     }
 
     // Whether no client can have the user name that is asked about.
@@ -74,9 +79,10 @@ impl<'a, 'b> Search<'a, 'b> {
             (user : Option (List ℕ)) → can_be_id client ≡ true
             → is_of (λ u. is_named u self.now.users.now) self.now.clients user ≡ true
             → is_name name ≡ true → begins_with_dollar name ≡ dollar
-            → decides client user name (lent_rows self.now.must.now)
+            → decides_in self.now.front client user name (lent_rows self.now.must.now)
             (lent_rows self.now.cover.now) ≡ false)) }
-        ensures some { IfOk result (λ found. IfSome found (IsFoundBy self.now.fresh
+        ensures some { IfOk result (λ found. IfSome found (IsFoundBy self.now.front dollar
+            self.now.fresh
             (λ u. is_named u self.now.users.now) self.now.clients
             (lent_rows self.now.must.now) (lent_rows self.now.cover.now))) }
     {

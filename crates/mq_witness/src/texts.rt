@@ -2,7 +2,8 @@ ghost use Rattle.std.specs.Prelude.{◌≡◌, IfOk};
 ghost use Rattle.std.specs.List.{list_any};
 ghost use Rattle.std.specs.Str.{bytes_eq};
 ghost use Rattle.mq_witness.specs.Literals.{is_named};
-ghost use Rattle.mq_witness.specs.FreshTexts.{AreLonger, AreNew, IsSeen, fresh_texts};
+ghost use Rattle.mq_witness.specs.FreshTexts.{AreLonger, AreNew, IsSeen, client_base, fresh_texts};
+ghost use Rattle.mq_witness.specs.FreshTexts.{user_base};
 
 use crate::fresh::{Fresh, fresh_text, longest_text};
 use crate::literals::Literals;
@@ -29,16 +30,28 @@ impl Drop for FreshTexts {
     }
 }
 
+fn client_base(dollar: bool) -> &'static str
+    ensures { result.now ≡ client_base dollar }
+{
+    if dollar { "$client" } else { "client" }
+}
+
+fn user_base(dollar: bool) -> &'static str
+    ensures { result.now ≡ user_base dollar }
+{
+    if dollar { "$user" } else { "user" }
+}
+
 impl FreshTexts {
-    /// Texts that are none of these, of which none is longer than 300 bytes.
-    pub fn find(alloc: Global, literals: &Literals) -> Result<FreshTexts, AllocError>
-        ensures { IfOk result (λ texts. AreNew texts (λ l. is_named l literals.now)) }
+    /// Texts that are none of these, of which none is longer than 300 bytes; the ids begin with `$`, or don't.
+    pub fn find(alloc: Global, dollar: bool, literals: &Literals) -> Result<FreshTexts, AllocError>
+        ensures { IfOk result (λ texts. AreNew dollar texts (λ l. is_named l literals.now)) }
     {
         Ok(FreshTexts {
             plain: fresh_text(alloc, "x", literals)?,
             dollar: fresh_text(alloc, "$x", literals)?,
-            client: fresh_text(alloc, "client", literals)?,
-            user: fresh_text(alloc, "user", literals)?,
+            client: fresh_text(alloc, client_base(dollar), literals)?,
+            user: fresh_text(alloc, user_base(dollar), literals)?,
         })
     }
 

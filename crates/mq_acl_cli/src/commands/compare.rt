@@ -1,5 +1,6 @@
 //! The answer to `compare`.
-ghost use Rattle.std.specs.Prelude.{◌≡◌, ◌≢◌, ℕ, [], IfOk, IfErr};
+ghost use Rattle.std.specs.Prelude.{◌≡◌, ◌≢◌, ℕ, [], IfOk, IfErr, OnOk};
+ghost use Rattle.mq_acl.specs.declared.rules.Rules.TheVariants.{Own};
 ghost use Rattle.mq_findings.specs.Faults.{IsComparisonFault};
 ghost use Rattle.mq_acl_cli.specs.Answers.{AreChanges, AreRows, IsCompared};
 ghost use Rattle.mq_acl_cli.specs.Failures.{IsComparisonFailure};
@@ -7,10 +8,12 @@ ghost use Rattle.mq_acl_cli.specs.Statuses.{failure_status};
 
 use crate::failure::Failure;
 use crate::list::rows_in;
+use crate::notes::{add_limits, is_limited};
 use crate::outcome::Outcome;
 use crate::print::print_outcome;
-use mq_acl::Row;
-use mq_acl_print::{ListText, changes_text};
+use crate::request::Options;
+use mq_acl::{Row, Rules};
+use mq_acl_print::{ListText, Scope, changes_text};
 use mq_findings::{ComparisonFault, Difference, Side, compare};
 use std::alloc::Global;
 use std::io::Write;
@@ -51,16 +54,17 @@ impl Changes {
 }
 
 fn comparison_failure<'a>(
+    rules: Rules,
     old: ListText<'a, '_>,
     new: ListText<'a, '_>,
     old_rows: &[Row],
     new_rows: &[Row],
     fault: ComparisonFault,
 ) -> Failure<'a>
-    requires old { AreRows old.text.now old_rows.now }
-    requires new { AreRows new.text.now new_rows.now }
-    ensures { (steps : ℕ) → IsComparisonFault old_rows.now new_rows.now steps fault
-        → IsComparisonFailure old.entry new.entry steps result }
+    requires old { AreRows rules old.text.now old_rows.now }
+    requires new { AreRows rules new.text.now new_rows.now }
+    ensures { (steps : ℕ) → IsComparisonFault rules old_rows.now new_rows.now steps fault
+        → IsComparisonFailure rules old.entry new.entry steps result }
 {
     match fault {
         ComparisonFault::Memory => Failure::Memory,
@@ -69,6 +73,14 @@ fn comparison_failure<'a>(
             line,
         },
         ComparisonFault::NewLine(line) => Failure::Long {
+            file: new.file,
+            line,
+        },
+        ComparisonFault::OldMark(line) => Failure::Mark {
+            file: old.file,
+            line,
+        },
+        ComparisonFault::NewMark(line) => Failure::Mark {
             file: new.file,
             line,
         },
@@ -85,26 +97,27 @@ fn comparison_failure<'a>(
     }
 }
 
-/// Where the lists with these texts differ. Where so many steps don't suffice to know it, it is given up: what is answered
+/// Where the lists with these texts differ by these rules. Where so many steps don't suffice to know it, it is given up: what is answered
 /// is always the whole.
 pub fn find_changes<'a>(
     alloc: Global,
+    rules: Rules,
     old: ListText<'a, '_>,
     new: ListText<'a, '_>,
     steps: u64,
 ) -> Result<Changes, Failure<'a>>
-    ensures ok { IfOk result (AreChanges old.entry.text.now new.entry.text.now) }
-    ensures err { IfErr result (IsComparisonFailure old.entry new.entry steps) }
+    ensures ok { IfOk result (AreChanges rules old.entry.text.now new.entry.text.now) }
+    ensures err { IfErr result (IsComparisonFailure rules old.entry new.entry steps) }
 {
-    let old_rows = rows_in(alloc, old)?;
-    let new_rows = rows_in(alloc, new)?;
-    match compare(alloc, &old_rows, &new_rows, steps) {
+    let old_rows = rows_in(alloc, rules, old)?;
+    let new_rows = rows_in(alloc, rules, new)?;
+    match compare(alloc, rules, &old_rows, &new_rows, steps) {
         Ok(differences) => Ok(Changes {
             old: old_rows,
             new: new_rows,
             differences,
         }),
-        Err(fault) => Err(comparison_failure(old, new, &old_rows, &new_rows, fault)),
+        Err(fault) => Err(comparison_failure(rules, old, new, &old_rows, &new_rows, fault)),
     }
 }
 
@@ -119,20 +132,40 @@ fn outcome_of(differences: &[Difference]) -> Outcome
     Outcome::Remark
 }
 
-/// Shows where the lists with these texts differ, if so many steps suffice to know it.
+/// Shows where the lists with these texts differ, if so many steps suffice to know it, and notes of whom it isn't known.
 pub fn tell_changes<'a, W: Write>(
     alloc: Global,
     old: ListText<'a, '_>,
     new: ListText<'a, '_>,
-    json: bool,
-    steps: u64,
+    options: Options,
     out: &mut W,
+    notes: &mut String,
 ) -> Result<Outcome, Failure<'a>>
-    ensures ok { IfOk result (IsCompared old.entry.text.now new.entry.text.now) }
+    ensures ok { IfOk result (IsCompared options.rules old.entry.text.now
+        new.entry.text.now) }
     ensures unread { IfErr result (λ failure. failure_status failure ≡ 2 → out.new ≡ out.old) }
+    ensures quiet { OnOk result (options.rules ≡ Own → notes.new ≡ notes.old) }
 {
-    let changes = find_changes(alloc, old, new, steps)?;
+    let changes = find_changes(alloc, options.rules, old, new, options.steps)?;
+    let rules = options.rules;
+    add_limits(
+        notes,
+        rules,
+        (old.file, &changes.old),
+        (new.file, &changes.new),
+    )?;
+    let scope = Scope {
+        rules,
+        is_limited: is_limited(rules, &changes.old) || is_limited(rules, &changes.new),
+    };
     let outcome = outcome_of(&changes.differences);
-    let text = changes_text(alloc, old, new, changes.into_differences(), json);
+    let text = changes_text(
+        alloc,
+        scope,
+        old,
+        new,
+        changes.into_differences(),
+        options.json,
+    );
     print_outcome(out, text, outcome)
 }

@@ -1,5 +1,6 @@
 //! The answer to `lint`.
-ghost use Rattle.std.specs.Prelude.{◌≡◌, ◌≢◌, ◌⊎◌, ◌≤◌, ℕ, [], IfOk, IfErr, true, false, map};
+ghost use Rattle.std.specs.Prelude.{◌≡◌, ◌≢◌, ◌⊎◌, ◌≤◌, ℕ, [], IfOk, IfErr, OnOk, true, false, map};
+ghost use Rattle.mq_acl.specs.declared.rules.Rules.TheVariants.{Own};
 ghost use Rattle.mq_lint.specs.NeedlessFault.{IsNeedlessFault};
 ghost use Rattle.mq_lint.specs.Needless.{AreNeedless};
 ghost use Rattle.mq_acl_cli.specs.Answers.{AreRows};
@@ -13,9 +14,11 @@ use crate::commands::remarks::{add_empty, add_remarks};
 use crate::failure::Failure;
 use crate::files::text_of;
 use crate::list::rows_in;
+use crate::notes::add_limit;
 use crate::outcome::Outcome;
 use crate::print::print_outcome;
-use mq_acl::Row;
+use crate::request::Options;
+use mq_acl::{Row, Rules};
 use mq_acl_print::ListText;
 use mq_lint::{NeedlessFault, Remark, RemarkKind, needless, remarks};
 use std::alloc::Global;
@@ -28,6 +31,8 @@ pub struct Remarks {
     pub odd: Vec<Remark>,
     /// Lines that repeat another, deny nothing or are needless, where none is faulty.
     pub needless: Vec<Remark>,
+    /// The rows, where none is faulty.
+    pub rows: Vec<Row>,
     /// Whether none is faulty, and none says anything: the list allows nothing.
     pub is_empty: bool,
 }
@@ -38,6 +43,7 @@ impl Drop for Remarks {
         let Remarks {
             odd: _,
             needless: _,
+            rows: _,
             is_empty: _,
         } = self;
     }
@@ -68,15 +74,21 @@ fn has_needless(told: &[Remark]) -> bool
     told.iter().any(|remark| matters(remark.kind))
 }
 
-fn needless_failure<'a>(list: ListText<'a, '_>, rows: &[Row], fault: NeedlessFault) -> Failure<'a>
-    requires { AreRows list.text.now rows.now }
-    ensures { (steps : ℕ) → IsNeedlessFault rows.now steps fault
-        → IsLintFailure list.entry steps result }
+fn needless_failure<'a>(
+    rules: Rules,
+    list: ListText<'a, '_>,
+    rows: &[Row],
+    fault: NeedlessFault,
+) -> Failure<'a>
+    requires { AreRows rules list.text.now rows.now }
+    ensures { (steps : ℕ) → IsNeedlessFault rules rows.now steps fault
+        → IsLintFailure rules list.entry steps result }
 {
     let file = list.file;
     match fault {
         NeedlessFault::Memory => Failure::Memory,
         NeedlessFault::Line(line) => Failure::Long { file, line },
+        NeedlessFault::Mark(line) => Failure::Mark { file, line },
         NeedlessFault::GaveUp(line, others) => Failure::GaveUp { file, line, others },
     }
 }
@@ -84,44 +96,48 @@ fn needless_failure<'a>(list: ListText<'a, '_>, rows: &[Row], fault: NeedlessFau
 // Of the rows of the list.
 fn needless_in<'a>(
     alloc: Global,
+    rules: Rules,
     list: ListText<'a, '_>,
     rows: &[Row],
     steps: u64,
 ) -> Result<Vec<Remark>, Failure<'a>>
-    requires { AreRows list.text.now rows.now }
-    ensures ok { IfOk result (λ told. AreNeedless rows.entry.now told.items) }
-    ensures err { IfErr result (IsLintFailure list.entry steps) }
+    requires { AreRows rules list.text.now rows.now }
+    ensures ok { IfOk result (λ told. AreNeedless rules rows.entry.now told.items) }
+    ensures err { IfErr result (IsLintFailure rules list.entry steps) }
 {
-    match needless(alloc, rows, steps) {
+    match needless(alloc, rules, rows, steps) {
         Ok(told) => Ok(told),
-        Err(fault) => Err(needless_failure(list, rows, fault)),
+        Err(fault) => Err(needless_failure(rules, list, rows, fault)),
     }
 }
 
-/// What is odd or needless in the list. Where so many steps don't suffice to know it, it is given up: what is answered is
+/// What by these rules is odd or needless in the list. Where so many steps don't suffice to know it, it is given up: what is answered is
 /// always the whole.
 pub fn find_remarks<'a>(
     alloc: Global,
+    rules: Rules,
     list: ListText<'a, '_>,
     steps: u64,
 ) -> Result<Remarks, Failure<'a>>
-    ensures ok { IfOk result (AreRemarks list.entry.text.now) }
-    ensures err { IfErr result (IsLintFailure list.entry steps) }
+    ensures ok { IfOk result (AreRemarks rules list.entry.text.now) }
+    ensures err { IfErr result (IsLintFailure rules list.entry steps) }
 {
-    let odd = remarks(alloc, list.text)?;
+    let odd = remarks(alloc, rules, list.text)?;
     if has_fault(&odd) {
         return Ok(Remarks {
             odd,
             needless: Vec::new(alloc),
+            rows: Vec::new(alloc),
             is_empty: false,
         });
     }
-    let rows = rows_in(alloc, list)?;
-    let needless = needless_in(alloc, list, &rows, steps)?;
+    let rows = rows_in(alloc, rules, list)?;
+    let needless = needless_in(alloc, rules, list, &rows, steps)?;
     let is_empty = rows.is_empty();
     Ok(Remarks {
         odd,
         needless,
+        rows,
         is_empty,
     })
 }
@@ -139,21 +155,24 @@ fn outcome_of(remarks: &Remarks) -> Outcome
     }
 }
 
-/// Adds to an answer what is odd or needless in the list, if so many steps suffice to know it.
+/// Adds to an answer what is odd or needless in the list, if so many steps suffice to know it, and notes of whom it isn't
+/// known.
 pub fn add_lint<'a>(
     alloc: Global,
     list: ListText<'a, '_>,
-    json: bool,
-    steps: u64,
+    options: Options,
     answer: &mut String,
+    notes: &mut String,
 ) -> Result<Outcome, Failure<'a>>
-    ensures { IfOk result (IsLinted list.entry.text.now) }
+    ensures ok { IfOk result (IsLinted options.rules list.entry.text.now) }
+    ensures quiet { OnOk result (options.rules ≡ Own → notes.new ≡ notes.old) }
 {
-    let found = find_remarks(alloc, list, steps)?;
+    let found = find_remarks(alloc, options.rules, list, options.steps)?;
+    add_limit(notes, options.rules, list.file, &found.rows)?;
     let outcome = outcome_of(&found);
-    add_remarks(alloc, answer, list, &found.odd, &found.needless, json)?;
+    add_remarks(alloc, answer, list, &found.odd, &found.needless, options)?;
     if found.is_empty {
-        add_empty(alloc, answer, list.file, json)?;
+        add_empty(alloc, answer, list.file, options.json)?;
     }
     Ok(outcome)
 }
@@ -163,20 +182,22 @@ fn lint_file<'a, R: Files, I: Read>(
     rt: &R,
     alloc: Global,
     file: &'a str,
-    json: bool,
-    steps: u64,
+    options: Options,
     input: &mut I,
     answer: &mut String,
+    notes: &mut String,
 ) -> Result<Outcome, Failure<'a>>
-    ensures ok { IfOk result (IsLintedFile (I.remaining input.old) file.entry.now) }
+    ensures ok { IfOk result (IsLintedFile options.rules (I.remaining input.old)
+        file.entry.now) }
     ensures kept { is_input file.entry.now ≡ false → input.new ≡ input.old }
+    ensures quiet { OnOk result (options.rules ≡ Own → notes.new ≡ notes.old) }
 {
     let text = text_of(rt, alloc, file, input)?;
     let list = ListText {
         file,
         text: text.as_str(),
     };
-    add_lint(alloc, list, json, steps, answer)
+    add_lint(alloc, list, options, answer, notes)
 }
 
 // Of each file, in their order.
@@ -184,19 +205,20 @@ fn lint_files<'a, R: Files, I: Read>(
     rt: &R,
     alloc: Global,
     files: &[&'a str],
-    json: bool,
-    steps: u64,
+    options: Options,
     input: &mut I,
     answer: &mut String,
+    notes: &mut String,
 ) -> Result<Outcome, Failure<'a>>
     requires { input_count (map (λ file. file.now) files.now) ≤ 1 }
-    ensures ok { IfOk result (AreLinted (I.remaining input.old)
+    ensures ok { IfOk result (AreLinted options.rules (I.remaining input.old)
         (map (λ file. file.now) files.now)) }
     ensures kept { input_count (map (λ file. file.now) files.now) ≡ 0 → input.new ≡ input.old }
+    ensures quiet { OnOk result (options.rules ≡ Own → notes.new ≡ notes.old) }
 {
     let mut outcome = Outcome::Clear;
     for file in files {
-        let next = lint_file(rt, alloc, *file, json, steps, input, answer)?;
+        let next = lint_file(rt, alloc, *file, options, input, answer, notes)?;
         outcome = outcome.and(next);
     }
     Ok(outcome)
@@ -207,18 +229,19 @@ pub(crate) fn answer_lint<'a, R: Files, I: Read, W: Write>(
     rt: &R,
     alloc: Global,
     files: &[&'a str],
-    json: bool,
-    steps: u64,
+    options: Options,
     input: &mut I,
     out: &mut W,
+    notes: &mut String,
 ) -> Result<Outcome, Failure<'a>>
     requires { input_count (map (λ file. file.now) files.now) ≤ 1 }
-    ensures ok { IfOk result (AreLinted (I.remaining input.old)
+    ensures ok { IfOk result (AreLinted options.rules (I.remaining input.old)
         (map (λ file. file.now) files.now)) }
     ensures unread { IfErr result (λ failure. failure_status failure ≡ 2 → out.new ≡ out.old) }
     ensures kept { input_count (map (λ file. file.now) files.now) ≡ 0 → input.new ≡ input.old }
+    ensures quiet { OnOk result (options.rules ≡ Own → notes.new ≡ notes.old) }
 {
     let mut answer = String::new(alloc);
-    let outcome = lint_files(rt, alloc, files, json, steps, input, &mut answer)?;
+    let outcome = lint_files(rt, alloc, files, options, input, &mut answer, notes)?;
     print_outcome(out, Ok(answer), outcome)
 }

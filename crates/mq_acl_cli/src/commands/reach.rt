@@ -3,6 +3,7 @@ ghost use Rattle.std.specs.Prelude.{◌≡◌, ◌⊎◌, ℕ, List, IfOk, IfErr
 ghost use Rattle.std.specs.Option.{option_copied};
 ghost use Rattle.mq_topic.specs.Texts.{filter_part, is_name, is_subscription};
 ghost use Rattle.mq_acl.specs.Views.{row_views};
+ghost use Rattle.mq_reach.specs.Reach.{list_by};
 ghost use Rattle.mq_acl_cli.specs.Answers.{AreRows, IsReach, IsReached};
 ghost use Rattle.mq_acl_cli.specs.Failures.{IsListFailure, IsWordFailure};
 ghost use Rattle.mq_acl_cli.specs.Statuses.{failure_status};
@@ -12,8 +13,8 @@ use crate::failure::Failure;
 use crate::list::rows_in;
 use crate::outcome::Outcome;
 use crate::print::print_outcome;
-use crate::request::Client;
-use mq_acl::Row;
+use crate::request::{Client, Options};
+use mq_acl::{Row, Rules};
 use mq_acl_print::{ListText, topic_text};
 use mq_reach::{Reach, ReachFault};
 use mq_topic::{LevelText, SubFilter, TopicFault, TopicFilter, TopicName};
@@ -36,17 +37,22 @@ fn filter_in(alloc: Global, subscription: &str) -> Result<TopicFilter, Failure<'
 
 fn reach_of<'a, 'r>(
     alloc: Global,
+    rules: Rules,
     list: ListText<'a, '_>,
     rows: &'r [Row],
 ) -> Result<Reach<'r>, Failure<'a>>
-    requires { AreRows list.text.now rows.now }
-    ensures ok { IfOk result (λ reach. reach ≡ row_views rows.entry.now) }
-    ensures err { IfErr result (IsListFailure list.entry) }
+    requires { AreRows rules list.text.now rows.now }
+    ensures ok { IfOk result (λ reach. reach ≡ list_by rules (row_views rows.entry.now)) }
+    ensures err { IfErr result (IsListFailure rules list.entry) }
 {
-    match Reach::new(alloc, rows) {
+    match Reach::new(alloc, rules, rows) {
         Ok(reach) => Ok(reach),
         Err(ListFault::Memory) => Err(Failure::Memory),
         Err(ListFault::Line(_, line)) => Err(Failure::Long {
+            file: list.file,
+            line,
+        }),
+        Err(ListFault::Mark(_, line)) => Err(Failure::Mark {
             file: list.file,
             line,
         }),
@@ -56,49 +62,52 @@ fn reach_of<'a, 'r>(
 // A topic that the filter matches and that these rows, which are the list's, let the client read.
 fn topic_in<'a>(
     alloc: Global,
+    rules: Rules,
     list: ListText<'a, '_>,
     rows: &[Row],
     client: Client<'a>,
     filter: &TopicFilter,
 ) -> Result<Option<TopicName>, Failure<'a>>
-    requires { AreRows list.text.now rows.now }
+    requires { AreRows rules list.text.now rows.now }
     ensures ok { IfOk result (λ found. (subscription : List ℕ)
-        → filter.now ≡ filter_part subscription → IsReach list.entry.text.now
+        → filter.now ≡ filter_part subscription → IsReach rules list.entry.text.now
         client.entry.id.now (option_copied client.entry.user) subscription found) }
     ensures err { IfErr result (λ failure. (subscription : List ℕ)
-        → filter.now ≡ filter_part subscription → IsListFailure list.entry failure
-        ⊎ IsWordFailure client.entry.id.now (option_copied client.entry.user)
+        → filter.now ≡ filter_part subscription → IsListFailure rules list.entry failure
+        ⊎ IsWordFailure rules list.entry.text.now client.entry.id.now (option_copied client.entry.user)
         subscription failure) }
 {
-    let reach = reach_of(alloc, list, rows)?;
+    let reach = reach_of(alloc, rules, list, rows)?;
     match reach.topic(alloc, client.id, client.user, filter) {
         Ok(None) => Ok(None),
         Ok(Some(topic)) => {
-            let shown = shown_topic(alloc, rows, client, filter, topic)?;
+            let shown = shown_topic(alloc, rules, rows, client, filter, topic)?;
             Ok(Some(shown))
         }
         Err(ReachFault::Memory) => Err(Failure::Memory),
+        Err(ReachFault::Pattern) => Err(Failure::LongPattern),
         Err(_) => Err(Failure::LongWord),
     }
 }
 
-/// A topic that a subscription of this client can be sent by the list, or that there is none. A subscription is a topic
-/// filter, or `$share/NAME/FILTER`.
+/// A topic that by these rules a subscription of this client can be sent by the list, or that there is none. A subscription
+/// is a topic filter, or `$share/NAME/FILTER`.
 pub fn find_topic<'a>(
     alloc: Global,
+    rules: Rules,
     list: ListText<'a, '_>,
     client: Client<'a>,
     subscription: &'a str,
 ) -> Result<Option<TopicName>, Failure<'a>>
-    ensures ok { IfOk result (IsReach list.entry.text.now client.entry.id.now
+    ensures ok { IfOk result (IsReach rules list.entry.text.now client.entry.id.now
         (option_copied client.entry.user) subscription.entry.now) }
-    ensures err { IfErr result (λ failure. IsListFailure list.entry failure
-        ⊎ IsWordFailure client.entry.id.now (option_copied client.entry.user)
+    ensures err { IfErr result (λ failure. IsListFailure rules list.entry failure
+        ⊎ IsWordFailure rules list.entry.text.now client.entry.id.now (option_copied client.entry.user)
         subscription.entry.now failure) }
 {
     let filter = filter_in(alloc, subscription)?;
-    let rows = rows_in(alloc, list)?;
-    topic_in(alloc, list, &rows, client, &filter)
+    let rows = rows_in(alloc, rules, list)?;
+    topic_in(alloc, rules, list, &rows, client, &filter)
 }
 
 // Whether there is a topic.
@@ -122,15 +131,15 @@ pub fn tell_reach<'a, W: Write>(
     list: ListText<'a, '_>,
     client: Client<'a>,
     subscription: &'a str,
-    json: bool,
+    options: Options,
     out: &mut W,
 ) -> Result<Outcome, Failure<'a>>
-    ensures ok { IfOk result (IsReached list.entry.text.now client.entry.id.now
+    ensures ok { IfOk result (IsReached options.rules list.entry.text.now client.entry.id.now
         (option_copied client.entry.user) subscription.entry.now) }
     ensures unread { IfErr result (λ failure. failure_status failure ≡ 2 → out.new ≡ out.old) }
 {
-    let found = find_topic(alloc, list, client, subscription)?;
+    let found = find_topic(alloc, options.rules, list, client, subscription)?;
     let outcome = outcome_of(&found);
-    let text = topic_text(alloc, subscription, &found, json);
+    let text = topic_text(alloc, subscription, &found, options.json);
     print_outcome(out, text, outcome)
 }

@@ -1,9 +1,14 @@
 //! Remarks on lines, in words and as JSON.
+use crate::request::Options;
+use mq_acl::Rules;
 use mq_acl_print::{Datum, Lines, ListText, add_object, fault_words, lines_of};
 use mq_lint::{Remark, RemarkKind};
 use std::alloc::{AllocError, Global};
 
 const NO_MARK: &str = "a pattern line without %c and %u is for all clients alike";
+
+const NO_MARK_MOSQUITTO: &str = "a pattern line without %c and %u is for all clients alike, \
+                                 but for what their own topic lines decide";
 
 const INDENTED: &str = "mosquitto 2.0 takes # for a comment in the first column alone";
 
@@ -36,10 +41,22 @@ fn other_line(kind: RemarkKind) -> Option<u64> {
     }
 }
 
-fn kind_words(alloc: Global, line: &str, kind: RemarkKind) -> Result<String, AllocError> {
+fn no_mark(rules: Rules) -> &'static str {
+    match rules {
+        Rules::Own => NO_MARK,
+        Rules::Mosquitto => NO_MARK_MOSQUITTO,
+    }
+}
+
+fn kind_words(
+    alloc: Global,
+    rules: Rules,
+    line: &str,
+    kind: RemarkKind,
+) -> Result<String, AllocError> {
     match kind {
         RemarkKind::Fault(kind) => fault_words(alloc, line, kind),
-        RemarkKind::NoMark => String::from_str(alloc, NO_MARK),
+        RemarkKind::NoMark => String::from_str(alloc, no_mark(rules)),
         RemarkKind::IndentedComment => String::from_str(alloc, INDENTED),
         RemarkKind::Tab => String::from_str(alloc, TAB),
         RemarkKind::Repeats(other) => format!(in alloc; "repeats line {other}"),
@@ -90,10 +107,10 @@ fn add_remark(
     text: &mut String,
     list: Lines<'_, '_, '_>,
     remark: Remark,
-    json: bool,
+    options: Options,
 ) -> Result<(), AllocError> {
-    let words = kind_words(alloc, list.line(remark.line), remark.kind)?;
-    if json {
+    let words = kind_words(alloc, options.rules, list.line(remark.line), remark.kind)?;
+    if options.json {
         return add_json(alloc, text, list, remark, words.as_str());
     }
     add_words(text, list, remark, words.as_str())
@@ -104,10 +121,10 @@ fn add_all(
     text: &mut String,
     list: Lines<'_, '_, '_>,
     remarks: &[Remark],
-    json: bool,
+    options: Options,
 ) -> Result<(), AllocError> {
     for remark in remarks {
-        add_remark(alloc, text, list, *remark, json)?;
+        add_remark(alloc, text, list, *remark, options)?;
     }
     Ok(())
 }
@@ -119,15 +136,15 @@ pub(crate) fn add_remarks(
     list: ListText<'_, '_>,
     odd: &[Remark],
     needless: &[Remark],
-    json: bool,
+    options: Options,
 ) -> Result<(), AllocError> {
     let lines = lines_of(alloc, list.text)?;
     let list = Lines {
         file: list.file,
         lines: &lines,
     };
-    add_all(alloc, text, list, odd, json)?;
-    add_all(alloc, text, list, needless, json)
+    add_all(alloc, text, list, odd, options)?;
+    add_all(alloc, text, list, needless, options)
 }
 
 /// Adds that the list in this file has no row, and what that means.

@@ -11,22 +11,24 @@ use crate::failure::Failure;
 use crate::list::rows_in;
 use crate::outcome::Outcome;
 use crate::print::print_outcome;
-use mq_acl::Row;
+use crate::request::Options;
+use mq_acl::{Row, Rules};
 use mq_acl_print::{ListText, subscriptions_text};
 use mq_reach::{Findings, ScriptFault, SearchFault, find_vain};
 use std::alloc::Global;
 use std::io::{Read, Write};
 
 fn script_failure<'a>(
+    rules: Rules,
     list: ListText<'a, '_>,
     rows: &[Row],
     script: &'a str,
     fault: ScriptFault,
 ) -> Failure<'a>
-    requires { AreRows list.text.now rows.now }
-    ensures { (before after : Option (List ℕ)) → IsScriptFault rows.now before after fault
-        → IsListFailure list.entry result
-        ⊎ IsScriptFailure script.entry.now before after result }
+    requires { AreRows rules list.text.now rows.now }
+    ensures { (before after : Option (List ℕ)) → IsScriptFault rules rows.now before after fault
+        → IsListFailure rules list.entry result
+        ⊎ IsScriptFailure rules list.entry.text.now script.entry.now before after result }
 {
     match fault {
         ScriptFault::Read(error) => Failure::of_io(script, error),
@@ -69,21 +71,22 @@ fn unless_no_command<'a>(findings: Findings, script: &'a str) -> Result<Findings
 /// which no line is a command is a failure: it is another file than was meant.
 pub fn find_subscriptions<'a, R: Read>(
     alloc: Global,
+    rules: Rules,
     list: ListText<'a, '_>,
     script: &'a str,
     reader: &mut R,
 ) -> Result<Findings, Failure<'a>>
     ensures ok { IfOk result (λ findings. (given : List ℕ)
         × Consumes (R.remaining reader.old) (R.remaining reader.new) given
-        × IsAtEnd (R.remaining reader.new) × FindsVain list.entry.text.now given findings) }
-    ensures err { IfErr result (λ failure. IsListFailure list.entry failure
-        ⊎ IsScriptFailure script.entry.now (R.remaining reader.old)
+        × IsAtEnd (R.remaining reader.new) × FindsVain rules list.entry.text.now given findings) }
+    ensures err { IfErr result (λ failure. IsListFailure rules list.entry failure
+        ⊎ IsScriptFailure rules list.entry.text.now script.entry.now (R.remaining reader.old)
         (R.remaining reader.new) failure) }
 {
-    let rows = rows_in(alloc, list)?;
-    match find_vain(alloc, &rows, reader) {
+    let rows = rows_in(alloc, rules, list)?;
+    match find_vain(alloc, rules, &rows, reader) {
         Ok(findings) => unless_no_command(findings, script),
-        Err(fault) => Err(script_failure(list, &rows, script, fault)),
+        Err(fault) => Err(script_failure(rules, list, &rows, script, fault)),
     }
 }
 
@@ -104,16 +107,16 @@ pub fn tell_subscriptions<'a, R: Read, W: Write>(
     list: ListText<'a, '_>,
     script: &'a str,
     reader: &mut R,
-    json: bool,
+    options: Options,
     out: &mut W,
 ) -> Result<Outcome, Failure<'a>>
     ensures ok { IfOk result (λ outcome. (given : List ℕ)
         × Consumes (R.remaining reader.old) (R.remaining reader.new) given
-        × IsAtEnd (R.remaining reader.new) × AreTold list.entry.text.now given outcome) }
+        × IsAtEnd (R.remaining reader.new) × AreTold options.rules list.entry.text.now given outcome) }
     ensures unread { IfErr result (λ failure. failure_status failure ≡ 2 → out.new ≡ out.old) }
 {
-    let findings = find_subscriptions(alloc, list, script, reader)?;
+    let findings = find_subscriptions(alloc, options.rules, list, script, reader)?;
     let outcome = outcome_of(&findings);
-    let text = subscriptions_text(alloc, script, &findings, json);
+    let text = subscriptions_text(alloc, script, &findings, options.json);
     print_outcome(out, text, outcome)
 }

@@ -8,8 +8,8 @@ ghost use Rattle.mq_acl_cli.specs.Statuses.{failure_status};
 use crate::failure::Failure;
 use crate::list::rows_in;
 use crate::print::print_answer;
-use crate::request::Client;
-use mq_acl::Direction;
+use crate::request::{Client, Options};
+use mq_acl::{Direction, Rules};
 use mq_acl_print::{ListText, explanation_text};
 use mq_findings::{Verdict, why};
 use mq_topic::{TopicFault, TopicName};
@@ -37,23 +37,39 @@ fn topic_name(alloc: Global, text: &str) -> Result<TopicName, Failure<'_>>
     }
 }
 
-/// Whether this client may read and write the topic with this text by the list, and which of its lines decide it.
+/// Whether by these rules this client may read and write the topic with this text by the list, and which of its lines decide
+/// it.
 pub fn explain<'a>(
     alloc: Global,
+    rules: Rules,
     list: ListText<'a, '_>,
     client: Client<'a>,
     topic: &'a str,
 ) -> Result<Explanation, Failure<'a>>
-    ensures ok { IfOk result (Explains list.entry.text.now client.entry.id.now
+    ensures ok { IfOk result (Explains rules list.entry.text.now client.entry.id.now
         (option_copied client.entry.user) topic.entry.now) }
-    ensures err { IfErr result (λ failure. IsListFailure list.entry failure
+    ensures err { IfErr result (λ failure. IsListFailure rules list.entry failure
         ⊎ IsTopicFailure topic.entry.now failure) }
 {
     let name = topic_name(alloc, topic)?;
-    let rows = rows_in(alloc, list)?;
+    let rows = rows_in(alloc, rules, list)?;
     Ok(Explanation {
-        reading: why(&rows, client.id, client.user, &name, Direction::Reading),
-        writing: why(&rows, client.id, client.user, &name, Direction::Writing),
+        reading: why(
+            rules,
+            &rows,
+            client.id,
+            client.user,
+            &name,
+            Direction::Reading,
+        ),
+        writing: why(
+            rules,
+            &rows,
+            client.id,
+            client.user,
+            &name,
+            Direction::Writing,
+        ),
     })
 }
 
@@ -63,12 +79,12 @@ pub fn tell_why<'a, W: Write>(
     list: ListText<'a, '_>,
     client: Client<'a>,
     topic: &'a str,
-    json: bool,
+    options: Options,
     out: &mut W,
 ) -> Result<(), Failure<'a>>
     ensures unread { IfErr result (λ failure. failure_status failure ≡ 2 → out.new ≡ out.old) }
 {
-    let Explanation { reading, writing } = explain(alloc, list, client, topic)?;
-    let text = explanation_text(alloc, list, reading, writing, json);
+    let Explanation { reading, writing } = explain(alloc, options.rules, list, client, topic)?;
+    let text = explanation_text(alloc, list, reading, writing, options.json);
     print_answer(out, text)
 }

@@ -6,7 +6,7 @@ use Rattle.mq_acl_cli.proofs.command_line.asked.Goals as goal
 pub returns-in_default-clause-err : goal.returns-in_default-clause-err
 returns-in_default-clause-err c = λ words kinds same.
     let none = rw c.in_default.is at c.in_ok-request.ensures in
-    c.usage_of.ensures words kinds
+    c.no_question.ensures words kinds
     (subst CanNotBeAsked (sym (ap asked_by (sym same) ∙ none)) tt)
 
 pub returns-then-input_count-gt1-clause-err : goal.returns-then-input_count-gt1-clause-err
@@ -14,5 +14,5 @@ returns-then-input_count-gt1-clause-err c = λ words kinds same.
     let is = rw c.in-Some.is at c.in_ok-request.ensures in
     let twice : 1 < input_count (files_of (question_view c.in-Some.request.question)) =
     rw c.input_count.ensures at c.if-input_count-gt1.true in
-    c.usage_of-then-input_count-gt1.ensures words kinds
+    c.usage_of.ensures words kinds
     (subst CanNotBeAsked (sym (ap asked_by (sym same) ∙ is.question)) twice)

@@ -1,4 +1,5 @@
-use Rattle.mq_findings.proofs.ChangeLemmas.{rows_for}
+use Rattle.mq_acl.specs.declared.access.Direction.TheVariants.{Reading}
+use Rattle.mq_findings.proofs.ChangeLemmas.{rows_for, tells_directions, tells_kept}
 use Rattle.mq_findings.proofs.changes.add_clients.Goals as goal
 
 pub add_direction-requires-clause-rows : goal.add_direction-requires-clause-rows
@@ -18,3 +19,11 @@ add_direction-requires-2-clause-rows c = record {
   new_rows = rows_for c.args.lists.now.new.now c.args.lists.now.old.now c.args.lists.now.new_rows
       c.args.clients c.in_ok-new.new.items c.requires.lists.new_rows c.in_ok-new.ensures;
 }
+
+pub returns-clause-told : goal.returns-clause-told
+returns-clause-told c =
+    tells_directions c.args.lists.now c.args.clients c.add_direction-2.new.report.differences.items
+    (λ way. tells_kept c.args.lists.now c.args.clients way Reading
+    c.add_direction.new.report.differences.items c.add_direction-2.new.report.differences.items
+    c.in_ok-add_direction-2.ensures.grows (c.in_ok-add_direction.ensures.told way))
+    c.in_ok-add_direction-2.ensures.told

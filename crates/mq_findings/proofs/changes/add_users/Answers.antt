@@ -24,7 +24,7 @@ loop-user-preserved c =
     (same_name items c.loop-user.user-index none name c.loop-user-test.true)
     c.in_ok-add_clients.ensures.grows
     (tells_user c.args.lists.now name c.add_clients.new.report.differences.items
-    c.in_ok-add_clients.ensures.told)
+    c.requires.asked c.in_ok-add_clients.ensures.told)
     c.loop-user.invariant
 
 pub returns-clause-told : goal.returns-clause-told

@@ -1,7 +1,7 @@
 use Rattle.mq_findings.proofs.ReportLemmas.{IsDoneTo}
 use Rattle.mq_findings.proofs.gains.add_by_grant.Given as goal
 
--- of the rows that deny, the first are done
+-- of the places of rows that deny, the first are done
 abbrev pub invariant-loop-place : goal.invariant-loop-place
-invariant-loop-place l = IsDoneTo l.question l.before l.grant l.place
+invariant-loop-place l = IsDoneTo l.question l.before l.grant l.place-items l.place-index
     l.fn.report.differences.items l.report.differences.items

@@ -42,5 +42,5 @@ returns-clause-sound c =
 
 pub returns-clause-told : goal.returns-clause-told
 returns-clause-told c =
-    told_at c.args.question.now c.args.gain.now c.args.witness (difference c)
-    c.requires.question c.requires.gain c.requires.shows (is_of_witness c)
+    told_at c.args.dollar c.args.question.now c.args.gain.now c.args.witness (difference c)
+    c.requires.question c.requires.gain c.requires.shows c.requires.kind (is_of_witness c)

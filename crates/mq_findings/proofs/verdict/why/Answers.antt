@@ -1,8 +1,10 @@
-use Rattle.std.proofs.Common.{rules}
+use Rattle.std.proofs.Common.{ap, sym, ◌∙◌}
+use Rattle.std.specs.Option.{option_copied}
+use Rattle.mq_findings.specs.Reasons.{is_grant}
+use Rattle.mq_findings.proofs.DeciderLemmas.{allowed_is}
 use Rattle.mq_findings.proofs.verdict.why.Goals as goal
 
-pub returns-clause-reason : goal.returns-clause-reason
-returns-clause-reason c = search rules
-
 pub returns-clause-allowed : goal.returns-clause-allowed
-returns-clause-allowed c = search rules
+returns-clause-allowed c = ap is_grant c.reason_for.ensures
+    ∙ sym (allowed_is c.args.rules c.args.rows.now c.args.client.now (option_copied c.args.user)
+    c.args.topic.now c.args.direction)

@@ -11,8 +11,8 @@ returns-in-Ok c =
     c.kind_if.ensures
     ∙ ap (λ b. kind_if b NoMark) (c.has_unmarked.ensures
     ∙ ap (λ rows. list_any (λ row. is_unmarked (row_view row)) rows) c.deref.ensures.value)
-    ∙ line_says c.args.line.now c.in-Ok.rows.items c.requires c.in-Ok.ensures.rows
+    ∙ line_says c.args.rules c.args.line.now c.in-Ok.rows.items c.requires c.in-Ok.ensures.rows
 
 pub returns-in_default : goal.returns-in_default
-returns-in_default c = line_fails c.args.line.now c.in-Err.fault c.requires c.in_default.not-Memory
+returns-in_default c = line_fails c.args.rules c.args.line.now c.in-Err.fault c.requires c.in_default.not-Memory
     c.in-Err.ensures.rows

@@ -58,7 +58,7 @@ loop-line-preserved c =
     let line : c.in-Some.line.now ≡ get_or (lines text) number c.in-Some.line.now =
     subst (λ n. c.in-Some.line.now ≡ get_or (lines text) n c.in-Some.line.now)
     (sym c.loop-line.invariant.count) turn.1 in
-    let rest = remarks_from (number + 1 + 1) (drop (number + 1) (lines text)) in
+    let rest = remarks_from c.args.rules (number + 1 + 1) (drop (number + 1) (lines text)) in
     record {
       can_next = tt;
       is_finite = tt;
@@ -66,14 +66,14 @@ loop-line-preserved c =
           c.loop-line.invariant.count in omega arith);
       told =
           ap (λ l. l ++ rest) c.in_ok-add_line.ensures
-          ∙ append_assoc c.loop-line.remarks.items (line_remarks (number + 1) c.in-Some.line.now)
+          ∙ append_assoc c.loop-line.remarks.items (line_remarks c.args.rules (number + 1) c.in-Some.line.now)
           rest
           ∙ ap (λ l. c.loop-line.remarks.items ++ l)
-          (sym (remarks_step (lines text) number c.in-Some.line.now left line))
+          (sym (remarks_step c.args.rules (lines text) number c.in-Some.line.now left line))
           ∙ c.loop-line.invariant.told;
     }
 
-all_told : (c : goal.In-None) → c.loop-line.remarks.items ≡ remarks_of c.args.text.now
+all_told : (c : goal.In-None) → c.loop-line.remarks.items ≡ remarks_of c.args.rules c.args.text.now
 all_told c =
     let text = c.args.text.now in
     let number = c.loop-line.number in
@@ -87,11 +87,11 @@ all_told c =
     (let count = c.loop-line.invariant.count in let all = end.1 in omega arith) in
     sym (append-nil c.loop-line.remarks.items)
     ∙ ap (λ l. c.loop-line.remarks.items ++ l)
-    (sym (at_drop_all (remarks_from (number + 1)) (lines text) number none_left))
+    (sym (at_drop_all (remarks_from c.args.rules (number + 1)) (lines text) number none_left))
     ∙ c.loop-line.invariant.told
 
 pub returns-clause-all : goal.returns-clause-all
 returns-clause-all c = all_told c
 
 pub returns-clause-faults : goal.returns-clause-faults
-returns-clause-faults c = ap faults_told (all_told c) ∙ faults_from 1 (lines c.args.text.now)
+returns-clause-faults c = ap faults_told (all_told c) ∙ faults_from c.args.rules 1 (lines c.args.text.now)

@@ -2,9 +2,11 @@ use Rattle.std.proofs.Common.{Bor, List, [], ◌∷◌, All, ◌∙◌, ap, refl
 use Rattle.mq_acl.specs.Rows.{AclRow}
 use Rattle.mq_acl.specs.Views.{row_view}
 use Rattle.mq_acl.specs.declared.row.Row.{Row}
-use Rattle.mq_witness.specs.Asked.{AskedRows, FindsNone}
+use Rattle.mq_acl.specs.declared.rules.Rules.{Rules}
+use Rattle.mq_witness.specs.Asked.{AskedRows}
 use Rattle.mq_witness.specs.Rows.{lent_rows}
-use Rattle.mq_lint.specs.Cases.{AreClasses, Finds, covers_access, maker_cover}
+use Rattle.mq_lint.specs.Needless.{may_make}
+use Rattle.mq_lint.specs.Cases.{AreClasses, Finds, FindsNone, covers_access, maker_cover}
 use Rattle.mq_lint.proofs.KindLemmas.{same_item}
 use Rattle.mq_lint.proofs.LoopLemmas.{all_done, all_more}
 use Rattle.mq_lint.proofs.MakerLemmas.{makes_needless, makes_nothing}
@@ -53,7 +55,8 @@ returns-clause-makes c = λ _.
     makes_needless asked row (row_view c.args.other.now) items
     (subst (AreClasses asked row.who) (sym c.deref-clients-items.ensures.value)
     c.in_ok-classes.ensures)
-    (sym c.is_opposed.ensures ∙ c.if-is_opposed.false)
+    (ap (λ (rules : Rules). may_make rules (row_view c.args.other.now) row)
+    (sym c.args.lint.now.is_lint.rules_are) ∙ (sym c.may_make.ensures ∙ c.if-not-may_make.false))
     (subst (λ (l : List AclRow). All (λ clients. FindsNone asked clients (row ∷ []) l) items)
     c.in_ok-cover.ensures
     (all_done (λ clients. FindsNone asked clients (row ∷ []) (lent_rows c.in_ok-cover.cover.items))

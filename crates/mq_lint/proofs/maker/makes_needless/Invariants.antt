@@ -1,6 +1,6 @@
 use Rattle.std.proofs.Common.{All, take, [], ◌∷◌}
 use Rattle.mq_acl.specs.Views.{row_view}
-use Rattle.mq_witness.specs.Asked.{FindsNone}
+use Rattle.mq_lint.specs.Cases.{FindsNone}
 use Rattle.mq_witness.specs.Rows.{lent_rows}
 use Rattle.mq_lint.proofs.maker.makes_needless.Given as goal
 

@@ -10,7 +10,7 @@ kind_of-requires-clause-line c = c.in_ok-line.ensures.line c.loop-place.invarian
 
 pub loop-place-preserved : goal.loop-place-preserved
 loop-place-preserved c = record {
-  kinds = one_more c.args.lint.now.rows.now c.loop-place.place c.loop-place.kinds.items
+  kinds = one_more c.args.lint.now.asked.rules c.args.lint.now.rows.now c.loop-place.place c.loop-place.kinds.items
       c.add_kind.new.kinds.items c.row-item.result c.in-Ok.kind c.in_ok-add_kind.ensures
       c.loop-place-test.true c.row-item.is c.in-Ok.ensures.kind c.loop-place.invariant.kinds;
   seen = subst (λ rows. AreSeen rows c.repeated.new.self)

@@ -2,7 +2,7 @@ use Rattle.std.proofs.Common.{[], ◌∙◌, subst, sym}
 use Rattle.mq_acl.specs.Views.{row_view}
 use Rattle.mq_acl.specs.declared.row.Row.{Row}
 use Rattle.mq_witness.specs.Asked.{AskedRows}
-use Rattle.mq_lint.specs.Cases.{AreClasses, NoneMeets, others_of}
+use Rattle.mq_lint.specs.Cases.{AreClasses, NoneMeets, others_of, permits}
 use Rattle.mq_lint.proofs.KindLemmas.{same_item}
 use Rattle.mq_lint.proofs.ListLemmas.{denies_none}
 use Rattle.mq_lint.proofs.LoopLemmas.{all_done, all_more}
@@ -12,18 +12,18 @@ pub loop-clients-preserved : goal.loop-clients-preserved
 loop-clients-preserved c =
     let q = c.in_ok-case.case.question in
     let row = row_view c.args.row.now in
-    all_more (λ clients. NoneMeets c.args.lint.now.asked clients row []
+    all_more (λ clients. NoneMeets c.args.lint.now.asked clients row permits []
     (others_of clients row c.args.lint.now.asked.rows))
     c.deref-clients-items.result.now c.loop-clients.clients-index q.clients
     c.loop-clients-test.true
     (c.in_ok-case.ensures.clients
     ∙ same_item c.deref-clients-items.result.now c.loop-clients.clients-index _ q.clients
     c.loop-clients-test.true)
-    (subst (λ (asked : AskedRows). NoneMeets asked q.clients row []
+    (subst (λ (asked : AskedRows). NoneMeets asked q.clients row permits []
     (others_of q.clients row asked.rows)) c.in_ok-case.ensures.asked
-    (subst (λ (r : Row). NoneMeets q.asked.now q.clients (row_view r) []
+    (subst (λ (r : Row). NoneMeets q.asked.now q.clients (row_view r) permits []
     (others_of q.clients (row_view r) q.asked.now.rows)) c.in_ok-case.ensures.row
-    (subst (NoneMeets q.asked.now q.clients (row_view q.row.now) []) c.in_ok-case.case.are_others
+    (subst (NoneMeets q.asked.now q.clients (row_view q.row.now) permits []) c.in_ok-case.case.are_others
     (c.in_ok-meets_grant.ensures.none c.if-branch.false))))
     c.loop-clients.invariant
 
@@ -36,5 +36,5 @@ returns-clause-none c = λ _.
     c.requires.denies
     (subst (AreClasses asked row.who) (sym c.deref-clients-items.ensures.value)
     c.in_ok-classes.ensures)
-    (all_done (λ clients. NoneMeets asked clients row [] (others_of clients row asked.rows)) items
+    (all_done (λ clients. NoneMeets asked clients row permits [] (others_of clients row asked.rows)) items
     c.loop-clients.clients-index c.loop-clients-test.false c.loop-clients.invariant)

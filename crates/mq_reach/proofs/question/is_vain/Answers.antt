@@ -9,8 +9,9 @@ returns-clause-err c =
     let user = option_copied c.args.user in
     let client = string_bytes c.args.subscription.now.client in
     let fault = c.in-Err.fault in
-    c.fault_of.ensures user
-    (subst (λ f. IsReachFault client user f fault)
+    c.fault_of.ensures c.args.list.now user
+    (subst (λ f. IsReachFault c.args.list.now client user f fault)
     (c.in_ok-filter.ensures.ok ∙ ap filter_part c.as_str.ensures.value)
-    (subst (λ l. IsReachFault l user c.in_ok-filter.filter fault) c.as_str-client.ensures.value
+    (subst (λ l. IsReachFault c.args.list.now l user c.in_ok-filter.filter fault)
+    c.as_str-client.ensures.value
     c.in-Err.ensures.fault))

@@ -1,5 +1,9 @@
-use Rattle.std.proofs.Common.{[], arith, sym}
+use Rattle.std.proofs.Common.{[], arith, sym, subst}
 use Rattle.std.proofs.lemmas.Result.{err_from_is_err_and}
+use Rattle.mq_acl.specs.AccessLists.{AccessList}
+use Rattle.mq_jsonl.specs.Lines.{all_lines}
+use Rattle.mq_reach.specs.Faults.{IsFaultAmong}
+use Rattle.mq_reach.specs.Subscriptions.{subscriptions}
 use Rattle.mq_reach.specs.Script.{TakesBytes, script_limit}
 use Rattle.mq_reach.proofs.FaultLemmas.{script_fault, stopped}
 use Rattle.mq_reach.proofs.ScriptLemmas.{HoldsScript-start}
@@ -12,9 +16,9 @@ finish-requires g c = let lines = c.in_ok-read_lines.ensures.lines in omega arit
 pub returns-clause-ok : goal.returns-clause-ok
 unfolding TakesBytes
 returns-clause-ok g c =
-    let rows = c.in_ok-list.list in
+    let list = c.in_ok-list.list in
     let read = c.in_ok-read_lines.ensures.ok in
-    let start = HoldsScript-start rows _ (c.new.ensures.searched rows) c.new-2.ensures.items in
+    let start = HoldsScript-start list _ (c.new.ensures.searched list) c.new-2.ensures.items in
     let is = c.in_ok-list.ensures.ok in
     (read.0, read.1, read.2, rw (sym is) (c.in_ok-finish.ensures.ok read.0 (read.3 [] start)))
 
@@ -24,7 +28,8 @@ returns-in_err-read_lines-clause-err g c =
     c.from_residual-in_err-read_lines.ensures.1 in
     let list = c.in_ok-list.list in
     let start = HoldsScript-start list _ (c.new.ensures.searched list) c.new-2.ensures.items in
-    rw (fault.1, fault.2) (stopped c.args.rows.now list _ _ _ _ start
+    rw (fault.1, fault.2) (stopped c.args.rules c.args.rows.now list _ _ _ _
+    c.in_ok-list.ensures.ok start
     c.in_err-read_lines.ensures.err)
 
 pub returns-in_err-finish-clause-err : goal.returns-in_err-finish-clause-err
@@ -38,6 +43,8 @@ returns-in_err-finish-clause-err g c =
     rw (fault.1, fault.2) (
       read.0,
       read.1,
-      script_fault c.args.rows.now read.0 _
-          (c.in_err-finish.ensures.err read.0 (read.3 [] start)),
+      script_fault c.args.rules c.args.rows.now read.0 _
+          (subst (λ (l : AccessList). IsFaultAmong l (subscriptions (all_lines read.0))
+          c.in_err-finish.field-0.0) c.in_ok-list.ensures.ok
+          (c.in_err-finish.ensures.err read.0 (read.3 [] start))),
     )

@@ -36,6 +36,6 @@ returns-in_err-take_line-clause-err c = λ script holds.
     (not_nil_from_count c.args.reading.line.len c.args.reading.line.items
     (let v = c.args.reading.line.ok.0 in omega arith)
     (sym c.is_empty.ensures ∙ c.if-is_empty.false))
-    (λ before is. subst (λ l. IsFaultAmong (subscriptions (before ++ l ∷ []))
+    (λ before is. subst (λ l. IsFaultAmong c.args.list.now (subscriptions (before ++ l ∷ []))
     c.in_err-take_line.field-0.0) c.as_slice.ensures.value
     (c.in_err-take_line.ensures.err before is)))

@@ -36,7 +36,8 @@ returns-in_err-ask-clause-err c =
     (let bound = c.requires i 0 c.loop-place-test.true in omega (arith, c.loop-place.auto.entries))
     in
     let fault = err_from_is_err_and c.from_residual.result c.from_residual.ensures.1 in
-    rw (fault.1, fault.2) (λ client is. fault-at client (option_copied c.args.user) entries
+    rw (fault.1, fault.2) (λ client is. fault-at c.args.list.now client
+    (option_copied c.args.user) entries
     c.args.entries.now places i entry _ c.loop-place.invariant.told c.loop-place.invariant.count
     c.loop-place-test.true within is c.in_err-ask.ensures.err)
 

@@ -11,7 +11,8 @@ pub loop-row-preserved-in_default : goal.loop-row-preserved-in_default
 loop-row-preserved-in_default c =
     let rows = c.args.rows.now in
     let i = c.loop-row.row-index in
-    cover_skip (option_copied c.args.user) c.args.dollar c.args.must.now (lent_rows rows)
+    cover_skip c.args.front (option_copied c.args.user)
+    c.args.dollar c.args.must.now (lent_rows rows)
     (lent_rows (drop i rows)) (lent_rows (drop (i + 1) rows)) (row_view c.row-item.result.now)
     c.loop-row.roots.items
     (left_first rows i c.row-item.result c.loop-row-test.true c.row-item.is)
@@ -22,7 +23,8 @@ pub loop-row-preserved-then-not-may_meet_all : goal.loop-row-preserved-then-not-
 loop-row-preserved-then-not-may_meet_all c =
     let rows = c.args.rows.now in
     let i = c.loop-row.row-index in
-    cover_skip (option_copied c.args.user) c.args.dollar c.args.must.now (lent_rows rows)
+    cover_skip c.args.front (option_copied c.args.user)
+    c.args.dollar c.args.must.now (lent_rows rows)
     (lent_rows (drop i rows)) (lent_rows (drop (i + 1) rows)) (row_view c.row-item.result.now)
     c.loop-row.roots.items
     (left_first rows i c.row-item.result c.loop-row-test.true c.row-item.is)
@@ -34,7 +36,8 @@ pub loop-row-preserved : goal.loop-row-preserved
 loop-row-preserved c =
     let rows = c.args.rows.now in
     let i = c.loop-row.row-index in
-    cover_more (option_copied c.args.user) c.args.dollar c.args.must.now (lent_rows rows)
+    cover_more c.args.front (option_copied c.args.user)
+    c.args.dollar c.args.must.now (lent_rows rows)
     (lent_rows (drop i rows)) (lent_rows (drop (i + 1) rows)) (row_view c.row-item.result.now)
     c.loop-row.roots.items c.push.new.self.items c.in-Some.root
     (left_first rows i c.row-item.result c.loop-row-test.true c.row-item.is)

@@ -9,7 +9,8 @@ pub returns-in_default-clause-none : goal.returns-in_default-clause-none
 returns-in_default-clause-none c =
     let rows = c.args.rows.now in
     let i = c.loop-row.row-index in
-    must_none (option_copied c.args.user) c.args.dollar (lent_rows rows) (lent_rows (drop i rows))
+    must_none c.args.front (option_copied c.args.user)
+    c.args.dollar (lent_rows rows) (lent_rows (drop i rows))
     (lent_rows (drop (i + 1) rows)) (row_view c.row-item.result.now) c.loop-row.roots.items
     (left_first rows i c.row-item.result c.loop-row-test.true c.row-item.is)
     c.in_default.ensures.none c.loop-row.invariant
@@ -18,7 +19,8 @@ pub loop-row-preserved : goal.loop-row-preserved
 loop-row-preserved c =
     let rows = c.args.rows.now in
     let i = c.loop-row.row-index in
-    must_more (option_copied c.args.user) c.args.dollar (lent_rows rows) (lent_rows (drop i rows))
+    must_more c.args.front (option_copied c.args.user)
+    c.args.dollar (lent_rows rows) (lent_rows (drop i rows))
     (lent_rows (drop (i + 1) rows)) (row_view c.row-item.result.now) c.loop-row.roots.items
     c.push.new.self.items c.in-Some.root
     (left_first rows i c.row-item.result c.loop-row-test.true c.row-item.is)

@@ -5,5 +5,5 @@ use Rattle.mq_witness.proofs.RootLemmas.{IsMustSoFar}
 use Rattle.mq_witness.proofs.roots.must_roots.Given as goal
 
 abbrev pub invariant-loop-row : goal.invariant-loop-row
-invariant-loop-row l = IsMustSoFar (option_copied l.user) l.dollar (lent_rows l.rows)
+invariant-loop-row l = IsMustSoFar l.front (option_copied l.user) l.dollar (lent_rows l.rows)
     (lent_rows (drop l.row-index l.rows)) l.roots.items

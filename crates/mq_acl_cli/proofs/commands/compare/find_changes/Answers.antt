@@ -2,6 +2,7 @@ use Rattle.std.proofs.Common.{◌∙◌, rules, subst, sym}
 use Rattle.std.proofs.lemmas.Result.{IfOk-from_err}
 use Rattle.mq_findings.specs.Faults.{IsComparisonFault}
 use Rattle.mq_acl_cli.specs.Answers.{AreRows}
+use Rattle.mq_acl_cli.proofs.CompareLemmas.{allow_same}
 use Rattle.mq_acl_cli.proofs.commands.compare.find_changes.Goals as goal
 
 pub returns-in-Ok-clause-ok : goal.returns-in-Ok-clause-ok
@@ -12,17 +13,19 @@ returns-in-Ok-clause-ok c = record {
   real = search rules;
   once = search rules;
   marked = search rules;
-  same = search rules;
+  same = λ none. allow_same c.args.rules c.in_ok-old_rows.old_rows.items
+      c.in_ok-new_rows.new_rows.items
+      (rw (c.deref.ensures.value, c.deref-2.ensures.value) at c.in-Ok.ensures.same none);
 }
 
 pub comparison_failure-requires-clause-old : goal.comparison_failure-requires-clause-old
 comparison_failure-requires-clause-old c =
-    subst (AreRows c.args.old.text.now) (sym c.deref-in-Err.ensures.value)
+    subst (AreRows c.args.rules c.args.old.text.now) (sym c.deref-in-Err.ensures.value)
     c.in_ok-old_rows.ensures.ok
 
 pub comparison_failure-requires-clause-new : goal.comparison_failure-requires-clause-new
 comparison_failure-requires-clause-new c =
-    subst (AreRows c.args.new.text.now) (sym c.deref-in-Err-2.ensures.value)
+    subst (AreRows c.args.rules c.args.new.text.now) (sym c.deref-in-Err-2.ensures.value)
     c.in_ok-new_rows.ensures.ok
 
 pub returns-in-Ok-clause-err : goal.returns-in-Ok-clause-err
@@ -42,7 +45,7 @@ returns-in_err-new_rows-clause-ok c =
 pub returns-clause-err : goal.returns-clause-err
 returns-clause-err c =
     c.comparison_failure.ensures c.args.steps
-    (subst (λ old. IsComparisonFault old c.deref-in-Err-2.result.now c.args.steps c.in-Err.fault)
+    (subst (λ old. IsComparisonFault c.args.rules old c.deref-in-Err-2.result.now c.args.steps c.in-Err.fault)
     (c.deref.ensures.value ∙ sym c.deref-in-Err.ensures.value)
-    (subst (λ new. IsComparisonFault c.deref.result.now new c.args.steps c.in-Err.fault)
+    (subst (λ new. IsComparisonFault c.args.rules c.deref.result.now new c.args.steps c.in-Err.fault)
     (c.deref-2.ensures.value ∙ sym c.deref-in-Err-2.ensures.value) c.in-Err.ensures.fault))

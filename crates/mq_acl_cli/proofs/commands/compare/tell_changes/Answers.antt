@@ -9,10 +9,10 @@ for_each (Err e) Q h = h e
 
 pub returns-clause-ok : goal.returns-clause-ok
 returns-clause-ok g c =
-    let is = compared c.args.old.text.now c.args.new.text.now c.in_ok-changes.changes
+    let is = compared c.args.options.rules c.args.old.text.now c.args.new.text.now c.in_ok-changes.changes
     c.outcome_of-outcome.result c.in_ok-changes.ensures.ok
-    (λ e. sym c.deref.ensures.value ∙ c.outcome_of-outcome.ensures.clear e)
-    (λ e none. c.outcome_of-outcome.ensures.remark e (c.deref.ensures.value ∙ none)) in
+    (λ e. sym c.deref-4.ensures.value ∙ c.outcome_of-outcome.ensures.clear e)
+    (λ e none. c.outcome_of-outcome.ensures.remark e (c.deref-4.ensures.value ∙ none)) in
     IfOk-weaker c.print_outcome.result _ _ (λ told e. rw e is) c.print_outcome.ensures.ok
 
 pub returns-in_err-changes-clause-unread : goal.returns-in_err-changes-clause-unread

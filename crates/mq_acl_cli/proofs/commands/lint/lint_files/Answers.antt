@@ -1,11 +1,12 @@
-use Rattle.std.proofs.Common.{ap, refl}
+use Rattle.std.proofs.Common.{◌∙◌, ap, refl}
 use Rattle.mq_acl_cli.proofs.FilesLemmas.{kept_among, kept_more, linted_all, linted_more, linted_none}
 use Rattle.mq_acl_cli.proofs.commands.lint.lint_files.Goals as goal
 
 pub loop-file-init : goal.loop-file-init
 loop-file-init g c = record {
   kept = λ none. refl;
-  linted = linted_none (g.I.Read.remaining c.args.input.now);
+  quiet = λ own. refl;
+  linted = linted_none c.args.options.rules (g.I.Read.remaining c.args.input.now);
 }
 
 pub loop-file-preserved : goal.loop-file-preserved
@@ -16,9 +17,10 @@ loop-file-preserved g c =
     record {
       kept = kept_more c.args.input.now at.input c.lint_file.new.input files at.file-index _
           c.loop-file-test.true at.invariant.kept c.lint_file.ensures.kept;
+      quiet = λ own. c.in_ok-next.ensures.quiet own ∙ at.invariant.quiet own;
       linted =
           rw c.and-outcome.ensures
-          (linted_more (known c.args.input.now) (known at.input) files at.file-index _ at.outcome
+          (linted_more c.args.options.rules (known c.args.input.now) (known at.input) files at.file-index _ at.outcome
           c.in_ok-next.next c.loop-file-test.true c.requires (λ none. ap known (at.invariant.kept none))
           at.invariant.linted
           c.in_ok-next.ensures.ok);
@@ -26,7 +28,7 @@ loop-file-preserved g c =
 
 pub returns-clause-ok : goal.returns-clause-ok
 returns-clause-ok g c =
-    linted_all (g.I.Read.remaining c.args.input.now) c.args.files.now c.loop-file.file-index
+    linted_all c.args.options.rules (g.I.Read.remaining c.args.input.now) c.args.files.now c.loop-file.file-index
     c.loop-file.outcome c.loop-file-test.false c.loop-file.invariant.linted
 
 pub returns-in_err-next-clause-kept : goal.returns-in_err-next-clause-kept

@@ -5,7 +5,7 @@ use Rattle.mq_acl_cli.proofs.commands.reach.tell_reach.Goals as goal
 
 pub returns-clause-ok : goal.returns-clause-ok
 returns-clause-ok g c =
-    let is = reached c.args.list.text.now c.args.client.id.now (option_copied c.args.client.user)
+    let is = reached c.args.options.rules c.args.list.text.now c.args.client.id.now (option_copied c.args.client.user)
     c.args.subscription.now
     c.in_ok-found.found c.outcome_of-outcome.result c.in_ok-found.ensures.ok
     c.outcome_of-outcome.ensures.clear

@@ -16,8 +16,8 @@ returns-in-Ok-clause-ok g c =
       found.0,
       found.1,
       found.2,
-      subst (FindsVain text found.0) (sym is.0)
-          (finds text found.0 c.in_ok-rows.rows.items c.in-Ok.findings c.in_ok-rows.ensures.ok
+      subst (FindsVain c.args.rules text found.0) (sym is.0)
+          (finds c.args.rules text found.0 c.in_ok-rows.rows.items c.in-Ok.findings c.in_ok-rows.ensures.ok
           found.3 is.1),
     )) c.unless_no_command.ensures.ok
 
@@ -25,7 +25,7 @@ pub returns-in-Ok-clause-err : goal.returns-in-Ok-clause-err
 returns-in-Ok-clause-err g c =
     let found = c.in-Ok.ensures.ok in
     IfErr-weaker c.unless_no_command.result _ _ (λ failure is.
-    inr (no_command c.args.script _ _ found.0 c.in-Ok.findings failure found.1 found.2
+    inr (no_command c.args.rules c.args.list.text.now c.args.script _ _ found.0 c.in-Ok.findings failure found.1 found.2
     found.3.counts is.0 is.1))
     c.unless_no_command.ensures.err
 
@@ -37,5 +37,5 @@ returns-clause-err g c =
     let before = g.R.Read.remaining c.args.reader.now in
     let after = g.R.Read.remaining c.find_vain.new.reader in
     c.script_failure.ensures before after
-    (subst (λ rows. IsScriptFault rows before after c.in-Err.fault)
+    (subst (λ rows. IsScriptFault c.args.rules rows before after c.in-Err.fault)
     (c.deref.ensures.value ∙ sym c.deref-in-Err.ensures.value) c.in-Err.ensures.err)

@@ -6,4 +6,5 @@ pub returns-clause-needless : goal.returns-clause-needless
 returns-clause-needless c = λ none.
     let q = c.args.self.now.question in
     needless_to q.asked.now q.clients (row_view q.row.now)
-    (c.in_ok-grants_more.ensures.needless c.if-branch.false) (c.in_ok-more.ensures.needless none)
+    (c.in_ok-is_needed_in.ensures.needless c.if-branch.false)
+    (c.in_ok-needed.ensures.needless none)

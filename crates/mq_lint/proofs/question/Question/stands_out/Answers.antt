@@ -4,4 +4,4 @@ use Rattle.mq_lint.proofs.question.Question.stands_out.Goals as goal
 
 pub meets-requires-clause-must : goal.meets-requires-clause-must
 meets-requires-clause-must c =
-    let q = c.args.self.now in row_asked q.asked.now q.clients (row_view q.row.now) q.can_ask
+    let q = c.args.self.now in row_asked q.rules q.asked.now q.clients (row_view q.row.now) q.can_ask

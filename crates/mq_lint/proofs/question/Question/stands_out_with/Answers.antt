@@ -5,5 +5,5 @@ use Rattle.mq_lint.proofs.question.Question.stands_out_with.Goals as goal
 pub meets-requires-clause-must : goal.meets-requires-clause-must
 meets-requires-clause-must c =
     let q = c.args.self.now in
-    pair_asked q.asked.now q.clients (row_view q.row.now) (row_view c.args.other.now) q.can_ask
+    pair_asked q.rules q.asked.now q.clients (row_view q.row.now) (row_view c.args.other.now) q.can_ask
     c.requires.other

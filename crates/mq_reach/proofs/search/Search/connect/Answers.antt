@@ -39,7 +39,7 @@ returns-in_err-take_over-clause-err c =
     (sym c.is_client_id.ensures ∙ c.if-not-is_client_id.false)
     (ap is_user_name (sym same) ∙ sym c.is_user_name.ensures ∙ c.if-not-is_user_name.false))
     told.0
-    (subst (λ u. IsFaultOpen c.args.client.now u c.args.self.now.tracked
+    (subst (λ u. IsFaultOpen c.args.list.now c.args.client.now u c.args.self.now.tracked
     c.in_err-take_over.field-0.0) again told.1))
 
 pub returns-clause-ok : goal.returns-clause-ok

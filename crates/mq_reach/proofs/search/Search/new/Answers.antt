@@ -5,7 +5,7 @@ use Rattle.mq_reach.proofs.search.Search.new.Goals as goal
 
 pub returns-clause-searched : goal.returns-clause-searched
 unfolding fresh_world
-returns-clause-searched c = λ rows. record {
+returns-clause-searched c = λ list. record {
   is_world = record { sessions = c.new.ensures; moment = c.start.ensures };
   tracked = c.new-2.ensures;
   counts = record {

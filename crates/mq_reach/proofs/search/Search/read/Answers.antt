@@ -38,5 +38,6 @@ returns-in-Err-clause-kind c =
 pub returns-in-Err-clause-err : goal.returns-in-Err-clause-err
 returns-in-Err-clause-err c = λ before is.
     if_err_then c.no_command.result
-    (λ fault h. subst (IsFaultAmong (subscriptions (before ++ c.args.line.now ∷ []))) (sym h) tt)
+    (λ fault h. subst (IsFaultAmong c.args.list.now
+    (subscriptions (before ++ c.args.line.now ∷ []))) (sym h) tt)
     c.no_command.ensures.err

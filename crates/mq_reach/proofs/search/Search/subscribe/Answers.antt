@@ -36,7 +36,8 @@ returns-in_err-vain-clause-err c = λ options e.
     rw (fault.1, fault.2) (subscribe-fails c.args.list.now (string_bytes c.args.client)
     (string_bytes c.args.filter) options c.args.self.now told c.in_err-vain.field-0.0
     (ap (option_map subscription_view) (sym c.in-Some.is) ∙ c.in_ok-subscription.ensures options e)
-    (subst (λ u. IsAskFault told u c.in_err-vain.field-0.0) user c.in_err-vain.ensures.err))
+    (subst (λ u. IsAskFault c.args.list.now told u c.in_err-vain.field-0.0) user
+    c.in_err-vain.ensures.err))
 
 pub returns-then-not-vain-clause-ok : goal.returns-then-not-vain-clause-ok
 returns-then-not-vain-clause-ok c = λ options e.

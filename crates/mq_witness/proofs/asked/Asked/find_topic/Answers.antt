@@ -11,8 +11,8 @@ use Rattle.mq_witness.proofs.asked.Asked.find_topic.Goals as goal
 
 pub invariant_of-one : goal.invariant_of-one
 invariant_of-one c =
-    let can = subst (λ (s : AskedRows). CanAnswer s.rows c.self.inside.texts c.self.inside.longest
-    c.self.inside.users) c.self.view_is c.self.invariant in
+    let can = subst (λ (s : AskedRows). CanAnswer s.rows c.self.inside.texts c.self.inside.dollar
+    c.self.inside.longest c.self.inside.users) c.self.view_is c.self.invariant.0 in
     record {
       ready = ready_for c.self.inside.longest c.fresh.result can.longer c.fresh.ensures
           c.args.client.now (option_copied c.args.user) (lent_rows c.args.must.now)

@@ -1,3 +1,4 @@
+use Rattle.std.proofs.Common.{false}
 use Rattle.std.specs.Option.{option_copied}
 use Rattle.std.proofs.lemmas.Result.{IfOk-weaker}
 use Rattle.mq_witness.specs.Answers.{Asks}
@@ -11,14 +12,14 @@ returns-in_default-clause-none c =
     let s = c.args.self.now in
     no_topic s.client.now (option_copied s.user) c.args.dollar (lent_rows s.must.now)
     (lent_rows s.cover.now)
-    (none_at c.in_ok-question.field-0 _ c.in_default.is c.in_ok-question.ensures.none)
+    (none_at c.in_ok-posed.posed _ c.in_default.is c.in_ok-posed.ensures.none)
 
 pub returns-clause-none : goal.returns-clause-none
 returns-clause-none c =
     let s = c.args.self.now in
-    let asks = some_at c.in_ok-question.field-0 c.in-Some.question
-    (Asks s.fresh (option_copied s.user) c.args.dollar (lent_rows s.must.now)
-    (lent_rows s.cover.now)) c.in-Some.is c.in_ok-question.ensures.some in
+    let asks = some_at c.in_ok-posed.posed c.in-Some.question
+    (Asks false (record { plain = s.fresh; dollar = s.fresh }) (option_copied s.user)
+    c.args.dollar (lent_rows s.must.now) (lent_rows s.cover.now)) c.in-Some.is c.in_ok-posed.ensures.some in
     IfOk-weaker c.name.result _ _ (λ found. none_weaker found
     (topic_missed s.fresh s.client.now (option_copied s.user) c.args.dollar (lent_rows s.must.now)
     (lent_rows s.cover.now) c.in-Some.question asks _
@@ -28,9 +29,9 @@ returns-clause-none c =
 pub returns-clause-some : goal.returns-clause-some
 returns-clause-some c =
     let s = c.args.self.now in
-    let asks = some_at c.in_ok-question.field-0 c.in-Some.question
-    (Asks s.fresh (option_copied s.user) c.args.dollar (lent_rows s.must.now)
-    (lent_rows s.cover.now)) c.in-Some.is c.in_ok-question.ensures.some in
+    let asks = some_at c.in_ok-posed.posed c.in-Some.question
+    (Asks false (record { plain = s.fresh; dollar = s.fresh }) (option_copied s.user)
+    c.args.dollar (lent_rows s.must.now) (lent_rows s.cover.now)) c.in-Some.is c.in_ok-posed.ensures.some in
     IfOk-weaker c.name.result _ _ (λ found. some_weaker found
     (topic_hit s.fresh s.client.now (option_copied s.user) c.args.dollar (lent_rows s.must.now)
     (lent_rows s.cover.now) c.in-Some.question asks _

@@ -1,0 +1,353 @@
+"""Random small lists asked by mqroute-acl, beside a test of every client, user and topic of few
+levels (plain_lists.py)."""
+import itertools
+import json
+import pathlib
+import random
+import subprocess
+
+from plain_lists import accesses, allowed, deciding, filter_matches, rows_of
+
+PROGRAM = pathlib.Path(__file__).resolve().parent.parent / "bin/mqroute-acl"
+
+FAULTY_LINES = ["x", '{"do":"melt"}', '{"do":"connect"}', '{"do":"stat","extra":1}', "[]",
+                '{"do":"subscribe","client":"c1"}']
+
+
+def run(words, folder, given=""):
+    return subprocess.run(
+        [PROGRAM, *words], cwd=folder, input=given, capture_output=True, text=True, timeout=60)
+
+
+LEVELS = ["a", "b", "", "$s", "c1", "u1"]
+USERS = [None, "u1", "u2", "zz"]
+# Names that no question but those about one client is asked for by mosquitto's rules.
+ODD_NAMES = ["a/b", "c1/u1", "a+", "#"]
+CLIENTS = ["c1", "a", "u1", "q", "$s"]
+TOPICS = sorted(
+    {"/".join(levels) for count in (1, 2)
+     for levels in itertools.product(LEVELS + ["x", "$x"], repeat=count)} - {""}
+    | {*CLIENTS, *(user for user in USERS if user)}
+    | {"/".join(levels) for levels in itertools.product(["a", "", "$s", "c1", "u1"], repeat=3)})
+
+
+def random_filter(chance, is_pattern):
+    levels = [chance.choice(LEVELS + ["+", "+"] + (["%c", "%u"] if is_pattern else []))
+              for _ in range(chance.randint(1, 3))]
+    if chance.random() < 0.35:
+        levels[-1] = "#"
+    return "/".join(levels) or "a"
+
+
+def random_list(chance):
+    lines = []
+    for _ in range(chance.randint(0, 6)):
+        if chance.random() < 0.2:
+            lines.append("user " + chance.choice(["u1", "u2", "a"]))
+        is_pattern = chance.random() < 0.4
+        access = chance.choice(["read", "write", "readwrite", "deny"])
+        lines.append(
+            f"{'pattern' if is_pattern else 'topic'} {access} {random_filter(chance, is_pattern)}")
+    return lines
+
+
+def near(chance, lines):
+    """The list, with a line or two more or less."""
+    lines = list(lines)
+    for _ in range(chance.randint(0, 2)):
+        if lines and chance.random() < 0.5:
+            lines.pop(chance.randrange(len(lines)))
+        else:
+            lines[chance.randint(0, len(lines)):0] = random_list(chance)[:1]
+    return lines
+
+
+def number_of(row):
+    return row and row.number
+
+
+def faults_of_told(rules, told, old, new):
+    """What is wrong with a difference that is told."""
+    client, user, topic, access = told["client"], told["user"], told["topic"], told["access"]
+    by_old, by_new = (allowed(rules, rows, client, user, topic, access) for rows in (old, new))
+    if (by_old, by_new) != ((False, True) if told["change"] == "gained" else (True, False)):
+        yield "is none"
+    for rows, line in ((old, told["old"]), (new, told["new"])):
+        row, _ = deciding(rules, rows, client, user, topic, access)
+        if line_of(line) != number_of(row):
+            yield f"is decided by {row}"
+
+
+def line_of(line):
+    return line and line["line"]
+
+
+def notes_of(rules, name, rows):
+    """What is noted of a list with pattern lines, of which there are few."""
+    numbers = [str(row.number) for row in rows if row.is_pattern]
+    if not rules.words or not numbers:
+        return ""
+    return (f"mqroute-acl: {name} has pattern lines ({', '.join(numbers)}): the answer is for "
+            "client ids and user names without /, + and #\n")
+
+
+def faults_of_compare(rules, folder, old, new):
+    """Of each class of clients, access and way a difference is listed; and where no line has a
+    mark, of each pair of lines that decides."""
+    done = run(["compare", *rules.words, "--json", "old.acl", "new.acl"], folder)
+    told = [json.loads(line) for line in done.stdout.splitlines()]
+    old_rows, new_rows = rows_of(old), rows_of(new)
+    for difference in told:
+        for fault in faults_of_told(rules, difference, old_rows, new_rows):
+            yield f"{difference} {fault}"
+    notes = notes_of(rules, "old.acl", old_rows) + notes_of(rules, "new.acl", new_rows)
+    if (done.returncode, done.stderr) != (1 if told else 0, notes):
+        yield f"status {done.returncode}: {done.stderr}"
+    named = {row.user for row in old_rows + new_rows} - {None}
+    by_lines = "%" not in old + new
+
+    def kind(user, access, change, *lines):
+        whom = user if user is None or user in named else "other users"
+        return (whom, access, change, *lines) if by_lines else (whom, access, change)
+
+    kinds = {kind(d["user"], d["access"], d["change"], line_of(d["old"]), line_of(d["new"]))
+             for d in told}
+    for user, client, topic in itertools.product(USERS, CLIENTS, TOPICS):
+        by_old = accesses(rules, old_rows, client, user, topic)
+        by_new = accesses(rules, new_rows, client, user, topic)
+        for access in by_old ^ by_new:
+            lines = [number_of(deciding(rules, rows, client, user, topic, access)[0])
+                     for rows in (old_rows, new_rows)]
+            if kind(user, access, "gained" if access in by_new else "lost", *lines) not in kinds:
+                yield (f"{user} differs in {access} {topic} as {client} by lines {lines}, which "
+                       "isn't listed")
+                return
+
+
+def faults_of_known_pairs(rules, folder):
+    """Names that begin with `$` beside others; and as many differences as a list has lines."""
+    many = "".join(f"topic read a/{place}\n" for place in range(1000))
+    for old, new, count in (
+            ("topic read a\n", "topic read a\ntopic read b\ntopic read $SYS/#\n", 2),
+            (many, "topic read b\n", 1001)):
+        pathlib.Path(folder, "old.acl").write_text(old)
+        pathlib.Path(folder, "new.acl").write_text(new)
+        yield from faults_of_compare(rules, folder, old, new)
+        told = run(["compare", *rules.words, "old.acl", "new.acl"], folder)
+        told = told.stdout.splitlines()[-1:]
+        whose = " by mosquitto's rules" if rules.words else ""
+        if told != [f"{count} differences{whose}"]:
+            yield f"compare: {told}, not {count} differences"
+
+
+def asked_of(question, rules, client, user, topic):
+    """The words of a question about one client."""
+    named = [] if user is None else [f"--user={user}"]
+    return [question, *rules.words, "--json", "old.acl", *named, "--", client, topic]
+
+
+def faults_of_why(rules, folder, chance, text):
+    rows = rows_of(text)
+    client, user = chance.choice([*CLIENTS, *ODD_NAMES]), chance.choice([*USERS, *ODD_NAMES])
+    topic = chance.choice(TOPICS)
+    words = asked_of("why", rules, client, user, topic)
+    done = run(words, folder)
+    told = [json.loads(line) for line in done.stdout.splitlines()]
+    if done.returncode != 0 or [each["access"] for each in told] != ["read", "write"]:
+        yield f"{words}: status {done.returncode}: {done.stdout}{done.stderr}"
+        return
+    for each in told:
+        row, grant = deciding(rules, rows, client, user, topic, each["access"])
+        deny = row if row and row.access == "deny" else None
+        wanted = number_of(deny), number_of(grant)
+        if (line_of(each["deny"]), line_of(each["grant"])) != wanted:
+            yield f"{words}: {each}, not {deny} and {grant}"
+        if each["allowed"] != allowed(rules, rows, client, user, topic, each["access"]):
+            yield f"{words}: {each}"
+
+
+def faults_of_reach(rules, folder, chance, text):
+    rows = rows_of(text)
+    client, user = chance.choice([*CLIENTS, *ODD_NAMES]), chance.choice([*USERS, *ODD_NAMES])
+    wanted = random_filter(chance, False)
+    share = chance.choice(["", "", "$share/g/"])
+    words = asked_of("reach", rules, client, user, share + wanted)
+    done = run(words, folder)
+    told = json.loads(done.stdout)
+    if told["filter"] != share + wanted or done.returncode != (1 if told["topic"] is None else 0):
+        yield f"{words}: status {done.returncode}: {done.stdout}{done.stderr}"
+    for topic in TOPICS if told["topic"] is None else [told["topic"]]:
+        found = (filter_matches(wanted, topic)
+                 and allowed(rules, rows, client, user, topic, "read"))
+        if found == (told["topic"] is None):
+            yield f"{words}: {told}, and {topic} is {'' if found else 'not '}reached"
+            return
+
+
+# Topics with all that small lists and filters tell apart: no row has more than three levels, %c and
+# %u are names.
+NAMES = sorted({*LEVELS, *CLIENTS, *(user for user in USERS if user), "x", "$x"})
+DEEP = ["/".join(levels) for count in (2, 3) for levels in itertools.product(NAMES, repeat=count)]
+DEEP += [topic + "/x" for topic in DEEP]
+
+
+def is_reached(rules, rows, client, user, text):
+    """Whether the client may read some topic that the subscription's filter matches."""
+    wanted = text.split("/", 2)[2] if text.startswith("$share/") else text
+    return any(filter_matches(wanted, topic) and allowed(rules, rows, client, user, topic, "read")
+               for topics in (TOPICS, DEEP) for topic in topics)
+
+
+class Sessions:
+    """The sessions of clients, and each subscription with the user names of its session while that
+    keeps it."""
+
+    def __init__(self):
+        self.users, self.kept, self.connected, self.stays = {}, {}, set(), set()
+        self.subscriptions = []
+
+    def connect(self, client, user, resumes, stays):
+        self.disconnect(client)
+        if not resumes:
+            self.kept.pop(client, None)
+        self.users[client] = user
+        self.connected.add(client)
+        (self.stays.add if stays else self.stays.discard)(client)
+        for subscription in self.kept.setdefault(client, {}).values():
+            subscription[-1].append(user)
+
+    def disconnect(self, client):
+        if client in self.connected and client not in self.stays:
+            self.kept.pop(client, None)
+        self.connected.discard(client)
+
+    def subscribe(self, number, client, text):
+        if client in self.connected:
+            user = self.users[client]
+            self.kept[client][text] = (number, client, user, text, [user])
+            self.subscriptions.append(self.kept[client][text])
+
+    def unsubscribe(self, client, text):
+        if client in self.connected:
+            self.kept[client].pop(text, None)
+
+
+def random_script(chance):
+    """The lines of a script, its subscriptions, each with its line, client, user, filter and the
+    user names of its session, and its faulty lines."""
+    lines, sessions, faulty = [], Sessions(), []
+    for number in range(1, chance.randint(2, 18)):
+        client, user = chance.choice(CLIENTS), chance.choice(USERS)
+        known = [each[3] for each in sessions.subscriptions if each[1] == client]
+        kind = chance.random()
+        if kind < 0.35:
+            resumes, stays = chance.random() < 0.7, chance.random() < 0.7
+            sessions.connect(client, user, resumes, stays)
+            lines.append(
+                {"do": "connect", "client": client} | ({} if user is None else {"user": user})
+                | ({"clean": False} if resumes else {}) | ({"session_expiry": 9} if stays else {}))
+        elif kind < 0.42:
+            sessions.disconnect(client)
+            lines.append({"do": "disconnect", "client": client})
+        elif kind < 0.47 and known:
+            text = chance.choice(known)
+            sessions.unsubscribe(client, text)
+            lines.append({"do": "unsubscribe", "client": client, "filter": text})
+        elif kind < 0.8:
+            text = chance.choice(["", "", "$share/g/"]) + random_filter(chance, False)
+            if known and chance.random() < 0.2:
+                text = chance.choice(known)
+            lines.append({"do": "subscribe", "client": client, "filter": text})
+            sessions.subscribe(number, client, text)
+        elif kind < 0.9:
+            lines.append(chance.choice([{"do": "acl", "text": "topic deny #"},
+                                        {"do": "publish", "client": client, "topic": "a"}, ""]))
+        else:
+            lines.append(chance.choice(FAULTY_LINES))
+            faulty.append(number)
+    return ([line if isinstance(line, str) else json.dumps(line) for line in lines],
+            sessions.subscriptions, faulty)
+
+
+def no_command(name, script):
+    """What is told of a script without a command."""
+    lines = script.count("\n") + (script[-1:] not in ("", "\n"))
+    return f"mqroute-acl: {name}: no line of {lines} is a command\n"
+
+
+def faults_of_script(rules, folder, chance, text):
+    rows = rows_of(text)
+    lines, subscriptions, faulty = random_script(chance)
+    script = "\n".join(lines) + chance.choice(["", "\n", "\n\n"])
+    pathlib.Path(folder, "s.jsonl").write_text(script)
+    vain = [(number, client, user, text) for number, client, user, text, users in subscriptions
+            if not any(is_reached(rules, rows, client, name, text) for name in users)]
+    done = run(["reach", *rules.words, "--json", "old.acl", "--script", "s.jsonl"], folder)
+    if all(line in ("", *FAULTY_LINES) for line in lines):
+        if (done.returncode, done.stdout, done.stderr) != (2, "", no_command("s.jsonl", script)):
+            yield f"reach --script: status {done.returncode}: {done.stdout}{done.stderr}\n{script}"
+        return
+    *told, counts = [json.loads(line) for line in done.stdout.splitlines()] or [None]
+    wanted = {"in_vain": len(vain), "subscriptions": len(subscriptions), "no_commands": len(faulty),
+              "first_no_command": faulty[0] if faulty else None}
+    if done.returncode != (1 if vain else 0) or done.stderr or counts != wanted:
+        yield (f"reach --script: status {done.returncode}, {counts}, not {wanted}: {done.stderr}\n"
+               f"{script}")
+    found = [(each["line"], each["client"], each["user"], each["filter"]) for each in told]
+    if found != vain or any(each["file"] != "s.jsonl" for each in told):
+        yield f"reach --script: {told}, not {vain}\n{script}"
+
+
+def faults_of_needless(rules, folder, lines):
+    """Lines that repeat others are listed, and no others as such. What a line denies that is listed
+    as denying nothing, no line grants. Without a line that is listed as needless, and those that
+    repeat it, a list allows the same."""
+    done = run(["lint", *rules.words, "--json", "old.acl"], folder)
+    told = [json.loads(line) for line in done.stdout.splitlines()]
+    counted = [each for each in told if each["kind"] not in ("denies nothing", "empty")]
+    if (done.returncode != (1 if counted else 0)
+            or any(each["kind"] not in ("needless", "repeats", "no mark") for each in counted)):
+        yield f"lint: status {done.returncode}: {done.stdout}{done.stderr}"
+    rows = rows_of("\n".join(lines))
+    if [each for each in told if each["kind"] == "empty"] and rows:
+        yield f"lint: {lines} allow something"
+    of_kind = {kind: {each["line"]: each["other"] for each in told if each["kind"] == kind}
+               for kind in ("needless", "repeats", "denies nothing")}
+    repeats = {}
+    for place, row in enumerate(rows):
+        first = next((other.number for other in rows[:place] if other.same(row)), None)
+        if first is not None:
+            repeats[row.number] = first
+    if of_kind["repeats"] != repeats:
+        yield f"lint: {of_kind['repeats']}, not {repeats}"
+    for row in rows:
+        others = [other for other in rows if not other.same(row)]
+        grants = [other for other in others if other.access != "deny"]
+        for user, client, topic in itertools.product(USERS, CLIENTS, TOPICS):
+            if (row.number in of_kind["denies nothing"]
+                    and rules.covers(row, client, user, topic)
+                    and any(rules.covers(other, client, user, topic) for other in grants)):
+                yield f"lint: line {row.number} denies {user} {topic} as {client}"
+                break
+            if (row.number in of_kind["needless"]
+                    and accesses(rules, rows, client, user, topic)
+                    != accesses(rules, others, client, user, topic)):
+                yield f"lint: line {row.number} isn't needless: {user} {topic} as {client}"
+                break
+
+
+def faults_of_random(rules, folder, count):
+    for seed in range(count):
+        chance = random.Random(seed)
+        lines = random_list(chance)
+        others = near(chance, lines) if chance.random() < 0.7 else random_list(chance)
+        old, new = "\n".join(lines), "\n".join(others)
+        pathlib.Path(folder, "old.acl").write_text(old)
+        pathlib.Path(folder, "new.acl").write_text(new)
+        faults = itertools.chain(
+            faults_of_compare(rules, folder, old, new), faults_of_why(rules, folder, chance, old),
+            faults_of_reach(rules, folder, chance, old),
+            faults_of_script(rules, folder, chance, old),
+            faults_of_needless(rules, folder, lines))
+        for fault in faults:
+            yield f"seed {seed}: {' '.join(rules.words)} {fault}\n{old}\n--\n{new}"
