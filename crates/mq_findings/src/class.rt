@@ -1,7 +1,9 @@
 ghost use Rattle.std.specs.Prelude.{◌≡◌};
 ghost use Rattle.std.specs.Option.{option_copied};
 ghost use Rattle.mq_findings.specs.Classes.{class_order, user_of};
+ghost use Rattle.mq_findings.specs.Questions.{class_of};
 
+use mq_witness::Clients;
 use std::cmp::Ordering;
 
 /// The clients that a difference concerns.
@@ -37,5 +39,16 @@ impl Class {
             (Class::Anonymous, _) | (_, Class::Others(_)) => Ordering::Less,
             _ => Ordering::Greater,
         }
+    }
+}
+
+/// The class of clients of which one has this user name, or none.
+pub fn class_of(clients: Clients, user: Option<String>) -> Class
+    ensures { result ≡ class_of clients.entry user }
+{
+    match (clients, user) {
+        (Clients::Named(_), Some(user)) => Class::User(user),
+        (Clients::Others, Some(user)) => Class::Others(user),
+        _ => Class::Anonymous,
     }
 }

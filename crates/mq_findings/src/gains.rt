@@ -16,7 +16,7 @@ ghost use Rattle.mq_findings.specs.Ranks.{rank};
 ghost use Rattle.mq_findings.specs.Reports.{Grows, IsSound};
 ghost use Rattle.std.specs.Prelude.{None};
 
-use crate::class::Class;
+use crate::class::class_of;
 use crate::difference::Difference;
 use crate::fault::{ComparisonFault, Side};
 use crate::judges::{Judges, add_rows};
@@ -75,17 +75,6 @@ fn cover_of<'a>(alloc: Global, gain: &Gain<'_, 'a>) -> Result<Vec<&'a Row>, Allo
     add_rows(&mut rows, gain.judging)?;
     add_rows(&mut rows, gain.before)?;
     Ok(rows)
-}
-
-// The class of the clients with the user name of a witness.
-fn class_of(clients: Clients, user: Option<String>) -> Class
-    ensures { result ≡ class_of clients.entry user }
-{
-    match (clients, user) {
-        (Clients::Named(_), Some(user)) => Class::User(user),
-        (Clients::Others, Some(user)) => Class::Others(user),
-        _ => Class::Anonymous,
-    }
 }
 
 // What decides in the old list and in the new one.

@@ -22,13 +22,13 @@ mod way;
 
 pub use by_owner::ByOwner;
 pub use changes::compare;
-pub use class::Class;
+pub use class::{Class, class_of};
 pub use difference::Difference;
 pub use fault::{ComparisonFault, Side};
 pub use group::{Group, gather};
 pub use marks::{Marked, same_owner};
 pub use ranks::{is_judge, rank};
 pub use reason::Reason;
-pub use steps::enough_steps;
+pub use steps::{Steps, enough_steps};
 pub use verdict::{Verdict, why};
 pub use way::Way;

@@ -16,6 +16,16 @@ pub enum Reason {
     NoGrant,
 }
 
+impl Reason {
+    /// The line that decides, if one does.
+    pub fn line(self) -> Option<u64> {
+        match self {
+            Reason::Deny(line) | Reason::Grant(line) => Some(line),
+            Reason::NoGrant => None,
+        }
+    }
+}
+
 fn reason_by(decider: Option<&Row>) -> Reason
     ensures { result ≡ reason_by (option_copied decider.entry) }
 {

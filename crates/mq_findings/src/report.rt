@@ -5,13 +5,14 @@ ghost use Rattle.mq_findings.specs.Differences.{is_like};
 ghost use Rattle.mq_findings.specs.Reports.{IsLast, added};
 
 use crate::difference::Difference;
+use crate::steps::Steps;
 use std::alloc::{AllocError, Global};
 use std::cmp::Ordering;
 
 /// The differences that are told, and the steps that are left.
 pub(crate) struct Report {
     pub differences: Vec<Difference>,
-    pub steps: u64,
+    pub steps: Steps,
     // The place of the first one of the last class: those before it are of classes before that.
     last: usize,
     ghost is_last: { IsLast differences.items last },
@@ -40,7 +41,7 @@ impl Report {
     {
         Report {
             differences: Vec::new(alloc),
-            steps,
+            steps: Steps::new(steps),
             last: 0,
         }
     }
@@ -50,14 +51,7 @@ impl Report {
         ensures same { self.new.differences ≡ self.old.differences }
         ensures refused { result ≡ false → limited ≡ true }
     {
-        if !limited {
-            return true;
-        }
-        let Some(left) = self.steps.checked_sub(steps) else {
-            return false;
-        };
-        self.steps = left;
-        true
+        self.steps.spend(limited, steps)
     }
 
     // Those of the differences that are told that this one may be like. They come class by class, so that these are few.

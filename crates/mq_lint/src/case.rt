@@ -13,9 +13,8 @@ ghost use Rattle.mq_lint.specs.Cases.{Precedes, is_at, is_before, others_of, per
 use crate::fault::NeedlessFault;
 use crate::question::Question;
 use crate::same::same_row;
-use crate::steps::Steps;
 use mq_acl::{Direction, Row, Rules, is_deny};
-use mq_findings::{Marked, is_judge, rank};
+use mq_findings::{Marked, Steps, is_judge, rank};
 use std::alloc::{AllocError, Global};
 
 // Ranks are below it.

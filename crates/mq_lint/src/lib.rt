@@ -12,9 +12,9 @@ mod question;
 mod remark;
 mod repeats;
 mod same;
-mod steps;
 
 pub use fault::NeedlessFault;
 pub use lint::remarks;
 pub use needless_lines::needless;
 pub use remark::{Remark, RemarkKind};
+pub use same::same_row;

@@ -14,9 +14,8 @@ ghost use Rattle.mq_lint.specs.Cases.{MissesRow, may_be_for};
 use crate::fault::NeedlessFault;
 use crate::linted::Lint;
 use crate::same::same_row;
-use crate::steps::Steps;
 use mq_acl::{Access, Direction, Owner, Row, Rules, grants, is_deny};
-use mq_findings::rank;
+use mq_findings::{Steps, rank};
 use mq_witness::{Clients, may_overlap};
 use std::alloc::{AllocError, Global};
 

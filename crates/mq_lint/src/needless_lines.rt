@@ -17,8 +17,8 @@ use crate::linted::Lint;
 use crate::maker::maker;
 use crate::remark::{Remark, RemarkKind};
 use crate::repeats::Seen;
-use crate::steps::Steps;
 use mq_acl::{Row, Rules, is_deny};
+use mq_findings::Steps;
 use std::alloc::{AllocError, Global};
 
 // Whether the list without the row allows some clients something else.

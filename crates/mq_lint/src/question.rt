@@ -6,8 +6,8 @@ ghost use Rattle.mq_witness.specs.Ruled.{FindsNoneBy};
 ghost use Rattle.mq_lint.specs.Cases.{CanAsk, Finds, FindsNone};
 
 use crate::fault::NeedlessFault;
-use crate::steps::Steps;
 use mq_acl::{Row, Rules};
+use mq_findings::Steps;
 use mq_witness::{Asked, Clients};
 use std::alloc::{AllocError, Global};
 

@@ -14,7 +14,7 @@ fn same_access(left: Access, right: Access) -> bool
 }
 
 /// Whether both are for the same clients, with the same access and the same filter.
-pub(crate) fn same_row(left: &Row, right: &Row) -> bool
+pub fn same_row(left: &Row, right: &Row) -> bool
     ensures { result ≡ same_row (row_view left.now) (row_view right.now) }
 {
     same_access(left.access, right.access)

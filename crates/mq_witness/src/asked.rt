@@ -9,7 +9,7 @@ ghost use Rattle.mq_acl.specs.Access.{begins_with_dollar};
 ghost use Rattle.mq_acl.specs.declared.rules.Rules.TheVariants as rules;
 ghost use Rattle.mq_cover.specs.Names.{can_be_level};
 ghost use Rattle.mq_witness.specs.Clients.{name_passes};
-ghost use Rattle.mq_witness.specs.Ruled.{FindsNoneBy, ShowsBy, StandsBy, has_patterns};
+ghost use Rattle.mq_witness.specs.Ruled.{FindsNoneBy, ShowsBy, StandsBy, are_whole, has_patterns};
 ghost use Rattle.mq_witness.specs.Asked.{AreLevels, FindsNone, FindsNoneIn, IsListed, Knows, Shows};
 ghost use Rattle.mq_witness.specs.Asked.{ShowsIn, Stands, StandsIn, is_made_up};
 ghost use Rattle.mq_witness.specs.Limits.{IsFault, long_line};
@@ -128,6 +128,7 @@ impl<'a> Asked<'a> {
     pub fn of(alloc: Global, rules: Rules, lists: Vec<&'a [Row]>) -> Result<Asked<'a>, ListFault>
         ensures rules { IfOk result (λ asked. asked.rules ≡ rules) }
         ensures rows { IfOk result (λ asked. asked.rows ≡ all_rows lists.entry.items) }
+        ensures whole { IfOk result (λ asked. are_whole rules asked.rows ≡ true) }
         ensures short { IfOk result (λ _. All (λ list. long_line list.now ≡ None)
             lists.entry.items) }
         ensures fault { IfErr result (IsFault rules lists.entry.items) }

@@ -22,5 +22,6 @@ mod witness;
 pub use asked::Asked;
 pub use clients::Clients;
 pub use fault::{LimitFault, ListFault};
-pub use roots::may_overlap;
+pub use patterns::{has_pattern, is_pattern};
+pub use roots::{begins_with_mark, may_overlap};
 pub use witness::Witness;

@@ -14,13 +14,14 @@ use mq_acl::{Owner, Row, Rules};
 use mq_topic::LevelText;
 
 /// Whether the row is for all clients.
-pub(crate) fn is_pattern(owner: &Owner) -> bool
+pub fn is_pattern(owner: &Owner) -> bool
     ensures { result ≡ is_everyones (owner_view owner.now) }
 {
     matches!(owner, Owner::Everyone)
 }
 
-fn any_pattern(rows: &[Row]) -> bool
+/// Whether one of the rows is for all clients.
+pub fn has_pattern(rows: &[Row]) -> bool
     ensures { result ≡ has_patterns (row_views rows.now) }
 {
     for row in rows {
@@ -36,7 +37,7 @@ pub(crate) fn has_patterns(lists: &[&[Row]]) -> bool
     ensures { result ≡ has_patterns (all_rows lists.now) }
 {
     for rows in lists {
-        if any_pattern(rows) {
+        if has_pattern(rows) {
             return true;
         }
     }

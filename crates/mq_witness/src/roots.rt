@@ -55,7 +55,8 @@ fn is_mark(level: &str) -> bool
     level == "%c" || level == "%u"
 }
 
-fn begins_with_mark(row: &Row) -> bool
+/// Whether the row is for all clients, and the first level of its filter is a mark.
+pub fn begins_with_mark(row: &Row) -> bool
     ensures { result ≡ begins_with_mark (row_view row.now) }
 {
     let (level, _) = split_first(row.filter.text());

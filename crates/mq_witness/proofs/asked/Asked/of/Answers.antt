@@ -36,3 +36,8 @@ invariant_of-result c =
         c.has_patterns-patterns.ensures ∙ ap (λ k. has_patterns (all_rows k)) c.deref-3.ensures.value,
       ),
     )
+
+pub returns-clause-whole : goal.returns-clause-whole
+returns-clause-whole c =
+    ap (λ k. are_whole c.args.rules (all_rows k)) (sym c.deref-2.ensures.value)
+    ∙ none_at c.marked.result _ c.in_default-marked.is c.marked.ensures.whole

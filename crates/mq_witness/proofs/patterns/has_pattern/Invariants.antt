@@ -1,7 +1,7 @@
 use Rattle.std.proofs.Common.{◌≡◌, drop}
 use Rattle.mq_acl.specs.Views.{row_views}
 use Rattle.mq_witness.specs.Ruled.{has_patterns}
-use Rattle.mq_witness.proofs.patterns.any_pattern.Given as goal
+use Rattle.mq_witness.proofs.patterns.has_pattern.Given as goal
 
 -- of the rows that are left one is for all clients just where one of all is
 abbrev pub invariant-loop-row : goal.invariant-loop-row

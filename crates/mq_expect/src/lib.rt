@@ -1,0 +1,13 @@
+//! Files of expectations of access lists: what a line says.
+#![tactic(auto)]
+
+mod entry;
+mod excepted;
+mod expectation;
+mod fault;
+mod read;
+mod words;
+
+pub use expectation::{Claim, Expectation, Holds, Numbered, Whom};
+pub use fault::ExpectationKind;
+pub use read::read_expectations;

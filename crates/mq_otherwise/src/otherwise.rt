@@ -1,0 +1,34 @@
+use mq_acl::Direction;
+use mq_findings::{Class, Reason};
+use mq_topic::TopicName;
+
+/// Where mosquitto's rules decide otherwise than our own.
+#[derive(Debug)]
+pub struct Otherwise {
+    /// Of which clients it is told.
+    pub class: Class,
+    /// Whether the topic is read or written.
+    pub direction: Direction,
+    /// The client id of one of these clients; its user name is `class.user()`.
+    pub client: String,
+    /// The topic.
+    pub topic: TopicName,
+    /// What decides it by our own rules.
+    pub own: Reason,
+    /// What decides it by mosquitto's.
+    pub mosquitto: Reason,
+}
+
+// One step where it is dropped, and not one for each thing inside.
+impl Drop for Otherwise {
+    fn drop(self) {
+        let Otherwise {
+            class: _,
+            direction: _,
+            client: _,
+            topic: _,
+            own: _,
+            mosquitto: _,
+        } = self;
+    }
+}

@@ -1,0 +1,4 @@
+pub mod MadeLemmas
+pub mod ListingLemmas
+pub mod ExtentLemmas
+pub mod ClaimLemmas
