@@ -6,6 +6,7 @@ import pathlib
 import random
 import subprocess
 
+from asked_lists import cases_of, faults_of_notes, faults_of_who, number_of
 from plain_lists import accesses, allowed, deciding, filter_matches, rows_of
 
 PROGRAM = pathlib.Path(__file__).resolve().parent.parent / "bin/mqroute-acl"
@@ -29,6 +30,9 @@ TOPICS = sorted(
      for levels in itertools.product(LEVELS + ["x", "$x"], repeat=count)} - {""}
     | {*CLIENTS, *(user for user in USERS if user)}
     | {"/".join(levels) for levels in itertools.product(["a", "", "$s", "c1", "u1"], repeat=3)})
+
+
+CASES = cases_of(USERS, CLIENTS, TOPICS)
 
 
 def random_filter(chance, is_pattern):
@@ -62,10 +66,6 @@ def near(chance, lines):
     return lines
 
 
-def number_of(row):
-    return row and row.number
-
-
 def faults_of_told(rules, told, old, new):
     """What is wrong with a difference that is told."""
     client, user, topic, access = told["client"], told["user"], told["topic"], told["access"]
@@ -82,13 +82,21 @@ def line_of(line):
     return line and line["line"]
 
 
-def notes_of(rules, name, rows):
-    """What is noted of a list with pattern lines, of which there are few."""
+def limit_of(name, rows):
+    """What is noted by mosquitto's rules of a list with pattern lines, of which there are few."""
     numbers = [str(row.number) for row in rows if row.is_pattern]
-    if not rules.words or not numbers:
+    if not numbers:
         return ""
     return (f"mqroute-acl: {name} has pattern lines ({', '.join(numbers)}): the answer is for "
             "client ids and user names without /, + and #\n")
+
+
+def faults_of_noted(rules, noted, lists, is_linted=False):
+    """What is wrong with the notes on lists by name."""
+    if not rules.words:
+        yield from faults_of_notes(noted, lists, CASES, is_linted)
+    elif noted != "".join(limit_of(name, rows) for name, rows in lists.items()):
+        yield f"noted: {noted}"
 
 
 def faults_of_compare(rules, folder, old, new):
@@ -100,9 +108,15 @@ def faults_of_compare(rules, folder, old, new):
     for difference in told:
         for fault in faults_of_told(rules, difference, old_rows, new_rows):
             yield f"{difference} {fault}"
-    notes = notes_of(rules, "old.acl", old_rows) + notes_of(rules, "new.acl", new_rows)
-    if (done.returncode, done.stderr) != (1 if told else 0, notes):
-        yield f"status {done.returncode}: {done.stderr}"
+    if done.returncode != (1 if told else 0):
+        yield f"status {done.returncode}"
+    yield from faults_of_noted(rules, done.stderr, {"old.acl": old_rows, "new.acl": new_rows})
+    for way in ("gained", "lost"):
+        done = run(["compare", *rules.words, "--json", "--only", way, "old.acl", "new.acl"], folder)
+        wanted = [each for each in told if each["change"] == way]
+        if ([json.loads(line) for line in done.stdout.splitlines()], done.returncode) != (
+                wanted, 1 if wanted else 0):
+            yield f"--only {way}: status {done.returncode}: {done.stdout}"
     named = {row.user for row in old_rows + new_rows} - {None}
     by_lines = "%" not in old + new
 
@@ -162,8 +176,12 @@ def faults_of_why(rules, folder, chance, text):
         wanted = number_of(deny), number_of(grant)
         if (line_of(each["deny"]), line_of(each["grant"])) != wanted:
             yield f"{words}: {each}, not {deny} and {grant}"
-        if each["allowed"] != allowed(rules, rows, client, user, topic, each["access"]):
+        may = allowed(rules, rows, client, user, topic, each["access"])
+        if each["allowed"] != may:
             yield f"{words}: {each}"
+        asked = run([*words[:-3], "--may", each["access"], *words[-3:]], folder)
+        if asked.returncode != (0 if may else 1) or asked.stdout != done.stdout:
+            yield f"{words} --may {each['access']}: status {asked.returncode}"
 
 
 def faults_of_reach(rules, folder, chance, text):
@@ -290,9 +308,10 @@ def faults_of_script(rules, folder, chance, text):
     *told, counts = [json.loads(line) for line in done.stdout.splitlines()] or [None]
     wanted = {"in_vain": len(vain), "subscriptions": len(subscriptions), "no_commands": len(faulty),
               "first_no_command": faulty[0] if faulty else None}
-    if done.returncode != (1 if vain else 0) or done.stderr or counts != wanted:
-        yield (f"reach --script: status {done.returncode}, {counts}, not {wanted}: {done.stderr}\n"
-               f"{script}")
+    if done.returncode != (1 if vain else 0) or counts != wanted:
+        yield f"reach --script: status {done.returncode}, {counts}, not {wanted}\n{script}"
+    if not rules.words:
+        yield from faults_of_noted(rules, done.stderr, {"old.acl": rows})
     found = [(each["line"], each["client"], each["user"], each["filter"]) for each in told]
     if found != vain or any(each["file"] != "s.jsonl" for each in told):
         yield f"reach --script: {told}, not {vain}\n{script}"
@@ -309,6 +328,7 @@ def faults_of_needless(rules, folder, lines):
             or any(each["kind"] not in ("needless", "repeats", "no mark") for each in counted)):
         yield f"lint: status {done.returncode}: {done.stdout}{done.stderr}"
     rows = rows_of("\n".join(lines))
+    yield from faults_of_noted(rules, done.stderr, {"old.acl": rows}, is_linted=True)
     if [each for each in told if each["kind"] == "empty"] and rows:
         yield f"lint: {lines} allow something"
     of_kind = {kind: {each["line"]: each["other"] for each in told if each["kind"] == kind}
@@ -348,6 +368,8 @@ def faults_of_random(rules, folder, count):
             faults_of_compare(rules, folder, old, new), faults_of_why(rules, folder, chance, old),
             faults_of_reach(rules, folder, chance, old),
             faults_of_script(rules, folder, chance, old),
-            faults_of_needless(rules, folder, lines))
+            faults_of_needless(rules, folder, lines),
+            faults_of_who(rules, run, folder, random_filter(chance, True), rows_of(old), CASES,
+                          chance.choice([["-"], ["u1"], ["*"], ["-", "u2", "*"]])))
         for fault in faults:
             yield f"seed {seed}: {' '.join(rules.words)} {fault}\n{old}\n--\n{new}"

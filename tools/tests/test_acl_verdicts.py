@@ -18,8 +18,8 @@ class Deciding(Compared):
     """The lines of both lists, by a program that stands for mqroute-acl."""
     ASKED = '''#!/usr/bin/env python3
 import json, sys
-why, flag, *user, end, file, client, topic = sys.argv[1:]
-assert (why, flag, end) == ("why", "--json", "--"), sys.argv
+why, flag, rules, *user, end, file, client, topic = sys.argv[1:]
+assert (why, flag, rules, end) == ("why", "--json", "--rules=own", "--"), sys.argv
 open(sys.argv[0] + ".asked", "a").write(f"{file} {client} {user} {topic}\\n")
 lists, name = {}, None
 for number, line in enumerate(open(file).read().splitlines(), 1):

@@ -93,7 +93,7 @@ class Pages(unittest.TestCase):
 
 
 # The programs, each with the source of the texts that it tells on standard error.
-TOLD = {"mqroute": "mq_cli/src/failure.rt", "mqroute-acl": "mq_acl_cli/src/failure.rt"}
+TOLD = {"mqroute": "mq_cli/src/failure.rt", "mqroute-acl": "mq_acl_answers/src/failure.rt"}
 
 
 def diagnostics(program: str) -> list[str]:
@@ -126,6 +126,18 @@ class Diagnostics(unittest.TestCase):
             for line in (line for head, line in zip(lines, lines[1:]) if head == ".TP"):
                 with self.subTest(program, line=line):
                     self.assertTrue(any(re.fullmatch(pattern(text), line) for text in told))
+
+    def test_each_note_is_explained(self):
+        """What mqroute-acl notes beside an answer, without what is put in."""
+        noted = (TOP / "docs/mqroute-acl.1").read_text("utf-8").split(".SH NOTES\n")[1].split(
+            "\n.SH")[0].replace("\\-", "-")
+        texts = [text for name in ("cases", "otherwise") for text in re.findall(
+            r'"(?:mqroute-acl: )?\{file\}[^"]*?: ([^"]*mosquitto 2\.0[^"{]*)',
+            (TOP / f"crates/mq_acl_answers/src/{name}.rt").read_text("utf-8"))]
+        self.assertGreater(len(texts), 5)
+        for text in texts:
+            with self.subTest(text=text):
+                self.assertIn(text.strip(": ").removesuffix(" after"), noted)
 
     def test_each_kind_of_fault_is_explained(self):
         kinds = re.findall(r"^    (\w+),$", (TOP / "crates/mq_acl/src/fault.rt").read_text(

@@ -1,11 +1,12 @@
 //! Where two lists differ, in words and as JSON.
+use crate::deciding::{Side, decision, line_if};
 use crate::json::{Datum, add_object};
-use crate::list::{Line, Lines, ListText, lines_of};
+use crate::list::{Lines, ListText, lines_of};
 use crate::notes::notes_on;
 use crate::table::{add_cell, widened};
-use crate::who::who_text;
+use crate::who::group_text;
 use mq_acl::{Direction, Rules};
-use mq_findings::{Difference, Group, Reason, Way, gather};
+use mq_findings::{Difference, Group, Way, gather};
 use mq_topic::LevelText;
 use std::alloc::{AllocError, Global};
 
@@ -14,6 +15,8 @@ use std::alloc::{AllocError, Global};
 pub struct Scope {
     /// Whose.
     pub rules: Rules,
+    /// Of which differences alone it is told, if not of all.
+    pub only: Option<Way>,
     /// Whether client ids and user names with `/`, `+` or `#` are left out.
     pub is_limited: bool,
 }
@@ -42,19 +45,6 @@ impl Drop for ChangeRow<'_> {
     }
 }
 
-// What decides in one of the lists.
-struct Side<'a> {
-    place: String,
-    words: &'a str,
-}
-
-// One step where it is dropped, and not one for each thing inside.
-impl Drop for Side<'_> {
-    fn drop(self) {
-        let Side { place: _, words: _ } = self;
-    }
-}
-
 #[derive(Clone, Copy, Drop)]
 struct Widths {
     who: usize,
@@ -72,40 +62,6 @@ fn access_words(direction: Direction, way: Way) -> &'static str {
     }
 }
 
-fn deciding_line(reason: Reason) -> Option<u64> {
-    match reason {
-        Reason::Deny(line) | Reason::Grant(line) => Some(line),
-        Reason::NoGrant => None,
-    }
-}
-
-fn line_if<'a>(lines: Lines<'a, 'a, 'a>, reason: Reason) -> Option<Line<'a>> {
-    let number = deciding_line(reason)?;
-    Some(Line {
-        file: lines.file,
-        number,
-        text: lines.line(number),
-    })
-}
-
-fn decision<'a>(
-    alloc: Global,
-    lines: Lines<'a, 'a, 'a>,
-    reason: Reason,
-) -> Result<Side<'a>, AllocError> {
-    let file = lines.file;
-    match deciding_line(reason) {
-        Some(line) => Ok(Side {
-            place: format!(in alloc; "{file}:{line}")?,
-            words: lines.line(line),
-        }),
-        None => Ok(Side {
-            place: String::from_str(alloc, file)?,
-            words: "no line allows it",
-        }),
-    }
-}
-
 fn change_row<'a>(
     alloc: Global,
     old: Lines<'a, 'a, 'a>,
@@ -114,7 +70,7 @@ fn change_row<'a>(
 ) -> Result<ChangeRow<'a>, AllocError> {
     let difference = &group.first;
     Ok(ChangeRow {
-        who: who_text(alloc, group)?,
+        who: group_text(alloc, group)?,
         access: access_words(difference.direction, difference.way),
         topic: difference.topic.text(),
         notes: notes_on(alloc, difference)?,
@@ -165,19 +121,29 @@ fn add_row(text: &mut String, row: &ChangeRow<'_>, widths: Widths) -> Result<(),
     add_side(text, &row.new, widths.place)
 }
 
-fn table(alloc: Global, rules: Rules, rows: &[ChangeRow<'_>]) -> Result<String, AllocError> {
+// What so many rows are.
+fn what(count: usize, only: Option<Way>) -> &'static str {
+    match only {
+        None if count == 1 => "difference",
+        None => "differences",
+        Some(Way::Gained) => "gained",
+        Some(Way::Lost) => "lost",
+    }
+}
+
+fn table(alloc: Global, scope: Scope, rows: &[ChangeRow<'_>]) -> Result<String, AllocError> {
     let widths = widths_of(rows);
     let mut text = String::new(alloc);
     for row in rows {
         add_row(&mut text, row, widths)?;
     }
     let count = rows.len();
-    let plural = if count == 1 { "" } else { "s" };
-    let whose = match rules {
+    let what = what(count, scope.only);
+    let whose = match scope.rules {
         Rules::Own => "",
         Rules::Mosquitto => " by mosquitto's rules",
     };
-    writeln!(text, "{count} difference{plural}{whose}")?;
+    writeln!(text, "{count} {what}{whose}")?;
     Ok(text)
 }
 
@@ -229,7 +195,7 @@ fn json_lines(
 
 fn words<'a>(
     alloc: Global,
-    rules: Rules,
+    scope: Scope,
     old: Lines<'a, 'a, 'a>,
     new: Lines<'a, 'a, 'a>,
     groups: &'a [Group],
@@ -238,11 +204,20 @@ fn words<'a>(
     for group in groups {
         rows.push(change_row(alloc, old, new, group)?)?;
     }
-    table(alloc, rules, &rows)
+    table(alloc, scope, &rows)
 }
 
-// That the lists don't differ.
-fn same_text(alloc: Global, scope: Scope) -> Result<String, AllocError> {
+// Adds that the lists allow the same, or that one of them allows nothing that the other doesn't.
+fn add_none(text: &mut String, only: Option<Way>, old: &str, new: &str) -> Result<(), AllocError> {
+    match only {
+        None => text.push_str("both lists allow the same"),
+        Some(Way::Gained) => write!(text, "{new} allows nothing that {old} doesn't"),
+        Some(Way::Lost) => write!(text, "{old} allows nothing that {new} doesn't"),
+    }
+}
+
+// That the lists don't differ, or not in the way that is asked about.
+fn none_text(alloc: Global, scope: Scope, old: &str, new: &str) -> Result<String, AllocError> {
     let whose = match scope.rules {
         Rules::Own => "mqroute's own",
         Rules::Mosquitto => "mosquitto's",
@@ -252,10 +227,14 @@ fn same_text(alloc: Global, scope: Scope) -> Result<String, AllocError> {
     } else {
         ""
     };
-    format!(in alloc;
-        "by {whose} rules both lists allow the same, on every topic, \
-         to every client id and user name{which} a broker can have\n"
-    )
+    let every = if scope.only.is_none() { "every" } else { "any" };
+    let mut text = format!(in alloc; "by {whose} rules ")?;
+    add_none(&mut text, scope.only, old, new)?;
+    writeln!(
+        text,
+        ", on {every} topic, to {every} client id and user name{which} a broker can have"
+    )?;
+    Ok(text)
 }
 
 /// Where the lists differ: as a table of differences that are alike, or as JSON, one difference a line.
@@ -281,8 +260,8 @@ pub fn changes_text(
         return json_lines(alloc, old, new, &differences);
     }
     if differences.is_empty() {
-        return same_text(alloc, scope);
+        return none_text(alloc, scope, old.file, new.file);
     }
     let groups = gather(alloc, differences)?;
-    words(alloc, scope.rules, old, new, &groups)
+    words(alloc, scope, old, new, &groups)
 }

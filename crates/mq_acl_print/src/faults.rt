@@ -1,20 +1,30 @@
 //! What is wrong with a line, in words.
-use mq_acl::AclKind;
+use mq_acl::{AclKind, Rules};
 use std::alloc::{AllocError, Global};
 
-// The first word of a line without the blanks round it, and what follows it and its blanks.
-fn split_word(text: &str) -> (&str, &str) {
-    let is_blank = |c: char| c == ' ' || c == '\t';
-    match text.split_once(is_blank) {
-        Some((word, rest)) => (word, rest.trim_start_matches(is_blank)),
+// Whether the rules part words at this character.
+fn is_blank(rules: Rules, c: char) -> bool {
+    c == ' ' || (c == '\t' && rules == Rules::Own)
+}
+
+// The line without what these rules drop at its ends.
+fn trimmed(rules: Rules, line: &str) -> &str {
+    line.trim_end()
+        .trim_start_matches(|c: char| is_blank(rules, c))
+}
+
+// The first word of a text that begins with none of its blanks, and what follows it and its blanks.
+fn split_word(rules: Rules, text: &str) -> (&str, &str) {
+    match text.split_once(|c: char| is_blank(rules, c)) {
+        Some((word, rest)) => (word, rest.trim_start_matches(|c: char| is_blank(rules, c))),
         None => (text, ""),
     }
 }
 
 // The topic of a line: what follows its keyword, and its access where one stands there.
-fn topic_in(line: &str) -> &str {
-    let (_, rest) = split_word(line);
-    match split_word(rest) {
+fn topic_in(rules: Rules, line: &str) -> &str {
+    let (_, rest) = split_word(rules, line);
+    match split_word(rules, rest) {
         (topic, "") => topic,
         (_, topic) => topic,
     }
@@ -24,20 +34,26 @@ fn no_such(alloc: Global, word: &str, what: &str) -> Result<String, AllocError> 
     format!(in alloc; "{word:?} is no {what}")
 }
 
-/// What is wrong with this line, which stands without the blanks round it.
-pub fn fault_words(alloc: Global, line: &str, kind: AclKind) -> Result<String, AllocError> {
-    let (keyword, rest) = split_word(line);
+/// What is wrong with this line by these rules.
+pub fn fault_words(
+    alloc: Global,
+    rules: Rules,
+    line: &str,
+    kind: AclKind,
+) -> Result<String, AllocError> {
+    let line = trimmed(rules, line);
+    let (keyword, rest) = split_word(rules, line);
     match kind {
         AclKind::Keyword => no_such(alloc, keyword, "keyword: topic, pattern or user"),
         AclKind::Access => {
-            let (access, _) = split_word(rest);
+            let (access, _) = split_word(rules, rest);
             no_such(alloc, access, "access: read, write, readwrite or deny")
         }
         AclKind::Topic if rest.is_empty() => String::from_str(alloc, "the topic is missing"),
-        AclKind::Topic => no_such(alloc, topic_in(line), "topic filter"),
+        AclKind::Topic => no_such(alloc, topic_in(rules, line), "topic filter"),
         AclKind::User => String::from_str(alloc, "the user name is missing"),
         AclKind::Pattern => {
-            let topic = topic_in(line);
+            let topic = topic_in(rules, line);
             format!(in alloc; "%c or %u is no whole level of {topic:?}")
         }
         AclKind::Memory => String::from_str(alloc, "out of memory"),

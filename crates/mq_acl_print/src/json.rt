@@ -3,6 +3,19 @@ use crate::list::Line;
 use serde_json::{Map, Value};
 use std::alloc::{AllocError, Global};
 
+/// What a client may not.
+#[derive(Clone, Copy)]
+pub struct Exception<'a> {
+    /// Its client id.
+    pub client: &'a str,
+    /// The line that denies it, if one does.
+    pub line: Option<Line<'a>>,
+    /// The topic.
+    pub topic: &'a str,
+    /// Its user name, if it has one.
+    pub user: Option<&'a str>,
+}
+
 /// What stands under a name; where there is none, it is null.
 #[derive(Clone, Copy)]
 pub enum Datum<'a> {
@@ -20,6 +33,8 @@ pub enum Datum<'a> {
     Flag(bool),
     /// A line of a list, if there is one: its file, its number, and the line as it stands.
     LineIf(Option<Line<'a>>),
+    /// An array of what clients may not, each an object.
+    Exceptions(&'a [Exception<'a>]),
 }
 
 fn push_text(alloc: Global, texts: &mut Vec<Value>, text: &str) -> Result<(), AllocError> {
@@ -65,14 +80,48 @@ fn line_value(alloc: Global, line: Line<'_>) -> Result<Value, AllocError> {
     Ok(Value::Object(members))
 }
 
+fn line_or_null(alloc: Global, line: Option<Line<'_>>) -> Result<Value, AllocError> {
+    match line {
+        Some(line) => line_value(alloc, line),
+        None => Ok(Value::Null),
+    }
+}
+
+fn text_or_null(alloc: Global, text: Option<&str>) -> Result<Value, AllocError> {
+    match text {
+        Some(text) => Value::try_from_str(alloc, text),
+        None => Ok(Value::Null),
+    }
+}
+
+fn exception_value(alloc: Global, exception: &Exception<'_>) -> Result<Value, AllocError> {
+    let line = line_or_null(alloc, exception.line)?;
+    let user = text_or_null(alloc, exception.user)?;
+    let mut members = Map::new(alloc);
+    put_text(alloc, &mut members, "client", exception.client)?;
+    put(alloc, &mut members, "line", line)?;
+    put_text(alloc, &mut members, "topic", exception.topic)?;
+    put(alloc, &mut members, "user", user)?;
+    Ok(Value::Object(members))
+}
+
+fn exceptions_value(alloc: Global, all: &[Exception<'_>]) -> Result<Value, AllocError> {
+    let mut values = Vec::new(alloc);
+    for exception in all {
+        values.push(exception_value(alloc, exception)?)?;
+    }
+    Ok(Value::Array(values))
+}
+
 fn datum_value(alloc: Global, datum: Datum<'_>) -> Result<Value, AllocError> {
     match datum {
         Datum::Text(text) | Datum::TextIf(Some(text)) => Value::try_from_str(alloc, text),
         Datum::Texts(texts) => texts_value(alloc, texts),
         Datum::Number(number) | Datum::NumberIf(Some(number)) => Ok(Value::from(number)),
         Datum::Flag(flag) => Ok(Value::Bool(flag)),
-        Datum::LineIf(Some(line)) => line_value(alloc, line),
-        Datum::TextIf(None) | Datum::NumberIf(None) | Datum::LineIf(None) => Ok(Value::Null),
+        Datum::LineIf(line) => line_or_null(alloc, line),
+        Datum::Exceptions(all) => exceptions_value(alloc, all),
+        Datum::TextIf(None) | Datum::NumberIf(None) => Ok(Value::Null),
     }
 }
 

@@ -2,6 +2,7 @@
 #![tactic(auto)]
 
 mod changes;
+mod deciding;
 mod explanation;
 mod faults;
 mod json;
@@ -9,6 +10,9 @@ mod lines;
 mod list;
 mod made_up;
 mod notes;
+mod permission_rows;
+mod permissions;
+mod refusals;
 mod subscriptions;
 mod table;
 mod topic;
@@ -19,5 +23,6 @@ pub use explanation::explanation_text;
 pub use faults::fault_words;
 pub use json::{Datum, add_object};
 pub use list::{Line, Lines, ListText, lines_of};
+pub use permissions::{Asked, permissions_text};
 pub use subscriptions::subscriptions_text;
 pub use topic::topic_text;

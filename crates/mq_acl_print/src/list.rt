@@ -11,10 +11,15 @@ pub struct ListText<'a, 't> {
 }
 
 impl<'a, 't> ListText<'a, 't> {
-    /// The line with this number, from 1, without the blanks round it; empty where there is none.
-    pub fn line(self, number: u64) -> &'t str {
+    /// The line with this number, from 1, as it stands; empty where there is none.
+    pub fn whole_line(self, number: u64) -> &'t str {
         let before = usize::try_from(number.saturating_sub(1)).unwrap_or(0);
-        self.text.split('\n').nth(before).unwrap_or("").trim()
+        self.text.split('\n').nth(before).unwrap_or("")
+    }
+
+    /// The line with this number, without the blanks round it.
+    pub fn line(self, number: u64) -> &'t str {
+        self.whole_line(number).trim()
     }
 }
 
@@ -48,12 +53,17 @@ pub struct Lines<'a, 'l, 't> {
 }
 
 impl<'a, 'l, 't> Lines<'a, 'l, 't> {
-    /// The line with this number, from 1, without the blanks round it; empty where there is none.
-    pub fn line(self, number: u64) -> &'t str {
+    /// The line with this number, from 1, as it stands; empty where there is none.
+    pub fn whole_line(self, number: u64) -> &'t str {
         let place = usize::try_from(number.saturating_sub(1)).unwrap_or(0);
         match self.lines.get(place) {
-            Some(line) => line.trim(),
+            Some(line) => *line,
             None => "",
         }
+    }
+
+    /// The line with this number, without the blanks round it.
+    pub fn line(self, number: u64) -> &'t str {
+        self.whole_line(number).trim()
     }
 }

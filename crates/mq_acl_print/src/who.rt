@@ -6,12 +6,8 @@ use std::alloc::{AllocError, Global};
 /// How many user names are told in a row.
 const MOST_NAMES: usize = 4;
 
-fn has_anonymous(group: &Group) -> bool {
-    matches!(group.first.class, Class::Anonymous)
-        || group
-            .others
-            .iter()
-            .any(|other| matches!(other.class, Class::Anonymous))
+fn has_anonymous(all: &[&Difference]) -> bool {
+    all.iter().any(|one| matches!(one.class, Class::Anonymous))
 }
 
 // Whether it is of all user names that no line is for: the one that it tells stands for them.
@@ -22,8 +18,8 @@ fn is_of_others(difference: &Difference) -> bool {
     }
 }
 
-fn has_others(group: &Group) -> bool {
-    is_of_others(&group.first) || group.others.iter().any(|other| is_of_others(other))
+fn has_others(all: &[&Difference]) -> bool {
+    all.iter().any(|one| is_of_others(one))
 }
 
 // The user name of a difference that is of this one alone: a line is for it, or names it as a level.
@@ -37,12 +33,11 @@ fn push_name<'a>(names: &mut Vec<&'a str>, difference: &'a Difference) -> Result
     Ok(())
 }
 
-// The user names in a group that it is of, each for itself.
-fn names<'a>(alloc: Global, group: &'a Group) -> Result<Vec<&'a str>, AllocError> {
+// The user names that they are of, each for itself.
+fn names<'a>(alloc: Global, all: &[&'a Difference]) -> Result<Vec<&'a str>, AllocError> {
     let mut names = Vec::new(alloc);
-    push_name(&mut names, &group.first)?;
-    for other in &group.others {
-        push_name(&mut names, other)?;
+    for one in all {
+        push_name(&mut names, one)?;
     }
     Ok(names)
 }
@@ -78,28 +73,37 @@ fn add_names(text: &mut String, names: &[&str]) -> Result<(), AllocError> {
     add_more(text, names.len())
 }
 
-fn add_users(alloc: Global, text: &mut String, group: &Group) -> Result<(), AllocError> {
-    let names = names(alloc, group)?;
+fn add_users(alloc: Global, text: &mut String, all: &[&Difference]) -> Result<(), AllocError> {
+    let names = names(alloc, all)?;
     if names.is_empty() {
         return Ok(());
     }
     add_names(text, &names)
 }
 
-fn add_classes(alloc: Global, text: &mut String, group: &Group) -> Result<(), AllocError> {
-    if has_anonymous(group) {
+fn add_classes(alloc: Global, text: &mut String, all: &[&Difference]) -> Result<(), AllocError> {
+    if has_anonymous(all) {
         add_part(text, "no user name")?;
     }
-    add_users(alloc, text, group)?;
-    if has_others(group) {
+    add_users(alloc, text, all)?;
+    if has_others(all) {
         add_part(text, "other users")?;
     }
     Ok(())
 }
 
-/// The clients of a group, in words.
-pub(crate) fn who_text(alloc: Global, group: &Group) -> Result<String, AllocError> {
+/// The clients of these, in words.
+pub(crate) fn who_text(alloc: Global, all: &[&Difference]) -> Result<String, AllocError> {
     let mut text = String::new(alloc);
-    add_classes(alloc, &mut text, group)?;
+    add_classes(alloc, &mut text, all)?;
     Ok(text)
+}
+
+/// The clients of a group, in words.
+pub(crate) fn group_text(alloc: Global, group: &Group) -> Result<String, AllocError> {
+    let mut all = vec![in alloc; &group.first]?;
+    for other in &group.others {
+        all.push(other)?;
+    }
+    who_text(alloc, &all)
 }

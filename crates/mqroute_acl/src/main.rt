@@ -1,7 +1,13 @@
-//! The program. All but the streams stands in `mq_acl_cli`.
+//! The program. All but the streams stands in `program.rt`, and what is asked of it in `mq_acl_args`.
 #![tactic(auto)]
 
-use mq_acl_cli::{FAILED, UNREADABLE, start};
+mod files;
+mod lint;
+mod list_file;
+mod program;
+
+use crate::program::start;
+use mq_acl_answers::{FAILED, UNREADABLE};
 use std::env;
 use std::io::{self, ErrorKind, Write};
 use std::process::ExitCode;

@@ -91,7 +91,8 @@ class AccessList:
     def ask(self, asked: Question) -> dict[str, Verdict]:
         """For both kinds of access."""
         user = [] if asked.user is None else [f"--user={asked.user}"]
-        words = [self.program, "why", "--json", *user, "--", self.path, asked.client, asked.topic]
+        words = [self.program, "why", "--json", "--rules=own", *user, "--", self.path,
+                 asked.client, asked.topic]  # with rules named, nothing is noted
         try:
             done = subprocess.run(words, capture_output=True)
         except OSError as fault:

@@ -1,0 +1,7 @@
+pub mod CompareLemmas
+pub mod LintLemmas
+pub mod OtherwiseLemmas
+pub mod ReachLemmas
+pub mod ScriptLemmas
+pub mod WhoLemmas
+pub mod WhoFailureLemmas

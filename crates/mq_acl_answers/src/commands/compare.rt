@@ -1,0 +1,207 @@
+//! The answer to `compare`.
+ghost use Rattle.std.specs.Prelude.{◌≡◌, ℕ, IfOk, IfErr, OnOk, false, true};
+ghost use Rattle.std.specs.List.{list_any};
+ghost use Rattle.mq_acl.specs.declared.rules.Rules.TheVariants.{Own};
+ghost use Rattle.mq_findings.specs.Faults.{IsComparisonFault};
+ghost use Rattle.mq_acl_answers.specs.Answers.{AreChanges, AreRows, IsCompared, is_way};
+ghost use Rattle.mq_acl_answers.specs.Failures.{IsComparisonFailure};
+ghost use Rattle.mq_acl_answers.specs.Notes.{IsQuiet};
+ghost use Rattle.mq_acl_answers.specs.Statuses.{failure_status};
+
+use crate::failure::Failure;
+use crate::list::rows_in;
+use crate::notes::{add_limits, is_limited};
+use crate::otherwise::add_otherwise_of_two;
+use crate::outcome::Outcome;
+use crate::printing::print_outcome;
+use mq_acl::{Row, Rules};
+use mq_acl_args::Options;
+use mq_acl_print::{ListText, Scope, changes_text};
+use mq_findings::{ComparisonFault, Difference, Side, Way, compare};
+use std::alloc::{AllocError, Global};
+use std::io::Write;
+
+/// Two lists, and where they differ.
+pub struct Changes {
+    /// The rows of the old list.
+    pub old: Vec<Row>,
+    /// The rows of the new list.
+    pub new: Vec<Row>,
+    /// Where they differ.
+    pub differences: Vec<Difference>,
+}
+
+// One step where it is dropped, and not one for each thing inside.
+impl Drop for Changes {
+    fn drop(self) {
+        let Changes {
+            old: _,
+            new: _,
+            differences: _,
+        } = self;
+    }
+}
+
+impl Changes {
+    /// Where the lists differ, without their rows.
+    pub fn into_differences(self) -> Vec<Difference>
+        ensures { result ≡ self.differences }
+    {
+        let Changes {
+            old: _,
+            new: _,
+            differences,
+        } = self;
+        differences
+    }
+}
+
+fn comparison_failure<'a>(
+    rules: Rules,
+    old: ListText<'a, '_>,
+    new: ListText<'a, '_>,
+    old_rows: &[Row],
+    new_rows: &[Row],
+    fault: ComparisonFault,
+) -> Failure<'a>
+    requires old { AreRows rules old.text.now old_rows.now }
+    requires new { AreRows rules new.text.now new_rows.now }
+    ensures { (steps : ℕ) → IsComparisonFault rules old_rows.now new_rows.now steps fault
+        → IsComparisonFailure rules old.entry new.entry steps result }
+{
+    match fault {
+        ComparisonFault::Memory => Failure::Memory,
+        ComparisonFault::OldLine(line) => Failure::Long {
+            file: old.file,
+            line,
+        },
+        ComparisonFault::NewLine(line) => Failure::Long {
+            file: new.file,
+            line,
+        },
+        ComparisonFault::OldMark(line) => Failure::Mark {
+            file: old.file,
+            line,
+        },
+        ComparisonFault::NewMark(line) => Failure::Mark {
+            file: new.file,
+            line,
+        },
+        ComparisonFault::GaveUp(Side::Old, line, others) => Failure::GaveUp {
+            file: old.file,
+            line,
+            others,
+        },
+        ComparisonFault::GaveUp(Side::New, line, others) => Failure::GaveUp {
+            file: new.file,
+            line,
+            others,
+        },
+    }
+}
+
+/// Where the lists with these texts differ by these rules. Where so many steps don't suffice to know it, it is given up:
+/// what is answered is always the whole.
+pub fn find_changes<'a>(
+    alloc: Global,
+    rules: Rules,
+    old: ListText<'a, '_>,
+    new: ListText<'a, '_>,
+    steps: u64,
+) -> Result<Changes, Failure<'a>>
+    ensures ok { IfOk result (AreChanges rules old.entry.text.now new.entry.text.now) }
+    ensures err { IfErr result (IsComparisonFailure rules old.entry new.entry steps) }
+{
+    let old_rows = rows_in(alloc, rules, old)?;
+    let new_rows = rows_in(alloc, rules, new)?;
+    match compare(alloc, rules, &old_rows, &new_rows, steps) {
+        Ok(differences) => Ok(Changes {
+            old: old_rows,
+            new: new_rows,
+            differences,
+        }),
+        Err(fault) => Err(comparison_failure(rules, old, new, &old_rows, &new_rows, fault)),
+    }
+}
+
+// Whether it is asked of this way.
+fn is_way(only: Option<Way>, way: Way) -> bool
+    ensures { result ≡ is_way only way }
+{
+    match (only, way) {
+        (None, _) => true,
+        (Some(Way::Gained), Way::Gained) => true,
+        (Some(Way::Lost), Way::Lost) => true,
+        _ => false,
+    }
+}
+
+fn has_change(differences: &[Difference], only: Option<Way>) -> bool
+    ensures { result ≡ list_any (λ d. is_way only d.way) differences.now }
+{
+    differences.iter().any(|d| is_way(only, d.way))
+}
+
+// Whether there are differences that are asked about.
+fn outcome_of(differences: &[Difference], only: Option<Way>) -> Outcome
+    ensures clear { result ≡ Outcome.Clear
+        → list_any (λ d. is_way only d.way) differences.now ≡ false }
+    ensures remark { result ≡ Outcome.Remark
+        → list_any (λ d. is_way only d.way) differences.now ≡ true }
+{
+    if has_change(differences, only) {
+        return Outcome::Remark;
+    }
+    Outcome::Clear
+}
+
+// Those that are asked about.
+fn asked(
+    alloc: Global,
+    differences: Vec<Difference>,
+    only: Option<Way>,
+) -> Result<Vec<Difference>, AllocError> {
+    differences
+        .into_iter()
+        .filter(|d| is_way(only, d.way))
+        .collect(alloc)
+}
+
+/// Shows where the lists with these texts differ, or what one of them alone allows, if so many steps suffice to know it,
+/// and notes of whom it isn't known, and by our own rules where mosquitto decides otherwise.
+pub fn tell_changes<'a, W: Write>(
+    alloc: Global,
+    old: ListText<'a, '_>,
+    new: ListText<'a, '_>,
+    only: Option<Way>,
+    options: Options,
+    out: &mut W,
+    notes: &mut String,
+) -> Result<Outcome, Failure<'a>>
+    ensures ok { IfOk result (IsCompared options.rules only old.entry.text.now
+        new.entry.text.now) }
+    ensures unread { IfErr result (λ failure. failure_status failure ≡ 2 → out.new ≡ out.old) }
+    ensures quiet { OnOk result (options.rules ≡ Own
+        → IsQuiet options.noted old.entry.text.now → IsQuiet options.noted new.entry.text.now
+        → notes.new ≡ notes.old) }
+{
+    let changes = find_changes(alloc, options.rules, old, new, options.steps)?;
+    let rules = options.rules;
+    add_limits(
+        notes,
+        rules,
+        (old.file, &changes.old),
+        (new.file, &changes.new),
+    )?;
+    let scope = Scope {
+        rules,
+        only,
+        is_limited: is_limited(rules, &changes.old) || is_limited(rules, &changes.new),
+    };
+    let outcome = outcome_of(&changes.differences, only);
+    let differences = asked(alloc, changes.into_differences(), only)?;
+    let text = changes_text(alloc, scope, old, new, differences, options.json);
+    // behind it, when the rows are gone
+    add_otherwise_of_two(alloc, notes, old, new, options)?;
+    print_outcome(out, text, outcome)
+}

@@ -1,0 +1,177 @@
+//! The answer to `lint`.
+ghost use Rattle.std.specs.Prelude.{◌≡◌, ◌≢◌, ◌⊎◌, ℕ, [], IfOk, IfErr, OnOk, true, false};
+ghost use Rattle.mq_acl.specs.declared.rules.Rules.TheVariants.{Own};
+ghost use Rattle.mq_lint.specs.NeedlessFault.{IsNeedlessFault};
+ghost use Rattle.mq_lint.specs.Needless.{AreNeedless};
+ghost use Rattle.mq_acl_answers.specs.Answers.{AreRows};
+ghost use Rattle.mq_acl_answers.specs.Failures.{IsLintFailure};
+ghost use Rattle.mq_acl_answers.specs.Lint.{AreRemarks, has_fault, has_needless, is_fault, matters};
+ghost use Rattle.mq_acl_answers.specs.Lint.{IsLinted};
+
+use crate::commands::remarks::{add_empty, add_remarks};
+use crate::failure::Failure;
+use crate::list::rows_in;
+use crate::notes::add_limit;
+use crate::otherwise::add_whether_otherwise;
+use crate::outcome::Outcome;
+use mq_acl::{Row, Rules};
+use mq_acl_args::Options;
+use mq_acl_print::ListText;
+use mq_lint::{NeedlessFault, Remark, RemarkKind, needless, remarks};
+use std::alloc::Global;
+
+/// The remarks on a list.
+pub struct Remarks {
+    /// Lines that are faulty or odd.
+    pub odd: Vec<Remark>,
+    /// Lines that repeat another, deny nothing or are needless, where none is faulty.
+    pub needless: Vec<Remark>,
+    /// The rows, where none is faulty.
+    pub rows: Vec<Row>,
+    /// Whether none is faulty, and none says anything: the list allows nothing.
+    pub is_empty: bool,
+}
+
+// One step where it is dropped, and not one for each thing inside.
+impl Drop for Remarks {
+    fn drop(self) {
+        let Remarks {
+            odd: _,
+            needless: _,
+            rows: _,
+            is_empty: _,
+        } = self;
+    }
+}
+
+fn is_fault(kind: RemarkKind) -> bool
+    ensures { result ≡ is_fault kind }
+{
+    matches!(kind, RemarkKind::Fault(_))
+}
+
+// Whether it is told of more than a line that denies nothing, which may guard.
+fn matters(kind: RemarkKind) -> bool
+    ensures { result ≡ matters kind }
+{
+    !matches!(kind, RemarkKind::DeniesNothing)
+}
+
+fn has_fault(odd: &[Remark]) -> bool
+    ensures { result ≡ has_fault odd.now }
+{
+    odd.iter().any(|remark| is_fault(remark.kind))
+}
+
+fn has_needless(told: &[Remark]) -> bool
+    ensures { result ≡ has_needless told.now }
+{
+    told.iter().any(|remark| matters(remark.kind))
+}
+
+fn needless_failure<'a>(
+    rules: Rules,
+    list: ListText<'a, '_>,
+    rows: &[Row],
+    fault: NeedlessFault,
+) -> Failure<'a>
+    requires { AreRows rules list.text.now rows.now }
+    ensures { (steps : ℕ) → IsNeedlessFault rules rows.now steps fault
+        → IsLintFailure rules list.entry steps result }
+{
+    let file = list.file;
+    match fault {
+        NeedlessFault::Memory => Failure::Memory,
+        NeedlessFault::Line(line) => Failure::Long { file, line },
+        NeedlessFault::Mark(line) => Failure::Mark { file, line },
+        NeedlessFault::GaveUp(line, others) => Failure::GaveUp { file, line, others },
+    }
+}
+
+// Of the rows of the list.
+fn needless_in<'a>(
+    alloc: Global,
+    rules: Rules,
+    list: ListText<'a, '_>,
+    rows: &[Row],
+    steps: u64,
+) -> Result<Vec<Remark>, Failure<'a>>
+    requires { AreRows rules list.text.now rows.now }
+    ensures ok { IfOk result (λ told. AreNeedless rules rows.entry.now told.items) }
+    ensures err { IfErr result (IsLintFailure rules list.entry steps) }
+{
+    match needless(alloc, rules, rows, steps) {
+        Ok(told) => Ok(told),
+        Err(fault) => Err(needless_failure(rules, list, rows, fault)),
+    }
+}
+
+/// What by these rules is odd or needless in the list. Where so many steps don't suffice to know it, it is given up: what
+/// is answered is always the whole.
+pub fn find_remarks<'a>(
+    alloc: Global,
+    rules: Rules,
+    list: ListText<'a, '_>,
+    steps: u64,
+) -> Result<Remarks, Failure<'a>>
+    ensures ok { IfOk result (AreRemarks rules list.entry.text.now) }
+    ensures err { IfErr result (IsLintFailure rules list.entry steps) }
+{
+    let odd = remarks(alloc, rules, list.text)?;
+    if has_fault(&odd) {
+        return Ok(Remarks {
+            odd,
+            needless: Vec::new(alloc),
+            rows: Vec::new(alloc),
+            is_empty: false,
+        });
+    }
+    let rows = rows_in(alloc, rules, list)?;
+    let needless = needless_in(alloc, rules, list, &rows, steps)?;
+    let is_empty = rows.is_empty();
+    Ok(Remarks {
+        odd,
+        needless,
+        rows,
+        is_empty,
+    })
+}
+
+// Whether there are remarks, but for lines that deny nothing.
+fn outcome_of(remarks: &Remarks) -> Outcome
+    ensures clear { result ≡ Outcome.Clear
+        → (remarks.now.odd.items ≡ []) × (has_needless remarks.now.needless.items ≡ false) }
+    ensures remark { result ≡ Outcome.Remark
+        → (remarks.now.odd.items ≢ []) ⊎ (has_needless remarks.now.needless.items ≡ true) }
+{
+    match (remarks.odd.is_empty(), has_needless(&remarks.needless)) {
+        (true, false) => Outcome::Clear,
+        _ => Outcome::Remark,
+    }
+}
+
+/// Adds to an answer what is odd or needless in the list, if so many steps suffice to know it, and notes of whom it isn't
+/// known, and by our own rules where mosquitto decides otherwise or that it allows the same.
+pub fn add_lint<'a>(
+    alloc: Global,
+    list: ListText<'a, '_>,
+    options: Options,
+    answer: &mut String,
+    notes: &mut String,
+) -> Result<Outcome, Failure<'a>>
+    ensures ok { IfOk result (IsLinted options.rules list.entry.text.now) }
+    ensures quiet { OnOk result (options.rules ≡ Own → options.noted ≡ false
+        → notes.new ≡ notes.old) }
+{
+    let found = find_remarks(alloc, options.rules, list, options.steps)?;
+    add_limit(notes, options.rules, list.file, &found.rows)?;
+    if !has_fault(&found.odd) {
+        add_whether_otherwise(alloc, notes, list, &found.rows, options)?;
+    }
+    let outcome = outcome_of(&found);
+    add_remarks(alloc, answer, list, &found.odd, &found.needless, options)?;
+    if found.is_empty {
+        add_empty(alloc, answer, list.file, options.json)?;
+    }
+    Ok(outcome)
+}

@@ -1,0 +1,233 @@
+//! The answer to `who`.
+ghost use Rattle.std.specs.Prelude.{◌≡◌, ◌⊎◌, ℕ, List, IfOk, IfErr, OnOk, false, true};
+ghost use Rattle.std.specs.List.{list_any};
+ghost use Rattle.std.specs.Option.{option_copied};
+ghost use Rattle.mq_acl.specs.Views.{row_views};
+ghost use Rattle.mq_acl.specs.declared.row.Row.{Row};
+ghost use Rattle.mq_acl.specs.declared.rules.Rules.{Rules};
+ghost use Rattle.mq_acl.specs.declared.rules.Rules.TheVariants.{Own};
+ghost use Rattle.mq_topic.specs.Texts.{is_shared};
+ghost use Rattle.mq_who.specs.Faults.{IsWhoFault};
+ghost use Rattle.mq_who.specs.Who.{IsListing};
+ghost use Rattle.mq_acl_answers.specs.Answers.{AreRows};
+ghost use Rattle.mq_acl_answers.specs.Failures.{IsListFailure, IsWhoFailure};
+ghost use Rattle.mq_acl_answers.specs.Notes.{IsQuiet};
+ghost use Rattle.mq_acl_answers.specs.Statuses.{failure_status};
+ghost use Rattle.mq_acl_answers.specs.Who.{ArePermissions, IsWho, TellsWhetherOthers};
+ghost use Rattle.mq_acl_answers.specs.Who.{has_word, is_kept, is_left_out, is_told, is_unshared};
+ghost use Rattle.mq_acl_answers.specs.Who.{is_wanted, names};
+
+use crate::failure::Failure;
+use crate::list::rows_in;
+use crate::notes::add_who_limit;
+use crate::otherwise::add_otherwise;
+use crate::outcome::Outcome;
+use crate::printing::print_outcome;
+use mq_acl::{Direction, Row, Rules};
+use mq_acl_args::{Options, Selection};
+use mq_acl_print::{Asked, ListText, permissions_text};
+use mq_findings::{Class, Difference};
+use mq_topic::{TopicFault, TopicFilter};
+use mq_who::{Permissions, WhoFault, who_may};
+use std::alloc::{AllocError, Global};
+use std::io::Write;
+use std::mem;
+
+fn is_shared(wanted: &str) -> bool
+    ensures { result ≡ is_shared wanted.now }
+{
+    wanted.starts_with("$share/")
+}
+
+// The filter with this text, which is no shared subscription.
+fn filter_of(alloc: Global, wanted: &str) -> Result<TopicFilter, Failure<'_>>
+    ensures ok { IfOk result (λ filter. filter ≡ wanted.entry.now) }
+    ensures err { IfErr result (λ failure. (failure ≡ Failure.Memory)
+        ⊎ ((failure ≡ Failure.Filter wanted.entry) × (is_unshared wanted.entry.now ≡ false))) }
+{
+    if is_shared(wanted) {
+        return Err(Failure::Filter(wanted));
+    }
+    match TopicFilter::parse(alloc, wanted) {
+        Ok(filter) => Ok(filter),
+        Err(TopicFault::Memory) => Err(Failure::Memory),
+        Err(_) => Err(Failure::Filter(wanted)),
+    }
+}
+
+fn who_failure<'a>(
+    rules: Rules,
+    list: ListText<'a, '_>,
+    rows: &[Row],
+    wanted: &'a str,
+    fault: WhoFault,
+) -> Failure<'a>
+    requires { AreRows rules list.text.now rows.now }
+    ensures { (steps : ℕ) → IsWhoFault rules rows.now wanted.entry.now steps fault
+        → IsListFailure rules list.entry result
+        ⊎ IsWhoFailure rules list.entry wanted.entry.now steps result }
+{
+    let file = list.file;
+    match fault {
+        WhoFault::Memory => Failure::Memory,
+        WhoFault::Filter => Failure::LongWord,
+        WhoFault::FilterMark => Failure::FilterMark(wanted),
+        WhoFault::Line(line) => Failure::Long { file, line },
+        WhoFault::Mark(line) => Failure::Mark { file, line },
+        WhoFault::GaveUp(0, others) => Failure::FilterGaveUp { file, others },
+        WhoFault::GaveUp(line, others) => Failure::GaveUp { file, line, others },
+    }
+}
+
+/// Who may, by these rules and the list, read or write the topics that the filter matches, and who may not. `%c` and
+/// `%u`, as levels of the filter, are the client's own id and user name. Where so many steps don't suffice to know it, it
+/// is given up: what is answered is always the whole.
+pub fn find_permissions<'a>(
+    alloc: Global,
+    rules: Rules,
+    list: ListText<'a, '_>,
+    wanted: &'a str,
+    steps: u64,
+) -> Result<Permissions, Failure<'a>>
+    ensures ok { IfOk result (ArePermissions rules list.entry.text.now wanted.entry.now) }
+    ensures err { IfErr result (λ failure. IsListFailure rules list.entry failure
+        ⊎ IsWhoFailure rules list.entry wanted.entry.now steps failure) }
+{
+    let filter = filter_of(alloc, wanted)?;
+    let rows = rows_in(alloc, rules, list)?;
+    match who_may(alloc, rules, &rows, &filter, steps) {
+        Ok(permissions) => Ok(permissions),
+        Err(fault) => Err(who_failure(rules, list, &rows, wanted, fault)),
+    }
+}
+
+fn is_wanted(access: Option<Direction>, direction: Direction) -> bool
+    ensures { result ≡ is_wanted access direction }
+{
+    match (access, direction) {
+        (None, _) => true,
+        (Some(Direction::Reading), Direction::Reading) => true,
+        (Some(Direction::Writing), Direction::Writing) => true,
+        _ => false,
+    }
+}
+
+// Whether the word names this user.
+fn names(word: &str, user: &str) -> bool
+    ensures { result ≡ names word.now user.now }
+{
+    word != "-" && word != "*" && user == word
+}
+
+// Whether the word means the clients of the class.
+fn has_word(class: &Class, word: &str) -> bool
+    ensures { result ≡ has_word class.now word.now }
+{
+    match class {
+        Class::Anonymous => word == "-",
+        Class::User(name) => names(word, name.as_str()),
+        Class::Others(_) => word == "*",
+    }
+}
+
+// Whether one of the words between commas does.
+fn is_left_out(only: &str, class: &Class) -> bool
+    ensures { result ≡ is_left_out only.now class.now }
+{
+    only.split(',').any(|word| has_word(class, word))
+}
+
+fn is_kept(only: Option<&str>, class: &Class) -> bool
+    ensures { result ≡ is_kept (option_copied only.entry) class.now }
+{
+    match only {
+        None => true,
+        Some(only) => !is_left_out(only, class),
+    }
+}
+
+// Whether it is of a direction that is asked of, and of clients that aren't left out.
+fn is_told(selection: &Selection<'_>, d: &Difference) -> bool
+    ensures { result ≡ is_told selection.now.access (option_copied selection.now.only) d.now }
+{
+    is_wanted(selection.access, d.direction) && is_kept(selection.only, &d.class)
+}
+
+fn has_told(granted: &[Difference], selection: &Selection<'_>) -> bool
+    ensures { result
+        ≡ list_any (is_told selection.now.access (option_copied selection.now.only)) granted.now }
+{
+    granted.iter().any(|d| is_told(selection, d))
+}
+
+// Whether anybody may that isn't left out, where some are.
+fn outcome_of(granted: &[Difference], selection: &Selection<'_>) -> Outcome
+    ensures { (rules : Rules) (rows : List Row) (wanted : List ℕ)
+        → IsListing rules true rows wanted granted.now
+        → TellsWhetherOthers rules (row_views rows) wanted selection.now.access
+        (option_copied selection.now.only) result }
+{
+    let Some(_) = selection.only else {
+        return Outcome::Clear;
+    };
+    if has_told(granted, selection) {
+        return Outcome::Remark;
+    }
+    Outcome::Clear
+}
+
+// What is told of.
+fn told(
+    alloc: Global,
+    granted: Vec<Difference>,
+    selection: &Selection<'_>,
+) -> Result<Vec<Difference>, AllocError> {
+    granted
+        .into_iter()
+        .filter(|d| is_told(selection, d))
+        .collect(alloc)
+}
+
+fn answer_text(
+    alloc: Global,
+    list: ListText<'_, '_>,
+    wanted: &str,
+    selection: &Selection<'_>,
+    permissions: Permissions,
+    json: bool,
+) -> Result<String, AllocError> {
+    let asked = Asked {
+        filter: wanted,
+        access: selection.access,
+        of_others: selection.only.is_some(),
+    };
+    let mut permissions = permissions;
+    let granted = mem::replace(&mut permissions.granted, Vec::new(alloc));
+    let granted = told(alloc, granted, selection)?;
+    permissions_text(alloc, list, asked, granted, &permissions.refused, json)
+}
+
+/// Shows who may by the list read or write the topics that the filter matches, if so many steps suffice to know it; and
+/// notes of whom it isn't known, and by our own rules where mosquitto decides otherwise.
+pub fn tell_who<'a, W: Write>(
+    alloc: Global,
+    list: ListText<'a, '_>,
+    wanted: &'a str,
+    selection: Selection<'a>,
+    options: Options,
+    out: &mut W,
+    notes: &mut String,
+) -> Result<Outcome, Failure<'a>>
+    ensures ok { IfOk result (IsWho options.rules list.entry.text.now wanted.entry.now
+        selection.entry.access (option_copied selection.entry.only)) }
+    ensures unread { IfErr result (λ failure. failure_status failure ≡ 2 → out.new ≡ out.old) }
+    ensures quiet { OnOk result (options.rules ≡ Own
+        → IsQuiet options.noted list.entry.text.now → notes.new ≡ notes.old) }
+{
+    let permissions = find_permissions(alloc, options.rules, list, wanted, options.steps)?;
+    add_who_limit(notes, options.rules)?;
+    add_otherwise(alloc, notes, list, options)?;
+    let outcome = outcome_of(&permissions.granted, &selection);
+    let text = answer_text(alloc, list, wanted, &selection, permissions, options.json);
+    print_outcome(out, text, outcome)
+}

@@ -1,0 +1,21 @@
+//! Answers to questions about the texts of access lists.
+#![tactic(auto)]
+
+mod cases;
+mod commands;
+mod failure;
+mod list;
+mod notes;
+mod otherwise;
+mod outcome;
+mod printing;
+
+pub use commands::compare::{Changes, find_changes, tell_changes};
+pub use commands::lint::{Remarks, add_lint, find_remarks};
+pub use commands::reach::{find_topic, tell_reach};
+pub use commands::script::{find_subscriptions, tell_subscriptions};
+pub use commands::who::{find_permissions, tell_who};
+pub use commands::why::{Explanation, explain, tell_why};
+pub use failure::{FAILED, Failure, UNREADABLE};
+pub use outcome::Outcome;
+pub use printing::{print, print_outcome};

@@ -1,0 +1,222 @@
+//! The command line.
+ghost use Rattle.std.specs.Prelude.{◌≡◌, List, [], false, map, string_bytes, IfOk};
+ghost use Rattle.std.specs.Prelude.{OnOk, IfErr};
+ghost use Rattle.clap.specs.Words.{Text, Kinds, app_of, fault_of, subcommand_of};
+ghost use Rattle.clap.specs.Words.{subcommand_rows_of, FailsBy};
+ghost use Rattle.clap.specs.declared.builder.command.Command.TheViews.{out-Command as fields_of};
+ghost use Rattle.mq_acl_args.specs.CommandLine.{mqroute_acl, app_for};
+ghost use Rattle.mq_acl_args.specs.CommandLine.{wanting, with_apps};
+ghost use Rattle.mq_acl_args.specs.CommandLine.{asked_by, AreGiven, CanNotBeAsked, IsGivenBy};
+ghost use Rattle.mq_acl_args.specs.CommandLine.{IsFaultOf};
+
+use crate::help::{
+    ABOUT, ACCESS_HELP, AFTER_HELP, CLIENT_HELP, COMPARE_ABOUT, COMPARE_AFTER_HELP, FILE_HELP,
+    FILES_HELP, FILTER_HELP, JSON_HELP, LINT_ABOUT, LINT_AFTER_HELP, MAY_HELP, NEW_HELP, OLD_HELP,
+    ONLY_HELP, REACH_ABOUT, REACH_AFTER_HELP, RULES_HELP, SCRIPT_HELP, STEPS_HELP, SUBSCRIBER_HELP,
+    TOPIC_HELP, USER_HELP, WANTED_HELP, WAY_HELP, WHO_ABOUT, WHO_AFTER_HELP, WHY_ABOUT,
+    WHY_AFTER_HELP,
+};
+use crate::request::{Request, request_in, unknown_access, unknown_rules, unknown_way};
+use clap::{ArgMatches, Command, Error};
+use mq_args::{Argument, ArgumentKind, UsageFault, described, with_arguments};
+use std::alloc::{AllocError, Global};
+
+// Said of words that ask nothing and that `clap` takes all the same, which `reach` alone has.
+const NO_QUESTION: &str = "\
+error: reach takes either CLIENT and FILTER, or --script SCRIPT without --user
+
+For more information, try 'mqroute-acl reach --help'.
+";
+
+// Said of words that name standard input more than once.
+const INPUT_TWICE: &str = "\
+error: standard input can be only one of the files: - stands more than once
+
+For more information, try 'mqroute-acl --help'.
+";
+
+// A subcommand with its arguments, in the order of help.
+struct Subcommand<'a> {
+    name: &'a str,
+    about: &'a str,
+    after_help: &'a str,
+    arguments: &'a [Argument<'a>],
+}
+
+impl<'a> Subcommand<'a> {
+    // In the words of `clap`.
+    fn command(&self, alloc: Global) -> Result<Command<'a>, AllocError>
+        ensures app { IfOk result (λ c. app_of c ≡ app_for self.now) }
+        ensures local { IfOk result (λ c. (fields_of c).has_globals ≡ false) }
+    {
+        let named = described(alloc, self.name, self.about, self.after_help);
+        with_arguments(alloc, named, self.arguments)
+    }
+}
+
+// `compare OLD NEW [--only WAY] [--steps N] [--rules RULES] [--json]`
+const COMPARE: Subcommand<'static> = Subcommand {
+    name: "compare",
+    about: COMPARE_ABOUT,
+    after_help: COMPARE_AFTER_HELP,
+    arguments: &[
+        Argument("OLD", ArgumentKind::Required, OLD_HELP),
+        Argument("json", ArgumentKind::Flag, JSON_HELP),
+        Argument("NEW", ArgumentKind::Required, NEW_HELP),
+        Argument("only", ArgumentKind::Option("WAY"), WAY_HELP),
+        Argument("steps", ArgumentKind::Number, STEPS_HELP),
+        Argument("rules", ArgumentKind::Option("RULES"), RULES_HELP),
+    ],
+};
+
+// `why FILE CLIENT TOPIC [--user NAME] [--may ACCESS] [--rules RULES] [--json]`
+const WHY: Subcommand<'static> = Subcommand {
+    name: "why",
+    about: WHY_ABOUT,
+    after_help: WHY_AFTER_HELP,
+    arguments: &[
+        Argument("FILE", ArgumentKind::Required, FILE_HELP),
+        Argument("json", ArgumentKind::Flag, JSON_HELP),
+        Argument("CLIENT", ArgumentKind::Required, CLIENT_HELP),
+        Argument("TOPIC", ArgumentKind::Required, TOPIC_HELP),
+        Argument("user", ArgumentKind::Option("NAME"), USER_HELP),
+        Argument("may", ArgumentKind::Option("ACCESS"), MAY_HELP),
+        Argument("rules", ArgumentKind::Option("RULES"), RULES_HELP),
+    ],
+};
+
+// `lint FILE.. [--steps N] [--rules RULES] [--json]`
+const LINT: Subcommand<'static> = Subcommand {
+    name: "lint",
+    about: LINT_ABOUT,
+    after_help: LINT_AFTER_HELP,
+    arguments: &[
+        Argument("FILE", ArgumentKind::Several, FILES_HELP),
+        Argument("json", ArgumentKind::Flag, JSON_HELP),
+        Argument("steps", ArgumentKind::Number, STEPS_HELP),
+        Argument("rules", ArgumentKind::Option("RULES"), RULES_HELP),
+    ],
+};
+
+// `reach FILE [CLIENT] [FILTER] [--user NAME] [--script SCRIPT] [--rules RULES] [--json]`
+const REACH: Subcommand<'static> = Subcommand {
+    name: "reach",
+    about: REACH_ABOUT,
+    after_help: REACH_AFTER_HELP,
+    arguments: &[
+        Argument("FILE", ArgumentKind::Required, FILE_HELP),
+        Argument("json", ArgumentKind::Flag, JSON_HELP),
+        Argument("CLIENT", ArgumentKind::Optional("CLIENT"), SUBSCRIBER_HELP),
+        Argument("FILTER", ArgumentKind::Optional("FILTER"), FILTER_HELP),
+        Argument("user", ArgumentKind::Option("NAME"), USER_HELP),
+        Argument("script", ArgumentKind::Option("SCRIPT"), SCRIPT_HELP),
+        Argument("rules", ArgumentKind::Option("RULES"), RULES_HELP),
+    ],
+};
+
+// `who FILE FILTER [--access ACCESS] [--only USERS] [--steps N] [--rules RULES] [--json]`
+const WHO: Subcommand<'static> = Subcommand {
+    name: "who",
+    about: WHO_ABOUT,
+    after_help: WHO_AFTER_HELP,
+    arguments: &[
+        Argument("FILE", ArgumentKind::Required, FILE_HELP),
+        Argument("json", ArgumentKind::Flag, JSON_HELP),
+        Argument("FILTER", ArgumentKind::Required, WANTED_HELP),
+        Argument("access", ArgumentKind::Option("ACCESS"), ACCESS_HELP),
+        Argument("only", ArgumentKind::Option("USERS"), ONLY_HELP),
+        Argument("steps", ArgumentKind::Number, STEPS_HELP),
+        Argument("rules", ArgumentKind::Option("RULES"), RULES_HELP),
+    ],
+};
+
+// The command that wants one of these subcommands.
+fn wanting_one_of<'a>(
+    alloc: Global,
+    command: Command<'a>,
+    subcommands: &[Subcommand<'a>],
+) -> Result<Command<'a>, AllocError>
+    ensures { IfOk result (λ c. app_of c
+        ≡ with_apps (wanting (app_of command.entry)) (map app_for subcommands.now)) }
+{
+    let mut command = command.subcommand_required(true);
+    for subcommand in subcommands {
+        command = command.subcommand(subcommand.command(alloc)?)?;
+    }
+    Ok(command)
+}
+
+fn command<'a>(alloc: Global) -> Result<Command<'a>, AllocError>
+    ensures { IfOk result (λ c. app_of c ≡ mqroute_acl) }
+{
+    let named = described(alloc, "mqroute-acl", ABOUT, AFTER_HELP);
+    wanting_one_of(alloc, named, &[COMPARE, WHY, LINT, REACH, WHO])
+}
+
+fn matches_in<'a>(alloc: Global, words: &'a [String]) -> Result<ArgMatches<'a>, Error>
+    ensures rows { IfOk result (λ m. subcommand_rows_of m
+        ≡ subcommand_of mqroute_acl (map string_bytes words.entry.now)) }
+    ensures kinds { FailsBy (fault_of mqroute_acl (map string_bytes words.entry.now)) result }
+{
+    let command = command(alloc)?;
+    command.try_get_matches_from(words)
+}
+
+// Tells why what is asked can't be asked.
+fn usage_of(alloc: Global, text: &str) -> UsageFault
+    ensures { (words : List Text) → (kinds : Kinds)
+        → CanNotBeAsked (asked_by (subcommand_of mqroute_acl words))
+        → IsFaultOf words kinds result }
+{
+    match String::from_str(alloc, text) {
+        Ok(text) => UsageFault::Usage(text),
+        Err(_) => UsageFault::Memory,
+    }
+}
+
+// Tells why what is asked by these values is nothing: a word is unknown, or there is no question.
+fn no_question(alloc: Global, matches: &ArgMatches<'_>) -> UsageFault
+    ensures { (words : List Text) → (kinds : Kinds)
+        → CanNotBeAsked (asked_by (subcommand_of mqroute_acl words))
+        → IsFaultOf words kinds result }
+{
+    if let Some(word) = unknown_rules(matches) {
+        return UsageFault::of_value(alloc, word, "--rules <RULES>", "own, mosquitto");
+    }
+    if let Some(word) = unknown_way(matches) {
+        return UsageFault::of_value(alloc, word, "--only <WAY>", "gained, lost");
+    }
+    match unknown_access(matches) {
+        Some((word, option)) => UsageFault::of_value(alloc, word, option, "read, write"),
+        None => usage_of(alloc, NO_QUESTION),
+    }
+}
+
+// What the values that `clap` took ask.
+fn asked<'a>(alloc: Global, matches: &ArgMatches<'a>) -> Result<Request<'a>, UsageFault>
+    ensures ok { IfOk result (IsGivenBy (subcommand_rows_of matches.now)) }
+    ensures err { IfErr result (λ fault. (words : List Text) → (kinds : Kinds)
+        → subcommand_rows_of matches.now ≡ subcommand_of mqroute_acl words
+        → IsFaultOf words kinds fault) }
+{
+    let Some(request) = request_in(alloc, matches)? else {
+        return Err(no_question(alloc, matches));
+    };
+    if request.question.input_count() > 1 {
+        return Err(usage_of(alloc, INPUT_TWICE));
+    }
+    Ok(request)
+}
+
+/// What the words of a command line ask for; the first of them is the program's name.
+pub fn arguments<'a>(alloc: Global, words: &'a [String]) -> Result<Request<'a>, UsageFault>
+    ensures ok { IfOk result (AreGiven (map string_bytes words.entry.now)) }
+    ensures no_fault { OnOk result (fault_of mqroute_acl (map string_bytes words.entry.now) ≡ []) }
+    ensures err { let given = map string_bytes words.entry.now in
+        IfErr result (IsFaultOf given (fault_of mqroute_acl given)) }
+{
+    match matches_in(alloc, words) {
+        Ok(matches) => asked(alloc, &matches),
+        Err(error) => Err(UsageFault::of(alloc, &error)),
+    }
+}

@@ -1,0 +1,179 @@
+//! The texts of help.
+
+pub(crate) const ABOUT: &str =
+    "Answers questions to mosquitto's access lists, for all clients and topics";
+
+pub(crate) const AFTER_HELP: &str = "\
+An access list is a file in the form of mosquitto.conf(5)'s acl_file. What is
+answered holds for every client id that a broker can have, every user name that
+it can have or none, and every topic. It is by rules of our own; without --rules
+it is noted on standard error where mosquitto 2.0 decides otherwise. With --rules
+mosquitto it is by those of mosquitto 2.0, where compare and lint leave out ids
+and user names with /, + or # if a list has pattern lines, who leaves them out
+always, and they say so on standard error. A file - is standard input.
+
+Exit status:
+  0  both lists allow the same, or nothing of the way of --only differs, no line
+     is remarked on other than lines that deny nothing, each subscription can be
+     sent a topic, nobody may but those of --only, the client may what --may
+     says, or why without --may, or who without --only, was answered
+  1  the lists differ, a line is remarked on, a subscription is in vain, somebody
+     may other than those of --only, or the client may not what --may says
+  2  the arguments aren't understood, an access list can't be opened, read or
+     understood, a script can't be opened or read or has no command, or the
+     steps don't suffice
+  3  a write failed, or memory ran out
+
+Example:
+  mqroute-acl compare current.acl proposed.acl";
+
+pub(crate) const OLD_HELP: &str = "The access list that is in force, or - for standard input";
+
+pub(crate) const NEW_HELP: &str = "The access list to compare with it, or -";
+
+pub(crate) const FILE_HELP: &str = "The access list, or - for standard input";
+
+pub(crate) const FILES_HELP: &str = "The access lists; one of them may be - for standard input";
+
+pub(crate) const CLIENT_HELP: &str = "The client id";
+
+pub(crate) const TOPIC_HELP: &str = "The topic that is read or written";
+
+pub(crate) const FILTER_HELP: &str = "The topic filter of the subscription; $share/NAME/FILTER too";
+
+pub(crate) const USER_HELP: &str = "The user name of the client (none)";
+
+pub(crate) const STEPS_HELP: &str = "Give up after so many steps (20,000,000: some ten seconds)";
+
+pub(crate) const RULES_HELP: &str =
+    "By whose rules lists are read, and decide: own, or mosquitto for those of mosquitto 2.0 (own)";
+
+pub(crate) const JSON_HELP: &str = "Write JSON, one object a line";
+
+pub(crate) const COMPARE_ABOUT: &str = "Shows what one list allows and the other doesn't";
+
+pub(crate) const COMPARE_AFTER_HELP: &str = "\
+Each difference is shown with a topic, and with the line of each list that
+decides it. All are listed: for the clients without a user name, for those of
+each user name that has lines of its own, and for all others, each pair of
+lines that decides. A level, a client id or a user name that no line names
+stands for any other of its kind that no line names.
+
+With --only gained those alone are shown that the new list allows and the old
+one doesn't, with --only lost the others, and the status is of these.
+
+Long lists that overlap in many ways can take long. A step is a line that is
+looked at for one question. When the steps are spent nothing is answered.
+
+With --json each difference is an object with
+  access    read or write
+  change    gained or lost
+  client    the client id
+  user      its user name, or null
+  topic     the topic
+  made_up   which of these, and of the levels of the topic, stand for others
+  old, new  the line that decides it, with file, line and text; or null, where
+            no line allows it";
+
+pub(crate) const WHY_ABOUT: &str =
+    "Shows whether a client may read and write a topic, and by which line";
+
+pub(crate) const WHY_AFTER_HELP: &str = "\
+Both are shown; --may read or --may write makes the status that of one of them.
+
+With --json one object is about reading and one about writing, each with
+  access   read or write
+  allowed  true or false
+  deny     the first line that denies it, with file, line and text; or null
+  grant    the first line that grants it, or null";
+
+pub(crate) const LINT_ABOUT: &str = "Lists lines that have a fault, are odd or are needless";
+
+pub(crate) const LINT_AFTER_HELP: &str = "\
+The remarks on each file stand in the order of the files, each with the text of
+its line. Where one of them can't be read, nothing is written. A needless line
+is one without which the list allows the same. A line that denies nothing that
+a line grants may be there to guard: alone, such lines don't make the status 1.
+
+A step is a line that is looked at for one question. When the steps are spent
+nothing is answered. Each file has as many.
+
+With --json each remark is an object with
+  file, line, text  the line
+  kind              fault, no mark, indented comment, tab, repeats,
+                    denies nothing or needless; or empty, of a list without a
+                    topic or pattern line (line and text are null)
+  other             the number of the line that it repeats, or that makes it
+                    needless; or null
+  words             the remark in words";
+
+pub(crate) const SUBSCRIBER_HELP: &str = "The client id of the subscriber";
+
+pub(crate) const SCRIPT_HELP: &str =
+    "Ask about all subscriptions of this script, or of standard input (-)";
+
+pub(crate) const REACH_ABOUT: &str =
+    "Shows whether a subscription, or each of a script, is in vain";
+
+pub(crate) const REACH_AFTER_HELP: &str = "\
+A client is sent what its filter matches and the list lets it read. A topic
+that a subscription to FILTER can be sent is shown, or that there is none.
+
+With --script SCRIPT, in place of CLIENT and FILTER, those subscriptions of the
+script are listed that can be sent nothing: line, client, user name and filter.
+The user name is that of the client as it subscribes; each other that its
+session has while it keeps the subscription is looked at too. A subscribe that a
+broker refuses is none. Lines acl of the script say nothing here. Lines that are
+no commands are passed over, and shown; a script without a command is refused.
+
+With --json the answer is an object with
+  filter  the subscription
+  topic   a topic that it can be sent, or null
+With --json and --script each subscription in vain is an object with
+  file, line  the script, and the line of its subscribe
+  client      the client id
+  user        its user name as it subscribes, or null
+  filter      the subscription
+and the last object has
+  in_vain           how many they are
+  subscriptions     how many subscriptions the script has
+  no_commands       how many of its lines are no commands
+  first_no_command  the number of the first of these lines, or null";
+
+pub(crate) const WANTED_HELP: &str =
+    "The topic filter; %c and %u as its levels are the client's own id and user name";
+
+pub(crate) const ACCESS_HELP: &str = "Tell of reading or of writing alone: read or write (both)";
+
+pub(crate) const MAY_HELP: &str =
+    "The status is 0 where the client may, and 1 where it may not: read or write";
+
+pub(crate) const WAY_HELP: &str = "Tell of differences of this way alone: gained or lost";
+
+pub(crate) const ONLY_HELP: &str =
+    "Tell of others than these users, between commas: - no user name, * users without lines";
+
+pub(crate) const WHO_ABOUT: &str = "Shows who may read and write the topics that a filter matches";
+
+pub(crate) const WHO_AFTER_HELP: &str = "\
+It is told of the clients without a user name, of those of each user name that
+has lines of its own, and of all others: that they may every topic that the
+filter matches; or, for each line that decides, a topic that they may, and what
+deny lines take away. Of those that may nothing nothing is told.
+
+With --only those users are left out, and the status is 1 where anybody else
+may.
+
+A step is a line that is looked at for one question. When the steps are spent
+nothing is answered.
+
+With --json each is an object with
+  access   read or write
+  client   the client id
+  every    whether these clients may every topic that the filter matches
+  line     the line that allows it, with file, line and text
+  made_up  which of client, user and the levels of the topic stand for others
+  not      what these clients may not, each an object with client, line, topic
+           and user; line is null where no line allows it
+  topic    the topic
+  user     its user name, or null";

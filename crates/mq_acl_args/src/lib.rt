@@ -1,0 +1,18 @@
+//! The command line of `mqroute-acl`: what is asked of access lists.
+#![tactic(auto)]
+
+mod client;
+mod command_line;
+mod files;
+mod help;
+mod options;
+mod request;
+mod selection;
+
+pub use client::Client;
+pub use command_line::arguments;
+pub use files::is_input;
+pub use mq_args::UsageFault;
+pub use options::Options;
+pub use request::{Question, Request};
+pub use selection::Selection;

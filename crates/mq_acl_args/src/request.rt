@@ -1,0 +1,390 @@
+//! What the command line asks for.
+ghost use Rattle.std.specs.Prelude.{◌≡◌, Some, IfOk, codes, option_map};
+ghost use Rattle.std.specs.Option.{option_copied};
+ghost use Rattle.clap.specs.Words.{all_of, first_of, rows_of, found_of, subcommand_rows_of};
+ghost use Rattle.mq_acl_args.specs.CommandLine.{question_view, asked, files_of, GivesAsked};
+ghost use Rattle.mq_acl_args.specs.CommandLine.{all_asked, compare_asked_by, lint_asked, one_asked};
+ghost use Rattle.mq_acl_args.specs.CommandLine.{reach_asked_by, rules_asked};
+ghost use Rattle.mq_acl_args.specs.CommandLine.{access_asked, direction_named, steps_given, way_asked, way_named};
+ghost use Rattle.mq_acl_args.specs.CommandLine.{noted_given};
+ghost use Rattle.mq_acl_args.specs.CommandLine.{who_asked_by, why_asked_by};
+ghost use Rattle.mq_acl_args.specs.Files.{input_count};
+
+use crate::client::Client;
+use crate::files::inputs_among;
+use crate::options::Options;
+use crate::selection::Selection;
+use clap::ArgMatches;
+use mq_acl::{Direction, Rules};
+use mq_findings::Way;
+use std::alloc::{AllocError, Global};
+
+/// A question to access lists, each in a file.
+#[derive(Drop)]
+pub enum Question<'a> {
+    /// What one list allows and the other doesn't.
+    Compare {
+        old: &'a str,
+        new: &'a str,
+        /// Of which differences alone it is told, if not of all.
+        only: Option<Way>,
+    },
+    /// Which lines decide whether a client may read and write a topic.
+    Why {
+        file: &'a str,
+        client: Client<'a>,
+        topic: &'a str,
+        /// Whether it may is the status, of reading or of writing.
+        may: Option<Direction>,
+    },
+    /// Which lines have a fault or change nothing.
+    Lint {
+        files: Vec<&'a str>,
+    },
+    /// Whether a subscription of a client can be sent anything.
+    Reach {
+        /// The file of the list.
+        file: &'a str,
+        /// The client.
+        client: Client<'a>,
+        /// The filter, or a shared subscription.
+        filter: &'a str,
+    },
+    /// Which subscriptions of a script can be sent nothing.
+    ReachAll {
+        /// The file of the list.
+        file: &'a str,
+        /// The file of the script.
+        script: &'a str,
+    },
+    /// Who may read or write what a filter matches.
+    Who {
+        /// The file of the list.
+        file: &'a str,
+        /// The filter.
+        wanted: &'a str,
+        /// Of whom it is told.
+        selection: Selection<'a>,
+    },
+}
+
+impl Question<'_> {
+    /// How many of its files are standard input.
+    pub(crate) fn input_count(&self) -> usize
+        ensures { result ≡ input_count (files_of (question_view self.now)) }
+    {
+        match self {
+            Question::Compare { old, new, .. } => inputs_among(&[*old, *new]),
+            Question::Why { file, .. } => inputs_among(&[*file]),
+            Question::Lint { files } => inputs_among(files.as_slice()),
+            Question::Reach { file, .. } => inputs_among(&[*file]),
+            Question::ReachAll { file, script } => inputs_among(&[*file, *script]),
+            Question::Who { file, .. } => inputs_among(&[*file]),
+        }
+    }
+}
+
+/// What the command line asks for.
+#[derive(Drop)]
+pub struct Request<'a> {
+    /// The question.
+    pub question: Question<'a>,
+    /// How it is answered.
+    pub options: Options,
+}
+
+/// How many steps may be taken where nothing is said of them: some ten seconds.
+const USUAL_STEPS: u32 = 20_000_000;
+
+// The value with this id.
+fn value<'a>(matches: &ArgMatches<'a>, id: &str) -> Option<&'a str>
+    ensures { option_copied result ≡ first_of id.now (rows_of (found_of matches.now)) }
+{
+    matches.get_str(id)
+}
+
+fn way_named(word: &str) -> Option<Way>
+    ensures { result ≡ way_named word.now }
+{
+    match word {
+        "gained" => Some(Way::Gained),
+        "lost" => Some(Way::Lost),
+        _ => None,
+    }
+}
+
+// Whether it is asked of one way alone, if the word for it is known.
+fn way_in(matches: &ArgMatches<'_>) -> Option<Option<Way>>
+    ensures { result ≡ way_asked (rows_of (found_of matches.now)) }
+{
+    let Some(word) = value(matches, "only") else {
+        return Some(None);
+    };
+    match way_named(word) {
+        Some(way) => Some(Some(way)),
+        None => None,
+    }
+}
+
+fn compare_in<'a>(matches: &ArgMatches<'a>) -> Option<Question<'a>>
+    ensures { option_map question_view result
+        ≡ compare_asked_by (rows_of (found_of matches.now)) }
+{
+    match (
+        value(matches, "OLD"),
+        value(matches, "NEW"),
+        way_in(matches),
+    ) {
+        (Some(old), Some(new), Some(only)) => Some(Question::Compare { old, new, only }),
+        _ => None,
+    }
+}
+
+fn direction_named(word: &str) -> Option<Direction>
+    ensures { result ≡ direction_named word.now }
+{
+    match word {
+        "read" => Some(Direction::Reading),
+        "write" => Some(Direction::Writing),
+        _ => None,
+    }
+}
+
+// Whether it is asked of reading or of writing alone, if the word for it is known, which this option has.
+fn access_in(matches: &ArgMatches<'_>, id: &str) -> Option<Option<Direction>>
+    ensures { result ≡ access_asked id.now (rows_of (found_of matches.now)) }
+{
+    let Some(word) = value(matches, id) else {
+        return Some(None);
+    };
+    match direction_named(word) {
+        Some(direction) => Some(Some(direction)),
+        None => None,
+    }
+}
+
+fn why_in<'a>(matches: &ArgMatches<'a>) -> Option<Question<'a>>
+    ensures { option_map question_view result ≡ why_asked_by (rows_of (found_of matches.now)) }
+{
+    let user = value(matches, "user");
+    match (
+        value(matches, "FILE"),
+        value(matches, "CLIENT"),
+        value(matches, "TOPIC"),
+        access_in(matches, "may"),
+    ) {
+        (Some(file), Some(id), Some(topic), Some(may)) => Some(Question::Why {
+            file,
+            client: Client { id, user },
+            topic,
+            may,
+        }),
+        _ => None,
+    }
+}
+
+fn lint_in<'a>(alloc: Global, matches: &ArgMatches<'a>) -> Result<Option<Question<'a>>, AllocError>
+    ensures { IfOk result (λ question. option_map question_view question
+        ≡ lint_asked (all_of (codes "FILE") (rows_of (found_of matches.now)))) }
+{
+    match matches.get_strs("FILE") {
+        Some(files) => {
+            let files = Vec::from_slice(alloc, files)?;
+            Ok(Some(Question::Lint { files }))
+        }
+        None => Ok(None),
+    }
+}
+
+// Of one subscription.
+fn reach_one_in<'a>(matches: &ArgMatches<'a>, user: Option<&'a str>) -> Option<Question<'a>>
+    ensures { let rows = rows_of (found_of matches.now) in option_map question_view result
+        ≡ one_asked (first_of (codes "FILE") rows) (first_of (codes "CLIENT") rows)
+        (first_of (codes "FILTER") rows) (option_copied user.entry) }
+{
+    match (
+        value(matches, "FILE"),
+        value(matches, "CLIENT"),
+        value(matches, "FILTER"),
+    ) {
+        (Some(file), Some(id), Some(filter)) => Some(Question::Reach {
+            file,
+            client: Client { id, user },
+            filter,
+        }),
+        _ => None,
+    }
+}
+
+// Of the subscriptions of a script: no client, filter and user name stand beside it.
+fn reach_all_in<'a>(
+    matches: &ArgMatches<'a>,
+    user: Option<&'a str>,
+    script: &'a str,
+) -> Option<Question<'a>>
+    ensures { let rows = rows_of (found_of matches.now) in option_map question_view result
+        ≡ all_asked (first_of (codes "FILE") rows) (first_of (codes "CLIENT") rows)
+        (first_of (codes "FILTER") rows) (option_copied user.entry) script.entry.now }
+{
+    match (
+        value(matches, "FILE"),
+        value(matches, "CLIENT"),
+        value(matches, "FILTER"),
+        user,
+    ) {
+        (Some(file), None, None, None) => Some(Question::ReachAll { file, script }),
+        _ => None,
+    }
+}
+
+fn reach_in<'a>(matches: &ArgMatches<'a>) -> Option<Question<'a>>
+    ensures { option_map question_view result ≡ reach_asked_by (rows_of (found_of matches.now)) }
+{
+    let user = value(matches, "user");
+    match value(matches, "script") {
+        None => reach_one_in(matches, user),
+        Some(script) => reach_all_in(matches, user, script),
+    }
+}
+
+fn who_in<'a>(matches: &ArgMatches<'a>) -> Option<Question<'a>>
+    ensures { option_map question_view result ≡ who_asked_by (rows_of (found_of matches.now)) }
+{
+    let only = value(matches, "only");
+    match (
+        value(matches, "FILE"),
+        value(matches, "FILTER"),
+        access_in(matches, "access"),
+    ) {
+        (Some(file), Some(wanted), Some(access)) => Some(Question::Who {
+            file,
+            wanted,
+            selection: Selection { access, only },
+        }),
+        _ => None,
+    }
+}
+
+fn question_in<'a>(
+    alloc: Global,
+    name: &str,
+    matches: &ArgMatches<'a>,
+) -> Result<Option<Question<'a>>, AllocError>
+    ensures { IfOk result (λ question. option_map question_view question
+        ≡ asked name.now (rows_of (found_of matches.now))) }
+{
+    match name {
+        "compare" => Ok(compare_in(matches)),
+        "why" => Ok(why_in(matches)),
+        "lint" => lint_in(alloc, matches),
+        "reach" => Ok(reach_in(matches)),
+        "who" => Ok(who_in(matches)),
+        _ => Ok(None),
+    }
+}
+
+// How many steps may be taken.
+fn steps_in(matches: &ArgMatches<'_>) -> u64
+    ensures { result ≡ steps_given (rows_of (found_of matches.now)) }
+{
+    u64::from(matches.get_one("steps").unwrap_or(USUAL_STEPS))
+}
+
+// By whose rules, if the word for them is known: by our own where there is none.
+fn rules_in(matches: &ArgMatches<'_>) -> Option<Rules>
+    ensures { result ≡ rules_asked (rows_of (found_of matches.now)) }
+{
+    match value(matches, "rules") {
+        Some(word) => Rules::named(word),
+        None => Some(Rules::Own),
+    }
+}
+
+// Whether where mosquitto decides otherwise is noted: where no rules are named.
+fn noted_in(matches: &ArgMatches<'_>) -> bool
+    ensures { result ≡ noted_given (rows_of (found_of matches.now)) }
+{
+    match value(matches, "rules") {
+        Some(_) => false,
+        None => true,
+    }
+}
+
+// The same, with how it is answered.
+fn request_of<'a>(
+    alloc: Global,
+    name: &str,
+    matches: &ArgMatches<'a>,
+) -> Result<Option<Request<'a>>, AllocError>
+    ensures { IfOk result (GivesAsked (Some (name.now, rows_of (found_of matches.now)))) }
+{
+    let Some(rules) = rules_in(matches) else {
+        return Ok(None);
+    };
+    let options = Options {
+        json: matches.get_flag("json"),
+        steps: steps_in(matches),
+        rules,
+        noted: noted_in(matches),
+    };
+    match question_in(alloc, name, matches)? {
+        Some(question) => Ok(Some(Request { question, options })),
+        None => Ok(None),
+    }
+}
+
+/// The word for the rules in the values of a command line, if it is unknown.
+pub(crate) fn unknown_rules<'a>(matches: &ArgMatches<'a>) -> Option<&'a str> {
+    let (_, values) = matches.subcommand()?;
+    let word = value(values, "rules")?;
+    match Rules::named(word) {
+        Some(_) => None,
+        None => Some(word),
+    }
+}
+
+// The option of a subcommand that is of reading or of writing.
+fn access_option(name: &str) -> Option<(&'static str, &'static str)> {
+    match name {
+        "who" => Some(("access", "--access <ACCESS>")),
+        "why" => Some(("may", "--may <ACCESS>")),
+        _ => None,
+    }
+}
+
+/// The word that is to be `read` or `write` in the values of a command line, if it is unknown, and its option.
+pub(crate) fn unknown_access<'a>(matches: &ArgMatches<'a>) -> Option<(&'a str, &'static str)> {
+    let (name, values) = matches.subcommand()?;
+    let (id, option) = access_option(name)?;
+    let word = value(values, id)?;
+    match direction_named(word) {
+        Some(_) => None,
+        None => Some((word, option)),
+    }
+}
+
+/// The word of `compare --only` in the values of a command line, if it is unknown.
+pub(crate) fn unknown_way<'a>(matches: &ArgMatches<'a>) -> Option<&'a str> {
+    let (name, values) = matches.subcommand()?;
+    if name != "compare" {
+        return None;
+    }
+    let word = value(values, "only")?;
+    match way_named(word) {
+        Some(_) => None,
+        None => Some(word),
+    }
+}
+
+/// What is asked for by the values of a command line, if anything is.
+pub(crate) fn request_in<'a>(
+    alloc: Global,
+    matches: &ArgMatches<'a>,
+) -> Result<Option<Request<'a>>, AllocError>
+    ensures { IfOk result (GivesAsked (subcommand_rows_of matches.now)) }
+{
+    match matches.subcommand() {
+        Some((name, values)) => request_of(alloc, name, values),
+        None => Ok(None),
+    }
+}

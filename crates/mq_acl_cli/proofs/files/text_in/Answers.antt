@@ -1,7 +1,0 @@
-use Rattle.std.proofs.Common.{string_bytes}
-use Rattle.mq_acl_cli.proofs.ListFileLemmas.{text_only}
-use Rattle.mq_acl_cli.proofs.files.text_in.Goals as goal
-
-pub returns-in-Ok : goal.returns-in-Ok
-returns-in-Ok g c =
-    text_only (g.R.Read.remaining c.args.reader) (string_bytes c.in-Ok.text) c.in-Ok.ensures.ok

@@ -1,8 +1,0 @@
-//! The commands, each with what it prints.
-pub(crate) mod compare;
-pub(crate) mod lint;
-pub(crate) mod reach;
-pub(crate) mod remarks;
-pub(crate) mod script;
-pub(crate) mod short_topic;
-pub(crate) mod why;

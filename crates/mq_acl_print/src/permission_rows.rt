@@ -1,0 +1,198 @@
+//! What is allowed, in rows of those that are told alike.
+use crate::deciding::{Side, decision};
+use crate::list::Lines;
+use crate::notes::notes_on;
+use crate::who::who_text;
+use mq_acl::Direction;
+use mq_findings::{Difference, Reason};
+use mq_topic::LevelText;
+use std::alloc::{AllocError, Global};
+use std::collections::BTreeMap;
+
+/// What a line denies of what another allows.
+pub(crate) struct DenialRow<'a> {
+    /// A topic.
+    pub(crate) topic: String,
+    /// The line.
+    pub(crate) side: Side<'a>,
+}
+
+// One step where it is dropped, and not one for each thing inside.
+impl Drop for DenialRow<'_> {
+    fn drop(self) {
+        let DenialRow { topic: _, side: _ } = self;
+    }
+}
+
+/// What a line allows the clients of some classes.
+pub(crate) struct PermissionRow<'a> {
+    // Of each class one.
+    all: Vec<&'a Difference>,
+    /// The clients, in words, once all are known.
+    pub(crate) who: String,
+    /// Whether they may read or write.
+    pub(crate) access: &'static str,
+    /// Every topic, or one.
+    pub(crate) topic: String,
+    /// The line.
+    pub(crate) side: Side<'a>,
+    /// What lines deny of it.
+    pub(crate) denials: Vec<DenialRow<'a>>,
+}
+
+// One step where it is dropped, and not one for each thing inside.
+impl Drop for PermissionRow<'_> {
+    fn drop(self) {
+        let PermissionRow {
+            all: _,
+            who: _,
+            access: _,
+            topic: _,
+            side: _,
+            denials: _,
+        } = self;
+    }
+}
+
+fn topic_words(alloc: Global, difference: &Difference) -> Result<String, AllocError> {
+    let topic = difference.topic.text();
+    let notes = notes_on(alloc, difference)?;
+    if notes.is_empty() {
+        return String::from_str(alloc, topic);
+    }
+    format!(in alloc; "{topic}  {notes}")
+}
+
+fn is_denied(difference: &Difference) -> bool {
+    matches!(difference.old_reason, Reason::Deny(_))
+}
+
+fn denial_row<'a>(
+    alloc: Global,
+    list: Lines<'a, 'a, 'a>,
+    denied: &'a Difference,
+) -> Result<DenialRow<'a>, AllocError> {
+    let words = topic_words(alloc, denied)?;
+    Ok(DenialRow {
+        topic: format!(in alloc; "but not {words}")?,
+        side: decision(alloc, list, denied.old_reason)?,
+    })
+}
+
+fn denial_rows<'a>(
+    alloc: Global,
+    list: Lines<'a, 'a, 'a>,
+    refused: &[&'a Difference],
+) -> Result<Vec<DenialRow<'a>>, AllocError> {
+    let mut rows = Vec::new(alloc);
+    for other in refused.iter().filter(|other| is_denied(other)) {
+        rows.push(denial_row(alloc, list, other)?)?;
+    }
+    Ok(rows)
+}
+
+fn row_of<'a>(
+    alloc: Global,
+    list: Lines<'a, 'a, 'a>,
+    granted: &'a Difference,
+    refused: &[&'a Difference],
+) -> Result<PermissionRow<'a>, AllocError> {
+    let topic = if refused.is_empty() {
+        String::from_str(alloc, "every topic")?
+    } else {
+        topic_words(alloc, granted)?
+    };
+    Ok(PermissionRow {
+        all: vec![in alloc; granted]?,
+        who: String::new(alloc),
+        access: match granted.direction {
+            Direction::Reading => "may read",
+            Direction::Writing => "may write",
+        },
+        topic,
+        side: decision(alloc, list, granted.old_reason)?,
+        denials: denial_rows(alloc, list, refused)?,
+    })
+}
+
+// The same for rows that are told alike: no topic has the byte 0.
+fn key_of(alloc: Global, row: &PermissionRow<'_>) -> Result<String, AllocError> {
+    let mut key = String::from_str(alloc, row.access)?;
+    add_part(&mut key, row.side.place.as_str())?;
+    add_part(&mut key, row.topic.as_str())?;
+    for denial in &row.denials {
+        add_part(&mut key, denial.side.place.as_str())?;
+        add_part(&mut key, denial.topic.as_str())?;
+    }
+    Ok(key)
+}
+
+fn add_part(key: &mut String, part: &str) -> Result<(), AllocError> {
+    key.push('\0')?;
+    key.push_str(part)
+}
+
+/// The rows so far.
+pub(crate) struct PermissionRows<'a> {
+    rows: Vec<PermissionRow<'a>>,
+    // The place of each, by what it is looked up by.
+    places: BTreeMap<String, usize>,
+}
+
+// One step where it is dropped, and not one for each thing inside.
+impl Drop for PermissionRows<'_> {
+    fn drop(self) {
+        let PermissionRows { rows: _, places: _ } = self;
+    }
+}
+
+impl<'a> PermissionRows<'a> {
+    pub(crate) fn new(alloc: Global) -> PermissionRows<'a> {
+        PermissionRows {
+            rows: Vec::new(alloc),
+            places: BTreeMap::new(alloc),
+        }
+    }
+
+    /// Adds what a line allows, with what isn't allowed of the same class and direction.
+    pub(crate) fn add(
+        &mut self,
+        alloc: Global,
+        list: Lines<'a, 'a, 'a>,
+        granted: &'a Difference,
+        refused: &[&'a Difference],
+    ) -> Result<(), AllocError> {
+        let row = row_of(alloc, list, granted, refused)?;
+        let key = key_of(alloc, &row)?;
+        let place = self.places.get(key.as_str()).copied();
+        if let Some(place) = place {
+            return self.join(place, granted);
+        }
+        self.places.insert(key, self.rows.as_slice().len())?;
+        self.rows.push(row)?;
+        Ok(())
+    }
+
+    // Adds it to the row at this place.
+    fn join(&mut self, place: usize, granted: &'a Difference) -> Result<(), AllocError> {
+        match self.rows.get_mut(place) {
+            Some(row) => {
+                row.all.push(granted)?;
+                Ok(())
+            }
+            None => Ok(()),
+        }
+    }
+
+    /// Says of each row which clients it is about.
+    pub(crate) fn name_all(&mut self, alloc: Global) -> Result<(), AllocError> {
+        for row in &mut self.rows {
+            row.who = who_text(alloc, &row.all)?;
+        }
+        Ok(())
+    }
+
+    pub(crate) fn as_slice(&self) -> &[PermissionRow<'a>] {
+        self.rows.as_slice()
+    }
+}

@@ -1,0 +1,24 @@
+-- What an answer says beside what is true of the texts.
+use Rattle.std.proofs.Common.{ℕ, Bool, List, Option}
+use Rattle.mq_acl.specs.declared.rules.Rules.{Rules}
+use Rattle.mq_acl_answers.specs.declared.outcome.Outcome.{Outcome}
+use Rattle.mq_acl_args.specs.CommandLine.{Asked, Compare, Why, Lint, Reach, ReachAll, Who}
+use Rattle.mqroute_acl.specs.Program.{IsAnswer}
+
+-- where `other` follows from `quiet`, it holds of the answer too
+pub answer-weaker : (rules : Rules) (noted : Bool) (input : Option (List ℕ)) (question : Asked)
+    (outcome : Outcome) {quiet other : Type 0} → (quiet → other)
+    → IsAnswer rules noted input question outcome quiet
+    → IsAnswer rules noted input question outcome other
+answer-weaker rules noted input (Compare old new only) outcome follows is =
+    (is.0, is.1, is.2, is.3, is.4, λ own is_old is_new. follows (is.5 own is_old is_new))
+answer-weaker rules noted input (Why file client topic may) outcome follows is =
+    (is.0, is.1, is.2, λ own plain. follows (is.3 own plain))
+answer-weaker rules noted input (Lint files) outcome follows is =
+    (is.0, λ own unasked. follows (is.1 own unasked))
+answer-weaker rules noted input (Reach file client filter) outcome follows is =
+    (is.0, is.1, is.2, λ own plain. follows (is.3 own plain))
+answer-weaker rules noted input (ReachAll file script) outcome follows is =
+    (is.0, is.1, is.2, is.3, is.4, λ own plain. follows (is.5 own plain))
+answer-weaker rules noted input (Who file wanted access only) outcome follows is =
+    (is.0, is.1, is.2, λ own plain. follows (is.3 own plain))

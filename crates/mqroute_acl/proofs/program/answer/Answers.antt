@@ -1,0 +1,39 @@
+use Rattle.mqroute_acl.proofs.program.answer.Goals as goal
+
+pub returns-in-Compare-clause-ok : goal.returns-in-Compare-clause-ok
+returns-in-Compare-clause-ok g c = rw c.in-Compare.is c.answer_compare.ensures.ok
+
+pub returns-in-Compare-clause-unread : goal.returns-in-Compare-clause-unread
+returns-in-Compare-clause-unread g c = c.answer_compare.ensures.unread
+
+pub returns-in-Why-clause-ok : goal.returns-in-Why-clause-ok
+returns-in-Why-clause-ok g c = rw c.in-Why.is c.answer_why.ensures.ok
+
+pub returns-in-Why-clause-unread : goal.returns-in-Why-clause-unread
+returns-in-Why-clause-unread g c = c.answer_why.ensures.unread
+
+pub returns-in-Lint-clause-ok : goal.returns-in-Lint-clause-ok
+returns-in-Lint-clause-ok g c =
+    rw c.in-Lint.is
+    (rw (rw c.in-Lint.is at c.as_slice.ensures.value) at c.answer_lint.ensures.ok)
+
+pub returns-in-Lint-clause-unread : goal.returns-in-Lint-clause-unread
+returns-in-Lint-clause-unread g c = c.answer_lint.ensures.unread
+
+pub returns-in-Reach-clause-ok : goal.returns-in-Reach-clause-ok
+returns-in-Reach-clause-ok g c = rw c.in-Reach.is c.answer_reach.ensures.ok
+
+pub returns-in-Reach-clause-unread : goal.returns-in-Reach-clause-unread
+returns-in-Reach-clause-unread g c = c.answer_reach.ensures.unread
+
+pub returns-in-ReachAll-clause-ok : goal.returns-in-ReachAll-clause-ok
+returns-in-ReachAll-clause-ok g c = rw c.in-ReachAll.is c.answer_reach_all.ensures.ok
+
+pub returns-in-ReachAll-clause-unread : goal.returns-in-ReachAll-clause-unread
+returns-in-ReachAll-clause-unread g c = c.answer_reach_all.ensures.unread
+
+pub returns-in-Who-clause-ok : goal.returns-in-Who-clause-ok
+returns-in-Who-clause-ok g c = rw c.in-Who.is c.answer_who.ensures.ok
+
+pub returns-in-Who-clause-unread : goal.returns-in-Who-clause-unread
+returns-in-Who-clause-unread g c = c.answer_who.ensures.unread

@@ -1,0 +1,4 @@
+pub mod Files
+pub mod ListFile
+pub mod Lint
+pub mod Program

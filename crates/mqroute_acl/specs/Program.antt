@@ -1,0 +1,55 @@
+-- What the program does.
+use Rattle.std.specs.Prelude.{◌≡◌, ◌⊎◌, ℕ, Bool, false, List, Option, Some, string_bytes}
+use Rattle.std.specs.Io.KnownBytes.{Appends}
+use Rattle.mq_acl.specs.declared.rules.Rules.{Rules}
+use Rattle.mq_acl.specs.declared.rules.Rules.TheVariants.{Own}
+use Rattle.mq_args.specs.declared.usage.UsageFault.{UsageFault}
+use Rattle.mq_args.specs.declared.usage.UsageFault.TheVariants.{Help, Usage, Memory}
+use Rattle.mq_acl_args.specs.CommandLine.{Asked, Compare, Why, Lint, Reach, ReachAll, Who}
+use Rattle.mq_acl_args.specs.CommandLine.{ReadsInputOnce}
+use Rattle.mq_acl_answers.specs.Answers.{IsCompared, IsExplained, IsReached}
+use Rattle.mq_acl_answers.specs.Notes.{IsQuiet}
+use Rattle.mq_acl_answers.specs.Script.{AreTold}
+use Rattle.mq_acl_answers.specs.Statuses.{outcome_status}
+use Rattle.mq_acl_answers.specs.Who.{IsWho}
+use Rattle.mq_acl_answers.specs.declared.outcome.Outcome.{Outcome}
+use Rattle.mqroute_acl.specs.Files.{IsTextOf}
+use Rattle.mqroute_acl.specs.Lint.{AreLinted}
+
+-- the outcome is right for texts that the files may have, where the input holds this; and by our own rules `quiet` holds, but
+-- where it is noted what mosquitto decides otherwise for `lint` and for a list that isn't plain
+abbrev pub IsAnswer : Rules → (noted : Bool) → (input : Option (List ℕ)) → Asked → Outcome
+    → (quiet : Type 0) → Type 0
+IsAnswer rules noted input (Compare old new only) outcome quiet = (old_text new_text : List ℕ)
+    × IsTextOf input old old_text × IsTextOf input new new_text
+    × IsCompared rules only old_text new_text outcome
+    × (rules ≡ Own → IsQuiet noted old_text → IsQuiet noted new_text → quiet)
+IsAnswer rules noted input (Why file client topic may) outcome quiet = (text : List ℕ)
+    × IsTextOf input file text
+    × IsExplained rules may text client.id client.user topic outcome
+    × (rules ≡ Own → IsQuiet noted text → quiet)
+IsAnswer rules noted input (Lint files) outcome quiet = AreLinted rules input files outcome
+    × (rules ≡ Own → noted ≡ false → quiet)
+IsAnswer rules noted input (Reach file client filter) outcome quiet = (text : List ℕ)
+    × IsTextOf input file text × IsReached rules text client.id client.user filter outcome
+    × (rules ≡ Own → IsQuiet noted text → quiet)
+IsAnswer rules noted input (ReachAll file script) outcome quiet = (text lines : List ℕ)
+    × IsTextOf input file text × IsTextOf input script lines × AreTold rules text lines outcome
+    × (rules ≡ Own → IsQuiet noted text → quiet)
+IsAnswer rules noted input (Who file wanted access only) outcome quiet = (text : List ℕ)
+    × IsTextOf input file text × IsWho rules text wanted access only outcome
+    × (rules ≡ Own → IsQuiet noted text → quiet)
+
+-- what is asked can be asked, and is answered with this status
+abbrev pub IsAnswered : Rules → (noted : Bool) → (input : Option (List ℕ)) → Option Asked → ℕ
+    → (quiet : Type 0) → Type 0
+IsAnswered rules noted input asked status quiet =
+    (question : Asked) × (outcome : Outcome) × (asked ≡ Some question) × ReadsInputOnce question
+    × IsAnswer rules noted input question outcome quiet × (status ≡ outcome_status outcome)
+
+-- how a fault of the words is told: of help the status is 0, and all of the text is written, or 3 where it can't be
+abbrev pub TellsUsage : UsageFault → ℕ → (before after : Option (List ℕ)) → Type 0
+TellsUsage (Help text) status before after =
+    ((status ≡ 0) × Appends before after (string_bytes text)) ⊎ (status ≡ 3)
+TellsUsage (Usage text) status before after = (status ≡ 2) × (after ≡ before)
+TellsUsage Memory status before after = (status ≡ 3) × (after ≡ before)

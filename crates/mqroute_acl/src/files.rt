@@ -1,0 +1,58 @@
+//! The texts of the lists that a question is about.
+ghost use Rattle.std.specs.Prelude.{◌≡◌, IfOk, IfSome, false, string_bytes};
+ghost use Rattle.mq_acl_args.specs.Files.{is_input as is_dash};
+ghost use Rattle.mqroute_acl.specs.Files.{IsTextOf};
+
+use crate::list_file::{FileFault, read_text};
+use mq_acl_answers::Failure;
+use mq_acl_args::is_input;
+use std::alloc::Global;
+use std::fs;
+use std::io::Read;
+use std::rt::Files;
+
+// Why the file of a list gives no text.
+fn failure_of<'a>(file: &'a str, fault: FileFault) -> Failure<'a> {
+    match fault {
+        FileFault::Read(error) => Failure::Read(file, error),
+        FileFault::TooLong => Failure::TooLong(file),
+        FileFault::Utf8(line) => Failure::Utf8 { file, line },
+        FileFault::Memory => Failure::Memory,
+    }
+}
+
+fn text_in<'a, R: Read + Drop>(
+    alloc: Global,
+    file: &'a str,
+    reader: R,
+) -> Result<String, Failure<'a>>
+    ensures { IfOk result (λ text. IfSome (R.remaining reader) (λ bytes.
+        string_bytes text ≡ bytes)) }
+{
+    match read_text(alloc, reader) {
+        Ok(text) => Ok(text),
+        Err(fault) => Err(failure_of(file, fault)),
+    }
+}
+
+/// The text of the file of an access list.
+pub(crate) fn text_of<'a, R: Files, I: Read>(
+    rt: &R,
+    alloc: Global,
+    file: &'a str,
+    input: &mut I,
+) -> Result<String, Failure<'a>>
+    ensures ok { IfOk result (λ text.
+        IsTextOf (I.remaining input.old) file.entry.now (string_bytes text)) }
+
+    // Another file leaves the input alone.
+    ensures kept { is_dash file.entry.now ≡ false → input.new ≡ input.old }
+{
+    if is_input(file) {
+        return text_in(alloc, file, &mut *input);
+    }
+    match fs::open(rt, file) {
+        Ok(opened) => text_in(alloc, file, opened),
+        Err(error) => Err(Failure::of_io(file, error)),
+    }
+}

@@ -1,0 +1,85 @@
+//! The answer to `lint`, of files.
+ghost use Rattle.std.specs.Prelude.{◌≡◌, ◌≤◌, IfOk, IfErr, OnOk, false, map};
+ghost use Rattle.mq_acl.specs.declared.rules.Rules.TheVariants.{Own};
+ghost use Rattle.mq_acl_answers.specs.Statuses.{failure_status};
+ghost use Rattle.mq_acl_args.specs.Files.{input_count, is_input};
+ghost use Rattle.mqroute_acl.specs.Lint.{AreLinted, IsLintedFile};
+
+use crate::files::text_of;
+use mq_acl_answers::{Failure, Outcome, add_lint, print_outcome};
+use mq_acl_args::Options;
+use mq_acl_print::ListText;
+use std::alloc::Global;
+use std::io::{Read, Write};
+use std::rt::Files;
+
+// Of one file.
+fn lint_file<'a, R: Files, I: Read>(
+    rt: &R,
+    alloc: Global,
+    file: &'a str,
+    options: Options,
+    input: &mut I,
+    answer: &mut String,
+    notes: &mut String,
+) -> Result<Outcome, Failure<'a>>
+    ensures ok { IfOk result (IsLintedFile options.rules (I.remaining input.old)
+        file.entry.now) }
+    ensures kept { is_input file.entry.now ≡ false → input.new ≡ input.old }
+    ensures quiet { OnOk result (options.rules ≡ Own → options.noted ≡ false
+        → notes.new ≡ notes.old) }
+{
+    let text = text_of(rt, alloc, file, input)?;
+    let list = ListText {
+        file,
+        text: text.as_str(),
+    };
+    add_lint(alloc, list, options, answer, notes)
+}
+
+// Of each file, in their order.
+fn lint_files<'a, R: Files, I: Read>(
+    rt: &R,
+    alloc: Global,
+    files: &[&'a str],
+    options: Options,
+    input: &mut I,
+    answer: &mut String,
+    notes: &mut String,
+) -> Result<Outcome, Failure<'a>>
+    requires { input_count (map (λ file. file.now) files.now) ≤ 1 }
+    ensures ok { IfOk result (AreLinted options.rules (I.remaining input.old)
+        (map (λ file. file.now) files.now)) }
+    ensures kept { input_count (map (λ file. file.now) files.now) ≡ 0 → input.new ≡ input.old }
+    ensures quiet { OnOk result (options.rules ≡ Own → options.noted ≡ false
+        → notes.new ≡ notes.old) }
+{
+    let mut outcome = Outcome::Clear;
+    for file in files {
+        let next = lint_file(rt, alloc, *file, options, input, answer, notes)?;
+        outcome = outcome.and(next);
+    }
+    Ok(outcome)
+}
+
+/// Shows what is odd or needless in the lists of these files.
+pub(crate) fn answer_lint<'a, R: Files, I: Read, W: Write>(
+    rt: &R,
+    alloc: Global,
+    files: &[&'a str],
+    options: Options,
+    input: &mut I,
+    out: &mut W,
+    notes: &mut String,
+) -> Result<Outcome, Failure<'a>>
+    requires { input_count (map (λ file. file.now) files.now) ≤ 1 }
+    ensures ok { IfOk result (λ outcome. AreLinted options.rules (I.remaining input.old)
+        (map (λ file. file.now) files.now) outcome
+        × (options.rules ≡ Own → options.noted ≡ false → notes.new ≡ notes.old)) }
+    ensures unread { IfErr result (λ failure. failure_status failure ≡ 2 → out.new ≡ out.old) }
+    ensures kept { input_count (map (λ file. file.now) files.now) ≡ 0 → input.new ≡ input.old }
+{
+    let mut answer = String::new(alloc);
+    let outcome = lint_files(rt, alloc, files, options, input, &mut answer, notes)?;
+    print_outcome(out, Ok(answer), outcome)
+}
