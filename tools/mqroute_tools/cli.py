@@ -24,6 +24,7 @@ SUBCOMMANDS = {
     "log-to-script": Entry("log.log_to_script", "makes a script for mqroute of a mosquitto log"),
     "who-loses": Entry(
         "losses.who_loses", "tells who loses which copies between two runs of a script"),
+    "why": Entry("why.why", "shows why a client was sent a message of a script, or wasn't"),
     "replay": Entry("live.replay", "runs a script on a live broker and compares with mqroute"),
     "compare-log": Entry(
         "log.compare_log", "compares a mosquitto log's own copies with mqroute's"),
@@ -86,6 +87,10 @@ def log_to_script() -> int:
 
 def who_loses() -> int:
     return run("who-loses")
+
+
+def why() -> int:
+    return run("why")
 
 
 def replay() -> int:

@@ -22,7 +22,7 @@ from mqroute_tools.search.search import searched
 
 # What a tool reads while it waits for more of its standard input.
 READING = {"log_to_script": ["-"], "check": ["-"], "compare_log": ["-", "out"],
-           "who_loses": ["-", "out", "out"]}
+           "who_loses": ["-", "out", "out"], "why": ["-", "1"]}
 PATIENCE = 20  # seconds
 
 

@@ -10,8 +10,8 @@ from worked import HERE
 PACKAGE = HERE / "mqroute_tools"
 # each folder, with those that it may import from
 BELOW = {"common": set(), "script": {"common"}, "log": {"common", "script"},
-         "losses": {"common", "script"}, "live": {"common", "script"},
-         "search": {"common", "script", "live"}}
+         "losses": {"common", "script"}, "why": {"common", "script", "log"},
+         "live": {"common", "script"}, "search": {"common", "script", "live"}}
 
 
 def imported(path: Path) -> Iterator[Path]:

@@ -9,6 +9,7 @@ from pathlib import Path
 
 from worked import HERE, PROGRAM, TOP, wants_program
 
+ACL_PROGRAM = Path(os.environ.get("MQROUTE_ACL_PROGRAM", TOP / "bin/mqroute-acl"))
 BASH, JQ, PV = shutil.which("bash"), shutil.which("jq"), shutil.which("pv")
 
 
@@ -27,7 +28,7 @@ def sessions(text: str) -> list[list[tuple[str, str]]]:
 @wants_program
 @unittest.skipUnless(BASH, "there is no bash")
 class Sessions(unittest.TestCase):
-    def check(self, title: str, most: int) -> None:
+    def check(self, title: str, most: int, left_out: str = "recorded") -> None:
         found = sessions(section(title))
         self.assertEqual(len(found), most)
         for session in found:
@@ -36,9 +37,10 @@ class Sessions(unittest.TestCase):
             with tempfile.TemporaryDirectory() as folder:
                 for name in ("brokers", "examples", "tools"):
                     shutil.copytree(TOP / name, Path(folder, name),
-                                    ignore=shutil.ignore_patterns("__pycache__", "recorded"))
+                                    ignore=shutil.ignore_patterns("__pycache__", left_out))
                 Path(folder, "bin").mkdir()
                 Path(folder, "bin/mqroute").symlink_to(PROGRAM)
+                Path(folder, "bin/mqroute-acl").symlink_to(ACL_PROGRAM)
                 self.run_session(session, folder)
 
     def run_session(self, session: list[tuple[str, str]], folder: str) -> None:
@@ -54,6 +56,10 @@ class Sessions(unittest.TestCase):
 
     def test_check(self):
         self.check("Is this a script?", 1)
+
+    @unittest.skipUnless(ACL_PROGRAM.exists(), f"there is no {ACL_PROGRAM}")
+    def test_why(self):
+        self.check("Why was this client sent it, or not?", 3, left_out="")
 
     @unittest.skipUnless(JQ, "there is no jq")
     def test_recipes(self):

@@ -20,7 +20,7 @@ from ..common.messages import counted, in_words, tell
 from ..common.option_values import whole_number
 from ..common.progress import Progress
 from ..script.commands import Seen, line_faults
-from ..script.oracle import RULES, Oracle
+from ..script.oracle import RULES, Oracle, answers
 from ..script.output import Block, Command, blocks, by_key, is_blank, misfit
 from .options import BrokerOptions, add_broker, add_waiting
 from .replay_options import add_all, look_at_options
@@ -68,7 +68,7 @@ def runnable(script: Iterable[bytes], given: Iterator[Block],
 def offered(replay: "Replay", options: argparse.Namespace, script: list[bytes],
             given: list[Block], lines: list[Line]) -> list[Line]:
     """The lines as this broker can run them. Where it lacks something mqroute answers anew."""
-    from .script_fitting import answers, fitted_script, read_list
+    from .script_fitting import fitted_script, read_list
     fitted, told = fitted_script(script, {number for number, _, _ in lines}, replay.offer)
     if not told:
         return lines

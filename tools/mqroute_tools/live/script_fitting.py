@@ -1,12 +1,9 @@
 """The script that a broker can run: what its CONNACK doesn't offer is replaced or left out."""
-import io
 import json
-import subprocess
 from collections import Counter
 from collections.abc import Iterable
 
-from ..common.exit_status import Fault
-from ..script.output import Block, Command, blocks_of, command_of
+from ..script.output import Command, command_of
 from ..script.sessions import FOREVER
 from .offer import Offer
 
@@ -92,16 +89,3 @@ def read_list(name: str) -> str:
     """The text of an access list."""
     with open(name, encoding="utf-8", newline="") as file:
         return file.read()
-
-
-def answers(words: list[str], script: bytes) -> list[Block]:
-    """What mqroute answers to a script."""
-    try:
-        done = subprocess.run(words, input=script, capture_output=True)
-    except OSError as fault:
-        raise Fault(f"cannot run {words[0]}: {fault.strerror}") from fault
-    if done.returncode not in (0, 1):
-        why = done.stderr.decode("utf-8", "replace").strip()
-        raise Fault(why or f"{words[0]} ended with status {done.returncode}")
-    output = io.StringIO(done.stdout.decode("utf-8"), newline="\n")
-    return list(blocks_of(output, "mqroute's answer"))

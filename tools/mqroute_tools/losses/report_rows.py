@@ -5,8 +5,9 @@ from collections.abc import Callable, Iterable, Iterator
 from dataclasses import dataclass, field
 from typing import TypeVar
 
+from ..script.access_list import Question
 from ..script.output import Block, Command
-from .acl_verdicts import Decided, Lists, Question, allowed, pair
+from .acl_verdicts import Decided, Lists, allowed, pair
 from .attribution import WHAT, Attribution, Grouped
 from .causes import Cause, Names, Tally
 from .findings import CauseRow, CauseSum, Copies, CopiesRow, Place, Refusals, RefusedRow, Subject

@@ -22,6 +22,25 @@ def found_program() -> str:
     return find_program("MQROUTE", "mqroute")
 
 
+def answers(words: list[str], script: bytes, first: int = 1) -> list[Block]:
+    """What mqroute, run by these words, answers to a script, from a line of the script on."""
+    try:
+        done = subprocess.run(words, input=script, capture_output=True)
+    except OSError as fault:
+        raise Fault(f"cannot run {words[0]}: {fault.strerror}") from fault
+    if done.returncode not in (0, 1):
+        raise Fault(done.stderr.decode("utf-8", "replace").strip()
+                    or f"mqroute ended with status {done.returncode}")
+    # no text in an answer has these bytes: its quotes are escaped
+    place = done.stdout.find(b'"line":%d,' % first) if first > 1 else 0
+    begin = done.stdout.rfind(b"\n", 0, place) + 1 if place >= 0 else len(done.stdout)
+    try:
+        output = io.StringIO(done.stdout[begin:].decode("utf-8"), newline="\n")
+    except UnicodeDecodeError as fault:
+        raise Fault(f"the answer: no output of mqroute: {fault}") from fault
+    return list(blocks_of(output, "the answer"))
+
+
 class Conversation:
     """A program that runs: a line in, its answers out."""
 
@@ -118,14 +137,6 @@ class Oracle:
         """The same, as the lines that mqroute wrote."""
         lines = [json.dumps(command) + "\n" for command in commands]
         try:
-            done = subprocess.run(self.words, input="".join(lines).encode(), capture_output=True)
-        except OSError as fault:
-            raise OracleFault(f"cannot run {self.words[0]}: {fault.strerror}") from fault
-        if done.returncode not in (0, 1):
-            raise OracleFault(done.stderr.decode("utf-8", "replace").strip()
-                              or f"mqroute ended with status {done.returncode}")
-        try:
-            return list(
-                blocks_of(io.StringIO(done.stdout.decode("utf-8"), newline="\n"), "the answer"))
-        except (Fault, UnicodeDecodeError) as fault:
+            return answers(self.words, "".join(lines).encode())
+        except Fault as fault:
             raise OracleFault(str(fault)) from fault

@@ -1,0 +1,1 @@
+"""Why a client got a message, or didn't."""

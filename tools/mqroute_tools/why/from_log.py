@@ -1,0 +1,52 @@
+"""The script of a log, and the publishes of a topic in it at a time."""
+import argparse
+
+from ..common.exit_status import Fault
+from ..common.tables import shown
+from ..log.log_files import Logs
+from ..log.log_to_script import text_of
+from ..log.conversion import placed_commands
+from ..log.script_writer import Writer, writer
+from ..log.time_stamps import Stamps
+from .lines import Question, Script
+
+Found = tuple[int, int, int]  # a publish: its time, its line in the script, its place in the log
+
+
+def questions(options: argparse.Namespace) -> list[Question]:
+    """Of the publishes of the topic at the time."""
+    logs = Logs(options.log, not options.no_inference, options.time_format)
+    found = writer(Writer, options, logs)
+    lines, commands, publishes = [], [], []
+    for place, command in placed_commands(found, logs.streams(found)):
+        lines.append(text_of(command).encode("utf-8") + b"\n")
+        commands.append(command)
+        if command.get("topic") == options.topic and found.time is not None:
+            publishes.append((found.time, len(lines), place))
+    name = ", ".join(options.log)
+    script = Script(f"the script of {name}", lines, list(commands))
+    if not publishes:
+        raise Fault(f"{name}: no publish of {shown(options.topic)} at a time")
+    return [Question(script, line, options.named,
+                     f"{logs.where(place)} (line {line} of its script)")
+            for _, line, place in at_time(publishes, moment(found.stamps, options.at), logs)]
+
+
+def moment(stamps: Stamps, text: str) -> int:
+    """A time as it stands in the log."""
+    time, _ = stamps.split(f"{text} host mosquitto: " if stamps.prefixed else f"{text}: ")
+    if time is None:
+        raise Fault(f"--at {text}: no time as it stands in the log")
+    return time
+
+
+def at_time(publishes: list[Found], time: int, logs: Logs) -> list[Found]:
+    """Those of this second; or a fault that names the nearest."""
+    found = [one for one in publishes if one[0] == time]
+    if found:
+        return found
+    before = max((one for one in publishes if one[0] < time), default=None)
+    after = min((one for one in publishes if one[0] > time), default=None)
+    near = [f"{abs(one[0] - time)} s {word} ({logs.where(one[2])})"
+            for one, word in ((before, "before"), (after, "after")) if one]
+    raise Fault(f"no publish of this topic at that time: the nearest {' and '.join(near)}")

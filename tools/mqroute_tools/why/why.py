@@ -1,0 +1,89 @@
+"""why: shows why a client was sent the message of a publish in a script, or wasn't.
+
+Of each client the first cause that holds is shown, by the order of the definitions. What is shown
+is what mqroute does: it runs on the script, and where it writes something else than is reckoned
+here nothing is shown.
+Exit status: 0 the client was sent it, or no client was given; 1 it wasn't; 2 usage, a file, or
+what is reckoned here isn't what mqroute wrote.
+"""
+import argparse
+import json
+import sys
+
+from ..common.exit_status import UsageFault
+from ..common.files import at, keep_apart, refuse_stdin_twice
+from ..common.option_values import whole_number
+from ..log.options import add_log_options
+from ..script.access_list import AccessList
+from ..script.oracle import RULES
+from .answering import answered
+from .causes import Answer, as_object
+from .lines import Question, read_script
+from .report import report
+
+MOST = 4_294_967_295
+OF_LOG = ("topic", "at", "time_format", "session_expiry", "no_inference", "begin")
+
+
+def add_arguments(parser: argparse.ArgumentParser) -> None:
+    parser.description = "Shows why a client was sent the message of a publish, or wasn't."
+    parser.add_argument("script", nargs="?", help="for mqroute, or -: standard input")
+    parser.add_argument("line", nargs="?", type=whole_number(1), help="of a publish in the script")
+    parser.add_argument("client", nargs="?", help="without it, each that has connected by then")
+    parser.add_argument("--client", metavar="CLIENT", dest="named", help="the same")
+    parser.add_argument("--acl-file", metavar="FILE", help="as for mqroute, as are the next three")
+    parser.add_argument("--rules", choices=RULES)
+    for name in ("--max-retained", "--max-queued"):
+        parser.add_argument(name, type=whole_number(0, MOST), metavar="N")
+    parser.add_argument("--json", action="store_true", help="a JSON object on each line")
+    parser.add_argument("--log", action="append", metavar="LOG",
+                        help="a log in place of SCRIPT and LINE; the options behind it go with it")
+    parser.add_argument("--topic", help="that was published")
+    parser.add_argument("--at", metavar="TIME", help="when that was, as it stands in the log")
+    add_log_options(parser)
+
+
+def look_at_options(options: argparse.Namespace) -> None:
+    if options.client is not None and options.named is not None:
+        raise UsageFault("--client goes without CLIENT")
+    if options.log:
+        if options.script is not None:
+            raise UsageFault("--log goes without SCRIPT and LINE")
+        if options.topic is None or options.at is None:
+            raise UsageFault("--log wants --topic and --at")
+    elif options.line is None:
+        raise UsageFault("wants SCRIPT and LINE, or --log")
+    else:
+        for name in OF_LOG:
+            if getattr(options, name):
+                raise UsageFault(f"--{name.replace('_', '-')} wants --log")
+    files = [options.script, options.acl_file, options.begin, *(options.log or ())]
+    refuse_stdin_twice(files)
+    keep_apart(files)
+
+
+def questions(options: argparse.Namespace) -> list[Question]:
+    if options.log:
+        from . import from_log  # takes time to load
+        return from_log.questions(options)
+    client = options.named if options.client is None else options.client
+    place = at(options.script, options.line)
+    return [Question(read_script(options.script), options.line, client, place)]
+
+
+def as_lines(asked: Question, answers: list[Answer]) -> str:
+    objects = [as_object(answer.client, asked.line, asked.publish["topic"], cause)
+               for answer in answers for cause in answer.causes]
+    return "".join(json.dumps(one, ensure_ascii=False) + "\n" for one in objects)
+
+
+def run(options: argparse.Namespace) -> int:
+    look_at_options(options)
+    given = None if options.acl_file is None else AccessList(options.acl_file, options.rules)
+    found = [(asked, answered(asked, given, options)) for asked in questions(options)]
+    shown = as_lines if options.json else report
+    text = "".join(shown(asked, answers) for asked, answers in found)
+    sys.stdout.buffer.write(text.encode("utf-8", "backslashreplace"))
+    got = all(answer.got() for asked, answers in found for answer in answers
+              if asked.client is not None)
+    return 0 if got else 1
