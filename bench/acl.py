@@ -81,7 +81,8 @@ def limited() -> None:
 
 def run_once(words: list[str]) -> tuple[float, int] | None:
     """User seconds and peak memory in KB, or none of a run that was stopped."""
-    child = subprocess.Popen(words, stdout=subprocess.DEVNULL, preexec_fn=limited)
+    child = subprocess.Popen(words, stdout=subprocess.DEVNULL, stderr=subprocess.DEVNULL,
+                             preexec_fn=limited)
     _, status, usage = os.wait4(child.pid, 0)
     ended = os.waitstatus_to_exitcode(status)
     if ended == -signal.SIGXCPU:
